@@ -1,0 +1,3 @@
+pub mod Identifier
+pub mod Frames
+pub mod FrameFields
