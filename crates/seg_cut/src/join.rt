@@ -1,0 +1,193 @@
+//! Joining the packets of a message.
+ghost use Rattle.std.specs.Prelude.{◌≡◌, ◌+◌, ◌<◌, ◌≤◌, ◌↔◌, ◌++◌, false, length, IsTrue, IsOk, OnOk, OnErr, IfOk, IfErr, IsErrOf, vec_len, vec_capacity};
+ghost use Rattle.seg_cut.specs.Join.{IsJoin, empty_join, wants, joined, with_room, held};
+ghost use Rattle.seg_cut.specs.Join.{is_complete as is_complete_at, wants_last as wants_last_at};
+
+use crate::cut::PACKET_BYTES;
+use std::alloc::{AllocError, Global};
+use std::marker::Model;
+use thiserror::Error;
+
+/// A message that comes packet by packet, in their order.
+///
+/// It holds no more memory than it was asked to make room for, and has the bytes of the message alone, without the
+/// filling of the last packet.
+#[derive(Debug, Drop)]
+pub struct Join {
+    size: u32,
+    next: u32,
+    room: u32,
+    bytes: Vec<u8>,
+}
+
+impl Model for Join {
+    ghost use Rattle.seg_cut.specs.Join.{Join};
+
+    ghost Value = { Join };
+
+    ghost use Rattle.seg_cut.specs.Shape.{view_join, IsExact};
+
+    ghost view = { view_join };
+
+    ghost invariant = { IsExact };
+}
+
+/// Why a packet was not put.
+#[derive(Clone, Copy, Debug, PartialEq, Eq, Error)]
+pub enum PutError {
+    /// It is not the next packet of the message, or the message is complete.
+    #[error("not the next packet of the message")]
+    WrongPacket,
+    /// No room was made for it, and there is no memory.
+    #[error("out of memory")]
+    OutOfMemory,
+}
+
+impl Join {
+    /// A message of `size` bytes of which nothing has come. It takes no memory.
+    pub fn new(alloc: Global, size: u32) -> Join
+        ensures empty { result ≡ empty_join size }
+        ensures valid { IsJoin result }
+    {
+        Join {
+            size,
+            next: 1,
+            room: 0,
+            bytes: Vec::new(alloc),
+        }
+    }
+
+    /// The size of the whole message in bytes.
+    pub fn size(&self) -> u32
+        ensures value { result ≡ self.now.size }
+        ensures valid { IsJoin self.now }
+    {
+        self.size
+    }
+
+    /// The number of the next packet, from 1; one more than there are where the message is complete.
+    pub fn next(&self) -> u32
+        ensures value { result ≡ self.now.next }
+        ensures valid { IsJoin self.now }
+    {
+        self.next
+    }
+
+    /// How many further packets can be put without taking memory; it may be more than are still to come.
+    pub fn room(&self) -> u32
+        ensures value { result ≡ self.now.room }
+        ensures valid { IsJoin self.now }
+    {
+        self.room
+    }
+
+    /// How many bytes of memory it holds: those of the message up to the last packet that there is room for.
+    pub fn capacity(&self) -> usize
+        ensures { result ≡ held self.now }
+    {
+        self.bytes.capacity()
+    }
+
+    /// Whether each packet has come.
+    pub fn is_complete(&self) -> bool
+        ensures { result ≡ is_complete_at self.now }
+    {
+        self.bytes.len() == self.size as usize
+    }
+
+    /// Whether the next packet is the last.
+    pub fn wants_last(&self) -> bool
+        ensures { result ≡ wants_last_at self.now }
+    {
+        !self.is_complete() && self.size as usize - self.bytes.len() <= PACKET_BYTES
+    }
+
+    /// Makes room for so many further packets, or up to the end of the message where that is less.
+    ///
+    /// It takes what memory is missing in one block, and none where the room is there. An error changes nothing.
+    pub fn make_room(&mut self, packets: u32) -> Result<(), AllocError>
+        ensures ok { OnOk result (self.new ≡ with_room self.old packets) }
+        ensures full { OnErr result (held self.old < held (with_room self.old packets)) }
+        ensures err { OnErr result (self.new ≡ self.old) }
+        ensures valid { IsJoin self.new }
+    {
+        if packets <= self.room {
+            return Ok(());
+        }
+        let end = PACKET_BYTES * (self.next as usize - 1 + packets as usize);
+        let end = end.min(self.size as usize);
+        self.bytes.reserve_exact(end - self.bytes.len())?;
+        self.room = packets;
+        Ok(())
+    }
+
+    /// Puts packet `k`, where it is the next one. It takes no memory where there is room. An error changes nothing.
+    #[inline]
+    pub fn put(&mut self, k: u32, packet: [u8; 7]) -> Result<(), PutError>
+        ensures ok { OnOk result (self.new ≡ joined self.old packet) }
+        ensures wrong { IsErrOf result PutError.WrongPacket ↔ (wants self.old k ≡ false) }
+        ensures full { IsErrOf result PutError.OutOfMemory → self.old.room ≡ 0 }
+        ensures ready { IsTrue (wants self.old k) → 0 < self.old.room → IsOk result }
+        ensures err { OnErr result (self.new ≡ self.old) }
+        ensures valid { IsJoin self.new }
+    {
+        if k != self.next || self.is_complete() {
+            return Err(PutError::WrongPacket);
+        }
+        if self.room == 0 && self.make_room(1).is_err() {
+            return Err(PutError::OutOfMemory);
+        }
+        self.append(&packet);
+        Ok(())
+    }
+
+    /// Appends what the message has of its next packet.
+    #[inline]
+    fn append(&mut self, packet: &[u8; 7])
+        requires incomplete { is_complete_at self.old ≡ false }
+        requires room { 0 < self.old.room }
+        ensures value { self.new ≡ joined self.old packet.now }
+        ensures valid { IsJoin self.new }
+    {
+        let lacking = self.size as usize - self.bytes.len();
+        if lacking >= PACKET_BYTES {
+            append_reserved(&mut self.bytes, packet);
+        } else {
+            append_reserved(&mut self.bytes, &packet[..lacking]);
+        }
+        self.next += 1;
+        self.room -= 1;
+    }
+
+    /// The whole message, or the same join where a packet is still to come.
+    pub fn finish(self) -> Result<Vec<u8>, Join>
+        ensures complete { IsOk result ↔ IsTrue (is_complete_at self) }
+        ensures ok { IfOk result (λ v. v.items ≡ self.bytes) }
+        ensures exact { IfOk result (λ v. vec_capacity v ≡ self.size) }
+        ensures err { IfErr result (λ j. j ≡ self) }
+    {
+        if !self.is_complete() {
+            return Err(self);
+        }
+        let Join {
+            size: _,
+            next: _,
+            room: _,
+            bytes,
+        } = self;
+        Ok(bytes)
+    }
+}
+
+/// Appends to a vector that has room.
+#[inline]
+fn append_reserved(bytes: &mut Vec<u8>, more: &[u8])
+    requires { vec_len bytes.old + length more.now ≤ vec_capacity bytes.old }
+    ensures items { bytes.new.items ≡ bytes.old.items ++ more.now }
+    ensures len { vec_len bytes.new ≡ vec_len bytes.old + length more.now }
+    ensures capacity { vec_capacity bytes.new ≡ vec_capacity bytes.old }
+{
+    for byte in more {
+        bytes.push_reserved(*byte);
+    }
+}

@@ -1,0 +1,64 @@
+//! Worked values, and that calls succeed, of which no clause speaks.
+use super::*;
+use std::test::Fail;
+
+const MESSAGE: [u8; 9] = [1, 2, 3, 4, 5, 6, 7, 8, 9];
+
+#[test]
+fn sizes_are_rounded_up_to_packets(rt: HostRuntime) {
+    for (size, count) in [
+        (0, 0),
+        (7, 1),
+        (8, 2),
+        (1785, 255),
+        (117_440_505, 16_777_215),
+        (117_440_506, 16_777_216),
+        (u32::MAX, 613_566_757),
+    ] {
+        assert_eq!(rt; packets(size), count, "at {size}");
+    }
+}
+
+#[test]
+fn last_packet_is_filled_up(rt: HostRuntime) {
+    assert_eq!(rt; packet(&MESSAGE, 1), [1, 2, 3, 4, 5, 6, 7]);
+    assert_eq!(rt; packet(&MESSAGE, 2), [8, 9, 0xff, 0xff, 0xff, 0xff, 0xff]);
+}
+
+#[test]
+fn nine_bytes_come_in_two_packets(rt: HostRuntime) -> Result<(), Fail> {
+    let mut join = Join::new(rt.alloc(), 9);
+    assert_eq!(rt;
+        join.put(2, packet(&MESSAGE, 2)),
+        Err(PutError::WrongPacket)
+    );
+    join.put(1, packet(&MESSAGE, 1))?;
+    let mut join = match join.finish() {
+        Ok(_) => return Err(Fail::from("finished after one packet of two")),
+        Err(join) => join,
+    };
+    assert_eq!(rt;
+        join.put(1, packet(&MESSAGE, 1)),
+        Err(PutError::WrongPacket)
+    );
+    join.put(2, packet(&MESSAGE, 2))?;
+    assert_eq!(rt; join.put(3, [0; 7]), Err(PutError::WrongPacket));
+    let bytes = join.finish().map_err(|_| "not finished")?;
+    assert_eq!(rt; bytes.as_slice(), MESSAGE.as_slice());
+    Ok(())
+}
+
+#[test]
+fn room_is_one_block(rt: HostRuntime) -> Result<(), Fail> {
+    let mut join = Join::new(rt.alloc(), 117_440_505);
+    assert_eq!(rt; join.capacity(), 0);
+    join.make_room(64)?;
+    assert_eq!(rt; (join.capacity(), join.room()), (448, 64));
+    join.put(1, [0; 7])?;
+    assert_eq!(rt; (join.capacity(), join.room(), join.next()), (448, 63, 2));
+    let mut join = Join::new(rt.alloc(), 9);
+    join.make_room(64)?;
+    assert_eq!(rt; (join.capacity(), join.size()), (9, 9));
+    assert_eq!(rt; (join.is_complete(), join.wants_last()), (false, false));
+    Ok(())
+}

@@ -1,0 +1,14 @@
+//! The clock of a segment and the timers of its sessions, in ticks of 1 ms.
+//!
+//! No call takes memory, and nothing here looks at the time of the machine: the clock goes on only where it is told to.
+#![tactic(auto)]
+
+mod clock;
+mod durations;
+#[cfg(test)]
+mod tests;
+mod timer;
+
+pub use clock::{Clock, ClockEnd};
+pub use durations::{BROADCAST_GAP, PROBE, T1, T2, T3, T4, TH};
+pub use timer::Timer;

@@ -1,0 +1,25 @@
+//! What no clause says: that each call can succeed.
+use super::*;
+
+#[test]
+fn clock_stops_at_its_end(rt: HostRuntime) {
+    let mut clock = Clock::new();
+    assert_eq!(rt; clock.now(), 0);
+    assert_eq!(rt; clock.advance(u64::MAX), Ok(()));
+    assert_eq!(rt; clock.advance(0), Ok(()));
+    assert_eq!(rt; clock.advance(1), Err(ClockEnd));
+    assert_eq!(rt; clock.now(), u64::MAX);
+}
+
+#[test]
+fn timer_is_due_with_its_last_tick(rt: HostRuntime) {
+    for (started, ticks, now, due) in [
+        (100, T1, 849, false),
+        (100, T1, 850, true),
+        (100, 0, 100, true),
+        (100, 0, 99, false),
+        (u64::MAX, T2, u64::MAX, false),
+    ] {
+        assert_eq!(rt; Timer::start(started, ticks).is_due(now), due, "at {now}");
+    }
+}

@@ -1,0 +1,41 @@
+//! Timers.
+ghost use Rattle.std.specs.Prelude.{◌≡◌};
+ghost use Rattle.tick_timers.specs.Timers.{is_due as is_due_at};
+
+use std::marker::Model;
+
+/// Started at a tick, and due once so many ticks have passed.
+#[derive(Clone, Copy, Debug, PartialEq, Eq)]
+pub struct Timer {
+    started: u64,
+    ticks: u64,
+}
+
+impl Model for Timer {
+    ghost use Rattle.tick_timers.specs.Timers.{Timer};
+
+    ghost Value = { Timer };
+
+    ghost view = { λ t. record { started = t.started; ticks = t.ticks } };
+
+    ghost inverse = { λ t. record { started = t.started; ticks = t.ticks } };
+}
+
+impl Timer {
+    /// A timer that starts at tick `now` and is due `ticks` ticks of 1 ms later.
+    pub const fn start(now: u64, ticks: u64) -> Timer
+        ensures { result ≡ record { started = now; ticks = ticks } }
+    {
+        Timer {
+            started: now,
+            ticks,
+        }
+    }
+
+    /// Whether at least its ticks have passed at tick `now`. One that would be due past the end of `u64` never is.
+    pub const fn is_due(&self, now: u64) -> bool
+        ensures { result ≡ is_due_at self.now now }
+    {
+        self.started <= now && self.ticks <= now - self.started
+    }
+}
