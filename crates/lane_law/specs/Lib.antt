@@ -1,0 +1,10 @@
+pub mod Message
+pub mod Frame
+pub mod Session
+pub mod Choice
+pub mod Runs
+pub mod Stream
+pub mod Outcome
+pub mod Lane
+pub mod Sender
+pub mod Example
