@@ -1,0 +1,4 @@
+pub mod Cursors
+pub mod Steps
+pub mod Lists
+pub mod Order

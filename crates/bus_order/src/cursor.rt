@@ -1,0 +1,77 @@
+//! The cursors of the stations, and those furthest behind.
+ghost use Rattle.std.specs.Prelude.{◌≡◌, ◌<◌, ◌≤◌, ◌==◌, length, count_by, slice_set, slice_index_or};
+ghost use Rattle.bus_order.specs.Bus.{start, lowest};
+ghost use Rattle.bus_order.specs.Rear.{IsRear};
+
+use std::marker::Model;
+
+/// How far a station is.
+#[derive(Clone, Copy, Debug)]
+pub(crate) struct Cursor {
+    pub(crate) place: u64,
+    pub(crate) repeatable: bool,
+}
+
+impl Model for Cursor {
+    ghost use Rattle.bus_order.specs.Bus.{Cursor as CursorValue};
+
+    ghost Value = { CursorValue };
+
+    ghost view = { λ c. record { place = c.place; repeatable = c.repeatable } };
+
+    ghost inverse = { λ c. record { place = c.place; repeatable = c.repeatable } };
+}
+
+impl Cursor {
+    /// A cursor before all frames.
+    pub(crate) const START: Cursor = Cursor {
+        place: 0,
+        repeatable: false,
+    };
+}
+
+/// The cursors furthest behind: their place, and how many stand there.
+#[derive(Clone, Copy, Debug)]
+pub(crate) struct Rear {
+    pub(crate) place: u64,
+    pub(crate) count: usize,
+}
+
+/// The cursors furthest behind among all.
+pub(crate) fn rear_of(cursors: &[Cursor]) -> Rear
+    ensures { IsRear result cursors.now }
+{
+    let Some((first, others)) = cursors.split_first() else {
+        return Rear { place: 0, count: 0 };
+    };
+    let place = others
+        .iter()
+        .fold(first.place, |least, other| least.min(other.place));
+    let count = cursors.iter().filter(|c| c.place == place).count();
+    Rear { place, count }
+}
+
+/// Moves a cursor on, and says which are furthest behind then. All are looked at only where the last one of them left.
+pub(crate) fn move_cursor(cursors: &mut [Cursor], rear: Rear, at: usize, to: Cursor) -> Rear
+    requires at { at < length cursors.old }
+    requires rear { IsRear rear cursors.old }
+    requires on { (slice_index_or cursors.old at start).place ≤ to.place }
+    ensures moved { cursors.new ≡ slice_set cursors.old at to }
+    ensures rear { IsRear result cursors.new }
+{
+    let from = cursors[at];
+    cursors[at] = to;
+    if from.place != rear.place {
+        return rear;
+    }
+    if to.place == from.place {
+        return rear;
+    }
+    if rear.count > 1 {
+        return Rear {
+            place: rear.place,
+            count: rear.count - 1,
+        };
+    }
+    rear_of(cursors)
+}

@@ -1,0 +1,13 @@
+//! The bus of a segment: all frames in the order in which they were put, and how far each station is in it.
+//!
+//! A log holds only the frames that a station may still take or repeat.
+#![tactic(auto)]
+
+mod cursor;
+mod laws;
+mod log;
+#[cfg(test)]
+mod tests;
+
+pub use laws::stations_see_the_bus_in_order;
+pub use log::{BusLog, PutError};

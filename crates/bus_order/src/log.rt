@@ -1,0 +1,241 @@
+//! The log of a bus.
+ghost use Rattle.std.specs.Prelude.{◌≡◌, ℕ, ◌+◌, ◌<◌, ◌≤◌, ◌^◌, ◌↔◌, length, drop, IfOk, OnOk, OnErr, OnSome, IfNone, IsErrOf, IsSome, IsTrue, slice_set};
+ghost use Rattle.std.specs.Bool.{OnTrue, OnFalse};
+ghost use Rattle.bus_order.specs.Bus.{new_bus, bus_len, cursor_at, frame_at, next_frame, frame_again, waiting, is_full, put, taken, passed, released};
+ghost use Rattle.bus_order.specs.Kept.{HoldsAhead, IsSound};
+
+use crate::cursor::{Cursor, Rear, move_cursor};
+use bus_frame::Frame;
+use std::alloc::{AllocError, Global};
+use std::collections::VecDeque;
+use std::marker::Model;
+use thiserror::Error;
+
+/// How many frames are kept at most.
+const KEPT_LIMIT: usize = 4096;
+
+/// Why a frame isn't put.
+#[derive(Clone, Copy, Debug, PartialEq, Eq, Error)]
+pub enum PutError {
+    /// 4,096 frames are kept, or the next place would pass `u64`.
+    #[error("the bus is full")]
+    BusFull,
+    /// There was no memory for one more frame.
+    #[error("out of memory")]
+    OutOfMemory,
+}
+
+/// The frames put on a bus, with a cursor for each station. Places count from 1. A station's cursor is the place of the
+/// frame that it took or passed over last, at first 0. Frames are dropped by `release` alone.
+#[derive(Debug, Drop)]
+pub struct BusLog {
+    first: u64,
+    kept: VecDeque<Frame>,
+    cursors: Vec<Cursor>,
+    rear: Rear,
+}
+
+impl Model for BusLog {
+    ghost use Rattle.bus_order.specs.Bus.{Bus};
+
+    ghost Value = { Bus };
+
+    ghost use Rattle.bus_order.specs.LogFields.{log_value, IsSoundLog};
+
+    ghost view = { log_value };
+
+    ghost invariant = { IsSoundLog };
+}
+
+impl BusLog {
+    /// An empty bus with this many stations, whose cursors are the numbers below it. Where there is no station, no frame
+    /// is ever dropped.
+    #[tactic(auto, using(crate::proofs::Steps::sound_new, crate::proofs::Steps::sound_holds))]
+    pub fn new(alloc: Global, stations: usize) -> Result<BusLog, AllocError>
+        ensures new { IfOk result (λ log. log ≡ new_bus stations) }
+        ensures holds { IfOk result HoldsAhead }
+    {
+        Ok(BusLog {
+            first: 1,
+            kept: VecDeque::new(alloc),
+            cursors: vec![in alloc; Cursor::START; stations]?,
+            rear: Rear {
+                place: 0,
+                count: stations,
+            },
+        })
+    }
+
+    /// How many stations there are.
+    pub fn stations(&self) -> usize
+        ensures { result ≡ length self.now.cursors }
+    {
+        self.cursors.len()
+    }
+
+    /// How many frames were put, which is the place of the newest.
+    pub fn len(&self) -> u64
+        ensures value { result ≡ bus_len self.now }
+        ensures sound { IsSound self.now }
+    {
+        self.first - 1 + self.kept.len() as u64
+    }
+
+    /// Whether no frame was put yet.
+    pub fn is_empty(&self) -> bool
+        ensures { IsTrue result ↔ (bus_len self.now ≡ 0) }
+    {
+        self.len() == 0
+    }
+
+    /// The frame at a place, where it is kept.
+    pub fn frame(&self, place: u64) -> Option<Frame>
+        ensures { result ≡ frame_at self.now place }
+    {
+        if place < self.first {
+            return None;
+        }
+        self.kept.get((place - self.first) as usize).copied()
+    }
+
+    /// How many frames a station has neither taken nor passed over.
+    pub fn waiting(&self, cursor: usize) -> u64
+        requires { cursor < length self.now.cursors }
+        ensures { result ≡ waiting self.now cursor }
+    {
+        self.len() - self.at(cursor).place
+    }
+
+    /// The frame that a station took last, once more: None exactly where it has taken none since it passed over frames,
+    /// or none at all.
+    #[tactic(auto, using(crate::proofs::Steps::read_repeats))]
+    pub fn again(&self, cursor: usize) -> Option<Frame>
+        requires { cursor < length self.now.cursors }
+        ensures frame { result ≡ frame_again self.now cursor }
+        ensures repeats { IsSome result ↔ IsTrue (cursor_at self.now cursor).repeatable }
+    {
+        let at = self.at(cursor);
+        if !at.repeatable {
+            return None;
+        }
+        self.frame(at.place)
+    }
+
+    // How far a station is, and what holds of the log.
+    fn at(&self, cursor: usize) -> Cursor
+        requires { cursor < length self.now.cursors }
+        ensures value { result ≡ cursor_at self.now cursor }
+        ensures sound { IsSound self.now }
+    {
+        self.cursors[cursor]
+    }
+
+    // The frame behind a place.
+    fn frame_behind(&self, place: u64) -> Option<Frame>
+        requires held { self.now.first ≤ place + 1 }
+        ensures frame { result ≡ frame_at self.now (place + 1) }
+        ensures put { IsSome result ↔ (place < bus_len self.now) }
+    {
+        self.kept.get((place - (self.first - 1)) as usize).copied()
+    }
+
+    // Moves a cursor on, at most to the newest frame.
+    fn move_to(&mut self, cursor: usize, to: Cursor)
+        requires cursor { cursor < length self.old.cursors }
+        requires on { (cursor_at self.old cursor).place ≤ to.place }
+        requires within { to.place ≤ bus_len self.old }
+        requires repeats { IsTrue to.repeatable → 0 < to.place }
+        ensures moved { self.new ≡ record self.old { cursors = slice_set self.old.cursors cursor to } }
+        ensures holds { HoldsAhead self.new }
+    {
+        self.rear = move_cursor(&mut self.cursors, self.rear, cursor, to);
+    }
+
+    /// Puts a frame on the bus, at the place behind the newest. `BusFull` comes exactly where 4,096 frames are kept or that
+    /// place would pass `u64`; an error changes nothing.
+    #[tactic(auto, using(crate::proofs::Steps::sound_put, crate::proofs::Steps::sound_holds))]
+    pub fn put(&mut self, frame: Frame) -> Result<(), PutError>
+        ensures ok { OnOk result (self.new ≡ put self.old frame) }
+        ensures full { IsErrOf result PutError.BusFull ↔ IsTrue (is_full self.old) }
+        ensures err { OnErr result (self.new ≡ self.old) }
+        ensures holds { HoldsAhead self.new }
+    {
+        if self.kept.len() >= KEPT_LIMIT {
+            return Err(PutError::BusFull);
+        }
+        if self.len() == u64::MAX {
+            return Err(PutError::BusFull);
+        }
+        match self.kept.push_back(frame) {
+            Ok(()) => Ok(()),
+            Err(_) => Err(PutError::OutOfMemory),
+        }
+    }
+
+    /// A station takes the frame behind its cursor, which moves on by one: None exactly where no frame waits for it, and
+    /// then nothing changes.
+    #[tactic(auto, using(crate::proofs::Steps::read_within, crate::proofs::Steps::read_held, crate::proofs::Steps::sound_holds))]
+    pub fn next(&mut self, cursor: usize) -> Option<Frame>
+        requires { cursor < length self.old.cursors }
+        ensures frame { result ≡ next_frame self.old cursor }
+        ensures waits { IsSome result ↔ (0 < waiting self.old cursor) }
+        ensures some { OnSome result (self.new ≡ taken self.old cursor) }
+        ensures none { IfNone result (self.new ≡ self.old) }
+        ensures holds { HoldsAhead self.new }
+    {
+        let at = self.at(cursor);
+        let frame = self.frame_behind(at.place)?;
+        let to = Cursor {
+            place: at.place + 1,
+            repeatable: true,
+        };
+        self.move_to(cursor, to);
+        Some(frame)
+    }
+
+    /// A station passes over the next n frames, which may be none: false exactly where fewer wait for it, and then
+    /// nothing changes. Otherwise nothing can be repeated until it has taken a frame.
+    #[tactic(auto, using(crate::proofs::Steps::read_within, crate::proofs::Steps::read_held, crate::proofs::Steps::sound_holds))]
+    pub fn skip(&mut self, cursor: usize, n: u64) -> bool
+        requires { cursor < length self.old.cursors }
+        ensures waits { IsTrue result ↔ (n ≤ waiting self.old cursor) }
+        ensures passed { OnTrue result (self.new ≡ passed self.old cursor n) }
+        ensures fewer { OnFalse result (self.new ≡ self.old) }
+        ensures holds { HoldsAhead self.new }
+    {
+        let at = self.at(cursor);
+        if n > self.len() - at.place {
+            return false;
+        }
+        let to = Cursor {
+            place: at.place + n,
+            repeatable: false,
+        };
+        self.move_to(cursor, to);
+        true
+    }
+
+    /// Drops the frames that no station can take or repeat: what is kept is the frame at the lowest cursor and all after
+    /// it, or all frames where that cursor is at 0.
+    #[tactic(auto, using(crate::proofs::Steps::sound_released, crate::proofs::Steps::sound_holds))]
+    pub fn release(&mut self)
+        ensures released { self.new ≡ released self.old }
+        ensures holds { HoldsAhead self.new }
+    {
+        if self.rear.place <= self.first {
+            return;
+        }
+        let dropped = (self.rear.place - self.first) as usize;
+        drop_front(&mut self.kept, dropped);
+        self.first = self.rear.place;
+    }
+}
+
+// Frame by frame, so that what it costs is in proportion to what it drops.
+fn drop_front(kept: &mut VecDeque<Frame>, n: usize)
+    ensures { kept.new.items ≡ drop n kept.old.items }
+{
+    for _ in 0..n {
+        let _dropped = kept.pop_front();
+    }
+}

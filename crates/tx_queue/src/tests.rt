@@ -1,0 +1,37 @@
+use super::*;
+use bus_frame::CanId;
+use std::test::Fail;
+
+// Made again where no memory is found, so that the test passes whichever one allocation is refused.
+fn new_queue(alloc: Global) -> Result<TxQueue, AllocError> {
+    match TxQueue::new(alloc) {
+        Ok(queue) => Ok(queue),
+        Err(_) => TxQueue::new(alloc),
+    }
+}
+
+fn frame_of(number: u8) -> Result<Frame, Fail> {
+    let id = CanId::new(0x1CEB_2335)?;
+    Ok(Frame::new(id, &[number])?)
+}
+
+#[test]
+fn sixty_four_frames_leave_in_order(rt: HostRuntime) -> Result<(), Fail> {
+    let mut queue = new_queue(rt.alloc())?;
+    assert!(rt; queue.is_empty());
+    assert_eq!(rt; queue.free(), 64);
+    assert_eq!(rt; queue.pop(), None);
+    for number in 0..64u8 {
+        assert!(rt; queue.push(frame_of(number)?).is_ok());
+    }
+    assert_eq!(rt; queue.len(), 64);
+    assert_eq!(rt; queue.free(), 0);
+    assert_eq!(rt; queue.push(frame_of(64)?), Err(TxFull));
+    for number in 0..64u8 {
+        assert_eq!(rt; queue.front(), Some(frame_of(number)?));
+        assert_eq!(rt; queue.pop(), Some(frame_of(number)?));
+    }
+    assert_eq!(rt; queue.front(), None);
+    assert!(rt; queue.is_empty());
+    Ok(())
+}
