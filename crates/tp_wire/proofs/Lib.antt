@@ -1,0 +1,4 @@
+pub mod Numbers
+pub mod RowsRead
+pub mod RowsShown
+pub mod WholeFrames

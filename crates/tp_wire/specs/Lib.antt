@@ -1,0 +1,5 @@
+pub mod Reason
+pub mod Octets
+pub mod Groups
+pub mod Rows
+pub mod Reading

@@ -1,0 +1,292 @@
+use super::*;
+use bus_frame::{CanId, Frame};
+use pgn_ids::{Address, WirePgn};
+use std::test::Fail;
+
+// Diagnostic message 1, a PGN of the PDU2 format.
+const DM1: u32 = 0xFECA;
+
+fn frame_of(id: u32, bytes: &[u8]) -> Result<Frame, Fail> {
+    Ok(Frame::new(CanId::new(id)?, bytes)?)
+}
+
+#[test]
+fn rows_are_read_and_written(rt: HostRuntime) -> Result<(), Fail> {
+    let pgn = WirePgn::new(DM1)?;
+    // Each row of the frame table by its identifier, bytes, meaning, source and destination.
+    for (id, bytes, wire, from, to) in [
+        (
+            0x1CEC_3521,
+            [0x10, 0xF9, 0x06, 0xFF, 0xFF, 0xCA, 0xFE, 0x00],
+            Wire::Cm(CmFrame::Rts {
+                size: 1785,
+                packets: 255,
+                most: 255,
+                pgn,
+            }),
+            0x21,
+            0x35,
+        ),
+        (
+            0x1CEC_2135,
+            [0x11, 0x0F, 0xF1, 0xFF, 0xFF, 0xCA, 0xFE, 0x00],
+            Wire::Cm(CmFrame::Cts {
+                granted: 15,
+                next: 241,
+                pgn,
+            }),
+            0x35,
+            0x21,
+        ),
+        (
+            0x1CEC_2135,
+            [0x13, 0xF9, 0x06, 0xFF, 0xFF, 0xCA, 0xFE, 0x00],
+            Wire::Cm(CmFrame::EndOfMsgAck {
+                size: 1785,
+                packets: 255,
+                pgn,
+            }),
+            0x35,
+            0x21,
+        ),
+        (
+            0x1CEC_FF21,
+            [0x20, 0x09, 0x00, 0x02, 0xFF, 0xCA, 0xFE, 0x00],
+            Wire::Cm(CmFrame::Bam {
+                size: 9,
+                packets: 2,
+                pgn,
+            }),
+            0x21,
+            0xFF,
+        ),
+        (
+            0x1CEC_3521,
+            [0xFF, 0x03, 0xFF, 0xFF, 0xFF, 0xCA, 0xFE, 0x00],
+            Wire::Cm(CmFrame::Abort { reason: 3, pgn }),
+            0x21,
+            0x35,
+        ),
+        (
+            0x1CEB_FF21,
+            [0x01, 0x01, 0x02, 0x03, 0x04, 0x05, 0x06, 0x07],
+            Wire::Packet {
+                kind: Kind::Tp,
+                sequence: 1,
+                bytes: [1, 2, 3, 4, 5, 6, 7],
+            },
+            0x21,
+            0xFF,
+        ),
+        (
+            0x1CC8_3521,
+            [0x14, 0xFA, 0x06, 0x00, 0x00, 0xCA, 0xFE, 0x00],
+            Wire::Cm(CmFrame::EtpRts { size: 1786, pgn }),
+            0x21,
+            0x35,
+        ),
+        (
+            0x1CC8_3521,
+            [0x14, 0xF9, 0xFF, 0xFF, 0x06, 0xCA, 0xFE, 0x00],
+            Wire::Cm(CmFrame::EtpRts {
+                size: 117_440_505,
+                pgn,
+            }),
+            0x21,
+            0x35,
+        ),
+        (
+            0x1CC8_2135,
+            [0x15, 0x40, 0x01, 0x00, 0x00, 0xCA, 0xFE, 0x00],
+            Wire::Cm(CmFrame::EtpCts {
+                granted: 64,
+                next: 1,
+                pgn,
+            }),
+            0x35,
+            0x21,
+        ),
+        (
+            0x1CC8_3521,
+            [0x16, 0x40, 0xC0, 0x00, 0x00, 0xCA, 0xFE, 0x00],
+            Wire::Cm(CmFrame::EtpDpo {
+                packets: 64,
+                offset: 192,
+                pgn,
+            }),
+            0x21,
+            0x35,
+        ),
+        (
+            0x1CC8_2135,
+            [0x17, 0xFA, 0x06, 0x00, 0x00, 0xCA, 0xFE, 0x00],
+            Wire::Cm(CmFrame::EtpEoma { size: 1786, pgn }),
+            0x35,
+            0x21,
+        ),
+        (
+            0x1CC8_2135,
+            [0xFF, 0xFA, 0xFF, 0xFF, 0xFF, 0xCA, 0xFE, 0x00],
+            Wire::Cm(CmFrame::EtpAbort { reason: 250, pgn }),
+            0x35,
+            0x21,
+        ),
+        (
+            0x1CC7_3521,
+            [0x40, 0xFA, 0xFF, 0xFF, 0xFF, 0xFF, 0xFF, 0xFF],
+            Wire::Packet {
+                kind: Kind::Etp,
+                sequence: 64,
+                bytes: [0xFA, 0xFF, 0xFF, 0xFF, 0xFF, 0xFF, 0xFF],
+            },
+            0x21,
+            0x35,
+        ),
+        (
+            0x18E8_FF35,
+            [0x01, 0xFF, 0xFF, 0xFF, 0x21, 0x00, 0xEC, 0x00],
+            Wire::Ack {
+                control: 1,
+                address: Address(0x21),
+                pgn: WirePgn::new(0xEC00)?,
+            },
+            0x35,
+            0xFF,
+        ),
+    ] {
+        let frame = frame_of(id, &bytes)?;
+        assert!(rt; is_transport(&frame), "at {id:08X}");
+        let Some((read_wire, source, destination)) = read(&frame) else {
+            return Err(Fail::new("no meaning"));
+        };
+        assert!(rt; read_wire == wire, "at {id:08X}");
+        assert!(rt;
+            source == Address(from) && destination == Address(to),
+            "at {id:08X}"
+        );
+        assert!(rt;
+            write(read_wire, source, destination) == frame,
+            "at {id:08X}"
+        );
+    }
+    Ok(())
+}
+
+#[test]
+fn requests_are_read_by_three_bytes(rt: HostRuntime) -> Result<(), Fail> {
+    let request = Wire::Request {
+        pgn: WirePgn::new(0xEC00)?,
+    };
+    let padded = [0x00, 0xEC, 0x00, 0xFF, 0xFF, 0xFF, 0xFF, 0xFF];
+    let frame = frame_of(0x18EA_3521, &padded[..3])?;
+    assert!(rt; write(request, Address(0x21), Address(0x35)) == frame);
+    for from in [0x21, 0xFE] {
+        for len in 3..9usize {
+            let frame = frame_of(0x18EA_3500 + u32::from(from), &padded[..len])?;
+            assert!(rt;
+                read(&frame) == Some((request, Address(from), Address(0x35))),
+                "of {len} bytes"
+            );
+        }
+    }
+    Ok(())
+}
+
+#[test]
+fn reserved_bytes_and_priorities_may_be_any(rt: HostRuntime) -> Result<(), Fail> {
+    let abort = Wire::Cm(CmFrame::Abort {
+        reason: 2,
+        pgn: WirePgn::new(DM1)?,
+    });
+    for id in [0x1CEC_3521, 0x18EC_3521, 0x00EC_3521] {
+        for reserved in [0x00, 0x5A, 0xFF] {
+            let bytes = [0xFF, 0x02, reserved, reserved, reserved, 0xCA, 0xFE, 0x00];
+            let meaning = read(&frame_of(id, &bytes)?);
+            assert!(rt;
+                meaning == Some((abort, Address(0x21), Address(0x35))),
+                "at {id:08X}"
+            );
+        }
+    }
+    Ok(())
+}
+
+#[test]
+fn malformed_frames_have_no_meaning(rt: HostRuntime) -> Result<(), Fail> {
+    let cts = [0x11, 0x01, 0x01, 0xFF, 0xFF, 0xCA, 0xFE, 0x00];
+    for (id, bytes) in [
+        // Sequence 0, a CTS to all, a PGN field above 18 bits, an unknown control byte.
+        (
+            0x1CEB_FF80,
+            [0x00, 0x01, 0x02, 0x03, 0x04, 0x05, 0x06, 0x07],
+        ),
+        (0x1CEC_FF80, cts),
+        (
+            0x1CEC_3580,
+            [0x10, 0x09, 0x00, 0x02, 0xFF, 0xCA, 0xFE, 0x04],
+        ),
+        (
+            0x1CEC_3580,
+            [0x12, 0x09, 0x00, 0x02, 0xFF, 0xCA, 0xFE, 0x00],
+        ),
+        // A BAM to one node, a packet of ETP to all, to the null address, from it and from all.
+        (
+            0x1CEC_3580,
+            [0x20, 0x09, 0x00, 0x02, 0xFF, 0xCA, 0xFE, 0x00],
+        ),
+        (
+            0x1CC7_FF80,
+            [0x01, 0x01, 0x02, 0x03, 0x04, 0x05, 0x06, 0x07],
+        ),
+        (0x1CEC_FE80, cts),
+        (0x1CEC_35FE, cts),
+        (
+            0x18EA_35FF,
+            [0x00, 0xEC, 0x00, 0xFF, 0xFF, 0xFF, 0xFF, 0xFF],
+        ),
+    ] {
+        let frame = frame_of(id, &bytes)?;
+        assert!(rt; read(&frame) == None && is_transport(&frame), "at {id:08X}");
+    }
+    for (id, len) in [(0x1CEC_3580, 7), (0x18EA_3521, 2)] {
+        let frame = frame_of(id, &[0x10, 0x09, 0x00, 0x02, 0xFF, 0xCA, 0xFE][..len])?;
+        assert!(rt; read(&frame) == None && is_transport(&frame), "at {id:08X}");
+    }
+    Ok(())
+}
+
+#[test]
+fn other_traffic_has_no_meaning(rt: HostRuntime) -> Result<(), Fail> {
+    // The data page, the extended data page, and a frame of another PGN.
+    for id in [0x1DEC_3521, 0x1EEC_3521, 0x0CF0_0400] {
+        let frame = frame_of(id, &[0x11, 0x01, 0x01, 0xFF, 0xFF, 0xCA, 0xFE, 0x00])?;
+        assert!(rt;
+            read(&frame) == None && !is_transport(&frame),
+            "at {id:08X}"
+        );
+    }
+    Ok(())
+}
+
+#[test]
+fn fields_of_a_meaning(rt: HostRuntime) -> Result<(), Fail> {
+    let pgn = WirePgn::new(DM1)?;
+    let dpo = CmFrame::EtpDpo {
+        packets: 64,
+        offset: 192,
+        pgn,
+    };
+    assert!(rt; dpo.kind() == Kind::Etp && dpo.pgn() == pgn);
+    assert!(rt; Wire::Cm(dpo).kind() == Some(Kind::Etp) && Wire::Cm(dpo).pgn() == Some(pgn));
+    let packet = Wire::Packet {
+        kind: Kind::Tp,
+        sequence: 1,
+        bytes: [0xFF; 7],
+    };
+    assert!(rt; packet.kind() == Some(Kind::Tp) && packet.pgn() == None);
+    let request = Wire::Request { pgn };
+    assert!(rt; request.kind() == None && request.pgn() == Some(pgn));
+    assert_eq!(rt; AbortReason::Timeout.byte(), 3);
+    assert_eq!(rt; AbortReason::Other.byte(), 250);
+    Ok(())
+}
