@@ -1,0 +1,31 @@
+-- How a broadcast message is received (SAE J1939-21, broadcast announce message, TP.DT), row by row.
+use Rattle.std.specs.Prelude.{ℕ, Bool, false, not, ◌&&◌, nat_lt, ◌==◌, if◌then◌else◌, List}
+use Rattle.seg_cut.specs.Join.{joined, wants_last}
+use Rattle.tp_wire.specs.declared.wire.Kind.TheVariants.{Tp}
+use Rattle.tp_wire.specs.declared.wire.Wire.{Wire}
+use Rattle.tp_wire.specs.declared.wire.Wire.TheVariants.{Packet}
+use Rattle.bam_session.specs.States.{Incoming, accepted}
+
+-- where a packet leads: further ones are awaited, the message is complete with these bytes, or it is dropped
+pub data Received : Type 0 where
+  Awaits : Incoming → Received
+  Completes : List ℕ → Received
+  Drops : Received
+
+-- packet k comes
+abbrev pub received : Incoming → (k : ℕ) → List ℕ → (now : ℕ) → Received
+received s k bytes now =
+    if nat_lt k s.join.next then Awaits s
+    else if nat_lt s.join.next k then Drops
+    else if not (wants_last s.join) then Awaits (accepted s bytes now)
+    else Completes (joined s.join bytes).bytes
+
+-- a frame comes: one that is no packet of this transport changes nothing
+abbrev pub stepped : Incoming → Wire → (now : ℕ) → Received
+stepped s (Packet Tp k bytes) now = received s k bytes now
+stepped s _ now = Awaits s
+
+-- the frame is the last packet, and the next one
+abbrev pub completes : Incoming → Wire → Bool
+completes s (Packet Tp k bytes) = wants_last s.join && k == s.join.next
+completes s _ = false

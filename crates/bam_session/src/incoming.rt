@@ -1,0 +1,205 @@
+//! Receiving from one that sends to all.
+ghost use Rattle.std.specs.Prelude.{◌≡◌, ◌<◌, ◌≤◌, true, false};
+ghost use Rattle.seg_cut.specs.Packets.{packet_count};
+ghost use Rattle.seg_cut.specs.Join.{joined, wants_last as wants_last_at};
+ghost use Rattle.tick_timers.specs.Timers.{is_due as is_due_at};
+ghost use Rattle.bam_session.specs.States.{is_size, announced, accepted};
+ghost use Rattle.bam_session.specs.Receiving.{received, stepped, completes as completes_at};
+ghost use Rattle.bam_session.specs.Shown.{shown};
+
+use pgn_ids::{Address, WirePgn};
+use seg_cut::Join;
+use std::marker::Model;
+use tick_timers::{T1, Timer};
+use tp_wire::{Kind, Wire};
+
+/// A message to all whose packets are awaited. It must be spent.
+pub struct BamIn {
+    from: Address,
+    pgn: WirePgn,
+    join: Join,
+    timer: Timer,
+}
+
+impl Model for BamIn {
+    ghost use Rattle.bam_session.specs.States.{Incoming};
+
+    ghost Value = { Incoming };
+
+    ghost use Rattle.bam_session.specs.Shape.{incoming_value, IsUnfinished};
+
+    ghost view = { incoming_value };
+
+    ghost invariant = { IsUnfinished };
+}
+
+/// Where a packet leads.
+pub enum BamStepped {
+    /// Further packets are awaited.
+    On(BamIn),
+    /// The packet was the last: the bytes of the message.
+    Complete(Vec<u8>),
+    /// The packet was out of order: the message is dropped.
+    Dropped,
+}
+
+impl BamIn {
+    /// A message that was announced by a BAM with this source and PGN field, taken at tick `now`. The join is that of
+    /// a message of 9 to 1,785 bytes of which no packet has come, with room for all its packets.
+    pub fn begin(from: Address, pgn: WirePgn, join: Join, now: u64) -> BamIn
+        requires size { is_size join.size ≡ true }
+        requires empty { join.next ≡ 1 }
+        requires room { packet_count join.size ≤ join.room }
+        ensures { result ≡ announced from.0 pgn join now }
+    {
+        // A call of it, so that what holds of every join is known of this one.
+        let _valid = join.next();
+        BamIn {
+            from,
+            pgn,
+            join,
+            timer: Timer::start(now, T1),
+        }
+    }
+
+    /// Takes a frame of its source to all at tick `now` (SAE J1939-21, TP.DT): one that is no packet of this
+    /// transport, or a packet that has come already, changes nothing, and one out of order drops the message.
+    pub fn step(self, wire: &Wire, now: u64) -> BamStepped
+        ensures { shown result ≡ stepped self wire.now now }
+    {
+        let Wire::Packet {
+            kind: Kind::Tp,
+            sequence,
+            bytes,
+        } = wire
+        else {
+            return BamStepped::On(self);
+        };
+        self.take(*sequence, *bytes, now)
+    }
+
+    /// Takes a packet, by the first row of the table that fits.
+    fn take(self, sequence: u8, packet: [u8; 7], now: u64) -> BamStepped
+        ensures { shown result ≡ received self sequence packet now }
+    {
+        let number = u32::from(sequence);
+        if number < self.join.next() {
+            return BamStepped::On(self);
+        }
+        if number > self.join.next() {
+            self.end();
+            return BamStepped::Dropped;
+        }
+        if !self.join.wants_last() {
+            return BamStepped::On(self.accept(packet, now));
+        }
+        BamStepped::Complete(self.complete(packet))
+    }
+
+    /// Goes on with its next packet, which is not the last.
+    fn accept(mut self, packet: [u8; 7], now: u64) -> BamIn
+        requires { wants_last_at self.join ≡ false }
+        ensures { result ≡ accepted self packet now }
+    {
+        put_next(&mut self.join, packet);
+        self.timer = Timer::start(now, T1);
+        self
+    }
+
+    /// Ends with its last packet: the bytes of the message.
+    fn complete(self, packet: [u8; 7]) -> Vec<u8>
+        requires { wants_last_at self.join ≡ true }
+        ensures { result.items ≡ (joined self.join packet).bytes }
+    {
+        let BamIn {
+            from: _,
+            pgn: _,
+            mut join,
+            timer: _,
+        } = self;
+        put_next(&mut join, packet);
+        match join.finish() {
+            Ok(bytes) => bytes,
+            Err(_) => unreachable!(),
+        }
+    }
+
+    /// Whether a step with this frame would complete the message.
+    pub fn completes(&self, wire: &Wire) -> bool
+        ensures { result ≡ completes_at self.now wire.now }
+    {
+        let Wire::Packet {
+            kind: Kind::Tp,
+            sequence,
+            bytes: _,
+        } = wire
+        else {
+            return false;
+        };
+        self.join.wants_last() && u32::from(*sequence) == self.join.next()
+    }
+
+    /// The address that the message comes from.
+    pub fn from(&self) -> Address
+        ensures { result.0 ≡ self.now.from }
+    {
+        self.from
+    }
+
+    /// The PGN field of its BAM, as it was received.
+    pub fn pgn(&self) -> WirePgn
+        ensures { result ≡ self.now.pgn }
+    {
+        self.pgn
+    }
+
+    /// The size of the message in bytes.
+    pub fn size(&self) -> u32
+        ensures { result ≡ self.now.join.size }
+    {
+        self.join.size()
+    }
+
+    /// Whether its timer T1 is due at tick `now`.
+    pub fn is_due(&self, now: u64) -> bool
+        ensures { result ≡ is_due_at self.now.timer now }
+    {
+        self.timer.is_due(now)
+    }
+
+    /// Its timer fired: the message is dropped.
+    pub fn expire(self) {
+        self.end();
+    }
+
+    /// Nobody takes its message any more, or its source announced another: the message is dropped.
+    pub fn close(self) {
+        self.end();
+    }
+
+    /// Frames were missed: the message is dropped.
+    pub fn overrun(self) {
+        self.end();
+    }
+
+    fn end(self) {
+        let BamIn {
+            from: _,
+            pgn: _,
+            join: _,
+            timer: _,
+        } = self;
+    }
+}
+
+/// Puts the next packet, for which there is room.
+fn put_next(join: &mut Join, packet: [u8; 7])
+    requires unfinished { join.old.next ≤ packet_count join.old.size }
+    requires room { 0 < join.old.room }
+    ensures { join.new ≡ joined join.old packet }
+{
+    match join.put(join.next(), packet) {
+        Ok(()) => {}
+        Err(_) => unreachable!(),
+    }
+}

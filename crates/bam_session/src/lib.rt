@@ -1,0 +1,14 @@
+//! Broadcast messages of 9 to 1,785 bytes, both ends, as states that must be spent (SAE J1939-21, broadcast announce
+//! message).
+//!
+//! The sender's call takes the bytes of the message anew each time, and the receiver's join has its room: no call here
+//! takes memory.
+#![tactic(auto)]
+
+mod incoming;
+mod outgoing;
+#[cfg(test)]
+mod tests;
+
+pub use incoming::{BamIn, BamStepped};
+pub use outgoing::{BamOut, BamPumped};

@@ -1,0 +1,134 @@
+//! Sending to all.
+ghost use Rattle.std.specs.Prelude.{◌≡◌, ◌≢◌, length, true};
+ghost use Rattle.pgn_ids.specs.Address.{is_one};
+ghost use Rattle.seg_cut.specs.Packets.{packet_count};
+ghost use Rattle.tick_timers.specs.Timers.{is_due as is_due_at};
+ghost use Rattle.bam_session.specs.States.{is_size, with_next};
+ghost use Rattle.bam_session.specs.Frames.{announcement, next_packet};
+ghost use Rattle.bam_session.specs.Sending.{begun, pumped};
+
+use bus_frame::Frame;
+use pgn_ids::{Address, Pgn};
+use seg_cut::{packet, packets};
+use std::marker::Model;
+use tick_timers::{BROADCAST_GAP, Timer};
+use tp_wire::{CmFrame, Kind, Wire, write};
+
+/// A message to all whose packets are being queued. It must be spent.
+pub struct BamOut {
+    from: Address,
+    len: u32,
+    next: u8,
+    gap: Timer,
+}
+
+impl Model for BamOut {
+    ghost use Rattle.bam_session.specs.States.{Outgoing};
+
+    ghost Value = { Outgoing };
+
+    ghost use Rattle.bam_session.specs.Shape.{outgoing_value, IsSending};
+
+    ghost view = { outgoing_value };
+
+    ghost invariant = { IsSending };
+}
+
+/// Where a pump leads.
+pub enum BamPumped {
+    /// The next packet, which is to be queued; further ones follow.
+    On(BamOut, Frame),
+    /// The last packet, which is to be queued: the whole message is sent.
+    Last(Frame),
+    /// The 50 ticks since its last frame have not passed.
+    NotYet(BamOut),
+}
+
+impl BamOut {
+    /// Announces a message of `len` bytes, 9 to 1,785, from the address of a node at tick `now`: the state, and the
+    /// BAM, which is to be queued.
+    pub fn begin(from: Address, pgn: Pgn, len: u32, now: u64) -> (BamOut, Frame)
+        requires source { is_one from.0 ≡ true }
+        requires size { is_size len ≡ true }
+        ensures { result ≡ begun from.0 pgn len now }
+    {
+        let state = BamOut {
+            from,
+            len,
+            next: 1,
+            gap: Timer::start(now, BROADCAST_GAP),
+        };
+        (state, announce(from, pgn, len))
+    }
+
+    /// Queues the next packet at tick `now`, where at least 50 ticks have passed since the last queued frame of the
+    /// message, whose bytes are handed in.
+    pub fn pump(self, bytes: &[u8], now: u64) -> BamPumped
+        requires { length bytes.now ≡ self.len }
+        ensures { result ≡ pumped self bytes.now now }
+    {
+        if !self.is_due(now) {
+            return BamPumped::NotYet(self);
+        }
+        let frame = self.packet_frame(bytes);
+        if u32::from(self.next) == packets(self.len) {
+            self.cancel();
+            return BamPumped::Last(frame);
+        }
+        BamPumped::On(self.go_on(now), frame)
+    }
+
+    /// Whether the 50 ticks since its last queued frame have passed at tick `now`.
+    pub fn is_due(&self, now: u64) -> bool
+        ensures { result ≡ is_due_at self.now.gap now }
+    {
+        self.gap.is_due(now)
+    }
+
+    /// The frame of its next packet.
+    fn packet_frame(&self, bytes: &[u8]) -> Frame
+        requires { length bytes.now ≡ self.now.len }
+        ensures { result ≡ next_packet self.now bytes.now }
+    {
+        let wire = Wire::Packet {
+            kind: Kind::Tp,
+            sequence: self.next,
+            bytes: packet(bytes, u32::from(self.next)),
+        };
+        write(wire, self.from, Address::GLOBAL)
+    }
+
+    /// Its next packet, which is not the last, is queued.
+    fn go_on(mut self, now: u64) -> BamOut
+        requires { self.next ≢ packet_count self.len }
+        ensures { result ≡ with_next self now }
+    {
+        self.next += 1;
+        self.gap = Timer::start(now, BROADCAST_GAP);
+        self
+    }
+
+    /// Ends it without a frame.
+    pub fn cancel(self) {
+        let BamOut {
+            from: _,
+            len: _,
+            next: _,
+            gap: _,
+        } = self;
+    }
+}
+
+/// The BAM of a message.
+fn announce(from: Address, pgn: Pgn, len: u32) -> Frame
+    requires source { is_one from.0 ≡ true }
+    requires size { is_size len ≡ true }
+    ensures { result ≡ announcement from.0 pgn len }
+{
+    let frame = CmFrame::Bam {
+        size: len as u16,
+        packets: packets(len) as u8,
+        pgn: pgn.field(),
+    };
+    write(Wire::Cm(frame), from, Address::GLOBAL)
+}

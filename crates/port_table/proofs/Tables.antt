@@ -1,0 +1,82 @@
+-- What holds of every table holds after a close, a pause and a resume.
+use Rattle.std.proofs.Common.{◌≡◌, ℕ, ◌+◌, ◌<◌, ◌≤◌, ◌≢◌, Bool, true, false, cond, not, ◌==◌, List, ◌++◌, length, map, take, drop, set, get_or, refl, sym, ap, ◌∙◌, subst, arith}
+use Rattle.std.specs.List.{AllPairs, filter}
+use Rattle.std.proofs.lemmas.Bool.{eq-eqb, ne_eqb}
+use Rattle.std.proofs.lemmas.List.{length-map, get_or-map, get_or_default}
+use Rattle.std.proofs.lemmas.List.Edits.{map_over_more}
+use Rattle.std.proofs.lemmas.List.Elements.{All-map, All-weaker, All-filter}
+use Rattle.std.proofs.lemmas.List.Filters.{length-filter_both}
+use Rattle.std.proofs.lemmas.List.Kept.{AllPairs-filter}
+use Rattle.port_table.specs.declared.port.Port.{Port}
+use Rattle.port_table.specs.Ports.{Ports, ArePorts, marked, less_port, numbers_of}
+
+marked-number : (number : ℕ) (paused : Bool) (p : Port) → (marked number paused p).number ≡ p.number
+marked-number number paused p =
+    elim (p.number == number) as (λ b. (cond b (record p { paused = paused }) p).number ≡ p.number) [ true ↦ refl | false ↦ refl ]
+
+marked-here : (number : ℕ) (paused : Bool) (p : Port) → p.number ≡ number → marked number paused p ≡ record p { paused = paused }
+marked-here number paused p same = rw (eq-eqb p.number number same) refl
+
+marked-other : (number : ℕ) (paused : Bool) (p : Port) → p.number ≢ number → marked number paused p ≡ p
+marked-other number paused p other = rw (ne_eqb p.number number other) refl
+
+-- one more port is marked
+mark_more : (number : ℕ) (paused : Bool) (xs ys : List Port) (i : ℕ) (d : Port) → i < length xs → length ys ≡ length xs →
+    ys ≡ map (marked number paused) (take i xs) ++ drop i xs →
+    set ys i (marked number paused (get_or ys i d)) ≡ map (marked number paused) (take (i + 1) xs) ++ drop (i + 1) xs
+mark_more number paused xs ys i d within same so_far =
+    map_over_more (marked number paused) xs ys i (get_or ys i d) within so_far (get_or_default ys i d (get_or ys i d) (omega arith))
+
+pub mark_here : (number : ℕ) (paused : Bool) (xs ys : List Port) (i : ℕ) (d : Port) → i < length xs → length ys ≡ length xs →
+    ys ≡ map (marked number paused) (take i xs) ++ drop i xs → (get_or ys i d).number ≡ number →
+    set ys i (record (get_or ys i d) { paused = paused }) ≡ map (marked number paused) (take (i + 1) xs) ++ drop (i + 1) xs
+mark_here number paused xs ys i d within same so_far here =
+    ap (λ p. set ys i p) (sym (marked-here number paused (get_or ys i d) here)) ∙ mark_more number paused xs ys i d within same so_far
+
+pub mark_other : (number : ℕ) (paused : Bool) (xs ys : List Port) (i : ℕ) (d : Port) → i < length xs → length ys ≡ length xs →
+    ys ≡ map (marked number paused) (take i xs) ++ drop i xs → (get_or ys i d).number ≢ number →
+    set ys i (get_or ys i d) ≡ map (marked number paused) (take (i + 1) xs) ++ drop (i + 1) xs
+mark_other number paused xs ys i d within same so_far other =
+    ap (λ p. set ys i p) (sym (marked-other number paused (get_or ys i d) other)) ∙ mark_more number paused xs ys i d within same so_far
+
+rising-map : (f : Port → Port) → ((p : Port) → (f p).number ≡ p.number) → (ports : List Port) →
+    AllPairs (λ p q. p.number < q.number) ports → AllPairs (λ p q. p.number < q.number) (map f ports)
+rising-map f same ports rising i j d below within =
+    let inside : j < length ports = omega (arith, length-map ports f) in
+    let at_i : get_or (map f ports) i d ≡ f (get_or ports i d) = get_or-map f ports i d d (omega arith) in
+    let at_j : get_or (map f ports) j d ≡ f (get_or ports j d) = get_or-map f ports j d d inside in
+    rw (at_i, at_j) (omega (arith, same (get_or ports i d), same (get_or ports j d), rising i j d below inside))
+
+pub marked_valid : (ports : Ports) (number : ℕ) (paused : Bool) (now : List Port) → now ≡ map (marked number paused) ports.open_ports → ArePorts ports →
+    ArePorts (record ports { open_ports = now })
+marked_valid ports number paused now e valid =
+    let f : Port → Port = marked number paused in
+    let is : ArePorts (record ports { open_ports = map f ports.open_ports }) = record {
+      few = omega (arith, length-map ports.open_ports f, valid.few);
+      rising = rising-map f (marked-number number paused) ports.open_ports valid.rising;
+      used = All-map (λ p. p.number ≤ ports.opened) f ports.open_ports
+          (All-weaker (λ p. p.number ≤ ports.opened) (λ p. (f p).number ≤ ports.opened) (λ p h. omega (arith, marked-number number paused p, h)) ports.open_ports valid.used);
+      opened_fits = valid.opened_fits;
+    } in
+    subst (λ xs. ArePorts (record ports { open_ports = xs })) (sym e) is
+
+pub less_port_valid : (ports : Ports) (number : ℕ) (left : List Port) → left ≡ less_port number ports.open_ports → ArePorts ports →
+    ArePorts (record ports { open_ports = left })
+less_port_valid ports number left e valid =
+    let stays : Port → Bool = λ p. not (p.number == number) in
+    let is : ArePorts (record ports { open_ports = less_port number ports.open_ports }) = record {
+      few = omega (arith, length-filter_both stays (λ p. not (stays p)) (λ _. refl) ports.open_ports, valid.few);
+      rising = AllPairs-filter (λ p q. p.number < q.number) stays ports.open_ports valid.rising;
+      used = All-filter stays (λ p. p.number ≤ ports.opened) ports.open_ports valid.used;
+      opened_fits = valid.opened_fits;
+    } in
+    subst (λ xs. ArePorts (record ports { open_ports = xs })) (sym e) is
+
+pub numbers_rise : (test : Port → Bool) (ports : List Port) → AllPairs (λ p q. p.number < q.number) ports → AllPairs ◌<◌ (numbers_of test ports)
+numbers_rise test ports rising i j d below within =
+    let passed : List Port = filter test ports in
+    let none : Port = record { number = 0; pgn = 0; max_len = 0; paused = false } in
+    let inside : j < length passed = omega (arith, length-map passed (λ (p : Port). p.number)) in
+    let at_i : get_or (numbers_of test ports) i d ≡ (get_or passed i none).number = get_or-map (λ (p : Port). p.number) passed i none d (omega arith) in
+    let at_j : get_or (numbers_of test ports) j d ≡ (get_or passed j none).number = get_or-map (λ (p : Port). p.number) passed j none d inside in
+    rw (at_i, at_j) (AllPairs-filter (λ p q. p.number < q.number) test ports rising i j none below inside)

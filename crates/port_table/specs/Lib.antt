@@ -1,0 +1,5 @@
+pub mod PortSet
+pub mod SetFields
+pub mod Ports
+pub mod Shape
+pub mod Calls

@@ -1,0 +1,13 @@
+-- How a table is kept.
+use Rattle.std.specs.Prelude.{◌≤◌, vec_capacity}
+use Rattle.port_table.specs.PortSet.{port_limit}
+use Rattle.port_table.specs.Ports.{Ports, ArePorts}
+use Rattle.port_table.specs.declared.table.PortTable.TheInside.{Inside}
+
+abbrev pub view_table : Inside → Ports
+view_table t = record { station = t.station; open_ports = t.ports.items; opened = t.opened }
+
+-- there is room for all sixteen ports
+pub record IsTable (t : Inside) : Type 0 where
+  pub valid : ArePorts (view_table t)
+  pub room : port_limit ≤ vec_capacity t.ports

@@ -1,0 +1,19 @@
+//! The ports of one station, several of them perhaps on one PGN, and the sets of them that sessions are bound to.
+//!
+//! A table makes the room for its 16 ports when it is made; no other call takes memory.
+#![tactic(auto)]
+
+mod laws;
+mod port;
+mod set;
+mod table;
+#[cfg(test)]
+mod tests;
+
+pub use laws::numbers_are_never_used_again;
+pub use port::{NoSuchPort, PauseError, Port, PortId, PortsFull, ResumeError};
+pub use set::PortSet;
+pub use table::PortTable;
+
+/// How many ports of a station are open at most.
+pub const MAX_PORTS: usize = 16;

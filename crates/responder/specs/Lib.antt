@@ -1,0 +1,5 @@
+pub mod Peer
+pub mod PeerFields
+pub mod Answers
+pub mod Finished
+pub mod FinishedFields
