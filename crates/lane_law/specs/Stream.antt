@@ -52,7 +52,7 @@ MayHappen (Give session sequence bytes) stream =
     IsNext stream session sequence bytes × (session.accepted + 1 ≡ packet_count session.size)
 MayHappen EndSession stream = Unit {0}
 
--- the stream with one more frame in the sender'stream queue
+-- the stream with one more frame in the sender's queue
 abbrev pub with_frame : Frame → Stream → Stream
 with_frame frame stream = record stream { forward = stream.forward ++ frame ∷ []; queued = place_after stream.queued frame }
 

@@ -17,6 +17,6 @@ impl Address {
     pub fn is_one(self) -> bool
         ensures { result ≡ is_one self.0 }
     {
-        self.0 < 254
+        self.0 < Address::NULL.0
     }
 }

@@ -10,5 +10,7 @@ mod tests;
 mod timer;
 
 pub use clock::{Clock, ClockEnd};
-pub use durations::{BROADCAST_GAP, PROBE, T1, T2, T3, T4, TH};
+pub use durations::{
+    BROADCAST_GAP, PROBE, T1, T2, T3, T4, TH, durations_are_those_of_the_standard,
+};
 pub use timer::Timer;

@@ -1,4 +1,5 @@
 //! Numbers of the standard, by its names (SAE J1939-21; ISO 11783-3).
+ghost use Rattle.std.specs.Prelude.{◌≡◌};
 
 /// PGN of the connection management frames of the transport protocol, TP.CM.
 pub const TP_CM: u32 = 0xEC00;
@@ -71,3 +72,15 @@ pub const ETP_MAX_WINDOW: u8 = 64;
 
 /// The byte of an RTS by which a sender allows any number of packets per CTS.
 pub const ANY_WINDOW: u8 = 255;
+
+/// A law: the sizes in bytes, and the windows in packets.
+pub fn numbers_are_those_of_the_standard()
+    ensures min_size { MIN_SIZE ≡ 9 }
+    ensures tp_max_size { TP_MAX_SIZE ≡ 1785 }
+    ensures etp_max_size { ETP_MAX_SIZE ≡ 117440505 }
+    ensures tp_max_window { TP_MAX_WINDOW ≡ 16 }
+    ensures etp_max_window { ETP_MAX_WINDOW ≡ 64 }
+    ensures any_window { ANY_WINDOW ≡ 255 }
+    ensures tp_cm { TP_CM ≡ 0xEC00 }
+    ensures tp_dt { TP_DT ≡ 0xEB00 }
+{}

@@ -1,0 +1,11 @@
+pub mod Link
+pub mod LinkFields
+pub mod States
+pub mod StateFields
+pub mod BurstFields
+pub mod Readers
+pub mod Opening
+pub mod Endings
+pub mod Cts
+pub mod Step
+pub mod Pump

@@ -1,0 +1,89 @@
+//! How a message ends for its sender.
+ghost use Rattle.std.specs.Prelude.{◌≡◌, true};
+ghost use Rattle.originator.specs.Readers.{link_of, has_timer};
+ghost use Rattle.originator.specs.Endings.{gives_up, aborts, expired, cancelled, aborted, overrun as overrun_over, acknowledged};
+
+use crate::link::Link;
+use crate::states::{OutOver, OutState};
+use tp_wire::{AbortReason, Outcome};
+
+impl Link {
+    /// The sender gives the message up: the outcome, and an abort with this reason.
+    fn give_up(self, reason: AbortReason, outcome: Outcome) -> OutOver
+        ensures { result ≡ gives_up self reason outcome }
+    {
+        OutOver {
+            outcome,
+            frame: Some(self.abort_frame(reason)),
+        }
+    }
+
+    /// The sender aborts the message for this reason.
+    pub(crate) fn abort(self, reason: AbortReason) -> OutOver
+        ensures { result ≡ aborts self reason }
+    {
+        self.give_up(reason, Outcome::Aborted(reason.byte()))
+    }
+
+    /// Its timer fired.
+    pub(crate) fn expire(self) -> OutOver
+        ensures { result ≡ expired self }
+    {
+        self.give_up(AbortReason::Timeout, Outcome::TimedOut)
+    }
+
+    /// It is cancelled.
+    fn cancel(self) -> OutOver
+        ensures { result ≡ cancelled self }
+    {
+        self.give_up(AbortReason::Other, Outcome::Cancelled)
+    }
+}
+
+impl OutState {
+    /// Its timer fired: the message ended as timed out, and an abort is queued. It has a timer, as where it is due.
+    pub fn expire(self) -> OutOver
+        requires { has_timer self ≡ true }
+        ensures { result ≡ expired (link_of self) }
+    {
+        self.into_link().expire()
+    }
+
+    /// An abort of the message with this reason was taken: it ended, and nothing is queued.
+    pub fn abort(self, reason: u8) -> OutOver
+        ensures { result ≡ aborted reason }
+    {
+        self.end(Outcome::Aborted(reason))
+    }
+
+    /// The message is cancelled: it ended, and an abort is queued.
+    pub fn cancel(self) -> OutOver
+        ensures { result ≡ cancelled (link_of self) }
+    {
+        self.into_link().cancel()
+    }
+
+    /// The sender's station missed frames: the message ended, and nothing is queued.
+    pub fn overrun(self) -> OutOver
+        ensures { result ≡ overrun_over }
+    {
+        self.end(Outcome::Overrun)
+    }
+
+    /// The whole message was acknowledged.
+    pub(crate) fn acknowledge(self) -> OutOver
+        ensures { result ≡ acknowledged }
+    {
+        self.end(Outcome::Acknowledged)
+    }
+
+    fn end(self, outcome: Outcome) -> OutOver
+        ensures { result ≡ record { outcome = outcome; frame = None } }
+    {
+        let _link = self.into_link();
+        OutOver {
+            outcome,
+            frame: None,
+        }
+    }
+}

@@ -1,0 +1,25 @@
+//! The sending side of a connection, for TP (SAE J1939-21, connection mode data transfer) and ETP (ISO 11783-3) alike.
+//!
+//! Values in, values out: there is no clock and no thread here, and no call takes memory. Each state must be spent.
+#![tactic(auto)]
+
+mod await_cts;
+mod await_end;
+mod burst;
+mod cts;
+mod endings;
+mod link;
+mod opening;
+mod pump;
+mod sending;
+mod states;
+mod step;
+#[cfg(test)]
+mod tests;
+
+pub use await_cts::AwaitCts;
+pub use await_end::AwaitEnd;
+pub use burst::Burst;
+pub use opening::begin;
+pub use sending::Sending;
+pub use states::{OutOver, OutState, Stepped};

@@ -1,0 +1,91 @@
+//! A message under way, and what its steps leave.
+ghost use Rattle.std.specs.Prelude.{◌≡◌, true};
+
+use crate::await_cts::AwaitCts;
+use crate::await_end::AwaitEnd;
+use crate::link::Link;
+use crate::sending::Sending;
+use bus_frame::Frame;
+use pgn_ids::WirePgn;
+use tp_wire::{Kind, Outcome};
+
+/// A message under way. It must be spent.
+pub enum OutState {
+    /// A CTS is awaited.
+    AwaitCts(AwaitCts),
+    /// A window is still to be queued.
+    Sending(Sending),
+    /// The end acknowledgement is awaited.
+    AwaitEnd(AwaitEnd),
+}
+
+/// How a message ended, and the frame that is queued then, if any.
+#[derive(Clone, Copy, Debug, PartialEq, Eq)]
+pub struct OutOver {
+    pub outcome: Outcome,
+    pub frame: Option<Frame>,
+}
+
+/// What a step leaves.
+pub enum Stepped {
+    /// The message goes on.
+    On(OutState),
+    /// It ended.
+    Over(OutOver),
+}
+
+impl OutState {
+    ghost use Rattle.originator.specs.Readers.{link_of, is_all_queued as is_all_queued_state, is_of as is_of_state, is_state_due, has_timer};
+
+    /// The message under way.
+    pub(crate) fn link(&self) -> Link
+        ensures { result ≡ link_of self.now }
+    {
+        match self {
+            OutState::AwaitCts(state) => state.link,
+            OutState::Sending(state) => state.link,
+            OutState::AwaitEnd(state) => state.link,
+        }
+    }
+
+    /// Whether each packet was queued.
+    pub(crate) fn is_all_queued(&self) -> bool
+        ensures { result ≡ is_all_queued_state self.now }
+    {
+        match self {
+            OutState::AwaitCts(state) => state.unsent == state.link.packets() + 1,
+            OutState::Sending(state) => state.unsent == state.link.packets() + 1,
+            OutState::AwaitEnd(_) => true,
+        }
+    }
+
+    /// Whether a frame of this transport with this PGN field belongs to the message.
+    pub fn is_of(&self, kind: Kind, pgn: WirePgn) -> bool
+        ensures { result ≡ is_of_state self.now kind pgn }
+    {
+        self.link().is_of(kind, pgn)
+    }
+
+    /// Whether its timer is due at tick `now`. It has one where it awaits a CTS or the end acknowledgement.
+    pub fn is_due(&self, now: u64) -> bool
+        ensures value { result ≡ is_state_due self.now now }
+        ensures timer { result ≡ true → has_timer self.now ≡ true }
+    {
+        match self {
+            OutState::AwaitCts(state) => state.is_due(now),
+            OutState::Sending(_) => false,
+            OutState::AwaitEnd(state) => state.is_due(now),
+        }
+    }
+
+    /// The message, whose state is spent.
+    pub(crate) fn into_link(self) -> Link
+        ensures { result ≡ link_of self }
+    {
+        match self {
+            OutState::AwaitCts(state) => state.into_link(),
+            OutState::Sending(state) => state.into_link(),
+            OutState::AwaitEnd(state) => state.into_link(),
+        }
+    }
+}

@@ -1,0 +1,304 @@
+//! What no clause says: the frames of whole exchanges, byte by byte, and that each call can succeed.
+ghost use Rattle.std.specs.Prelude.{◌≡◌, true};
+ghost use Rattle.pgn_ids.specs.Address.{is_one};
+
+use super::*;
+use bus_frame::Frame;
+use pgn_ids::{Address, Pgn};
+use std::process::Abort;
+use std::test::Fail;
+use tp_wire::{CmFrame, Kind, Outcome, Wire};
+
+// A state can't be let go unspent: beside the first `impl`, the others compile only for types that aren't `Drop`.
+trait IsSpentOrDropped {}
+
+impl<T: Drop> IsSpentOrDropped for T {}
+
+impl IsSpentOrDropped for AwaitCts {}
+
+impl IsSpentOrDropped for Sending {}
+
+impl IsSpentOrDropped for AwaitEnd {}
+
+impl IsSpentOrDropped for OutState {}
+
+impl IsSpentOrDropped for Stepped {}
+
+const OWN: Address = Address(0x21);
+
+const PEER: Address = Address(0x35);
+
+const FOREIGN: Address = Address(0x80);
+
+const NINE: [u8; 9] = [1, 2, 3, 4, 5, 6, 7, 8, 9];
+
+const PACKET_1: [u8; 8] = [1, 1, 2, 3, 4, 5, 6, 7];
+
+const PACKET_2: [u8; 8] = [2, 8, 9, 0xFF, 0xFF, 0xFF, 0xFF, 0xFF];
+
+fn cts(granted: u8, next: u8, pgn: Pgn) -> Wire {
+    let pgn = pgn.field();
+    Wire::Cm(CmFrame::Cts { granted, next, pgn })
+}
+
+fn end(size: u16, packets: u8, pgn: Pgn) -> Wire {
+    let pgn = pgn.field();
+    Wire::Cm(CmFrame::EndOfMsgAck { size, packets, pgn })
+}
+
+fn etp_cts(granted: u8, next: u32, pgn: Pgn) -> Wire {
+    let pgn = pgn.field();
+    Wire::Cm(CmFrame::EtpCts { granted, next, pgn })
+}
+
+fn etp_end(size: u32, pgn: Pgn) -> Wire {
+    let pgn = pgn.field();
+    Wire::Cm(CmFrame::EtpEoma { size, pgn })
+}
+
+/// The message of nine bytes from 21 on TP, its request to send queued at tick 0.
+fn nine_bytes_to(to: Address, pgn: Pgn) -> OutState
+    requires { is_one to.0 ≡ true }
+{
+    let (state, _rts) = begin(Kind::Tp, OWN, to, pgn, 9, 0);
+    OutState::AwaitCts(state)
+}
+
+/// What goes on after this frame.
+fn goes_on(rt: &impl Abort, state: OutState, wire: Wire) -> OutState {
+    match state.step(&wire, 0) {
+        Stepped::On(state) => state,
+        Stepped::Over(_) => panic!(rt; "the message ended"),
+    }
+}
+
+/// How it ended with this frame.
+fn ends(rt: &impl Abort, state: OutState, wire: Wire) -> OutOver {
+    match state.step(&wire, 0) {
+        Stepped::On(state) => {
+            let _ = state.overrun();
+            panic!(rt; "the message goes on")
+        }
+        Stepped::Over(over) => over,
+    }
+}
+
+fn pumped(rt: &impl Abort, state: OutState, message: &[u8], now: u64) -> (OutState, Burst) {
+    assert!(rt; message.len() == state.link().len() as usize);
+    state.pump(message, now)
+}
+
+fn is_frame(frame: &Frame, id: u32, bytes: [u8; 8]) -> bool {
+    frame.id().raw() == id && frame.bytes() == bytes.as_slice()
+}
+
+/// Whether these are both packets of the nine bytes.
+fn are_both_packets(frames: &[Frame], id: u32) -> bool {
+    let [first, second] = frames else {
+        return false;
+    };
+    is_frame(first, id, PACKET_1) && is_frame(second, id, PACKET_2)
+}
+
+/// Whether the message ended so, with an abort of this reason.
+fn is_over(over: OutOver, outcome: Outcome, id: u32, reason: u8) -> bool {
+    let Some(frame) = over.frame else {
+        return false;
+    };
+    over.outcome == outcome && is_frame(&frame, id, [0xFF, reason, 0xFF, 0xFF, 0xFF, 0xCA, 0xFE, 0])
+}
+
+#[test]
+fn nine_bytes_are_acknowledged(rt: HostRuntime) -> Result<(), Fail> {
+    let pgn = Pgn::new(0xFECA)?;
+    let (state, rts) = begin(Kind::Tp, OWN, PEER, pgn, 9, 0);
+    assert!(rt; is_frame(&rts, 0x1CEC_3521, [0x10, 9, 0, 2, 0xFF, 0xCA, 0xFE, 0]));
+    let state = OutState::AwaitCts(state);
+    assert!(rt; state.is_of(Kind::Tp, pgn.field()) && !state.is_of(Kind::Etp, pgn.field()));
+    let state = goes_on(&rt, state, end(9, 2, pgn));
+    let state = goes_on(&rt, state, cts(2, 1, pgn));
+    let (state, burst) = pumped(&rt, state, &NINE, 0);
+    assert!(rt; are_both_packets(burst.frames(), 0x1CEB_3521));
+    let state = goes_on(&rt, state, end(10, 2, pgn));
+    let state = goes_on(&rt, state, end(9, 3, pgn));
+    let (state, burst) = pumped(&rt, state, &NINE, 0);
+    assert!(rt; burst.frames().is_empty());
+    let over = ends(&rt, state, end(9, 2, pgn));
+    assert!(rt; over.outcome == Outcome::Acknowledged && over.frame.is_none());
+    Ok(())
+}
+
+#[test]
+fn third_resend_is_refused(rt: HostRuntime) -> Result<(), Fail> {
+    let pgn = Pgn::new(0xFECA)?;
+    let mut state = nine_bytes_to(FOREIGN, pgn);
+    for _ in 0..3 {
+        let (next, burst) = pumped(&rt, goes_on(&rt, state, cts(2, 1, pgn)), &NINE, 0);
+        assert!(rt; are_both_packets(burst.frames(), 0x1CEB_8021));
+        state = next;
+    }
+    let over = ends(&rt, state, cts(2, 1, pgn));
+    assert!(rt; is_over(over, Outcome::Aborted(5), 0x1CEC_8021, 5));
+    let over = ends(&rt, nine_bytes_to(FOREIGN, pgn), cts(2, 2, pgn));
+    assert!(rt; is_over(over, Outcome::Aborted(250), 0x1CEC_8021, 250));
+    Ok(())
+}
+
+#[test]
+fn cts_during_a_transfer(rt: HostRuntime) -> Result<(), Fail> {
+    let pgn = Pgn::new(0xFECA)?;
+    let state = goes_on(&rt, nine_bytes_to(FOREIGN, pgn), cts(2, 1, pgn));
+    assert!(rt; !state.is_due(u64::MAX));
+    let state = goes_on(&rt, state, cts(2, 1, pgn));
+    let over = ends(&rt, state, cts(1, 1, pgn));
+    assert!(rt; is_over(over, Outcome::Aborted(4), 0x1CEC_8021, 4));
+    Ok(())
+}
+
+#[test]
+fn timers(rt: HostRuntime) -> Result<(), Fail> {
+    let pgn = Pgn::new(0xFECA)?;
+    let (state, _rts) = begin(Kind::Tp, OWN, FOREIGN, pgn, 9, 0);
+    assert!(rt; !state.is_due(1249) && state.is_due(1250));
+    assert!(rt; is_over(state.expire(), Outcome::TimedOut, 0x1CEC_8021, 3));
+    let held = goes_on(&rt, nine_bytes_to(FOREIGN, pgn), cts(0, 1, pgn));
+    assert!(rt; !held.is_due(1049));
+    assert!(rt; held.is_due(1050));
+    assert!(rt; is_over(held.expire(), Outcome::TimedOut, 0x1CEC_8021, 3));
+    let state = goes_on(&rt, nine_bytes_to(FOREIGN, pgn), cts(2, 1, pgn));
+    let (state, _burst) = pumped(&rt, state, &NINE, 7);
+    match state {
+        OutState::AwaitEnd(state) => {
+            assert!(rt; !state.is_due(1256) && state.is_due(1257));
+            assert!(rt; is_over(state.expire(), Outcome::TimedOut, 0x1CEC_8021, 3));
+        }
+        other => {
+            let _ = other.overrun();
+            panic!(rt; "a packet is left")
+        }
+    }
+    Ok(())
+}
+
+#[test]
+fn ends_from_outside(rt: HostRuntime) -> Result<(), Fail> {
+    let pgn = Pgn::new(0xFECA)?;
+    let over = nine_bytes_to(FOREIGN, pgn).cancel();
+    assert!(rt; is_over(over, Outcome::Cancelled, 0x1CEC_8021, 250));
+    let over = nine_bytes_to(FOREIGN, pgn).abort(2);
+    assert!(rt; over.outcome == Outcome::Aborted(2) && over.frame.is_none());
+    let over = nine_bytes_to(FOREIGN, pgn).overrun();
+    assert!(rt; over.outcome == Outcome::Overrun && over.frame.is_none());
+    Ok(())
+}
+
+/// The first and the last frame of a window, and how many it had.
+#[derive(Drop)]
+struct Window {
+    first: Option<Frame>,
+    last: Option<Frame>,
+    frames: usize,
+}
+
+fn note(window: &mut Window, frames: &[Frame]) {
+    if window.first.is_none() {
+        window.first = frames.first().copied();
+    }
+    if let Some(frame) = frames.last() {
+        window.last = Some(*frame);
+    }
+    window.frames = window.frames.saturating_add(frames.len());
+}
+
+fn is_shown(frame: Option<Frame>, id: u32, bytes: [u8; 8]) -> bool {
+    let Some(frame) = frame else {
+        return false;
+    };
+    is_frame(&frame, id, bytes)
+}
+
+/// Takes the CTS of a window of at most 64 packets, and pumps them.
+fn whole_window(
+    rt: &impl Abort,
+    state: OutState,
+    wire: Wire,
+    message: &[u8],
+) -> (OutState, Window) {
+    let mut state = goes_on(rt, state, wire);
+    let mut window = Window {
+        first: None,
+        last: None,
+        frames: 0,
+    };
+    for _ in 0..9 {
+        let (next, burst) = pumped(rt, state, message, 0);
+        note(&mut window, burst.frames());
+        state = next;
+    }
+    (state, window)
+}
+
+#[test]
+fn extended_windows(rt: HostRuntime) -> Result<(), Fail> {
+    let pgn = Pgn::new(0xFECA)?;
+    let mut message = [0; 1786];
+    let mut fill = 0u8;
+    for byte in message.iter_mut() {
+        fill = fill.wrapping_add(1);
+        *byte = fill;
+    }
+    let (state, rts) = begin(Kind::Etp, OWN, PEER, pgn, 1786, 0);
+    assert!(rt; is_frame(&rts, 0x1CC8_3521, [0x14, 0xFA, 6, 0, 0, 0xCA, 0xFE, 0]));
+    let mut state = OutState::AwaitCts(state);
+    for next in [1, 65, 129] {
+        let (after, window) = whole_window(&rt, state, etp_cts(64, next, pgn), &message);
+        assert_eq!(rt; window.frames, 65);
+        state = after;
+    }
+    let (state, window) = whole_window(&rt, state, etp_cts(64, 193, pgn), &message);
+    assert_eq!(rt; window.frames, 65);
+    assert!(rt;
+        is_shown(
+            window.first,
+            0x1CC8_3521,
+            [0x16, 0x40, 0xC0, 0, 0, 0xCA, 0xFE, 0]
+        )
+    );
+    let last = [0x40, 0xFA, 0xFF, 0xFF, 0xFF, 0xFF, 0xFF, 0xFF];
+    assert!(rt; is_shown(window.last, 0x1CC7_3521, last));
+    let over = ends(&rt, state, etp_end(1786, pgn));
+    assert!(rt; over.outcome == Outcome::Acknowledged && over.frame.is_none());
+    Ok(())
+}
+
+#[test]
+fn sixteen_windows(rt: HostRuntime) -> Result<(), Fail> {
+    let pgn = Pgn::new(0xFECA)?;
+    let mut message = [0; 1785];
+    let mut fill = 0u8;
+    for byte in message.iter_mut() {
+        fill = fill.wrapping_add(1);
+        *byte = fill;
+    }
+    let (state, rts) = begin(Kind::Tp, OWN, PEER, pgn, 1785, 0);
+    assert!(rt;
+        is_frame(
+            &rts,
+            0x1CEC_3521,
+            [0x10, 0xF9, 6, 0xFF, 0xFF, 0xCA, 0xFE, 0]
+        )
+    );
+    let mut state = OutState::AwaitCts(state);
+    for window in 0..15u8 {
+        let (after, queued) = whole_window(&rt, state, cts(16, window * 16 + 1, pgn), &message);
+        assert_eq!(rt; queued.frames, 16);
+        state = after;
+    }
+    let (state, queued) = whole_window(&rt, state, cts(15, 241, pgn), &message);
+    assert_eq!(rt; queued.frames, 15);
+    let last = [0xFF, 0xF3, 0xF4, 0xF5, 0xF6, 0xF7, 0xF8, 0xF9];
+    assert!(rt; is_shown(queued.last, 0x1CEB_3521, last));
+    let over = ends(&rt, state, end(1785, 255, pgn));
+    assert!(rt; over.outcome == Outcome::Acknowledged && over.frame.is_none());
+    Ok(())
+}
