@@ -2,7 +2,7 @@
 use Rattle.std.specs.Prelude.{ℕ, not, ◌==◌, if◌then◌else◌, List}
 use Rattle.bus_frame.specs.Frames.{CanFrame}
 use Rattle.seg_cut.specs.Packets.{packet_count}
-use Rattle.tick_timers.specs.Timers.{is_due}
+use Rattle.tick_timers.specs.Timers.{is_due, missing as missing_of_timer}
 use Rattle.bam_session.specs.States.{Outgoing, first, with_next}
 use Rattle.bam_session.specs.Frames.{announcement, next_packet}
 use Rattle.bam_session.specs.declared.outgoing.BamPumped.{BamPumped}
@@ -18,3 +18,7 @@ pumped s bytes now =
     if not (is_due s.gap now) then NotYet s
     else if s.next == packet_count s.len then Last (next_packet s bytes)
     else On (with_next s now) (next_packet s bytes)
+
+-- how many ticks its gap still has to last
+abbrev pub missing : Outgoing → (now : ℕ) → ℕ
+missing s now = missing_of_timer s.gap now

@@ -1,7 +1,7 @@
 //! Receiving from one that sends to all.
 ghost use Rattle.std.specs.Prelude.{◌≡◌, ◌<◌, ◌≤◌, true, false};
 ghost use Rattle.seg_cut.specs.Packets.{packet_count};
-ghost use Rattle.seg_cut.specs.Join.{joined, wants_last as wants_last_at};
+ghost use Rattle.seg_cut.specs.Join.{IsJoin, joined, wants_last as wants_last_at};
 ghost use Rattle.tick_timers.specs.Timers.{is_due as is_due_at};
 ghost use Rattle.bam_session.specs.States.{is_size, announced, accepted};
 ghost use Rattle.bam_session.specs.Receiving.{received, stepped, completes as completes_at};
@@ -155,7 +155,8 @@ impl BamIn {
 
     /// The size of the message in bytes.
     pub fn size(&self) -> u32
-        ensures { result ≡ self.now.join.size }
+        ensures value { result ≡ self.now.join.size }
+        ensures valid { IsJoin self.now.join }
     {
         self.join.size()
     }

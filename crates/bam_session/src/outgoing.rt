@@ -1,11 +1,11 @@
 //! Sending to all.
-ghost use Rattle.std.specs.Prelude.{◌≡◌, ◌≢◌, length, true};
+ghost use Rattle.std.specs.Prelude.{◌≡◌, ◌≢◌, ◌+◌, ◌≤◌, length, true};
 ghost use Rattle.pgn_ids.specs.Address.{is_one};
 ghost use Rattle.seg_cut.specs.Packets.{packet_count};
 ghost use Rattle.tick_timers.specs.Timers.{is_due as is_due_at};
 ghost use Rattle.bam_session.specs.States.{is_size, with_next};
 ghost use Rattle.bam_session.specs.Frames.{announcement, next_packet};
-ghost use Rattle.bam_session.specs.Sending.{begun, pumped};
+ghost use Rattle.bam_session.specs.Sending.{begun, pumped, missing as missing_of};
 
 use bus_frame::Frame;
 use pgn_ids::{Address, Pgn};
@@ -83,6 +83,14 @@ impl BamOut {
         ensures { result ≡ is_due_at self.now.gap now }
     {
         self.gap.is_due(now)
+    }
+
+    /// How many of the 50 ticks since its last queued frame are missing at tick `now`.
+    pub fn missing(&self, now: u64) -> u64
+        ensures value { result ≡ missing_of self.now now }
+        ensures due { self.now.gap.started ≤ now → is_due_at self.now.gap (now + result) ≡ true }
+    {
+        self.gap.missing(now)
     }
 
     /// The frame of its next packet.

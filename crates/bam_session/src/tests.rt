@@ -117,6 +117,7 @@ fn nine_bytes_are_sent(rt: HostRuntime) -> Result<(), Fail> {
     let (out, queued) = BamOut::begin(SOURCE, pgn, 9, 0);
     assert!(rt; queued == announcement);
     assert!(rt; !out.is_due(49) && out.is_due(50));
+    assert!(rt; out.missing(0) == 50 && out.missing(49) == 1 && out.missing(51) == 0);
     let out = waits(&rt, out.pump(&M9, 49));
     let (out, queued) = goes_on(&rt, out.pump(&M9, 50));
     assert!(rt; queued == first);

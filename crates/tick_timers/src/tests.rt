@@ -20,6 +20,9 @@ fn timer_is_due_with_its_last_tick(rt: HostRuntime) {
         (100, 0, 99, false),
         (u64::MAX, T2, u64::MAX, false),
     ] {
-        assert_eq!(rt; Timer::start(started, ticks).is_due(now), due, "at {now}");
+        let timer = Timer::start(started, ticks);
+        assert_eq!(rt; timer.is_due(now), due, "at {now}");
     }
+    let gap = Timer::start(100, BROADCAST_GAP);
+    assert!(rt; gap.missing(100) == 50 && gap.missing(149) == 1 && gap.missing(151) == 0);
 }

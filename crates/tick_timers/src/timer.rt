@@ -1,6 +1,6 @@
 //! Timers.
-ghost use Rattle.std.specs.Prelude.{◌≡◌};
-ghost use Rattle.tick_timers.specs.Timers.{is_due as is_due_at};
+ghost use Rattle.std.specs.Prelude.{◌≡◌, ◌+◌, ◌≤◌, true};
+ghost use Rattle.tick_timers.specs.Timers.{is_due as is_due_at, missing as missing_at};
 
 use std::marker::Model;
 
@@ -37,5 +37,13 @@ impl Timer {
         ensures { result ≡ is_due_at self.now now }
     {
         self.started <= now && self.ticks <= now - self.started
+    }
+
+    /// How many of its ticks are still to pass at tick `now`, which is not before its start: 0 where it is due.
+    pub fn missing(&self, now: u64) -> u64
+        ensures value { result ≡ missing_at self.now now }
+        ensures due { self.now.started ≤ now → is_due_at self.now (now + result) ≡ true }
+    {
+        self.ticks.saturating_sub(now.saturating_sub(self.started))
     }
 }
