@@ -3,11 +3,12 @@ use Rattle.std.specs.Prelude.{ℕ, ◌+◌, Bool, ◌&&◌, nat_le, List}
 use Rattle.seg_cut.specs.Join.{Join, joined}
 use Rattle.tick_timers.specs.Timers.{Timer}
 use Rattle.tick_timers.specs.declared.durations.TheConstants.{T1, BROADCAST_GAP}
-use Rattle.tp_wire.specs.declared.constants.TheConstants.{MIN_SIZE, TP_MAX_SIZE}
+use Rattle.tp_wire.specs.Sizes.{is_size_of}
+use Rattle.tp_wire.specs.declared.wire.Kind.TheVariants.{Tp}
 
 -- the sizes of messages that are broadcast in packets, in bytes
 abbrev pub is_size : ℕ → Bool
-is_size size = nat_le MIN_SIZE size && nat_le size TP_MAX_SIZE
+is_size size = is_size_of Tp size
 
 -- a timer that starts now
 abbrev pub start : (now ticks : ℕ) → Timer

@@ -3,6 +3,7 @@ use Rattle.std.specs.Prelude.{ℕ, ◌+◌, Bool, true, false, ◌&&◌, nat_le,
 use Rattle.bus_frame.specs.Frames.{CanFrame}
 use Rattle.pgn_ids.specs.Pgn.{clean}
 use Rattle.tp_wire.specs.Reason.{reason_byte}
+use Rattle.tp_wire.specs.Aborts.{connection_abort}
 use Rattle.tp_wire.specs.Rows.{written}
 use Rattle.tp_wire.specs.declared.constants.TheConstants.{MIN_SIZE, TP_MAX_SIZE, ETP_MAX_SIZE, ANY_WINDOW}
 use Rattle.tp_wire.specs.declared.reason.AbortReason.{AbortReason}
@@ -21,11 +22,6 @@ pub record Link : Type 0 where
   pub to : ℕ
   pub pgn : ℕ
   pub len : ℕ
-
--- the lengths that each transport carries
-abbrev pub is_length : Kind → ℕ → Bool
-is_length Tp len = nat_le MIN_SIZE len && nat_le len TP_MAX_SIZE
-is_length Etp len = nat_le (TP_MAX_SIZE + 1) len && nat_le len ETP_MAX_SIZE
 
 -- how many packets the message has
 abbrev pub packets_of : Link → ℕ
@@ -55,10 +51,5 @@ abbrev pub rts_frame : Link → CanFrame
 rts_frame link = frame_of link (Cm (request_to_send link.kind link.len link.pgn))
 
 -- the connection abort
-abbrev pub connection_abort : Kind → (reason pgn : ℕ) → CmFrame
-connection_abort Tp reason pgn = Abort reason pgn
-connection_abort Etp reason pgn = EtpAbort reason pgn
-
--- and its frame, for a reason of the standard's list
 abbrev pub abort_frame : Link → AbortReason → CanFrame
 abort_frame link reason = frame_of link (Cm (connection_abort link.kind (reason_byte reason) link.pgn))

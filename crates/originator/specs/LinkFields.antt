@@ -1,9 +1,10 @@
 -- How a message under way is kept.
 use Rattle.std.specs.Prelude.{◌≡◌, true}
+use Rattle.tp_wire.specs.Sizes.{is_size_of}
 use Rattle.std.proofs.Common.{refl}
 use Rattle.pgn_ids.specs.Address.{is_one}
 use Rattle.seg_cut.specs.Packets.{packet_count}
-use Rattle.originator.specs.Link.{Link, is_length}
+use Rattle.originator.specs.Link.{Link}
 use Rattle.originator.specs.declared.link.Link.TheInside.{Inside}
 
 -- what the fields say
@@ -14,7 +15,7 @@ view_link a = record { kind = a.kind; from = a.from.0; to = a.to.0; pgn = a.pgn;
 pub record IsLink (a : Inside) : Type 0 where
   pub from_one : is_one a.from.0 ≡ true
   pub to_one : is_one a.to.0 ≡ true
-  pub in_range : is_length a.kind a.len ≡ true
+  pub in_range : is_size_of a.kind a.len ≡ true
   pub kept : a.packets ≡ packet_count a.len
 
 -- the fields that a link is kept in

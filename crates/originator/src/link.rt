@@ -1,10 +1,11 @@
 //! The message that a connection carries, and its sender's frames.
 ghost use Rattle.std.specs.Prelude.{◌≡◌, ◌+◌, ◌-◌, ◌^◌, ◌<◌, ◌≤◌, true, length};
+ghost use Rattle.tp_wire.specs.Sizes.{is_size_of};
 ghost use Rattle.pgn_ids.specs.Address.{is_one};
 ghost use Rattle.tp_wire.specs.Rows.{HasNumbers, goes_to};
 ghost use Rattle.tp_wire.specs.declared.wire.CmFrame.TheVariants.{EtpDpo};
 ghost use Rattle.tp_wire.specs.declared.wire.Wire.TheVariants.{Cm};
-ghost use Rattle.originator.specs.Link.{is_length, is_of_link, packets_of, frame_of, rts_frame as rts_of, abort_frame as abort_of};
+ghost use Rattle.originator.specs.Link.{is_of_link, packets_of, frame_of, rts_frame as rts_of, abort_frame as abort_of};
 ghost use Rattle.originator.specs.Pump.{packet_frame as packet_of};
 
 use bus_frame::Frame;
@@ -47,7 +48,7 @@ impl Link {
     pub(crate) fn new(kind: Kind, from: Address, to: Address, pgn: Pgn, len: u32) -> Link
         requires from_one { is_one from.0 ≡ true }
         requires to_one { is_one to.0 ≡ true }
-        requires in_range { is_length kind len ≡ true }
+        requires in_range { is_size_of kind len ≡ true }
         ensures { result ≡ record { kind = kind; from = from.0; to = to.0; pgn = pgn; len = len } }
     {
         Link {
@@ -122,12 +123,7 @@ impl Link {
     pub(crate) fn abort_frame(self, reason: AbortReason) -> Frame
         ensures { result ≡ abort_of self reason }
     {
-        let pgn = self.pgn.field();
-        let reason = reason.byte();
-        self.cm_frame(match self.kind {
-            Kind::Tp => CmFrame::Abort { reason, pgn },
-            Kind::Etp => CmFrame::EtpAbort { reason, pgn },
-        })
+        self.cm_frame(CmFrame::abort(self.kind, reason, self.pgn.field()))
     }
 
     /// The data packet offset (DPO) of a window of so many packets.

@@ -1,7 +1,7 @@
 //! How a message begins.
 ghost use Rattle.std.specs.Prelude.{◌≡◌, true};
+ghost use Rattle.tp_wire.specs.Sizes.{is_size_of};
 ghost use Rattle.pgn_ids.specs.Address.{is_one};
-ghost use Rattle.originator.specs.Link.{is_length};
 ghost use Rattle.originator.specs.Opening.{begun};
 
 use crate::await_cts::AwaitCts;
@@ -24,7 +24,7 @@ pub fn begin(
 ) -> (AwaitCts, Frame)
     requires from_one { is_one from.0 ≡ true }
     requires to_one { is_one to.0 ≡ true }
-    requires in_range { is_length kind len ≡ true }
+    requires in_range { is_size_of kind len ≡ true }
     ensures { result ≡ begun (record { kind = kind; from = from.0; to = to.0; pgn = pgn; len = len }) now }
 {
     let link = Link::new(kind, from, to, pgn, len);

@@ -2,7 +2,7 @@
 ghost use Rattle.std.specs.Prelude.{◌≡◌, ◌≤◌, ◌<◌, length, true};
 ghost use Rattle.seg_cut.specs.Join.{Join as JoinValue, is_complete};
 ghost use Rattle.responder.specs.Answers.{abort_frame, end_frame};
-ghost use Rattle.responder.specs.Finished.{IsSizeOf};
+ghost use Rattle.tp_wire.specs.Sizes.{IsSizeOf};
 
 use crate::peer::Peer;
 use bus_frame::Frame;

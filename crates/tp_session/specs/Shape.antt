@@ -3,7 +3,7 @@ use Rattle.std.specs.Prelude.{◌+◌, ◌≤◌}
 use Rattle.tp_wire.specs.declared.wire.Kind.TheVariants.{Tp}
 use Rattle.seg_cut.specs.Packets.{packet_count}
 use Rattle.seg_cut.specs.Join.{IsJoin}
-use Rattle.responder.specs.Finished.{IsSizeOf}
+use Rattle.tp_wire.specs.Sizes.{IsSizeOf}
 use Rattle.tp_session.specs.Incoming.{Incoming}
 use Rattle.tp_session.specs.States.{AwaitPacket, Holding}
 use Rattle.tp_session.specs.declared.incoming.Incoming.TheInside.{Inside as IncomingInside}

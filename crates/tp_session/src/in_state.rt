@@ -6,7 +6,7 @@ ghost use Rattle.tp_wire.specs.declared.reason.AbortReason.TheVariants.{Resource
 ghost use Rattle.tp_wire.specs.declared.wire.Kind.TheVariants.{Tp};
 ghost use Rattle.seg_cut.specs.Packets.{packet_count};
 ghost use Rattle.responder.specs.Answers.{abort_frame};
-ghost use Rattle.responder.specs.Finished.{IsSizeOf};
+ghost use Rattle.tp_wire.specs.Sizes.{IsSizeOf};
 ghost use Rattle.tp_session.specs.Asking.{asking, asked};
 ghost use Rattle.tp_session.specs.Steps.{stepped, expired, peer_of, timer_of, join_of, completes as completes_at};
 

@@ -5,7 +5,7 @@ ghost use Rattle.tp_wire.specs.declared.wire.Kind.TheVariants.{Tp};
 ghost use Rattle.seg_cut.specs.Packets.{packet_count};
 ghost use Rattle.seg_cut.specs.Join.{joined, wants_last as wants_last_at};
 ghost use Rattle.responder.specs.Answers.{abort_frame};
-ghost use Rattle.responder.specs.Finished.{IsSizeOf};
+ghost use Rattle.tp_wire.specs.Sizes.{IsSizeOf};
 ghost use Rattle.tp_session.specs.States.{with_window, on_hold};
 ghost use Rattle.tp_session.specs.Asking.{asking, asked};
 ghost use Rattle.tp_session.specs.PacketRows.{finished};

@@ -1,8 +1,8 @@
 //! How a message of the transport protocol begins, for its sender.
 ghost use Rattle.std.specs.Prelude.{◌≡◌, true};
+ghost use Rattle.tp_wire.specs.Sizes.{is_size_of};
 ghost use Rattle.pgn_ids.specs.Address.{is_one};
 ghost use Rattle.tp_wire.specs.declared.wire.Kind.TheVariants.{Tp};
-ghost use Rattle.originator.specs.Link.{is_length};
 ghost use Rattle.originator.specs.Opening.{begun};
 
 use bus_frame::Frame;
@@ -15,7 +15,7 @@ use tp_wire::Kind;
 pub fn begin(from: Address, to: Address, pgn: Pgn, len: u32, now: u64) -> (AwaitCts, Frame)
     requires from_one { is_one from.0 ≡ true }
     requires to_one { is_one to.0 ≡ true }
-    requires in_range { is_length Tp len ≡ true }
+    requires in_range { is_size_of Tp len ≡ true }
     ensures { result ≡ begun (record { kind = Tp; from = from.0; to = to.0; pgn = pgn; len = len }) now }
 {
     originator::begin(Kind::Tp, from, to, pgn, len, now)

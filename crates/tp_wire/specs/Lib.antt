@@ -3,3 +3,5 @@ pub mod Octets
 pub mod Groups
 pub mod Rows
 pub mod Reading
+pub mod Sizes
+pub mod Aborts

@@ -1,7 +1,10 @@
 //! What a transport frame means.
 ghost use Rattle.std.specs.Prelude.{◌≡◌};
+ghost use Rattle.tp_wire.specs.Aborts.{connection_abort};
+ghost use Rattle.tp_wire.specs.Reason.{reason_byte};
 ghost use Rattle.tp_wire.specs.Rows.{cm_kind, cm_pgn, kind_of, pgn_of};
 
+use crate::reason::AbortReason;
 use pgn_ids::{Address, WirePgn};
 
 /// Which of the two transports.
@@ -99,6 +102,18 @@ pub enum Wire {
 }
 
 impl CmFrame {
+    /// The connection abort of a transport, for this reason.
+    #[inline]
+    pub fn abort(kind: Kind, reason: AbortReason, pgn: WirePgn) -> CmFrame
+        ensures { result ≡ connection_abort kind (reason_byte reason) pgn }
+    {
+        let reason = reason.byte();
+        match kind {
+            Kind::Tp => CmFrame::Abort { reason, pgn },
+            Kind::Etp => CmFrame::EtpAbort { reason, pgn },
+        }
+    }
+
     /// The transport that it belongs to.
     #[inline]
     pub fn kind(&self) -> Kind

@@ -1,0 +1,9 @@
+pub mod Window
+pub mod States
+pub mod Asking
+pub mod DpoRows
+pub mod PacketRows
+pub mod Steps
+pub mod Room
+pub mod Memory
+pub mod Shape
