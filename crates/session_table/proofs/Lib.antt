@@ -1,0 +1,4 @@
+pub mod Keys
+pub mod Tables
+pub mod Least
+pub mod First

@@ -1,0 +1,6 @@
+pub mod Key
+pub mod Incoming
+pub mod Sessions
+pub mod DueOrder
+pub mod Refusal
+pub mod Shape

@@ -1,0 +1,62 @@
+//! The state of an incoming session, whatever its kind.
+ghost use Rattle.std.specs.Prelude.{◌≡◌};
+ghost use Rattle.tick_timers.specs.Timers.{is_due as is_due_at};
+ghost use Rattle.session_table.specs.Incoming.{kind_of, pgn_of, timer_of};
+
+use crate::key::SessionKind;
+use bam_session::BamIn;
+use pgn_ids::WirePgn;
+
+/// The state of an incoming session, whatever its kind. It must be spent.
+pub enum Incoming {
+    /// A broadcast message.
+    Broadcast(BamIn),
+    /// A connection.
+    Tp(tp_session::InState),
+    /// An extended connection.
+    Etp(etp_session::InState),
+}
+
+impl Incoming {
+    /// The kind of its session.
+    pub fn kind(&self) -> SessionKind
+        ensures { result ≡ kind_of self.now }
+    {
+        match self {
+            Incoming::Broadcast(_) => SessionKind::Broadcast,
+            Incoming::Tp(_) => SessionKind::Tp,
+            Incoming::Etp(_) => SessionKind::Etp,
+        }
+    }
+
+    /// The PGN field that its BAM or RTS named, as it was received.
+    pub fn pgn(&self) -> WirePgn
+        ensures { result ≡ pgn_of self.now }
+    {
+        match self {
+            Incoming::Broadcast(state) => state.pgn(),
+            Incoming::Tp(state) => state.peer().pgn(),
+            Incoming::Etp(state) => state.peer().pgn(),
+        }
+    }
+
+    /// Whether its timer is due at tick `now`.
+    pub fn is_due(&self, now: u64) -> bool
+        ensures { result ≡ is_due_at (timer_of self.now) now }
+    {
+        match self {
+            Incoming::Broadcast(state) => state.is_due(now),
+            Incoming::Tp(state) => state.is_due(now),
+            Incoming::Etp(state) => state.is_due(now),
+        }
+    }
+
+    /// Frames were missed: it ends, and nothing is queued.
+    pub fn overrun(self) {
+        match self {
+            Incoming::Broadcast(state) => state.overrun(),
+            Incoming::Tp(state) => state.overrun(),
+            Incoming::Etp(state) => state.overrun(),
+        }
+    }
+}

@@ -1,0 +1,46 @@
+//! Keys of sessions.
+ghost use Rattle.std.specs.Prelude.{◌≡◌};
+ghost use Rattle.std.specs.Ordering.{is_lt};
+ghost use Rattle.session_table.specs.Key.{is_above_key, key_cmp};
+
+use pgn_ids::Address;
+
+/// The kinds of incoming session: a broadcast (BAM), a connection (TP), and an extended connection (ETP).
+#[derive(Clone, Copy, Debug, PartialEq, Eq, PartialOrd, Ord, Hash)]
+pub enum SessionKind {
+    /// A broadcast message (BAM).
+    Broadcast,
+    /// A connection of the transport protocol.
+    Tp,
+    /// A connection of the extended transport protocol.
+    Etp,
+}
+
+/// What tells the sessions of a station apart: a source sends at most one message of each kind at a time. Keys are
+/// ordered by source, then by kind.
+#[derive(Clone, Copy, Debug, PartialEq, Eq, PartialOrd, Ord, Hash)]
+pub struct Key {
+    /// The node that sends the message.
+    pub source: Address,
+    /// How it sends it.
+    pub kind: SessionKind,
+}
+
+impl Key {
+    /// Whether it is the lower of both: by source, then by kind.
+    pub fn is_before(self, other: Key) -> bool
+        ensures { result ≡ is_lt (key_cmp self other) }
+    {
+        self < other
+    }
+
+    /// Whether it is above that key; where there is none, each key is.
+    pub fn is_above(self, low: Option<Key>) -> bool
+        ensures { result ≡ is_above_key low self }
+    {
+        match low {
+            None => true,
+            Some(low) => low.is_before(self),
+        }
+    }
+}

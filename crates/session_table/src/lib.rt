@@ -1,0 +1,30 @@
+//! The incoming sessions of a station, up to 32, by source and kind of transport (SAE J1939-21, transport protocol;
+//! ISO 11783-3, extended transport protocol).
+//!
+//! A state that is taken out leaves its key behind, so that it, or that of a new session, is put back without memory.
+#![tactic(auto)]
+
+ghost use Rattle.std.specs.Prelude.{◌≡◌};
+
+mod held;
+mod incoming;
+mod index;
+mod key;
+mod place;
+mod table;
+#[cfg(test)]
+mod tests;
+mod walk;
+
+pub use held::Held;
+pub use incoming::Incoming;
+pub use key::{Key, SessionKind};
+pub use table::{OpenRefused, SessionTable};
+
+/// How many sessions a table holds at most.
+pub const MAX_SESSIONS: usize = 32;
+
+/// A law: a table holds at most 32 sessions.
+pub fn at_most_32_sessions()
+    ensures { MAX_SESSIONS ≡ 32 }
+{}

@@ -1,0 +1,52 @@
+//! A place of the table.
+ghost use Rattle.std.specs.Prelude.{◌≡◌};
+ghost use Rattle.std.specs.Option.{option_map};
+ghost use Rattle.std.specs.Map.Iter.{deref_pair};
+ghost use Rattle.session_table.specs.Shape.{content_at, content_of};
+
+use crate::incoming::Incoming;
+use crate::key::Key;
+use slab::Slab;
+
+/// A state with what it is bound to, or nothing while its key is held. One that is dropped spends its state.
+pub(crate) enum Slot<T> {
+    Empty,
+    Full(T, Incoming),
+}
+
+impl<T: Drop> Drop for Slot<T> {
+    fn drop(self) {
+        match self {
+            Slot::Empty => {}
+            Slot::Full(_bound, state) => state.overrun(),
+        }
+    }
+}
+
+impl<T> Slot<T> {
+    pub(crate) fn into_content(self) -> Option<(T, Incoming)>
+        ensures { result ≡ content_of self }
+    {
+        match self {
+            Slot::Empty => None,
+            Slot::Full(bound, state) => Some((bound, state)),
+        }
+    }
+}
+
+/// A key with its state, or the empty place of a state that is taken out.
+#[derive(Drop)]
+pub(crate) struct Place<T> {
+    pub(crate) key: Key,
+    pub(crate) slot: Slot<T>,
+}
+
+/// What stands in a place, if there is one and it isn't empty.
+pub(crate) fn content<T>(places: &Slab<Place<T>>, at: usize) -> Option<(&T, &Incoming)>
+    ensures { option_map deref_pair result ≡ content_at places.now at }
+{
+    match &places.get(at)?.slot {
+        Slot::Empty => None,
+        Slot::Full(bound, state) => Some((bound, state)),
+    }
+}
