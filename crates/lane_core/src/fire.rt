@@ -1,0 +1,68 @@
+//! When the timer of a lane fires.
+ghost use Rattle.std.specs.Prelude.{◌≡◌, true};
+ghost use Rattle.lane_core.specs.declared.place.UnderWay.TheVariants.{Nothing};
+ghost use Rattle.lane_core.specs.Pump.{is_lane_due, is_probe_due as is_probe_due_at, probe_fired, fired as fired_lane};
+
+use crate::lane::Lane;
+use crate::place::UnderWay;
+use crate::probe::Standing;
+use crate::step::LaneStep;
+use tp_wire::Outcome;
+
+/// How often a lane asks in one round.
+const MOST_REQUESTS: u8 = 3;
+
+impl Lane {
+    /// Whether the timer of its connection, or of its Request, is due at tick `now`.
+    pub fn is_due(&self, now: u64) -> bool
+        ensures { result ≡ is_lane_due self.now now }
+    {
+        match self.place.content() {
+            UnderWay::Connection(state) => state.is_due(now),
+            UnderWay::Nothing => self.is_probe_due(now),
+            UnderWay::Broadcast(_) => false,
+        }
+    }
+
+    /// Whether the timer of its Request is due.
+    fn is_probe_due(&self, now: u64) -> bool
+        ensures { result ≡ is_probe_due_at self.now.standing now }
+    {
+        match self.standing {
+            Standing::Probing { count: _, timer } => timer.is_due(now),
+            _ => false,
+        }
+    }
+
+    /// Its timer fires at tick `now`, where it is due: a connection under way timed out and is aborted; a Request is
+    /// repeated, and after the third one the front message is unreachable.
+    pub fn fire(&mut self, now: u64) -> LaneStep
+        requires { is_lane_due self.old now ≡ true }
+        ensures lane { self.new ≡ (fired_lane self.old now).0 }
+        ensures step { result ≡ (fired_lane self.old now).1 }
+    {
+        match self.take_under_way() {
+            UnderWay::Connection(state) => self.connection_over(state.expire()),
+            UnderWay::Nothing => self.fire_probe(now),
+            UnderWay::Broadcast(state) => {
+                self.put_under_way(UnderWay::Broadcast(state));
+                LaneStep::none()
+            }
+        }
+    }
+
+    /// The Request was not answered: it is repeated, and after the third the lane gives up, with the front message.
+    fn fire_probe(&mut self, now: u64) -> LaneStep
+        requires { self.old.under_way ≡ Nothing }
+        ensures lane { self.new ≡ (probe_fired self.old.standing self.old now).0 }
+        ensures step { result ≡ (probe_fired self.old.standing self.old now).1 }
+    {
+        match self.standing {
+            Standing::Probing { count, timer: _ } if count < MOST_REQUESTS => {
+                self.ask(count + 1, now)
+            }
+            Standing::Probing { .. } => self.over(Outcome::Unreachable, None),
+            _ => LaneStep::none(),
+        }
+    }
+}

@@ -1,0 +1,185 @@
+//! A lane, and how its messages come and end.
+ghost use Rattle.std.specs.Prelude.{◌≡◌, ◌≤◌, ◌+◌, ◌||◌, ◌==◌, true, length, IfOk, OnOk, OnErr, IfErr, IsErr};
+ghost use Rattle.pgn_ids.specs.Address.{is_one, global_address};
+ghost use Rattle.lane_core.specs.Lane.{lane_limit, new_lane, is_full, pushed, longest_to, with_under_way};
+ghost use Rattle.lane_core.specs.Endings.{over as over_lane, connection_over};
+ghost use Rattle.lane_core.specs.Shape.{CarriesFront, IsCalm};
+ghost use Rattle.lane_core.specs.Refused.{IsHandedBack};
+ghost use Rattle.lane_core.specs.declared.place.UnderWay.TheVariants.{Nothing};
+
+use crate::bytes::Bytes;
+use crate::message::Pending;
+use crate::place::{Place, UnderWay};
+use crate::probe::{Standing, Token};
+use crate::refused::PushRefused;
+use crate::step::{Ended, LaneStep};
+use bus_frame::Frame;
+use originator::OutOver;
+use pgn_ids::{Address, Pgn};
+use std::alloc::Global;
+use std::collections::VecDeque;
+use std::marker::Model;
+use std::mem;
+use tp_wire::Outcome;
+
+/// How many messages a lane has without an outcome at most.
+const LANE_LIMIT: usize = 32;
+
+/// The messages of one station to one destination, of which one is under way at a time. What is under way when a lane is
+/// dropped ends without a frame or an outcome.
+#[derive(Drop)]
+pub struct Lane {
+    pub(crate) from: Address,
+    pub(crate) to: Address,
+    sent: u64,
+    pub(crate) pending: VecDeque<Pending>,
+    pub(crate) place: Place,
+    pub(crate) standing: Standing,
+    pub(crate) token: Token,
+}
+
+impl Model for Lane {
+    ghost use Rattle.lane_core.specs.Lane.{Lane};
+
+    ghost Value = { Lane };
+
+    ghost use Rattle.lane_core.specs.Shape.{lane_value, IsLaneInside};
+
+    ghost view = { lane_value };
+
+    ghost invariant = { IsLaneInside };
+}
+
+impl Lane {
+    /// The lane of a node to another one or to all, with nothing sent. It takes no memory.
+    pub fn new(alloc: Global, from: Address, to: Address) -> Lane
+        requires source { is_one from.0 ≡ true }
+        requires destination { (is_one to.0 || to.0 == global_address) ≡ true }
+        ensures { result ≡ new_lane from.0 to.0 }
+    {
+        Lane {
+            from,
+            to,
+            sent: 0,
+            pending: VecDeque::new(alloc),
+            place: Place::new(UnderWay::Nothing),
+            standing: Standing::Settled,
+            token: Token::ConnectionManagement,
+        }
+    }
+
+    /// The address of its station.
+    pub fn from(&self) -> Address
+        ensures { result.0 ≡ self.now.from }
+    {
+        self.from
+    }
+
+    /// Its destination.
+    pub fn to(&self) -> Address
+        ensures { result.0 ≡ self.now.to }
+    {
+        self.to
+    }
+
+    /// The number of the last message that was pushed, 0 where there was none.
+    pub fn sent(&self) -> u64
+        ensures { result ≡ self.now.sent }
+    {
+        self.sent
+    }
+
+    /// How many messages have no outcome.
+    pub fn pending_len(&self) -> usize
+        ensures value { result ≡ length self.now.pending }
+        ensures few { length self.now.pending ≤ lane_limit }
+    {
+        self.pending.len()
+    }
+
+    /// Whether it takes no further message: it has 32 without an outcome, or no further number.
+    pub fn is_full(&self) -> bool
+        ensures { result ≡ is_full self.now }
+    {
+        self.pending.len() >= LANE_LIMIT || self.sent == u64::MAX
+    }
+
+    /// Takes a message of at least 9 bytes, to all at most 1,785 and to one node at most 117,440,505, and gives its
+    /// number, from 1. A refusal hands the bytes back, and changes nothing.
+    #[tactic(auto, using(crate::proofs::Pushing::carried_push, crate::proofs::Pushing::front_push))]
+    pub fn push(&mut self, pgn: Pgn, bytes: Bytes) -> Result<u64, PushRefused>
+        requires least { 9 ≤ length bytes }
+        requires most { length bytes ≤ longest_to self.old.to }
+        ensures number { IfOk result (λ n. n ≡ self.old.sent + 1) }
+        ensures pushed { OnOk result (self.new ≡ pushed self.old pgn bytes) }
+        ensures refused { OnErr result (self.new ≡ self.old) }
+        ensures back { IfErr result (IsHandedBack (is_full self.old) bytes) }
+        ensures full { is_full self.old ≡ true → IsErr result }
+    {
+        if self.is_full() {
+            return Err(PushRefused::LaneFull(bytes));
+        }
+        let number = self.sent + 1;
+        let message = Pending { number, pgn, bytes };
+        match self.pending.push_back(message) {
+            Ok(()) => {
+                self.sent = number;
+                Ok(number)
+            }
+            Err(failed) => {
+                let Pending {
+                    number: _,
+                    pgn: _,
+                    bytes,
+                } = failed.value;
+                Err(PushRefused::OutOfMemory(bytes))
+            }
+        }
+    }
+
+    /// Takes out what is under way.
+    pub(crate) fn take_under_way(&mut self) -> UnderWay
+        ensures taken { result ≡ self.old.under_way }
+        ensures left { self.new ≡ with_under_way self.old Nothing }
+        ensures front { CarriesFront self.new.from self.new.to result self.new.pending }
+        ensures calm { IsCalm result self.new.standing }
+    {
+        mem::replace(&mut self.place, Place::new(UnderWay::Nothing)).into_content()
+    }
+
+    /// Puts in what is under way now.
+    pub(crate) fn put_under_way(&mut self, under_way: UnderWay)
+        requires front { CarriesFront self.old.from self.old.to under_way self.old.pending }
+        requires calm { IsCalm under_way self.old.standing }
+        ensures { self.new ≡ with_under_way self.old under_way }
+    {
+        self.place = Place::new(under_way);
+    }
+
+    /// The front message ends.
+    pub(crate) fn over(&mut self, outcome: Outcome, frame: Option<Frame>) -> LaneStep
+        ensures lane { self.new ≡ (over_lane self.old outcome frame).0 }
+        ensures step { result ≡ (over_lane self.old outcome frame).1 }
+    {
+        let ended = match self.pending.pop_front() {
+            None => None,
+            Some(message) => Some(Ended {
+                number: message.number,
+                outcome,
+            }),
+        };
+        self.place = Place::new(UnderWay::Nothing);
+        if self.to != Address::GLOBAL && outcome != Outcome::Acknowledged {
+            self.standing = Standing::InDoubt;
+        }
+        LaneStep::over(frame, ended)
+    }
+
+    /// The connection under way is over.
+    pub(crate) fn connection_over(&mut self, over: OutOver) -> LaneStep
+        ensures lane { self.new ≡ (connection_over self.old over).0 }
+        ensures step { result ≡ (connection_over self.old over).1 }
+    {
+        self.over(over.outcome, over.frame)
+    }
+}

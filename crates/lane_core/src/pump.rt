@@ -1,0 +1,198 @@
+//! What a lane queues when it is pumped.
+ghost use Rattle.std.specs.Prelude.{◌≡◌, ◌≢◌, ◌≤◌, None};
+ghost use Rattle.lane_core.specs.declared.place.UnderWay.TheVariants.{Nothing, Broadcast, Connection};
+ghost use Rattle.lane_core.specs.declared.probe.Standing.TheVariants.{Settled};
+ghost use Rattle.lane_core.specs.Lane.{kind_for as kind_for_len};
+ghost use Rattle.lane_core.specs.Shape.{CarriesFront};
+ghost use Rattle.lane_core.specs.Pump.{idle_refusal, pump_refusal as refusal_of, missing as missing_of, front_bytes as bytes_of_front, most_requests, request_frame as request_frame_of, probes, idle_pumped, pumped as pumped_lane, pumped_by};
+
+use crate::lane::Lane;
+use crate::place::UnderWay;
+use crate::probe::Standing;
+use crate::refused::PumpRefused;
+use crate::step::LaneStep;
+use bam_session::{BamOut, BamPumped};
+use bus_frame::Frame;
+use originator::{OutState, begin};
+use pgn_ids::{Address, WirePgn};
+use tick_timers::{PROBE, Timer};
+use tp_wire::constants::TP_MAX_SIZE;
+use tp_wire::{Kind, Outcome, Wire, write};
+
+impl Lane {
+    /// Why it queues nothing at tick `now`, or `None` where a pump queues a frame.
+    pub fn pump_refusal(&self, now: u64) -> Option<PumpRefused>
+        ensures { result ≡ refusal_of self.now now }
+    {
+        match self.place.content() {
+            UnderWay::Nothing => self.idle_refusal(),
+            UnderWay::Broadcast(state) => {
+                if state.is_due(now) {
+                    None
+                } else {
+                    Some(PumpRefused::NotYet)
+                }
+            }
+            UnderWay::Connection(OutState::Sending(_)) => None,
+            UnderWay::Connection(_) => Some(PumpRefused::NothingToSend),
+        }
+    }
+
+    /// Why the front message does not begin, where nothing is under way.
+    fn idle_refusal(&self) -> Option<PumpRefused>
+        ensures { result ≡ idle_refusal self.now.standing self.now.pending }
+    {
+        if self.pending.is_empty() {
+            return Some(PumpRefused::NothingToSend);
+        }
+        match self.standing {
+            Standing::Settled | Standing::InDoubt => None,
+            Standing::Probing { .. } => Some(PumpRefused::NothingToSend),
+        }
+    }
+
+    /// How many ticks are missing at tick `now` until the next frame of a broadcast message may be queued, 0 where none
+    /// is under way.
+    pub fn missing(&self, now: u64) -> u64
+        ensures { result ≡ missing_of self.now now }
+    {
+        match self.place.content() {
+            UnderWay::Broadcast(state) => state.missing(now),
+            _ => 0,
+        }
+    }
+
+    /// Queues what comes next at tick `now`: the first frame of the front message, or of a round of Requests where the
+    /// lane is in doubt; the next packet of a broadcast; the next part of a connection's window.
+    pub fn pump(&mut self, now: u64) -> LaneStep
+        requires { refusal_of self.old now ≡ None }
+        ensures lane { self.new ≡ (pumped_lane self.old now).0 }
+        ensures step { result ≡ (pumped_lane self.old now).1 }
+    {
+        match self.take_under_way() {
+            UnderWay::Nothing => self.pump_idle(now),
+            UnderWay::Broadcast(state) => self.pump_broadcast(state, now),
+            UnderWay::Connection(state) => self.pump_connection(state, now),
+        }
+    }
+
+    /// Nothing is under way: the front message begins, or the lane asks first.
+    fn pump_idle(&mut self, now: u64) -> LaneStep
+        requires { self.old.under_way ≡ Nothing }
+        ensures lane { self.new ≡ (idle_pumped self.old.standing self.old.pending self.old now).0 }
+        ensures step { result ≡ (idle_pumped self.old.standing self.old.pending self.old now).1 }
+    {
+        if self.pending.is_empty() {
+            return LaneStep::none();
+        }
+        match self.standing {
+            Standing::Settled => self.begin_front(now),
+            Standing::InDoubt => self.ask(1, now),
+            Standing::Probing { .. } => LaneStep::none(),
+        }
+    }
+
+    /// The front message begins: BAM to all, else an RTS.
+    fn begin_front(&mut self, now: u64) -> LaneStep
+        requires nothing { self.old.under_way ≡ Nothing }
+        requires settled { self.old.standing ≡ Settled }
+        ensures lane { self.new ≡ (idle_pumped Settled self.old.pending self.old now).0 }
+        ensures step { result ≡ (idle_pumped Settled self.old.pending self.old now).1 }
+    {
+        let Some(message) = self.pending.front() else {
+            return LaneStep::none();
+        };
+        let (pgn, len) = (message.pgn, message.bytes.len() as u32);
+        if self.to == Address::GLOBAL {
+            let (state, frame) = BamOut::begin(self.from, pgn, len, now);
+            self.put_under_way(UnderWay::Broadcast(state));
+            return LaneStep::one(frame);
+        }
+        let (state, frame) = begin(kind_for(len), self.from, self.to, pgn, len, now);
+        self.put_under_way(UnderWay::Connection(OutState::AwaitCts(state)));
+        LaneStep::one(frame)
+    }
+
+    /// The lane asks for its token, for the `count`-th time.
+    pub(crate) fn ask(&mut self, count: u8, now: u64) -> LaneStep
+        requires nothing { self.old.under_way ≡ Nothing }
+        requires unsettled { self.old.standing ≢ Settled }
+        requires from_one { 1 ≤ count }
+        requires to_most { count ≤ most_requests }
+        ensures lane { self.new ≡ (probes self.old count now).0 }
+        ensures step { result ≡ (probes self.old count now).1 }
+    {
+        self.standing = Standing::Probing {
+            count,
+            timer: Timer::start(now, PROBE),
+        };
+        LaneStep::one(self.request_frame())
+    }
+
+    /// The Request for its token.
+    fn request_frame(&self) -> Frame
+        ensures { result ≡ request_frame_of self.now }
+    {
+        let pgn = match WirePgn::new(self.token.pgn()) {
+            Ok(pgn) => pgn,
+            Err(_) => unreachable!(),
+        };
+        write(Wire::Request { pgn }, self.from, self.to)
+    }
+
+    /// The bytes of the front message, in place.
+    fn front_bytes(&self) -> &[u8]
+        ensures { result.now ≡ bytes_of_front self.now.pending }
+    {
+        match self.pending.front() {
+            None => &[],
+            Some(message) => message.bytes.as_slice(),
+        }
+    }
+
+    /// A broadcast goes on with its next packet, and with the last one it has its outcome.
+    fn pump_broadcast(&mut self, state: BamOut, now: u64) -> LaneStep
+        requires front { CarriesFront self.old.from self.old.to (Broadcast state) self.old.pending }
+        requires settled { self.old.standing ≡ Settled }
+        ensures lane { self.new ≡ (pumped_by (Broadcast state) self.old now).0 }
+        ensures step { result ≡ (pumped_by (Broadcast state) self.old now).1 }
+    {
+        match state.pump(self.front_bytes(), now) {
+            BamPumped::On(state, frame) => {
+                self.put_under_way(UnderWay::Broadcast(state));
+                LaneStep::one(frame)
+            }
+            BamPumped::Last(frame) => self.over(Outcome::Broadcast, Some(frame)),
+            BamPumped::NotYet(state) => {
+                self.put_under_way(UnderWay::Broadcast(state));
+                LaneStep::none()
+            }
+        }
+    }
+
+    /// A connection queues the next part of its window.
+    fn pump_connection(&mut self, state: OutState, now: u64) -> LaneStep
+        requires front { CarriesFront self.old.from self.old.to (Connection state) self.old.pending }
+        requires settled { self.old.standing ≡ Settled }
+        ensures lane { self.new ≡ (pumped_by (Connection state) self.old now).0 }
+        ensures step { result ≡ (pumped_by (Connection state) self.old now).1 }
+    {
+        let (state, frames) = state.pump(self.front_bytes(), now);
+        self.put_under_way(UnderWay::Connection(state));
+        LaneStep {
+            frames,
+            ended: None,
+        }
+    }
+}
+
+/// The transport that carries so many bytes to one destination.
+fn kind_for(len: u32) -> Kind
+    ensures { result ≡ kind_for_len len }
+{
+    if len <= TP_MAX_SIZE {
+        Kind::Tp
+    } else {
+        Kind::Etp
+    }
+}
