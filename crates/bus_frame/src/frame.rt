@@ -18,8 +18,8 @@ pub struct DataTooLong;
 #[derive(Clone, Copy, Debug, PartialEq, Eq)]
 pub struct Frame {
     id: CanId,
-    len: u8,
     kept: [u8; 8],
+    len: u8,
 }
 
 impl Model for Frame {

@@ -83,11 +83,15 @@ body_of pgn bytes =
     else if pgn == acknowledgement then ack_of bytes
     else None
 
+-- what bytes mean from one address to another, where the table has it between them
+abbrev pub between : (from to : Address) → Option Wire → Option (Wire × Address × Address)
+between from to body = do
+  wire ← body
+  if goes_to wire to.0 && comes_from wire from.0 then Some (wire, from, to) else None
+
 -- what a frame means, from whom and to whom
 unfoldable pub reading : CanFrame → Option (Wire × Address × Address)
-reading f = do
-  wire ← body_of (meaning_of f.id).pgn f.bytes
-  if goes_to wire (meaning_of f.id).to.0 && comes_from wire (meaning_of f.id).from.0 then Some (wire, (meaning_of f.id).from, (meaning_of f.id).to) else None
+reading f = between (meaning_of f.id).from (meaning_of f.id).to (body_of (meaning_of f.id).pgn f.bytes)
 
 -- the PGN is one of the table's six
 unfoldable pub is_transport : CanFrame → Bool

@@ -2,7 +2,7 @@
 ghost use Rattle.std.specs.Prelude.{◌≡◌, ◌<◌, ◌^◌, ◌↔◌, Some, IfSome};
 ghost use Rattle.pgn_ids.specs.declared.address.Address.{Address};
 ghost use Rattle.tp_wire.specs.Rows.{goes_to, comes_from, IsRow, Reads};
-ghost use Rattle.tp_wire.specs.Reading.{number_2, number_3, number_4, field_of, tp_cm_of, etp_cm_of, packet_of, request_of, ack_of, body_of, reading, is_transport};
+ghost use Rattle.tp_wire.specs.Reading.{number_2, number_3, number_4, field_of, tp_cm_of, etp_cm_of, packet_of, request_of, ack_of, body_of, between, reading, is_transport};
 ghost use Rattle.tp_wire.specs.declared.wire.Wire.{Wire};
 
 use crate::constants::{
@@ -116,7 +116,7 @@ fn read_etp_cm(bytes: &[u8]) -> Option<Wire>
 }
 
 // What a frame of TP.DT or ETP.DT means.
-#[inline]
+#[inline(always)]
 #[tactic(auto, unfolding(crate::specs::Reading::packet_of))]
 fn read_packet(kind: Kind, bytes: &[u8]) -> Option<Wire>
     ensures { result ≡ packet_of kind bytes.now }
@@ -163,6 +163,7 @@ fn read_ack(bytes: &[u8]) -> Option<Wire>
 }
 
 // What bytes under a PGN mean.
+#[inline(always)]
 #[tactic(auto, unfolding(crate::specs::Reading::body_of))]
 fn read_body(pgn: Pgn, bytes: &[u8]) -> Option<Wire>
     ensures { result ≡ body_of pgn bytes.now }
@@ -207,17 +208,43 @@ fn comes_from(wire: &Wire, from: Address) -> bool
     }
 }
 
-// What a frame means, from whom and to whom.
-#[tactic(auto, unfolding(crate::specs::Reading::reading))]
+// What bytes mean from one address to another, where the table has it between them.
+#[inline(always)]
+fn between(from: Address, to: Address, body: Option<Wire>) -> Option<(Wire, Address, Address)>
+    ensures { result ≡ between from to body }
+{
+    let wire = body?;
+    if goes_to(&wire, to) && comes_from(&wire, from) {
+        Some((wire, from, to))
+    } else {
+        None
+    }
+}
+
+// What a frame means, from whom and to whom. Nearly all frames are data packets: each of their kinds has an arm of its
+// own, so that its addresses are tested without asking once more which row it is.
+#[inline(always)]
+#[tactic(auto, unfolding(crate::specs::Reading::reading, crate::specs::Reading::body_of))]
 fn read_row(frame: &Frame) -> Option<(Wire, Address, Address)>
     ensures { result ≡ reading frame.now }
 {
     let meaning = read_id(frame.id());
-    let wire = read_body(meaning.pgn, frame.bytes())?;
-    if goes_to(&wire, meaning.to) && comes_from(&wire, meaning.from) {
-        Some((wire, meaning.from, meaning.to))
-    } else {
-        None
+    match meaning.pgn.raw() {
+        TP_DT => between(
+            meaning.from,
+            meaning.to,
+            read_packet(Kind::Tp, frame.bytes()),
+        ),
+        ETP_DT => between(
+            meaning.from,
+            meaning.to,
+            read_packet(Kind::Etp, frame.bytes()),
+        ),
+        _ => between(
+            meaning.from,
+            meaning.to,
+            read_body(meaning.pgn, frame.bytes()),
+        ),
     }
 }
 
@@ -225,6 +252,7 @@ fn read_row(frame: &Frame) -> Option<(Wire, Address, Address)>
 /// reserved bytes of the row may be any. None of other traffic and of malformed frames: another length (a Request
 /// has 3 to 8 bytes, read by its first three, all others 8), control byte, destination or source than the table's,
 /// sequence number 0, or a PGN field above 18 bits.
+#[inline(always)]
 pub fn read(frame: &Frame) -> Option<(Wire, Address, Address)>
     ensures meaning { result ≡ reading frame.now }
     ensures exact { (wire : Wire) (from to : Address) → (result ≡ Some (wire, from, to)) ↔ Reads frame.now wire from.0 to.0 }
