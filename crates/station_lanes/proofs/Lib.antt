@@ -1,0 +1,4 @@
+pub mod SlotLaws
+pub mod LaneLaws
+pub mod Counting
+pub mod Told

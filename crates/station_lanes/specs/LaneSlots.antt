@@ -1,0 +1,27 @@
+-- The lanes of a station as they are kept: one place for each destination.
+use Rattle.std.specs.Prelude.{ℕ, zero, suc, ◌≡◌, List, length, Option, Some, None, slice_index_or}
+use Rattle.std.specs.FinMap as map
+use Rattle.lane_core.specs.Lane.{Lane}
+use Rattle.station_lanes.specs.Lanes.{Lanes}
+use Rattle.station_lanes.specs.declared.lanes.Lanes.TheInside.{Inside}
+
+-- what the place of a destination holds
+abbrev pub slot_at : List (Option Lane) → ℕ → Option Lane
+slot_at slots to = slice_index_or slots to None
+
+abbrev pub with_slot : ℕ → Option Lane → Lanes → Lanes
+with_slot to None lanes = lanes
+with_slot to (Some lane) lanes = map.insert lanes to lane
+
+-- the lanes to the destinations below a number
+unfoldable pub lanes_below : List (Option Lane) → ℕ → Lanes
+lanes_below slots zero = map.empty
+lanes_below slots (suc to) = with_slot to (slot_at slots to) (lanes_below slots to)
+
+abbrev pub lanes_value : Inside → Lanes
+lanes_value l = lanes_below l.slots.items (length l.slots.items)
+
+-- there is a place for each address, and a lane stands at its destination
+pub record AreSlots (l : Inside) : Type 0 where
+  pub places : length l.slots.items ≡ 256
+  pub in_place : (to : ℕ) (lane : Lane) → slot_at l.slots.items to ≡ Some lane → lane.to ≡ to

@@ -1,0 +1,5 @@
+pub mod EventFields
+pub mod Lanes
+pub mod LaneSlots
+pub mod LaneCalls
+pub mod LaneReaders

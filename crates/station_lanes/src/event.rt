@@ -1,0 +1,139 @@
+//! What a station tells.
+ghost use Rattle.std.specs.Prelude.{◌≡◌, ◌==◌, ◌+◌, ◌<◌, ◌≤◌, ◌∷◌, ◌++◌, [], length, None, option_to_list, vec_len, vec_capacity};
+ghost use Rattle.station_lanes.specs.LaneCalls.{outcome_of};
+
+use lane_core::{Bytes, Ended};
+use pgn_ids::{Address, Pgn};
+use port_table::PortId;
+use std::alloc::Global;
+use std::marker::Model;
+use tp_wire::Outcome;
+
+/// What a station tells.
+#[derive(Debug, Drop)]
+pub enum Event {
+    /// A message from one node to this one or to all is given at a port.
+    Given {
+        port: PortId,
+        from: Address,
+        to: Address,
+        pgn: Pgn,
+        bytes: Bytes,
+    },
+    /// A message of the lane from this station to a destination has its outcome. Its number counts from 1 in the lane.
+    Outcome {
+        from: Address,
+        to: Address,
+        number: u64,
+        outcome: Outcome,
+    },
+}
+
+/// The events of one call, in their order. The first stands in place, so that one event takes no memory.
+#[derive(Debug, Drop)]
+pub struct Events {
+    first: Option<Event>,
+    rest: Vec<Event>,
+}
+
+impl Model for Events {
+    ghost use Rattle.std.specs.Prelude.{List};
+    ghost use Rattle.station_lanes.specs.declared.event.Event.{Event};
+    ghost use Rattle.station_lanes.specs.EventFields.{events_value, HasFirst};
+
+    ghost Value = { List Event };
+
+    ghost view = { events_value };
+
+    ghost invariant = { HasFirst };
+}
+
+impl Events {
+    /// No event. It takes no memory.
+    pub fn none(alloc: Global) -> Events
+        ensures { result ≡ [] }
+    {
+        Events {
+            first: None,
+            rest: Vec::new(alloc),
+        }
+    }
+
+    /// One event, or none. It takes no memory.
+    pub fn of(alloc: Global, event: Option<Event>) -> Events
+        ensures { result ≡ option_to_list event }
+    {
+        Events {
+            first: event,
+            rest: Vec::new(alloc),
+        }
+    }
+
+    /// An event and those behind it.
+    pub fn all(first: Event, rest: Vec<Event>) -> Events
+        ensures { result ≡ first ∷ rest.items }
+    {
+        Events {
+            first: Some(first),
+            rest,
+        }
+    }
+
+    /// How many there are.
+    pub fn len(&self) -> usize
+        ensures { result ≡ length self.now }
+    {
+        match self.first {
+            None => 0,
+            Some(_) => 1 + self.rest.len(),
+        }
+    }
+
+    /// Whether there is none.
+    pub fn is_empty(&self) -> bool
+        ensures { result ≡ (length self.now == 0) }
+    {
+        self.first.is_none()
+    }
+
+    /// The first event, and those behind it.
+    pub fn into_parts(self) -> (Option<Event>, Vec<Event>)
+        ensures parts { self ≡ option_to_list result.0 ++ result.1.items }
+        ensures none { result.0 ≡ None → result.1.items ≡ [] }
+    {
+        let Events { first, rest } = self;
+        (first, rest)
+    }
+}
+
+/// An event, if there is one, behind those that are there already, of which the first stands apart.
+pub(crate) fn append(first: &mut Option<Event>, rest: &mut Vec<Event>, event: Option<Event>)
+    requires room { length (option_to_list first.old ++ rest.old.items) + length (option_to_list event) ≤ vec_capacity rest.old + 1 }
+    requires has_first { first.old ≡ None → rest.old.items ≡ [] }
+    ensures all { option_to_list first.new ++ rest.new.items ≡ (option_to_list first.old ++ rest.old.items) ++ option_to_list event }
+    ensures capacity { vec_capacity rest.new ≡ vec_capacity rest.old }
+    ensures has_first { first.new ≡ None → rest.new.items ≡ [] }
+{
+    let Some(event) = event else {
+        return;
+    };
+    match first {
+        None => *first = Some(event),
+        Some(_) => rest.push_reserved(event),
+    }
+}
+
+/// The outcome of a message in a lane, if one ended.
+pub fn outcome(from: Address, to: Address, ended: Option<Ended>) -> Option<Event>
+    ensures { option_to_list result ≡ outcome_of from to ended }
+{
+    match ended {
+        None => None,
+        Some(ended) => Some(Event::Outcome {
+            from,
+            to,
+            number: ended.number,
+            outcome: ended.outcome,
+        }),
+    }
+}

@@ -1,0 +1,289 @@
+//! The calls of a lane, by its destination.
+ghost use Rattle.std.specs.Prelude.{◌≡◌, ◌≤◌, ◌||◌, ◌==◌, ◌+◌, true, false, length, [], IfOk, IfSome, OnOk, OnErr, IfErr, IsErr, Some, None};
+ghost use Rattle.std.specs.FinMap as map;
+ghost use Rattle.pgn_ids.specs.Address.{is_one, global_address};
+ghost use Rattle.lane_core.specs.Heard.{heard, answered};
+ghost use Rattle.lane_core.specs.Endings.{overrun as overrun_lane, cancelled as cancelled_lane};
+ghost use Rattle.lane_core.specs.Pump.{pumped as pumped_lane, fired as fired_lane};
+ghost use Rattle.lane_core.specs.Lane.{is_full as is_full_lane, longest_to, pushed};
+ghost use Rattle.lane_core.specs.Refused.{IsHandedBack};
+ghost use Rattle.lane_core.specs.Steps.{nothing_to_do};
+ghost use Rattle.station_lanes.specs.LaneCalls.{stepped_lanes, step_at, lane_to};
+ghost use Rattle.station_lanes.specs.LaneReaders.{refusal_at, pumping_lane, missing_at, is_pending_at, queues_abort_at, is_due_at, due_lane, overrun_lanes, overrun_events, is_waiting_at, count_below};
+ghost use Rattle.std.specs.Option.{option_map};
+
+use crate::event::{Events, append, outcome};
+use crate::lanes::{Lanes, PLACES};
+use lane_core::{Bytes, Lane, LaneStep, PumpRefused, PushRefused};
+use originator::Burst;
+use pgn_ids::{Address, Pgn, WirePgn};
+use std::alloc::{AllocError, Global};
+use tp_wire::Wire;
+
+// Nothing is to be done.
+fn nothing() -> LaneStep
+    ensures { result ≡ nothing_to_do }
+{
+    LaneStep {
+        frames: Burst::new(),
+        ended: None,
+    }
+}
+
+impl Lanes {
+    /// A frame of its destination is taken at tick `now`.
+    #[tactic(auto, using(crate::proofs::LaneLaws::heard_laws))]
+    pub fn hear(&mut self, to: Address, wire: &Wire, now: u64) -> LaneStep
+        ensures lanes { self.new ≡ stepped_lanes self.old to.0 (λ lane. heard lane wire.now now) }
+        ensures step { result ≡ step_at self.old to.0 (λ lane. heard lane wire.now now) }
+        ensures few { length result.frames ≤ 1 }
+    {
+        let Some(mut lane) = self.take_out(to) else {
+            return nothing();
+        };
+        let step = lane.hear(wire, now);
+        self.put(to, lane);
+        step
+    }
+
+    /// An Acknowledgement of its destination is taken.
+    #[tactic(auto, using(crate::proofs::LaneLaws::answered_laws))]
+    pub fn answer(&mut self, to: Address, pgn: WirePgn)
+        ensures { self.new ≡ stepped_lanes self.old to.0 (λ lane. (answered lane pgn, nothing_to_do)) }
+    {
+        let Some(mut lane) = self.take_out(to) else {
+            return;
+        };
+        lane.answer(pgn);
+        self.put(to, lane);
+    }
+
+    /// The station missed frames.
+    #[tactic(auto, using(crate::proofs::LaneLaws::overrun_laws))]
+    pub fn overrun(&mut self, to: Address) -> LaneStep
+        ensures lanes { self.new ≡ stepped_lanes self.old to.0 overrun_lane }
+        ensures step { result ≡ step_at self.old to.0 overrun_lane }
+        ensures none { result.frames ≡ [] }
+    {
+        let Some(mut lane) = self.take_out(to) else {
+            return nothing();
+        };
+        let step = lane.overrun();
+        self.put(to, lane);
+        step
+    }
+
+    /// A message is sent, whose number is given. A refusal hands its bytes back and changes nothing.
+    #[tactic(auto, using(crate::proofs::LaneLaws::pushed_laws))]
+    pub fn push(
+        &mut self,
+        alloc: Global,
+        from: Address,
+        to: Address,
+        pgn: Pgn,
+        bytes: Bytes,
+    ) -> Result<u64, PushRefused>
+        requires source { is_one from.0 ≡ true }
+        requires destination { (is_one to.0 || to.0 == global_address) ≡ true }
+        requires least { 9 ≤ length bytes }
+        requires most { length bytes ≤ longest_to to.0 }
+        ensures number { IfOk result (λ n. n ≡ (lane_to from self.old to.0).sent + 1) }
+        ensures pushed { OnOk result (self.new ≡ map.insert self.old to.0 (pushed (lane_to from self.old to.0) pgn bytes)) }
+        ensures refused { OnErr result (self.new ≡ self.old) }
+        ensures back { IfErr result (IsHandedBack (is_full_lane (lane_to from self.old to.0)) bytes) }
+        ensures full { is_full_lane (lane_to from self.old to.0) ≡ true → IsErr result }
+    {
+        match self.take_out(to) {
+            None => {
+                let mut lane = match Box::new(alloc, Lane::new(alloc, from, to)) {
+                    Ok(lane) => lane,
+                    Err(_) => return Err(PushRefused::OutOfMemory(bytes)),
+                };
+                let number = lane.push(pgn, bytes)?;
+                self.put(to, lane);
+                Ok(number)
+            }
+            Some(mut lane) => {
+                let pushed = lane.push(pgn, bytes);
+                self.put(to, lane);
+                pushed
+            }
+        }
+    }
+
+    /// Why the lane to a destination queues nothing at tick `now`, or `None` where a pump queues a frame.
+    pub fn pump_refusal(&self, to: Address, now: u64) -> Option<PumpRefused>
+        ensures { result ≡ refusal_at self.now to.0 now }
+    {
+        match self.get(to) {
+            None => Some(PumpRefused::NothingToSend),
+            Some(lane) => lane.pump_refusal(now),
+        }
+    }
+
+    /// The lowest destination whose lane queues a frame where it is pumped at tick `now`.
+    #[tactic(auto, using(crate::proofs::Counting::least_laws))]
+    pub fn next_pump(&self, now: u64) -> Option<Address>
+        ensures { option_map (λ to. to.0) result ≡ pumping_lane self.now now }
+    {
+        for place in 0..PLACES {
+            let to = Address(place as u8);
+            if self.pump_refusal(to, now).is_none() {
+                return Some(to);
+            }
+        }
+        None
+    }
+
+    /// How many ticks are missing at tick `now` until the next frame of a broadcast to a destination may be queued.
+    pub fn missing(&self, to: Address, now: u64) -> u64
+        ensures { result ≡ missing_at self.now to.0 now }
+    {
+        match self.get(to) {
+            None => 0,
+            Some(lane) => lane.missing(now),
+        }
+    }
+
+    /// Queues what comes next to a destination at tick `now`.
+    #[tactic(auto, using(crate::proofs::LaneLaws::pumped_laws))]
+    pub fn pump(&mut self, to: Address, now: u64) -> LaneStep
+        requires { refusal_at self.old to.0 now ≡ None }
+        ensures lanes { self.new ≡ stepped_lanes self.old to.0 (λ lane. pumped_lane lane now) }
+        ensures step { result ≡ step_at self.old to.0 (λ lane. pumped_lane lane now) }
+        ensures few { length result.frames ≤ 8 }
+    {
+        let Some(mut lane) = self.take_out(to) else {
+            return nothing();
+        };
+        let step = lane.pump(now);
+        self.put(to, lane);
+        // At most eight, as its reader tells.
+        let _few = step.frames.len();
+        step
+    }
+
+    /// Whether the timer of the lane to a destination is due at tick `now`.
+    pub fn is_due(&self, to: Address, now: u64) -> bool
+        ensures { result ≡ is_due_at self.now now to.0 }
+    {
+        match self.get(to) {
+            None => false,
+            Some(lane) => lane.is_due(now),
+        }
+    }
+
+    /// The lowest destination whose lane is due at tick `now`.
+    #[tactic(auto, using(crate::proofs::Counting::least_laws))]
+    pub fn next_due(&self, now: u64) -> Option<Address>
+        ensures value { option_map (λ to. to.0) result ≡ due_lane self.now now }
+        ensures due { IfSome result (λ to. is_due_at self.now now to.0 ≡ true) }
+    {
+        for place in 0..PLACES {
+            let to = Address(place as u8);
+            if self.is_due(to, now) {
+                return Some(to);
+            }
+        }
+        None
+    }
+
+    /// The timer of the lane to a destination fires at tick `now`.
+    #[tactic(auto, using(crate::proofs::LaneLaws::fired_laws))]
+    pub fn fire(&mut self, to: Address, now: u64) -> LaneStep
+        requires { is_due_at self.old now to.0 ≡ true }
+        ensures lanes { self.new ≡ stepped_lanes self.old to.0 (λ lane. fired_lane lane now) }
+        ensures step { result ≡ step_at self.old to.0 (λ lane. fired_lane lane now) }
+        ensures few { length result.frames ≤ 1 }
+    {
+        let Some(mut lane) = self.take_out(to) else {
+            return nothing();
+        };
+        let step = lane.fire(now);
+        self.put(to, lane);
+        step
+    }
+
+    /// How many destinations have a message without an outcome.
+    #[tactic(auto, using(crate::proofs::Told::count_laws))]
+    fn waiting(&self) -> usize
+        ensures { result ≡ count_below (is_waiting_at self.now) 256 }
+    {
+        let mut count = 0;
+        for place in 0..PLACES {
+            if self.is_waiting(Address(place as u8)) {
+                count += 1;
+            }
+        }
+        count
+    }
+
+    /// Whether a message to a destination has no outcome yet.
+    fn is_waiting(&self, to: Address) -> bool
+        ensures { result ≡ is_waiting_at self.now to.0 }
+    {
+        match self.get(to) {
+            None => false,
+            Some(lane) => lane.pending_len() > 0,
+        }
+    }
+
+    /// The station missed frames: each connection under way ends, and its outcome is told, by rising destination. Want of
+    /// memory changes nothing. Memory is taken for as many outcomes as destinations have messages without one, less the
+    /// first.
+    #[tactic(auto, using(crate::proofs::Told::overrun_all_laws))]
+    pub fn overrun_all(&mut self, alloc: Global, from: Address) -> Result<Events, AllocError>
+        ensures ok { OnOk result (self.new ≡ overrun_lanes self.old 256) }
+        ensures told { IfOk result (λ events. events ≡ overrun_events from self.old 256) }
+        ensures err { OnErr result (self.new ≡ self.old) }
+    {
+        let mut first = None;
+        let mut rest = Vec::with_capacity(alloc, self.waiting().saturating_sub(1))?;
+        for place in 0..PLACES {
+            let to = Address(place as u8);
+            let step = self.overrun(to);
+            append(&mut first, &mut rest, outcome(from, to, step.ended));
+        }
+        Ok(match first {
+            None => Events::none(alloc),
+            Some(event) => Events::all(event, rest),
+        })
+    }
+
+    /// Whether a message to a destination with this number has no outcome yet.
+    pub fn is_pending(&self, to: Address, number: u64) -> bool
+        ensures { result ≡ is_pending_at self.now to.0 number }
+    {
+        match self.get(to) {
+            None => false,
+            Some(lane) => lane.is_pending(number),
+        }
+    }
+
+    /// Whether cancelling the message to a destination with this number queues an abort.
+    pub fn queues_abort(&self, to: Address, number: u64) -> bool
+        ensures { result ≡ queues_abort_at self.now to.0 number }
+    {
+        match self.get(to) {
+            None => false,
+            Some(lane) => lane.queues_abort(number),
+        }
+    }
+
+    /// Cancels the message to a destination with this number, which has no outcome yet.
+    #[tactic(auto, using(crate::proofs::LaneLaws::cancelled_laws))]
+    pub fn cancel(&mut self, to: Address, number: u64) -> LaneStep
+        requires { is_pending_at self.old to.0 number ≡ true }
+        ensures lanes { self.new ≡ stepped_lanes self.old to.0 (λ lane. cancelled_lane lane number) }
+        ensures step { result ≡ step_at self.old to.0 (λ lane. cancelled_lane lane number) }
+        ensures few { length result.frames ≤ 1 }
+        ensures none { queues_abort_at self.old to.0 number ≡ false → result.frames ≡ [] }
+    {
+        let Some(mut lane) = self.take_out(to) else {
+            return nothing();
+        };
+        let step = lane.cancel(number);
+        self.put(to, lane);
+        step
+    }
+}
