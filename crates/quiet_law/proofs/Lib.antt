@@ -1,0 +1,7 @@
+pub mod Sweeps
+pub mod Receivers
+pub mod Senders
+pub mod Turns
+pub mod Meanings
+pub mod Broadcasts
+pub mod Quiets

@@ -1,0 +1,11 @@
+pub mod Segment
+pub mod Calls
+pub mod Record
+pub mod Drive
+pub mod Readers
+pub mod Refusals
+pub mod Quiet
+pub mod Told
+pub mod Numbering
+pub mod Headline
+pub mod Reached

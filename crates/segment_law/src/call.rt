@@ -1,0 +1,80 @@
+//! What a segment is asked, one call at a time.
+
+use bus_frame::Frame;
+use lane_core::Bytes;
+use pgn_ids::{Address, Pgn};
+use port_table::PortId;
+
+/// One call on a segment: one atomic step.
+#[derive(Debug, Drop)]
+pub enum Call {
+    /// Opens a port of a station for messages of a PGN, of at most `max_len` bytes.
+    Open {
+        station: Address,
+        pgn: Pgn,
+        max_len: u32,
+    },
+    /// Closes a port. An incoming session that gives to no other port ends, a connection by an abort as far as places of the
+    /// queue reach.
+    Close {
+        port: PortId,
+    },
+    /// Sends a message of 9 to 1,785 bytes to all, or of 9 to 117,440,505 bytes to one node, of this segment or foreign.
+    Send {
+        from: Address,
+        to: Address,
+        pgn: Pgn,
+        bytes: Bytes,
+    },
+    /// Queues what comes next in the lane from a station to a destination: at most eight frames.
+    Pump {
+        station: Address,
+        to: Address,
+    },
+    /// Puts the first frame of a station's queue on the bus.
+    Transmit {
+        station: Address,
+    },
+    /// A station takes the next frame of the bus. Without `room` the buffer or the port's place that the frame needs isn't
+    /// there.
+    Take {
+        station: Address,
+        room: bool,
+    },
+    /// A station takes the frame that it took last once more.
+    TakeAgain {
+        station: Address,
+        room: bool,
+    },
+    /// A station missed the next `n` frames.
+    Overrun {
+        station: Address,
+        n: u64,
+    },
+    /// The clock goes on by `n` ticks of 1 ms.
+    Tick {
+        n: u64,
+    },
+    /// Fires the first timer of a station that is due.
+    Fire {
+        station: Address,
+    },
+    /// Cancels a message that has no outcome yet.
+    Cancel {
+        from: Address,
+        to: Address,
+        number: u64,
+    },
+    /// Puts the frame of a foreign node on the bus.
+    Inject {
+        frame: Frame,
+    },
+    /// Pauses a port: no connection that gives to it is granted a further packet.
+    Pause {
+        port: PortId,
+    },
+    /// Ends the pause of a port.
+    Resume {
+        port: PortId,
+    },
+}

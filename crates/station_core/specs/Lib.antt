@@ -1,0 +1,9 @@
+pub mod Station
+pub mod StationFields
+pub mod StationCode
+pub mod Opening
+pub mod Taking
+pub mod Sending
+pub mod Timers
+pub mod Closing
+pub mod Overruns

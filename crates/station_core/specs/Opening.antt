@@ -1,0 +1,114 @@
+-- How an incoming session opens (SAE J1939-21, TP.CM_RTS, TP.CM_BAM; ISO 11783-3, ETP.CM_RTS). It takes the place of an
+-- older one of its kind from the same source, which ends without an abort, also where the new one is refused.
+use Rattle.std.specs.Prelude.{ℕ, Bool, ◌&&◌, not, nat_le, ◌==◌, if◌then◌else◌, List, length, Option, Some, None, ◌++◌}
+use Rattle.std.specs.FinMap as map
+use Rattle.bus_frame.specs.Frames.{CanFrame}
+use Rattle.pgn_ids.specs.declared.address.Address.{Address}
+use Rattle.pgn_ids.specs.Pgn.{clean}
+use Rattle.tp_wire.specs.Sizes.{is_size_of}
+use Rattle.tp_wire.specs.declared.wire.CmFrame.{CmFrame}
+use Rattle.tp_wire.specs.declared.wire.CmFrame.TheVariants.{Rts, Bam, EtpRts}
+use Rattle.tp_wire.specs.declared.wire.Kind.TheVariants as kind
+use Rattle.tp_wire.specs.declared.reason.AbortReason.{AbortReason}
+use Rattle.tp_wire.specs.declared.reason.AbortReason.TheVariants.{NoFurtherSession, Resources, Other}
+use Rattle.tp_wire.specs.Reason.{reason_byte}
+use Rattle.seg_cut.specs.Packets.{packet_count}
+use Rattle.seg_cut.specs.Join.{Join, empty_join, with_room}
+use Rattle.responder.specs.Peer.{Peer}
+use Rattle.responder.specs.Answers.{abort_frame}
+use Rattle.bam_session.specs.States as bam
+use Rattle.tp_session.specs.Asking as tp
+use Rattle.etp_session.specs.Asking as etp
+use Rattle.etp_session.specs.Room.{first_join}
+use Rattle.port_table.specs.Ports.{ports_for}
+use Rattle.session_table.specs.declared.TheConstants.{MAX_SESSIONS}
+use Rattle.session_table.specs.declared.key.Key.{Key}
+use Rattle.session_table.specs.declared.key.SessionKind.{SessionKind}
+use Rattle.session_table.specs.declared.key.SessionKind.TheVariants as session
+use Rattle.session_table.specs.declared.incoming.Incoming.{Incoming}
+use Rattle.session_table.specs.declared.incoming.Incoming.TheVariants as incoming
+use Rattle.lane_core.specs.Steps.{option_frames}
+use Rattle.station_sessions.specs.Receiving.{flow_at}
+use Rattle.station_core.specs.Station.{Station}
+
+-- the sizes that TP carries, with the packets of the size
+abbrev pub is_tp_size : (size packets : ℕ) → Bool
+is_tp_size size packets = is_size_of kind.Tp size && packets == packet_count size
+
+-- the sizes that ETP carries
+abbrev pub is_etp_size : ℕ → Bool
+is_etp_size size = is_size_of kind.Etp size
+
+-- why a session doesn't open, with so many others: the first that holds
+abbrev pub refusal : (is_size room : Bool) → (set : List ℕ) → (others : ℕ) → Option AbortReason
+refusal is_size room set others =
+    if not is_size then Some Other
+    else if length set == 0 then Some Resources
+    else if nat_le MAX_SESSIONS others then Some NoFurtherSession
+    else if not room then Some Resources
+    else None
+
+-- nothing of the message has come, and there is room for it all
+abbrev pub whole_join : ℕ → Join
+whole_join size = with_room (empty_join size) (packet_count size)
+
+abbrev pub key_of : Address → SessionKind → Key
+key_of from kind = record { source = from; kind = kind }
+
+-- the sessions beside that of a key
+abbrev pub others_than : Station → Key → ℕ
+others_than st key = map.len (map.remove st.sessions key)
+
+-- the open ports that receive a message of this PGN field and size
+abbrev pub set_for : Station → (pgn size : ℕ) → List ℕ
+set_for st pgn size = ports_for st.ports (clean pgn) size
+
+-- whom a connection is received from
+abbrev pub peer_of : Station → (from : Address) → (pgn : ℕ) → Peer
+peer_of st from pgn = record { from = from.0; to = st.address.0; pgn = pgn }
+
+-- the session of a key is open in this state, and a frame is queued
+abbrev pub opened : Station → Key → (set : List ℕ) → Incoming → Option CanFrame → Station
+opened st key set state frame = record st { queue = st.queue ++ option_frames frame; sessions = map.insert st.sessions key (Some (set, state)) }
+
+-- there is none, and a frame is queued
+abbrev pub not_opened : Station → Key → Option CanFrame → Station
+not_opened st key frame = record st { queue = st.queue ++ option_frames frame; sessions = map.remove st.sessions key }
+
+-- an RTS of TP
+abbrev pub tp_opened : Station → Key → (set : List ℕ) → Peer → (size most now : ℕ) → Station
+tp_opened st key set peer size most now =
+    let flow = flow_at st.ports set in
+    opened st key set (incoming.Tp (tp.asking peer (whole_join size) most flow now)) (Some (tp.asked peer (whole_join size) most flow))
+
+abbrev pub rts_taken : Station → (from : Address) → (size packets most pgn : ℕ) → (room : Bool) → (now : ℕ) → Station
+rts_taken st from size packets most pgn room now = elim (refusal (is_tp_size size packets) room (set_for st pgn size) (others_than st (key_of from session.Tp))) [
+  | None ↦ tp_opened st (key_of from session.Tp) (set_for st pgn size) (peer_of st from pgn) size most now
+  | Some reason ↦ not_opened st (key_of from session.Tp) (Some (abort_frame kind.Tp (peer_of st from pgn) (reason_byte reason)))
+]
+
+-- an RTS of ETP
+abbrev pub etp_opened : Station → Key → (set : List ℕ) → Peer → (size now : ℕ) → Station
+etp_opened st key set peer size now =
+    let flow = flow_at st.ports set in
+    opened st key set (incoming.Etp (etp.asking peer (first_join size) 0 flow now)) (Some (etp.asked peer (first_join size) flow))
+
+abbrev pub etp_rts_taken : Station → (from : Address) → (size pgn : ℕ) → (room : Bool) → (now : ℕ) → Station
+etp_rts_taken st from size pgn room now = elim (refusal (is_etp_size size) room (set_for st pgn size) (others_than st (key_of from session.Etp))) [
+  | None ↦ etp_opened st (key_of from session.Etp) (set_for st pgn size) (peer_of st from pgn) size now
+  | Some reason ↦ not_opened st (key_of from session.Etp) (Some (abort_frame kind.Etp (peer_of st from pgn) (reason_byte reason)))
+]
+
+-- a BAM: where the session doesn't open, nothing is queued
+abbrev pub bam_taken : Station → (from : Address) → (size packets pgn : ℕ) → (room : Bool) → (now : ℕ) → Station
+bam_taken st from size packets pgn room now = elim (refusal (is_tp_size size packets) room (set_for st pgn size) (others_than st (key_of from session.Broadcast))) [
+  | None ↦ opened st (key_of from session.Broadcast) (set_for st pgn size) (incoming.Broadcast (bam.announced from.0 pgn (whole_join size) now)) None
+  | Some reason ↦ not_opened st (key_of from session.Broadcast) None
+]
+
+-- a frame that opens a session, of whatever transport
+abbrev pub opening_taken : Station → CmFrame → (from : Address) → (room : Bool) → (now : ℕ) → Station
+opening_taken st (Rts size packets most pgn) from room now = rts_taken st from size packets most pgn room now
+opening_taken st (Bam size packets pgn) from room now = bam_taken st from size packets pgn room now
+opening_taken st (EtpRts size pgn) from room now = etp_rts_taken st from size pgn room now
+opening_taken st _ from room now = st

@@ -1,0 +1,11 @@
+-- A station that missed frames.
+use Rattle.std.specs.FinMap as map
+use Rattle.station_lanes.specs.LaneReaders.{overrun_lanes, overrun_events}
+use Rattle.station_core.specs.Station.{Station, StationStep}
+
+-- every incoming session and every connection under way ends
+abbrev pub overrun : Station → StationStep
+overrun st = record {
+  station = record st { lanes = overrun_lanes st.lanes 256; sessions = map.empty };
+  events = overrun_events st.address st.lanes 256;
+}

@@ -1,0 +1,64 @@
+//! Ports that close.
+ghost use Rattle.std.specs.Prelude.{◌≡◌, true, OnOk, OnErr, IfErr, Err};
+ghost use Rattle.port_table.specs.Ports.{closing, is_open};
+ghost use Rattle.station_core.specs.Closing.{if_free, unbound_session, closed_below, closed};
+
+use crate::station::{Station, enqueue};
+use bus_frame::Frame;
+use pgn_ids::Address;
+use port_table::NoSuchPort;
+use session_table::{Key, SessionKind};
+use tx_queue::TxQueue;
+
+/// How many addresses there are of one node.
+const NODES: u8 = 254;
+
+// Puts a frame, if there is one, behind the others where a place is free.
+fn enqueue_if_free(queue: &mut TxQueue, frame: Option<Frame>)
+    ensures { queue.new ≡ if_free queue.old frame }
+{
+    if let Some(frame) = frame {
+        if queue.free() > 0 {
+            enqueue(queue, frame);
+        }
+    }
+}
+
+impl Station {
+    /// Closes a port: it is taken out of each session's set. A session whose set is then empty ends, a connection by an
+    /// abort as far as the queue has places: by rising source, TP before ETP.
+    ///
+    /// Refused exactly where no open port has this number; then nothing changes. It takes no memory.
+    #[tactic(auto, using(crate::proofs::PortLaws::closing_is))]
+    pub fn close(&mut self, number: u64) -> Result<(), NoSuchPort>
+        ensures ok { OnOk result (self.new ≡ closed self.old number) }
+        ensures open { OnOk result (is_open self.old.ports number ≡ true) }
+        ensures refused { IfErr result (λ cause. closing self.old.ports number ≡ Err cause) }
+        ensures err { OnErr result (self.new ≡ self.old) }
+    {
+        self.ports.close(number)?;
+        self.unbind_all(number);
+        Ok(())
+    }
+
+    /// Takes a port out of the sets of all sessions.
+    #[tactic(auto, using(crate::proofs::Counting::closed_laws))]
+    fn unbind_all(&mut self, number: u64)
+        ensures { self.new ≡ closed_below self.old number 254 }
+    {
+        for node in 0..NODES {
+            let source = Address(node);
+            self.unbind(source, SessionKind::Broadcast, number);
+            self.unbind(source, SessionKind::Tp, number);
+            self.unbind(source, SessionKind::Etp, number);
+        }
+    }
+
+    /// Takes a port out of the set of one session.
+    fn unbind(&mut self, source: Address, kind: SessionKind, number: u64)
+        ensures { self.new ≡ unbound_session self.old source kind number }
+    {
+        let frame = self.sessions.unbind(Key { source, kind }, number);
+        enqueue_if_free(&mut self.queue, frame);
+    }
+}

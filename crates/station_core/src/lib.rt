@@ -1,0 +1,16 @@
+//! One station of a segment: its transmit queue, its lanes, its incoming sessions and its ports, with one call for each
+//! event (SAE J1939-21; ISO 11783-3).
+#![tactic(auto)]
+
+mod closing;
+mod opening;
+mod overruns;
+mod sending;
+mod station;
+mod taking;
+#[cfg(test)]
+mod tests;
+mod timers;
+
+pub use station::Station;
+pub use station_lanes::{Event, Events};

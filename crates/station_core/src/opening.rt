@@ -1,0 +1,234 @@
+//! Sessions that open (SAE J1939-21, TP.CM_RTS, TP.CM_BAM; ISO 11783-3, ETP.CM_RTS).
+ghost use Rattle.std.specs.Prelude.{◌≡◌, ◌≤◌, ◌<◌, true, length, Some, None, IfOk, OnErr};
+ghost use Rattle.pgn_ids.specs.Address.{is_one};
+ghost use Rattle.tx_queue.specs.Queue.{queue_limit};
+ghost use Rattle.session_table.specs.declared.TheConstants.{MAX_SESSIONS};
+ghost use Rattle.station_core.specs.Station.{quietly};
+ghost use Rattle.station_core.specs.Opening.{is_tp_size as is_tp_size_of, is_etp_size as is_etp_size_of, refusal as refusal_of, whole_join as whole_join_of, others_than, opened, not_opened, rts_taken, etp_rts_taken, bam_taken, opening_taken};
+ghost use Rattle.etp_session.specs.Room.{first_join as first_join_of};
+ghost use Rattle.tp_wire.specs.Sizes.{IsSizeOf};
+ghost use Rattle.tp_wire.specs.declared.wire.Kind.TheVariants.{Tp, Etp};
+
+use crate::station::{Station, enqueue_option};
+use bam_session::BamIn;
+use bus_frame::Frame;
+use pgn_ids::{Address, WirePgn};
+use port_table::PortSet;
+use responder::Peer;
+use seg_cut::{Join, packets};
+use session_table::{Incoming, Key, MAX_SESSIONS, SessionKind};
+use station_lanes::Events;
+use station_sessions::flow;
+use std::alloc::{AllocError, Global};
+use tp_wire::constants::{ETP_MAX_SIZE, ETP_MAX_WINDOW, MIN_SIZE, TP_MAX_SIZE};
+use tp_wire::{AbortReason, CmFrame, Kind};
+
+// Whether TP carries messages of this size, and they have so many packets.
+fn is_tp_size(size: u16, packet_count: u8) -> bool
+    ensures value { result ≡ is_tp_size_of size packet_count }
+    ensures range { result ≡ true → IsSizeOf Tp size }
+{
+    let size = u32::from(size);
+    size >= MIN_SIZE && size <= TP_MAX_SIZE && u32::from(packet_count) == packets(size)
+}
+
+// Whether ETP carries messages of this size.
+fn is_etp_size(size: u32) -> bool
+    ensures value { result ≡ is_etp_size_of size }
+    ensures range { result ≡ true → IsSizeOf Etp size }
+{
+    size > TP_MAX_SIZE && size <= ETP_MAX_SIZE
+}
+
+// Why a session for a set doesn't open beside so many others: the first that holds.
+fn refusal(is_size: bool, room: bool, set: &PortSet, others: usize) -> Option<AbortReason>
+    ensures value { result ≡ refusal_of is_size room set.now others }
+    ensures size { result ≡ None → is_size ≡ true }
+    ensures few { result ≡ None → others < MAX_SESSIONS }
+{
+    if !is_size {
+        return Some(AbortReason::Other);
+    }
+    if set.is_empty() {
+        return Some(AbortReason::Resources);
+    }
+    if others >= MAX_SESSIONS {
+        return Some(AbortReason::NoFurtherSession);
+    }
+    if !room {
+        return Some(AbortReason::Resources);
+    }
+    None
+}
+
+// Room for a whole message.
+fn whole_join(alloc: Global, size: u32) -> Result<Join, AllocError>
+    ensures { IfOk result (λ join. join ≡ whole_join_of size) }
+{
+    let mut join = Join::new(alloc, size);
+    join.make_room(packets(size))?;
+    Ok(join)
+}
+
+// Room for the first window of a message.
+fn first_join(alloc: Global, size: u32) -> Result<Join, AllocError>
+    ensures { IfOk result (λ join. join ≡ first_join_of size) }
+{
+    let mut join = Join::new(alloc, size);
+    join.make_room(u32::from(ETP_MAX_WINDOW))?;
+    Ok(join)
+}
+
+impl Station {
+    /// Opens a session for a set, where there are less than 32 others, and queues a frame. An error changes nothing.
+    fn open_session(
+        &mut self,
+        key: Key,
+        set: PortSet,
+        state: Incoming,
+        frame: Option<Frame>,
+    ) -> Result<Events, AllocError>
+        requires few { others_than self.old key < MAX_SESSIONS }
+        requires place { length self.old.queue < queue_limit }
+        ensures ok { IfOk result (λ events. quietly (opened self.old key set state frame) ≡ record { station = self.new; events = events }) }
+        ensures err { OnErr result (self.new ≡ self.old) }
+    {
+        self.sessions.put(key, set, state)?;
+        enqueue_option(&mut self.queue, frame);
+        Ok(Events::none(self.alloc))
+    }
+
+    /// Ends the session of a key, and queues a frame.
+    fn refuse_session(&mut self, key: Key, frame: Option<Frame>) -> Events
+        requires { length self.old.queue < queue_limit }
+        ensures { quietly (not_opened self.old key frame) ≡ record { station = self.new; events = result } }
+    {
+        self.sessions.end(key);
+        enqueue_option(&mut self.queue, frame);
+        Events::none(self.alloc)
+    }
+
+    /// Takes an RTS of TP: its session opens with a CTS or a hold, or it is answered by an abort.
+    fn take_rts(
+        &mut self,
+        from: Address,
+        size: u16,
+        packet_count: u8,
+        most: u8,
+        pgn: WirePgn,
+        room: bool,
+        now: u64,
+    ) -> Result<Events, AllocError>
+        requires source { is_one from.0 ≡ true }
+        requires place { length self.old.queue < queue_limit }
+        ensures ok { IfOk result (λ events. quietly (rts_taken self.old from size packet_count most pgn room now) ≡ record { station = self.new; events = events }) }
+        ensures err { OnErr result (self.new ≡ self.old) }
+    {
+        let key = Key {
+            source: from,
+            kind: SessionKind::Tp,
+        };
+        let set = self.ports.find(pgn.clean(), u32::from(size));
+        let peer = Peer::new(from, self.address, pgn);
+        let others = self.sessions.others(key);
+        match refusal(is_tp_size(size, packet_count), room, &set, others) {
+            Some(reason) => Ok(self.refuse_session(key, Some(peer.abort(Kind::Tp, reason)))),
+            None => {
+                let join = whole_join(self.alloc, u32::from(size))?;
+                let flow = flow(&self.ports, &set);
+                let (state, frame) = tp_session::AwaitPacket::begin(peer, most, join, flow, now);
+                self.open_session(key, set, Incoming::Tp(state), Some(frame))
+            }
+        }
+    }
+
+    /// Takes an RTS of ETP: its session opens with a CTS or a hold, or it is answered by an abort.
+    fn take_etp_rts(
+        &mut self,
+        from: Address,
+        size: u32,
+        pgn: WirePgn,
+        room: bool,
+        now: u64,
+    ) -> Result<Events, AllocError>
+        requires source { is_one from.0 ≡ true }
+        requires place { length self.old.queue < queue_limit }
+        ensures ok { IfOk result (λ events. quietly (etp_rts_taken self.old from size pgn room now) ≡ record { station = self.new; events = events }) }
+        ensures err { OnErr result (self.new ≡ self.old) }
+    {
+        let key = Key {
+            source: from,
+            kind: SessionKind::Etp,
+        };
+        let set = self.ports.find(pgn.clean(), size);
+        let peer = Peer::new(from, self.address, pgn);
+        let others = self.sessions.others(key);
+        match refusal(is_etp_size(size), room, &set, others) {
+            Some(reason) => Ok(self.refuse_session(key, Some(peer.abort(Kind::Etp, reason)))),
+            None => {
+                let join = first_join(self.alloc, size)?;
+                let flow = flow(&self.ports, &set);
+                let (state, frame) = etp_session::AwaitPacket::begin(peer, join, flow, now);
+                self.open_session(key, set, Incoming::Etp(state), Some(frame))
+            }
+        }
+    }
+
+    /// Takes a BAM: its session opens or not, without a frame.
+    fn take_bam(
+        &mut self,
+        from: Address,
+        size: u16,
+        packet_count: u8,
+        pgn: WirePgn,
+        room: bool,
+        now: u64,
+    ) -> Result<Events, AllocError>
+        requires { length self.old.queue < queue_limit }
+        ensures ok { IfOk result (λ events. quietly (bam_taken self.old from size packet_count pgn room now) ≡ record { station = self.new; events = events }) }
+        ensures err { OnErr result (self.new ≡ self.old) }
+    {
+        let key = Key {
+            source: from,
+            kind: SessionKind::Broadcast,
+        };
+        let set = self.ports.find(pgn.clean(), u32::from(size));
+        let others = self.sessions.others(key);
+        match refusal(is_tp_size(size, packet_count), room, &set, others) {
+            Some(_) => Ok(self.refuse_session(key, None)),
+            None => {
+                let join = whole_join(self.alloc, u32::from(size))?;
+                let state = BamIn::begin(from, pgn, join, now);
+                self.open_session(key, set, Incoming::Broadcast(state), None)
+            }
+        }
+    }
+
+    /// Takes a frame that opens a session: an RTS or a BAM. Any other is passed over.
+    pub(crate) fn take_opening(
+        &mut self,
+        frame: &CmFrame,
+        from: Address,
+        room: bool,
+        now: u64,
+    ) -> Result<Events, AllocError>
+        requires source { is_one from.0 ≡ true }
+        requires place { length self.old.queue < queue_limit }
+        ensures ok { IfOk result (λ events. quietly (opening_taken self.old frame.now from room now) ≡ record { station = self.new; events = events }) }
+        ensures err { OnErr result (self.new ≡ self.old) }
+    {
+        match frame {
+            CmFrame::Rts {
+                size,
+                packets,
+                most,
+                pgn,
+            } => self.take_rts(from, *size, *packets, *most, *pgn, room, now),
+            CmFrame::Bam { size, packets, pgn } => {
+                self.take_bam(from, *size, *packets, *pgn, room, now)
+            }
+            CmFrame::EtpRts { size, pgn } => self.take_etp_rts(from, *size, *pgn, room, now),
+            _ => Ok(Events::none(self.alloc)),
+        }
+    }
+}

@@ -1,0 +1,22 @@
+//! Frames that were missed.
+ghost use Rattle.std.specs.Prelude.{◌≡◌, IfOk, OnErr};
+ghost use Rattle.station_core.specs.Overruns.{overrun};
+
+use crate::station::Station;
+use station_lanes::Events;
+use std::alloc::AllocError;
+
+impl Station {
+    /// Frames were missed: each incoming session ends, and each connection under way with its outcome, which are told by
+    /// rising destination. Nothing is queued. Broadcasts under way and Requests go on.
+    ///
+    /// Want of memory changes nothing.
+    pub fn overrun(&mut self) -> Result<Events, AllocError>
+        ensures ok { IfOk result (λ events. overrun self.old ≡ record { station = self.new; events = events }) }
+        ensures err { OnErr result (self.new ≡ self.old) }
+    {
+        let events = self.lanes.overrun_all(self.alloc, self.address)?;
+        self.sessions.overrun();
+        Ok(events)
+    }
+}

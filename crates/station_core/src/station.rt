@@ -1,0 +1,173 @@
+//! A station: its parts, its ports and its queue.
+ghost use Rattle.std.specs.Prelude.{◌≡◌, ◌≤◌, ◌<◌, ◌+◌, ◌++◌, ◌∷◌, [], true, length, IfOk, OnOk, OnErr, IfErr, Ok, Err, false};
+ghost use Rattle.pgn_ids.specs.Address.{is_one};
+ghost use Rattle.tx_queue.specs.Queue.{queue_limit, free_places, front, behind};
+ghost use Rattle.lane_core.specs.Steps.{option_frames};
+ghost use Rattle.port_table.specs.Ports.{next_id, opening, pausing, resuming, with_port, with_paused};
+ghost use Rattle.station_core.specs.Station.{new_station};
+
+use bus_frame::Frame;
+use pgn_ids::{Address, Pgn};
+use port_table::{PauseError, PortId, PortTable, PortsFull, ResumeError};
+use station_lanes::Lanes;
+use station_sessions::Receivers;
+use std::alloc::{AllocError, Global};
+use std::marker::Model;
+use tx_queue::TxQueue;
+
+/// One station of a segment: its transmit queue, its lanes, its incoming sessions and its ports.
+///
+/// It doesn't know the bus: which frame it takes is handed in. What is under way when it is dropped ends without a frame
+/// or an outcome.
+#[derive(Drop)]
+pub struct Station {
+    pub(crate) alloc: Global,
+    pub(crate) address: Address,
+    pub(crate) queue: TxQueue,
+    pub(crate) lanes: Lanes,
+    pub(crate) sessions: Receivers,
+    pub(crate) ports: PortTable,
+}
+
+impl Model for Station {
+    ghost use Rattle.station_core.specs.Station.{Station};
+    ghost use Rattle.station_core.specs.StationCode.{station_code};
+
+    ghost Value = { Station };
+
+    ghost coded = { station_code };
+
+    ghost use Rattle.station_core.specs.StationFields.{station_value, IsStationInside};
+
+    ghost view = { station_value };
+
+    ghost invariant = { IsStationInside };
+}
+
+/// Puts a frame behind the others, where there is a free place.
+pub(crate) fn enqueue(queue: &mut TxQueue, frame: Frame)
+    requires { length queue.old < queue_limit }
+    ensures { queue.new ≡ queue.old ++ frame ∷ [] }
+{
+    match queue.push(frame) {
+        Ok(()) => {}
+        Err(_) => unreachable!(),
+    }
+}
+
+/// Puts a frame, if there is one, behind the others, where there is a free place.
+pub(crate) fn enqueue_option(queue: &mut TxQueue, frame: Option<Frame>)
+    requires { length queue.old < queue_limit }
+    ensures { queue.new ≡ queue.old ++ option_frames frame }
+{
+    if let Some(frame) = frame {
+        enqueue(queue, frame);
+    }
+}
+
+/// Puts frames behind the others, where there are as many free places.
+pub(crate) fn enqueue_all(queue: &mut TxQueue, frames: &[Frame])
+    requires { length queue.old + length frames.now ≤ queue_limit }
+    ensures { queue.new ≡ queue.old ++ frames.now }
+{
+    for frame in frames {
+        enqueue(queue, *frame);
+    }
+}
+
+impl Station {
+    /// The station with this address, which is that of one node, 0 to 253. It makes the room of its queue, its lanes'
+    /// places and its ports.
+    pub fn new(alloc: Global, address: Address) -> Result<Station, AllocError>
+        requires { is_one address.0 ≡ true }
+        ensures { IfOk result (λ station. station ≡ new_station address) }
+    {
+        Ok(Station {
+            alloc,
+            address,
+            queue: TxQueue::new(alloc)?,
+            lanes: Lanes::new(alloc)?,
+            sessions: Receivers::new(alloc),
+            ports: PortTable::new(alloc, address)?,
+        })
+    }
+
+    /// Its address.
+    pub fn address(&self) -> Address
+        ensures value { result ≡ self.now.address }
+        ensures own { is_one result.0 ≡ true }
+    {
+        self.address
+    }
+
+    /// How many frames wait in its queue.
+    pub fn queue_len(&self) -> usize
+        ensures value { result ≡ length self.now.queue }
+        ensures within { result ≤ queue_limit }
+    {
+        self.queue.len()
+    }
+
+    /// How many free places its queue has.
+    pub fn free(&self) -> usize
+        ensures value { result ≡ free_places self.now.queue }
+        ensures within { length self.now.queue ≤ queue_limit }
+    {
+        self.queue.free()
+    }
+
+    /// The frame that it transmits next.
+    pub fn front(&self) -> Option<Frame>
+        ensures { result ≡ front self.now.queue }
+    {
+        self.queue.front()
+    }
+
+    /// Takes the frame that it transmits out of its queue, or gives None where the queue is empty.
+    pub fn pop(&mut self) -> Option<Frame>
+        ensures frame { result ≡ front self.old.queue }
+        ensures left { self.new ≡ record self.old { queue = behind self.old.queue } }
+    {
+        self.queue.pop()
+    }
+
+    /// Opens a port for messages of a PGN, of at most `max_len` bytes. Its number is the next one, from 1.
+    ///
+    /// Refused exactly where 16 ports are open, or the next number would pass the end of `u64`; then nothing changes.
+    #[tactic(auto, using(crate::proofs::PortLaws::opening_is))]
+    pub fn open(&mut self, pgn: Pgn, max_len: u32) -> Result<PortId, PortsFull>
+        ensures id { IfOk result (λ id. id ≡ next_id self.old.ports) }
+        ensures ok { OnOk result (self.new ≡ record self.old { ports = with_port self.old.ports pgn max_len }) }
+        ensures opens { OnOk result (opening self.old.ports pgn max_len ≡ Ok self.new.ports) }
+        ensures refused { IfErr result (λ cause. opening self.old.ports pgn max_len ≡ Err cause) }
+        ensures err { OnErr result (self.new ≡ self.old) }
+    {
+        self.ports.open(pgn, max_len)
+    }
+
+    /// Pauses a port: each session that gives to it is held, and grants no packet.
+    ///
+    /// Refused exactly where no open port has this number, else where it is paused; then nothing changes.
+    #[tactic(auto, using(crate::proofs::PortLaws::pausing_is))]
+    pub fn pause(&mut self, number: u64) -> Result<(), PauseError>
+        ensures ok { OnOk result (self.new ≡ record self.old { ports = with_paused self.old.ports number true }) }
+        ensures pauses { OnOk result (pausing self.old.ports number ≡ Ok self.new.ports) }
+        ensures refused { IfErr result (λ cause. pausing self.old.ports number ≡ Err cause) }
+        ensures err { OnErr result (self.new ≡ self.old) }
+    {
+        self.ports.pause(number)
+    }
+
+    /// Ends the pause of a port.
+    ///
+    /// Refused exactly where no open port has this number, else where it isn't paused; then nothing changes.
+    #[tactic(auto, using(crate::proofs::PortLaws::resuming_is))]
+    pub fn resume(&mut self, number: u64) -> Result<(), ResumeError>
+        ensures ok { OnOk result (self.new ≡ record self.old { ports = with_paused self.old.ports number false }) }
+        ensures resumes { OnOk result (resuming self.old.ports number ≡ Ok self.new.ports) }
+        ensures refused { IfErr result (λ cause. resuming self.old.ports number ≡ Err cause) }
+        ensures err { OnErr result (self.new ≡ self.old) }
+    {
+        self.ports.resume(number)
+    }
+}

@@ -1,0 +1,256 @@
+//! Frames that are taken, row by row (SAE J1939-21; ISO 11783-3).
+ghost use Rattle.std.specs.Prelude.{◌≡◌, ◌≤◌, ◌<◌, ◌+◌, ◌++◌, true, length, IfOk, OnErr};
+ghost use Rattle.tp_wire.specs.Rows.{comes_from};
+ghost use Rattle.tp_wire.specs.declared.wire.Wire.TheVariants.{Cm};
+ghost use Rattle.tx_queue.specs.Queue.{queue_limit};
+ghost use Rattle.station_lanes.specs.LaneCalls.{outcome_of};
+ghost use Rattle.station_core.specs.Opening.{key_of};
+ghost use Rattle.station_core.specs.Taking.{packet_kind as packet_kind_of, in_session, in_lane, abort_taken, cm_taken, answer, request_taken, ack_taken, wire_taken, looks_at as looks_at_frame, is_malformed_for as is_malformed_for_station, wanted, wire_wanted, taken};
+
+use crate::station::{Station, enqueue, enqueue_all, enqueue_option};
+use bus_frame::Frame;
+use lane_core::LaneStep;
+use pgn_ids::{Address, WirePgn, read_id};
+use port_table::PortSet;
+use session_table::{Key, SessionKind};
+use station_lanes::{Events, outcome};
+use station_sessions::Told;
+use std::alloc::AllocError;
+use tp_wire::{CmFrame, Kind, Wire, is_transport, read, write};
+
+/// The control byte of the Acknowledgement that a station sends: positive.
+const POSITIVE: u8 = 1;
+
+// The kind of the session that a data packet belongs to.
+fn packet_kind(kind: Kind, to: Address) -> SessionKind
+    ensures { result ≡ packet_kind_of kind to }
+{
+    match kind {
+        Kind::Tp => {
+            if to == Address::GLOBAL {
+                SessionKind::Broadcast
+            } else {
+                SessionKind::Tp
+            }
+        }
+        Kind::Etp => SessionKind::Etp,
+    }
+}
+
+impl Station {
+    /// Whether it looks at a frame: the source is another node, and the destination is this one or all.
+    pub fn looks_at(&self, frame: &Frame) -> bool
+        ensures { result ≡ looks_at_frame self.now frame.now }
+    {
+        let meaning = read_id(frame.id());
+        meaning.from != self.address
+            && (meaning.to == self.address || meaning.to == Address::GLOBAL)
+    }
+
+    /// Whether it looks at a frame, and finds it malformed: of one of the frame table's PGNs without being a row of it.
+    pub fn is_malformed_for(&self, frame: &Frame) -> bool
+        ensures { result ≡ is_malformed_for_station self.now frame.now }
+    {
+        self.looks_at(frame) && is_transport(frame) && read(frame).is_none()
+    }
+
+    /// The ports that a `take` of this frame with room would give to, and the size of the message in bytes; no port and 0
+    /// where it would give nothing.
+    pub fn wants(&self, frame: &Frame) -> (PortSet, u32)
+        ensures { result ≡ wanted self.now frame.now }
+    {
+        if !self.looks_at(frame) {
+            return (PortSet::empty(), 0);
+        }
+        match read(frame) {
+            Some((wire, from, to)) => self.wants_wire(&wire, from, to),
+            None => (PortSet::empty(), 0),
+        }
+    }
+
+    /// The same of a frame with this meaning.
+    fn wants_wire(&self, wire: &Wire, from: Address, to: Address) -> (PortSet, u32)
+        ensures { result ≡ wire_wanted self.now wire.now from to }
+    {
+        match wire {
+            Wire::Packet { kind, .. } => {
+                let key = Key {
+                    source: from,
+                    kind: packet_kind(*kind, to),
+                };
+                self.sessions.wants(key, wire)
+            }
+            _ => (PortSet::empty(), 0),
+        }
+    }
+
+    /// Takes a frame at tick `now`, where its queue has a free place: the same call takes a frame again. `room` says
+    /// whether each port of the set has room for a message that the frame completes, and whether there is room to go on with
+    /// one.
+    ///
+    /// Want of memory changes nothing.
+    pub fn take(&mut self, frame: &Frame, room: bool, now: u64) -> Result<Events, AllocError>
+        requires { length self.old.queue < queue_limit }
+        ensures ok { IfOk result (λ events. taken self.old frame.now room now ≡ record { station = self.new; events = events }) }
+        ensures err { OnErr result (self.new ≡ self.old) }
+    {
+        if !self.looks_at(frame) {
+            return Ok(Events::none(self.alloc));
+        }
+        match read(frame) {
+            None => Ok(Events::none(self.alloc)),
+            Some((wire, from, to)) => self.take_wire(wire, from, to, room, now),
+        }
+    }
+
+    /// Takes a frame with this meaning.
+    fn take_wire(
+        &mut self,
+        wire: Wire,
+        from: Address,
+        to: Address,
+        room: bool,
+        now: u64,
+    ) -> Result<Events, AllocError>
+        requires place { length self.old.queue < queue_limit }
+        requires source { comes_from wire from.0 ≡ true }
+        ensures ok { IfOk result (λ events. wire_taken self.old wire from to room now ≡ record { station = self.new; events = events }) }
+        ensures err { OnErr result (self.new ≡ self.old) }
+    {
+        match wire {
+            Wire::Cm(frame) => self.take_cm(frame, from, room, now),
+            Wire::Packet { kind, .. } => {
+                self.take_in_session(packet_kind(kind, to), from, &wire, room, now)
+            }
+            Wire::Request { pgn } => {
+                self.take_request(from, to, pgn);
+                Ok(Events::none(self.alloc))
+            }
+            Wire::Ack { address, pgn, .. } => {
+                self.take_ack(from, to, address, pgn);
+                Ok(Events::none(self.alloc))
+            }
+        }
+    }
+
+    /// Takes a connection management frame.
+    fn take_cm(
+        &mut self,
+        frame: CmFrame,
+        from: Address,
+        room: bool,
+        now: u64,
+    ) -> Result<Events, AllocError>
+        requires place { length self.old.queue < queue_limit }
+        requires source { comes_from (Cm frame) from.0 ≡ true }
+        ensures ok { IfOk result (λ events. cm_taken self.old frame from room now ≡ record { station = self.new; events = events }) }
+        ensures err { OnErr result (self.new ≡ self.old) }
+    {
+        let wire = Wire::Cm(frame);
+        match &frame {
+            CmFrame::Rts { .. } => self.take_opening(&frame, from, room, now),
+            CmFrame::Cts { .. } => Ok(self.take_in_lane(from, &wire, now)),
+            CmFrame::EndOfMsgAck { .. } => Ok(self.take_in_lane(from, &wire, now)),
+            CmFrame::Bam { .. } => self.take_opening(&frame, from, room, now),
+            CmFrame::Abort { pgn, .. } => {
+                Ok(self.take_abort(SessionKind::Tp, from, *pgn, &wire, now))
+            }
+            CmFrame::EtpRts { .. } => self.take_opening(&frame, from, room, now),
+            CmFrame::EtpCts { .. } => Ok(self.take_in_lane(from, &wire, now)),
+            CmFrame::EtpDpo { .. } => {
+                self.take_in_session(SessionKind::Etp, from, &wire, room, now)
+            }
+            CmFrame::EtpEoma { .. } => Ok(self.take_in_lane(from, &wire, now)),
+            CmFrame::EtpAbort { pgn, .. } => {
+                Ok(self.take_abort(SessionKind::Etp, from, *pgn, &wire, now))
+            }
+        }
+    }
+
+    /// The incoming session of this kind from the source makes its step.
+    fn take_in_session(
+        &mut self,
+        kind: SessionKind,
+        from: Address,
+        wire: &Wire,
+        room: bool,
+        now: u64,
+    ) -> Result<Events, AllocError>
+        requires { length self.old.queue < queue_limit }
+        ensures ok { IfOk result (λ events. in_session self.old (key_of from kind) wire.now room now ≡ record { station = self.new; events = events }) }
+        ensures err { OnErr result (self.new ≡ self.old) }
+    {
+        let key = Key { source: from, kind };
+        let Told { frame, events } = self.sessions.receive(&self.ports, key, wire, room, now)?;
+        enqueue_option(&mut self.queue, frame);
+        Ok(events)
+    }
+
+    /// The lane to the source makes its step.
+    fn take_in_lane(&mut self, from: Address, wire: &Wire, now: u64) -> Events
+        requires { length self.old.queue < queue_limit }
+        ensures { in_lane self.old from wire.now now ≡ record { station = self.new; events = result } }
+    {
+        let step = self.lanes.hear(from, wire, now);
+        self.finish_lane_step(from, step)
+    }
+
+    /// What a step of the lane to a destination left to do.
+    pub(crate) fn finish_lane_step(&mut self, to: Address, step: LaneStep) -> Events
+        requires { length self.old.queue + length step.frames ≤ queue_limit }
+        ensures queue { self.new ≡ record self.old { queue = self.old.queue ++ step.frames } }
+        ensures told { result ≡ outcome_of self.old.address to step.ended }
+    {
+        enqueue_all(&mut self.queue, step.frames.frames());
+        let event = outcome(self.address, to, step.ended);
+        Events::of(self.alloc, event)
+    }
+
+    /// An abort ends the incoming session and the message under way of its kind and PGN.
+    fn take_abort(
+        &mut self,
+        kind: SessionKind,
+        from: Address,
+        pgn: WirePgn,
+        wire: &Wire,
+        now: u64,
+    ) -> Events
+        requires { length self.old.queue < queue_limit }
+        ensures { abort_taken self.old from kind pgn wire.now now ≡ record { station = self.new; events = result } }
+    {
+        self.sessions.abort(Key { source: from, kind }, pgn);
+        self.take_in_lane(from, wire, now)
+    }
+
+    /// A Request to the own address is answered.
+    fn take_request(&mut self, from: Address, to: Address, pgn: WirePgn)
+        requires { length self.old.queue < queue_limit }
+        ensures { self.new ≡ request_taken self.old from to pgn }
+    {
+        if to == self.address {
+            let answer = self.acknowledgement(from, pgn);
+            enqueue(&mut self.queue, answer);
+        }
+    }
+
+    /// The Acknowledgement that answers a Request.
+    fn acknowledgement(&self, asker: Address, pgn: WirePgn) -> Frame
+        ensures { result ≡ answer self.now asker pgn }
+    {
+        let wire = Wire::Ack {
+            control: POSITIVE,
+            address: asker,
+            pgn,
+        };
+        write(wire, self.address, Address::GLOBAL)
+    }
+
+    /// An Acknowledgement to the own address, or of an own Request, is for the lane to its source.
+    fn take_ack(&mut self, from: Address, to: Address, address: Address, pgn: WirePgn)
+        ensures { self.new ≡ ack_taken self.old from to address pgn }
+    {
+        if address == self.address || to == self.address {
+            self.lanes.answer(from, pgn);
+        }
+    }
+}

@@ -1,0 +1,2 @@
+pub mod SessionMaps
+pub mod Settling

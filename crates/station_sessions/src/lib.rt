@@ -1,0 +1,11 @@
+//! The incoming sessions of one station: the step of each, whatever its transport, and how the message that it completes is
+//! given at the ports of its set (SAE J1939-21; ISO 11783-3).
+#![tactic(auto)]
+
+mod copies;
+mod progress;
+mod receivers;
+#[cfg(test)]
+mod tests;
+
+pub use receivers::{Receivers, Told, flow};

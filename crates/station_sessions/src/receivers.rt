@@ -1,0 +1,359 @@
+//! The incoming sessions of a station.
+ghost use Rattle.std.specs.Prelude.{◌≡◌, ◌≤◌, ◌<◌, ◌-◌, Some, None, [], length, All, IfOk, IfErr, OnOk, OnErr, true};
+ghost use Rattle.std.specs.FinMap as map;
+ghost use Rattle.session_table.specs.Sessions.{IsHeld, state_at};
+ghost use Rattle.session_table.specs.DueOrder.{first_due};
+ghost use Rattle.session_table.specs.declared.TheConstants.{MAX_SESSIONS};
+ghost use Rattle.station_sessions.specs.Progress.{completes as completes_at, size_of, prepared, IsPrepared, whole_size};
+ghost use Rattle.station_sessions.specs.Receiving.{Inbound, flow_at, concluded, settled, received, fired_at, aborted_at, unbound_at, wanted_by};
+ghost use Rattle.station_sessions.specs.CopyRoom.{IsCovered};
+
+use crate::copies::{Copies, give};
+use crate::progress::{self, Progress, Whole};
+use bus_frame::Frame;
+use pgn_ids::{Address, WirePgn};
+use port_table::{PortSet, PortTable};
+use responder::Flow;
+use session_table::{Held, Incoming, Key, OpenRefused, SessionTable};
+use station_lanes::Events;
+use std::alloc::{AllocError, Global};
+use std::marker::Model;
+use tp_wire::Wire;
+
+/// What a step of an incoming session leaves to do: the frame that is to be queued, if there is one, and what is told.
+#[derive(Drop)]
+pub struct Told {
+    pub frame: Option<Frame>,
+    pub events: Events,
+}
+
+/// The incoming sessions of a station by source and kind, at most 32, each with the ports that it gives to: those that its
+/// opening found, less those that were closed since.
+///
+/// What is under way when they are dropped ends without a frame.
+#[derive(Drop)]
+pub struct Receivers {
+    alloc: Global,
+    table: SessionTable<PortSet>,
+}
+
+impl Model for Receivers {
+    ghost use Rattle.std.specs.Prelude.{List, ℕ};
+    ghost use Rattle.std.specs.Coded.{coded_list, coded_ℕ};
+    ghost use Rattle.session_table.specs.Sessions.{Sessions, sessions_code};
+
+    ghost Value = { Sessions (List ℕ) };
+
+    ghost coded = { sessions_code (coded_list coded_ℕ) };
+
+    ghost use Rattle.station_sessions.specs.Receiving.{NoneHeld};
+
+    ghost view = { λ r. r.table };
+
+    ghost invariant = { λ r. NoneHeld r.table };
+}
+
+/// Whether a session that gives to a set of ports may grant packets: it is held while one of them is paused.
+pub fn flow(ports: &PortTable, set: &PortSet) -> Flow
+    ensures { result ≡ flow_at ports.now set.now }
+{
+    if ports.any_paused(set) {
+        Flow::Held
+    } else {
+        Flow::Open
+    }
+}
+
+impl Receivers {
+    /// No session. It takes no memory.
+    #[tactic(auto, using(crate::proofs::SessionMaps::session_maps))]
+    pub fn new(alloc: Global) -> Receivers
+        ensures { result ≡ map.empty }
+    {
+        Receivers {
+            alloc,
+            table: SessionTable::new(alloc),
+        }
+    }
+
+    /// How many sessions there are beside that of a key.
+    #[tactic(auto, using(crate::proofs::SessionMaps::session_lens))]
+    pub fn others(&self, key: Key) -> usize
+        ensures { result ≡ map.len (map.remove self.now key) }
+    {
+        if self.table.contains(key) {
+            self.table.len().saturating_sub(1)
+        } else {
+            self.table.len()
+        }
+    }
+
+    /// Opens a session in the place of an older one of its key, which ends without a frame, where there are less than 32
+    /// others (`others`). It takes memory only where there is no older one, and want of it changes nothing.
+    #[tactic(auto, using(crate::proofs::SessionMaps::session_maps))]
+    pub fn put(&mut self, key: Key, set: PortSet, state: Incoming) -> Result<(), AllocError>
+        requires { map.len (map.remove self.old key) < MAX_SESSIONS }
+        ensures ok { OnOk result (self.new ≡ map.insert self.old key (Some (set, state))) }
+        ensures err { OnErr result (self.new ≡ self.old) }
+        ensures no_older { IfErr result (λ _. state_at self.old key ≡ None) }
+    {
+        match self.table.take_out(key) {
+            Some((held, _set, older)) => {
+                older.overrun();
+                self.table.put_back(held, set, state);
+                Ok(())
+            }
+            None => match self.table.open(key, set, state) {
+                Ok(()) => Ok(()),
+                Err(OpenRefused::TableFull(_set, state)) => {
+                    state.overrun();
+                    Err(AllocError)
+                }
+                Err(OpenRefused::OutOfMemory(_set, state)) => {
+                    state.overrun();
+                    Err(AllocError)
+                }
+            },
+        }
+    }
+
+    /// Ends the session of a key without a frame; without one nothing is done.
+    #[tactic(auto, using(crate::proofs::SessionMaps::session_maps))]
+    pub fn end(&mut self, key: Key)
+        ensures { self.new ≡ map.remove self.old key }
+    {
+        if let Some((held, _set, state)) = self.table.take_out(key) {
+            state.overrun();
+            self.table.end(held);
+        }
+    }
+
+    /// An abort with this PGN field is taken: it ends the session of its key, if that is of this PGN.
+    #[tactic(auto, using(crate::proofs::SessionMaps::session_maps))]
+    pub fn abort(&mut self, key: Key, pgn: WirePgn)
+        ensures { self.new ≡ aborted_at key pgn self.old }
+    {
+        let Some((held, set, state)) = self.table.take_out(key) else {
+            return;
+        };
+        if state.pgn().clean() == pgn.clean() {
+            state.overrun();
+            self.table.end(held);
+        } else {
+            self.table.put_back(held, set, state);
+        }
+    }
+
+    /// Frames were missed: each session ends without a frame.
+    #[tactic(auto, using(crate::proofs::SessionMaps::session_maps))]
+    pub fn overrun(&mut self)
+        ensures { self.new ≡ map.empty }
+    {
+        *self = Receivers::new(self.alloc);
+    }
+
+    /// The first session whose timer is due at tick `now`: by source, then broadcasts first and ETP last.
+    pub fn next_due(&self, now: u64) -> Option<Key>
+        ensures { result ≡ first_due self.now now }
+    {
+        self.table.next_due(now)
+    }
+
+    /// The ports that the session of a key would give to at the step with this frame, and the size of the message in bytes;
+    /// no port and 0 where it would give nothing.
+    pub fn wants(&self, key: Key, wire: &Wire) -> (PortSet, u32)
+        ensures { result ≡ wanted_by (state_at self.now key) wire.now }
+    {
+        match self.table.get(key) {
+            Some((set, state)) if progress::completes(state, wire) => {
+                (*set, progress::size(state))
+            }
+            _ => (PortSet::empty(), 0),
+        }
+    }
+
+    /// A frame of its source is taken at tick `now` by the session of a key; without one nothing is done (SAE J1939-21,
+    /// TP.DT; ISO 11783-3, ETP.DT, ETP.CM_DPO). A message that it completes is given at each port of the session's set, by
+    /// rising number, with the end of message acknowledgement of a connection. `room` says whether each of them has room for
+    /// the message, and whether there is room for the next window; without room a connection ends by an abort.
+    ///
+    /// All memory is taken first: want of it changes nothing.
+    #[tactic(auto, using(crate::proofs::SessionMaps::session_maps))]
+    pub fn receive(
+        &mut self,
+        ports: &PortTable,
+        key: Key,
+        wire: &Wire,
+        room: bool,
+        now: u64,
+    ) -> Result<Told, AllocError>
+        ensures ok { IfOk result (λ told. received ports.now key wire.now room now self.old ≡ record { sessions = self.new; frame = told.frame; events = told.events }) }
+        ensures err { OnErr result (self.new ≡ self.old) }
+    {
+        let alloc = self.alloc;
+        let Some((held, set, mut state)) = self.table.take_out(key) else {
+            return Ok(quiet(alloc, None));
+        };
+        let flow = flow(ports, &set);
+        let copies = match make_room(alloc, &set, &mut state, wire, room, flow) {
+            Ok(copies) => copies,
+            Err(error) => {
+                self.table.put_back(held, set, state);
+                return Err(error);
+            }
+        };
+        let progress = progress::step(state, wire, room, flow, now);
+        let station = ports.station();
+        Ok(settle(
+            alloc,
+            &mut self.table,
+            station,
+            held,
+            set,
+            room,
+            progress,
+            copies,
+        ))
+    }
+
+    /// The timer of the session of a key fires at tick `now`; without one nothing is done. A session on hold asks again or
+    /// goes on, any other ends, a connection by an abort (SAE J1939-21, timers T1, T2 and Th).
+    ///
+    /// All memory is taken first: want of it changes nothing.
+    #[tactic(auto, using(crate::proofs::SessionMaps::session_maps))]
+    pub fn fire(&mut self, ports: &PortTable, key: Key, now: u64) -> Result<Told, AllocError>
+        ensures ok { IfOk result (λ told. fired_at ports.now key now self.old ≡ record { sessions = self.new; frame = told.frame; events = told.events }) }
+        ensures err { OnErr result (self.new ≡ self.old) }
+    {
+        let alloc = self.alloc;
+        let Some((held, set, mut state)) = self.table.take_out(key) else {
+            return Ok(quiet(alloc, None));
+        };
+        let flow = flow(ports, &set);
+        match progress::prepare_fire(&mut state, flow) {
+            Ok(()) => {}
+            Err(error) => {
+                self.table.put_back(held, set, state);
+                return Err(error);
+            }
+        }
+        let progress = progress::fire(state, flow, now);
+        let (station, copies) = (ports.station(), Copies::none(alloc));
+        Ok(settle(
+            alloc,
+            &mut self.table,
+            station,
+            held,
+            set,
+            true,
+            progress,
+            copies,
+        ))
+    }
+
+    /// Takes a port out of the set of the session of a key. A session whose set is then empty ends: the abort of a
+    /// connection is handed out. It takes no memory.
+    #[tactic(auto, using(crate::proofs::SessionMaps::session_maps))]
+    pub fn unbind(&mut self, key: Key, number: u64) -> Option<Frame>
+        ensures { unbound_at key number self.old ≡ record { sessions = self.new; frame = result; events = [] } }
+    {
+        let (held, set, state) = self.table.take_out(key)?;
+        let rest = set.without(number);
+        if rest.is_empty() {
+            self.table.end(held);
+            progress::close(state)
+        } else {
+            self.table.put_back(held, rest, state);
+            None
+        }
+    }
+}
+
+// A frame to be queued and nothing to tell.
+fn quiet(alloc: Global, frame: Option<Frame>) -> Told
+    ensures frame { result.frame ≡ frame }
+    ensures events { result.events ≡ [] }
+{
+    Told {
+        frame,
+        events: Events::none(alloc),
+    }
+}
+
+// Puts the session whose key is held back, or ends it.
+fn settle(
+    alloc: Global,
+    table: &mut SessionTable<PortSet>,
+    station: Address,
+    held: Held,
+    set: PortSet,
+    room: bool,
+    progress: Progress,
+    copies: Copies,
+) -> Told
+    requires held { IsHeld table.old held }
+    requires covered { IsCovered progress room set copies }
+    ensures { settled station held set room table.old progress ≡ record { sessions = table.new; frame = result.frame; events = result.events } }
+{
+    match progress {
+        Progress::On(state, frame) => {
+            table.put_back(held, set, state);
+            quiet(alloc, frame)
+        }
+        Progress::Complete(whole) => {
+            table.end(held);
+            conclude(alloc, station, &set, room, whole, copies)
+        }
+        Progress::Ended(frame) => {
+            table.end(held);
+            quiet(alloc, frame)
+        }
+    }
+}
+
+// Makes all the room that a step needs: for the copies of a message that it completes and gives, or for the next window.
+// An error changes nothing.
+fn make_room(
+    alloc: Global,
+    set: &PortSet,
+    state: &mut Incoming,
+    wire: &Wire,
+    room: bool,
+    flow: Flow,
+) -> Result<Copies, AllocError>
+    ensures ok { OnOk result (state.new ≡ prepared state.old wire.now room flow) }
+    ensures ready { OnOk result (IsPrepared state.new wire.now room flow) }
+    ensures count { IfOk result (λ copies. room ≡ true → completes_at state.new wire.now ≡ true → length copies ≡ length set.now - 1) }
+    ensures enough { IfOk result (λ copies. All (λ size. size ≡ size_of state.new) copies) }
+    ensures err { OnErr result (state.new ≡ state.old) }
+{
+    if room && progress::completes(state, wire) {
+        let copies = set.len().saturating_sub(1);
+        return Copies::make(alloc, copies, progress::size(state) as usize);
+    }
+    progress::prepare(state, wire, room, flow)?;
+    Ok(Copies::none(alloc))
+}
+
+// Gives a message that is complete, or refuses it where there is no room.
+fn conclude(
+    alloc: Global,
+    station: Address,
+    set: &PortSet,
+    room: bool,
+    whole: Whole,
+    copies: Copies,
+) -> Told
+    requires count { room ≡ true → length copies ≡ length set.now - 1 }
+    requires enough { All (λ size. whole_size whole ≤ size) copies }
+    ensures { (sessions : Inbound) → concluded station set.now room sessions whole ≡ record { sessions = sessions; frame = result.frame; events = result.events } }
+{
+    if !room {
+        return quiet(alloc, whole.refused());
+    }
+    let (message, frame) = whole.given();
+    Told {
+        frame,
+        events: give(alloc, station, set, message, copies),
+    }
+}
