@@ -1,0 +1,39 @@
+use Rattle.bus_script.proofs.RunSteps.{at_end, at_fault, at_line, at_error, at_write, faulty_long, faulty_line, too_many, keeps_same, reads_as, was_told}
+use Rattle.bus_script.proofs.running.run_script.Goals as goal
+
+pub returns-in-Ok-End : goal.returns-in-Ok-End
+returns-in-Ok-End g c =
+    let line = c.read_line.new.line.items in
+    at_end _ _ _ line _ _ _ _ _ c.lines.invariant (reads_as _ _ _ _ line c.in-Ok-End.field-0-is c.in-Ok-End.ensures.reads)
+
+pub returns-in-Ok-TooLong : goal.returns-in-Ok-TooLong
+returns-in-Ok-TooLong g c =
+    let line = c.read_line.new.line.items in
+    rw (c.failed.ensures, c.limit_fault.ensures) (at_fault _ _ _ _ _ _ _ _ _ c.lines.invariant
+    (faulty_long _ _ line c.lines.segment c.lines.number (reads_as _ _ _ _ line c.in-Ok-TooLong.field-0-is c.in-Ok-TooLong.ensures.reads)) (keeps_same _))
+
+pub returns-then-number-gt-MAX_LINES : goal.returns-then-number-gt-MAX_LINES
+returns-then-number-gt-MAX_LINES g c =
+    let line = c.read_line.new.line.items in
+    rw c.failed-then-number-gt-MAX_LINES.ensures (at_fault _ _ _ _ _ _ _ _ _ c.lines.invariant
+    (faulty_line _ _ line c.lines.segment c.lines.number _ (too_many _ _ _ c.if-number-gt-MAX_LINES.true) (reads_as _ _ _ _ line c.in-Ok-Line.field-0-is c.in-Ok-Line.ensures.reads)) (keeps_same _))
+
+pub returns-in-Err : goal.returns-in-Err
+returns-in-Err g c =
+    let line = c.read_line.new.line.items in
+    rw c.failed-in-Err.ensures (rw c.cause_of.ensures (at_error _ _ _ line _ _ _ _ _ _ _ _ c.in-Err.error c.lines.invariant (reads_as _ _ _ _ line c.in-Ok-Line.field-0-is c.in-Ok-Line.ensures.reads)
+    c.if-number-gt-MAX_LINES.false c.in-Ok-Line.ensures.short (rw c.as_slice.ensures.value at c.in-Err.ensures)))
+
+pub returns-in_default : goal.returns-in_default
+returns-in_default g c =
+    let line = c.read_line.new.line.items in
+    let obeyed = rw c.clear.ensures.items at (rw c.as_slice.ensures.value at c.in-Ok.ensures) in
+    rw c.failed-in_default.ensures (at_write _ _ _ line _ _ _ _ _ _ _ _ _ c.lines.invariant (reads_as _ _ _ _ line c.in-Ok-Line.field-0-is c.in-Ok-Line.ensures.reads)
+    c.if-number-gt-MAX_LINES.false c.in-Ok-Line.ensures.short (was_told _ _ _ _ _ _ c.or_refused-memory_refused.ensures obeyed) (rw c.as_slice-in-lines.ensures.value at c.in_default.ensures))
+
+pub lines-preserved : goal.lines-preserved
+lines-preserved g c =
+    let line = c.read_line.new.line.items in
+    let obeyed = rw c.clear.ensures.items at (rw c.as_slice.ensures.value at c.in-Ok.ensures) in
+    at_line _ _ _ line _ _ _ _ _ _ _ _ _ c.lines.invariant (reads_as _ _ _ _ line c.in-Ok-Line.field-0-is c.in-Ok-Line.ensures.reads)
+    c.if-number-gt-MAX_LINES.false c.in-Ok-Line.ensures.short (was_told _ _ _ _ _ _ c.or_refused-memory_refused.ensures obeyed) (rw c.as_slice-in-lines.ensures.value at c.in-Ok-tell.ensures)

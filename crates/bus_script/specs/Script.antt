@@ -1,0 +1,125 @@
+-- What a script prints, line by line, up to its fault.
+use Rattle.std.specs.Prelude.{◌≡◌, ℕ, ◌+◌, List, [], ◌∷◌, ◌++◌, length, Bool, true, ◌&&◌, ◌||◌, Option, Some, None, Result, Ok, Err, nat_lt, if◌then◌else◌, codes}
+use Rattle.bus_frame.specs.Frames.{CanFrame}
+use Rattle.pgn_ids.specs.declared.address.Address.{Address}
+use Rattle.segment_law.specs.Segment.{Segment, are_addresses, new_segment}
+use Rattle.segment_law.specs.Readers.{front_at}
+use Rattle.segment_law.specs.Calls.{applied}
+use Rattle.segment_law.specs.Drive.{driven, end_of, events_in}
+use Rattle.segment_law.specs.declared.call.Call.{Call}
+use Rattle.segment_law.specs.declared.call.Call.TheVariants.{Transmit, Inject}
+use Rattle.segment_law.specs.declared.refusal.Refusal.TheVariants.{BadAddresses}
+use Rattle.segment_law.specs.declared.reply.Reply.{Reply}
+use Rattle.segment_law.specs.declared.reply.Reply.TheVariants.{Done}
+use Rattle.bus_script.specs.Lines.{lines_of}
+use Rattle.bus_script.specs.Words.{words_of}
+use Rattle.bus_script.specs.Values.{◌>>=◌}
+use Rattle.bus_script.specs.Commands.{command_of}
+use Rattle.bus_script.specs.Printed.{line, refusal_text, reply_line, optional_put, event_lines, drive_lines, counts_line}
+use Rattle.bus_script.specs.declared.fault.Fault.{Fault}
+use Rattle.bus_script.specs.declared.fault.Fault.TheVariants.{TooManyLines, LineTooLong, NotAscii, NoStations, StationsTwice}
+use Rattle.bus_script.specs.declared.command.Command.{Command}
+use Rattle.bus_script.specs.declared.command.Command.TheVariants as commands
+use Rattle.bus_script.specs.declared.obeying.Told.{Told}
+use Rattle.bus_script.specs.declared.obeying.Told.TheVariants.{Answered, NoMemory}
+use Rattle.bus_script.specs.declared.values.LineError.{LineError}
+use Rattle.bus_script.specs.declared.values.LineError.TheVariants as errors
+
+abbrev pub is_ascii : List ℕ → Bool
+is_ascii [] = true
+is_ascii (b ∷ bs) = nat_lt b 128 && is_ascii bs
+
+-- the segment afterwards, where there is one, and what is printed
+abbrev pub Step : Type 0
+Step = Result (Option Segment × List ℕ) Fault
+
+-- the segment is made, or its addresses are refused
+abbrev pub made : List Address → Step
+made addresses =
+    if are_addresses addresses then Ok (Some (new_segment addresses), line (codes "done"))
+    else Ok (None, line (refusal_text BadAddresses))
+
+-- the frame that a call puts on the bus where it is done
+abbrev pub frame_put : Segment → Call → Option CanFrame
+frame_put s (Transmit station) = front_at s station
+frame_put s (Inject frame) = Some frame
+frame_put s _ = None
+
+-- what stands below the reply: the frame put, and the events
+abbrev pub below : Option CanFrame → Reply → List ℕ
+below put (Done events) = optional_put put ++ event_lines events
+below put _ = []
+
+abbrev pub called : Segment → Call → Step
+called s call = Ok (Some (applied s call).0, reply_line (applied s call).1 ++ below (frame_put s call) (applied s call).1)
+
+abbrev pub drove : Segment → (from to : Address) → (turns : ℕ) → Step
+drove s from to turns = let d = driven s from to turns in Ok (Some d.segment, drive_lines d.turns (end_of d) d.frames (events_in d.calls))
+
+-- a command to a segment that is there
+abbrev pub on_segment : Segment → Command → Step
+on_segment s (commands.Stations addresses) = Err StationsTwice
+on_segment s (commands.Call call) = called s call
+on_segment s (commands.Drive from to turns) = drove s from to turns
+on_segment s commands.Counts = Ok (Some s, counts_line s.counts)
+on_segment s (commands.Refused cause) = Ok (Some s, line (refusal_text cause))
+
+-- until the segment is made, each other command is a fault
+abbrev pub without_segment : Command → Step
+without_segment (commands.Stations addresses) = made addresses
+without_segment _ = Err NoStations
+
+unfoldable pub perform : Option Segment → Command → Step
+perform None command = without_segment command
+perform (Some s) command = on_segment s command
+
+-- a line without a word is passed over
+unfoldable pub obey_words : Option Segment → List (List ℕ) → Step
+obey_words s [] = Ok (s, [])
+obey_words s (name ∷ words) = do
+  command ← command_of name words
+  perform s command
+
+unfoldable pub obey_line : Option Segment → List ℕ → Step
+obey_line s text = if is_ascii text then obey_words s (words_of text) else Err NotAscii
+
+abbrev pub limit_fault : ℕ → Fault
+limit_fault n = if nat_lt 1000000 n then TooManyLines else LineTooLong
+
+-- line n of a script, within the limits
+unfoldable pub numbered_line : Option Segment → ℕ → List ℕ → Step
+numbered_line s n text = if nat_lt 1000000 n || nat_lt 8192 (length text) then Err (limit_fault n) else obey_line s text
+
+-- what is printed, and the fault with its line, where there is one
+pub record Outcome : Type 0 where
+  pub text : List ℕ
+  pub fault : Option (ℕ × Fault)
+
+abbrev pub then_rest : ℕ → Step → (Option Segment → Outcome) → Outcome
+then_rest n (Ok done) rest = record { text = done.1 ++ (rest done.0).text; fault = (rest done.0).fault }
+then_rest n (Err f) rest = record { text = []; fault = Some (n, f) }
+
+unfoldable pub outcome_from : Option Segment → ℕ → List (List ℕ) → Outcome
+outcome_from s n [] = record { text = []; fault = None }
+outcome_from s n (text ∷ texts) = then_rest n (numbered_line s n text) (λ t. outcome_from t (n + 1) texts)
+
+abbrev pub outcome : List ℕ → Outcome
+outcome script = outcome_from None 1 (lines_of script)
+
+-- How the code obeyed a line
+
+abbrev pub or_refused : Told → Bool → Bool
+or_refused Answered earlier = earlier
+or_refused NoMemory earlier = true
+
+-- what a step printed
+abbrev pub printed : Step → List ℕ
+printed (Ok done) = done.1
+printed (Err f) = []
+
+-- how a step went, from lines a to b and to the segment new
+abbrev pub Obeyed : Result Told LineError → Option Segment → List ℕ → List ℕ → Step → Type 0
+Obeyed (Ok Answered) new a b step = (step ≡ Ok (new, printed step)) × (b ≡ a ++ printed step)
+Obeyed (Ok NoMemory) new a b step = Unit {0}
+Obeyed (Err (errors.Fault f)) new a b step = step ≡ Err f
+Obeyed (Err errors.OutOfMemory) new a b step = Unit {0}

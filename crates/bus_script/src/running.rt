@@ -1,0 +1,179 @@
+//! A script, read and obeyed line by line.
+ghost use Rattle.std.specs.Prelude.{◌≡◌, ℕ, ◌≤◌, ◌<◌, IfSome, Some, None, ◌↔◌, MatchResult, Option};
+ghost use Rattle.std.specs.Io.KnownBytes.{Appends};
+ghost use Rattle.bus_script.specs.Script.{or_refused, limit_fault, outcome};
+ghost use Rattle.bus_script.specs.Ending.{cause_of, Ended, IsFront, fault_line, status_of};
+
+use crate::fault::Fault;
+use crate::lines::{LineRead, ReadError, read_line};
+use crate::obeying::{Told, obey_line};
+use crate::printing::put_all;
+use crate::values::LineError;
+use std::alloc::Global;
+use std::fmt;
+use std::io::{Read, Write};
+
+/// Why a script ended before its end.
+#[derive(Clone, Copy, Debug, PartialEq, Eq)]
+pub enum Cause {
+    /// The reader failed.
+    ReadFailed,
+    /// The writer failed.
+    WriteFailed,
+    /// Memory was refused outside a call.
+    OutOfMemory,
+    /// A line is wrong.
+    Fault(Fault),
+}
+
+/// Where a script ended before its end, and why. Lines count from 1.
+#[derive(Clone, Copy, Debug, PartialEq, Eq)]
+pub struct ScriptFault {
+    pub line: u64,
+    pub cause: Cause,
+}
+
+/// How a script ended.
+#[derive(Clone, Copy, Debug, PartialEq, Eq)]
+pub struct Ran {
+    /// Why it ended before its end, if it did.
+    pub fault: Option<ScriptFault>,
+    /// Whether a call found no memory.
+    pub memory_refused: bool,
+}
+
+/// The most lines that a script may have.
+const MAX_LINES: u64 = 1_000_000;
+
+impl Told {
+    /// Whether this or an earlier call was refused memory.
+    fn or_refused(self, earlier: bool) -> bool
+        ensures { result ≡ or_refused self earlier }
+    {
+        match self {
+            Told::Answered => earlier,
+            Told::NoMemory => true,
+        }
+    }
+}
+
+/// The fault of a line that is too long.
+fn limit_fault(line: u64) -> Fault
+    ensures { result ≡ limit_fault line }
+{
+    if line > MAX_LINES {
+        Fault::TooManyLines
+    } else {
+        Fault::LineTooLong
+    }
+}
+
+fn cause_of(error: LineError) -> Cause
+    ensures { result ≡ cause_of error }
+{
+    match error {
+        LineError::OutOfMemory => Cause::OutOfMemory,
+        LineError::Fault(fault) => Cause::Fault(fault),
+    }
+}
+
+fn failed(line: u64, cause: Cause, memory_refused: bool) -> Ran
+    ensures { result ≡ record { fault = Some (record { line = line; cause = cause }); memory_refused = memory_refused } }
+{
+    Ran {
+        fault: Some(ScriptFault { line, cause }),
+        memory_refused,
+    }
+}
+
+/// Writes a text at once and flushes it, so that who reads it has it before the next line is read.
+#[tactic(auto, using(crate::proofs::Known::front_of_part, crate::proofs::Known::front_of_all, crate::proofs::Known::appends_keeps))]
+fn tell<W: Write>(writer: &mut W, text: &[u8]) -> Result<(), ()>
+    ensures { MatchResult result (λ _. Appends (W.contents writer.old) (W.contents writer.new) text.now)
+        (λ _. IsFront (W.contents writer.old) (W.contents writer.new) text.now) }
+{
+    if text.is_empty() {
+        return Ok(());
+    }
+    let Ok(()) = put_all(writer, text) else {
+        return Err(());
+    };
+    let Ok(()) = writer.flush() else {
+        return Err(());
+    };
+    Ok(())
+}
+
+/// Runs a script: reads its lines to the end of the input, obeys each, and writes and flushes what is printed for it before
+/// the next line is read. It ends at the first fault, at 1,000,001 lines at the latest.
+///
+/// Where no read or write failed and no memory was refused, exactly the text of the script was written, and the fault is the
+/// script's. Where a read or a write failed, or memory was refused outside a call, a front of that text was written. A call
+/// that finds no memory prints `no memory`, and the run goes on.
+pub fn run_script<R: Read, W: Write>(alloc: Global, reader: &mut R, writer: &mut W) -> Ran
+    ensures { IfSome (R.remaining reader.old) (λ script.
+        Ended result (W.contents writer.old) (W.contents writer.new) (outcome script)) }
+{
+    let mut segment = None;
+    let mut memory_refused = false;
+    let mut line = Vec::new(alloc);
+    let mut out = Vec::new(alloc);
+    let mut number = 1;
+    'lines: loop {
+        match read_line(reader, &mut line) {
+            Ok(LineRead::End) => {
+                return Ran {
+                    fault: None,
+                    memory_refused,
+                };
+            }
+            Ok(LineRead::TooLong) => {
+                return failed(number, Cause::Fault(limit_fault(number)), memory_refused);
+            }
+            Ok(LineRead::Line) => {}
+            Err(ReadError::Failed) => return failed(number, Cause::ReadFailed, memory_refused),
+            Err(ReadError::OutOfMemory) => {
+                return failed(number, Cause::OutOfMemory, memory_refused);
+            }
+        }
+        if number > MAX_LINES {
+            return failed(number, Cause::Fault(Fault::TooManyLines), memory_refused);
+        }
+        out.clear();
+        let told = match obey_line(alloc, &mut segment, line.as_slice(), &mut out) {
+            Ok(told) => told,
+            Err(error) => return failed(number, cause_of(error), memory_refused),
+        };
+        memory_refused = told.or_refused(memory_refused);
+        let Ok(()) = tell(writer, out.as_slice()) else {
+            return failed(number, Cause::WriteFailed, memory_refused);
+        };
+        number += 1;
+    }
+}
+
+impl fmt::Display for ScriptFault {
+    ghost output = { λ f. Some (fault_line f) };
+
+    fn fmt<W: fmt::Write>(&self, f: &mut fmt::Formatter<W>) -> fmt::Result {
+        let line = self.line;
+        match self.cause {
+            Cause::ReadFailed => write!(f, "line {line}: read failed"),
+            Cause::WriteFailed => write!(f, "write failed"),
+            Cause::OutOfMemory => write!(f, "line {line}: out of memory"),
+            Cause::Fault(fault) => write!(f, "line {line}: {fault}"),
+        }
+    }
+}
+
+impl Ran {
+    /// The status of a program that ran this script: 0 where it ran to its end, else 1.
+    pub fn status(&self) -> u8
+        ensures { result ≡ status_of self.now }
+    {
+        match self.fault {
+            None => 0,
+            Some(_) => 1,
+        }
+    }
+}

@@ -1,0 +1,435 @@
+//! Scripts with their exact text. A run that is refused memory is made again, so that the tests pass whichever one allocation
+//! is refused.
+use crate::running::{Cause, Ran, run_script};
+use std::alloc::Global;
+use std::cell::Cell;
+use std::io;
+use std::io::{Error, ErrorKind, Read, Write};
+use std::process::Abort;
+use std::test::Fail;
+
+/// Runs a script; once more where memory was refused, of which the text printed until then may tell nothing false.
+fn ran(rt: &impl Abort, alloc: Global, script: &[u8], out: &mut Vec<u8>, text: &str) -> Ran {
+    let mut reader = script;
+    let first = run_script(alloc, &mut reader, out);
+    let refused = first
+        .fault
+        .is_some_and(|fault| fault.cause == Cause::OutOfMemory);
+    if refused && !first.memory_refused {
+        assert!(rt; text.as_bytes().starts_with(out.as_slice()));
+    }
+    if !refused && !first.memory_refused {
+        return first;
+    }
+    out.clear();
+    let mut reader = script;
+    run_script(alloc, &mut reader, out)
+}
+
+/// A script prints a text, and its fault is told by a line.
+fn shows(
+    rt: &impl Abort,
+    alloc: Global,
+    script: &[u8],
+    text: &str,
+    fault: &str,
+) -> Result<(), Fail> {
+    let mut out = Vec::new(alloc);
+    let ran = ran(rt, alloc, script, &mut out, text);
+    assert_eq!(rt; out.as_slice(), text.as_bytes());
+    match ran.fault {
+        None => {
+            assert_eq!(rt; ran.status(), 0);
+            assert_eq!(rt; fault, "");
+        }
+        Some(told) => {
+            assert_eq!(rt; ran.status(), 1);
+            let told = format!(in alloc; "{told}")?;
+            assert_eq!(rt; told.as_str(), fault);
+        }
+    }
+    Ok(())
+}
+
+const REFUSALS: (&str, &str) = (
+    "stations 21 35\n\
+open 35 FECA 4000\n\
+send 21 35 FECA 0102030405060708\n\
+send 21 35 FECA fill 0\n\
+send 21 FF FECA fill 1786\n\
+send 21 21 FECA 010203040506070809\n\
+send 21 FE FECA 010203040506070809\n",
+    "done\n\
+opened 35.1\n\
+refused 15 TooShort\n\
+refused 15 TooShort\n\
+refused 16 TooLong\n\
+refused 17 SameStation\n\
+refused 14 NoSuchStation\n",
+);
+
+const CLOSING: (&str, &str) = (
+    "stations 21 35\n\
+open 35 FECA 4000\n\
+send 21 35 FECA 010203040506070809\n\
+drive 21 35 2\n\
+pump 21 35\n\
+transmit 21\n\
+transmit 21\n\
+take 35\n\
+close 35.1\n\
+transmit 35\n\
+open 35 FECA 4000\n\
+take 35\n\
+take 21\n\
+take 21\n\
+take 21\n\
+close 35.1\n",
+    "done\n\
+opened 35.1\n\
+sent 1\n\
+drove 2 turns\n\
+\x20\x20put 1CEC3521 10 09 00 02 FF CA FE 00\n\
+\x20\x20put 1CEC2135 11 02 01 FF FF CA FE 00\n\
+done\n\
+done\n\
+\x20\x20put 1CEB3521 01 01 02 03 04 05 06 07\n\
+done\n\
+\x20\x20put 1CEB3521 02 08 09 FF FF FF FF FF\n\
+done\n\
+done\n\
+done\n\
+\x20\x20put 1CEC2135 FF 02 FF FF FF CA FE 00\n\
+opened 35.2\n\
+done\n\
+done\n\
+done\n\
+done\n\
+\x20\x20outcome 21 35 1 Aborted 2\n\
+refused 12 NoSuchPort\n",
+);
+
+const TIMES: (&str, &str) = (
+    "stations 21 35\n\
+open 35 FECA 4000\n\
+send 21 35 FECA 010203040506070809\n\
+pump 21 35\n\
+tick 1249\n\
+fire 21\n\
+tick 1\n\
+fire 21\n\
+again 35\n\
+transmit 35\n",
+    "done\n\
+opened 35.1\n\
+sent 1\n\
+done\n\
+done\n\
+refused 20 NothingDue\n\
+done\n\
+done\n\
+\x20\x20outcome 21 35 1 TimedOut\n\
+refused 19 NothingToRepeat\n\
+refused 21 NothingToSend\n",
+);
+
+const SEVERAL_PORTS: (&str, &str) = (
+    "stations 21 35\n\
+open 35 FECA 4000\n\
+open 35 FECA 8\n\
+open 35 FECA 4000\n\
+send 21 35 FECA 010203040506070809\n\
+drive 21 35 5\n\
+send 21 35 FECA 010203040506070809\n\
+drive 21 35 2\n\
+pump 21 35\n\
+transmit 21\n\
+transmit 21\n\
+take 35\n\
+close 35.1\n\
+transmit 35\n\
+take 35\n",
+    "done\n\
+opened 35.1\n\
+opened 35.2\n\
+opened 35.3\n\
+sent 1\n\
+drove 5 turns\n\
+\x20\x20put 1CEC3521 10 09 00 02 FF CA FE 00\n\
+\x20\x20put 1CEC2135 11 02 01 FF FF CA FE 00\n\
+\x20\x20put 1CEB3521 01 01 02 03 04 05 06 07\n\
+\x20\x20put 1CEB3521 02 08 09 FF FF FF FF FF\n\
+\x20\x20put 1CEC2135 13 09 00 02 FF CA FE 00\n\
+\x20\x20given 35.1 21 35 0FECA 9 010203040506070809\n\
+\x20\x20given 35.3 21 35 0FECA 9 010203040506070809\n\
+\x20\x20outcome 21 35 1 Acknowledged\n\
+sent 2\n\
+drove 2 turns\n\
+\x20\x20put 1CEC3521 10 09 00 02 FF CA FE 00\n\
+\x20\x20put 1CEC2135 11 02 01 FF FF CA FE 00\n\
+done\n\
+done\n\
+\x20\x20put 1CEB3521 01 01 02 03 04 05 06 07\n\
+done\n\
+\x20\x20put 1CEB3521 02 08 09 FF FF FF FF FF\n\
+done\n\
+done\n\
+refused 21 NothingToSend\n\
+done\n\
+\x20\x20given 35.3 21 35 0FECA 9 010203040506070809\n",
+);
+
+#[test]
+fn scripts_print_their_text(rt: HostRuntime) -> Result<(), Fail> {
+    let alloc = rt.alloc();
+    for (script, text) in [REFUSALS, CLOSING, TIMES, SEVERAL_PORTS] {
+        shows(&rt, alloc, script.as_bytes(), text, "")?;
+    }
+    Ok(())
+}
+
+#[test]
+fn a_connection_is_counted(rt: HostRuntime) -> Result<(), Fail> {
+    let script =
+        b"\nstations 35  21\n open 35 feca 1785 \nsend 21 35 FECA fill 9\ndrive 21 35 9\ncounts";
+    let text = "done\nopened 35.1\nsent 1\ndrove 5 idle\n\
+        \x20 put 1CEC3521 10 09 00 02 FF CA FE 00\n\
+        \x20 put 1CEC2135 11 02 01 FF FF CA FE 00\n\
+        \x20 put 1CEB3521 01 01 02 03 04 05 06 07\n\
+        \x20 put 1CEB3521 02 08 09 FF FF FF FF FF\n\
+        \x20 put 1CEC2135 13 09 00 02 FF CA FE 00\n\
+        \x20 given 35.1 21 35 0FECA 9 010203040506070809\n\
+        \x20 outcome 21 35 1 Acknowledged\n\
+        frames 5 malformed 0 repeated 0 given 1 Acknowledged 1 Broadcast 0 Aborted 0 TimedOut 0 Overrun 0 Cancelled 0 \
+        Unreachable 0\n";
+    shows(&rt, rt.alloc(), script, text, "")
+}
+
+#[test]
+fn a_refused_value_makes_no_call(rt: HostRuntime) -> Result<(), Fail> {
+    let script = b"stations 21 FE\nstations 21 35\nopen 35 EC21 1\nsend 21 FF 40000 fill 9\n\
+        inject 20000000 00\ninject FFFFFFFF 000102030405060708\ninject 1CEC3580 000102030405060708\ncounts\n";
+    let text = "refused 13 BadAddresses\ndone\nrefused 3 BadPgn\nrefused 3 BadPgn\n\
+        refused 1 IdTooLarge\nrefused 1 IdTooLarge\nrefused 2 DataTooLong\n\
+        frames 0 malformed 0 repeated 0 given 0 Acknowledged 0 Broadcast 0 Aborted 0 TimedOut 0 Overrun 0 Cancelled 0 \
+        Unreachable 0\n";
+    shows(&rt, rt.alloc(), script, text, "")
+}
+
+#[test]
+fn each_fault_has_its_line(rt: HostRuntime) -> Result<(), Fail> {
+    let alloc = rt.alloc();
+    let first_lines: [(&[u8], &str); 22] = [
+        (b"tick \xC3\xA9", "line 1: not ASCII"),
+        (b"Tick 1", "line 1: unknown command"),
+        (b"\n \n\nlive", "line 4: unknown command"),
+        (b"stations", "line 1: wrong number of words"),
+        (b"open GG FECA", "line 1: wrong number of words"),
+        (b"counts 1", "line 1: wrong number of words"),
+        (b"take 21 noroom noroom", "line 1: wrong number of words"),
+        (b"open 35 GECA 1", "line 1: bad word"),
+        (b"open 035 FECA 1", "line 1: bad word"),
+        (b"open 35 FECA 4294967296", "line 1: bad word"),
+        (b"tick 18446744073709551616", "line 1: bad word"),
+        (b"tick -1", "line 1: bad word"),
+        (b"take 21 room", "line 1: bad word"),
+        (b"send 21 FF FECA 010", "line 1: bad word"),
+        (b"send 21 FF FECA fill", "line 1: bad word"),
+        (b"send 21 FF FECA fil 9", "line 1: bad word"),
+        (b"send 21 FF FECA fill 117440507", "line 1: bad word"),
+        (b"close 35", "line 1: bad word"),
+        (b"close 35.", "line 1: bad word"),
+        (b"close 35.1.1", "line 1: bad word"),
+        (b"tick 1", "line 1: no stations"),
+        (b"open 35 EC21 1", "line 1: no stations"),
+    ];
+    for (script, fault) in first_lines {
+        shows(&rt, alloc, script, "", fault)?;
+    }
+    for script in [
+        "stations 21\nstations 21",
+        "stations 21\nstations FE\ntick 1",
+    ] {
+        shows(
+            &rt,
+            alloc,
+            script.as_bytes(),
+            "done\n",
+            "line 2: stations twice",
+        )?;
+    }
+    Ok(())
+}
+
+/// So many bytes, each the same.
+fn many(alloc: Global, byte: u8, count: usize) -> Result<Vec<u8>, Fail> {
+    let mut bytes = Vec::new(alloc);
+    if bytes.reserve(count).is_err() {
+        bytes.reserve(count)?;
+    }
+    bytes.resize(count, byte)?;
+    Ok(bytes)
+}
+
+#[test]
+fn lines_have_their_limits(rt: HostRuntime) -> Result<(), Fail> {
+    let alloc = rt.alloc();
+    let mut script = many(alloc, b' ', 8192)?;
+    shows(&rt, alloc, script.as_slice(), "", "")?;
+    script.push(b' ')?;
+    shows(&rt, alloc, script.as_slice(), "", "line 1: line too long")?;
+    let mut script = many(alloc, b'\n', 1_000_000)?;
+    shows(&rt, alloc, script.as_slice(), "", "")?;
+    script.push(b'x')?;
+    shows(
+        &rt,
+        alloc,
+        script.as_slice(),
+        "",
+        "line 1000001: too many lines",
+    )?;
+    let long = many(alloc, b' ', 8193)?;
+    script.extend_from_slice(long.as_slice())?;
+    shows(
+        &rt,
+        alloc,
+        script.as_slice(),
+        "",
+        "line 1000001: too many lines",
+    )
+}
+
+/// Gives its text a few bytes at a time, and fails where it ends.
+#[derive(Drop)]
+struct Breaking<'a> {
+    text: &'a [u8],
+}
+
+impl Read for Breaking<'_> {
+    fn read(&mut self, buf: &mut [u8]) -> io::Result<usize> {
+        if self.text.is_empty() {
+            return Err(Error::from(ErrorKind::Other));
+        }
+        self.text.read(buf)
+    }
+}
+
+#[test]
+fn a_failed_read_ends_the_script(rt: HostRuntime) -> Result<(), Fail> {
+    let alloc = rt.alloc();
+    let mut out = Vec::new(alloc);
+    let mut reader = Breaking {
+        text: b"stations 21\ntick 5\nti",
+    };
+    let ran = run_script(alloc, &mut reader, &mut out);
+    let fault = ran.fault.expect(&rt, "a fault");
+    if fault.cause != Cause::OutOfMemory {
+        assert_eq!(rt; fault.cause, Cause::ReadFailed);
+        assert_eq!(rt; fault.line, 3);
+        assert_eq!(rt; ran.status(), 1);
+        let told = format!(in alloc; "{fault}")?;
+        assert_eq!(rt; told.as_str(), "line 3: read failed");
+    }
+    Ok(())
+}
+
+/// Takes so many writes, and fails then; it holds what it took.
+#[derive(Drop)]
+struct Failing {
+    writes: u64,
+    taken: Vec<u8>,
+}
+
+impl Write for Failing {
+    fn write(&mut self, buf: &[u8]) -> io::Result<usize> {
+        if self.writes == 0 {
+            return Err(Error::from(ErrorKind::StorageFull));
+        }
+        self.writes -= 1;
+        self.taken.write(buf)
+    }
+
+    fn flush(&mut self) -> io::Result<()> {
+        Ok(())
+    }
+}
+
+#[test]
+fn a_failed_write_ends_the_script(rt: HostRuntime) -> Result<(), Fail> {
+    let alloc = rt.alloc();
+    let mut writer = Failing {
+        writes: 1,
+        taken: Vec::new(alloc),
+    };
+    let script = b"stations 21\n\ntick 5\ntick 6";
+    let ran = run_script(alloc, &mut script.as_slice(), &mut writer);
+    let fault = ran.fault.expect(&rt, "a fault");
+    if fault.cause != Cause::OutOfMemory && !ran.memory_refused {
+        assert_eq!(rt; fault.cause, Cause::WriteFailed);
+        assert_eq!(rt; ran.status(), 1);
+        let told = format!(in alloc; "{fault}")?;
+        assert_eq!(rt; told.as_str(), "write failed");
+        assert_eq!(rt; writer.taken.as_slice(), b"done\n".as_slice());
+    }
+    Ok(())
+}
+
+/// Gives a line only where all replies to the lines before were flushed.
+#[derive(Drop)]
+struct Asking<'a> {
+    text: &'a [u8],
+    owed: &'a Cell<u64>,
+}
+
+impl Read for Asking<'_> {
+    fn read(&mut self, buf: &mut [u8]) -> io::Result<usize> {
+        if self.owed.get() > 0 {
+            return Err(Error::from(ErrorKind::Other));
+        }
+        let Some((byte, rest)) = self.text.split_first() else {
+            return Ok(0);
+        };
+        let Some(place) = buf.first_mut() else {
+            return Ok(0);
+        };
+        *place = *byte;
+        self.text = rest;
+        if *byte == b'\n' {
+            self.owed.set(1);
+        }
+        Ok(1)
+    }
+}
+
+/// Counts a flush as the reply that is owed.
+#[derive(Drop)]
+struct Answering<'a> {
+    owed: &'a Cell<u64>,
+}
+
+impl Write for Answering<'_> {
+    fn write(&mut self, buf: &[u8]) -> io::Result<usize> {
+        Ok(buf.len())
+    }
+
+    fn flush(&mut self) -> io::Result<()> {
+        self.owed.set(0);
+        Ok(())
+    }
+}
+
+#[test]
+fn a_reply_is_flushed_before_the_next_line_is_read(rt: HostRuntime) -> Result<(), Fail> {
+    let owed = Cell::new(0);
+    let mut reader = Asking {
+        text: b"stations 21\ntick 5\ntick 6\n",
+        owed: &owed,
+    };
+    let mut writer = Answering { owed: &owed };
+    let ran = run_script(rt.alloc(), &mut reader, &mut writer);
+    let refused = ran
+        .fault
+        .is_some_and(|fault| fault.cause == Cause::OutOfMemory);
+    assert!(rt; refused || ran.fault.is_none());
+    Ok(())
+}

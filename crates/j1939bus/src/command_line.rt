@@ -1,0 +1,14 @@
+//! The command line.
+
+use clap::{Command, Error};
+use std::alloc::Global;
+
+/// Reads the words of a command line, of which the first names the program. There is nothing to choose yet: whatever else is
+/// asked for is refused, and so is help, whose text is the error.
+pub(crate) fn read_command_line(alloc: Global, words: &[String]) -> Result<(), Error> {
+    let _matches = Command::new(alloc, "j1939bus")
+        .version("0.1.0")
+        .about("Runs the script of standard input, and prints the reply to each line")
+        .try_get_matches_from(words)?;
+    Ok(())
+}

@@ -1,0 +1,177 @@
+-- The segment that is kept, after a call of one station.
+use Rattle.std.proofs.Common.{◌≡◌, ℕ, ◌+◌, ◌<◌, ◌≤◌, Bool, true, false, cond, not, List, [], length, set, get_or, Option, Some, None, Result, Ok, Err, refl, sym, ap, ◌∙◌, subst, arith, rules, length-set}
+use Rattle.std.specs.Prelude.{slice_get}
+use Rattle.std.specs.Vec.{with_item}
+use Rattle.std.proofs.lemmas.List.{set-get_or}
+use Rattle.std.proofs.lemmas.Option.{slice_get_read, same_Some}
+use Rattle.bus_frame.specs.Frames.{CanFrame}
+use Rattle.bus_order.specs.Bus as bus
+use Rattle.tx_queue.specs.Queue.{free_places}
+use Rattle.std.proofs.lemmas.Bool.{eqb-true}
+use Rattle.segment_law.specs.declared.counts.Counts.{Counts}
+use Rattle.pgn_ids.specs.declared.address.Address.{Address}
+use Rattle.port_table.specs.Ports.{Ports, is_open, are_full, opening, with_port, next_id}
+use Rattle.port_table.specs.declared.port.PortsFull.{PortsFull}
+use Rattle.station_lanes.specs.declared.event.Event.{Event}
+use Rattle.station_core.specs.Station.{Station, StationStep}
+use Rattle.station_core.specs.Taking.{is_malformed_for, taken}
+use Rattle.station_core.specs.Closing.{closed}
+use Rattle.station_core.specs.Timers.{is_due, fired}
+use Rattle.station_core.specs.Taking as taking
+use Rattle.segment_law.specs.Readers.{frame_for, wanted_with}
+use Rattle.segment_core.specs.Looks.{firing_refusal}
+use Rattle.segment_law.specs.Segment.{Segment, place_of, with_station, counted, counted_look, counted_repeat}
+use Rattle.segment_law.specs.Calls.{Answer, at_address, stepped, no_place, looks, opens, closes, fires, takes_by, takes, repeats_by, repeats}
+use Rattle.segment_law.specs.declared.reply.Reply.{Reply}
+use Rattle.segment_law.specs.declared.reply.Reply.TheVariants.{Done, Opened}
+use Rattle.segment_law.specs.declared.refusal.Refusal.{Refusal}
+use Rattle.segment_law.specs.declared.refusal.Refusal.TheVariants.{NoSuchPort, TxFull, NothingDue, PortsFull as PortsFullCause}
+use Rattle.segment_core.specs.SegmentFields.{segment_value, IsSegmentInside}
+use Rattle.segment_core.specs.declared.segment.Segment.TheInside.{Inside}
+use Rattle.segment_core.proofs.Stations.{at_is, places_kept}
+
+-- a station that keeps its address leaves all as it is to be
+pub inside_kept : (s : Inside) (i : ℕ) (st old : Station) → IsSegmentInside s → old ≡ get_or s.stations.items i old → st.address ≡ old.address → IsSegmentInside (record s { stations = with_item s.stations i st })
+inside_kept s i st old h is same =
+    let long : length (set s.stations.items i st) ≡ length s.stations.items = length-set s.stations.items i st in
+    record {
+      few = omega (arith, long, h.few);
+      cursors = h.cursors ∙ sym long;
+      places = places_kept s.places s.stations.items i st old h.places is same;
+    }
+
+-- and so does a bus with as many cursors
+pub inside_moved : (s : Inside) (i : ℕ) (st old : Station) (b : bus.Bus) → IsSegmentInside s → old ≡ get_or s.stations.items i old → st.address ≡ old.address → length b.cursors ≡ length s.bus.cursors → IsSegmentInside (record s { stations = with_item s.stations i st; bus = b })
+inside_moved s i st old b h is same cursors =
+    let long : length (set s.stations.items i st) ≡ length s.stations.items = length-set s.stations.items i st in
+    record {
+      few = omega (arith, long, h.few);
+      cursors = cursors ∙ h.cursors ∙ sym long;
+      places = places_kept s.places s.stations.items i st old h.places is same;
+    }
+
+-- a call of the station that stands there
+pub at_here : (s : Inside) (seg : Segment) (a : Address) (i : ℕ) (old : Station) (call : ℕ → Station → Answer) → segment_value s ≡ seg → Some i ≡ place_of seg a → i < length seg.stations → old ≡ get_or s.stations.items i old → at_address seg a call ≡ call i old
+at_here s seg a i old call view here within is =
+    at_is seg a i old call (sym here) (slice_get_read seg.stations (length seg.stations) i old refl within (is ∙ ap (λ (x : Segment). get_or x.stations i old) view))
+
+abbrev pub said : Segment → Reply → Answer
+said seg reply = Ok (seg, reply)
+
+abbrev pub refused : Refusal → Answer
+refused cause = Err cause
+
+pub closes_open : (seg : Segment) (number i : ℕ) (st : Station) → is_open st.ports number ≡ true → closes seg number i st ≡ said (with_station seg i (closed st number)) (Done [])
+closes_open seg number i st isopen = by (is_open st.ports number) isopen
+  where
+    by : (b : Bool) → b ≡ true → cond (not b) (refused NoSuchPort) (said (with_station seg i (closed st number)) (Done [])) ≡ said (with_station seg i (closed st number)) (Done [])
+    by true e = refl
+    by false e = absurd cc
+
+-- a step of it, with a reply
+pub stepped_view : (s : Inside) (seg : Segment) (i : ℕ) (st new : Station) (reply told : Reply) → segment_value s ≡ seg → new ≡ st → told ≡ reply → said (with_station seg i st) reply ≡ said (segment_value (record s { stations = with_item s.stations i new })) told
+stepped_view s seg i st new reply told view same says = λ k. said (with_station (sym view k) i (sym same k)) (sym says k)
+
+-- a station that is as it was
+pub unchanged_view : (s : Inside) (seg : Segment) (i : ℕ) (st old : Station) → segment_value s ≡ seg → st ≡ old → old ≡ get_or s.stations.items i old → segment_value (record s { stations = with_item s.stations i st }) ≡ seg
+unchanged_view s seg i st old view same is =
+    let put_back : set s.stations.items i st ≡ s.stations.items = ap (λ (x : Station). set s.stations.items i x) (same ∙ is) ∙ set-get_or s.stations.items i old in
+    (λ k. record (segment_value s) { stations = put_back k }) ∙ view
+
+-- a Take
+pub takes_is : (seg : Segment) (room : Bool) (i : ℕ) (st : Station) (frame : CanFrame) (step : StationStep) → Some frame ≡ bus.next_frame seg.bus i → no_place st ≡ false → taken st frame room seg.now ≡ step
+    → takes seg room i st ≡ Ok (record { now = seg.now; stations = set seg.stations i step.station; bus = bus.released (bus.taken seg.bus i); counts = counted (counted_look seg.counts (is_malformed_for st frame)) step.events }, Done step.events)
+takes_is seg room i st frame step next place is =
+    ap (takes_by seg room i st) (sym next)
+    ∙ ap (λ b. cond b (Err TxFull) (looks (record seg { bus = bus.released (bus.taken seg.bus i) }) room i st frame)) place
+    ∙ ap (stepped (record seg { bus = bus.released (bus.taken seg.bus i); counts = counted_look seg.counts (is_malformed_for st frame) }) i) is
+
+pub takes_full : (seg : Segment) (room : Bool) (i : ℕ) (st : Station) (frame : CanFrame) → Some frame ≡ bus.next_frame seg.bus i → no_place st ≡ true → takes seg room i st ≡ Err TxFull
+takes_full seg room i st frame next full =
+    ap (takes_by seg room i st) (sym next) ∙ ap (λ b. cond b (Err TxFull) (looks (record seg { bus = bus.released (bus.taken seg.bus i) }) room i st frame)) full
+
+-- a TakeAgain
+pub repeats_is : (seg : Segment) (room : Bool) (i : ℕ) (st : Station) (frame : CanFrame) (step : StationStep) → Some frame ≡ bus.frame_again seg.bus i → no_place st ≡ false → taken st frame room seg.now ≡ step
+    → repeats seg room i st ≡ Ok (record { now = seg.now; stations = set seg.stations i step.station; bus = seg.bus; counts = counted (counted_look (counted_repeat seg.counts) (is_malformed_for st frame)) step.events }, Done step.events)
+repeats_is seg room i st frame step again place is =
+    ap (repeats_by seg room i st) (sym again)
+    ∙ ap (λ b. cond b (Err TxFull) (looks (record seg { counts = counted_repeat seg.counts }) room i st frame)) place
+    ∙ ap (stepped (record seg { counts = counted_look (counted_repeat seg.counts) (is_malformed_for st frame) }) i) is
+
+pub repeats_full : (seg : Segment) (room : Bool) (i : ℕ) (st : Station) (frame : CanFrame) → Some frame ≡ bus.frame_again seg.bus i → no_place st ≡ true → repeats seg room i st ≡ Err TxFull
+repeats_full seg room i st frame again full =
+    ap (repeats_by seg room i st) (sym again) ∙ ap (λ b. cond b (Err TxFull) (looks (record seg { counts = counted_repeat seg.counts }) room i st frame)) full
+
+-- a firing
+pub fires_is : (seg : Segment) (i : ℕ) (st : Station) (step : StationStep) → firing_refusal st seg.now ≡ None → fired st seg.now ≡ step → fires seg i st ≡ stepped seg i step
+fires_is seg i st step due is = by (is_due st seg.now) (no_place st) due ∙ ap (stepped seg i) is
+  where
+    by : (d p : Bool) → cond (not d) (Some NothingDue) (cond p (Some TxFull) None) ≡ None → cond (not d) (Err NothingDue) (cond p (Err TxFull) (stepped seg i (fired st seg.now))) ≡ stepped seg i (fired st seg.now)
+    by true false e = refl
+    by true true e = absurd cc
+    by false p e = absurd cc
+
+pub fires_refused : (seg : Segment) (i : ℕ) (st : Station) (cause : Refusal) → firing_refusal st seg.now ≡ Some cause → fires seg i st ≡ Err cause
+fires_refused seg i st cause due = by (is_due st seg.now) (no_place st) due
+  where
+    by : (d p : Bool) → cond (not d) (Some NothingDue) (cond p (Some TxFull) None) ≡ Some cause → cond (not d) (Err NothingDue) (cond p (Err TxFull) (stepped seg i (fired st seg.now))) ≡ Err cause
+    by true false e = absurd cc
+    by true true e = ap Err (search (rules, e))
+    by false p e = ap Err (search (rules, e))
+
+-- a step that is told and counted
+pub told_view : (s : Inside) (seg : Segment) (i : ℕ) (new : Station) (events : List Event) (after : Segment) (told : Reply) → segment_value s ≡ seg → after ≡ record (segment_value (record s { stations = with_item s.stations i new })) { counts = counted s.counts events } → told ≡ Done events
+    → stepped seg i (record { station = new; events = events }) ≡ Ok (after, told)
+told_view s seg i new events after told view is says =
+    ap (λ (x : Segment). stepped x i (record { station = new; events = events })) (sym view) ∙ (λ k. said (sym is k) (sym says k))
+
+-- an opening
+pub opens_is : (seg : Segment) (pgn max_len i : ℕ) (st : Station) (ports : Ports) → opening st.ports pgn max_len ≡ Ok ports → opens seg pgn max_len i st ≡ Ok (with_station seg i (record st { ports = with_port st.ports pgn max_len }), Opened (next_id st.ports))
+opens_is seg pgn max_len i st ports e = by (are_full st.ports) e
+  where
+    done : Answer
+    done = said (with_station seg i (record st { ports = with_port st.ports pgn max_len })) (Opened (next_id st.ports))
+
+    full : Answer
+    full = Err PortsFullCause
+
+    tried : Bool → Result Ports PortsFull
+    tried b = cond b (Err (record {})) (Ok (with_port st.ports pgn max_len))
+
+    by : (b : Bool) → tried b ≡ Ok ports → cond b full done ≡ done
+    by true x = absurd cc
+    by false x = refl
+
+-- the stations at one place
+pub same_item : (xs : List Station) (i : ℕ) (a b : Station) → i < length xs → a ≡ get_or xs i a → b ≡ get_or xs i b → a ≡ b
+same_item xs i a b within x y = same_Some a b (sym (slice_get_read xs (length xs) i a refl within x) ∙ slice_get_read xs (length xs) i b refl within y)
+
+-- what a station wants
+pub wanted_is : (seg : Segment) (i : ℕ) (st : Station) (frame : CanFrame) (again : Bool) → slice_get seg.stations i ≡ Some st → frame_for seg again i ≡ Some frame → no_place st ≡ false → wanted_with (slice_get seg.stations i) (frame_for seg again i) ≡ taking.wanted st frame
+wanted_is seg i st frame again there next place = (λ k. wanted_with (there k) (next k)) ∙ ap (λ b. cond b ([], 0) (taking.wanted st frame)) place
+
+pub place_there : (n : ℕ) (st : Station) → n ≡ free_places st.queue → (n ≡ 0 → ⊥) → no_place st ≡ false
+place_there n st is some = by (no_place st) refl
+  where
+    by : (b : Bool) → no_place st ≡ b → b ≡ false
+    by true e = absurd (some (is ∙ eqb-true (free_places st.queue) 0 e))
+    by false e = refl
+
+-- a Take that is told and counted
+pub taken_view : (s : Inside) (seg : Segment) (i : ℕ) (st : Station) (frame : CanFrame) (new : Station) (events : List Event) (malformed : Bool) (moved left : bus.Bus) (after : Segment) (told : Reply) → segment_value s ≡ seg → malformed ≡ is_malformed_for st frame → moved ≡ bus.taken s.bus i → left ≡ bus.released moved
+    → after ≡ record (segment_value (record s { stations = with_item s.stations i new; bus = left })) { counts = counted (counted_look s.counts malformed) events } → told ≡ Done events
+    → said (record { now = seg.now; stations = set seg.stations i new; bus = bus.released (bus.taken seg.bus i); counts = counted (counted_look seg.counts (is_malformed_for st frame)) events }) (Done events) ≡ said after told
+taken_view s seg i st frame new events malformed moved left after told view mal move release is says =
+    (λ k. said (record { now = (sym view k).now; stations = set (sym view k).stations i new; bus = bus.released (bus.taken (sym view k).bus i); counts = counted (counted_look (sym view k).counts (sym mal k)) events }) (Done events))
+    ∙ (λ k. said (record { now = s.clock; stations = set s.stations.items i new; bus = bus.released (sym move k); counts = counted (counted_look s.counts malformed) events }) (Done events))
+    ∙ (λ k. said (record { now = s.clock; stations = set s.stations.items i new; bus = sym release k; counts = counted (counted_look s.counts malformed) events }) (Done events))
+    ∙ (λ k. said (sym is k) (sym says k))
+
+-- a TakeAgain
+pub repeated_view : (s : Inside) (seg : Segment) (i : ℕ) (st : Station) (frame : CanFrame) (new : Station) (events : List Event) (malformed : Bool) (counts : Counts) (after : Segment) (told : Reply) → segment_value s ≡ seg → malformed ≡ is_malformed_for st frame → counts ≡ counted_repeat s.counts
+    → after ≡ record (segment_value (record s { stations = with_item s.stations i new; counts = counts })) { counts = counted (counted_look counts malformed) events } → told ≡ Done events
+    → said (record { now = seg.now; stations = set seg.stations i new; bus = seg.bus; counts = counted (counted_look (counted_repeat seg.counts) (is_malformed_for st frame)) events }) (Done events) ≡ said after told
+repeated_view s seg i st frame new events malformed counts after told view mal repeat is says =
+    (λ k. said (record { now = (sym view k).now; stations = set (sym view k).stations i new; bus = (sym view k).bus; counts = counted (counted_look (counted_repeat (sym view k).counts) (sym mal k)) events }) (Done events))
+    ∙ (λ k. said (record { now = s.clock; stations = set s.stations.items i new; bus = s.bus; counts = counted (counted_look (sym repeat k) malformed) events }) (Done events))
+    ∙ (λ k. said (sym is k) (sym says k))

@@ -1,0 +1,14 @@
+pub mod Addresses
+pub mod Rising
+pub mod Placing
+pub mod Stations
+pub mod Kept
+pub mod Refusals
+pub mod Pumping
+pub mod Records
+pub mod Joining
+pub mod Drives
+pub mod Sweeps
+pub mod Running
+pub mod Steps
+pub mod Turns

@@ -1,0 +1,33 @@
+use Rattle.std.proofs.Common.{◌≡◌, length, Some, sym, ap, ◌∙◌, subst, length-set}
+use Rattle.std.specs.Prelude.{OnSome}
+use Rattle.bus_order.specs.Bus.{taken as moved, released, next_frame}
+use Rattle.station_core.specs.Taking.{taken}
+use Rattle.segment_core.proofs.Addresses.{taken_keeps}
+use Rattle.segment_core.proofs.Kept.{inside_moved, at_here, takes_is, takes_full, taken_view, unchanged_view, refused}
+use Rattle.segment_core.proofs.segment.Segment.take.Goals as goal
+
+pub invariant_of-self-2 : goal.invariant_of-self-2
+invariant_of-self-2 c =
+    let is_some : c.next-taken.result ≡ Some c.in-Some-next_frame.frame = c.next-taken.ensures.frame ∙ ap (λ x. next_frame x.bus c.in-Some.place) c.self.view_is ∙ sym c.in-Some-next_frame.ensures in
+    let move : c.next-taken.new.self ≡ moved c.self.inside.bus c.in-Some.place = subst (λ o. OnSome o (c.next-taken.new.self ≡ moved c.self.inside.bus c.in-Some.place)) is_some c.next-taken.ensures.some in
+    inside_moved c.self.inside c.in-Some.place c.look.new.station c.index_mut.result.now c.release.new.self c.self.invariant c.index_mut.ensures.value
+    (ap (λ s. s.station.address) (sym c.in-Ok.ensures.step) ∙ taken_keeps c.index_mut.result.now c.in-Some-next_frame.frame c.args.room c.now-now.result)
+    (ap (λ b. length b.cursors) (c.release.ensures.released ∙ ap released move) ∙ length-set c.self.inside.bus.cursors c.in-Some.place _)
+
+pub returns : goal.returns
+returns c =
+    let now_is : c.now-now.result ≡ c.args.self.now.now = c.now-now.ensures.value ∙ ap (λ x. x.now) c.self.view_is in
+    let is_some : c.next-taken.result ≡ Some c.in-Some-next_frame.frame = c.next-taken.ensures.frame ∙ ap (λ x. next_frame x.bus c.in-Some.place) c.self.view_is ∙ sym c.in-Some-next_frame.ensures in
+    let move : c.next-taken.new.self ≡ moved c.self.inside.bus c.in-Some.place = subst (λ o. OnSome o (c.next-taken.new.self ≡ moved c.self.inside.bus c.in-Some.place)) is_some c.next-taken.ensures.some in
+    at_here c.self.inside _ _ c.in-Some.place c.index_mut.result.now _ c.self.view_is c.in-Some.ensures.value c.in-Some.ensures.within c.index_mut.ensures.value
+    ∙ takes_is _ c.args.room c.in-Some.place c.index_mut.result.now c.in-Some-next_frame.frame _ c.in-Some-next_frame.ensures c.in-Ok.ensures.place (ap (λ n. taken c.index_mut.result.now c.in-Some-next_frame.frame c.args.room n) (sym now_is) ∙ c.in-Ok.ensures.step)
+    ∙ taken_view c.self.inside _ c.in-Some.place c.index_mut.result.now c.in-Some-next_frame.frame c.look.new.station c.in-Ok.looked.events c.in-Ok.looked.is_malformed _ _ _ _ c.self.view_is c.in-Ok.ensures.malformed move c.release.ensures.released c.looked.ensures.counts c.looked.ensures.reply
+
+pub returns-in-Err-Refused : goal.returns-in-Err-Refused
+returns-in-Err-Refused c =
+    let e = rw c.in-Err-Refused.field-0-is at c.in-Err-Refused.ensures in (
+      at_here c.self.inside _ _ c.in-Some.place c.index_mut.result.now _ c.self.view_is c.in-Some.ensures.value c.in-Some.ensures.within c.index_mut.ensures.value
+          ∙ takes_full c.args.self.now c.args.room c.in-Some.place c.index_mut.result.now c.in-Some-next_frame.frame c.in-Some-next_frame.ensures e.0
+          ∙ ap refused (sym e.1),
+      unchanged_view c.self.inside _ c.in-Some.place _ c.index_mut.result.now c.self.view_is e.2 c.index_mut.ensures.value,
+    )

@@ -1,0 +1,104 @@
+-- What a drive of the code did, beside the drive that the law says.
+use Rattle.std.specs.Prelude.{◌≡◌, List, [], ◌∷◌, ◌++◌, length, map, Option, Some, None, Result, Ok, Err, ℕ, ◌+◌, Bool, true, false, IsTrue}
+use Rattle.std.specs.List.{list_all}
+use Rattle.bus_frame.specs.Frames.{CanFrame}
+use Rattle.pgn_ids.specs.declared.address.Address.{Address}
+use Rattle.bus_order.specs.Kept.{IsSound}
+use Rattle.station_lanes.specs.declared.event.Event.{Event}
+use Rattle.segment_law.specs.Segment.{Segment, waiting_at}
+use Rattle.segment_law.specs.Calls.{is_call}
+use Rattle.segment_law.specs.Record.{Record, StandsAt, replies_from, after, calls_of, replies_of}
+use Rattle.segment_law.specs.Drive.{Driven, events_in, end_by, end_of}
+use Rattle.segment_law.specs.declared.end.DriveEnd.{DriveEnd}
+use Rattle.segment_core.specs.declared.stop.Stop.{Stop}
+use Rattle.segment_core.specs.declared.stop.Stop.TheVariants.{Refused, OutOfMemory}
+use Rattle.segment_core.specs.declared.driven.Driven as ran
+use Rattle.segment_law.specs.declared.end.DriveEnd.TheVariants as end
+use Rattle.segment_law.specs.declared.refusal.Refusal.TheVariants as refusal
+use Rattle.segment_core.specs.Joined.{joined}
+use Rattle.segment_core.specs.declared.course.Course.{Course}
+
+-- The whole drive
+
+-- the turns, frames, events and end of the drive, and the segment that it leaves
+pub record IsDriven (d : Driven) (seg : Segment) (done : ran.Driven) : Type 0 where
+  pub turns : done.turns ≡ d.turns
+  pub frames : done.frames ≡ d.frames
+  pub events : done.events ≡ events_in d.calls
+  pub end : done.end ≡ end_of d
+  pub segment : seg ≡ d.segment
+
+-- what was done before a call found no memory: the first of the drive's calls, and the first of its frames
+pub record IsBegun (d : Driven) (before seg : Segment) (done : ran.Driven) : Type 0 where
+  pub made : Record
+  pub rest : Record
+  pub later : List CanFrame
+  pub calls : made ++ rest ≡ d.calls
+  pub frames : done.frames ++ later ≡ d.frames
+  pub turns : done.turns ≡ length done.frames
+  pub events : done.events ≡ events_in made
+  pub segment : seg ≡ after before (calls_of made)
+  pub stands : (addresses : List Address) (steps : Record) → StandsAt addresses steps before → StandsAt addresses (steps ++ made) seg
+
+-- Its steps
+
+-- how a drive ends where a call isn't done
+abbrev pub stop_end : Stop → DriveEnd
+stop_end (Refused cause) = end_by cause
+stop_end OutOfMemory = end.OutOfMemory
+
+-- a call is refused only because it came too soon
+abbrev pub too_soon : Stop → Bool
+too_soon (Refused refusal.NotYet) = true
+too_soon stop = false
+
+-- these frames and events are those of a drive that began at a segment and stands at another
+pub record IsShown (ended : Option DriveEnd) (start : Segment) (d : Driven) (seg : Segment) (put : List CanFrame) (told : List Event) : Type 0 where
+  pub segment : seg ≡ d.segment
+  pub frames : put ≡ d.frames
+  pub events : told ≡ events_in d.calls
+  pub end : d.ended ≡ ended
+  pub turns : d.turns ≡ length d.frames
+  pub fit : IsTrue (list_all is_call (calls_of d.calls))
+  pub replies : replies_from start (calls_of d.calls) ≡ replies_of d.calls
+  pub state : after start (calls_of d.calls) ≡ d.segment
+
+-- the same, kept by the code
+abbrev pub IsCourse : (ended : Option DriveEnd) (start : Segment) (d : Driven) (seg : Segment) → Course → Type 0
+IsCourse ended start d seg course = IsShown ended start d seg course.frames.items (joined course.parts.items)
+
+-- a drive comes to another by further calls
+pub record GoesOn (e d : Driven) : Type 0 where
+  pub rest : Record
+  pub later : List CanFrame
+  pub calls : e.calls ++ rest ≡ d.calls
+  pub frames : e.frames ++ later ≡ d.frames
+
+-- the code stands before the end of a step
+pub record IsCut (start : Segment) (d : Driven) (seg : Segment) (put : List CanFrame) (told : List Event) : Type 0 where
+  pub made : Driven
+  pub shown : IsShown None start made seg put told
+  pub on : GoesOn made d
+
+-- the code did a step of the drive, or its refused call ended it, or it found no memory before its end
+abbrev pub HasGone : (start : Segment) (next : Driven) (seg : Segment) (put : List CanFrame) (told : List Event) → Result (Unit {0}) Stop → Type 0
+HasGone start next seg put told (Ok _) = IsShown None start next seg put told
+HasGone start next seg put told (Err (Refused cause)) = IsShown (Some (end_by cause)) start next seg put told
+HasGone start next seg put told (Err OutOfMemory) = IsCut start next seg put told
+
+abbrev pub Went : (start : Segment) (next : Driven) (seg : Segment) → Course → Result (Unit {0}) Stop → Type 0
+Went start next seg course result = HasGone start next seg course.frames.items (joined course.parts.items) result
+
+-- each station has its cursor on the bus, whose places are right
+pub record IsFollowed (seg : Segment) : Type 0 where
+  pub sound : IsSound seg.bus
+  pub cursors : length seg.bus.cursors ≡ length seg.stations
+
+abbrev pub addresses_of : Segment → List Address
+addresses_of seg = map (λ st. st.address) seg.stations
+
+-- a station took a frame
+pub record HasTaken (a : Address) (before seg : Segment) : Type 0 where
+  pub waits : waiting_at before a ≡ waiting_at seg a + 1
+  pub followed : IsFollowed seg
+  pub addresses : addresses_of seg ≡ addresses_of before

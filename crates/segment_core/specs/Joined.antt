@@ -1,0 +1,8 @@
+-- The events of several calls.
+use Rattle.std.specs.Prelude.{List, [], ◌∷◌, ◌++◌}
+use Rattle.station_lanes.specs.declared.event.Event.{Event}
+
+-- one after another
+abbrev pub joined : List (List Event) → List Event
+joined [] = []
+joined (events ∷ parts) = events ++ joined parts

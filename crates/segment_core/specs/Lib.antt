@@ -1,0 +1,9 @@
+pub mod Places
+pub mod Answers
+pub mod Looks
+pub mod SegmentCode
+pub mod SegmentFields
+pub mod DriveFields
+pub mod Joined
+pub mod Runs
+pub mod Drives

@@ -1,0 +1,96 @@
+//! Counting what calls tell.
+ghost use Rattle.std.specs.Prelude.{◌≡◌, [], fold};
+ghost use Rattle.segment_law.specs.Segment.{plus, counted_outcome, counted_event, counted, counted_frame, counted_look, counted_repeat};
+ghost use Rattle.segment_law.specs.declared.reply.Reply.TheVariants.{Done};
+
+use crate::segment::Segment;
+use segment_law::{Counts, Reply};
+use station_core::{Event, Events};
+use tp_wire::Outcome;
+
+// One more, up to the last value.
+fn one_more(n: u64) -> u64
+    ensures { result ≡ plus n 1 }
+{
+    n.saturating_add(1)
+}
+
+/// Counts a frame that was put on the bus.
+pub(crate) fn count_frame(counts: &mut Counts)
+    ensures { counts.new ≡ counted_frame counts.old }
+{
+    counts.frames = one_more(counts.frames);
+}
+
+/// Counts a frame that a station took again.
+pub(crate) fn count_repeat(counts: &mut Counts)
+    ensures { counts.new ≡ counted_repeat counts.old }
+{
+    counts.repeated = one_more(counts.repeated);
+}
+
+/// Counts a frame that a station took, where it looked at it and found it malformed.
+pub(crate) fn count_look(counts: &mut Counts, is_malformed: bool)
+    ensures { counts.new ≡ counted_look counts.old is_malformed }
+{
+    if is_malformed {
+        counts.malformed = one_more(counts.malformed);
+    }
+}
+
+// Counts a message by its outcome.
+fn count_outcome(counts: &mut Counts, outcome: Outcome)
+    ensures { counts.new ≡ counted_outcome counts.old outcome }
+{
+    match outcome {
+        Outcome::Acknowledged => counts.acknowledged = one_more(counts.acknowledged),
+        Outcome::Broadcast => counts.broadcast = one_more(counts.broadcast),
+        Outcome::Aborted(_) => counts.aborted = one_more(counts.aborted),
+        Outcome::TimedOut => counts.timed_out = one_more(counts.timed_out),
+        Outcome::Overrun => counts.overrun = one_more(counts.overrun),
+        Outcome::Cancelled => counts.cancelled = one_more(counts.cancelled),
+        Outcome::Unreachable => counts.unreachable = one_more(counts.unreachable),
+    }
+}
+
+// Counts an event.
+fn count_event(counts: &mut Counts, event: &Event)
+    ensures { counts.new ≡ counted_event counts.old event.now }
+{
+    match event {
+        Event::Given { .. } => counts.given = one_more(counts.given),
+        Event::Outcome { outcome, .. } => count_outcome(counts, *outcome),
+    }
+}
+
+// Counts events, one by one.
+fn count_all(counts: &mut Counts, events: &[Event])
+    ensures { counts.new ≡ counted counts.old events.now }
+{
+    for event in events {
+        count_event(counts, event);
+    }
+}
+
+impl Segment {
+    /// The reply to a call that told nothing.
+    pub(crate) fn done(&self) -> Reply
+        ensures { result ≡ Done [] }
+    {
+        Reply::Done(Events::none(self.alloc))
+    }
+
+    /// The reply to a call that told events, which are counted.
+    pub(crate) fn told(&mut self, events: Events) -> Reply
+        ensures reply { result ≡ Done events }
+        ensures counts { self.new ≡ record self.old { counts = counted self.old.counts events } }
+    {
+        let (first, rest) = events.into_parts();
+        let Some(first) = first else {
+            return self.done();
+        };
+        count_event(&mut self.counts, &first);
+        count_all(&mut self.counts, &rest);
+        Reply::Done(Events::all(first, rest))
+    }
+}

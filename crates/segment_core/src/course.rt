@@ -1,0 +1,71 @@
+//! What a drive did so far.
+ghost use Rattle.std.specs.Prelude.{◌≡◌, ◌<◌, ◌++◌, [], length, option_to_list, vec_len, vec_capacity};
+ghost use Rattle.segment_law.specs.Calls.{events_of};
+ghost use Rattle.segment_core.specs.Joined.{joined};
+
+use crate::driven::{Driven, EventList, FrameList};
+use bus_frame::Frame;
+use segment_law::{DriveEnd, Reply};
+use station_core::Events;
+use std::alloc::Global;
+
+/// The frames that were put, and what the calls told, one part for each call that told something.
+#[derive(Drop)]
+pub(crate) struct Course {
+    pub(crate) frames: Vec<Frame>,
+    pub(crate) parts: Vec<Events>,
+}
+
+impl Course {
+    /// Nothing was done yet. It takes no memory.
+    pub(crate) fn new(alloc: Global) -> Course
+        ensures frames { result.frames.items ≡ [] }
+        ensures parts { result.parts.items ≡ [] }
+    {
+        Course {
+            frames: Vec::new(alloc),
+            parts: Vec::new(alloc),
+        }
+    }
+
+    /// The frame that a call put, for which there is room.
+    pub(crate) fn put(&mut self, frame: Option<Frame>)
+        requires room { vec_len self.old.frames < vec_capacity self.old.frames }
+        ensures frames { self.new.frames.items ≡ self.old.frames.items ++ option_to_list frame }
+        ensures parts { self.new.parts.items ≡ self.old.parts.items }
+    {
+        if let Some(frame) = frame {
+            self.frames.push_reserved(frame);
+        }
+    }
+
+    /// What a call told, for which there is room.
+    #[tactic(auto, using(crate::proofs::Joining::joined_push))]
+    pub(crate) fn tell(&mut self, reply: Reply)
+        requires room { vec_len self.old.parts < vec_capacity self.old.parts }
+        ensures told { joined self.new.parts.items ≡ joined self.old.parts.items ++ events_of reply }
+        ensures frames { self.new.frames.items ≡ self.old.frames.items }
+    {
+        if let Reply::Done(events) = reply {
+            if !events.is_empty() {
+                self.parts.push_reserved(events);
+            }
+        }
+    }
+
+    /// The drive ends here. Each turn that counts put one frame.
+    pub(crate) fn ended(self, end: DriveEnd) -> Driven
+        ensures turns { result.turns ≡ length self.frames.items }
+        ensures frames { result.frames ≡ self.frames.items }
+        ensures events { result.events ≡ joined self.parts.items }
+        ensures end { result.end ≡ end }
+    {
+        let Course { frames, parts } = self;
+        Driven {
+            turns: frames.len() as u64,
+            frames: FrameList::new(frames),
+            events: EventList::new(parts),
+            end,
+        }
+    }
+}

@@ -1,0 +1,205 @@
+//! Driving one lane, turn by turn.
+ghost use Rattle.std.specs.Prelude.{◌≡◌, ◌≢◌, ◌<◌, ◌++◌, List, length, None, true, OnOk, slice_index_or, vec_len, vec_capacity};
+ghost use Rattle.pgn_ids.specs.declared.address.Address.{Address};
+ghost use Rattle.station_lanes.specs.LaneReaders.{missing_at};
+ghost use Rattle.segment_law.specs.Segment.{Segment as State, station_at, waiting_at};
+ghost use Rattle.segment_law.specs.Calls.{is_address};
+ghost use Rattle.segment_law.specs.Record.{Record, StandsAt};
+ghost use Rattle.segment_law.specs.Drive.{Driven as Drive, driven, makes, makes_call, puts, pumps, turn_puts, takes_all, turn};
+ghost use Rattle.segment_law.specs.declared.call.Call.TheVariants.{Pump, Take, Tick};
+ghost use Rattle.segment_law.specs.declared.end.DriveEnd.TheVariants as end;
+ghost use Rattle.segment_core.specs.Drives.{IsDriven, IsBegun, IsCourse, Went, IsFollowed, HasTaken, addresses_of, stop_end, too_soon};
+
+use crate::course::Course;
+use crate::driven::Driven;
+use crate::segment::Segment;
+use crate::stop::Stop;
+use pgn_ids::Address;
+use segment_law::{DriveEnd, Refusal};
+
+// How a drive ends where one of its calls isn't done.
+fn end_at(stop: Stop) -> DriveEnd
+    ensures { result ≡ stop_end stop }
+{
+    match stop {
+        Stop::Refused(Refusal::NothingToSend) => DriveEnd::Idle,
+        Stop::Refused(cause) => DriveEnd::Refused(cause),
+        Stop::OutOfMemory => DriveEnd::OutOfMemory,
+    }
+}
+
+// Whether a call is refused only because it came too soon.
+fn is_too_soon(stop: Stop) -> bool
+    ensures { result ≡ too_soon stop }
+{
+    match stop {
+        Stop::Refused(Refusal::NotYet) => true,
+        _ => false,
+    }
+}
+
+// An address has one byte.
+fn one_octet(address: Address)
+    ensures { is_address address ≡ true }
+{
+    let _octet = address.0;
+}
+
+impl Segment {
+    /// Drives the lane from a station to a destination for at most so many turns, and tells what was put and given.
+    ///
+    /// One turn: where the queue of `from` isn't empty, it transmits; else where `to` is a station whose queue isn't empty,
+    /// that one transmits; else the lane is pumped, after a Tick of what is missing to the 50 ticks between the frames of a
+    /// broadcast, and `from` transmits. Then every station, by rising address, takes with room until no frame waits for it.
+    ///
+    /// It ends after its turns; as idle where the lane has nothing to queue; at another refusal; or where a call finds no
+    /// memory, which then wasn't made. A turn counts once its frame is put.
+    pub fn drive(&mut self, from: Address, to: Address, turns: u64) -> Driven
+        ensures done { result.end ≢ end.OutOfMemory → IsDriven (driven self.old from to turns) self.new result }
+        ensures begun { result.end ≡ end.OutOfMemory → IsBegun (driven self.old from to turns) self.old self.new result }
+        ensures stands { (addresses : List Address) (steps : Record) → StandsAt addresses steps self.old → result.end ≢ end.OutOfMemory
+            → StandsAt addresses (steps ++ (driven self.old from to turns).calls) self.new }
+    {
+        let mut course = Course::new(self.alloc);
+        for _ in 0..turns {
+            if let Err(stop) = self.turn(from, to, &mut course) {
+                return course.ended(end_at(stop));
+            }
+        }
+        course.ended(DriveEnd::Turns)
+    }
+
+    // One turn.
+    fn turn(&mut self, from: Address, to: Address, course: &mut Course) -> Result<(), Stop>
+        ensures { (start : State) (d : Drive) → IsCourse None start d self.old course.old → Went start (turn from to d) self.new course.new result }
+    {
+        self.turn_puts(from, to, course)?;
+        let count = self.station_count();
+        for place in 0..count {
+            let station = self.address_at(place);
+            self.take_all(station, course)?;
+        }
+        Ok(())
+    }
+
+    // The first part of a turn: one frame is put.
+    fn turn_puts(&mut self, from: Address, to: Address, course: &mut Course) -> Result<(), Stop>
+        ensures { (start : State) (d : Drive) → IsCourse None start d self.old course.old → Went start (turn_puts from to d) self.new course.new result }
+    {
+        let queued = self.queue_len(from);
+        if queued > 0 {
+            return self.put_one(from, course);
+        }
+        let answers = self.queue_len(to);
+        if answers > 0 {
+            return self.put_one(to, course);
+        }
+        self.pump_lane(from, to, course)?;
+        self.put_one(from, course)
+    }
+
+    // A station transmits.
+    fn put_one(&mut self, station: Address, course: &mut Course) -> Result<(), Stop>
+        ensures { (start : State) (d : Drive) → IsCourse None start d self.old course.old → Went start (puts d station) self.new course.new result }
+    {
+        course.frames.reserve(1)?;
+        let front = self.front(station);
+        let _done = self.transmit(station)?;
+        course.put(front);
+        Ok(())
+    }
+
+    // The lane is pumped, once more at its time where it answers that it is too soon.
+    fn pump_lane(&mut self, from: Address, to: Address, course: &mut Course) -> Result<(), Stop>
+        ensures { (start : State) (d : Drive) → IsCourse None start d self.old course.old → Went start (pumps from to d) self.new course.new result }
+    {
+        one_octet(to);
+        course.parts.reserve(1)?;
+        match self.pump(from, to) {
+            Ok(reply) => {
+                course.tell(reply);
+                Ok(())
+            }
+            Err(stop) => {
+                if is_too_soon(stop) {
+                    return self.pump_in_time(from, to, course);
+                }
+                Err(stop)
+            }
+        }
+    }
+
+    // The lane is pumped after a Tick of what is missing. There is room for what it tells.
+    fn pump_in_time(&mut self, from: Address, to: Address, course: &mut Course) -> Result<(), Stop>
+        requires room { vec_len course.old.parts < vec_capacity course.old.parts }
+        ensures { (start : State) (d : Drive) → IsCourse None start d self.old course.old → Went start (makes (makes d (Tick (missing_at (station_at self.old from).lanes to.0 self.old.now))) (Pump from to)) self.new course.new result }
+    {
+        one_octet(to);
+        let missing = self.missing(from, to);
+        let _done = self.tick(missing)?;
+        let reply = self.pump(from, to)?;
+        course.tell(reply);
+        Ok(())
+    }
+
+    // A station takes until no frame waits for it.
+    fn take_all(&mut self, station: Address, course: &mut Course) -> Result<(), Stop>
+        ensures took { (start : State) (d : Drive) → IsCourse None start d self.old course.old → Went start (takes_all station d) self.new course.new result }
+        ensures addresses { OnOk result (addresses_of self.new ≡ addresses_of self.old) }
+    {
+        let left = self.left(station);
+        for _ in 0..left {
+            self.take_one(station, course)?;
+        }
+        Ok(())
+    }
+
+    // A station takes the next frame, with room.
+    fn take_one(&mut self, station: Address, course: &mut Course) -> Result<(), Stop>
+        requires { IsFollowed self.old }
+        ensures took { (start : State) (d : Drive) → IsCourse None start d self.old course.old → Went start (makes d (Take station true)) self.new course.new result }
+        ensures taken { OnOk result (HasTaken station self.old self.new) }
+    {
+        course.parts.reserve(1)?;
+        let reply = self.take(station, true)?;
+        course.tell(reply);
+        Ok(())
+    }
+
+    // How many stations there are.
+    fn station_count(&self) -> usize
+        ensures { result ≡ length self.now.stations }
+    {
+        self.stations.len()
+    }
+
+    // The address of the station at a place.
+    fn address_at(&self, place: usize) -> Address
+        requires { place < length self.now.stations }
+        ensures { result ≡ slice_index_or (addresses_of self.now) place result }
+    {
+        self.stations[place].address()
+    }
+
+    // How many frames wait for a station.
+    fn left(&self, station: Address) -> u64
+        ensures value { result ≡ waiting_at self.now station }
+        ensures followed { IsFollowed self.now }
+    {
+        let _sound = self.bus.len();
+        match self.place_of(station) {
+            None => 0,
+            Some(place) => self.bus.waiting(place),
+        }
+    }
+
+    // How many ticks are missing until the next frame of a broadcast.
+    fn missing(&self, from: Address, to: Address) -> u64
+        ensures { result ≡ missing_at (station_at self.now from).lanes to.0 self.now.now }
+    {
+        match self.place_of(from) {
+            None => 0,
+            Some(place) => self.stations[place].missing(to, self.clock.now()),
+        }
+    }
+}

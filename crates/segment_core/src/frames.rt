@@ -1,0 +1,62 @@
+//! Frames that are put on the bus.
+ghost use Rattle.std.specs.Prelude.{◌≡◌, ◌↔◌, OnOk, OnErr, IsErrOf, IsTrue};
+ghost use Rattle.bus_order.specs.Bus.{is_full};
+ghost use Rattle.segment_law.specs.Calls.{at_address, with_frame, transmits, injects};
+ghost use Rattle.segment_core.specs.Answers.{IsAnswer};
+
+use crate::counting::count_frame;
+use crate::segment::Segment;
+use crate::stop::Stop;
+use bus_frame::Frame;
+use bus_order::PutError;
+use pgn_ids::{Address, read_id};
+use segment_law::{Refusal, Reply};
+
+impl Segment {
+    /// Puts the first frame of a station's queue on the bus.
+    #[tactic(auto, using(crate::proofs::Stations::call_laws))]
+    pub(crate) fn transmit(&mut self, station: Address) -> Result<Reply, Stop>
+        ensures { IsAnswer (at_address self.old station (transmits self.old)) self.old self.new result }
+    {
+        let Some(place) = self.place_of(station) else {
+            return Err(Stop::Refused(Refusal::NoSuchStation));
+        };
+        let Some(frame) = self.stations[place].front() else {
+            return Err(Stop::Refused(Refusal::NothingToSend));
+        };
+        match self.put(frame) {
+            Ok(()) => {
+                let _transmitted = self.stations[place].pop();
+                Ok(self.done())
+            }
+            Err(PutError::BusFull) => Err(Stop::Refused(Refusal::BusFull)),
+            Err(PutError::OutOfMemory) => Err(Stop::OutOfMemory),
+        }
+    }
+
+    /// Puts the frame of a foreign node on the bus.
+    #[tactic(auto, using(crate::proofs::Stations::call_laws))]
+    pub(crate) fn inject(&mut self, frame: Frame) -> Result<Reply, Stop>
+        ensures { IsAnswer (injects self.old frame) self.old self.new result }
+    {
+        if self.place_of(read_id(frame.id()).from).is_some() {
+            return Err(Stop::Refused(Refusal::StationAddress));
+        }
+        match self.put(frame) {
+            Ok(()) => Ok(self.done()),
+            Err(PutError::BusFull) => Err(Stop::Refused(Refusal::BusFull)),
+            Err(PutError::OutOfMemory) => Err(Stop::OutOfMemory),
+        }
+    }
+
+    // Puts a frame on the bus, and counts it.
+    fn put(&mut self, frame: Frame) -> Result<(), PutError>
+        ensures ok { OnOk result (self.new ≡ with_frame self.old frame) }
+        ensures full { IsErrOf result PutError.BusFull ↔ IsTrue (is_full self.old.bus) }
+        ensures err { OnErr result (self.new ≡ self.old) }
+    {
+        self.bus.put(frame)?;
+        count_frame(&mut self.counts);
+        Ok(())
+    }
+}

@@ -1,0 +1,30 @@
+//! One bus with its stations: every call on it is one atomic step, which changes nothing where it is refused.
+//!
+//! What each call does is said by `segment_law`, whose types of calls, replies and refusals are shown here too.
+#![tactic(auto)]
+
+mod call;
+mod clock;
+mod counting;
+mod course;
+mod drive;
+mod driven;
+mod frames;
+mod places;
+mod ports;
+mod readers;
+mod run;
+mod segment;
+mod sending;
+mod stop;
+mod taking;
+#[cfg(test)]
+mod tests;
+
+pub use driven::{Driven, EventList, FrameList};
+pub use lane_core::Bytes;
+pub use port_table::{PortId, PortSet};
+pub use run::Ran;
+pub use segment::{NewRefused, Segment};
+pub use segment_law::{Call, Counts, DriveEnd, Refusal, Reply, RunEnd};
+pub use station_core::{Event, Events};

@@ -1,0 +1,69 @@
+//! Ports that are opened, closed, paused and resumed.
+ghost use Rattle.segment_law.specs.Calls.{at_address, opens, closes, pauses, resumes};
+ghost use Rattle.segment_core.specs.Answers.{IsAnswer};
+
+use crate::segment::Segment;
+use crate::stop::Stop;
+use pgn_ids::{Address, Pgn};
+use port_table::{PauseError, PortId, ResumeError};
+use segment_law::{Refusal, Reply};
+
+impl Segment {
+    /// Opens a port of a station.
+    #[tactic(auto, using(crate::proofs::Stations::call_laws))]
+    pub(crate) fn open(&mut self, station: Address, pgn: Pgn, max_len: u32) -> Result<Reply, Stop>
+        ensures { IsAnswer (at_address self.old station (opens self.old pgn max_len)) self.old self.new result }
+    {
+        let Some(place) = self.place_of(station) else {
+            return Err(Stop::Refused(Refusal::NoSuchStation));
+        };
+        match self.stations[place].open(pgn, max_len) {
+            Ok(port) => Ok(Reply::Opened(port)),
+            Err(_) => Err(Stop::Refused(Refusal::PortsFull)),
+        }
+    }
+
+    /// Closes a port.
+    #[tactic(auto, using(crate::proofs::Stations::call_laws))]
+    pub(crate) fn close(&mut self, port: PortId) -> Result<Reply, Stop>
+        ensures { IsAnswer (at_address self.old port.station (closes self.old port.number)) self.old self.new result }
+    {
+        let Some(place) = self.place_of(port.station) else {
+            return Err(Stop::Refused(Refusal::NoSuchStation));
+        };
+        match self.stations[place].close(port.number) {
+            Ok(()) => Ok(self.done()),
+            Err(_) => Err(Stop::Refused(Refusal::NoSuchPort)),
+        }
+    }
+
+    /// Pauses a port.
+    #[tactic(auto, using(crate::proofs::Stations::call_laws))]
+    pub(crate) fn pause(&mut self, port: PortId) -> Result<Reply, Stop>
+        ensures { IsAnswer (at_address self.old port.station (pauses self.old port.number)) self.old self.new result }
+    {
+        let Some(place) = self.place_of(port.station) else {
+            return Err(Stop::Refused(Refusal::NoSuchStation));
+        };
+        match self.stations[place].pause(port.number) {
+            Ok(()) => Ok(self.done()),
+            Err(PauseError::NoSuchPort) => Err(Stop::Refused(Refusal::NoSuchPort)),
+            Err(PauseError::PortPaused) => Err(Stop::Refused(Refusal::PortPaused)),
+        }
+    }
+
+    /// Ends the pause of a port.
+    #[tactic(auto, using(crate::proofs::Stations::call_laws))]
+    pub(crate) fn resume(&mut self, port: PortId) -> Result<Reply, Stop>
+        ensures { IsAnswer (at_address self.old port.station (resumes self.old port.number)) self.old self.new result }
+    {
+        let Some(place) = self.place_of(port.station) else {
+            return Err(Stop::Refused(Refusal::NoSuchStation));
+        };
+        match self.stations[place].resume(port.number) {
+            Ok(()) => Ok(self.done()),
+            Err(ResumeError::NoSuchPort) => Err(Stop::Refused(Refusal::NoSuchPort)),
+            Err(ResumeError::PortNotPaused) => Err(Stop::Refused(Refusal::PortNotPaused)),
+        }
+    }
+}

@@ -1,0 +1,173 @@
+//! What a segment answers without a step. No reader takes memory.
+ghost use Rattle.std.specs.Prelude.{◌≡◌, ℕ, ◌<◌, length, is_ok, slice_get};
+ghost use Rattle.bus_order.specs.Bus.{bus_len, frame_at};
+ghost use Rattle.segment_law.specs.Segment.{Segment as State, waiting_at};
+ghost use Rattle.segment_law.specs.Calls.{pumps};
+ghost use Rattle.segment_law.specs.Readers.{queue_len, front_at, pumps_to, next_pump, is_due, wanted, wanted_with, frame_for, rests, is_idle};
+
+use crate::segment::Segment;
+use crate::sending::MOST_PUMPED;
+use bus_frame::Frame;
+use pgn_ids::Address;
+use port_table::PortSet;
+use segment_law::Counts;
+use station_core::Station;
+
+/// How many addresses there are, that of all among them.
+const ADDRESSES: usize = 256;
+
+// Whether a Pump of a station to a destination at tick `now` would not be refused.
+fn is_pumping(station: &Station, to: Address, now: u64) -> bool
+    ensures { (seg : State) (i : ℕ) → seg.now ≡ now → result ≡ is_ok (pumps seg to i station.now) }
+{
+    to != Address::NULL && station.pump_refusal(to, now).is_none() && station.free() >= MOST_PUMPED
+}
+
+impl Segment {
+    /// The tick of 1 ms at which the clock stands.
+    pub fn now(&self) -> u64
+        ensures { result ≡ self.now.now }
+    {
+        self.clock.now()
+    }
+
+    /// How many frames wait in a station's transmit queue; 0 where the address isn't a station's.
+    pub fn queue_len(&self, station: Address) -> usize
+        ensures { result ≡ queue_len self.now station }
+    {
+        match self.place_of(station) {
+            None => 0,
+            Some(place) => self.stations[place].queue_len(),
+        }
+    }
+
+    /// How many frames of the bus a station has neither taken nor passed over; 0 where the address isn't a station's.
+    pub fn waiting(&self, station: Address) -> u64
+        ensures { result ≡ waiting_at self.now station }
+    {
+        match self.place_of(station) {
+            None => 0,
+            Some(place) => self.bus.waiting(place),
+        }
+    }
+
+    /// How many frames were put on the bus.
+    pub fn bus_len(&self) -> u64
+        ensures { result ≡ bus_len self.now.bus }
+    {
+        self.bus.len()
+    }
+
+    /// The frame at a place of the bus, from 1, where it is kept: those from the one that the station furthest behind took or
+    /// passed over last, that one included, to the newest.
+    pub fn frame(&self, place: u64) -> Option<Frame>
+        ensures { result ≡ frame_at self.now.bus place }
+    {
+        self.bus.frame(place)
+    }
+
+    /// What was counted.
+    pub fn counts(&self) -> Counts
+        ensures { result ≡ self.now.counts }
+    {
+        self.counts
+    }
+
+    /// The frame that a station transmits next; none where its queue is empty or the address isn't a station's.
+    pub fn front(&self, station: Address) -> Option<Frame>
+        ensures { result ≡ front_at self.now station }
+    {
+        match self.place_of(station) {
+            None => None,
+            Some(place) => self.stations[place].front(),
+        }
+    }
+
+    // Whether a Pump of the station with an address to a destination would not be refused.
+    #[tactic(auto, using(crate::proofs::Pumping::pumps_to_is, crate::proofs::Pumping::pumps_to_none))]
+    fn is_pumping(&self, station: Address, to: Address) -> bool
+        ensures { result ≡ pumps_to self.now station to.0 }
+    {
+        match self.place_of(station) {
+            None => false,
+            Some(place) => is_pumping(&self.stations[place], to, self.clock.now()),
+        }
+    }
+
+    /// The lowest destination of a station whose Pump would not be refused; none where the address isn't a station's.
+    #[tactic(auto, using(crate::proofs::Pumping::pumping_laws))]
+    pub fn next_pump(&self, station: Address) -> Option<Address>
+        ensures { result ≡ next_pump self.now station }
+    {
+        for number in 0..ADDRESSES {
+            let to = Address(number as u8);
+            if self.is_pumping(station, to) {
+                return Some(to);
+            }
+        }
+        None
+    }
+
+    /// Whether one of a station's timers is due; false where the address isn't a station's.
+    pub fn is_due(&self, station: Address) -> bool
+        ensures { result ≡ is_due self.now station }
+    {
+        match self.place_of(station) {
+            None => false,
+            Some(place) => self.stations[place].is_due(self.clock.now()),
+        }
+    }
+
+    /// The ports that the station's next Take with room would give to, or with `again` its TakeAgain, and the length of the
+    /// message in bytes; no port and 0 where it would give nothing or the address isn't a station's.
+    pub fn wants(&self, station: Address, again: bool) -> (PortSet, u32)
+        ensures { result ≡ wanted self.now station again }
+    {
+        match self.place_of(station) {
+            None => (PortSet::empty(), 0),
+            Some(place) => self.wants_at(place, again),
+        }
+    }
+
+    // The same of the station at a place.
+    fn wants_at(&self, place: usize, again: bool) -> (PortSet, u32)
+        requires { place < length self.now.stations }
+        ensures { result ≡ wanted_with (slice_get self.now.stations place) (frame_for self.now again place) }
+    {
+        let Some(frame) = self.frame_for(place, again) else {
+            return (PortSet::empty(), 0);
+        };
+        let station = &self.stations[place];
+        if station.free() == 0 {
+            return (PortSet::empty(), 0);
+        }
+        station.wants(&frame)
+    }
+
+    // The frame that the station at a place takes next, or that it takes again.
+    fn frame_for(&self, place: usize, again: bool) -> Option<Frame>
+        requires { place < length self.now.stations }
+        ensures { result ≡ frame_for self.now again place }
+    {
+        if again {
+            return self.bus.again(place);
+        }
+        self.next_frame(place)
+    }
+
+    /// Whether all queues are empty, no frame waits for a station, and no lane has anything to queue now.
+    pub fn is_idle(&self) -> bool
+        ensures { result ≡ is_idle self.now }
+    {
+        self.stations.iter().all(|station| self.rests(station))
+    }
+
+    // The same of one station.
+    fn rests(&self, station: &Station) -> bool
+        ensures { result ≡ rests self.now station.now }
+    {
+        station.queue_len() == 0
+            && self.waiting(station.address()) == 0
+            && station.next_pump(self.clock.now()).is_none()
+    }
+}

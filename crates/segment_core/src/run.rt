@@ -1,0 +1,54 @@
+//! A list of calls.
+ghost use Rattle.std.specs.Prelude.{◌≡◌, ◌↔◌, ◌++◌, List, length};
+ghost use Rattle.pgn_ids.specs.declared.address.Address.{Address};
+ghost use Rattle.segment_law.specs.Record.{Record, StandsAt};
+ghost use Rattle.segment_law.specs.declared.end.RunEnd.TheVariants as run_end;
+ghost use Rattle.segment_core.specs.Runs.{IsRun, steps_of};
+
+use crate::segment::Segment;
+use segment_law::{Call, Reply, RunEnd};
+use std::alloc::Global;
+
+/// What a list of calls was answered.
+#[derive(Drop)]
+pub struct Ran {
+    /// The replies to the calls that were applied, in their order.
+    pub replies: Vec<Reply>,
+    /// Whether these are all.
+    pub end: RunEnd,
+}
+
+impl Segment {
+    /// Makes calls one after another, up to one that finds no memory. The room for all replies is made first.
+    ///
+    /// The calls are spent, those that weren't applied too: who wants to make them again keeps a copy.
+    pub fn run(&mut self, calls: Vec<Call>) -> Ran
+        ensures ran { IsRun self.old calls.items self.new result.replies.items }
+        ensures all { (result.end ≡ run_end.All) ↔ (length result.replies.items ≡ length calls.items) }
+        ensures stands { (addresses : List Address) (steps : Record) → StandsAt addresses steps self.old
+            → StandsAt addresses (steps ++ steps_of calls.items result.replies.items) self.new }
+    {
+        let mut replies = Vec::new(self.alloc);
+        if let Err(_) = replies.reserve(calls.len()) {
+            return Ran {
+                replies,
+                end: RunEnd::OutOfMemory,
+            };
+        }
+        for call in calls {
+            match self.apply(call) {
+                Ok(reply) => replies.push_reserved(reply),
+                Err(_) => {
+                    return Ran {
+                        replies,
+                        end: RunEnd::OutOfMemory,
+                    };
+                }
+            }
+        }
+        Ran {
+            replies,
+            end: RunEnd::All,
+        }
+    }
+}

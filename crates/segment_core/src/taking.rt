@@ -1,0 +1,118 @@
+//! Frames that are taken, taken again and missed.
+ghost use Rattle.segment_law.specs.Calls.{at_address, takes, repeats, overruns};
+ghost use Rattle.segment_law.specs.Segment.{counted, counted_look};
+ghost use Rattle.segment_law.specs.declared.reply.Reply.TheVariants.{Done};
+ghost use Rattle.segment_core.specs.Answers.{IsAnswer};
+ghost use Rattle.segment_core.specs.Looks.{IsLook};
+ghost use Rattle.std.specs.Prelude.{◌≡◌, ◌<◌, length};
+ghost use Rattle.bus_order.specs.Bus.{next_frame};
+
+use crate::counting::{count_look, count_repeat};
+use crate::segment::Segment;
+use crate::stop::Stop;
+use bus_frame::Frame;
+use pgn_ids::Address;
+use segment_law::{Refusal, Reply};
+use station_core::{Events, Station};
+
+/// What a station made of a frame.
+#[derive(Drop)]
+struct Looked {
+    is_malformed: bool,
+    events: Events,
+}
+
+// A station takes a frame, where its queue has a free place.
+fn look(station: &mut Station, frame: &Frame, room: bool, now: u64) -> Result<Looked, Stop>
+    ensures { IsLook station.old frame.now room now station.new result }
+{
+    if station.free() == 0 {
+        return Err(Stop::Refused(Refusal::TxFull));
+    }
+    let is_malformed = station.is_malformed_for(frame);
+    let events = station.take(frame, room, now)?;
+    Ok(Looked {
+        is_malformed,
+        events,
+    })
+}
+
+impl Segment {
+    /// A station takes the next frame of the bus.
+    pub(crate) fn take(&mut self, station: Address, room: bool) -> Result<Reply, Stop>
+        ensures { IsAnswer (at_address self.old station (takes self.old room)) self.old self.new result }
+    {
+        let Some(place) = self.place_of(station) else {
+            return Err(Stop::Refused(Refusal::NoSuchStation));
+        };
+        let Some(frame) = self.next_frame(place) else {
+            return Err(Stop::Refused(Refusal::NothingToTake));
+        };
+        let now = self.clock.now();
+        let looked = match look(&mut self.stations[place], &frame, room, now) {
+            Ok(looked) => looked,
+            Err(Stop::Refused(cause)) => return Err(Stop::Refused(cause)),
+            Err(Stop::OutOfMemory) => return Err(Stop::OutOfMemory),
+        };
+        let _taken = self.bus.next(place);
+        self.bus.release();
+        Ok(self.looked(looked))
+    }
+
+    /// A station takes the frame that it took last once more.
+    pub(crate) fn take_again(&mut self, station: Address, room: bool) -> Result<Reply, Stop>
+        ensures { IsAnswer (at_address self.old station (repeats self.old room)) self.old self.new result }
+    {
+        let Some(place) = self.place_of(station) else {
+            return Err(Stop::Refused(Refusal::NoSuchStation));
+        };
+        let Some(frame) = self.bus.again(place) else {
+            return Err(Stop::Refused(Refusal::NothingToRepeat));
+        };
+        let now = self.clock.now();
+        let looked = match look(&mut self.stations[place], &frame, room, now) {
+            Ok(looked) => looked,
+            Err(Stop::Refused(cause)) => return Err(Stop::Refused(cause)),
+            Err(Stop::OutOfMemory) => return Err(Stop::OutOfMemory),
+        };
+        count_repeat(&mut self.counts);
+        Ok(self.looked(looked))
+    }
+
+    /// A station missed the next n frames.
+    pub(crate) fn overrun(&mut self, station: Address, n: u64) -> Result<Reply, Stop>
+        ensures { IsAnswer (at_address self.old station (overruns self.old n)) self.old self.new result }
+    {
+        let Some(place) = self.place_of(station) else {
+            return Err(Stop::Refused(Refusal::NoSuchStation));
+        };
+        if n > self.bus.waiting(place) {
+            return Err(Stop::Refused(Refusal::NothingToTake));
+        }
+        let events = self.stations[place].overrun()?;
+        let _passed = self.bus.skip(place, n);
+        self.bus.release();
+        Ok(self.told(events))
+    }
+
+    /// The frame that the station at a place takes next.
+    pub(crate) fn next_frame(&self, place: usize) -> Option<Frame>
+        requires { place < length self.now.stations }
+        ensures { result ≡ next_frame self.now.bus place }
+    {
+        let waiting = self.bus.waiting(place);
+        if waiting == 0 {
+            return None;
+        }
+        self.bus.frame(self.bus.len() - waiting + 1)
+    }
+
+    // The reply to a Take, which is counted.
+    fn looked(&mut self, looked: Looked) -> Reply
+        ensures reply { result ≡ Done looked.events }
+        ensures counts { self.new ≡ record self.old { counts = counted (counted_look self.old.counts looked.is_malformed) looked.events } }
+    {
+        count_look(&mut self.counts, looked.is_malformed);
+        self.told(looked.events)
+    }
+}
