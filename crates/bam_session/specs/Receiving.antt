@@ -25,6 +25,16 @@ abbrev pub stepped : Incoming → Wire → (now : ℕ) → Received
 stepped s (Packet Tp k bytes) now = received s k bytes now
 stepped s _ now = Awaits s
 
+-- the frame is the next packet, and not the last
+abbrev pub goes_on : Incoming → Wire → Bool
+goes_on s (Packet Tp k bytes) = k == s.join.next && not (wants_last s.join)
+goes_on s _ = false
+
+-- the packet of the frame is accepted
+abbrev pub gone_on : Incoming → Wire → (now : ℕ) → Incoming
+gone_on s (Packet Tp k bytes) now = accepted s bytes now
+gone_on s _ now = s
+
 -- the frame is the last packet, and the next one
 abbrev pub completes : Incoming → Wire → Bool
 completes s (Packet Tp k bytes) = wants_last s.join && k == s.join.next

@@ -1,10 +1,11 @@
 //! Receiving from one that sends to all.
 ghost use Rattle.std.specs.Prelude.{◌≡◌, ◌<◌, ◌≤◌, true, false};
+ghost use Rattle.std.specs.Bool.{OnTrue, OnFalse};
 ghost use Rattle.seg_cut.specs.Packets.{packet_count};
 ghost use Rattle.seg_cut.specs.Join.{IsJoin, joined, wants_last as wants_last_at};
 ghost use Rattle.tick_timers.specs.Timers.{is_due as is_due_at};
 ghost use Rattle.bam_session.specs.States.{is_size, announced, accepted};
-ghost use Rattle.bam_session.specs.Receiving.{received, stepped, completes as completes_at};
+ghost use Rattle.bam_session.specs.Receiving.{Awaits, received, stepped, goes_on, gone_on, completes as completes_at};
 ghost use Rattle.bam_session.specs.Shown.{shown};
 
 use pgn_ids::{Address, WirePgn};
@@ -78,6 +79,30 @@ impl BamIn {
         self.take(*sequence, *bytes, now)
     }
 
+    /// Takes a packet in the middle of the message in place, at tick `now` (SAE J1939-21, TP.DT): whether the frame is
+    /// the next packet, and not the last. The step with it goes on in the same way; any other frame changes nothing.
+    #[inline]
+    pub fn go_on(&mut self, wire: &Wire, now: u64) -> bool
+        ensures value { result ≡ goes_on self.old wire.now }
+        ensures next { OnTrue result (self.new ≡ gone_on self.old wire.now now) }
+        ensures step { OnTrue result (stepped self.old wire.now now ≡ Awaits self.new) }
+        ensures other { OnFalse result (self.new ≡ self.old) }
+    {
+        let Wire::Packet {
+            kind: Kind::Tp,
+            sequence,
+            bytes,
+        } = wire
+        else {
+            return false;
+        };
+        if u32::from(*sequence) != self.join.next() || self.join.wants_last() {
+            return false;
+        }
+        self.put(*bytes, now);
+        true
+    }
+
     /// Takes a packet, by the first row of the table that fits.
     fn take(self, sequence: u8, packet: [u8; 7], now: u64) -> BamStepped
         ensures { shown result ≡ received self sequence packet now }
@@ -97,13 +122,23 @@ impl BamIn {
     }
 
     /// Goes on with its next packet, which is not the last.
+    #[inline]
     fn accept(mut self, packet: [u8; 7], now: u64) -> BamIn
         requires { wants_last_at self.join ≡ false }
         ensures { result ≡ accepted self packet now }
     {
+        self.put(packet, now);
+        self
+    }
+
+    /// Puts its next packet, which is not the last.
+    #[inline]
+    fn put(&mut self, packet: [u8; 7], now: u64)
+        requires { wants_last_at self.old.join ≡ false }
+        ensures { self.new ≡ accepted self.old packet now }
+    {
         put_next(&mut self.join, packet);
         self.timer = Timer::start(now, T1);
-        self
     }
 
     /// Ends with its last packet: the bytes of the message.
@@ -194,6 +229,7 @@ impl BamIn {
 }
 
 /// Puts the next packet, for which there is room.
+#[inline]
 fn put_next(join: &mut Join, packet: [u8; 7])
     requires unfinished { join.old.next ≤ packet_count join.old.size }
     requires room { 0 < join.old.room }

@@ -160,6 +160,30 @@ fn nine_bytes_are_received(rt: HostRuntime) -> Result<(), Fail> {
 }
 
 #[test]
+fn a_packet_in_the_middle_is_taken_in_place(rt: HostRuntime) -> Result<(), Fail> {
+    let (first, last) = (packet(1, FIRST), packet(2, LAST));
+    let mut state = receiver(rt.alloc())?;
+    let went_on = state.go_on(&first, 100);
+    // A packet that has come, the last one and one that is skipped change nothing.
+    let others = state.go_on(&first, 700)
+        || state.go_on(&last, 700)
+        || state.go_on(&packet(3, LAST), 700);
+    let due = (state.is_due(849), state.is_due(850));
+    let bytes = match state.step(&last, 800) {
+        BamStepped::Complete(bytes) => Some(bytes),
+        BamStepped::On(state) => {
+            state.overrun();
+            None
+        }
+        BamStepped::Dropped => None,
+    };
+    assert!(rt; went_on && !others);
+    assert_eq!(rt; due, (false, true));
+    assert!(rt; bytes.is_some_and(|bytes| bytes.as_slice() == M9.as_slice()));
+    Ok(())
+}
+
+#[test]
 fn a_message_is_dropped(rt: HostRuntime) -> Result<(), Fail> {
     assert!(rt; is_dropped(receiver(rt.alloc())?.step(&packet(2, LAST), 1)));
     receiver(rt.alloc())?.expire();

@@ -1,6 +1,6 @@
 -- What a receiver makes of what comes: a DPO and a packet of the extended transport by their rows, everything else leaves it as
 -- it is (ISO 11783-3).
-use Rattle.std.specs.Prelude.{ℕ, ◌+◌, Bool, false, ◌&&◌, nat_le, ◌==◌, None}
+use Rattle.std.specs.Prelude.{ℕ, ◌+◌, Bool, false, not, ◌&&◌, nat_lt, nat_le, ◌==◌, None}
 use Rattle.tick_timers.specs.Timers.{Timer}
 use Rattle.tp_wire.specs.declared.reason.AbortReason.TheVariants.{Timeout}
 use Rattle.tp_wire.specs.declared.wire.Kind.TheVariants.{Etp}
@@ -12,7 +12,7 @@ use Rattle.responder.specs.Peer.{Peer}
 use Rattle.responder.specs.declared.flow.Flow.{Flow}
 use Rattle.etp_session.specs.States.{AwaitPacket, Holding}
 use Rattle.etp_session.specs.DpoRows.{aborted, on_dpo, on_dpo_in_hold}
-use Rattle.etp_session.specs.PacketRows.{asks, on_packet, on_packet_in_hold}
+use Rattle.etp_session.specs.PacketRows.{accepted, asks, on_packet, on_packet_in_hold}
 use Rattle.etp_session.specs.declared.in_state.InState.{InState}
 use Rattle.etp_session.specs.declared.received.Received.{Received}
 use Rattle.etp_session.specs.declared.received.Received.TheVariants.{On}
@@ -34,6 +34,26 @@ holding_stepped s _ = On (InState.Holding s) None
 abbrev pub stepped : InState → Wire → (room : Bool) → Flow → (now : ℕ) → Received
 stepped (InState.AwaitPacket s) wire room flow now = awaiting_stepped s wire room flow now
 stepped (InState.Holding s) wire room flow now = holding_stepped s wire
+
+-- the frame is the next packet, and the last neither of the message nor of what is announced
+abbrev pub awaiting_goes_on : AwaitPacket → Wire → Bool
+awaiting_goes_on s (Packet Etp sequence bytes) =
+    s.offset + sequence == s.join.next && not (wants_last s.join) && nat_lt s.join.next s.until
+awaiting_goes_on s _ = false
+
+-- the packet of the frame is accepted
+abbrev pub awaiting_gone_on : AwaitPacket → Wire → (now : ℕ) → AwaitPacket
+awaiting_gone_on s (Packet Etp sequence bytes) now = accepted s bytes now
+awaiting_gone_on s _ now = s
+
+-- in either state: on hold no packet is awaited
+abbrev pub goes_on : InState → Wire → Bool
+goes_on (InState.AwaitPacket s) wire = awaiting_goes_on s wire
+goes_on (InState.Holding s) wire = false
+
+abbrev pub gone_on : InState → Wire → (now : ℕ) → InState
+gone_on (InState.AwaitPacket s) wire now = InState.AwaitPacket (awaiting_gone_on s wire now)
+gone_on (InState.Holding s) wire now = InState.Holding s
 
 -- the timer fired: T1 or T2 ends the session, Th asks again
 abbrev pub expired : InState → Flow → (now : ℕ) → Received

@@ -1,5 +1,6 @@
 //! A receiver that awaits the packets of a window.
-ghost use Rattle.std.specs.Prelude.{◌≡◌, ◌+◌, ◌-◌, ◌*◌, ◌<◌, ◌≤◌, ◌&&◌, ◌==◌, nat_le, true, false, length, OnOk, OnErr};
+ghost use Rattle.std.specs.Prelude.{◌≡◌, ◌+◌, ◌-◌, ◌*◌, ◌<◌, ◌≤◌, ◌&&◌, Bool, ◌==◌, nat_le, true, false, length, OnOk, OnErr, None};
+ghost use Rattle.std.specs.Bool.{OnTrue, OnFalse};
 ghost use Rattle.tick_timers.specs.Timers.{is_due as is_due_at};
 ghost use Rattle.tp_wire.specs.Reason.{reason_byte};
 ghost use Rattle.tp_wire.specs.declared.wire.Kind.TheVariants.{Etp};
@@ -8,13 +9,16 @@ ghost use Rattle.tp_wire.specs.declared.reason.AbortReason.TheVariants.{Resource
 ghost use Rattle.tp_wire.specs.declared.constants.TheConstants.{ETP_MAX_WINDOW};
 ghost use Rattle.seg_cut.specs.Join.{held, joined, wants_last as wants_last_at};
 ghost use Rattle.responder.specs.Answers.{abort_frame};
+ghost use Rattle.responder.specs.declared.flow.Flow.{Flow};
 ghost use Rattle.responder.specs.declared.flow.Flow.TheVariants.{Open};
 ghost use Rattle.etp_session.specs.Window.{window as window_of};
 ghost use Rattle.etp_session.specs.States.{with_window};
 ghost use Rattle.etp_session.specs.Asking.{asked, grant};
 ghost use Rattle.etp_session.specs.DpoRows.{on_dpo};
 ghost use Rattle.etp_session.specs.PacketRows.{accepted, asks, finished, on_packet};
-ghost use Rattle.etp_session.specs.Steps.{awaiting_stepped};
+ghost use Rattle.etp_session.specs.Steps.{awaiting_stepped, awaiting_goes_on, awaiting_gone_on};
+ghost use Rattle.etp_session.specs.declared.in_state.InState.TheVariants as InState;
+ghost use Rattle.etp_session.specs.declared.received.Received.TheVariants.{On};
 ghost use Rattle.etp_session.specs.Room.{IsPrepared, grants_next, prepared};
 ghost use Rattle.etp_session.specs.Memory.{IsWithinWindow};
 ghost use Rattle.etp_session.specs.Shape.{IsUnderWay};
@@ -140,6 +144,34 @@ impl AwaitPacket {
         }
     }
 
+    /// Takes a packet in the middle of a window in place, at tick `now` (ISO 11783-3, ETP.DT): whether the frame is the
+    /// next packet, and the last neither of the message nor of what the DPO announced. Nothing is prepared for it: the step
+    /// with it goes on in the same way, whatever its `room` and `flow`, and queues nothing. Any other frame changes nothing.
+    #[inline]
+    pub fn go_on(&mut self, wire: &Wire, now: u64) -> bool
+        ensures value { result ≡ awaiting_goes_on self.old wire.now }
+        ensures next { OnTrue result (self.new ≡ awaiting_gone_on self.old wire.now now) }
+        ensures unprepared { OnTrue result ((room : Bool) (flow : Flow) → prepared self.old wire.now room flow ≡ self.old) }
+        ensures step { OnTrue result ((room : Bool) (flow : Flow)
+            → awaiting_stepped self.old wire.now room flow now ≡ On (InState.AwaitPacket self.new) None) }
+        ensures other { OnFalse result (self.new ≡ self.old) }
+    {
+        let Wire::Packet {
+            kind: Kind::Etp,
+            sequence,
+            bytes,
+        } = wire
+        else {
+            return false;
+        };
+        let next = self.join.next();
+        if self.offset + u32::from(*sequence) != next || next >= self.until {
+            return false;
+        }
+        self.put(*bytes, now);
+        true
+    }
+
     /// A DPO came.
     fn take_dpo(mut self, packets: u8, offset: u32, pgn: WirePgn) -> Received
         ensures { result ≡ on_dpo self packets offset pgn }
@@ -176,7 +208,7 @@ impl AwaitPacket {
             return Received::On(InState::AwaitPacket(self.accept(bytes, now)), None);
         }
         if !is_last && room {
-            return self.go_on(bytes, flow, now);
+            return self.ask_next(bytes, flow, now);
         }
         if !is_last {
             return Received::Ended(Some(self.abort_with(AbortReason::Resources)));
@@ -191,13 +223,23 @@ impl AwaitPacket {
         requires inside { self.join.next < self.until }
         ensures { result ≡ accepted self bytes now }
     {
-        put_next(&mut self.join, bytes);
-        self.timer = Timer::start(now, T1);
+        self.put(bytes, now);
         self
     }
 
+    /// Puts a packet inside a window.
+    #[inline]
+    fn put(&mut self, bytes: [u8; 7], now: u64)
+        requires to_come { wants_last_at self.old.join ≡ false }
+        requires inside { self.old.join.next < self.old.until }
+        ensures { self.new ≡ accepted self.old bytes now }
+    {
+        put_next(&mut self.join, bytes);
+        self.timer = Timer::start(now, T1);
+    }
+
     /// Accepts the last packet that was announced, and asks for the next window.
-    fn go_on(self, bytes: [u8; 7], flow: Flow, now: u64) -> Received
+    fn ask_next(self, bytes: [u8; 7], flow: Flow, now: u64) -> Received
         requires to_come { wants_last_at self.join ≡ false }
         requires announced { self.until ≡ self.join.next }
         requires room { 1 + grant flow self.join.size (self.join.next + 1) ≤ self.join.room }

@@ -1,5 +1,6 @@
 //! The states of a receiver together, and how it begins.
-ghost use Rattle.std.specs.Prelude.{◌≡◌, ◌+◌, ◌*◌, ◌<◌, ◌≤◌, length, OnOk, OnErr};
+ghost use Rattle.std.specs.Prelude.{◌≡◌, ◌+◌, ◌*◌, ◌<◌, ◌≤◌, Bool, None, length, OnOk, OnErr};
+ghost use Rattle.std.specs.Bool.{OnTrue, OnFalse};
 ghost use Rattle.tick_timers.specs.Timers.{is_due as is_due_at};
 ghost use Rattle.tp_wire.specs.declared.wire.Kind.TheVariants.{Etp};
 ghost use Rattle.tp_wire.specs.Reason.{reason_byte};
@@ -7,9 +8,11 @@ ghost use Rattle.tp_wire.specs.declared.reason.AbortReason.TheVariants.{Resource
 ghost use Rattle.tp_wire.specs.declared.constants.TheConstants.{ETP_MAX_WINDOW};
 ghost use Rattle.seg_cut.specs.Join.{held};
 ghost use Rattle.responder.specs.Answers.{abort_frame};
+ghost use Rattle.responder.specs.declared.flow.Flow.{Flow};
 ghost use Rattle.tp_wire.specs.Sizes.{IsSizeOf};
 ghost use Rattle.etp_session.specs.Asking.{asking, asked};
-ghost use Rattle.etp_session.specs.Steps.{stepped, expired, peer_of, timer_of, join_of, completes as completes_at};
+ghost use Rattle.etp_session.specs.Steps.{stepped, goes_on, gone_on, expired, peer_of, timer_of, join_of, completes as completes_at};
+ghost use Rattle.etp_session.specs.declared.received.Received.TheVariants.{On};
 ghost use Rattle.etp_session.specs.Room.{HasRoom, IsPreparedState, IsPreparedToExpire, prepared_state, prepared_to_expire};
 ghost use Rattle.etp_session.specs.Memory.{IsWithinWindow};
 ghost use Rattle.etp_session.specs.Shape.{IsUnderWay};
@@ -93,6 +96,22 @@ impl InState {
         match self {
             InState::AwaitPacket(state) => state.step(wire, room, flow, now),
             InState::Holding(state) => state.step(wire),
+        }
+    }
+
+    /// Takes a packet in the middle of a window in place, at tick `now`, as the `go_on` of its state does (ISO
+    /// 11783-3, ETP.DT); on hold there is none.
+    #[inline]
+    pub fn go_on(&mut self, wire: &Wire, now: u64) -> bool
+        ensures value { result ≡ goes_on self.old wire.now }
+        ensures next { OnTrue result (self.new ≡ gone_on self.old wire.now now) }
+        ensures unprepared { OnTrue result ((room : Bool) (flow : Flow) → prepared_state self.old wire.now room flow ≡ self.old) }
+        ensures step { OnTrue result ((room : Bool) (flow : Flow) → stepped self.old wire.now room flow now ≡ On self.new None) }
+        ensures other { OnFalse result (self.new ≡ self.old) }
+    {
+        match self {
+            InState::AwaitPacket(state) => state.go_on(wire, now),
+            InState::Holding(_) => false,
         }
     }
 

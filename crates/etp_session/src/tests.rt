@@ -217,6 +217,25 @@ fn first_window(rt: &impl Abort, state: InState, flow: Flow) -> Received {
     take(rt, state, &data(64, [0; 7]), flow)
 }
 
+#[test]
+fn packets_in_a_window_are_taken_in_place(rt: HostRuntime) -> Result<(), Fail> {
+    let (mut state, _) = begun(&rt, rt.alloc(), 1786, Flow::Open)?;
+    let unannounced = state.go_on(&data(1, [0; 7]), 50);
+    let mut state = goes_on(&rt, take(&rt, state, &dpo(&rt, 3, 0), Flow::Open));
+    let went_on = state.go_on(&data(1, [0; 7]), 100) && state.go_on(&data(2, [0; 7]), 200);
+    // A packet that has come, the last that is announced and one that is skipped change nothing.
+    let others = state.go_on(&data(2, [0; 7]), 300)
+        || state.go_on(&data(3, [0; 7]), 300)
+        || state.go_on(&data(4, [0; 7]), 300);
+    let due = (state.is_due(949), state.is_due(950));
+    let (state, cts) = goes_out(&rt, take(&rt, state, &data(3, [0; 7]), Flow::Open));
+    state.overrun();
+    assert!(rt; !unannounced && went_on && !others);
+    assert_eq!(rt; due, (false, true));
+    assert_eq!(rt; cts, from_35(&rt, ETP_CTS, [0x40, 4, 0, 0]));
+    Ok(())
+}
+
 // The state that goes on, and what goes out.
 fn goes_out(rt: &impl Abort, received: Received) -> (InState, Frame) {
     match received {

@@ -1,7 +1,7 @@
 -- A table's meaning after a write of one place and of the index at one key.
 use Rattle.std.proofs.Common.{◌≡◌, ℕ, ◌+◌, ◌≤◌, Bool, true, false, cond, List, [], ◌∷◌, length, map as map_list, Option, Some, None, refl, sym, ap, subst, ◌∙◌, true≢false, inl, inr, is_some, add-one, slice_index_or}
 use Rattle.std.proofs.lemmas.Bool.{cases_eq}
-use Rattle.std.specs.Option.{option_and_then, option_map}
+use Rattle.std.specs.Option.{option_and_then, option_flatten, option_map}
 use Rattle.std.specs.Map.{lookup, keys_of}
 use Rattle.std.specs.List.{AllByRecursion, IsDistinct}
 use Rattle.std.proofs.lemmas.Map.Keys.{IsDistinct-head, IsDistinct-tail}
@@ -17,6 +17,9 @@ use Rattle.session_table.specs.declared.place.Place.{Place}
 use Rattle.session_table.specs.declared.incoming.Incoming.{Incoming}
 use Rattle.session_table.specs.Shape.{content_of}
 use Rattle.session_table.specs.Sessions.{Sessions}
+use Rattle.session_table.specs.Incoming.{goes_on, gone_on}
+use Rattle.session_table.specs.GoingOn.{content_after, gone_on_at, gone_on_by}
+use Rattle.tp_wire.specs.declared.wire.Wire.{Wire}
 use Rattle.session_table.specs.Key.{key_cmp, key_eq}
 use Rattle.session_table.specs.Shape.{content_at, sessions_of, IsPlaceOf, IsLinked}
 use Rattle.session_table.proofs.Keys.{key_total, key_apart, derived_eq}
@@ -242,3 +245,23 @@ contains-sessions_of places es q = ap is_some (get-sessions_of places es q) ∙ 
 
 pub get_inserted : {T : Type 0} (m : Sessions T) (k : Key) (v : Option (T × Incoming)) → get (insert m k v) k ≡ Some v
 get_inserted m k v = get-insert key_total m k v k ∙ ap (λ b. cond b (Some v) (get m k)) (key_eq-refl k)
+
+module _ {T : Type 0} (m : Sessions T) (k : Key) where
+  same : (a : Option (Option (T × Incoming))) → get m k ≡ a → (q : Key) (t : Bool) → key_eq q k ≡ t → cond t a (get m q) ≡ get m q
+  same a is q true e = sym is ∙ ap (get m) (sym (key_eq-same q k e))
+  same a is q false e = refl
+
+  -- what is written as it was changes nothing
+  as_it_was : (a : Option (T × Incoming)) → get m k ≡ Some a → insert m k a ≡ m
+  as_it_was a is = same_map key_total key_apart _ _ (λ q. get-insert key_total m k a q ∙ same (Some a) is q (key_eq q k) refl)
+
+  -- what stands at the key takes a frame in place
+  pub written_in_place : (wire : Wire) (now : ℕ) (c : Option (T × Incoming)) → get m k ≡ Some c → insert m k (content_after c wire now) ≡ gone_on_at m k wire now
+  written_in_place wire now c is = by c is ∙ sym (ap (λ o. gone_on_by (option_flatten o) k wire now m) is)
+    where
+      by : (c : Option (T × Incoming)) → get m k ≡ Some c → insert m k (content_after c wire now) ≡ gone_on_by c k wire now m
+      by None is = as_it_was None is
+      by (Some v) is = elim (goes_on v.1 wire) as (λ b. insert m k (cond b (Some (v.0, gone_on v.1 wire now)) (Some v)) ≡ cond b (insert m k (Some (v.0, gone_on v.1 wire now))) m) [
+        | true ↦ refl
+        | false ↦ as_it_was (Some v) is
+      ]

@@ -1,11 +1,13 @@
 //! The state of an incoming session, whatever its kind.
 ghost use Rattle.std.specs.Prelude.{◌≡◌};
+ghost use Rattle.std.specs.Bool.{OnTrue, OnFalse};
 ghost use Rattle.tick_timers.specs.Timers.{is_due as is_due_at};
-ghost use Rattle.session_table.specs.Incoming.{kind_of, pgn_of, timer_of};
+ghost use Rattle.session_table.specs.Incoming.{goes_on, gone_on, kind_of, pgn_of, timer_of};
 
 use crate::key::SessionKind;
 use bam_session::BamIn;
 use pgn_ids::WirePgn;
+use tp_wire::Wire;
 
 /// The state of an incoming session, whatever its kind. It must be spent.
 pub enum Incoming {
@@ -48,6 +50,22 @@ impl Incoming {
             Incoming::Broadcast(state) => state.is_due(now),
             Incoming::Tp(state) => state.is_due(now),
             Incoming::Etp(state) => state.is_due(now),
+        }
+    }
+
+    /// Takes a packet in the middle of its message in place, at tick `now` (SAE J1939-21, TP.DT; ISO 11783-3, ETP.DT):
+    /// whether the frame is the next packet, and the last neither of the message nor of a window. A step with it goes on
+    /// in the same way and queues nothing; any other frame changes nothing.
+    #[inline]
+    pub fn go_on(&mut self, wire: &Wire, now: u64) -> bool
+        ensures value { result ≡ goes_on self.old wire.now }
+        ensures next { OnTrue result (self.new ≡ gone_on self.old wire.now now) }
+        ensures other { OnFalse result (self.new ≡ self.old) }
+    {
+        match self {
+            Incoming::Broadcast(state) => state.go_on(wire, now),
+            Incoming::Tp(state) => state.go_on(wire, now),
+            Incoming::Etp(state) => state.go_on(wire, now),
         }
     }
 

@@ -11,6 +11,7 @@ use indexmap::IndexMap;
 pub(crate) type Index = IndexMap<Key, usize>;
 
 /// The place of a key.
+#[inline]
 pub(crate) fn find(index: &Index, key: Key) -> Option<usize>
     ensures { result ≡ lookup (key_eq key) index.now.entries }
 {

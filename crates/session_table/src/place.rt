@@ -3,10 +3,23 @@ ghost use Rattle.std.specs.Prelude.{◌≡◌};
 ghost use Rattle.std.specs.Option.{option_map};
 ghost use Rattle.std.specs.Map.Iter.{deref_pair};
 ghost use Rattle.session_table.specs.Shape.{content_at, content_of};
+ghost use Rattle.session_table.specs.GoingOn.{content_after, in_place};
 
 use crate::incoming::Incoming;
 use crate::key::Key;
 use slab::Slab;
+use tp_wire::Wire;
+
+/// What a frame did in place at the key of its session.
+#[derive(Clone, Copy, Debug, PartialEq, Eq)]
+pub enum InPlace {
+    /// No state stands at the key, which isn't there or is held.
+    NoSession,
+    /// It was a packet in the middle of the message, and the state went on.
+    GoneOn,
+    /// It is another frame, which wants a step of the state. Nothing has changed.
+    StepWanted,
+}
 
 /// A state with what it is bound to, or nothing while its key is held. One that is dropped spends its state.
 pub(crate) enum Slot<T> {
@@ -31,6 +44,21 @@ impl<T> Slot<T> {
             Slot::Empty => None,
             Slot::Full(bound, state) => Some((bound, state)),
         }
+    }
+
+    /// Its state takes a frame at tick `now` in place, where that is a packet in the middle of the message.
+    #[inline]
+    pub(crate) fn go_on(&mut self, wire: &Wire, now: u64) -> InPlace
+        ensures answer { result ≡ in_place (content_of self.old) wire.now }
+        ensures content { content_of self.new ≡ content_after (content_of self.old) wire.now now }
+    {
+        let Slot::Full(_, state) = self else {
+            return InPlace::NoSession;
+        };
+        if state.go_on(wire, now) {
+            return InPlace::GoneOn;
+        }
+        InPlace::StepWanted
     }
 }
 

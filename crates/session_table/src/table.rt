@@ -10,6 +10,7 @@ ghost use Rattle.indexmap.specs.IndexMap.{spare};
 ghost use Rattle.session_table.specs.Key.{key_eq};
 ghost use Rattle.session_table.specs.Sessions.{IsHeld, state_at};
 ghost use Rattle.session_table.specs.DueOrder.{IsLeastPicked, first_above, first_due, is_above_low, is_due_now};
+ghost use Rattle.session_table.specs.GoingOn.{gone_on_at, in_place};
 ghost use Rattle.session_table.specs.Refusal.{refusal};
 
 use crate::MAX_SESSIONS;
@@ -17,13 +18,14 @@ use crate::held::Held;
 use crate::incoming::Incoming;
 use crate::index::{Index, find, link, unlink};
 use crate::key::Key;
-use crate::place::{Place, Slot, content};
+use crate::place::{InPlace, Place, Slot, content};
 use crate::walk::{is_above_at, is_due_at, lesser};
 use indexmap::IndexMap;
 use slab::Slab;
 use std::alloc::{AllocError, Global};
 use std::marker::Model;
 use std::mem;
+use tp_wire::Wire;
 
 /// Why a session was not opened, with what was handed in. Its state must be spent.
 pub enum OpenRefused<T> {
@@ -106,6 +108,24 @@ impl<T> SessionTable<T> {
         });
         link(&mut self.index, key, at);
         Ok(())
+    }
+
+    /// The state of a key takes a frame at tick `now` in place, where that is a packet in the middle of its message
+    /// (SAE J1939-21, TP.DT; ISO 11783-3, ETP.DT): the next one, and the last neither of the message nor of a window. A
+    /// step with it goes on in the same way and queues nothing. Any other frame changes nothing, nor does any where the
+    /// key isn't there or is held. It takes no memory.
+    #[inline]
+    pub fn go_on(&mut self, key: Key, wire: &Wire, now: u64) -> InPlace
+        ensures answer { result ≡ in_place (state_at self.old key) wire.now }
+        ensures sessions { self.new ≡ gone_on_at self.old key wire.now now }
+    {
+        let Some(at) = find(&self.index, key) else {
+            return InPlace::NoSession;
+        };
+        let Some(found) = self.places.get_mut(at) else {
+            return InPlace::NoSession;
+        };
+        found.slot.go_on(wire, now)
     }
 
     /// Takes the state of a key out, and leaves the key, which is held from now on. None where the key isn't there or

@@ -9,6 +9,7 @@ use std::alloc::{AllocError, Global};
 use std::process::Abort;
 use std::test::Fail;
 use tp_wire::constants::ETP_MAX_WINDOW;
+use tp_wire::{Kind, Wire};
 
 trait IsSpentOrDropped {}
 
@@ -156,6 +157,32 @@ fn the_33rd_is_refused(rt: HostRuntime) -> Result<(), Fail> {
     };
     assert_eq!(rt; back, Some((7, FECA)));
     assert_eq!(rt; table.len(), 32);
+    Ok(())
+}
+
+#[test]
+fn a_packet_is_taken_in_place(rt: HostRuntime) -> Result<(), Fail> {
+    let mut table = SessionTable::new(rt.alloc());
+    let key = key(0x80, SessionKind::Broadcast);
+    let packet = |sequence: u8| Wire::Packet {
+        kind: Kind::Tp,
+        sequence,
+        bytes: [1, 2, 3, 4, 5, 6, 7],
+    };
+    let absent = table.go_on(key, &packet(1), 100);
+    open(&rt, rt.alloc(), &mut table, key)?;
+    let first = table.go_on(key, &packet(1), 100);
+    let last = table.go_on(key, &packet(2), 200);
+    let due = (table.next_due(849), table.next_due(850));
+    let Some((held, _bound, state)) = table.take_out(key) else {
+        panic!(rt; "nothing at the key")
+    };
+    state.overrun();
+    let out = table.go_on(key, &packet(2), 300);
+    table.end(held);
+    assert_eq!(rt; (absent, first), (InPlace::NoSession, InPlace::GoneOn));
+    assert_eq!(rt; (last, out), (InPlace::StepWanted, InPlace::NoSession));
+    assert_eq!(rt; due, (None, Some(key)));
     Ok(())
 }
 

@@ -1,2 +1,3 @@
 pub mod SessionMaps
 pub mod Settling
+pub mod GoingOn

@@ -1,11 +1,13 @@
 //! The incoming sessions of a station.
-ghost use Rattle.std.specs.Prelude.{◌≡◌, ◌≤◌, ◌<◌, ◌-◌, Some, None, [], length, All, IfOk, IfErr, OnOk, OnErr, true};
+ghost use Rattle.std.specs.Prelude.{◌≡◌, ◌≤◌, ◌<◌, ◌-◌, Bool, Some, None, [], length, All, IfOk, IfErr, OnOk, OnErr, true};
+ghost use Rattle.std.specs.Bool.{OnTrue, OnFalse};
 ghost use Rattle.std.specs.FinMap as map;
+ghost use Rattle.port_table.specs.Ports.{Ports};
 ghost use Rattle.session_table.specs.Sessions.{IsHeld, state_at};
 ghost use Rattle.session_table.specs.DueOrder.{first_due};
 ghost use Rattle.session_table.specs.declared.TheConstants.{MAX_SESSIONS};
 ghost use Rattle.station_sessions.specs.Progress.{completes as completes_at, size_of, prepared, IsPrepared, whole_size};
-ghost use Rattle.station_sessions.specs.Receiving.{Inbound, flow_at, concluded, settled, received, fired_at, aborted_at, unbound_at, wanted_by};
+ghost use Rattle.station_sessions.specs.Receiving.{Inbound, flow_at, concluded, settled, received, fired_at, aborted_at, unbound_at, unheard, wanted_by};
 ghost use Rattle.station_sessions.specs.CopyRoom.{IsCovered};
 
 use crate::copies::{Copies, give};
@@ -14,7 +16,7 @@ use bus_frame::Frame;
 use pgn_ids::{Address, WirePgn};
 use port_table::{PortSet, PortTable};
 use responder::Flow;
-use session_table::{Held, Incoming, Key, OpenRefused, SessionTable};
+use session_table::{Held, InPlace, Incoming, Key, OpenRefused, SessionTable};
 use station_lanes::Events;
 use std::alloc::{AllocError, Global};
 use std::marker::Model;
@@ -178,8 +180,41 @@ impl Receivers {
     /// the message, and whether there is room for the next window; without room a connection ends by an abort.
     ///
     /// All memory is taken first: want of it changes nothing.
-    #[tactic(auto, using(crate::proofs::SessionMaps::session_maps))]
     pub fn receive(
+        &mut self,
+        ports: &PortTable,
+        key: Key,
+        wire: &Wire,
+        room: bool,
+        now: u64,
+    ) -> Result<Told, AllocError>
+        ensures ok { IfOk result (λ told. received ports.now key wire.now room now self.old ≡ record { sessions = self.new; frame = told.frame; events = told.events }) }
+        ensures err { OnErr result (self.new ≡ self.old) }
+    {
+        if self.go_on(key, wire, now) {
+            return Ok(quiet(self.alloc, None));
+        }
+        self.step(ports, key, wire, room, now)
+    }
+
+    // Takes a packet in the middle of a message where its session stands, and passes over a frame without a session: most
+    // frames of a bus are one or the other, and the state isn't moved for them. Any other frame changes nothing.
+    #[inline(always)]
+    fn go_on(&mut self, key: Key, wire: &Wire, now: u64) -> bool
+        ensures done { OnTrue result ((ports : Ports) (room : Bool) → received ports key wire.now room now self.old ≡ unheard self.new) }
+        ensures wanted { OnFalse result (self.new ≡ self.old) }
+    {
+        let InPlace::StepWanted = self.table.go_on(key, wire, now) else {
+            return true;
+        };
+        false
+    }
+
+    // Takes any frame by a step of the state, which it takes out of the table. It is kept out of `receive`, since a function
+    // pays at its entry for all its locals.
+    #[inline(never)]
+    #[tactic(auto, using(crate::proofs::SessionMaps::session_maps))]
+    fn step(
         &mut self,
         ports: &PortTable,
         key: Key,
@@ -270,6 +305,7 @@ impl Receivers {
 }
 
 // A frame to be queued and nothing to tell.
+#[inline]
 fn quiet(alloc: Global, frame: Option<Frame>) -> Told
     ensures frame { result.frame ≡ frame }
     ensures events { result.events ≡ [] }

@@ -1,6 +1,6 @@
 -- What a receiver makes of what comes: a packet of the transport by its rows, everything else leaves it as it is
 -- (SAE J1939-21, connection mode data transfer).
-use Rattle.std.specs.Prelude.{ℕ, Bool, false, ◌&&◌, ◌==◌, None}
+use Rattle.std.specs.Prelude.{ℕ, Bool, false, not, ◌&&◌, nat_lt, ◌==◌, None}
 use Rattle.tick_timers.specs.Timers.{Timer}
 use Rattle.tp_wire.specs.declared.reason.AbortReason.TheVariants.{Timeout}
 use Rattle.tp_wire.specs.declared.wire.Kind.TheVariants.{Tp}
@@ -10,7 +10,7 @@ use Rattle.seg_cut.specs.Join.{Join, wants_last}
 use Rattle.responder.specs.Peer.{Peer}
 use Rattle.responder.specs.declared.flow.Flow.{Flow}
 use Rattle.tp_session.specs.States.{AwaitPacket, Holding}
-use Rattle.tp_session.specs.PacketRows.{aborted, asks, on_packet, on_packet_in_hold}
+use Rattle.tp_session.specs.PacketRows.{aborted, accepted, asks, on_packet, on_packet_in_hold}
 use Rattle.tp_session.specs.declared.in_state.InState.{InState}
 use Rattle.tp_session.specs.declared.received.Received.{Received}
 use Rattle.tp_session.specs.declared.received.Received.TheVariants.{On}
@@ -29,6 +29,26 @@ holding_stepped s _ = On (InState.Holding s) None
 abbrev pub stepped : InState → Wire → (room : Bool) → Flow → (now : ℕ) → Received
 stepped (InState.AwaitPacket s) wire room flow now = awaiting_stepped s wire room flow now
 stepped (InState.Holding s) wire room flow now = holding_stepped s wire
+
+-- the frame is the next packet, and the last neither of the message nor of the window
+abbrev pub awaiting_goes_on : AwaitPacket → Wire → Bool
+awaiting_goes_on s (Packet Tp sequence bytes) =
+    sequence == s.join.next && not (wants_last s.join) && nat_lt sequence s.granted
+awaiting_goes_on s _ = false
+
+-- the packet of the frame is accepted
+abbrev pub awaiting_gone_on : AwaitPacket → Wire → (now : ℕ) → AwaitPacket
+awaiting_gone_on s (Packet Tp sequence bytes) now = accepted s bytes now
+awaiting_gone_on s _ now = s
+
+-- in either state: on hold no packet is awaited
+abbrev pub goes_on : InState → Wire → Bool
+goes_on (InState.AwaitPacket s) wire = awaiting_goes_on s wire
+goes_on (InState.Holding s) wire = false
+
+abbrev pub gone_on : InState → Wire → (now : ℕ) → InState
+gone_on (InState.AwaitPacket s) wire now = InState.AwaitPacket (awaiting_gone_on s wire now)
+gone_on (InState.Holding s) wire now = InState.Holding s
 
 -- the timer fired: T1 or T2 ends the session, TH asks again
 abbrev pub expired : InState → Flow → (now : ℕ) → Received

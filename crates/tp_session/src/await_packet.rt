@@ -1,5 +1,6 @@
 //! Awaiting packets.
-ghost use Rattle.std.specs.Prelude.{◌≡◌, ◌<◌, ◌≤◌, ◌&&◌, ◌==◌, false};
+ghost use Rattle.std.specs.Prelude.{◌≡◌, ◌<◌, ◌≤◌, Bool, ◌&&◌, ◌==◌, false, None};
+ghost use Rattle.std.specs.Bool.{OnTrue, OnFalse};
 ghost use Rattle.tick_timers.specs.Timers.{is_due as is_due_at};
 ghost use Rattle.tp_wire.specs.Reason.{reason_byte};
 ghost use Rattle.tp_wire.specs.declared.reason.AbortReason.TheVariants.{Resources, Timeout};
@@ -7,8 +8,11 @@ ghost use Rattle.tp_wire.specs.declared.wire.Kind.TheVariants.{Tp};
 ghost use Rattle.seg_cut.specs.Packets.{packet_count};
 ghost use Rattle.seg_cut.specs.Join.{wants_last as wants_last_at};
 ghost use Rattle.responder.specs.Answers.{abort_frame};
+ghost use Rattle.responder.specs.declared.flow.Flow.{Flow};
 ghost use Rattle.tp_session.specs.PacketRows.{aborted, accepted, on_packet};
-ghost use Rattle.tp_session.specs.Steps.{awaiting_stepped};
+ghost use Rattle.tp_session.specs.Steps.{awaiting_stepped, awaiting_goes_on, awaiting_gone_on};
+ghost use Rattle.tp_session.specs.declared.in_state.InState.TheVariants as InState;
+ghost use Rattle.tp_session.specs.declared.received.Received.TheVariants.{On};
 
 use crate::in_state::InState;
 use crate::incoming::Incoming;
@@ -67,15 +71,40 @@ impl AwaitPacket {
     pub fn step(self, wire: &Wire, room: bool, flow: Flow, now: u64) -> Received
         ensures { result ≡ awaiting_stepped self wire.now room flow now }
     {
+        match *wire {
+            Wire::Packet {
+                kind: Kind::Tp,
+                sequence,
+                bytes,
+            } => self.take(sequence, bytes, room, flow, now),
+            _ => Received::On(InState::AwaitPacket(self), None),
+        }
+    }
+
+    /// Takes a packet in the middle of a window in place, at tick `now` (SAE J1939-21, TP.DT): whether the frame is the
+    /// next packet, and the last neither of the message nor of its window. The step with it goes on in the same way,
+    /// whatever its `room` and `flow`, and queues nothing; any other frame changes nothing.
+    #[inline]
+    pub fn go_on(&mut self, wire: &Wire, now: u64) -> bool
+        ensures value { result ≡ awaiting_goes_on self.old wire.now }
+        ensures next { OnTrue result (self.new ≡ awaiting_gone_on self.old wire.now now) }
+        ensures step { OnTrue result ((room : Bool) (flow : Flow)
+            → awaiting_stepped self.old wire.now room flow now ≡ On (InState.AwaitPacket self.new) None) }
+        ensures other { OnFalse result (self.new ≡ self.old) }
+    {
         let Wire::Packet {
             kind: Kind::Tp,
             sequence,
             bytes,
         } = wire
         else {
-            return Received::On(InState::AwaitPacket(self), None);
+            return false;
         };
-        self.take(*sequence, *bytes, room, flow, now)
+        if *sequence != self.incoming.next() || *sequence >= self.granted {
+            return false;
+        }
+        self.put(*bytes, now);
+        true
     }
 
     /// Takes packet `number`, by the first row that fits.
@@ -106,14 +135,25 @@ impl AwaitPacket {
     }
 
     /// Accepts the next packet, behind which the window goes on.
+    #[inline]
     fn accept(mut self, bytes: [u8; 7], now: u64) -> AwaitPacket
         requires to_come { wants_last_at self.join ≡ false }
         requires inside { self.join.next < self.granted }
         ensures { result ≡ accepted self bytes now }
     {
+        self.put(bytes, now);
+        self
+    }
+
+    /// Puts the next packet, behind which the window goes on.
+    #[inline]
+    fn put(&mut self, bytes: [u8; 7], now: u64)
+        requires to_come { wants_last_at self.old.join ≡ false }
+        requires inside { self.old.join.next < self.old.granted }
+        ensures { self.new ≡ accepted self.old bytes now }
+    {
         self.incoming.put(bytes);
         self.timer = Timer::start(now, T1);
-        self
     }
 
     /// What both states keep.

@@ -1,14 +1,17 @@
 //! The receiver of a connection, in whichever state it is.
-ghost use Rattle.std.specs.Prelude.{◌≡◌, ◌≤◌};
+ghost use Rattle.std.specs.Prelude.{◌≡◌, ◌≤◌, Bool, None};
+ghost use Rattle.std.specs.Bool.{OnTrue, OnFalse};
 ghost use Rattle.tick_timers.specs.Timers.{is_due as is_due_at};
 ghost use Rattle.tp_wire.specs.Reason.{reason_byte};
 ghost use Rattle.tp_wire.specs.declared.reason.AbortReason.TheVariants.{Resources};
 ghost use Rattle.tp_wire.specs.declared.wire.Kind.TheVariants.{Tp};
 ghost use Rattle.seg_cut.specs.Packets.{packet_count};
 ghost use Rattle.responder.specs.Answers.{abort_frame};
+ghost use Rattle.responder.specs.declared.flow.Flow.{Flow};
 ghost use Rattle.tp_wire.specs.Sizes.{IsSizeOf};
 ghost use Rattle.tp_session.specs.Asking.{asking, asked};
-ghost use Rattle.tp_session.specs.Steps.{stepped, expired, peer_of, timer_of, join_of, completes as completes_at};
+ghost use Rattle.tp_session.specs.Steps.{stepped, goes_on, gone_on, expired, peer_of, timer_of, join_of, completes as completes_at};
+ghost use Rattle.tp_session.specs.declared.received.Received.TheVariants.{On};
 
 use crate::await_packet::AwaitPacket;
 use crate::holding::Holding;
@@ -53,6 +56,21 @@ impl InState {
         match self {
             InState::AwaitPacket(state) => state.step(wire, room, flow, now),
             InState::Holding(state) => state.step(wire),
+        }
+    }
+
+    /// Takes a packet in the middle of a window in place, at tick `now`, as the `go_on` of its state does (SAE J1939-21,
+    /// TP.DT); on hold there is none.
+    #[inline]
+    pub fn go_on(&mut self, wire: &Wire, now: u64) -> bool
+        ensures value { result ≡ goes_on self.old wire.now }
+        ensures next { OnTrue result (self.new ≡ gone_on self.old wire.now now) }
+        ensures step { OnTrue result ((room : Bool) (flow : Flow) → stepped self.old wire.now room flow now ≡ On self.new None) }
+        ensures other { OnFalse result (self.new ≡ self.old) }
+    {
+        match self {
+            InState::AwaitPacket(state) => state.go_on(wire, now),
+            InState::Holding(_) => false,
         }
     }
 

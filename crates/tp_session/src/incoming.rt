@@ -61,6 +61,7 @@ impl Incoming {
     }
 
     /// The number of the next packet, from 1 to 255.
+    #[inline]
     pub(crate) fn next(&self) -> u8
         ensures { result ≡ self.now.join.next }
     {
@@ -82,6 +83,7 @@ impl Incoming {
     }
 
     /// Goes on with the next packet, which is not the last.
+    #[inline]
     pub(crate) fn put(&mut self, bytes: [u8; 7])
         requires { wants_last_at self.old.join ≡ false }
         ensures { self.new ≡ record self.old { join = joined self.old.join bytes } }
@@ -161,6 +163,7 @@ impl Incoming {
 }
 
 /// Puts the next packet, for which there is room.
+#[inline]
 fn put_next(join: &mut Join, bytes: [u8; 7])
     requires to_come { join.old.next ≤ packet_count join.old.size }
     requires room { 0 < join.old.room }

@@ -202,6 +202,30 @@ fn a_hold_is_repeated_until_the_session_is_open(rt: HostRuntime) -> Result<(), F
     Ok(())
 }
 
+#[test]
+fn a_packet_in_a_window_is_taken_in_place(rt: HostRuntime) -> Result<(), Fail> {
+    // Four packets, in windows of three and one.
+    let join = roomy(rt.alloc(), 28)?;
+    let (mut state, _) = AwaitPacket::begin(diagnostics()?, 3, join, Flow::Open, 0);
+    let went_on = state.go_on(&packet(1), 100) && state.go_on(&packet(2), 200);
+    // A packet that has come, the last of the window and one that is skipped change nothing.
+    let others = state.go_on(&packet(2), 300)
+        || state.go_on(&packet(3), 300)
+        || state.go_on(&packet(4), 300);
+    let due = (state.is_due(949), state.is_due(950));
+    let (mut state, cts) = on(&rt, state.step(&packet(3), true, Flow::Open, 400));
+    let last = state.go_on(&packet(4), 500);
+    let (bytes, _) = complete(&rt, state.step(&packet(4), true, Flow::Open, 500)).given();
+    assert!(rt; went_on && !others && !last);
+    assert_eq!(rt; due, (false, true));
+    assert!(rt;
+        cts.is_some_and(|cts| shows(cts, CM_TO_21, [0x11, 1, 4, 0xFF, 0xFF, 0xCA, 0xFE, 0]))
+    );
+    assert_eq!(rt; bytes.len(), 28);
+    assert_eq!(rt; bytes.last(), Some(&28));
+    Ok(())
+}
+
 // What packet `last` leads to at tick 200, after packet 1 of three at tick 100, in windows of two.
 fn third_step(rt: &(impl Abort + AllocGlobal), last: u8, room: bool) -> Result<Received, Fail> {
     let join = roomy(rt.alloc(), 21)?;

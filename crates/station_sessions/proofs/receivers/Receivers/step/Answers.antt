@@ -1,7 +1,7 @@
 use Rattle.std.proofs.Common.{◌≡◌, ◌∙◌, ap, sym, subst}
 use Rattle.station_sessions.specs.Receiving.{NoneHeld, received}
 use Rattle.station_sessions.proofs.Settling.{received_is, received_none_held}
-use Rattle.station_sessions.proofs.receivers.Receivers.receive.Goals as goal
+use Rattle.station_sessions.proofs.receivers.Receivers.step.Goals as goal
 
 pub returns-clause-ok : goal.returns-clause-ok
 returns-clause-ok c =
