@@ -14,3 +14,4 @@ mod timers;
 
 pub use station::Station;
 pub use station_lanes::{Event, Events};
+pub use taking::Taken;

@@ -5,7 +5,7 @@ ghost use Rattle.tp_wire.specs.declared.wire.Wire.TheVariants.{Cm};
 ghost use Rattle.tx_queue.specs.Queue.{queue_limit};
 ghost use Rattle.station_lanes.specs.LaneCalls.{outcome_of};
 ghost use Rattle.station_core.specs.Opening.{key_of};
-ghost use Rattle.station_core.specs.Taking.{packet_kind as packet_kind_of, in_session, in_lane, abort_taken, cm_taken, answer, request_taken, ack_taken, wire_taken, looks_at as looks_at_frame, is_malformed_for as is_malformed_for_station, wanted, wire_wanted, taken};
+ghost use Rattle.station_core.specs.Taking.{packet_kind as packet_kind_of, in_session, in_lane, abort_taken, cm_taken, answer, request_taken, ack_taken, wire_taken, looks_at as looks_at_frame, is_malformed_for, wanted, wire_wanted, taken};
 
 use crate::station::{Station, enqueue, enqueue_all, enqueue_option};
 use bus_frame::Frame;
@@ -37,6 +37,15 @@ fn packet_kind(kind: Kind, to: Address) -> SessionKind
     }
 }
 
+/// What a station made of a frame.
+#[derive(Debug, Drop)]
+pub struct Taken {
+    /// Whether it looked at the frame and found it malformed: of one of the frame table's PGNs without being a row of it.
+    pub is_malformed: bool,
+    /// What it tells.
+    pub events: Events,
+}
+
 impl Station {
     /// Whether it looks at a frame: the source is another node, and the destination is this one or all.
     pub fn looks_at(&self, frame: &Frame) -> bool
@@ -45,13 +54,6 @@ impl Station {
         let meaning = read_id(frame.id());
         meaning.from != self.address
             && (meaning.to == self.address || meaning.to == Address::GLOBAL)
-    }
-
-    /// Whether it looks at a frame, and finds it malformed: of one of the frame table's PGNs without being a row of it.
-    pub fn is_malformed_for(&self, frame: &Frame) -> bool
-        ensures { result ≡ is_malformed_for_station self.now frame.now }
-    {
-        self.looks_at(frame) && is_transport(frame) && read(frame).is_none()
     }
 
     /// The ports that a `take` of this frame with room would give to, and the size of the message in bytes; no port and 0
@@ -89,17 +91,27 @@ impl Station {
     /// one.
     ///
     /// Want of memory changes nothing.
-    pub fn take(&mut self, frame: &Frame, room: bool, now: u64) -> Result<Events, AllocError>
+    pub fn take(&mut self, frame: &Frame, room: bool, now: u64) -> Result<Taken, AllocError>
         requires { length self.old.queue < queue_limit }
-        ensures ok { IfOk result (λ events. taken self.old frame.now room now ≡ record { station = self.new; events = events }) }
+        ensures ok { IfOk result (λ step. taken self.old frame.now room now ≡ record { station = self.new; events = step.events }) }
+        ensures malformed { IfOk result (λ step. step.is_malformed ≡ is_malformed_for self.old frame.now) }
         ensures err { OnErr result (self.new ≡ self.old) }
     {
         if !self.looks_at(frame) {
-            return Ok(Events::none(self.alloc));
+            return Ok(Taken {
+                is_malformed: false,
+                events: Events::none(self.alloc),
+            });
         }
         match read(frame) {
-            None => Ok(Events::none(self.alloc)),
-            Some((wire, from, to)) => self.take_wire(wire, from, to, room, now),
+            None => Ok(Taken {
+                is_malformed: is_transport(frame),
+                events: Events::none(self.alloc),
+            }),
+            Some((wire, from, to)) => Ok(Taken {
+                is_malformed: false,
+                events: self.take_wire(wire, from, to, room, now)?,
+            }),
         }
     }
 

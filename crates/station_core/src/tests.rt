@@ -60,8 +60,8 @@ fn see_all(seen: &mut Seen, events: Events) -> Result<(), AllocError> {
 fn take(rt: &impl Abort, station: &mut Station, frame: &Frame, room: bool) -> Result<Events, Fail> {
     assert!(rt; station.free() > 0);
     match station.take(frame, room, 0) {
-        Ok(events) => Ok(events),
-        Err(_) => Ok(station.take(frame, room, 0)?),
+        Ok(taken) => Ok(taken.events),
+        Err(_) => Ok(station.take(frame, room, 0)?.events),
     }
 }
 
@@ -211,7 +211,10 @@ fn requests_are_answered(rt: HostRuntime) -> Result<(), Fail> {
     answers(&rt, &mut station, 0x18EA_3521, request, acknowledgement)?;
     is_silent(&rt, &mut station, 0x18EA_FF21, request)?;
     let malformed = Frame::full(CanId::new(0x1CEB_FF80)?, [0; 8]);
-    assert!(rt; station.is_malformed_for(&malformed));
+    assert!(rt; station.free() > 0);
+    let taken = station.take(&malformed, true, 0)?;
+    assert!(rt; taken.is_malformed);
+    assert!(rt; taken.events.is_empty());
     Ok(())
 }
 
