@@ -1,2 +1,5 @@
 pub mod Wanted
 pub mod Takes
+pub mod Totals
+pub mod Counted
+pub mod Recorded

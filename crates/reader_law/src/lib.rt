@@ -1,6 +1,6 @@
-//! The law of what a Take wants.
+//! The laws of what a segment answers without a step: what a Take wants, and what was counted.
 #![tactic(auto)]
 
 mod laws;
 
-pub use laws::wants_are_what_is_given;
+pub use laws::{counts_are_those_of_the_record, wants_are_what_is_given};
