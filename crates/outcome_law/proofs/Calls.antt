@@ -1,0 +1,237 @@
+-- What each call of a station makes of the lane from s to d: a message is sent, or some of those pending end.
+use Rattle.std.proofs.Common.{◌≡◌, ◌⊎◌, inl, inr, ℕ, ◌+◌, ◌==◌, nat_lt, Bool, true, false, cond, not, ◌&&◌, List, [], ◌∷◌, ◌++◌, length, Option, Some, None, Ok, Err, refl, sym, ap, ◌∙◌, arith, eqb-true}
+use Rattle.std.specs.Prelude.{slice_get}
+use Rattle.std.proofs.lemmas.Bool.{eqb-false}
+use Rattle.bus_frame.specs.Frames.{CanFrame}
+use Rattle.pgn_ids.specs.Address.{null_address}
+use Rattle.pgn_ids.specs.declared.address.Address.{Address}
+use Rattle.tp_wire.specs.declared.constants.TheConstants.{MIN_SIZE}
+use Rattle.tx_queue.specs.Queue.{free_places, behind}
+use Rattle.bus_order.specs.Bus as bus
+use Rattle.bus_order.specs.Bus.{Bus}
+use Rattle.port_table.specs.Ports.{are_full, is_open, is_paused, with_port, with_paused}
+use Rattle.port_table.specs.declared.port.PortId.{PortId}
+use Rattle.lane_core.specs.Lane.{Lane, longest_to, is_full, pushed}
+use Rattle.lane_core.specs.declared.message.Pending.{Pending}
+use Rattle.lane_core.specs.declared.refused.PumpRefused.{PumpRefused}
+use Rattle.lane_core.specs.declared.refused.PumpRefused.TheVariants as pump
+use Rattle.station_lanes.specs.LaneCalls.{lane_to}
+use Rattle.station_lanes.specs.LaneReaders.{refusal_at, is_pending_at, queues_abort_at}
+use Rattle.station_lanes.specs.declared.event.Event.{Event}
+use Rattle.station_core.specs.Station.{Station, StationStep, quietly}
+use Rattle.station_core.specs.Sending.{lane_of, sent, pumped, cancelled}
+use Rattle.station_core.specs.Taking.{taken}
+use Rattle.station_core.specs.Timers.{is_due, fired}
+use Rattle.station_core.specs.Closing.{closed}
+use Rattle.station_core.specs.Overruns.{overrun}
+use Rattle.segment_law.specs.Told.{Message, sent_by, is_lane}
+use Rattle.segment_law.specs.Segment.{Segment, lane_at, with_station}
+use Rattle.segment_law.specs.Calls.{Answer, no_place, pump_places, events_of, opens, closes, pauses, resumes, sends, pumps_by, pumps, cancels, transmits_by, takes_by, repeats_by, overruns, fires}
+use Rattle.segment_law.specs.Reached.{IsReached}
+use Rattle.segment_law.specs.declared.call.Call.{Call}
+use Rattle.segment_law.specs.declared.call.Call.TheVariants.{Open, Close, Send, Pump, Transmit, Take, TakeAgain, Overrun, Fire, Cancel, Pause, Resume}
+use Rattle.segment_law.specs.declared.refusal.Refusal.{Refusal}
+use Rattle.segment_law.proofs.FitStations.{Stays, taken_stays, pumped_stays, cancelled_stays, fired_stays, closed_stays}
+use Rattle.segment_law.proofs.Reaching.{as_it_is}
+use Rattle.outcome_law.proofs.Counting.{on_test, times}
+use Rattle.outcome_law.proofs.LaneSteps.{numbers_of}
+use Rattle.outcome_law.proofs.Events.{named_in}
+use Rattle.outcome_law.proofs.Lanes.{put_here, put_apart}
+use Rattle.outcome_law.proofs.Stations.{StepTells, same, taken_tells, pumped_tells, cancelled_tells, fired_tells, overrun_tells, closed_tells}
+use Rattle.outcome_law.proofs.Places.{lane_before, lane_after, lane_stays}
+
+-- numbers that were pending have ended
+pub record Ended (before after : Lane) (numbers : List ℕ) : Type 0 where
+  pub sent : after.sent ≡ before.sent
+  pub each : (n : ℕ) → times n (numbers_of before.pending) ≡ times n (numbers_of after.pending) + times n numbers
+
+-- one message was sent
+pub record Added (before after : Lane) : Type 0 where
+  pub sent : after.sent ≡ before.sent + 1
+  pub each : (n : ℕ) → times n (numbers_of after.pending) ≡ times n (numbers_of before.pending) + times n ((before.sent + 1) ∷ [])
+
+-- a call that sends one tells nothing
+pub record SendsOne (before after : Lane) (more : List Message) (numbers : List ℕ) : Type 0 where
+  pub one : length more ≡ 1
+  pub none : numbers ≡ []
+  pub added : Added before after
+
+-- one that sends none may tell what ended
+pub record EndsSome (before after : Lane) (more : List Message) (numbers : List ℕ) : Type 0 where
+  pub none : more ≡ []
+  pub ended : Ended before after numbers
+
+module _ (s d : Address) where
+  -- what a call makes of the lane
+  abbrev pub Good : (seg next : Segment) → List Message → List Event → Type 0
+  Good seg next more events = SendsOne (lane_at seg s d) (lane_at next s d) more (named_in s d events) ⊎ EndsSome (lane_at seg s d) (lane_at next s d) more (named_in s d events)
+
+  abbrev pub Keeps : Segment → Call → Answer → Type 0
+  Keeps seg call (Err cause) = Unit {0}
+  Keeps seg call (Ok step) = Good seg step.0 (sent_by s d call step.1) (events_of step.1)
+
+  pub or_refused : (seg : Segment) (call : Call) (b : Bool) (cause : Refusal) (x : Answer) → (b ≡ false → Keeps seg call x) → Keeps seg call (cond b (Err cause) x)
+  or_refused seg call true cause x h = tt
+  or_refused seg call false cause x h = h refl
+
+  -- nothing of the lane changes
+  pub good_same : (seg next : Segment) (events : List Event) → lane_at next s d ≡ lane_at seg s d → named_in s d events ≡ [] → Good seg next [] events
+  good_same seg next events e none = inr (record {
+    none = refl;
+    ended = record {
+      sent = ap (λ (l : Lane). l.sent) e;
+      each = λ n.
+          let all : times n (numbers_of (lane_at next s d).pending) ≡ times n (numbers_of (lane_at seg s d).pending) = ap (λ (l : Lane). times n (numbers_of l.pending)) e in
+          let z : times n (named_in s d events) ≡ 0 = ap (times n) none in
+          omega (arith, all, z);
+    };
+  })
+
+  module _ (seg : Segment) (r : IsReached seg) (i : ℕ) (st : Station) (at : slice_get seg.stations i ≡ Some st) where
+    -- a station makes a step
+    good_step : (step : StationStep) → step.station.address ≡ st.address → StepTells st step → Good seg (with_station seg i step.station) [] step.events
+    good_step step address h = on_test (λ t. (st.address.0 == s.0) ≡ t → Good seg next [] step.events) (st.address.0 == s.0)
+        (λ _ t. mine (eqb-true st.address.0 s.0 t))
+        (λ _ f. let apart : st.address.0 ≡ s.0 → ⊥ = eqb-false st.address.0 s.0 f in
+        good_same seg next step.events (lane_stays seg next r i st step.station at address refl s d apart) (h.others s d apart)) refl
+      where
+        next : Segment
+        next = with_station seg i step.station
+
+        mine : st.address.0 ≡ s.0 → Good seg next [] step.events
+        mine e =
+            let before : lane_at seg s d ≡ lane_to st.address st.lanes d.0 = lane_before seg next r i st step.station at address refl s d e in
+            let after : lane_at next s d ≡ lane_to st.address step.station.lanes d.0 = lane_after seg next r i st step.station at address refl s d e in
+            inr (record {
+              none = refl;
+              ended = record {
+                sent = ap (λ (l : Lane). l.sent) after ∙ h.sent d.0 ∙ sym (ap (λ (l : Lane). l.sent) before);
+                each = λ n.
+                    let x : times n (numbers_of (lane_at seg s d).pending) ≡ times n (numbers_of (lane_to st.address st.lanes d.0).pending) = ap (λ (l : Lane). times n (numbers_of l.pending)) before in
+                    let y : times n (numbers_of (lane_at next s d).pending) ≡ times n (numbers_of (lane_to st.address step.station.lanes d.0).pending) = ap (λ (l : Lane). times n (numbers_of l.pending)) after in
+                    let z : times n (numbers_of (lane_to st.address st.lanes d.0).pending) ≡ times n (numbers_of (lane_to st.address step.station.lanes d.0).pending) + times n (named_in s d step.events) = h.own s d e n in
+                    omega (arith, x, y, z);
+              };
+            })
+
+    -- the station changes, and its lanes don't
+    good_quiet : (new : Station) → new.address ≡ st.address → StepTells st (quietly new) → Good seg (with_station seg i new) [] []
+    good_quiet new address h = good_step (quietly new) address h
+
+    stays : Stays st.address st
+    stays = as_it_is seg r i st at
+
+    pub opens_good : (station : Address) (pgn max_len : ℕ) → Keeps seg (Open station pgn max_len) (opens seg pgn max_len i st)
+    opens_good station pgn max_len = or_refused seg (Open station pgn max_len) (are_full st.ports) _ _
+        (λ _. good_quiet (record st { ports = with_port st.ports pgn max_len }) refl (same st))
+
+    pub closes_good : (port : PortId) → Keeps seg (Close port) (closes seg port.number i st)
+    closes_good port = or_refused seg (Close port) (not (is_open st.ports port.number)) _ _
+        (λ _. good_quiet (closed st port.number) (closed_stays st.address st port.number stays).address (closed_tells st port.number))
+
+    pub pauses_good : (port : PortId) → Keeps seg (Pause port) (pauses seg port.number i st)
+    pauses_good port = or_refused seg (Pause port) (not (is_open st.ports port.number)) _ _ (λ _. or_refused seg (Pause port) (is_paused st.ports port.number) _ _
+        (λ _. good_quiet (record st { ports = with_paused st.ports port.number true }) refl (same st)))
+
+    pub resumes_good : (port : PortId) → Keeps seg (Resume port) (resumes seg port.number i st)
+    resumes_good port = or_refused seg (Resume port) (not (is_open st.ports port.number)) _ _ (λ _. or_refused seg (Resume port) (not (is_paused st.ports port.number)) _ _
+        (λ _. good_quiet (record st { ports = with_paused st.ports port.number false }) refl (same st)))
+
+    pumps_by_good : (station to : Address) (o : Option PumpRefused) → Keeps seg (Pump station to) (pumps_by seg to i st o)
+    pumps_by_good station to (Some pump.NothingToSend) = tt
+    pumps_by_good station to (Some pump.NotYet) = tt
+    pumps_by_good station to None = or_refused seg (Pump station to) (nat_lt (free_places st.queue) pump_places) _ _
+        (λ _. good_step (pumped st to seg.now) (pumped_stays st.address st to seg.now stays).address (pumped_tells st to seg.now))
+
+    pub pumps_good : (station to : Address) → Keeps seg (Pump station to) (pumps seg to i st)
+    pumps_good station to = or_refused seg (Pump station to) (to.0 == null_address) _ _ (λ _. pumps_by_good station to (refusal_at st.lanes to.0 seg.now))
+
+    pub cancels_good : (from to : Address) (number : ℕ) → Keeps seg (Cancel from to number) (cancels seg to number i st)
+    cancels_good from to number =
+        or_refused seg (Cancel from to number) (to.0 == null_address) _ _ (λ _.
+        or_refused seg (Cancel from to number) (not (is_pending_at st.lanes to.0 number)) _ _ (λ pending.
+        or_refused seg (Cancel from to number) (queues_abort_at st.lanes to.0 number && no_place st) _ _ (λ _.
+        good_step (cancelled st to number) (cancelled_stays st.address st to number stays).address
+        (cancelled_tells st to number (is_true (is_pending_at st.lanes to.0 number) pending)))))
+      where
+        is_true : (b : Bool) → not b ≡ false → b ≡ true
+        is_true true e = refl
+        is_true false e = absurd (let no : true ≡ false = e in cc)
+
+    pub transmits_good : (station : Address) (o : Option CanFrame) → Keeps seg (Transmit station) (transmits_by seg i st o)
+    transmits_good station None = tt
+    transmits_good station (Some f) = or_refused seg (Transmit station) (bus.is_full seg.bus) _ _ (λ _. good_quiet (record st { queue = behind st.queue }) refl (same st))
+
+    pub takes_good : (station : Address) (room : Bool) (o : Option CanFrame) → Keeps seg (Take station room) (takes_by seg room i st o)
+    takes_good station room None = tt
+    takes_good station room (Some f) = or_refused seg (Take station room) (no_place st) _ _
+        (λ _. good_step (taken st f room seg.now) (taken_stays st.address st f room seg.now stays).address (taken_tells st f room seg.now))
+
+    pub repeats_good : (station : Address) (room : Bool) (o : Option CanFrame) → Keeps seg (TakeAgain station room) (repeats_by seg room i st o)
+    repeats_good station room None = tt
+    repeats_good station room (Some f) = or_refused seg (TakeAgain station room) (no_place st) _ _
+        (λ _. good_step (taken st f room seg.now) (taken_stays st.address st f room seg.now stays).address (taken_tells st f room seg.now))
+
+    pub overruns_good : (station : Address) (n : ℕ) → Keeps seg (Overrun station n) (overruns seg n i st)
+    overruns_good station n = or_refused seg (Overrun station n) (nat_lt (bus.waiting seg.bus i) n) _ _
+        (λ _. good_step (overrun st) refl (overrun_tells st))
+
+    pub fires_good : (station : Address) → Keeps seg (Fire station) (fires seg i st)
+    fires_good station = or_refused seg (Fire station) (not (is_due st seg.now)) _ _ (λ _. or_refused seg (Fire station) (no_place st) _ _
+        (λ _. good_step (fired st seg.now) (fired_stays st.address st seg.now stays).address (fired_tells st seg.now)))
+
+    -- A message is sent
+
+    numbers_pushed : (n : ℕ) (messages : List Pending) (m : Pending) → times n (numbers_of (messages ++ m ∷ [])) ≡ times n (numbers_of messages) + times n (m.number ∷ [])
+    numbers_pushed n [] m = omega arith
+    numbers_pushed n (x ∷ messages) m = let e : times n (numbers_of (messages ++ m ∷ [])) ≡ times n (numbers_of messages) + times n (m.number ∷ []) = numbers_pushed n messages m in omega (arith, e)
+
+    module _ (to : Address) (pgn : ℕ) (bytes : List ℕ) where
+      abbrev next : Segment
+      next = with_station seg i (sent st to pgn bytes)
+
+      -- in this lane
+      sent_here : st.address.0 ≡ s.0 → to.0 ≡ d.0 → Good seg next ((pgn, bytes) ∷ []) []
+      sent_here e t =
+          let before : lane_at seg s d ≡ lane_to st.address st.lanes d.0 = lane_before seg next r i st (sent st to pgn bytes) at refl refl s d e in
+          let old : Lane = lane_of st to in
+          let is_old : lane_at seg s d ≡ old = before ∙ ap (lane_to st.address st.lanes) (sym t) in
+          let is_new : lane_at next s d ≡ pushed old pgn bytes = lane_after seg next r i st (sent st to pgn bytes) at refl refl s d e ∙ put_here st.address st.lanes to.0 d.0 (pushed old pgn bytes) (sym t) in
+          inl (record {
+            one = refl;
+            none = refl;
+            added = record {
+              sent = ap (λ (l : Lane). l.sent) is_new ∙ sym (ap (λ (l : Lane). l.sent + 1) is_old);
+              each = λ n.
+                  let x : times n (numbers_of (lane_at next s d).pending) ≡ times n (numbers_of (pushed old pgn bytes).pending) = ap (λ (l : Lane). times n (numbers_of l.pending)) is_new in
+                  let y : times n (numbers_of (lane_at seg s d).pending) ≡ times n (numbers_of old.pending) = ap (λ (l : Lane). times n (numbers_of l.pending)) is_old in
+                  let z : times n (((lane_at seg s d).sent + 1) ∷ []) ≡ times n ((old.sent + 1) ∷ []) = ap (λ (l : Lane). times n ((l.sent + 1) ∷ [])) is_old in
+                  let w : times n (numbers_of (pushed old pgn bytes).pending) ≡ times n (numbers_of old.pending) + times n ((old.sent + 1) ∷ []) = numbers_pushed n old.pending (record { number = old.sent + 1; pgn = pgn; bytes = bytes }) in
+                  omega (arith, x, y, z, w);
+            };
+          })
+
+      -- in another one
+      sent_else : ((st.address.0 ≡ s.0) → to.0 ≡ d.0 → ⊥) → Good seg next [] []
+      sent_else n = good_same seg next [] (on_test (λ b. (st.address.0 == s.0) ≡ b → lane_at next s d ≡ lane_at seg s d) (st.address.0 == s.0)
+          (λ _ t. let e : st.address.0 ≡ s.0 = eqb-true st.address.0 s.0 t in
+          lane_after seg next r i st (sent st to pgn bytes) at refl refl s d e
+          ∙ put_apart st.address st.lanes to.0 d.0 (pushed (lane_of st to) pgn bytes) (λ q. n e (sym q))
+          ∙ sym (lane_before seg next r i st (sent st to pgn bytes) at refl refl s d e))
+          (λ _ f. lane_stays seg next r i st (sent st to pgn bytes) at refl refl s d (eqb-false st.address.0 s.0 f)) refl) refl
+
+      sent_good : (from : Address) → from.0 ≡ st.address.0 → Good seg next (cond (is_lane s d from to) ((pgn, bytes) ∷ []) []) []
+      sent_good from is = by (from.0 == s.0) (to.0 == d.0) refl refl
+        where
+          by : (p q : Bool) → (from.0 == s.0) ≡ p → (to.0 == d.0) ≡ q → Good seg next (cond (p && q) ((pgn, bytes) ∷ []) []) []
+          by true true e f = sent_here (sym is ∙ eqb-true from.0 s.0 e) (eqb-true to.0 d.0 f)
+          by true false e f = sent_else (λ x y. eqb-false to.0 d.0 f y)
+          by false q e f = sent_else (λ x y. eqb-false from.0 s.0 e (is ∙ x))
+
+      pub sends_good : (from : Address) → from.0 ≡ st.address.0 → Keeps seg (Send from to pgn bytes) (sends seg to pgn bytes i st)
+      sends_good from is =
+          or_refused seg (Send from to pgn bytes) (to.0 == null_address) _ _ (λ _.
+          or_refused seg (Send from to pgn bytes) (st.address.0 == to.0) _ _ (λ _.
+          or_refused seg (Send from to pgn bytes) (nat_lt (length bytes) MIN_SIZE) _ _ (λ _.
+          or_refused seg (Send from to pgn bytes) (nat_lt (longest_to to.0) (length bytes)) _ _ (λ _.
+          or_refused seg (Send from to pgn bytes) (is_full (lane_of st to)) _ _ (λ _. sent_good from is)))))

@@ -1,0 +1,12 @@
+pub mod Counting
+pub mod LaneSteps
+pub mod Events
+pub mod Lanes
+pub mod Sessions
+pub mod Stations
+pub mod Places
+pub mod Calls
+pub mod Every
+pub mod Books
+pub mod Beginning
+pub mod Records
