@@ -1,0 +1,13 @@
+pub mod Words
+pub mod Maps
+pub mod Sessions
+pub mod Ports
+pub mod Receptions
+pub mod Stations
+pub mod Closing
+pub mod Lives
+pub mod Calls
+pub mod Every
+pub mod Records
+pub mod Within
+pub mod Addressed
