@@ -1,0 +1,186 @@
+-- Ports open and close, messages are sent, pumped and cancelled, and timers fire.
+use Rattle.std.proofs.Common.{◌≡◌, inr, ℕ, ◌*◌, ◌/◌, ◌%◌, ◌^◌, ◌<◌, ◌≤◌, ◌==◌, nat_lt, Bool, true, false, cond, not, ◌&&◌, ◌||◌, List, [], ◌∷◌, ◌++◌, length, set, Option, Some, None, refl, sym, ap, ◌∙◌, subst, arith, append-nil, eqb-true, eq-eqb, ltb-true, ltb-false}
+use Rattle.std.specs.Prelude.{slice_get}
+use Rattle.std.proofs.lemmas.Bool.{eqb-false, and_parts, and_from}
+use Rattle.std.specs.FinMap as finmap
+use Rattle.pgn_ids.specs.Address.{is_one, null_address}
+use Rattle.pgn_ids.specs.Pgn.{is_pgn, is_pdu1, clean}
+use Rattle.pgn_ids.specs.declared.address.Address.{Address}
+use Rattle.tp_wire.specs.declared.constants.TheConstants.{MIN_SIZE}
+use Rattle.tx_queue.specs.Queue.{free_places}
+use Rattle.port_table.specs.Ports.{are_full, is_open, is_paused, with_port, with_paused}
+use Rattle.port_table.specs.declared.port.PortId.{PortId}
+use Rattle.lane_core.specs.Lane.{Lane, new_lane, longest_to, is_full, pushed}
+use Rattle.lane_core.specs.Pump as lane
+use Rattle.lane_core.specs.Endings as endings
+use Rattle.lane_core.specs.declared.refused.PumpRefused.{PumpRefused}
+use Rattle.lane_core.specs.declared.refused.PumpRefused.TheVariants as pump
+use Rattle.lane_core.specs.declared.step.LaneStep.{LaneStep}
+use Rattle.station_lanes.specs.LaneCalls.{lane_to}
+use Rattle.station_lanes.specs.LaneReaders.{refusal_at, is_pending_at, queues_abort_at}
+use Rattle.station_core.specs.Station.{Station, by_lane}
+use Rattle.station_core.specs.Sending.{lane_of, sent, pumped, cancelled}
+use Rattle.station_core.specs.Timers.{is_due, fired}
+use Rattle.station_core.specs.Closing.{closed}
+use Rattle.segment_law.specs.Told.{is_lane}
+use Rattle.segment_law.specs.Segment.{Segment, with_station, counted}
+use Rattle.segment_law.specs.Calls.{no_place, pump_places, opens, closes, pauses, resumes, sends, pumps_by, pumps, cancels, fires}
+use Rattle.segment_law.specs.Reached.{IsReached}
+use Rattle.segment_law.specs.declared.call.Call.TheVariants.{Open, Close, Send, Pump, Fire, Cancel, Pause, Resume}
+use Rattle.segment_law.specs.declared.counts.Counts.{Counts}
+use Rattle.broadcast_law.proofs.Carried.{GivesBack, ReadsBack, all}
+use Rattle.broadcast_law.proofs.Endings.{does_fired, fired_calm, closes as station_closes}
+use Rattle.broadcast_law.proofs.Good.{same_address, Good, Keeps, or_refused, small, is_of, is_here, good_step, good_calm, good_lane, good_all}
+use Rattle.broadcast_law.proofs.LaneSteps.{IsLaneOf, Fits, fits_new, fits_pushed, fits_pumped, fits_cancelled}
+use Rattle.broadcast_law.proofs.LaneToAll.{all_cancelled}
+use Rattle.broadcast_law.proofs.Maps.{lane_here, lane_else}
+use Rattle.broadcast_law.proofs.Places.{AllOwn, apart_places, station_in, view, at_it, receives_calmly}
+use Rattle.broadcast_law.proofs.Ports.{ports_opened, ports_paused, one_of_none}
+use Rattle.broadcast_law.proofs.Receptions.{key_all}
+use Rattle.broadcast_law.proofs.Send.{AreSeven, stepped_view, pushes, pumps as view_pumps, cancels as view_cancels}
+use Rattle.broadcast_law.proofs.Stations.{IsOwn, put_lane, does_ports}
+use Rattle.broadcast_law.proofs.View.{View, Stands, GoesOn}
+use Rattle.broadcast_law.proofs.Words.{on_test}
+
+-- a PGN is meant as it is
+clean_is : (pgn : ℕ) → is_pgn pgn ≡ true → (pgn < 2 ^ 18) × (clean pgn ≡ pgn)
+clean_is pgn is =
+    let h : (nat_lt pgn (2 ^ 18) ≡ true) × ((not (is_pdu1 pgn) || pgn % 2 ^ 8 == 0) ≡ true) = and_parts (nat_lt pgn (2 ^ 18)) (not (is_pdu1 pgn) || pgn % 2 ^ 8 == 0) is in
+    (ltb-true pgn (2 ^ 18) h.0, by (is_pdu1 pgn) h.1)
+  where
+    by : (b : Bool) → (not b || pgn % 2 ^ 8 == 0) ≡ true → cond b (pgn / 2 ^ 8 * 2 ^ 8) pgn ≡ pgn
+    by true e = let z : pgn % 2 ^ 8 ≡ 0 = eqb-true (pgn % 2 ^ 8) 0 e in omega (arith, z)
+    by false e = refl
+
+module _ (s listener : Address) (one : is_one s.0 ≡ true) (goes : GoesOn) (gives : GivesBack) (reads : ReadsBack) (seven : AreSeven)
+    (seg : Segment) (r : IsReached seg) (each : AllOwn seg) (i : ℕ) (st : Station) (at : slice_get seg.stations i ≡ Some st) where
+  abbrev a : Address
+  a = st.address
+
+  own : IsOwn a st
+  own = each i st at
+
+  low : a.0 < 254
+  low = small s listener goes seg r each i st at
+
+  pub opens_good : (station : Address) (pgn max_len : ℕ) → Keeps s listener seg (Open station pgn max_len) (opens seg pgn max_len i st)
+  opens_good station pgn max_len = or_refused s listener seg (Open station pgn max_len) (are_full st.ports) _ _
+      (λ _. good_calm s listener goes seg r each i st at seg.now seg.counts (record st { ports = with_port st.ports pgn max_len }) [] (does_ports a st (with_port st.ports pgn max_len) own (ports_opened a st.ports own.ports pgn max_len)) (inr refl) tt)
+
+  pub closes_good : (port : PortId) → Keeps s listener seg (Close port) (closes seg port.number i st)
+  closes_good port = or_refused s listener seg (Close port) (not (is_open st.ports port.number)) _ _
+      (λ _. let c = station_closes gives a low st port.number own in good_calm s listener goes seg r each i st at seg.now seg.counts (closed st port.number) [] c.0 (c.1 (key_all s)) tt)
+
+  pub pauses_good : (port : PortId) → Keeps s listener seg (Pause port) (pauses seg port.number i st)
+  pauses_good port = or_refused s listener seg (Pause port) (not (is_open st.ports port.number)) _ _ (λ _. or_refused s listener seg (Pause port) (is_paused st.ports port.number) _ _
+      (λ _. good_calm s listener goes seg r each i st at seg.now seg.counts (record st { ports = with_paused st.ports port.number true }) [] (does_ports a st (with_paused st.ports port.number true) own (ports_paused a st.ports own.ports port.number true)) (inr refl) tt))
+
+  pub resumes_good : (port : PortId) → Keeps s listener seg (Resume port) (resumes seg port.number i st)
+  resumes_good port = or_refused s listener seg (Resume port) (not (is_open st.ports port.number)) _ _ (λ _. or_refused s listener seg (Resume port) (not (is_paused st.ports port.number)) _ _
+      (λ _. good_calm s listener goes seg r each i st at seg.now seg.counts (record st { ports = with_paused st.ports port.number false }) [] (does_ports a st (with_paused st.ports port.number false) own (ports_paused a st.ports own.ports port.number false)) (inr refl) tt))
+
+  pub fires_good : (station : Address) → Keeps s listener seg (Fire station) (fires seg i st)
+  fires_good station = or_refused s listener seg (Fire station) (not (is_due st seg.now)) _ _ (λ _. or_refused s listener seg (Fire station) (no_place st) _ _
+      (λ _. let c = fired_calm gives a low s st seg.now own in good_calm s listener goes seg r each i st at seg.now (counted seg.counts (fired st seg.now).events) (fired st seg.now).station (fired st seg.now).events (does_fired gives a low st seg.now own) c.1 c.0))
+
+  -- A lane makes a step
+
+  by_lane_good : (to : Address) (step : Lane → Lane × LaneStep) → ((n : ℕ) (l : Lane) → IsLaneOf a.0 n l → Fits a.0 n (step l))
+      → ((l : Lane) → IsLaneOf a.0 255 l → a.0 ≡ s.0 → (v : View) → v.lane ≡ l → Stands s v → Stands s (stepped_view v (step l)))
+      → (counts : Counts) → Good s listener seg (record { now = seg.now; stations = set seg.stations i (by_lane st to step).station; bus = seg.bus; counts = counts }) [] (by_lane st to step).events
+  by_lane_good to step fits shows counts = on_test (λ b. (to.0 == 255) ≡ b → Goal to) (to.0 == 255)
+      (λ _ e. subst Goal (sym (same_address to all (eqb-true to.0 255 e))) (good_all s listener goes seg r each i st at gives step (fits 255) shows seg.now counts))
+      (λ _ e. good_lane s listener goes seg r each i st at gives to step (fits to.0) seg.now counts (eqb-false to.0 255 e)) refl
+    where
+      Goal : Address → Type 0
+      Goal z = Good s listener seg (record { now = seg.now; stations = set seg.stations i (by_lane st z step).station; bus = seg.bus; counts = counts }) [] (by_lane st z step).events
+
+  pumps_by_good : (station to : Address) (o : Option PumpRefused) → Keeps s listener seg (Pump station to) (pumps_by seg to i st o)
+  pumps_by_good station to (Some pump.NothingToSend) = tt
+  pumps_by_good station to (Some pump.NotYet) = tt
+  pumps_by_good station to None = or_refused s listener seg (Pump station to) (nat_lt (free_places st.queue) pump_places) _ _
+      (λ _. by_lane_good to (λ l. lane.pumped l seg.now) (λ n l. fits_pumped a.0 n l seg.now)
+      (λ l k same v e h. subst (λ x. Stands s (stepped_view v (lane.pumped x seg.now))) e (view_pumps s goes one reads seven v seg.now h)) (counted seg.counts (pumped st to seg.now).events))
+
+  pub pumps_good : (station to : Address) → Keeps s listener seg (Pump station to) (pumps seg to i st)
+  pumps_good station to = or_refused s listener seg (Pump station to) (to.0 == null_address) _ _ (λ _. pumps_by_good station to (refusal_at st.lanes to.0 seg.now))
+
+  pub cancels_good : (from to : Address) (number : ℕ) → Keeps s listener seg (Cancel from to number) (cancels seg to number i st)
+  cancels_good from to number =
+      or_refused s listener seg (Cancel from to number) (to.0 == null_address) _ _ (λ _.
+      or_refused s listener seg (Cancel from to number) (not (is_pending_at st.lanes to.0 number)) _ _ (λ _.
+      or_refused s listener seg (Cancel from to number) (queues_abort_at st.lanes to.0 number && no_place st) _ _ (λ _.
+      by_lane_good to (λ l. endings.cancelled l number) (λ n l. fits_cancelled a.0 n l number) shows (counted seg.counts (cancelled st to number).events))))
+    where
+      shows : (l : Lane) → IsLaneOf a.0 255 l → a.0 ≡ s.0 → (v : View) → v.lane ≡ l → Stands s v → Stands s (stepped_view v (endings.cancelled l number))
+      shows l k same v e h =
+          let none : v.queue ++ (endings.cancelled l number).1.frames ≡ v.queue = ap (λ fs. v.queue ++ fs) (all_cancelled a.0 l number k) ∙ append-nil v.queue in
+          subst (Stands s) (λ j. (let w : View = record v { lane = (endings.cancelled (e j) number).0; queue = sym none j } in w)) (view_cancels s goes v number h)
+
+  -- A message is sent
+
+  lane_fits : (to : Address) → to.0 < 256 → IsLaneOf a.0 to.0 (lane_of st to)
+  lane_fits to l = by (finmap.get st.lanes to.0) refl
+    where
+      by : (o : Option Lane) → finmap.get st.lanes to.0 ≡ o → IsLaneOf a.0 to.0 (elim o [ None ↦ new_lane a.0 to.0 | Some x ↦ x ])
+      by None e = fits_new a.0 to.0 l
+      by (Some x) e = own.lanes to.0 x e
+
+  sent_own : (to : Address) (pgn : ℕ) (bytes : List ℕ) → to.0 < 256 → IsOwn a (sent st to pgn bytes)
+  sent_own to pgn bytes l = record {
+    address = own.address;
+    ports = own.ports;
+    sessions = own.sessions;
+    lanes = put_lane a.0 st.lanes to.0 (λ x. (x, record { frames = []; ended = None })) own.lanes (pushed (lane_of st to) pgn bytes) (fits_pushed a.0 to.0 (lane_of st to) pgn bytes (lane_fits to l));
+    queue = own.queue;
+  }
+
+  sent_good : (from to : Address) (pgn : ℕ) (bytes : List ℕ) → from.0 ≡ a.0 → to.0 < 256 → is_pgn pgn ≡ true → 0 < length bytes → (b : Bool) → is_lane s all from to ≡ b → Good s listener seg (with_station seg i (sent st to pgn bytes)) (cond b ((pgn, bytes) ∷ []) []) []
+  sent_good from to pgn bytes is l pgn_is long true e =
+      let q : ((from.0 == s.0) ≡ true) × ((to.0 == 255) ≡ true) = and_parts (from.0 == s.0) (to.0 == 255) e in
+      let mine' : a.0 ≡ s.0 = sym is ∙ eqb-true from.0 s.0 q.0 in
+      let g : to.0 ≡ 255 = eqb-true to.0 255 q.1 in
+      let c : (pgn < 2 ^ 18) × (clean pgn ≡ pgn) = clean_is pgn pgn_is in
+      let new : Station = sent st to pgn bytes in
+      good_step s listener goes seg r each i st at seg.now seg.bus seg.counts new ((pgn, bytes) ∷ []) [] (sent_own to pgn bytes l) (λ x y sent given at_x at_y n v.
+      let n' : x ≡ y → ⊥ = apart_places seg x y s listener at_x at_y n in
+      let xs : Station = station_in s seg.stations x in
+      record {
+        sends = λ h.
+            let st_is : xs ≡ st = at_it s x y n' seg.stations i st new at seg.bus sent given [] x h in
+            let lane : lane_to s new.lanes 255 ≡ pushed (lane_to s xs.lanes 255) pgn bytes =
+            (λ k. lane_to s (finmap.insert st.lanes (g k) (pushed (lane_to (same_address a s mine' k) st.lanes (g k)) pgn bytes)) 255)
+            ∙ ap (λ (o : Option Lane). elim o as (λ (_ : Option Lane). Lane) [ None ↦ new_lane s.0 255 | Some z ↦ z ]) (lane_here st.lanes 255 (pushed (lane_to s st.lanes 255) pgn bytes))
+            ∙ ap (λ (z : Station). pushed (lane_to s z.lanes 255) pgn bytes) (sym st_is) in
+            subst (Stands s) (sym (λ k. (let w : View = record (view s x y seg (sent ++ (pgn, bytes) ∷ []) given) { lane = lane k; queue = sym (ap (λ (z : Station). z.queue) st_is) k } in w)))
+            (pushes s goes (view s x y seg sent given) pgn bytes v long c.0 c.1);
+        receives = λ h. absurd (n (sym mine' ∙ is_of s listener goes seg r each i st at y listener at_y h));
+        other = λ h _. absurd (h (is_here s listener goes seg r each i st at x s at_x mine'));
+      }) (λ _ _ _. refl) (λ _. refl) (one_of_none [] refl)
+  sent_good from to pgn bytes is l pgn_is long false e =
+      let new : Station = sent st to pgn bytes in
+      good_step s listener goes seg r each i st at seg.now seg.bus seg.counts new [] [] (sent_own to pgn bytes l) (λ x y sent given at_x at_y n v.
+      let n' : x ≡ y → ⊥ = apart_places seg x y s listener at_x at_y n in
+      let xs : Station = station_in s seg.stations x in
+      let w : Stands s (view s x y seg (sent ++ []) given) = subst (λ ms. Stands s (view s x y seg ms given)) (sym (append-nil sent)) v in
+      record {
+        sends = λ h.
+            let st_is : xs ≡ st = at_it s x y n' seg.stations i st new at seg.bus sent given [] x h in
+            let mine' : from.0 ≡ s.0 = is ∙ is_of s listener goes seg r each i st at x s at_x h in
+            let apart : 255 ≡ to.0 → ⊥ = λ g. (let t : is_lane s all from to ≡ true = and_from (from.0 == s.0) (to.0 == 255) (eq-eqb from.0 s.0 mine') (eq-eqb to.0 255 (sym g)) in let u : true ≡ false = sym t ∙ e in cc) in
+            let lane : lane_to s new.lanes 255 ≡ lane_to s xs.lanes 255 =
+            ap (λ (o : Option Lane). elim o as (λ (_ : Option Lane). Lane) [ None ↦ new_lane s.0 255 | Some z ↦ z ]) (lane_else st.lanes to.0 255 (pushed (lane_of st to) pgn bytes) apart)
+            ∙ ap (λ (z : Station). lane_to s z.lanes 255) (sym st_is) in
+            subst (Stands s) (sym (λ k. (let u : View = record (view s x y seg (sent ++ []) given) { lane = lane k; queue = sym (ap (λ (z : Station). z.queue) st_is) k } in u))) w;
+        receives = λ h. receives_calmly s x y n' seg.stations i st new at seg.bus (sent ++ []) given [] goes (inr refl) refl h w;
+        other = λ _ _. w;
+      }) (λ _ _ _. refl) (λ _. refl) (one_of_none [] refl)
+
+  pub sends_good : (from to : Address) (pgn : ℕ) (bytes : List ℕ) → from.0 ≡ a.0 → to.0 < 256 → is_pgn pgn ≡ true → Keeps s listener seg (Send from to pgn bytes) (sends seg to pgn bytes i st)
+  sends_good from to pgn bytes is l pgn_is =
+      or_refused s listener seg (Send from to pgn bytes) (to.0 == null_address) _ _ (λ _.
+      or_refused s listener seg (Send from to pgn bytes) (a.0 == to.0) _ _ (λ _.
+      or_refused s listener seg (Send from to pgn bytes) (nat_lt (length bytes) MIN_SIZE) _ _ (λ long.
+      or_refused s listener seg (Send from to pgn bytes) (nat_lt (longest_to to.0) (length bytes)) _ _ (λ _.
+      or_refused s listener seg (Send from to pgn bytes) (is_full (lane_of st to)) _ _ (λ _.
+      sent_good from to pgn bytes is l pgn_is (let m : MIN_SIZE ≤ length bytes = ltb-false (length bytes) MIN_SIZE long in omega (arith, m)) (is_lane s all from to) refl)))))

@@ -1,0 +1,6 @@
+//! The law of messages to all: what ports and stations are given of one station's broadcasts.
+#![tactic(auto)]
+
+mod laws;
+
+pub use laws::broadcasts_are_given_once_in_order;
