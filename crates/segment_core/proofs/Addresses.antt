@@ -1,5 +1,5 @@
 -- A station keeps its address, whatever it does.
-use Rattle.std.proofs.Common.{◌≡◌, ℕ, zero, suc, Bool, true, false, cond, List, Option, Some, None, refl, rules, arith}
+use Rattle.std.proofs.Common.{◌≡◌, ℕ, zero, suc, Bool, true, false, cond, Option, Some, None, refl, rules, arith}
 use Rattle.bus_frame.specs.Frames.{CanFrame}
 use Rattle.pgn_ids.specs.declared.address.Address.{Address}
 use Rattle.tp_wire.specs.Reading.{reading}
@@ -7,13 +7,8 @@ use Rattle.tp_wire.specs.declared.wire.CmFrame.{CmFrame}
 use Rattle.tp_wire.specs.declared.wire.CmFrame.TheVariants.{Rts, Cts, EndOfMsgAck, Bam, Abort, EtpRts, EtpCts, EtpDpo, EtpEoma, EtpAbort}
 use Rattle.tp_wire.specs.declared.wire.Wire.{Wire}
 use Rattle.tp_wire.specs.declared.wire.Wire.TheVariants.{Cm, Packet, Request, Ack}
-use Rattle.tp_wire.specs.declared.reason.AbortReason.{AbortReason}
-use Rattle.session_table.specs.DueOrder.{first_due}
-use Rattle.session_table.specs.declared.key.Key.{Key}
-use Rattle.session_table.specs.declared.key.SessionKind.TheVariants as session
-use Rattle.station_lanes.specs.LaneReaders.{due_lane}
-use Rattle.station_core.specs.Station.{Station, StationStep, quietly}
-use Rattle.station_core.specs.Opening.{refusal, is_tp_size, is_etp_size, set_for, others_than, key_of, rts_taken, etp_rts_taken, bam_taken}
+use Rattle.station_core.specs.Station.{Station, quietly}
+use Rattle.station_core.specs.Opening.{rts_taken, etp_rts_taken, bam_taken}
 use Rattle.station_core.specs.Taking.{cm_taken, request_taken, ack_taken, wire_taken, looks_at, meaning_taken, taken}
 use Rattle.station_core.specs.Closing.{closed, closed_below}
 use Rattle.station_core.specs.Timers.{lane_fired, fired}

@@ -1,9 +1,7 @@
 -- The steps of a drive, and how the code does them.
-use Rattle.std.proofs.Common.{◌≡◌, ℕ, zero, suc, ◌+◌, Bool, true, false, cond, List, [], ◌∷◌, ◌++◌, length, map, drop, get_or, Option, Some, None, Result, Ok, Err, refl, sym, ap, ◌∙◌, subst, append_assoc, arith}
+use Rattle.std.proofs.Common.{◌≡◌, ℕ, zero, suc, Bool, true, false, cond, List, [], ◌∷◌, ◌++◌, length, Option, Some, None, Ok, Err, refl, sym, ap, ◌∙◌, subst, append_assoc}
 use Rattle.std.proofs.lemmas.List.{append-nil}
-use Rattle.std.specs.Prelude.{IsTrue}
 use Rattle.std.specs.List.{list_all}
-use Rattle.std.proofs.lemmas.List.{length_push}
 use Rattle.bus_frame.specs.Frames.{CanFrame}
 use Rattle.pgn_ids.specs.declared.address.Address.{Address}
 use Rattle.tx_queue.specs.Queue.{front}
@@ -13,7 +11,7 @@ use Rattle.station_core.specs.Station.{Station}
 use Rattle.segment_law.specs.Segment.{Segment, station_at, waiting_at}
 use Rattle.segment_law.specs.Calls.{called, applied, replied, events_of, is_call}
 use Rattle.segment_law.specs.Record.{Step, Record, replies_from, after, calls_of, replies_of}
-use Rattle.segment_law.specs.Drive.{Driven, events_in, end_by, with_call, stops_at, goes_on, makes, makes_call, pumps_again, pumps, with_put, puts_from, puts, has_queued, turn_puts, takes, last_take, takes_all, all_take, turn, turns_from, not_driven}
+use Rattle.segment_law.specs.Drive.{Driven, events_in, end_by, with_call, stops_at, goes_on, makes, makes_call, pumps_again, pumps, with_put, puts_from, puts, has_queued, turn_puts, takes, last_take, takes_all, all_take, turn, turns_from}
 use Rattle.segment_law.specs.declared.call.Call.{Call}
 use Rattle.segment_law.specs.declared.call.Call.TheVariants.{Pump, Transmit, Take, Tick}
 use Rattle.segment_law.specs.declared.end.DriveEnd.{DriveEnd}
@@ -23,6 +21,7 @@ use Rattle.segment_law.specs.declared.reply.Reply.{Reply}
 use Rattle.segment_law.specs.declared.reply.Reply.TheVariants.{Opened, Sent, Refused, Done}
 use Rattle.segment_law.proofs.Booleans.{both, both_pass}
 use Rattle.segment_core.specs.Drives.{IsShown, GoesOn}
+use Rattle.segment_core.specs.Transmits.{put_by, transmitted}
 
 -- One more call
 
@@ -48,25 +47,45 @@ after_push : (xs : Record) (start : Segment) (s : Step) → after start (calls_o
 after_push [] start s = refl
 after_push (x ∷ xs) start s = after_push xs (applied start x.0).0 s
 
-pub shown_none : (seg : Segment) → IsShown None seg (not_driven seg) seg [] []
-shown_none seg = record { segment = refl; frames = refl; events = refl; end = refl; turns = refl; fit = refl; replies = refl; state = refl }
+transmitted_push : (xs : Record) (start : Segment) (s : Step) → transmitted start (xs ++ s ∷ []) ≡ transmitted start xs ++ put_by (after start (calls_of xs)) s.0 s.1
+transmitted_push [] start s = append-nil (put_by start s.0 s.1)
+transmitted_push (x ∷ xs) start s =
+    let next : Segment = (applied start x.0).0 in
+    ap (λ (fs : List CanFrame). put_by start x.0 x.1 ++ fs) (transmitted_push xs next s)
+    ∙ sym (append_assoc (put_by start x.0 x.1) (transmitted next xs) (put_by (after next (calls_of xs)) s.0 s.1))
 
-pub shown_call : (start : Segment) (d : Driven) (seg next : Segment) (put : List CanFrame) (told more : List Event) (call : Call) (reply : Reply) → IsShown None start d seg put told → is_call call ≡ true → applied seg call ≡ (next, reply) → more ≡ told ++ events_of reply → IsShown None start (with_call d call (applied d.segment call)) next put more
-shown_call start d seg next put told more call reply h fit is events =
+-- a call that is refused puts no frame
+refused_puts_none : (seg : Segment) (call : Call) (cause : Refusal) → put_by seg call (Refused cause) ≡ []
+refused_puts_none seg (Transmit a) cause = refl
+refused_puts_none seg call cause = refl
+
+-- a call, and the frames that it put
+pub shown_step : (start : Segment) (d : Driven) (seg next : Segment) (put : List CanFrame) (told more : List Event) (call : Call) (reply : Reply) (turns : ℕ) (frames : List CanFrame) → IsShown None start d seg put told → is_call call ≡ true → applied seg call ≡ (next, reply) → more ≡ told ++ events_of reply
+    → turns ≡ length frames → frames ≡ d.frames ++ put_by seg call reply → IsShown None start (record (with_call d call (applied d.segment call)) { turns = turns; frames = frames }) next frames more
+shown_step start d seg next put told more call reply turns frames h fit is events many puts =
     let here : applied d.segment call ≡ (next, reply) = ap (λ (s : Segment). applied s call) (sym h.segment) ∙ is in
     let r : Reply = (applied d.segment call).1 in
     let same : r ≡ reply = ap (λ (p : Segment × Reply). p.1) here in
     let stood : applied (after start (calls_of d.calls)) call ≡ applied d.segment call = ap (λ (s : Segment). applied s call) h.state in
+    let stands : seg ≡ after start (calls_of d.calls) = h.segment ∙ sym h.state in
     record {
       segment = sym (ap (λ (p : Segment × Reply). p.0) here);
-      frames = h.frames;
+      frames = refl;
       events = events ∙ (λ i. h.events i ++ events_of (sym same i)) ∙ sym (events_push d.calls (call, r));
       end = h.end;
-      turns = h.turns;
+      turns = many;
+      transmits = puts ∙ (λ i. h.transmits i ++ put_by (stands i) call (sym same i)) ∙ sym (transmitted_push d.calls start (call, r));
       fit = fit_push d.calls (call, r) h.fit fit;
       replies = replies_push d.calls start (call, r) h.replies (ap (λ (p : Segment × Reply). p.1) stood);
       state = after_push d.calls start (call, r) ∙ ap (λ (p : Segment × Reply). p.0) stood;
     }
+
+-- a call that puts no frame
+pub shown_call : (start : Segment) (d : Driven) (seg next : Segment) (put : List CanFrame) (told more : List Event) (call : Call) (reply : Reply) → IsShown None start d seg put told → is_call call ≡ true → applied seg call ≡ (next, reply) → more ≡ told ++ events_of reply → put_by seg call reply ≡ [] → IsShown None start (with_call d call (applied d.segment call)) next put more
+shown_call start d seg next put told more call reply h fit is events none =
+    let puts : d.frames ≡ d.frames ++ put_by seg call reply = sym (append-nil d.frames) ∙ ap (λ (fs : List CanFrame). d.frames ++ fs) (sym none) in
+    let shown : IsShown None start (with_call d call (applied d.segment call)) next d.frames more = shown_step start d seg next put told more call reply d.turns d.frames h fit is events h.turns puts in
+    subst (λ (fs : List CanFrame). IsShown None start (with_call d call (applied d.segment call)) next fs more) (sym h.frames) shown
 
 -- A call that isn't refused, or is
 
@@ -76,19 +95,19 @@ ok_applied seg next call reply e = ap (replied seg) e
 pub err_applied : (seg : Segment) (call : Call) (cause : Refusal) → called seg call ≡ Err cause → applied seg call ≡ (seg, Refused cause)
 err_applied seg call cause e = ap (replied seg) e
 
-pub shown_ok : (start : Segment) (d : Driven) (seg next : Segment) (put : List CanFrame) (told more events : List Event) (call : Call) → IsShown None start d seg put told → is_call call ≡ true → called seg call ≡ Ok (next, Done events) → more ≡ told ++ events → IsShown None start (makes_call call d) next put more
-shown_ok start d seg next put told more events call h fit is e =
-    let shown : IsShown None start (with_call d call (applied d.segment call)) next put more = shown_call start d seg next put told more call (Done events) h fit (ok_applied seg next call (Done events) is) e in
+pub shown_ok : (start : Segment) (d : Driven) (seg next : Segment) (put : List CanFrame) (told more events : List Event) (call : Call) → IsShown None start d seg put told → is_call call ≡ true → called seg call ≡ Ok (next, Done events) → more ≡ told ++ events → put_by seg call (Done events) ≡ [] → IsShown None start (makes_call call d) next put more
+shown_ok start d seg next put told more events call h fit is e none =
+    let shown : IsShown None start (with_call d call (applied d.segment call)) next put more = shown_call start d seg next put told more call (Done events) h fit (ok_applied seg next call (Done events) is) e none in
     let reply : (applied d.segment call).1 ≡ Done events = ap (λ (s : Segment). (applied s call).1) (sym h.segment) ∙ ap (λ (p : Segment × Reply). p.1) (ok_applied seg next call (Done events) is) in
     subst (λ (r : Reply). IsShown None start (stops_at (with_call d call (applied d.segment call)) r) next put more) (sym reply) shown
 
 ended_here : (start : Segment) (d : Driven) (seg : Segment) (put : List CanFrame) (told : List Event) (cause : DriveEnd) → IsShown None start d seg put told → IsShown (Some cause) start (record d { ended = Some cause }) seg put told
-ended_here start d seg put told cause h = record { segment = h.segment; frames = h.frames; events = h.events; end = refl; turns = h.turns; fit = h.fit; replies = h.replies; state = h.state }
+ended_here start d seg put told cause h = record { segment = h.segment; frames = h.frames; events = h.events; end = refl; turns = h.turns; transmits = h.transmits; fit = h.fit; replies = h.replies; state = h.state }
 
 pub shown_err : (start : Segment) (d : Driven) (seg : Segment) (put : List CanFrame) (told : List Event) (call : Call) (cause : Refusal) → IsShown None start d seg put told → is_call call ≡ true → called seg call ≡ Err cause → IsShown (Some (end_by cause)) start (makes_call call d) seg put told
 shown_err start d seg put told call cause h fit is =
     let x : Driven = with_call d call (applied d.segment call) in
-    let shown : IsShown None start x seg put told = shown_call start d seg seg put told told call (Refused cause) h fit (err_applied seg call cause is) (sym (append-nil told)) in
+    let shown : IsShown None start x seg put told = shown_call start d seg seg put told told call (Refused cause) h fit (err_applied seg call cause is) (sym (append-nil told)) (refused_puts_none seg call cause) in
     let reply : (applied d.segment call).1 ≡ Refused cause = ap (λ (s : Segment). (applied s call).1) (sym h.segment) ∙ ap (λ (p : Segment × Reply). p.1) (err_applied seg call cause is) in
     subst (λ (r : Reply). IsShown (Some (end_by cause)) start (stops_at x r) seg put told) (sym reply) (ended_here start x seg put told (end_by cause) shown)
 
@@ -103,10 +122,6 @@ stays d next end e = ap (λ (o : Option DriveEnd). elim o as (λ (_ : Option Dri
 pub takes_stay : (k : ℕ) (a : Address) (d : Driven) (end : DriveEnd) → d.ended ≡ Some end → takes k a d ≡ d
 takes_stay zero a d end e = refl
 takes_stay (suc k) a d end e = ap (takes k a) (stays d (makes_call (Take a true)) end e) ∙ takes_stay k a d end e
-
-pub all_stay : (stations : List Station) (d : Driven) (end : DriveEnd) → d.ended ≡ Some end → all_take stations d ≡ d
-all_stay [] d end e = refl
-all_stay (st ∷ stations) d end e = ap (all_take stations) (stays d (takes_all st.address) end e) ∙ all_stay stations d end e
 
 pub turns_stay : (k : ℕ) (from to : Address) (d : Driven) (end : DriveEnd) → d.ended ≡ Some end → turns_from k from to d ≡ d
 turns_stay zero from to d end e = refl
@@ -204,4 +219,4 @@ on_turns (suc k) from to d =
 
 -- the same lists
 pub relisted : (ended : Option DriveEnd) (start : Segment) (d : Driven) (seg : Segment) (put more : List CanFrame) (told others : List Event) → more ≡ put → others ≡ told → IsShown ended start d seg put told → IsShown ended start d seg more others
-relisted ended start d seg put more told others e f h = record { segment = h.segment; frames = e ∙ h.frames; events = f ∙ h.events; end = h.end; turns = h.turns; fit = h.fit; replies = h.replies; state = h.state }
+relisted ended start d seg put more told others e f h = record { segment = h.segment; frames = e ∙ h.frames; events = f ∙ h.events; end = h.end; turns = h.turns; transmits = h.transmits; fit = h.fit; replies = h.replies; state = h.state }

@@ -12,3 +12,4 @@ pub mod Sweeps
 pub mod Running
 pub mod Steps
 pub mod Turns
+pub mod Undisturbed

@@ -1,10 +1,8 @@
 -- Where stations stand that are added one by one.
-use Rattle.std.proofs.Common.{◌≡◌, ◌≢◌, ℕ, zero, suc, ◌+◌, ◌<◌, ◌≤◌, ◌==◌, Bool, true, false, cond, not, nat_lt, List, [], ◌∷◌, ◌++◌, length, set, get_or, replicate, map, take, Option, Some, None, refl, sym, ap, ◌∙◌, subst, arith, rules, length-set, length-take-le}
-use Rattle.std.specs.Prelude.{position, IsSome}
+use Rattle.std.proofs.Common.{◌≡◌, ◌≢◌, ℕ, zero, suc, ◌+◌, ◌<◌, ◌≤◌, ◌==◌, Bool, true, false, cond, not, List, [], ◌∷◌, ◌++◌, length, set, get_or, replicate, map, take, Option, Some, None, refl, sym, ap, ◌∙◌, arith, rules, length-set, length-take-le}
 use Rattle.std.specs.List.{position_or_len}
 use Rattle.std.proofs.lemmas.Grind.{common_steps}
-use Rattle.std.proofs.lemmas.List.Folds.{position_or_len_push}
-use Rattle.std.proofs.lemmas.List.{length-replicate, length-map, take_more, map-append, get_or-set_same, get_or-set_other}
+use Rattle.std.proofs.lemmas.List.{length-replicate, length-map, take_more, map-append, get_or-set_same}
 use Rattle.pgn_ids.specs.declared.address.Address.{Address}
 use Rattle.station_core.specs.Station.{Station, new_station}
 use Rattle.std.proofs.lemmas.Bool.{eqb-true, eqb-false}

@@ -1,10 +1,9 @@
 -- Which destination of a station is pumped next, and whether all stations rest.
-use Rattle.std.proofs.Common.{◌≡◌, ℕ, zero, suc, ◌+◌, ◌<◌, ◌≤◌, Bool, true, false, ◌&&◌, cond, List, [], ◌∷◌, ◌++◌, take, length, Option, Some, None, refl, sym, ap, ◌∙◌, add-one, arith, rules, take_all}
+use Rattle.std.proofs.Common.{◌≡◌, ℕ, ◌<◌, true, false, Some, None, ap}
 use Rattle.std.specs.Prelude.{slice_get, is_ok}
-use Rattle.std.specs.List.{list_all}
 use Rattle.std.specs.Option.{option_map}
 use Rattle.pgn_ids.specs.declared.address.Address.{Address}
-use Rattle.station_lanes.specs.LaneReaders.{found_or, least_below}
+use Rattle.station_lanes.specs.LaneReaders.{least_below}
 use Rattle.station_lanes.proofs.Counting.{none_below, least_is, none_from}
 use Rattle.station_core.specs.Station.{Station}
 use Rattle.segment_law.specs.Segment.{Segment, place_of}

@@ -1,7 +1,7 @@
 -- Why calls on a station are refused.
-use Rattle.std.proofs.Common.{◌≡◌, ℕ, Bool, true, false, cond, not, List, Option, Some, None, Result, Ok, Err, length, ◌+◌, refl, subst, rules, arith}
+use Rattle.std.proofs.Common.{◌≡◌, ℕ, Bool, true, false, List, Some, None, Result, Ok, Err, length, ◌+◌, refl, subst, rules, arith}
 use Rattle.pgn_ids.specs.declared.address.Address.{Address}
-use Rattle.port_table.specs.Ports.{Ports, are_full, is_open, is_paused, with_port, without_port, with_paused, opening, closing, pausing, resuming}
+use Rattle.port_table.specs.Ports.{opening, closing, pausing, resuming}
 use Rattle.port_table.specs.declared.port.PauseError.TheVariants as pause
 use Rattle.port_table.specs.declared.port.ResumeError.TheVariants as resume
 use Rattle.port_table.specs.declared.port.PortsFull.{PortsFull}

@@ -1,7 +1,6 @@
 -- Calls that are made one after another.
-use Rattle.std.proofs.Common.{◌≡◌, ℕ, ◌+◌, ◌≤◌, zero, suc, List, [], ◌∷◌, ◌++◌, length, take, refl, sym, ap, ◌∙◌, subst, append_assoc, arith}
-use Rattle.std.proofs.lemmas.List.{append-nil, length-append}
-use Rattle.std.specs.Vec.Iter.{into_iter_items, into_iter_len}
+use Rattle.std.proofs.Common.{◌≡◌, ℕ, ◌+◌, List, [], ◌∷◌, ◌++◌, length, refl, sym, ap, ◌∙◌, subst, append_assoc, arith}
+use Rattle.std.proofs.lemmas.List.{append-nil}
 use Rattle.std.proofs.lemmas.List.{length_push}
 use Rattle.pgn_ids.specs.declared.address.Address.{Address}
 use Rattle.segment_law.specs.Segment.{Segment}
@@ -9,7 +8,7 @@ use Rattle.segment_law.specs.Calls.{applied}
 use Rattle.segment_law.specs.Record.{Record, StandsAt, replies_from, after}
 use Rattle.segment_law.specs.declared.call.Call.{Call}
 use Rattle.segment_law.specs.declared.reply.Reply.{Reply}
-use Rattle.segment_core.specs.Runs.{IsRun, steps_of}
+use Rattle.segment_core.specs.Runs.{steps_of}
 
 -- what was made of these calls, and which are left
 pub record Made (before : Segment) (all made rest : List Call) (seg : Segment) (replies : List Reply) : Type 0 where
@@ -33,10 +32,6 @@ steps_more [] [] call reply h = refl
 steps_more [] (r ∷ replies) call reply h = absurd (omega arith)
 steps_more (c ∷ calls) [] call reply h = absurd (omega arith)
 steps_more (c ∷ calls) (r ∷ replies) call reply h = ap (λ (ss : Record). (c, r) ∷ ss) (steps_more calls replies call reply (omega arith))
-
-take_front : (made rest : List Call) → take (length made) (made ++ rest) ≡ made
-take_front [] rest = refl
-take_front (x ∷ made) rest = ap (λ (cs : List Call). x ∷ cs) (take_front made rest)
 
 -- only the calls so far have their replies
 steps_front : (made rest : List Call) (replies : List Reply) → length replies ≡ length made → steps_of (made ++ rest) replies ≡ steps_of made replies
@@ -65,22 +60,7 @@ one_more before all made rest seg next replies more call reply h is e stands =
           subst (λ (ss : Record). StandsAt addresses ss next) joined each;
     }
 
-pub made_run : (before : Segment) (all made rest : List Call) (seg : Segment) (replies : List Reply) → Made before all made rest seg replies → IsRun before all seg replies
-made_run before all made rest seg replies h =
-    let front : take (length replies) all ≡ made = ap (λ (n : ℕ). take n all) h.count ∙ ap (take (length made)) (sym h.calls) ∙ take_front made rest in
-    let len : length (made ++ rest) ≡ length made + length rest = length-append made rest in
-    record {
-      within = omega (arith, h.count, ap (λ (cs : List Call). length cs) h.calls);
-      replied = h.replied ∙ ap (replies_from before) (sym front);
-      segment = h.segment ∙ ap (after before) (sym front);
-    }
-
 pub made_stands : (before : Segment) (all made rest : List Call) (seg : Segment) (replies : List Reply) → Made before all made rest seg replies → (addresses : List Address) (steps : Record) → StandsAt addresses steps before → StandsAt addresses (steps ++ steps_of all replies) seg
 made_stands before all made rest seg replies h addresses steps s =
     let same : steps_of made replies ≡ steps_of all replies = sym (steps_front made rest replies h.count) ∙ ap (λ (cs : List Call). steps_of cs replies) h.calls in
     subst (λ (ss : Record). StandsAt addresses (steps ++ ss) seg) same (h.stands addresses steps s)
-
--- the calls that are left
-pub nothing_left : (rest : List Call) → length rest ≡ 0 → rest ≡ []
-nothing_left [] e = refl
-nothing_left (x ∷ rest) e = absurd (omega arith)

@@ -1,6 +1,6 @@
 -- Calls of the station with an address, and where it stands.
-use Rattle.std.proofs.Common.{◌≡◌, ℕ, ◌+◌, ◌<◌, ◌==◌, Bool, true, false, cond, nat_lt, List, [], ◌∷◌, ◌++◌, length, set, get_or, Option, Some, None, Err, refl, sym, ap, ◌∙◌, arith, length-set}
-use Rattle.std.specs.Prelude.{slice_get, position}
+use Rattle.std.proofs.Common.{◌≡◌, ℕ, ◌==◌, List, set, get_or, Some, None, Err, refl, sym, ap, ◌∙◌, length-set}
+use Rattle.std.specs.Prelude.{slice_get}
 use Rattle.std.specs.List.{position_or_len}
 use Rattle.std.proofs.lemmas.List.Folds.{position_or_len-set}
 use Rattle.pgn_ids.specs.declared.address.Address.{Address}
@@ -11,7 +11,7 @@ use Rattle.segment_law.specs.declared.refusal.Refusal.TheVariants.{NoSuchStation
 use Rattle.segment_core.specs.declared.places.Places.{Places}
 use Rattle.segment_core.proofs.Addresses.{closed_keeps, taken_keeps, fired_keeps}
 use Rattle.segment_core.proofs.Refusals.{open_full, close_none, pause_none, pause_paused, resume_none, resume_open, send_refused, send_full, send_done}
-use Rattle.segment_core.specs.Places.{place_in, place_among, ArePlaces}
+use Rattle.segment_core.specs.Places.{place_among, ArePlaces}
 
 -- a call of an address is one of the station that stands at its place
 pub at_is : (seg : Segment) (a : Address) (i : ℕ) (st : Station) (call : ℕ → Station → Answer) → place_of seg a ≡ Some i → slice_get seg.stations i ≡ Some st → at_address seg a call ≡ call i st

@@ -1,7 +1,7 @@
 -- The calls of the code as steps of a drive.
-use Rattle.std.proofs.Common.{◌≡◌, ℕ, zero, suc, ◌+◌, ◌-◌, ◌<◌, ◌≤◌, ◌==◌, Bool, true, false, cond, not, ◌&&◌, nat_lt, List, [], ◌∷◌, ◌++◌, length, map, drop, set, get_or, Option, Some, None, Result, Ok, Err, refl, sym, ap, ◌∙◌, subst, arith, length-set}
+use Rattle.std.proofs.Common.{◌≡◌, ℕ, ◌+◌, ◌<◌, ◌≤◌, ◌==◌, Bool, true, false, cond, nat_lt, List, [], ◌∷◌, ◌++◌, length, map, set, get_or, Option, Some, None, Result, Ok, Err, refl, sym, ap, ◌∙◌, subst, arith, length-set}
 use Rattle.std.proofs.lemmas.List.{append-nil}
-use Rattle.std.specs.Prelude.{slice_get, position, option_to_list, unwrap_or, is_some}
+use Rattle.std.specs.Prelude.{slice_get, position, option_to_list, unwrap_or}
 use Rattle.std.specs.List.{position_or_len}
 use Rattle.std.proofs.Math.Seq.{map-set_same}
 use Rattle.std.proofs.lemmas.List.{length_push, get_or-set_same}
@@ -19,15 +19,14 @@ use Rattle.lane_core.specs.declared.refused.PumpRefused.{PumpRefused}
 use Rattle.lane_core.specs.declared.refused.PumpRefused.TheVariants as pump
 use Rattle.station_lanes.specs.LaneReaders.{refusal_at, missing_at}
 use Rattle.station_lanes.specs.declared.event.Event.{Event}
-use Rattle.station_core.specs.Station.{Station, StationStep, new_station}
+use Rattle.station_core.specs.Station.{Station, new_station}
 use Rattle.std.specs.Ordering.{nat_cmp}
 use Rattle.lane_core.specs.Lane.{Lane}
 use Rattle.lane_core.specs.Pump.{missing}
 use Rattle.std.specs.FinMap.{get-empty}
-use Rattle.segment_core.proofs.Drives.{relisted}
 use Rattle.station_core.specs.Taking as taking
-use Rattle.segment_law.specs.Segment.{Segment, place_of, station_of, station_at, has_station, waiting_at}
-use Rattle.segment_law.specs.Calls.{Answer, called, applied, events_of, is_call, at_station, at_place, at_address, no_place, looks, takes_by, takes, transmits_by, transmits, pumps_by, pump_places, pumps, stepped, done, ticks}
+use Rattle.segment_law.specs.Segment.{Segment, place_of, station_at, waiting_at}
+use Rattle.segment_law.specs.Calls.{Answer, called, applied, events_of, is_call, at_station, at_place, at_address, no_place, looks, takes_by, takes, transmits_by, transmits, pumps_by, pump_places, pumps, ticks}
 use Rattle.segment_law.specs.Drive.{Driven, end_by, with_call, stops_at, pumps_again, goes_on, makes, makes_call, with_put, puts_from, puts, has_queued, last_take, takes_all}
 use Rattle.segment_law.specs.Drive as drive
 use Rattle.segment_law.specs.declared.call.Call.{Call}
@@ -40,11 +39,12 @@ use Rattle.segment_law.specs.declared.reply.Reply.TheVariants.{Done}
 use Rattle.segment_law.specs.declared.reply.Reply.TheVariants as reply
 use Rattle.segment_law.proofs.Buses.{frame_past, frame_within}
 use Rattle.segment_core.specs.Answers.{IsAnswer}
-use Rattle.segment_core.specs.Drives.{IsShown, GoesOn, IsCut, HasGone, IsFollowed, HasTaken, addresses_of, too_soon}
+use Rattle.segment_core.specs.Transmits.{put_by}
+use Rattle.segment_core.specs.Drives.{IsShown, GoesOn, HasGone, IsFollowed, HasTaken, too_soon}
 use Rattle.segment_core.specs.declared.stop.Stop.{Stop}
 use Rattle.segment_core.specs.declared.stop.Stop.TheVariants.{Refused, OutOfMemory}
 use Rattle.segment_core.proofs.Addresses.{taken_keeps}
-use Rattle.segment_core.proofs.Drives.{shown_call, ok_applied, err_applied, on_pumps, shown_ok, shown_err, goes, stays, on_refl, on_trans, on_goes, on_makes_call, on_put}
+use Rattle.segment_core.proofs.Drives.{shown_step, shown_call, ok_applied, err_applied, on_pumps, shown_ok, shown_err, goes, stays, on_trans, on_goes, on_makes_call, on_put}
 
 -- What the calls are
 
@@ -133,9 +133,9 @@ pump_tells seg a to next reply e = place_tells Tells seg (place_of seg a) (pumps
 
 -- A call that the code made
 
-pub made : (start : Segment) (d : Driven) (seg next : Segment) (put : List CanFrame) (told more : List Event) (call : Call) (answer : Answer) (reply : Reply) → IsShown None start d seg put told → is_call call ≡ true → called seg call ≡ answer → answer ≡ Ok (next, reply) → Tells reply → more ≡ told ++ events_of reply → IsShown None start (makes_call call d) next put more
-made start d seg next put told more call answer reply h fit is ok tells more_is =
-    shown_ok start d seg next put told more (events_of reply) call h fit (is ∙ ok ∙ ap (λ (r : Reply). Ok (next, r)) tells) more_is
+pub made : (start : Segment) (d : Driven) (seg next : Segment) (put : List CanFrame) (told more : List Event) (call : Call) (answer : Answer) (reply : Reply) → IsShown None start d seg put told → is_call call ≡ true → called seg call ≡ answer → answer ≡ Ok (next, reply) → Tells reply → more ≡ told ++ events_of reply → ((events : List Event) → put_by seg call (Done events) ≡ []) → IsShown None start (makes_call call d) next put more
+made start d seg next put told more call answer reply h fit is ok tells more_is none =
+    shown_ok start d seg next put told more (events_of reply) call h fit (is ∙ ok ∙ ap (λ (r : Reply). Ok (next, r)) tells) more_is (none (events_of reply))
 
 -- one that it didn't
 pub stopped : (start : Segment) (d : Driven) (seg next : Segment) (put : List CanFrame) (told : List Event) (call : Call) (answer : Answer) (stop : Stop) → IsShown None start d seg put told → is_call call ≡ true → called seg call ≡ answer → IsAnswer answer seg next (Err stop) → HasGone start (makes_call call d) next put told (Err stop)
@@ -158,29 +158,32 @@ gone_on start d next seg put told result e h = subst (λ (x : Driven). HasGone s
 
 -- A frame that is put
 
-pub shown_put : (start : Segment) (d : Driven) (seg : Segment) (put more : List CanFrame) (told : List Event) (o : Option CanFrame) → IsShown None start d seg put told → more ≡ put ++ option_to_list o → IsShown None start (with_put o d) seg more told
-shown_put start d seg put more told None h e = record { segment = h.segment; frames = e ∙ append-nil put ∙ h.frames; events = h.events; end = h.end; turns = h.turns; fit = h.fit; replies = h.replies; state = h.state }
-shown_put start d seg put more told (Some f) h e = record {
-  segment = h.segment;
-  frames = e ∙ ap (λ (fs : List CanFrame). fs ++ f ∷ []) h.frames;
-  events = h.events;
-  end = h.end;
-  turns = ap (λ (n : ℕ). n + 1) h.turns ∙ sym (length_push d.frames f);
-  fit = h.fit;
-  replies = h.replies;
-  state = h.state;
-}
+pub shown_put : (start : Segment) (d : Driven) (seg next : Segment) (put more : List CanFrame) (told : List Event) (a : Address) (o : Option CanFrame) → IsShown None start d seg put told → applied seg (Transmit a) ≡ (next, Done []) → o ≡ front (station_at seg a).queue → more ≡ put ++ option_to_list o
+    → IsShown None start (with_put o (with_call d (Transmit a) (applied d.segment (Transmit a)))) next more told
+shown_put start d seg next put more told a None h is first e =
+    subst (λ (fs : List CanFrame). IsShown None start (with_call d (Transmit a) (applied d.segment (Transmit a))) next fs told) (sym (e ∙ append-nil put))
+    (shown_call start d seg next put told told (Transmit a) (Done []) h refl is (sym (append-nil told)) (ap (λ (o : Option CanFrame). option_to_list o) (sym first)))
+shown_put start d seg next put more told a (Some f) h is first e =
+    let x : Driven = with_put (Some f) (with_call d (Transmit a) (applied d.segment (Transmit a))) in
+    let puts : d.frames ++ f ∷ [] ≡ d.frames ++ option_to_list (front (station_at seg a).queue) = ap (λ (o : Option CanFrame). d.frames ++ option_to_list o) first in
+    let many : d.turns + 1 ≡ length (d.frames ++ f ∷ []) = ap (λ (n : ℕ). n + 1) h.turns ∙ sym (length_push d.frames f) in
+    let shown : IsShown None start x next (d.frames ++ f ∷ []) told =
+    shown_step start d seg next put told told (Transmit a) (Done []) (d.turns + 1) (d.frames ++ f ∷ []) h refl is (sym (append-nil told)) many puts in
+    subst (λ (fs : List CanFrame). IsShown None start x next fs told) (sym (e ∙ ap (λ (fs : List CanFrame). fs ++ f ∷ []) h.frames)) shown
 
 pub puts_made : (start : Segment) (d : Driven) (seg next : Segment) (put more : List CanFrame) (told : List Event) (a : Address) (reply : Reply) → IsShown None start d seg put told → at_address seg a (transmits seg) ≡ Ok (next, reply) → more ≡ put ++ option_to_list (front (station_at seg a).queue) → IsShown None start (puts d a) next more told
 puts_made start d seg next put more told a reply h ok e =
     let x : Driven = makes_call (Transmit a) d in
+    let y : Driven = with_call d (Transmit a) (applied d.segment (Transmit a)) in
     let o : Option CanFrame = front (station_at d.segment a).queue in
     let quiet : IsQuiet reply = transmit_quiet seg a next reply ok in
-    let told_is : told ≡ told ++ events_of reply = sym (append-nil told) ∙ ap (λ (r : Reply). told ++ events_of r) (sym quiet) in
-    let shown : IsShown None start x next put told = made start d seg next put told told (Transmit a) (at_address seg a (transmits seg)) reply h refl (called_transmit seg a) ok (quiet_tells reply quiet) told_is in
-    let same : more ≡ put ++ option_to_list o = e ∙ ap (λ (s : Segment). put ++ option_to_list (front (station_at s a).queue)) h.segment in
-    let putting : IsShown None start (with_put o x) next more told = shown_put start x next put more told o shown same in
-    subst (λ (y : Driven). IsShown None start y next more told) (sym (goes d (puts_from a) h.end ∙ goes x (with_put o) shown.end)) putting
+    let is : applied seg (Transmit a) ≡ (next, Done []) = ok_applied seg next (Transmit a) (Done []) (called_transmit seg a ∙ ok ∙ ap (λ (r : Reply). Ok (next, r)) quiet) in
+    let answer : (applied d.segment (Transmit a)).1 ≡ Done [] = ap (λ (s : Segment). (applied s (Transmit a)).1) (sym h.segment) ∙ ap (λ (p : Segment × Reply). p.1) is in
+    let same : x ≡ y = ap (stops_at y) answer in
+    let first : o ≡ front (station_at seg a).queue = ap (λ (s : Segment). front (station_at s a).queue) (sym h.segment) in
+    let putting : IsShown None start (with_put o y) next more told = shown_put start d seg next put more told a o h is first (e ∙ ap (λ (o : Option CanFrame). put ++ option_to_list o) (sym first)) in
+    let whole : puts d a ≡ with_put o y = goes d (puts_from a) h.end ∙ goes x (with_put o) (ap (λ (z : Driven). z.ended) same ∙ h.end) ∙ ap (with_put o) same in
+    subst (λ (z : Driven). IsShown None start z next more told) (sym whole) putting
 
 pub puts_stopped : (start : Segment) (d : Driven) (seg next : Segment) (put : List CanFrame) (told : List Event) (a : Address) (stop : Stop) → IsShown None start d seg put told → IsAnswer (at_address seg a (transmits seg)) seg next (Err stop) → HasGone start (puts d a) next put told (Err stop)
 puts_stopped start d seg next put told a stop h e =
@@ -193,7 +196,7 @@ puts_stopped start d seg next put told a stop h e =
 
 pub takes_made : (start : Segment) (d : Driven) (seg next : Segment) (put : List CanFrame) (told more : List Event) (a : Address) (reply : Reply) → IsShown None start d seg put told → at_address seg a (takes seg true) ≡ Ok (next, reply) → more ≡ told ++ events_of reply → IsShown None start (makes d (Take a true)) next put more
 takes_made start d seg next put told more a reply h ok e =
-    gone_on start d (makes_call (Take a true)) next put more (Ok tt) h.end (made start d seg next put told more (Take a true) (at_address seg a (takes seg true)) reply h refl (called_take seg a) ok (take_tells seg a next reply ok) e)
+    gone_on start d (makes_call (Take a true)) next put more (Ok tt) h.end (made start d seg next put told more (Take a true) (at_address seg a (takes seg true)) reply h refl (called_take seg a) ok (take_tells seg a next reply ok) e (λ _. refl))
 
 pub takes_stopped : (start : Segment) (d : Driven) (seg next : Segment) (put : List CanFrame) (told : List Event) (a : Address) (stop : Stop) → IsShown None start d seg put told → IsAnswer (at_address seg a (takes seg true)) seg next (Err stop) → HasGone start (makes d (Take a true)) next put told (Err stop)
 takes_stopped start d seg next put told a stop h e =
@@ -219,7 +222,7 @@ no_frame seg a none = by_place (place_of seg a) none
 pub last_shown : (start : Segment) (d : Driven) (seg : Segment) (put : List CanFrame) (told : List Event) (a : Address) → IsShown None start d seg put told → waiting_at seg a ≡ 0 → IsShown None start (last_take a d) seg put told
 last_shown start d seg put told a h none =
     let refused : (cause : Refusal) × (at_address seg a (takes seg true) ≡ Err cause) = no_frame seg a none in
-    shown_call start d seg seg put told told (Take a true) (reply.Refused refused.0) h refl (err_applied seg (Take a true) refused.0 (called_take seg a ∙ refused.1)) (sym (append-nil told))
+    shown_call start d seg seg put told told (Take a true) (reply.Refused refused.0) h refl (err_applied seg (Take a true) refused.0 (called_take seg a ∙ refused.1)) (sym (append-nil told)) refl
 
 -- What a Take leaves
 
@@ -298,7 +301,7 @@ pumps_made start d seg next put told more from to reply h fit ok e =
     let x : Driven = with_call d call (applied d.segment call) in
     let tells : Tells reply = pump_tells seg from to next reply ok in
     let is : applied seg call ≡ (next, reply) = ok_applied seg next call reply (called_pump seg from to ∙ ok) in
-    let shown : IsShown None start x next put more = shown_call start d seg next put told more call reply h fit is e in
+    let shown : IsShown None start x next put more = shown_call start d seg next put told more call reply h fit is e refl in
     let answer : (applied d.segment call).1 ≡ Done (events_of reply) = ap (λ (s : Segment). (applied s call).1) (sym h.segment) ∙ ap (λ (p : Segment × Reply). p.1) is ∙ tells in
     subst (λ (r : Reply). IsShown None start (pumps_again from to r x) next put more) (sym answer) shown
 
@@ -321,7 +324,7 @@ pumps_later start d seg next after put more told others from to stop result h fi
     let refused : IsAnswer (at_address seg from (pumps seg to)) seg next (Err (Refused refusal.NotYet)) = subst (λ (s : Stop). IsAnswer (at_address seg from (pumps seg to)) seg next (Err s)) (soon_is stop soon) e in
     let is : applied seg call ≡ (seg, reply.Refused refusal.NotYet) = err_applied seg call refusal.NotYet (called_pump seg from to ∙ refused.0) in
     let answer : (applied d.segment call).1 ≡ reply.Refused refusal.NotYet = ap (λ (s : Segment). (applied s call).1) (sym h.segment) ∙ ap (λ (p : Segment × Reply). p.1) is in
-    let here : IsShown None start x seg put told = shown_call start d seg seg put told told call (reply.Refused refusal.NotYet) h fit is (sym (append-nil told)) in
+    let here : IsShown None start x seg put told = shown_call start d seg seg put told told call (reply.Refused refusal.NotYet) h fit is (sym (append-nil told)) refl in
     let shown : IsShown None start x next put told = subst (λ (s : Segment). IsShown None start x s put told) (sym refused.1) here in
     let gone : HasGone start (makes (makes x (Tick (missing_at (station_at x.segment from).lanes to.0 x.segment.now))) (Pump from to)) after more others result =
     subst (λ (s : Segment). HasGone start (makes (makes x (Tick (missing_at (station_at s from).lanes to.0 s.now))) (Pump from to)) after more others result) shown.segment (each x shown) in
@@ -332,7 +335,7 @@ pub tick_made : (start : Segment) (d : Driven) (seg next : Segment) (put : List 
 tick_made start d seg next put told n reply h ok =
     let quiet : IsQuiet reply = tick_quiet seg n next reply ok in
     let told_is : told ≡ told ++ events_of reply = sym (append-nil told) ∙ ap (λ (r : Reply). told ++ events_of r) (sym quiet) in
-    gone_on start d (makes_call (Tick n)) next put told (Ok tt) h.end (made start d seg next put told told (Tick n) (ticks seg n) reply h refl (called_tick seg n) ok (quiet_tells reply quiet) told_is)
+    gone_on start d (makes_call (Tick n)) next put told (Ok tt) h.end (made start d seg next put told told (Tick n) (ticks seg n) reply h refl (called_tick seg n) ok (quiet_tells reply quiet) told_is (λ _. refl))
 
 pub tick_stopped : (start : Segment) (d : Driven) (seg next : Segment) (put : List CanFrame) (told : List Event) (n : ℕ) (from to : Address) (stop : Stop) → IsShown None start d seg put told → IsAnswer (ticks seg n) seg next (Err stop) → HasGone start (makes (makes d (Tick n)) (Pump from to)) next put told (Err stop)
 tick_stopped start d seg next put told n from to stop h e =
@@ -342,7 +345,7 @@ tick_stopped start d seg next put told n from to stop h e =
 
 pub pump_made : (start : Segment) (d : Driven) (seg next : Segment) (put : List CanFrame) (told more : List Event) (from to : Address) (reply : Reply) → IsShown None start d seg put told → is_call (Pump from to) ≡ true → at_address seg from (pumps seg to) ≡ Ok (next, reply) → more ≡ told ++ events_of reply → IsShown None start (makes d (Pump from to)) next put more
 pump_made start d seg next put told more from to reply h fit ok e =
-    gone_on start d (makes_call (Pump from to)) next put more (Ok tt) h.end (made start d seg next put told more (Pump from to) (at_address seg from (pumps seg to)) reply h fit (called_pump seg from to) ok (pump_tells seg from to next reply ok) e)
+    gone_on start d (makes_call (Pump from to)) next put more (Ok tt) h.end (made start d seg next put told more (Pump from to) (at_address seg from (pumps seg to)) reply h fit (called_pump seg from to) ok (pump_tells seg from to next reply ok) e (λ _. refl))
 
 pub pump_stopped : (start : Segment) (d : Driven) (seg next : Segment) (put : List CanFrame) (told : List Event) (from to : Address) (stop : Stop) → IsShown None start d seg put told → is_call (Pump from to) ≡ true → IsAnswer (at_address seg from (pumps seg to)) seg next (Err stop) → HasGone start (makes d (Pump from to)) next put told (Err stop)
 pump_stopped start d seg next put told from to stop h fit e =

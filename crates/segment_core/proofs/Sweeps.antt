@@ -1,11 +1,10 @@
 -- The loops of a drive.
-use Rattle.std.proofs.Common.{◌≡◌, ℕ, zero, suc, ◌+◌, ◌-◌, ◌<◌, List, [], ◌∷◌, length, map, drop, get_or, None, refl, sym, ap, ◌∙◌}
+use Rattle.std.proofs.Common.{◌≡◌, ℕ, ◌+◌, ◌-◌, List, [], ◌∷◌, length, drop, None}
 use Rattle.bus_frame.specs.Frames.{CanFrame}
 use Rattle.pgn_ids.specs.declared.address.Address.{Address}
 use Rattle.station_lanes.specs.declared.event.Event.{Event}
-use Rattle.station_core.specs.Station.{Station}
 use Rattle.segment_law.specs.Segment.{Segment, waiting_at}
-use Rattle.segment_law.specs.Drive.{Driven, goes_on, takes, takes_all, all_take, turn, turns_from, driven}
+use Rattle.segment_law.specs.Drive.{Driven, goes_on, takes, takes_all, turn, turns_from, driven}
 use Rattle.segment_core.specs.Joined.{joined}
 use Rattle.segment_core.specs.Drives.{IsShown, IsFollowed, addresses_of}
 

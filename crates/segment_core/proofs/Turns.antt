@@ -1,16 +1,15 @@
 -- The loops of a drive, step by step.
-use Rattle.std.proofs.Common.{◌≡◌, ℕ, zero, suc, ◌+◌, ◌-◌, ◌<◌, ◌≤◌, ◌==◌, Bool, true, false, cond, ◌&&◌, nat_lt, List, [], ◌∷◌, ◌++◌, length, map, drop, get_or, Option, Some, None, Result, Ok, Err, refl, sym, ap, ◌∙◌, subst, arith, drop-cons}
+use Rattle.std.proofs.Common.{◌≡◌, ℕ, zero, suc, ◌+◌, ◌-◌, ◌<◌, ◌≤◌, Bool, true, false, cond, ◌&&◌, nat_lt, List, [], ◌∷◌, ◌++◌, length, map, drop, get_or, Option, Some, None, Ok, Err, refl, sym, ap, ◌∙◌, subst, arith, drop-cons}
 use Rattle.std.proofs.lemmas.List.{length-map}
-use Rattle.std.specs.Prelude.{IsTrue, slice_get, is_some, unwrap_or}
-use Rattle.std.specs.List.{list_all}
+use Rattle.std.specs.Prelude.{slice_get, is_some, unwrap_or}
 use Rattle.std.proofs.lemmas.Bool.{lt-ltb}
 use Rattle.bus_frame.specs.Frames.{CanFrame}
 use Rattle.pgn_ids.specs.declared.address.Address.{Address}
 use Rattle.station_lanes.specs.declared.event.Event.{Event}
 use Rattle.station_core.specs.Station.{Station, new_station}
-use Rattle.segment_law.specs.Segment.{Segment, place_of, station_of, station_at, has_station, waiting_at}
-use Rattle.segment_law.specs.Record.{Record, StandsAt, after, calls_of}
-use Rattle.segment_law.specs.Drive.{Driven, events_in, end_by, end_of, goes_on, makes, puts, pumps, has_queued, turn_puts, takes, last_take, takes_all, all_take, turn, turns_from, not_driven, driven}
+use Rattle.segment_law.specs.Segment.{Segment, place_of, station_at, waiting_at}
+use Rattle.segment_law.specs.Record.{Record, StandsAt}
+use Rattle.segment_law.specs.Drive.{Driven, end_by, goes_on, makes, puts, pumps, has_queued, turn_puts, takes, last_take, takes_all, all_take, turn, turns_from, not_driven, driven}
 use Rattle.segment_law.specs.declared.call.Call.TheVariants.{Take}
 use Rattle.segment_law.specs.declared.end.DriveEnd.{DriveEnd}
 use Rattle.segment_law.specs.declared.end.DriveEnd.TheVariants as end
@@ -18,18 +17,15 @@ use Rattle.segment_law.specs.declared.refusal.Refusal.{Refusal}
 use Rattle.segment_law.specs.declared.refusal.Refusal.TheVariants as refusal
 use Rattle.segment_law.proofs.Records.{stands_on}
 use Rattle.segment_core.specs.Joined.{joined}
-use Rattle.segment_core.specs.Drives.{IsDriven, IsBegun, IsShown, GoesOn, IsCut, HasGone, IsFollowed, HasTaken, addresses_of, stop_end}
+use Rattle.segment_core.specs.Drives.{IsDriven, IsBegun, IsShown, GoesOn, HasGone, HasTaken, addresses_of, stop_end}
 use Rattle.segment_core.specs.declared.driven.Driven as ran
 use Rattle.segment_core.specs.declared.stop.Stop.{Stop}
 use Rattle.segment_core.specs.declared.stop.Stop.TheVariants.{Refused, OutOfMemory}
-use Rattle.segment_core.proofs.Drives.{shown_none, goes, stays, takes_stay, turns_stay, on_refl, on_trans, on_goes, on_puts, on_takes, on_last, on_takes_all, on_all_take, on_turn, on_turns}
+use Rattle.segment_core.proofs.Drives.{goes, stays, takes_stay, turns_stay, on_refl, on_trans, on_goes, on_takes, on_last, on_takes_all, on_all_take, on_turns}
 use Rattle.segment_core.proofs.Steps.{stays_stopped, gone_on, last_shown}
 use Rattle.segment_core.proofs.Sweeps.{Stands, Turning, each_takes, Sweeping, Taking}
 
 -- A station takes all
-
-pub taking_begins : (a : Address) (before : Segment) (was : List CanFrame) (were : List (List Event)) (left : ℕ) → left ≡ waiting_at before a → IsFollowed before → Taking a before was were left 0 before was were
-taking_begins a before was were left e h = record { waits = omega arith; followed = h; addresses = refl; steps = λ start d s. record { at = d; shown = s; on = refl } }
 
 pub taking_goes : (a : Address) (before : Segment) (was : List CanFrame) (were : List (List Event)) (left k : ℕ) (seg next : Segment) (put more : List CanFrame) (parts others : List (List Event)) → Taking a before was were left k seg put parts → HasTaken a seg next
     → ((start : Segment) (d : Driven) → IsShown None start d seg put (joined parts) → IsShown None start (makes d (Take a true)) next more (joined others)) → Taking a before was were left (k + 1) next more others
@@ -195,7 +191,7 @@ turning_begins start from to turns put parts none nothing =
     }
   where
     shown_is : IsShown None start (not_driven start) start put (joined parts)
-    shown_is = record { segment = refl; frames = none; events = ap joined nothing; end = refl; turns = refl; fit = refl; replies = refl; state = refl }
+    shown_is = record { segment = refl; frames = none; events = ap joined nothing; end = refl; turns = refl; transmits = refl; fit = refl; replies = refl; state = refl }
 
 pub turning_goes : (start : Segment) (from to : Address) (turns k : ℕ) (seg next : Segment) (put more : List CanFrame) (parts others : List (List Event)) → Turning start from to turns k seg put parts → k < turns
     → ((d : Driven) → IsShown None start d seg put (joined parts) → IsShown None start (turn from to d) next more (joined others)) → Turning start from to turns (k + 1) next more others
@@ -275,6 +271,7 @@ drive_stops start d seg put told done OutOfMemory h a = record {
     later = h.on.later;
     calls = h.on.calls;
     frames = ap (λ (fs : List CanFrame). fs ++ h.on.later) (a.frames ∙ h.shown.frames) ∙ h.on.frames;
+    transmits = a.frames ∙ h.shown.frames ∙ h.shown.transmits;
     turns = a.turns ∙ ap (λ (fs : List CanFrame). length fs) (sym a.frames);
     events = a.events ∙ h.shown.events;
     segment = h.shown.segment ∙ sym h.shown.state;

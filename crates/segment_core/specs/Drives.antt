@@ -1,5 +1,5 @@
 -- What a drive of the code did, beside the drive that the law says.
-use Rattle.std.specs.Prelude.{◌≡◌, List, [], ◌∷◌, ◌++◌, length, map, Option, Some, None, Result, Ok, Err, ℕ, ◌+◌, Bool, true, false, IsTrue}
+use Rattle.std.specs.Prelude.{◌≡◌, List, ◌++◌, length, map, Option, Some, None, Result, Ok, Err, ◌+◌, Bool, true, false, IsTrue}
 use Rattle.std.specs.List.{list_all}
 use Rattle.bus_frame.specs.Frames.{CanFrame}
 use Rattle.pgn_ids.specs.declared.address.Address.{Address}
@@ -16,6 +16,7 @@ use Rattle.segment_core.specs.declared.driven.Driven as ran
 use Rattle.segment_law.specs.declared.end.DriveEnd.TheVariants as end
 use Rattle.segment_law.specs.declared.refusal.Refusal.TheVariants as refusal
 use Rattle.segment_core.specs.Joined.{joined}
+use Rattle.segment_core.specs.Transmits.{transmitted}
 use Rattle.segment_core.specs.declared.course.Course.{Course}
 
 -- The whole drive
@@ -28,13 +29,15 @@ pub record IsDriven (d : Driven) (seg : Segment) (done : ran.Driven) : Type 0 wh
   pub end : done.end ≡ end_of d
   pub segment : seg ≡ d.segment
 
--- what was done before a call found no memory: the first of the drive's calls, and the first of its frames
+-- what was done before a call found no memory: the first of the drive's calls, and the first of its frames, which are those
+-- that these calls put
 pub record IsBegun (d : Driven) (before seg : Segment) (done : ran.Driven) : Type 0 where
   pub made : Record
   pub rest : Record
   pub later : List CanFrame
   pub calls : made ++ rest ≡ d.calls
   pub frames : done.frames ++ later ≡ d.frames
+  pub transmits : done.frames ≡ transmitted before made
   pub turns : done.turns ≡ length done.frames
   pub events : done.events ≡ events_in made
   pub segment : seg ≡ after before (calls_of made)
@@ -59,6 +62,7 @@ pub record IsShown (ended : Option DriveEnd) (start : Segment) (d : Driven) (seg
   pub events : told ≡ events_in d.calls
   pub end : d.ended ≡ ended
   pub turns : d.turns ≡ length d.frames
+  pub transmits : d.frames ≡ transmitted start d.calls
   pub fit : IsTrue (list_all is_call (calls_of d.calls))
   pub replies : replies_from start (calls_of d.calls) ≡ replies_of d.calls
   pub state : after start (calls_of d.calls) ≡ d.segment

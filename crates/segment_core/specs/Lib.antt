@@ -6,4 +6,6 @@ pub mod SegmentFields
 pub mod DriveFields
 pub mod Joined
 pub mod Runs
+pub mod Transmits
 pub mod Drives
+pub mod Undisturbed

@@ -4,22 +4,22 @@ use Rattle.bus_frame.specs.Frames.{CanFrame}
 use Rattle.station_core.specs.Station.{Station}
 use Rattle.station_core.specs.Taking.{is_malformed_for, taken}
 use Rattle.station_core.specs.Timers.{is_due, fired}
+use Rattle.station_core.specs.declared.taking.Taken as look
 use Rattle.station_lanes.specs.declared.event.Event.{Event}
 use Rattle.segment_law.specs.Calls.{no_place}
 use Rattle.segment_law.specs.declared.refusal.Refusal.{Refusal}
 use Rattle.segment_law.specs.declared.refusal.Refusal.TheVariants.{NothingDue, TxFull}
 use Rattle.segment_core.specs.declared.stop.Stop.{Stop}
 use Rattle.segment_core.specs.declared.stop.Stop.TheVariants.{Refused, OutOfMemory}
-use Rattle.segment_core.specs.declared.taking.Looked.{Looked}
 
 -- it took the frame, for whose answer there was a place
-pub record IsLooked (st : Station) (frame : CanFrame) (room : Bool) (now : ℕ) (next : Station) (looked : Looked) : Type 0 where
+pub record IsLooked (st : Station) (frame : CanFrame) (room : Bool) (now : ℕ) (next : Station) (looked : look.Taken) : Type 0 where
   pub place : no_place st ≡ false
   pub step : taken st frame room now ≡ record { station = next; events = looked.events }
   pub malformed : looked.is_malformed ≡ is_malformed_for st frame
 
 -- a station takes a frame; where no place is free or memory is refused, it is as it was
-abbrev pub IsLook : Station → CanFrame → (room : Bool) → (now : ℕ) → Station → Result Looked Stop → Type 0
+abbrev pub IsLook : Station → CanFrame → (room : Bool) → (now : ℕ) → Station → Result look.Taken Stop → Type 0
 IsLook st frame room now next (Ok looked) = IsLooked st frame room now next looked
 IsLook st frame room now next (Err (Refused cause)) = (no_place st ≡ true) × (cause ≡ TxFull) × (next ≡ st)
 IsLook st frame room now next (Err OutOfMemory) = next ≡ st

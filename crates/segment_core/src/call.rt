@@ -24,8 +24,8 @@ fn are_octets(bytes: &[u8])
     ensures { (i : ℕ) → slice_index bytes.now i < 256 }
 {}
 
-// An address has one byte.
-fn one_byte(address: Address)
+/// An address has one byte.
+pub(crate) fn one_byte(address: Address)
     ensures { is_address address ≡ true }
 {}
 

@@ -85,6 +85,9 @@ impl Segment {
         ensures reply { result ≡ Done events }
         ensures counts { self.new ≡ record self.old { counts = counted self.old.counts events } }
     {
+        if events.is_empty() {
+            return self.done();
+        }
         let (first, rest) = events.into_parts();
         let Some(first) = first else {
             return self.done();

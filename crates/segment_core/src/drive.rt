@@ -1,20 +1,25 @@
 //! Driving one lane, turn by turn.
 ghost use Rattle.std.specs.Prelude.{◌≡◌, ◌≢◌, ◌<◌, ◌++◌, List, length, None, true, OnOk, slice_index_or, vec_len, vec_capacity};
+ghost use Rattle.pgn_ids.specs.Address.{global_address};
 ghost use Rattle.pgn_ids.specs.declared.address.Address.{Address};
+ghost use Rattle.lane_core.specs.declared.message.Pending.{Pending};
 ghost use Rattle.station_lanes.specs.LaneReaders.{missing_at};
 ghost use Rattle.segment_law.specs.Segment.{Segment as State, station_at, waiting_at};
-ghost use Rattle.segment_law.specs.Calls.{is_address};
 ghost use Rattle.segment_law.specs.Record.{Record, StandsAt};
+ghost use Rattle.segment_law.specs.Quiet.{quiet, IsQuiet};
 ghost use Rattle.segment_law.specs.Drive.{Driven as Drive, driven, makes, makes_call, puts, pumps, turn_puts, takes_all, turn};
 ghost use Rattle.segment_law.specs.declared.call.Call.TheVariants.{Pump, Take, Tick};
 ghost use Rattle.segment_law.specs.declared.end.DriveEnd.TheVariants as end;
 ghost use Rattle.segment_core.specs.Drives.{IsDriven, IsBegun, IsCourse, Went, IsFollowed, HasTaken, addresses_of, stop_end, too_soon};
+ghost use Rattle.segment_core.specs.Undisturbed.{IsQuietDrive};
 
+use crate::call::one_byte;
 use crate::course::Course;
 use crate::driven::Driven;
 use crate::segment::Segment;
 use crate::stop::Stop;
 use pgn_ids::Address;
+use quiet_law::broadcasts_are_undisturbed;
 use segment_law::{DriveEnd, Refusal};
 
 // How a drive ends where one of its calls isn't done.
@@ -38,13 +43,6 @@ fn is_too_soon(stop: Stop) -> bool
     }
 }
 
-// An address has one byte.
-fn one_octet(address: Address)
-    ensures { is_address address ≡ true }
-{
-    let _octet = address.0;
-}
-
 impl Segment {
     /// Drives the lane from a station to a destination for at most so many turns, and tells what was put and given.
     ///
@@ -54,12 +52,20 @@ impl Segment {
     ///
     /// It ends after its turns; as idle where the lane has nothing to queue; at another refusal; or where a call finds no
     /// memory, which then wasn't made. A turn counts once its frame is put.
+    ///
+    /// Where nothing disturbs the first message of a lane to all, as many turns as it has frames put exactly these, tell that
+    /// it was broadcast, give it at each port that takes it, and leave all at rest (SAE J1939-21).
     pub fn drive(&mut self, from: Address, to: Address, turns: u64) -> Driven
         ensures done { result.end ≢ end.OutOfMemory → IsDriven (driven self.old from to turns) self.new result }
         ensures begun { result.end ≡ end.OutOfMemory → IsBegun (driven self.old from to turns) self.old self.new result }
         ensures stands { (addresses : List Address) (steps : Record) → StandsAt addresses steps self.old → result.end ≢ end.OutOfMemory
             → StandsAt addresses (steps ++ (driven self.old from to turns).calls) self.new }
+        ensures undisturbed { (addresses : List Address) (steps : Record) (m : Pending) → StandsAt addresses steps self.old → to.0 ≡ global_address
+            → IsQuiet self.old from to m → turns ≡ length (quiet m from to) → result.end ≢ end.OutOfMemory
+            → IsQuietDrive self.old from to m self.new result }
     {
+        // A law, for the last clause: the call does nothing.
+        broadcasts_are_undisturbed();
         let mut course = Course::new(self.alloc);
         for _ in 0..turns {
             if let Err(stop) = self.turn(from, to, &mut course) {
@@ -113,7 +119,7 @@ impl Segment {
     fn pump_lane(&mut self, from: Address, to: Address, course: &mut Course) -> Result<(), Stop>
         ensures { (start : State) (d : Drive) → IsCourse None start d self.old course.old → Went start (pumps from to d) self.new course.new result }
     {
-        one_octet(to);
+        one_byte(to);
         course.parts.reserve(1)?;
         match self.pump(from, to) {
             Ok(reply) => {
@@ -134,7 +140,7 @@ impl Segment {
         requires room { vec_len course.old.parts < vec_capacity course.old.parts }
         ensures { (start : State) (d : Drive) → IsCourse None start d self.old course.old → Went start (makes (makes d (Tick (missing_at (station_at self.old from).lanes to.0 self.old.now))) (Pump from to)) self.new course.new result }
     {
-        one_octet(to);
+        one_byte(to);
         let missing = self.missing(from, to);
         let _done = self.tick(missing)?;
         let reply = self.pump(from, to)?;

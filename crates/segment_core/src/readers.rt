@@ -1,9 +1,12 @@
 //! What a segment answers without a step. No reader takes memory.
-ghost use Rattle.std.specs.Prelude.{◌≡◌, ℕ, ◌<◌, length, is_ok, slice_get};
+ghost use Rattle.std.specs.Prelude.{◌≡◌, ℕ, ◌<◌, List, length, is_ok, slice_get};
+ghost use Rattle.pgn_ids.specs.declared.address.Address.{Address as AddressValue};
 ghost use Rattle.bus_order.specs.Bus.{bus_len, frame_at};
 ghost use Rattle.segment_law.specs.Segment.{Segment as State, waiting_at};
 ghost use Rattle.segment_law.specs.Calls.{pumps};
-ghost use Rattle.segment_law.specs.Readers.{queue_len, front_at, pumps_to, next_pump, is_due, wanted, wanted_with, frame_for, rests, is_idle};
+ghost use Rattle.segment_law.specs.Readers.{queue_len, front_at, pumps_to, next_pump, is_due, wanted, wanted_with, given_by_take, frame_for, rests, is_idle};
+ghost use Rattle.segment_law.specs.Record.{Record, StandsAt};
+ghost use Rattle.reader_law.specs.Counting.{counts_over};
 
 use crate::segment::Segment;
 use crate::sending::MOST_PUMPED;
@@ -66,9 +69,11 @@ impl Segment {
         self.bus.frame(place)
     }
 
-    /// What was counted.
+    /// What was counted, each number up to the last value of `u64`: that which the segment's record holds.
+    #[tactic(auto, using(reader_law::proofs::Recorded::counts_are_recorded))]
     pub fn counts(&self) -> Counts
-        ensures { result ≡ self.now.counts }
+        ensures value { result ≡ self.now.counts }
+        ensures of_record { (addresses : List AddressValue) (steps : Record) → StandsAt addresses steps self.now → result ≡ counts_over addresses steps }
     {
         self.counts
     }
@@ -121,7 +126,8 @@ impl Segment {
     /// The ports that the station's next Take with room would give to, or with `again` its TakeAgain, and the length of the
     /// message in bytes; no port and 0 where it would give nothing or the address isn't a station's.
     pub fn wants(&self, station: Address, again: bool) -> (PortSet, u32)
-        ensures { result ≡ wanted self.now station again }
+        ensures value { result ≡ wanted self.now station again }
+        ensures given { result.0 ≡ (given_by_take self.now station again).0 }
     {
         match self.place_of(station) {
             None => (PortSet::empty(), 0),

@@ -13,28 +13,17 @@ use crate::stop::Stop;
 use bus_frame::Frame;
 use pgn_ids::Address;
 use segment_law::{Refusal, Reply};
-use station_core::{Events, Station};
-
-/// What a station made of a frame.
-#[derive(Drop)]
-struct Looked {
-    is_malformed: bool,
-    events: Events,
-}
+use station_core::{Station, Taken};
 
 // A station takes a frame, where its queue has a free place.
-fn look(station: &mut Station, frame: &Frame, room: bool, now: u64) -> Result<Looked, Stop>
+fn look(station: &mut Station, frame: &Frame, room: bool, now: u64) -> Result<Taken, Stop>
     ensures { IsLook station.old frame.now room now station.new result }
 {
     if station.free() == 0 {
         return Err(Stop::Refused(Refusal::TxFull));
     }
-    let is_malformed = station.is_malformed_for(frame);
-    let events = station.take(frame, room, now)?;
-    Ok(Looked {
-        is_malformed,
-        events,
-    })
+    let taken = station.take(frame, room, now)?;
+    Ok(taken)
 }
 
 impl Segment {
@@ -108,7 +97,7 @@ impl Segment {
     }
 
     // The reply to a Take, which is counted.
-    fn looked(&mut self, looked: Looked) -> Reply
+    fn looked(&mut self, looked: Taken) -> Reply
         ensures reply { result ≡ Done looked.events }
         ensures counts { self.new ≡ record self.old { counts = counted (counted_look self.old.counts looked.is_malformed) looked.events } }
     {

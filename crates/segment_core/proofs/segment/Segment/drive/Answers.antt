@@ -1,9 +1,8 @@
-use Rattle.std.proofs.Common.{◌≡◌, ◌≤◌, ◌<◌, ◌+◌, ℕ, List, [], ◌∷◌, ◌++◌, length, Some, None, Result, Ok, Err, refl, sym, ap, ◌∙◌, subst, arith, rules}
+use Rattle.std.proofs.Common.{◌∙◌}
 use Rattle.segment_core.specs.Joined.{joined}
-use Rattle.segment_law.specs.Drive.{Driven, puts, pumps, takes_all, turn_puts, turn, makes, driven}
-use Rattle.segment_law.specs.declared.call.Call.TheVariants.{Pump, Take, Tick}
-use Rattle.segment_law.specs.declared.end.DriveEnd.TheVariants as end
-use Rattle.segment_core.proofs.Turns.{IsAnswered, turning_begins, turning_goes, turning_ends, turning_stops, all_turns, drive_stops}
+use Rattle.segment_law.specs.Drive.{driven}
+use Rattle.segment_core.proofs.Turns.{turning_begins, turning_goes, turning_ends, turning_stops, all_turns, drive_stops}
+use Rattle.segment_core.proofs.Undisturbed.{quiet_drive}
 use Rattle.segment_core.proofs.segment.Segment.drive.Goals as goal
 
 pub loop-init : goal.loop-init
@@ -22,7 +21,13 @@ returns-in-Err c =
     c.loop.invariant c.loop-test.true (λ d h. c.in-Err.ensures c.args.self.now d h) in
     let says = drive_stops c.args.self.now (driven c.args.self.now c.args.from c.args.to c.args.turns) c.turn.new.self put (joined parts) c.ended.result c.in-Err.stop gone
     (record { turns = c.ended.ensures.turns; frames = c.ended.ensures.frames; events = c.ended.ensures.events; end = c.ended.ensures.end ∙ c.end_at.ensures }) in
-    record { done = says.done_is; begun = says.begun_is; stands = says.stands_is }
+    record {
+      done = says.done_is;
+      begun = says.begun_is;
+      stands = says.stands_is;
+      undisturbed = λ addresses steps m stands all quiet many ends.
+          quiet_drive c.broadcasts_are_undisturbed.ensures addresses steps c.args.self.now c.turn.new.self c.args.from c.args.to m c.args.turns c.ended.result stands all quiet many (says.done_is ends);
+    }
 
 pub returns : goal.returns
 returns c =
@@ -31,4 +36,10 @@ returns c =
     let shown = turning_ends c.args.self.now c.args.from c.args.to c.args.turns c.loop.counter c.loop.self put parts c.loop.invariant c.loop-test.false in
     let says = all_turns c.args.self.now (driven c.args.self.now c.args.from c.args.to c.args.turns) c.loop.self put (joined parts) c.ended-2.result shown
     (record { turns = c.ended-2.ensures.turns; frames = c.ended-2.ensures.frames; events = c.ended-2.ensures.events; end = c.ended-2.ensures.end }) in
-    record { done = says.done_is; begun = says.begun_is; stands = says.stands_is }
+    record {
+      done = says.done_is;
+      begun = says.begun_is;
+      stands = says.stands_is;
+      undisturbed = λ addresses steps m stands all quiet many ends.
+          quiet_drive c.broadcasts_are_undisturbed.ensures addresses steps c.args.self.now c.loop.self c.args.from c.args.to m c.args.turns c.ended-2.result stands all quiet many (says.done_is ends);
+    }

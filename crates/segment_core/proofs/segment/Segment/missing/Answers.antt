@@ -1,4 +1,4 @@
-use Rattle.std.proofs.Common.{◌≡◌, ◌≤◌, ◌<◌, ◌+◌, ℕ, List, [], ◌∷◌, ◌++◌, length, Some, None, Result, Ok, Err, refl, sym, ap, ◌∙◌, subst, arith, rules}
+use Rattle.std.proofs.Common.{◌≡◌, ◌<◌, length, Some, sym, ap, ◌∙◌, subst}
 use Rattle.segment_law.specs.Segment.{Segment}
 use Rattle.station_lanes.specs.LaneReaders.{missing_at}
 use Rattle.segment_law.specs.Segment.{place_of, station_at}

@@ -1,9 +1,7 @@
-use Rattle.std.proofs.Common.{◌≡◌, ◌≤◌, ◌<◌, ◌+◌, ℕ, List, [], ◌∷◌, ◌++◌, length, Some, None, Result, Ok, Err, refl, sym, ap, ◌∙◌, subst, arith, rules}
+use Rattle.std.proofs.Common.{◌≡◌, ℕ, None, Err, refl, subst, rules}
 use Rattle.segment_core.specs.Joined.{joined}
-use Rattle.segment_law.specs.Drive.{Driven, puts, pumps, takes_all, turn_puts, turn, makes, driven}
-use Rattle.segment_law.specs.declared.call.Call.TheVariants.{Pump, Take, Tick}
-use Rattle.station_lanes.specs.LaneReaders.{missing_at}
-use Rattle.segment_law.specs.Segment.{station_at}
+use Rattle.segment_law.specs.Drive.{makes}
+use Rattle.segment_law.specs.declared.call.Call.TheVariants.{Pump, Tick}
 use Rattle.segment_core.specs.Drives.{HasGone, IsShown}
 use Rattle.segment_core.proofs.Drives.{relisted}
 use Rattle.segment_core.proofs.Steps.{tick_made, tick_stopped, pump_made, pump_stopped, gone_by}
@@ -24,7 +22,7 @@ returns-in_err-reply c = λ start d h.
     let put = c.args.course.now.frames.items in
     let told = joined c.args.course.now.parts.items in
     let ticked = tick_made start d c.args.self.now c.tick.new.self put told c.missing-missing.result c.in_ok-_done._done h c.in_ok-_done.ensures in
-    let gone = pump_stopped start (makes d (Tick c.missing-missing.result)) c.tick.new.self c.pump.new.self put told c.args.from c.args.to c.in_err-reply.field-0.0 ticked c.one_octet.ensures c.in_err-reply.ensures in
+    let gone = pump_stopped start (makes d (Tick c.missing-missing.result)) c.tick.new.self c.pump.new.self put told c.args.from c.args.to c.in_err-reply.field-0.0 ticked c.one_byte.ensures c.in_err-reply.ensures in
     subst (λ (n : ℕ). HasGone start (makes (makes d (Tick n)) (Pump c.args.from c.args.to)) c.pump.new.self put told c.from_residual-in_err-reply.result) c.missing-missing.ensures
     (gone_by start (makes (makes d (Tick c.missing-missing.result)) (Pump c.args.from c.args.to)) c.pump.new.self put told c.from_residual-in_err-reply.result c.in_err-reply.field-0.0 e gone)
 
@@ -35,5 +33,5 @@ returns c = λ start d h.
     let more = joined c.tell.new.self.parts.items in
     let shown = relisted None start d c.args.self.now c.args.course.now.frames.items put told told c.tell.ensures.frames refl h in
     let ticked = tick_made start d c.args.self.now c.tick.new.self put told c.missing-missing.result c.in_ok-_done._done shown c.in_ok-_done.ensures in
-    let pumped = pump_made start (makes d (Tick c.missing-missing.result)) c.tick.new.self c.pump.new.self put told more c.args.from c.args.to c.in_ok-reply.reply ticked c.one_octet.ensures c.in_ok-reply.ensures c.tell.ensures.told in
+    let pumped = pump_made start (makes d (Tick c.missing-missing.result)) c.tick.new.self c.pump.new.self put told more c.args.from c.args.to c.in_ok-reply.reply ticked c.one_byte.ensures c.in_ok-reply.ensures c.tell.ensures.told in
     subst (λ (n : ℕ). IsShown None start (makes (makes d (Tick n)) (Pump c.args.from c.args.to)) c.pump.new.self put more) c.missing-missing.ensures pumped

@@ -1,7 +1,6 @@
-use Rattle.std.proofs.Common.{◌≡◌, ◌≤◌, ◌<◌, ◌+◌, ℕ, List, [], ◌∷◌, ◌++◌, length, Some, None, Result, Ok, Err, refl, sym, ap, ◌∙◌, subst, arith, rules}
+use Rattle.std.proofs.Common.{◌≡◌, None, Err, refl, sym, ap, rules}
 use Rattle.segment_core.specs.Joined.{joined}
-use Rattle.segment_law.specs.Drive.{Driven, puts, pumps, takes_all, turn_puts, turn, makes, driven}
-use Rattle.segment_law.specs.declared.call.Call.TheVariants.{Pump, Take, Tick}
+use Rattle.segment_law.specs.Drive.{pumps}
 use Rattle.segment_core.specs.declared.stop.Stop.TheVariants.{OutOfMemory}
 use Rattle.segment_core.proofs.Drives.{relisted, on_pumps}
 use Rattle.segment_core.proofs.Steps.{pumps_made, pumps_stopped, pumps_later, no_room, gone_by}
@@ -22,7 +21,7 @@ returns-in-Ok c = λ start d h.
     let told = joined c.reserve.new.self.items in
     pumps_made start d c.args.self.now c.pump.new.self put told (joined c.tell.new.self.parts.items) c.args.from c.args.to c.in-Ok.reply
     (relisted None start d c.args.self.now c.args.course.now.frames.items put (joined c.args.course.now.parts.items) told c.tell.ensures.frames (ap joined c.reserve.ensures.items) h)
-    c.one_octet.ensures c.in-Ok.ensures c.tell.ensures.told
+    c.one_byte.ensures c.in-Ok.ensures c.tell.ensures.told
 
 pub returns-then-is_too_soon : goal.returns-then-is_too_soon
 returns-then-is_too_soon c = λ start d h.
@@ -30,7 +29,7 @@ returns-then-is_too_soon c = λ start d h.
     let told = joined c.reserve.new.self.items in
     pumps_later start d c.args.self.now c.pump.new.self c.pump_in_time.new.self put c.pump_in_time.new.course.frames.items told (joined c.pump_in_time.new.course.parts.items) c.args.from c.args.to c.in-Err.stop c.pump_in_time.result
     (relisted None start d c.args.self.now put put (joined c.args.course.now.parts.items) told refl (ap joined c.reserve.ensures.items) h)
-    c.one_octet.ensures c.in-Err.ensures (sym c.if-is_too_soon.ensures) (λ x k. c.pump_in_time.ensures start x k)
+    c.one_byte.ensures c.in-Err.ensures (sym c.if-is_too_soon.ensures) (λ x k. c.pump_in_time.ensures start x k)
 
 pub returns-else-is_too_soon : goal.returns-else-is_too_soon
 returns-else-is_too_soon c = λ start d h.
@@ -38,4 +37,4 @@ returns-else-is_too_soon c = λ start d h.
     let told = joined c.reserve.new.self.items in
     pumps_stopped start d c.args.self.now c.pump.new.self put told c.args.from c.args.to c.in-Err.stop
     (relisted None start d c.args.self.now put put (joined c.args.course.now.parts.items) told refl (ap joined c.reserve.ensures.items) h)
-    c.one_octet.ensures c.in-Err.ensures (sym c.if-is_too_soon.ensures)
+    c.one_byte.ensures c.in-Err.ensures (sym c.if-is_too_soon.ensures)

@@ -1,7 +1,6 @@
-use Rattle.std.proofs.Common.{◌≡◌, ◌≤◌, ◌<◌, ◌+◌, ℕ, List, [], ◌∷◌, ◌++◌, length, Some, None, Result, Ok, Err, refl, sym, ap, ◌∙◌, subst, arith, rules}
+use Rattle.std.proofs.Common.{◌≡◌, ◌++◌, None, Err, refl, ap, ◌∙◌, rules}
 use Rattle.segment_core.specs.Joined.{joined}
-use Rattle.segment_law.specs.Drive.{Driven, puts, pumps, takes_all, turn_puts, turn, makes, driven}
-use Rattle.segment_law.specs.declared.call.Call.TheVariants.{Pump, Take, Tick}
+use Rattle.segment_law.specs.Drive.{puts}
 use Rattle.std.specs.Prelude.{option_to_list}
 use Rattle.segment_core.proofs.Drives.{relisted}
 use Rattle.segment_core.proofs.Steps.{puts_made, puts_stopped, gone_by}

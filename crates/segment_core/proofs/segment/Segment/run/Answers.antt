@@ -1,8 +1,8 @@
-use Rattle.std.proofs.Common.{◌≡◌, ◌≤◌, ◌<◌, ◌+◌, ℕ, List, [], ◌∷◌, ◌++◌, length, Some, None, Result, Ok, Err, refl, sym, ap, ◌∙◌, subst, arith, rules}
+use Rattle.std.proofs.Common.{◌≡◌, List, [], ◌∷◌, ◌++◌, length, sym, ap, ◌∙◌, subst, arith, rules}
 use Rattle.std.proofs.lemmas.List.{length_push}
 use Rattle.segment_law.specs.Segment.{Segment}
 use Rattle.std.specs.Vec.Iter.{into_iter_items}
-use Rattle.segment_law.specs.Record.{Record, StandsAt}
+use Rattle.segment_law.specs.Record.{StandsAt}
 use Rattle.segment_law.specs.declared.reply.Reply.{Reply}
 use Rattle.segment_law.specs.declared.call.Call.{Call}
 use Rattle.segment_core.specs.Runs.{steps_of}

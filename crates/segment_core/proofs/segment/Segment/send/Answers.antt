@@ -1,7 +1,6 @@
-use Rattle.std.proofs.Common.{◌≡◌, ◌<◌, Bool, true, false, length, Some, None, refl, sym, ap, ◌∙◌, get_or, subst, rules, arith}
+use Rattle.std.proofs.Common.{◌≡◌, ◌<◌, length, None, refl, sym, ap, ◌∙◌, subst}
 use Rattle.lane_core.specs.Lane.{is_full}
 use Rattle.station_core.specs.Sending.{lane_of}
-use Rattle.station_core.specs.Station.{Station}
 use Rattle.segment_law.specs.declared.reply.Reply.TheVariants.{Sent}
 use Rattle.segment_core.specs.Answers.{sending_refusal}
 use Rattle.segment_core.proofs.Refusals.{send_refused, send_full, send_done, not_full}

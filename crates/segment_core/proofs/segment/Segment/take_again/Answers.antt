@@ -3,7 +3,6 @@ use Rattle.bus_order.specs.Bus.{frame_again}
 use Rattle.station_core.specs.Taking.{taken}
 use Rattle.segment_core.proofs.Addresses.{taken_keeps}
 use Rattle.segment_core.proofs.Kept.{inside_kept, at_here, repeats_is, repeats_full, repeated_view, unchanged_view, refused}
-use Rattle.segment_core.specs.SegmentFields.{IsSegmentInside}
 use Rattle.segment_core.proofs.segment.Segment.take_again.Goals as goal
 
 pub invariant_of-self-2 : goal.invariant_of-self-2

@@ -1,7 +1,6 @@
-use Rattle.std.proofs.Common.{◌≡◌, ◌≤◌, ◌<◌, ◌+◌, ℕ, List, [], ◌∷◌, ◌++◌, length, Some, None, Result, Ok, Err, refl, sym, ap, ◌∙◌, subst, arith, rules}
+use Rattle.std.proofs.Common.{◌≡◌, Err, rules}
 use Rattle.segment_core.specs.Joined.{joined}
-use Rattle.segment_law.specs.Drive.{Driven, puts, pumps, takes_all, turn_puts, turn, makes, driven}
-use Rattle.segment_law.specs.declared.call.Call.TheVariants.{Pump, Take, Tick}
+use Rattle.segment_law.specs.Drive.{takes_all}
 use Rattle.segment_core.proofs.Steps.{gone_by}
 use Rattle.segment_core.proofs.Turns.{taking_goes, taking_ends, taking_stops}
 use Rattle.segment_core.proofs.segment.Segment.take_all.Goals as goal

@@ -1,7 +1,6 @@
-use Rattle.std.proofs.Common.{◌≡◌, ◌≤◌, ◌<◌, ◌+◌, ℕ, List, [], ◌∷◌, ◌++◌, length, Some, None, Result, Ok, Err, refl, sym, ap, ◌∙◌, subst, arith, rules}
+use Rattle.std.proofs.Common.{◌≡◌, Err, sym, rules}
 use Rattle.segment_core.specs.Joined.{joined}
-use Rattle.segment_law.specs.Drive.{Driven, puts, pumps, takes_all, turn_puts, turn, makes, driven}
-use Rattle.segment_law.specs.declared.call.Call.TheVariants.{Pump, Take, Tick}
+use Rattle.segment_law.specs.Drive.{turn}
 use Rattle.segment_core.proofs.Steps.{gone_by}
 use Rattle.segment_core.proofs.Turns.{turn_stops, sweeping_begins, sweeping_goes, sweeping_stops, sweeping_ends}
 use Rattle.segment_core.proofs.segment.Segment.turn.Goals as goal

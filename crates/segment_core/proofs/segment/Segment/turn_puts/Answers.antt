@@ -1,7 +1,6 @@
-use Rattle.std.proofs.Common.{◌≡◌, ◌≤◌, ◌<◌, ◌+◌, ℕ, List, [], ◌∷◌, ◌++◌, length, Some, None, Result, Ok, Err, refl, sym, ap, ◌∙◌, subst, arith, rules}
+use Rattle.std.proofs.Common.{◌≡◌, Err, sym, subst, rules}
 use Rattle.segment_core.specs.Joined.{joined}
-use Rattle.segment_law.specs.Drive.{Driven, puts, pumps, takes_all, turn_puts, turn, makes, driven}
-use Rattle.segment_law.specs.declared.call.Call.TheVariants.{Pump, Take, Tick}
+use Rattle.segment_law.specs.Drive.{Driven, puts, pumps, turn_puts}
 use Rattle.segment_law.specs.Drive.{puts_from}
 use Rattle.segment_core.specs.Drives.{HasGone}
 use Rattle.segment_core.proofs.Drives.{stays, on_puts}
