@@ -7,16 +7,18 @@ use Rattle.segment_law.specs.Segment.{Segment}
 use Rattle.bus_script.specs.Known.{Known}
 use Rattle.bus_script.specs.Lines.{lines_of, ReadsLine}
 use Rattle.bus_script.specs.Script.{or_refused, limit_fault, Step, Outcome, outcome_from, outcome, numbered_line, obey_line, Obeyed}
-use Rattle.bus_script.specs.Ending.{cause_of, Ended, IsFront}
+use Rattle.bus_script.specs.Ending.{cause_of, read_cause, Ended, IsFront}
 use Rattle.bus_script.specs.declared.obeying.Told.{Told}
 use Rattle.bus_script.specs.declared.obeying.Told.TheVariants.{Answered, NoMemory}
 use Rattle.bus_script.specs.declared.running.Cause.TheVariants as causes
-use Rattle.bus_script.specs.declared.values.LineError.{LineError}
-use Rattle.bus_script.specs.declared.values.LineError.TheVariants as errors
+use Rattle.script_commands.specs.declared.fault.LineError.{LineError}
+use Rattle.script_commands.specs.declared.fault.LineError.TheVariants as errors
+use Rattle.bus_script.specs.declared.lines.ReadError.{ReadError}
+use Rattle.bus_script.specs.declared.lines.ReadError.TheVariants as reads
 use Rattle.bus_script.specs.declared.lines.LineRead.{LineRead}
 use Rattle.bus_script.specs.declared.lines.LineRead.TheVariants.{End, Line, TooLong}
-use Rattle.bus_script.specs.declared.fault.Fault.{Fault}
-use Rattle.bus_script.specs.declared.fault.Fault.TheVariants.{TooManyLines}
+use Rattle.script_commands.specs.declared.fault.Fault.{Fault}
+use Rattle.script_commands.specs.declared.fault.Fault.TheVariants.{TooManyLines}
 
 -- from known bytes a, now b: what the rest prints completes what all prints
 pub record GoesOn (a b : Option (List ℕ)) (rest whole : Outcome) : Type 0 where
@@ -134,6 +136,12 @@ pub at_front : (ra rb : Option (List ℕ)) (refused : Bool) (a b : Option (List 
 at_front None rb refused a b s n inv = tt
 at_front (Some all) None refused a b s n inv = absurd inv
 at_front (Some all) (Some rest) refused a b s n inv = λ r. ((outcome_from s n (lines_of rest)).text, (inv r).text)
+
+-- no line was read
+pub at_no_line : (ra rb : Option (List ℕ)) (refused : Bool) (a b : Option (List ℕ)) (s : Option Segment) (n : ℕ) (error : ReadError) → Inv ra rb refused a b s n
+    → IfSome ra (λ script. Ended record { fault = Some record { line = n; cause = read_cause error }; memory_refused = refused } a b (outcome script))
+at_no_line ra rb refused a b s n reads.Failed inv = at_front ra rb refused a b s n inv
+at_no_line ra rb refused a b s n reads.OutOfMemory inv = at_front ra rb refused a b s n inv
 
 -- a front of the line's text was written
 pub at_write : (ra rb rc : Option (List ℕ)) (line : List ℕ) (refused after : Bool) (a b c : Option (List ℕ)) (s t : Option Segment) (n : ℕ) (p : List ℕ) → Inv ra rb refused a b s n → Known rb rc (ReadsLine Line line)

@@ -2,10 +2,12 @@
 use Rattle.std.specs.Prelude.{◌≡◌, ℕ, List, ◌++◌, false, Option, Some, None, codes}
 use Rattle.std.specs.Fmt.{decimal}
 use Rattle.std.specs.Io.KnownBytes.{Appends, append_known}
-use Rattle.bus_script.specs.Faults.{fault_text}
+use Rattle.script_commands.specs.Faults.{fault_text}
 use Rattle.bus_script.specs.Script.{Outcome}
-use Rattle.bus_script.specs.declared.values.LineError.{LineError}
-use Rattle.bus_script.specs.declared.values.LineError.TheVariants as errors
+use Rattle.script_commands.specs.declared.fault.LineError.{LineError}
+use Rattle.script_commands.specs.declared.fault.LineError.TheVariants as errors
+use Rattle.bus_script.specs.declared.lines.ReadError.{ReadError}
+use Rattle.bus_script.specs.declared.lines.ReadError.TheVariants as reads
 use Rattle.bus_script.specs.declared.running.Cause.{Cause}
 use Rattle.bus_script.specs.declared.running.Cause.TheVariants as causes
 use Rattle.bus_script.specs.declared.running.ScriptFault.{ScriptFault}
@@ -15,6 +17,11 @@ use Rattle.bus_script.specs.declared.running.Ran.{Ran}
 abbrev pub cause_of : LineError → Cause
 cause_of errors.OutOfMemory = causes.OutOfMemory
 cause_of (errors.Fault f) = causes.Fault f
+
+-- why no line was read
+abbrev pub read_cause : ReadError → Cause
+read_cause reads.Failed = causes.ReadFailed
+read_cause reads.OutOfMemory = causes.OutOfMemory
 
 -- a front of the text was written
 abbrev pub IsFront : Option (List ℕ) → Option (List ℕ) → List ℕ → Type 0

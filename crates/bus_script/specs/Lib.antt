@@ -1,9 +1,4 @@
 pub mod Lines
 pub mod Known
-pub mod Words
-pub mod Faults
-pub mod Values
-pub mod Commands
-pub mod Printed
 pub mod Script
 pub mod Ending

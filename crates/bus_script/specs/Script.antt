@@ -11,19 +11,21 @@ use Rattle.segment_law.specs.declared.call.Call.TheVariants.{Transmit, Inject}
 use Rattle.segment_law.specs.declared.refusal.Refusal.TheVariants.{BadAddresses}
 use Rattle.segment_law.specs.declared.reply.Reply.{Reply}
 use Rattle.segment_law.specs.declared.reply.Reply.TheVariants.{Done}
+use Rattle.script_commands.specs.Words.{words_of}
+use Rattle.script_commands.specs.Values.{◌>>=◌}
+use Rattle.script_commands.specs.Commands.{command_of}
+use Rattle.script_commands.specs.declared.fault.Fault.{Fault}
+use Rattle.script_commands.specs.declared.fault.Fault.TheVariants.{TooManyLines, LineTooLong, NotAscii, NoStations, StationsTwice}
+use Rattle.script_commands.specs.declared.command.Command.{Command}
+use Rattle.script_commands.specs.declared.command.Command.TheVariants as commands
+use Rattle.script_commands.specs.declared.fault.LineError.{LineError}
+use Rattle.script_commands.specs.declared.fault.LineError.TheVariants as errors
+use Rattle.script_text.specs.Parts.{line}
+use Rattle.script_text.specs.Replies.{refusal_text, reply_line, put_line, event_lines, drive_lines}
+use Rattle.script_text.specs.Counts.{counts_line}
 use Rattle.bus_script.specs.Lines.{lines_of}
-use Rattle.bus_script.specs.Words.{words_of}
-use Rattle.bus_script.specs.Values.{◌>>=◌}
-use Rattle.bus_script.specs.Commands.{command_of}
-use Rattle.bus_script.specs.Printed.{line, refusal_text, reply_line, optional_put, event_lines, drive_lines, counts_line}
-use Rattle.bus_script.specs.declared.fault.Fault.{Fault}
-use Rattle.bus_script.specs.declared.fault.Fault.TheVariants.{TooManyLines, LineTooLong, NotAscii, NoStations, StationsTwice}
-use Rattle.bus_script.specs.declared.command.Command.{Command}
-use Rattle.bus_script.specs.declared.command.Command.TheVariants as commands
 use Rattle.bus_script.specs.declared.obeying.Told.{Told}
 use Rattle.bus_script.specs.declared.obeying.Told.TheVariants.{Answered, NoMemory}
-use Rattle.bus_script.specs.declared.values.LineError.{LineError}
-use Rattle.bus_script.specs.declared.values.LineError.TheVariants as errors
 
 abbrev pub is_ascii : List ℕ → Bool
 is_ascii [] = true
@@ -44,6 +46,10 @@ abbrev pub frame_put : Segment → Call → Option CanFrame
 frame_put s (Transmit station) = front_at s station
 frame_put s (Inject frame) = Some frame
 frame_put s _ = None
+
+abbrev pub optional_put : Option CanFrame → List ℕ
+optional_put None = []
+optional_put (Some frame) = put_line frame
 
 -- what stands below the reply: the frame put, and the events
 abbrev pub below : Option CanFrame → Reply → List ℕ

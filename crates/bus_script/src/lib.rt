@@ -2,18 +2,15 @@
 //! before the next line is read.
 #![tactic(auto)]
 
-mod addresses;
-mod command;
-mod fault;
 mod lines;
 mod obeying;
-mod printing;
 mod running;
-mod values;
-mod words;
+mod writing;
 
-pub use fault::Fault;
 pub use running::{Cause, Ran, ScriptFault, run_script};
+pub use script_commands::Fault;
 
+#[cfg(test)]
+mod exchanges;
 #[cfg(test)]
 mod tests;

@@ -1,19 +1,14 @@
 //! What a line does, and what is printed for it.
 ghost use Rattle.std.specs.Prelude.{◌≡◌, ◌++◌, OnOk};
-ghost use Rattle.bus_script.specs.Words.{texts};
-ghost use Rattle.bus_script.specs.Printed.{optional_put};
-ghost use Rattle.bus_script.specs.Script.{Obeyed, is_ascii, frame_put, made, called, drove, on_segment, perform, obey_words, obey_line};
+ghost use Rattle.script_commands.specs.Words.{texts};
+ghost use Rattle.bus_script.specs.Script.{Obeyed, is_ascii, frame_put, optional_put, made, called, drove, on_segment, perform, obey_words, obey_line};
 
-use crate::addresses::Addresses;
-use crate::command::{Command, read_command};
-use crate::fault::Fault;
-use crate::printing::{
-    print_counts, print_driven, print_events, print_put, print_refused, print_reply, print_text,
-};
-use crate::values::LineError;
-use crate::words::split_words;
 use bus_frame::Frame;
 use pgn_ids::Address;
+use script_commands::{Addresses, Command, Fault, LineError, read_command, split_words};
+use script_text::{
+    print_counts, print_driven, print_events, print_put, print_refused, print_reply, print_text,
+};
 use segment_core::{Call, DriveEnd, NewRefused, Refusal, Reply, Segment};
 use std::alloc::{AllocError, Global};
 

@@ -2,13 +2,12 @@
 ghost use Rattle.std.specs.Prelude.{◌≡◌, ℕ, ◌≤◌, ◌<◌, IfSome, Some, None, ◌↔◌, MatchResult, Option};
 ghost use Rattle.std.specs.Io.KnownBytes.{Appends};
 ghost use Rattle.bus_script.specs.Script.{or_refused, limit_fault, outcome};
-ghost use Rattle.bus_script.specs.Ending.{cause_of, Ended, IsFront, fault_line, status_of};
+ghost use Rattle.bus_script.specs.Ending.{cause_of, read_cause, Ended, IsFront, fault_line, status_of};
 
-use crate::fault::Fault;
 use crate::lines::{LineRead, ReadError, read_line};
 use crate::obeying::{Told, obey_line};
-use crate::printing::put_all;
-use crate::values::LineError;
+use crate::writing::put_all;
+use script_commands::{Fault, LineError};
 use std::alloc::Global;
 use std::fmt;
 use std::io::{Read, Write};
@@ -77,6 +76,15 @@ fn cause_of(error: LineError) -> Cause
     }
 }
 
+fn read_cause(error: ReadError) -> Cause
+    ensures { result ≡ read_cause error }
+{
+    match error {
+        ReadError::Failed => Cause::ReadFailed,
+        ReadError::OutOfMemory => Cause::OutOfMemory,
+    }
+}
+
 fn failed(line: u64, cause: Cause, memory_refused: bool) -> Ran
     ensures { result ≡ record { fault = Some (record { line = line; cause = cause }); memory_refused = memory_refused } }
 {
@@ -131,10 +139,7 @@ pub fn run_script<R: Read, W: Write>(alloc: Global, reader: &mut R, writer: &mut
                 return failed(number, Cause::Fault(limit_fault(number)), memory_refused);
             }
             Ok(LineRead::Line) => {}
-            Err(ReadError::Failed) => return failed(number, Cause::ReadFailed, memory_refused),
-            Err(ReadError::OutOfMemory) => {
-                return failed(number, Cause::OutOfMemory, memory_refused);
-            }
+            Err(error) => return failed(number, read_cause(error), memory_refused),
         }
         if number > MAX_LINES {
             return failed(number, Cause::Fault(Fault::TooManyLines), memory_refused);

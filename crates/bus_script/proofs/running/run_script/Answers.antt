@@ -1,4 +1,4 @@
-use Rattle.bus_script.proofs.RunSteps.{at_end, at_fault, at_line, at_error, at_write, faulty_long, faulty_line, too_many, keeps_same, reads_as, was_told}
+use Rattle.bus_script.proofs.RunSteps.{at_end, at_fault, at_line, at_no_line, at_error, at_write, faulty_long, faulty_line, too_many, keeps_same, reads_as, was_told}
 use Rattle.bus_script.proofs.running.run_script.Goals as goal
 
 pub returns-in-Ok-End : goal.returns-in-Ok-End
@@ -19,10 +19,13 @@ returns-then-number-gt-MAX_LINES g c =
     (faulty_line _ _ line c.lines.segment c.lines.number _ (too_many _ _ _ c.if-number-gt-MAX_LINES.true) (reads_as _ _ _ _ line c.in-Ok-Line.field-0-is c.in-Ok-Line.ensures.reads)) (keeps_same _))
 
 pub returns-in-Err : goal.returns-in-Err
-returns-in-Err g c =
+returns-in-Err g c = rw (c.failed-in-Err.ensures, c.read_cause.ensures) (at_no_line _ _ _ _ _ _ _ c.in-Err.error c.lines.invariant)
+
+pub returns-in-Err-obey_line : goal.returns-in-Err-obey_line
+returns-in-Err-obey_line g c =
     let line = c.read_line.new.line.items in
-    rw c.failed-in-Err.ensures (rw c.cause_of.ensures (at_error _ _ _ line _ _ _ _ _ _ _ _ c.in-Err.error c.lines.invariant (reads_as _ _ _ _ line c.in-Ok-Line.field-0-is c.in-Ok-Line.ensures.reads)
-    c.if-number-gt-MAX_LINES.false c.in-Ok-Line.ensures.short (rw c.as_slice.ensures.value at c.in-Err.ensures)))
+    rw c.failed-in-Err-obey_line.ensures (rw c.cause_of.ensures (at_error _ _ _ line _ _ _ _ _ _ _ _ c.in-Err-obey_line.error c.lines.invariant (reads_as _ _ _ _ line c.in-Ok-Line.field-0-is c.in-Ok-Line.ensures.reads)
+    c.if-number-gt-MAX_LINES.false c.in-Ok-Line.ensures.short (rw c.as_slice.ensures.value at c.in-Err-obey_line.ensures)))
 
 pub returns-in_default : goal.returns-in_default
 returns-in_default g c =

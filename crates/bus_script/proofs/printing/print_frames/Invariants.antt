@@ -1,6 +1,0 @@
-use Rattle.std.proofs.Common.{◌≡◌, ◌++◌, take}
-use Rattle.bus_script.specs.Printed.{put_lines}
-use Rattle.bus_script.proofs.printing.print_frames.Given as goal
-
-abbrev pub invariant-loop-frame : goal.invariant-loop-frame
-invariant-loop-frame l = l.out.items ≡ l.fn.out.items ++ put_lines (take l.frame-index l.frames)

@@ -1,0 +1,70 @@
+//! What is wrong with a line of a script.
+ghost use Rattle.std.specs.Prelude.{◌≡◌, Some};
+ghost use Rattle.script_commands.specs.Faults.{fault_text};
+ghost use Rattle.script_commands.specs.declared.fault.LineError.TheVariants.{OutOfMemory};
+
+use std::alloc::{AllocError, AllocFailed};
+use std::fmt;
+
+/// What is wrong with a line of a script, in the order in which it is looked for.
+#[derive(Clone, Copy, Debug, PartialEq, Eq)]
+pub enum Fault {
+    /// There are more than 1,000,000 lines.
+    TooManyLines,
+    /// The line has more than 8,192 bytes.
+    LineTooLong,
+    /// A byte of the line is above 127.
+    NotAscii,
+    /// The first word names no command.
+    UnknownCommand,
+    /// The command has fewer or more words than its form.
+    WrongNumberOfWords,
+    /// A word isn't what its place asks for, or its value is above its bound.
+    BadWord,
+    /// The command needs the segment, which no line has made yet.
+    NoStations,
+    /// The segment is made already.
+    StationsTwice,
+}
+
+impl fmt::Display for Fault {
+    ghost output = { λ f. Some (fault_text f) };
+
+    fn fmt<W: fmt::Write>(&self, f: &mut fmt::Formatter<W>) -> fmt::Result {
+        match self {
+            Fault::TooManyLines => write!(f, "too many lines"),
+            Fault::LineTooLong => write!(f, "line too long"),
+            Fault::NotAscii => write!(f, "not ASCII"),
+            Fault::UnknownCommand => write!(f, "unknown command"),
+            Fault::WrongNumberOfWords => write!(f, "wrong number of words"),
+            Fault::BadWord => write!(f, "bad word"),
+            Fault::NoStations => write!(f, "no stations"),
+            Fault::StationsTwice => write!(f, "stations twice"),
+        }
+    }
+}
+
+/// Why a line means no command, or isn't obeyed.
+#[derive(Clone, Copy, Debug, PartialEq, Eq)]
+pub enum LineError {
+    /// Memory was refused.
+    OutOfMemory,
+    /// The line is wrong: this is the first fault in it.
+    Fault(Fault),
+}
+
+impl From<AllocError> for LineError {
+    ghost from_gives = { λ _ e. e ≡ OutOfMemory };
+
+    fn from(_: AllocError) -> LineError {
+        LineError::OutOfMemory
+    }
+}
+
+impl<T: Drop> From<AllocFailed<T>> for LineError {
+    ghost from_gives = { λ _ e. e ≡ OutOfMemory };
+
+    fn from(_: AllocFailed<T>) -> LineError {
+        LineError::OutOfMemory
+    }
+}

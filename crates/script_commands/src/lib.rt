@@ -1,0 +1,18 @@
+//! What a line of a script asks for: its words, the command that they mean, or the first fault in them.
+//!
+//! Nothing here knows a segment that is made: whether a command can be obeyed is for the layer above.
+#![tactic(auto)]
+
+mod addresses;
+mod command;
+mod fault;
+mod values;
+mod words;
+
+pub use addresses::Addresses;
+pub use command::{Command, read_command};
+pub use fault::{Fault, LineError};
+pub use words::split_words;
+
+#[cfg(test)]
+mod tests;

@@ -1,0 +1,15 @@
+//! What is printed of a segment's replies, frames, events and counts: each call puts whole lines behind what a buffer holds
+//! already.
+//!
+//! A call fails only where memory is refused; what the buffer holds then is not said.
+#![tactic(auto)]
+
+mod counts;
+mod parts;
+mod replies;
+
+pub use counts::print_counts;
+pub use replies::{print_driven, print_events, print_put, print_refused, print_reply, print_text};
+
+#[cfg(test)]
+mod tests;
