@@ -3,8 +3,6 @@
 
 mod can_id;
 mod frame;
-#[cfg(test)]
-mod tests;
 
 pub use can_id::{
     CanId, IdParts, IdTooLarge, identifiers_give_their_parts, parts_give_their_identifier,

@@ -6,8 +6,6 @@
 mod cursor;
 mod laws;
 mod log;
-#[cfg(test)]
-mod tests;
 
 pub use laws::stations_see_the_bus_in_order;
 pub use log::{BusLog, PutError};

@@ -9,8 +9,3 @@ mod writing;
 
 pub use running::{Cause, Ran, ScriptFault, run_script};
 pub use script_commands::Fault;
-
-#[cfg(test)]
-mod exchanges;
-#[cfg(test)]
-mod tests;

@@ -4,10 +4,6 @@
 //! which standard error tells, and with 2 where the command line is refused or asks for help.
 #![tactic(auto)]
 
-mod command_line;
-#[cfg(test)]
-mod tests;
-
 use bus_script::run_script;
 use command_line::read_command_line;
 use std::io;

@@ -5,8 +5,6 @@
 mod address;
 mod identifier;
 mod pgn;
-#[cfg(test)]
-mod tests;
 
 pub use address::Address;
 pub use identifier::{IdMeaning, id_of, identifiers_are_read_back, read_id};

@@ -13,6 +13,3 @@ pub use addresses::Addresses;
 pub use command::{Command, read_command};
 pub use fault::{Fault, LineError};
 pub use words::split_words;
-
-#[cfg(test)]
-mod tests;

@@ -10,6 +10,3 @@ mod replies;
 
 pub use counts::print_counts;
 pub use replies::{print_driven, print_events, print_put, print_refused, print_reply, print_text};
-
-#[cfg(test)]
-mod tests;

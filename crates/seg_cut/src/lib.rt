@@ -4,8 +4,6 @@
 mod cut;
 mod join;
 mod laws;
-#[cfg(test)]
-mod tests;
 
 pub use cut::{packet, packets};
 pub use join::{Join, PutError};

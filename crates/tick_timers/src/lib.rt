@@ -5,8 +5,6 @@
 
 mod clock;
 mod durations;
-#[cfg(test)]
-mod tests;
 mod timer;
 
 pub use clock::{Clock, ClockEnd};

@@ -7,8 +7,6 @@ mod laws;
 mod outcome;
 mod reader;
 mod reason;
-#[cfg(test)]
-mod tests;
 mod wire;
 mod writer;
 

@@ -4,9 +4,6 @@
 ghost use Rattle.std.specs.Prelude.{◌≡◌, ◌≤◌, ◌↔◌, [], length, IfOk, IsErr, IsTrue, OnErr, OnOk};
 ghost use Rattle.tx_queue.specs.Queue.{queue_limit, free_places, front, behind, queued};
 
-#[cfg(test)]
-mod tests;
-
 use bus_frame::Frame;
 use std::alloc::{AllocError, Global};
 use std::collections::VecDeque;

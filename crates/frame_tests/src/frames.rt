@@ -1,4 +1,4 @@
-use super::*;
+use bus_frame::*;
 use std::test::Fail;
 
 #[test]

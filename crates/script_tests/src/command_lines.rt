@@ -1,5 +1,5 @@
 //! The command line: its name alone runs a script; whatever else is asked for is answered by a text.
-use crate::command_line::read_command_line;
+use command_line::read_command_line;
 use std::test::Fail;
 
 #[test]

@@ -1,5 +1,5 @@
 //! Worked values, and that calls succeed, of which no clause speaks.
-use super::*;
+use seg_cut::*;
 use std::test::Fail;
 
 const MESSAGE: [u8; 9] = [1, 2, 3, 4, 5, 6, 7, 8, 9];

@@ -1,6 +1,6 @@
 //! Scripts with their exact text. A run that is refused memory is made again, so that the tests pass whichever one allocation
 //! is refused.
-use crate::running::{Cause, Ran, ScriptFault, run_script};
+use bus_script::{Cause, Ran, ScriptFault, run_script};
 use std::alloc::Global;
 use std::cell::Cell;
 use std::io;

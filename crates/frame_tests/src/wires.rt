@@ -1,7 +1,7 @@
-use super::*;
 use bus_frame::{CanId, Frame};
 use pgn_ids::{Address, WirePgn};
 use std::test::Fail;
+use tp_wire::*;
 
 // Diagnostic message 1, a PGN of the PDU2 format.
 const DM1: u32 = 0xFECA;

@@ -1,7 +1,7 @@
 //! Faults in the middle of a script: what was printed until then stays, and nothing is printed from then on.
 use super::add;
-use crate::tests::ran;
-use crate::{Cause, Fault, Ran, run_script};
+use crate::scripts::ran;
+use bus_script::{Cause, Fault, Ran, run_script};
 use std::alloc::Global;
 use std::io;
 use std::io::{Error, ErrorKind, Read, Write};

@@ -1,5 +1,5 @@
 //! What no clause says: that each call can succeed.
-use super::*;
+use tick_timers::*;
 
 #[test]
 fn clock_stops_at_its_end(rt: HostRuntime) {

@@ -1,9 +1,9 @@
 //! Lines with the commands that they mean. A test ends where memory is refused.
-use super::*;
 use bus_frame::{CanId, Frame};
 use lane_core::Bytes;
 use pgn_ids::{Address, Pgn};
 use port_table::PortId;
+use script_commands::*;
 use segment_law::{Call, Refusal};
 use std::alloc::{AllocError, Global};
 use std::process::Abort;

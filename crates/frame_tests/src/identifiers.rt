@@ -1,5 +1,5 @@
-use super::*;
 use bus_frame::CanId;
+use pgn_ids::*;
 use std::test::Fail;
 
 #[test]

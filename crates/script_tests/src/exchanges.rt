@@ -8,7 +8,7 @@ mod lanes_in_doubt;
 mod limits;
 mod long_messages;
 
-use crate::tests::shows;
+use crate::scripts::shows;
 use std::alloc::Global;
 use std::process::Abort;
 use std::test::Fail;

@@ -1,5 +1,5 @@
-use super::*;
 use bus_frame::{CanId, Frame};
+use bus_order::*;
 use std::alloc::{AllocError, Global};
 use std::test::Fail;
 

@@ -1,6 +1,7 @@
-use super::*;
-use bus_frame::CanId;
+use bus_frame::{CanId, Frame};
+use std::alloc::{AllocError, Global};
 use std::test::Fail;
+use tx_queue::*;
 
 // Made again where no memory is found, so that the test passes whichever one allocation is refused.
 fn new_queue(alloc: Global) -> Result<TxQueue, AllocError> {

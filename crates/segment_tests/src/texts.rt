@@ -1,9 +1,9 @@
 //! Each line with its exact text. A test ends where memory is refused.
-use super::*;
 use bus_frame::{CanId, Frame};
 use lane_core::Bytes;
 use pgn_ids::{Address, Pgn};
 use port_table::PortId;
+use script_text::*;
 use segment_core::{Call, Event, Events, Refusal, Reply, Segment};
 use std::test::Fail;
 use tp_wire::Outcome;

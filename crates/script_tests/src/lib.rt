@@ -1,0 +1,9 @@
+//! Tests of whole scripts: the language, its faults, and worked exchanges with the exact text that they print.
+#![tactic(auto)]
+
+#[cfg(test)]
+mod command_lines;
+#[cfg(test)]
+mod exchanges;
+#[cfg(test)]
+mod scripts;

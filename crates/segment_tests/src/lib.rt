@@ -1,0 +1,11 @@
+//! Tests of a segment, and of the words and the printing of scripts, through what these crates show.
+#![tactic(auto)]
+
+#[cfg(test)]
+mod commands;
+#[cfg(test)]
+mod refusals;
+#[cfg(test)]
+mod segments;
+#[cfg(test)]
+mod texts;

@@ -1,0 +1,299 @@
+//! Exchanges between stations 21 and 35. A test ends where a call finds no memory.
+use bus_frame::{CanId, Frame};
+use pgn_ids::{Address, Pgn};
+use segment_core::*;
+use std::alloc::{AllocError, Global};
+use std::process::Abort;
+use std::test::Fail;
+use tp_wire::Outcome;
+
+const M9: [u8; 9] = [1, 2, 3, 4, 5, 6, 7, 8, 9];
+
+const A: Address = Address(0x21);
+
+const B: Address = Address(0x35);
+
+const PORT: PortId = PortId {
+    station: B,
+    number: 1,
+};
+
+const BROADCAST: [(u32, [u8; 8]); 3] = [
+    (0x1CEC_FF21, [0x20, 9, 0, 2, 0xFF, 0xCA, 0xFE, 0]),
+    (0x1CEB_FF21, [1, 1, 2, 3, 4, 5, 6, 7]),
+    (0x1CEB_FF21, [2, 8, 9, 0xFF, 0xFF, 0xFF, 0xFF, 0xFF]),
+];
+
+const CONNECTION: [(u32, [u8; 8]); 5] = [
+    (0x1CEC_3521, [0x10, 9, 0, 2, 0xFF, 0xCA, 0xFE, 0]),
+    (0x1CEC_2135, [0x11, 2, 1, 0xFF, 0xFF, 0xCA, 0xFE, 0]),
+    (0x1CEB_3521, [1, 1, 2, 3, 4, 5, 6, 7]),
+    (0x1CEB_3521, [2, 8, 9, 0xFF, 0xFF, 0xFF, 0xFF, 0xFF]),
+    (0x1CEC_2135, [0x13, 9, 0, 2, 0xFF, 0xCA, 0xFE, 0]),
+];
+
+fn feca() -> Result<Pgn, Fail> {
+    Ok(Pgn::new(0xFECA)?)
+}
+
+fn frame_of(shown: (u32, [u8; 8])) -> Result<Frame, Fail> {
+    Ok(Frame::full(CanId::new(shown.0)?, shown.1))
+}
+
+fn message(alloc: Global) -> Result<Bytes, Fail> {
+    Ok(Bytes::new(Vec::from_slice(alloc, &M9)?))
+}
+
+// The call is done, and tells this, as it is printed.
+fn tells(
+    rt: &impl Abort,
+    alloc: Global,
+    segment: &mut Segment,
+    call: Call,
+    expected: &str,
+) -> Result<(), Fail> {
+    match segment.apply(call)? {
+        Reply::Done(events) => assert_eq!(rt; printed(alloc, events)?.as_str(), expected),
+        reply => panic!(rt; "{reply:?}"),
+    }
+    Ok(())
+}
+
+fn printed(alloc: Global, events: Events) -> Result<String, Fail> {
+    let mut text = String::new(alloc);
+    let (first, rest) = events.into_parts();
+    if let Some(event) = first {
+        print_event(&mut text, &event)?;
+    }
+    for event in rest {
+        print_event(&mut text, &event)?;
+    }
+    Ok(text)
+}
+
+fn print_event(text: &mut String, event: &Event) -> Result<(), Fail> {
+    match event {
+        Event::Given {
+            port,
+            from,
+            to,
+            bytes,
+            ..
+        } => write!(
+            text,
+            "given {} {} {} {:?};",
+            port.number,
+            from.0,
+            to.0,
+            bytes.as_slice()
+        )?,
+        Event::Outcome {
+            to,
+            number,
+            outcome,
+            ..
+        } => write!(text, "outcome {} {} {:?};", to.0, number, outcome)?,
+    }
+    Ok(())
+}
+
+// A segment of two stations, of which 35 has a port.
+fn with_port(rt: &impl Abort, alloc: Global) -> Result<Segment, Fail> {
+    let mut segment = Segment::new(alloc, &[B, A])?;
+    let opened = segment.apply(Call::Open {
+        station: B,
+        pgn: feca()?,
+        max_len: 4000,
+    })?;
+    match opened {
+        Reply::Opened(port) => assert_eq!(rt; port, PORT),
+        reply => panic!(rt; "{reply:?}"),
+    }
+    Ok(segment)
+}
+
+// The same with a message of station 21.
+fn with_message(rt: &impl Abort, alloc: Global, to: Address) -> Result<Segment, Fail> {
+    let mut segment = with_port(rt, alloc)?;
+    let sent = segment.apply(Call::Send {
+        from: A,
+        to,
+        pgn: feca()?,
+        bytes: message(alloc)?,
+    })?;
+    match sent {
+        Reply::Sent(number) => assert_eq!(rt; number, 1),
+        reply => panic!(rt; "{reply:?}"),
+    }
+    Ok(segment)
+}
+
+const PUMP: Call = Call::Pump {
+    station: A,
+    to: Address::GLOBAL,
+};
+
+const TRANSMIT: Call = Call::Transmit { station: A };
+
+const TAKE: Call = Call::Take {
+    station: B,
+    room: true,
+};
+
+// A frame of the broadcast is queued, put and taken, and 50 ticks go by.
+fn one_frame(
+    rt: &impl Abort,
+    alloc: Global,
+    segment: &mut Segment,
+    told: &str,
+    given: &str,
+) -> Result<(), Fail> {
+    tells(rt, alloc, segment, PUMP, told)?;
+    tells(rt, alloc, segment, TRANSMIT, "")?;
+    tells(rt, alloc, segment, TAKE, given)?;
+    tells(rt, alloc, segment, Call::Tick { n: 50 }, "")
+}
+
+fn shows(
+    rt: &impl Abort,
+    segment: &Segment,
+    place: u64,
+    shown: (u32, [u8; 8]),
+) -> Result<(), Fail> {
+    assert_eq!(rt; segment.frame(place), Some(frame_of(shown)?));
+    Ok(())
+}
+
+#[test]
+fn broadcast_by_single_calls(rt: HostRuntime) -> Result<(), Fail> {
+    let alloc = rt.alloc();
+    let mut segment = with_message(&rt, alloc, Address::GLOBAL)?;
+    one_frame(&rt, alloc, &mut segment, "", "")?;
+    one_frame(&rt, alloc, &mut segment, "", "")?;
+    one_frame(
+        &rt,
+        alloc,
+        &mut segment,
+        "outcome 255 1 Broadcast;",
+        "given 1 33 255 [1, 2, 3, 4, 5, 6, 7, 8, 9];",
+    )?;
+    shows(&rt, &segment, 1, BROADCAST[0])?;
+    shows(&rt, &segment, 2, BROADCAST[1])?;
+    shows(&rt, &segment, 3, BROADCAST[2])?;
+    assert_eq!(rt; segment.now(), 150);
+    assert_eq!(rt; segment.waiting(A), 3);
+    assert_eq!(rt; segment.bus_len(), 3);
+    Ok(())
+}
+
+// What a drive did is this, all of it.
+fn drove(
+    rt: &impl Abort,
+    alloc: Global,
+    driven: Driven,
+    frames: &[(u32, [u8; 8])],
+    told: &str,
+) -> Result<(), Fail> {
+    assert_eq!(rt; driven.turns, frames.len() as u64);
+    assert_eq!(rt; driven.frames.as_slice().len(), frames.len());
+    for (frame, shown) in driven.frames.as_slice().iter().zip(frames) {
+        assert_eq!(rt; *frame, frame_of(*shown)?);
+    }
+    let mut text = String::new(alloc);
+    for part in driven.events.into_parts() {
+        text.push_str(printed(alloc, part)?.as_str())?;
+    }
+    assert_eq!(rt; text.as_str(), told);
+    Ok(())
+}
+
+#[test]
+fn driven_broadcast(rt: HostRuntime) -> Result<(), Fail> {
+    let alloc = rt.alloc();
+    let mut segment = with_message(&rt, alloc, Address::GLOBAL)?;
+    let driven = segment.drive(A, Address::GLOBAL, 3);
+    assert_eq!(rt; driven.end, DriveEnd::Turns);
+    let told = "outcome 255 1 Broadcast;given 1 33 255 [1, 2, 3, 4, 5, 6, 7, 8, 9];";
+    drove(&rt, alloc, driven, &BROADCAST, told)?;
+    assert!(rt; segment.is_idle());
+    Ok(())
+}
+
+#[test]
+fn driven_connection(rt: HostRuntime) -> Result<(), Fail> {
+    let alloc = rt.alloc();
+    let mut segment = with_message(&rt, alloc, B)?;
+    let driven = segment.drive(A, B, 9);
+    assert_eq!(rt; driven.end, DriveEnd::Idle);
+    let told = "given 1 33 53 [1, 2, 3, 4, 5, 6, 7, 8, 9];outcome 53 1 Acknowledged;";
+    drove(&rt, alloc, driven, &CONNECTION, told)?;
+    assert_eq!(rt; segment.counts().acknowledged, 1);
+    Ok(())
+}
+
+// The call is refused for this cause.
+fn refuses(rt: &impl Abort, segment: &mut Segment, call: Call, cause: Refusal) -> Result<(), Fail> {
+    match segment.apply(call)? {
+        Reply::Refused(refusal) => assert_eq!(rt; refusal, cause),
+        reply => panic!(rt; "{reply:?}"),
+    }
+    Ok(())
+}
+
+#[test]
+fn refusals(rt: HostRuntime) -> Result<(), Fail> {
+    let alloc = rt.alloc();
+    assert!(rt; Segment::new(alloc, &[A, A]).is_err());
+    let mut segment = with_port(&rt, alloc)?;
+    refuses(&rt, &mut segment, PUMP, Refusal::NothingToSend)?;
+    refuses(&rt, &mut segment, TRANSMIT, Refusal::NothingToSend)?;
+    refuses(&rt, &mut segment, TAKE, Refusal::NothingToTake)?;
+    let again = Call::TakeAgain {
+        station: B,
+        room: true,
+    };
+    refuses(&rt, &mut segment, again, Refusal::NothingToRepeat)?;
+    let missed = Call::Overrun { station: B, n: 1 };
+    refuses(&rt, &mut segment, missed, Refusal::NothingToTake)?;
+    let fire = Call::Fire { station: A };
+    refuses(&rt, &mut segment, fire, Refusal::NothingDue)?;
+    let resume = Call::Resume { port: PORT };
+    refuses(&rt, &mut segment, resume, Refusal::PortNotPaused)?;
+    let own = Call::Inject {
+        frame: frame_of(CONNECTION[0])?,
+    };
+    refuses(&rt, &mut segment, own, Refusal::StationAddress)
+}
+
+#[test]
+fn readers(rt: HostRuntime) -> Result<(), Fail> {
+    let alloc = rt.alloc();
+    let mut segment = with_message(&rt, alloc, B)?;
+    assert!(rt; !segment.is_idle());
+    assert_eq!(rt; segment.next_pump(A), Some(B));
+    assert_eq!(rt; segment.drive(A, B, 3).turns, 3);
+    tells(&rt, alloc, &mut segment, TRANSMIT, "")?;
+    // The last packet waits for 35.
+    assert_eq!(rt; segment.queue_len(A), 0);
+    assert!(rt; segment.front(A).is_none());
+    assert!(rt; segment.frame(1).is_none());
+    let (set, len) = segment.wants(B, false);
+    assert!(rt; set.numbers() == [1].as_slice());
+    assert_eq!(rt; len, 9);
+    assert!(rt; !segment.is_due(A));
+    Ok(())
+}
+
+#[test]
+fn calls_as_one_list(rt: HostRuntime) -> Result<(), Fail> {
+    let alloc = rt.alloc();
+    let mut segment = with_message(&rt, alloc, Address::GLOBAL)?;
+    let mut calls = Vec::new(alloc);
+    calls.push(PUMP)?;
+    calls.push(TRANSMIT)?;
+    calls.push(TAKE)?;
+    let ran = segment.run(calls);
+    assert_eq!(rt; ran.replies.len(), 3);
+    assert_eq!(rt; ran.end, RunEnd::All);
+    Ok(())
+}

@@ -1,0 +1,198 @@
+//! Tables of sessions whose timers all start at tick 0. Where memory is refused once, the call is made again, so that
+//! each test passes whichever allocation fails.
+use bam_session::BamIn;
+use pgn_ids::{Address, WirePgn};
+use responder::{Flow, Peer};
+use seg_cut::Join;
+use session_table::*;
+use std::alloc::{AllocError, Global};
+use std::process::Abort;
+use std::test::Fail;
+use tp_wire::constants::ETP_MAX_WINDOW;
+use tp_wire::{Kind, Wire};
+
+const FECA: u32 = 0xFECA;
+
+fn key(source: u8, kind: SessionKind) -> Key {
+    Key {
+        source: Address(source),
+        kind,
+    }
+}
+
+// A session of this kind, of a message with this PGN from 80 to 35.
+fn session(alloc: Global, kind: SessionKind, pgn: WirePgn) -> Result<Incoming, AllocError> {
+    let from = Address(0x80);
+    let peer = Peer::new(from, Address(0x35), pgn);
+    match kind {
+        SessionKind::Broadcast => {
+            let mut join = Join::new(alloc, 9);
+            join.make_room(2)?;
+            Ok(Incoming::Broadcast(BamIn::begin(from, pgn, join, 0)))
+        }
+        SessionKind::Tp => {
+            let mut join = Join::new(alloc, 9);
+            join.make_room(2)?;
+            let (state, _cts) = tp_session::AwaitPacket::begin(peer, 0, join, Flow::Open, 0);
+            Ok(Incoming::Tp(state))
+        }
+        SessionKind::Etp => {
+            let mut join = Join::new(alloc, 1786);
+            join.make_room(u32::from(ETP_MAX_WINDOW))?;
+            let (state, _cts) = etp_session::AwaitPacket::begin(peer, join, Flow::Open, 0);
+            Ok(Incoming::Etp(state))
+        }
+    }
+}
+
+// The same, and once more where memory is refused.
+fn begun(alloc: Global, kind: SessionKind, pgn: u32) -> Result<Incoming, Fail> {
+    let pgn = WirePgn::new(pgn)?;
+    match session(alloc, kind, pgn) {
+        Ok(state) => Ok(state),
+        Err(_) => Ok(session(alloc, kind, pgn)?),
+    }
+}
+
+// Opens a session. Where memory is refused nothing has changed, and the same call succeeds when it is made again.
+fn open(
+    rt: &impl Abort,
+    alloc: Global,
+    table: &mut SessionTable<u8>,
+    key: Key,
+) -> Result<(), Fail> {
+    let state = begun(alloc, key.kind, FECA)?;
+    let len = table.len();
+    assert!(rt; !table.contains(key));
+    match table.open(key, key.source.0, state) {
+        Ok(()) => Ok(()),
+        Err(OpenRefused::TableFull(_, state)) => {
+            state.overrun();
+            panic!(rt; "full at {len}")
+        }
+        Err(OpenRefused::OutOfMemory(bound, state)) => {
+            assert_eq!(rt; table.len(), len);
+            match table.open(key, bound, state) {
+                Ok(()) => Ok(()),
+                Err(OpenRefused::TableFull(_, state)) => {
+                    state.overrun();
+                    panic!(rt; "full at {len}")
+                }
+                Err(OpenRefused::OutOfMemory(_, state)) => {
+                    state.overrun();
+                    panic!(rt; "out of memory twice")
+                }
+            }
+        }
+    }
+}
+
+fn end_next(table: &mut SessionTable<u8>, now: u64) -> Option<Key> {
+    let key = table.next_due(now)?;
+    let (held, _bound, state) = table.take_out(key)?;
+    state.overrun();
+    table.end(held);
+    Some(key)
+}
+
+#[test]
+fn due_keys_rise(rt: HostRuntime) -> Result<(), Fail> {
+    let mut table = SessionTable::new(rt.alloc());
+    let keys = [
+        key(0x80, SessionKind::Broadcast),
+        key(0x80, SessionKind::Etp),
+        key(0x90, SessionKind::Tp),
+        key(0xA0, SessionKind::Tp),
+    ];
+    for opened in [keys[3], keys[1], keys[2], keys[0]] {
+        open(&rt, rt.alloc(), &mut table, opened)?;
+    }
+    let mut low = None;
+    for next in keys {
+        low = table.next_key(low);
+        assert_eq!(rt; low, Some(next));
+    }
+    assert_eq!(rt; table.next_key(low), None);
+    assert_eq!(rt; table.next_due(749), None);
+    assert_eq!(rt; table.next_due(750), Some(keys[0]));
+    for next in keys {
+        assert_eq!(rt; end_next(&mut table, 1250), Some(next));
+    }
+    assert_eq!(rt; table.next_due(1250), None);
+    assert!(rt; table.is_empty());
+    Ok(())
+}
+
+#[test]
+fn the_33rd_is_refused(rt: HostRuntime) -> Result<(), Fail> {
+    let mut table = SessionTable::new(rt.alloc());
+    for source in 0..32 {
+        open(&rt, rt.alloc(), &mut table, key(source, SessionKind::Tp))?;
+    }
+    let past = key(32, SessionKind::Tp);
+    let state = begun(rt.alloc(), past.kind, FECA)?;
+    assert!(rt; !table.contains(past));
+    let back = match table.open(past, 7, state) {
+        Err(OpenRefused::TableFull(bound, state)) => {
+            let pgn = state.pgn();
+            state.overrun();
+            Some((bound, pgn.raw()))
+        }
+        Err(OpenRefused::OutOfMemory(_, state)) => {
+            state.overrun();
+            None
+        }
+        Ok(()) => None,
+    };
+    assert_eq!(rt; back, Some((7, FECA)));
+    assert_eq!(rt; table.len(), 32);
+    Ok(())
+}
+
+#[test]
+fn a_packet_is_taken_in_place(rt: HostRuntime) -> Result<(), Fail> {
+    let mut table = SessionTable::new(rt.alloc());
+    let key = key(0x80, SessionKind::Broadcast);
+    let packet = |sequence: u8| Wire::Packet {
+        kind: Kind::Tp,
+        sequence,
+        bytes: [1, 2, 3, 4, 5, 6, 7],
+    };
+    let absent = table.go_on(key, &packet(1), 100);
+    open(&rt, rt.alloc(), &mut table, key)?;
+    let first = table.go_on(key, &packet(1), 100);
+    let last = table.go_on(key, &packet(2), 200);
+    let due = (table.next_due(849), table.next_due(850));
+    let Some((held, _bound, state)) = table.take_out(key) else {
+        panic!(rt; "nothing at the key")
+    };
+    state.overrun();
+    let out = table.go_on(key, &packet(2), 300);
+    table.end(held);
+    assert_eq!(rt; (absent, first), (InPlace::NoSession, InPlace::GoneOn));
+    assert_eq!(rt; (last, out), (InPlace::StepWanted, InPlace::NoSession));
+    assert_eq!(rt; due, (None, Some(key)));
+    Ok(())
+}
+
+#[test]
+fn a_new_session_takes_the_place(rt: HostRuntime) -> Result<(), Fail> {
+    let mut table = SessionTable::new(rt.alloc());
+    let key = key(0x80, SessionKind::Tp);
+    open(&rt, rt.alloc(), &mut table, key)?;
+    let next = begun(rt.alloc(), key.kind, 0xEF00)?;
+    let Some((held, bound, state)) = table.take_out(key) else {
+        next.overrun();
+        panic!(rt; "nothing at the key")
+    };
+    state.overrun();
+    assert_eq!(rt; (bound, held.key()), (0x80, key));
+    assert_eq!(rt; (table.len(), table.get(key).is_some()), (1, false));
+    assert_eq!(rt; (table.next_due(1250), table.next_key(None)), (None, None));
+    table.put_back(held, 9, next);
+    let there = table
+        .get(key)
+        .map(|(bound, state)| (*bound, state.kind(), state.pgn().raw()));
+    assert_eq!(rt; there, Some((9, SessionKind::Tp, 0xEF00)));
+    Ok(())
+}
