@@ -77,7 +77,7 @@ module _ (a : Address) (small : a.0 < 254) (s : Address) where
       by_option (λ x. Calm st (quietly x)) (refusal (is_tp_size size packets) room (set_for st pgn size) (others_than st (key_of from session.Tp))) _ _ (calm_opened st (key_of from session.Tp) (not_tp from) (set_for st pgn size) (incoming.Tp (tp.asking (peer_of st from pgn) (whole_join size) most (flow_at st.ports (set_for st pgn size)) now)) (Some (tp.asked (peer_of st from pgn) (whole_join size) most (flow_at st.ports (set_for st pgn size)))))
       (λ reason. calm_not_opened st (key_of from session.Tp) (not_tp from) (Some (abort_frame Tp (peer_of st from pgn) (reason_byte reason))))
   calm_cm st h (EtpRts size pgn) from to room now g o =
-      by_option (λ x. Calm st (quietly x)) (refusal (is_etp_size size) room (set_for st pgn size) (others_than st (key_of from session.Etp))) _ _ (calm_opened st (key_of from session.Etp) (not_etp from) (set_for st pgn size) (incoming.Etp (etp.asking (peer_of st from pgn) (first_join size) 0 (flow_at st.ports (set_for st pgn size)) now)) (Some (etp.asked (peer_of st from pgn) (first_join size) (flow_at st.ports (set_for st pgn size)))))
+      by_option (λ x. Calm st (quietly x)) (refusal (is_etp_size size) room (set_for st pgn size) (others_than st (key_of from session.Etp))) _ _ (calm_opened st (key_of from session.Etp) (not_etp from) (set_for st pgn size) (incoming.Etp (etp.asking (peer_of st from pgn) (first_join size (flow_at st.ports (set_for st pgn size))) 0 (flow_at st.ports (set_for st pgn size)) now)) (Some (etp.asked (peer_of st from pgn) (first_join size (flow_at st.ports (set_for st pgn size))) (flow_at st.ports (set_for st pgn size)))))
       (λ reason. calm_not_opened st (key_of from session.Etp) (not_etp from) (Some (abort_frame Etp (peer_of st from pgn) (reason_byte reason))))
   calm_cm st h (Bam size packets pgn) from to room now g o =
       let n : key_all s ≡ key_of from session.Broadcast → ⊥ = not_from from session.Broadcast (of_other from to (Cm (Bam size packets pgn)) (eqb-true to.0 255 g) o) in

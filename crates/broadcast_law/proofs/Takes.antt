@@ -73,9 +73,9 @@ module _ (gives : GivesBack) (a : Address) (small : a.0 < 254) where
 
     does_etp_rts : (size pgn : ℕ) (room : Bool) (now : ℕ) → Does a st (etp_rts_taken st from size pgn room now)
     does_etp_rts size pgn room now =
-        let q = etp_asking a.0 from.0 (peer_of st from pgn) (first_join size) 0 (flow_at st.ports (set_for st pgn size)) now (peer_fits pgn) in
+        let q = etp_asking a.0 from.0 (peer_of st from pgn) (first_join size (flow_at st.ports (set_for st pgn size))) 0 (flow_at st.ports (set_for st pgn size)) now (peer_fits pgn) in
         by_option (Does a st) (refusal (is_etp_size size) room (set_for st pgn size) (others_than st (key_of from session.Etp))) _ _
-        (does_opened st h (key_of from session.Etp) one foreign pgn size (incoming.Etp (etp.asking (peer_of st from pgn) (first_join size) 0 (flow_at st.ports (set_for st pgn size)) now)) (Some (etp.asked (peer_of st from pgn) (first_join size) (flow_at st.ports (set_for st pgn size)))) (q.0, refl) q.1)
+        (does_opened st h (key_of from session.Etp) one foreign pgn size (incoming.Etp (etp.asking (peer_of st from pgn) (first_join size (flow_at st.ports (set_for st pgn size))) 0 (flow_at st.ports (set_for st pgn size)) now)) (Some (etp.asked (peer_of st from pgn) (first_join size (flow_at st.ports (set_for st pgn size))) (flow_at st.ports (set_for st pgn size)))) (q.0, refl) q.1)
         (λ reason. does_not_opened st h (key_of from session.Etp) one foreign (Some (abort_frame Etp (peer_of st from pgn) (reason_byte reason))) (said_peer a.0 from.0 (peer_of st from pgn) _ (peer_fits pgn)))
 
     does_bam : (size packets pgn : ℕ) (room : Bool) (now : ℕ) → Does a st (bam_taken st from size packets pgn room now)

@@ -6,15 +6,21 @@ use Rattle.tp_wire.specs.declared.wire.Wire.{Wire}
 use Rattle.tp_wire.specs.declared.wire.Wire.TheVariants.{Packet}
 use Rattle.seg_cut.specs.Join.{Join, empty_join, with_room, wants_last}
 use Rattle.responder.specs.declared.flow.Flow.{Flow}
-use Rattle.responder.specs.declared.flow.Flow.TheVariants.{Open}
+use Rattle.responder.specs.declared.flow.Flow.TheVariants.{Open, Held}
 use Rattle.etp_session.specs.Window.{window}
 use Rattle.etp_session.specs.States.{AwaitPacket, Holding}
 use Rattle.etp_session.specs.Asking.{grant}
 use Rattle.etp_session.specs.declared.in_state.InState.{InState}
 
--- nothing of a message of this size has come, and there is room for its first window: each message has so many packets
-abbrev pub first_join : ℕ → Join
-first_join size = with_room (empty_join size) ETP_MAX_WINDOW
+-- how many packets the receiver makes room for as it begins: the first window, as each message has so many packets; on hold
+-- none
+abbrev pub first_room : Flow → ℕ
+first_room Open = ETP_MAX_WINDOW
+first_room Held = 0
+
+-- nothing of a message of this size has come, and there is that room
+abbrev pub first_join : ℕ → Flow → Join
+first_join size flow = with_room (empty_join size) (first_room flow)
 
 -- the step grants a further window: this is the last packet announced, not the last of the message, and the session goes on
 abbrev pub grants_next : AwaitPacket → Wire → (room : Bool) → Flow → Bool

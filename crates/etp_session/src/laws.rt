@@ -1,9 +1,9 @@
 //! The law of a receiver's memory. It speaks of the definitions alone, and a call of it does nothing.
-ghost use Rattle.std.specs.Prelude.{ℕ, Bool, ◌+◌, ◌*◌, ◌≤◌, length};
+ghost use Rattle.std.specs.Prelude.{ℕ, Bool, ◌+◌, ◌*◌, ◌≤◌, ◌≡◌, length};
 ghost use Rattle.tp_wire.specs.declared.constants.TheConstants.{ETP_MAX_WINDOW};
 ghost use Rattle.tp_wire.specs.declared.wire.Kind.TheVariants.{Etp};
 ghost use Rattle.tp_wire.specs.declared.wire.Wire.{Wire};
-ghost use Rattle.seg_cut.specs.Join.{Join, IsJoin, empty_join, held};
+ghost use Rattle.seg_cut.specs.Join.{Join, IsJoin, held};
 ghost use Rattle.responder.specs.Peer.{Peer};
 ghost use Rattle.tp_wire.specs.Sizes.{IsSizeOf};
 ghost use Rattle.responder.specs.declared.flow.Flow.{Flow};
@@ -16,12 +16,13 @@ ghost use Rattle.etp_session.specs.declared.in_state.InState.{InState};
 
 /// The memory of a receiver grows by the window: where it begins, after each step and after each firing of its timer
 /// that was prepared, there is room for just the packets that are granted, 64 at most, so that it holds the bytes that
-/// came rounded up by one window at most.
+/// came rounded up by one window at most. One that begins on hold holds none.
 pub fn memory_grows_by_the_window()
     ensures begins { (peer : Peer) (size now : ℕ) → IsSizeOf Etp size
-        → HasLeastRoom (asking peer (first_join size) 0 Open now) }
+        → HasLeastRoom (asking peer (first_join size Open) 0 Open now) }
     ensures begins_held { (peer : Peer) (size now : ℕ) → IsSizeOf Etp size
-        → HasLeastRoom (asking peer (empty_join size) 0 Held now) }
+        → HasLeastRoom (asking peer (first_join size Held) 0 Held now) }
+    ensures held_without_memory { (size : ℕ) → held (first_join size Held) ≡ 0 }
     ensures steps { (s : InState) (wire : Wire) (room : Bool) (flow : Flow) (now : ℕ) → HasLeastRoom s
         → GoesOnWithLeastRoom (stepped (prepared_state s wire room flow) wire room flow now) }
     ensures fires { (s : InState) (flow : Flow) (now : ℕ) → HasLeastRoom s

@@ -22,3 +22,4 @@ pub use laws::memory_grows_by_the_window;
 pub use opening::begin;
 pub use originator::{AwaitCts, AwaitEnd, Burst, OutOver, OutState, Sending, Stepped};
 pub use received::Received;
+pub use responder::{Finished, Flow, Peer};

@@ -116,8 +116,8 @@ module _ (st : Station) (own : st.ports.station ≡ st.address) (each : AreBound
 
     acts_etp_rts : (size pgn : ℕ) (room : Bool) (now : ℕ) → Quietly (etp_rts_taken st from size pgn room now)
     acts_etp_rts size pgn room now = by_option Quietly (refusal (is_etp_size size) room (set_for st pgn size) (others_than st (key_of from session.Etp))) _ _
-        (acts_opened session.Etp pgn size (incoming.Etp (etp.asking (peer_of st from pgn) (first_join size) 0 (flow_at st.ports (set_for st pgn size)) now)) (Some (etp.asked (peer_of st from pgn) (first_join size) (flow_at st.ports (set_for st pgn size))))
-        (etp_asking st.ports.station.0 pgn size (peer_of st from pgn) (first_join size) 0 (flow_at st.ports (set_for st pgn size)) now (own_address, (refl, (refl, omega arith)))))
+        (acts_opened session.Etp pgn size (incoming.Etp (etp.asking (peer_of st from pgn) (first_join size (flow_at st.ports (set_for st pgn size))) 0 (flow_at st.ports (set_for st pgn size)) now)) (Some (etp.asked (peer_of st from pgn) (first_join size (flow_at st.ports (set_for st pgn size))) (flow_at st.ports (set_for st pgn size))))
+        (etp_asking st.ports.station.0 pgn size (peer_of st from pgn) (first_join size (flow_at st.ports (set_for st pgn size))) 0 (flow_at st.ports (set_for st pgn size)) now (own_address, (refl, (refl, omega arith)))))
         (λ reason. acts_not_opened session.Etp (Some (abort_frame Etp (peer_of st from pgn) (reason_byte reason))))
 
     acts_bam : (size packets pgn : ℕ) (room : Bool) (now : ℕ) → Quietly (bam_taken st from size packets pgn room now)

@@ -7,8 +7,6 @@ mod laws;
 mod port;
 mod set;
 mod table;
-#[cfg(test)]
-mod tests;
 
 pub use laws::numbers_are_never_used_again;
 pub use port::{NoSuchPort, PauseError, Port, PortId, PortsFull, ResumeError};

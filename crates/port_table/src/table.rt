@@ -1,6 +1,6 @@
 //! The open ports of a station.
 ghost use Rattle.std.specs.Prelude.{◌≡◌, ℕ, ◌+◌, ◌<◌, ◌≤◌, ◌==◌, [], map, length, OnOk, OnErr, IfOk, IfErr, Ok, Err, vec_capacity, AllPairs};
-ghost use Rattle.port_table.specs.Ports.{no_ports, next_id, opening, closing, pausing, resuming, port_at, ports_for, less_port, marked, ArePorts};
+ghost use Rattle.port_table.specs.Ports.{no_ports, next_id, are_full, opening, closing, pausing, resuming, port_at, ports_for, less_port, marked, ArePorts};
 ghost use Rattle.port_table.specs.Ports.{is_open as is_open_at, is_paused as is_paused_at, is_any_paused};
 
 use crate::MAX_PORTS;
@@ -62,6 +62,13 @@ impl PortTable {
         ensures { result ≡ (length self.now.open_ports == 0) }
     {
         self.ports.is_empty()
+    }
+
+    /// Whether no port can be opened: 16 are open, or the next number would pass the end of `u64`.
+    pub fn is_full(&self) -> bool
+        ensures { result ≡ are_full self.now }
+    {
+        self.ports.len() >= MAX_PORTS || self.opened == u64::MAX
     }
 
     /// Opens a port for messages of a PGN, of at most `max_len` bytes. Its number is the next one, from 1.

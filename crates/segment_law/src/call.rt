@@ -1,9 +1,11 @@
 //! What a segment is asked, one call at a time.
+ghost use Rattle.std.specs.Prelude.{◌≡◌, IfOk};
 
 use bus_frame::Frame;
 use lane_core::Bytes;
 use pgn_ids::{Address, Pgn};
 use port_table::PortId;
+use std::alloc::{AllocError, Global};
 
 /// One call on a segment: one atomic step.
 #[derive(Debug, Drop)]
@@ -77,4 +79,63 @@ pub enum Call {
     Resume {
         port: PortId,
     },
+}
+
+impl Call {
+    /// The same call once more. Memory is taken for the bytes of a Send alone.
+    pub fn copy(&self, alloc: Global) -> Result<Call, AllocError>
+        ensures { IfOk result (λ call. call ≡ self.now) }
+    {
+        let call = match self {
+            Call::Open {
+                station,
+                pgn,
+                max_len,
+            } => Call::Open {
+                station: *station,
+                pgn: *pgn,
+                max_len: *max_len,
+            },
+            Call::Close { port } => Call::Close { port: *port },
+            Call::Send {
+                from,
+                to,
+                pgn,
+                bytes,
+            } => Call::Send {
+                from: *from,
+                to: *to,
+                pgn: *pgn,
+                bytes: bytes.copy(alloc)?,
+            },
+            Call::Pump { station, to } => Call::Pump {
+                station: *station,
+                to: *to,
+            },
+            Call::Transmit { station } => Call::Transmit { station: *station },
+            Call::Take { station, room } => Call::Take {
+                station: *station,
+                room: *room,
+            },
+            Call::TakeAgain { station, room } => Call::TakeAgain {
+                station: *station,
+                room: *room,
+            },
+            Call::Overrun { station, n } => Call::Overrun {
+                station: *station,
+                n: *n,
+            },
+            Call::Tick { n } => Call::Tick { n: *n },
+            Call::Fire { station } => Call::Fire { station: *station },
+            Call::Cancel { from, to, number } => Call::Cancel {
+                from: *from,
+                to: *to,
+                number: *number,
+            },
+            Call::Inject { frame } => Call::Inject { frame: *frame },
+            Call::Pause { port } => Call::Pause { port: *port },
+            Call::Resume { port } => Call::Resume { port: *port },
+        };
+        Ok(call)
+    }
 }

@@ -11,8 +11,6 @@ mod end;
 mod laws;
 mod refusal;
 mod reply;
-#[cfg(test)]
-mod tests;
 
 pub use call::Call;
 pub use counts::Counts;

@@ -11,9 +11,8 @@ mod incoming;
 mod index;
 mod key;
 mod place;
+mod spending;
 mod table;
-#[cfg(test)]
-mod tests;
 mod walk;
 
 pub use held::Held;

@@ -91,7 +91,7 @@ rts_taken st from size packets most pgn room now = elim (refusal (is_tp_size siz
 abbrev pub etp_opened : Station → Key → (set : List ℕ) → Peer → (size now : ℕ) → Station
 etp_opened st key set peer size now =
     let flow = flow_at st.ports set in
-    opened st key set (incoming.Etp (etp.asking peer (first_join size) 0 flow now)) (Some (etp.asked peer (first_join size) flow))
+    opened st key set (incoming.Etp (etp.asking peer (first_join size flow) 0 flow now)) (Some (etp.asked peer (first_join size flow) flow))
 
 abbrev pub etp_rts_taken : Station → (from : Address) → (size pgn : ℕ) → (room : Bool) → (now : ℕ) → Station
 etp_rts_taken st from size pgn room now = elim (refusal (is_etp_size size) room (set_for st pgn size) (others_than st (key_of from session.Etp))) [

@@ -8,8 +8,6 @@ mod overruns;
 mod sending;
 mod station;
 mod taking;
-#[cfg(test)]
-mod tests;
 mod timers;
 
 pub use station::Station;

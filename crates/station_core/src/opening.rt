@@ -1,10 +1,12 @@
 //! Sessions that open (SAE J1939-21, TP.CM_RTS, TP.CM_BAM; ISO 11783-3, ETP.CM_RTS).
-ghost use Rattle.std.specs.Prelude.{◌≡◌, ◌≤◌, ◌<◌, true, length, Some, None, IfOk, OnErr};
+ghost use Rattle.std.specs.Prelude.{◌≡◌, ◌≤◌, ◌<◌, true, length, Some, None, IfOk, IsOk, OnErr};
 ghost use Rattle.pgn_ids.specs.Address.{is_one};
 ghost use Rattle.tx_queue.specs.Queue.{queue_limit};
 ghost use Rattle.session_table.specs.declared.TheConstants.{MAX_SESSIONS};
 ghost use Rattle.station_core.specs.Station.{quietly};
 ghost use Rattle.station_core.specs.Opening.{is_tp_size as is_tp_size_of, is_etp_size as is_etp_size_of, refusal as refusal_of, whole_join as whole_join_of, others_than, opened, not_opened, rts_taken, etp_rts_taken, bam_taken, opening_taken};
+ghost use Rattle.seg_cut.specs.Join.{held};
+ghost use Rattle.responder.specs.declared.flow.Flow.TheVariants.{Held};
 ghost use Rattle.etp_session.specs.Room.{first_join as first_join_of};
 ghost use Rattle.tp_wire.specs.Sizes.{IsSizeOf};
 ghost use Rattle.tp_wire.specs.declared.wire.Kind.TheVariants.{Tp, Etp};
@@ -14,7 +16,7 @@ use bam_session::BamIn;
 use bus_frame::Frame;
 use pgn_ids::{Address, WirePgn};
 use port_table::PortSet;
-use responder::Peer;
+use responder::{Flow, Peer};
 use seg_cut::{Join, packets};
 use session_table::{Incoming, Key, MAX_SESSIONS, SessionKind};
 use station_lanes::Events;
@@ -70,12 +72,17 @@ fn whole_join(alloc: Global, size: u32) -> Result<Join, AllocError>
     Ok(join)
 }
 
-// Room for the first window of a message.
-fn first_join(alloc: Global, size: u32) -> Result<Join, AllocError>
-    ensures { IfOk result (λ join. join ≡ first_join_of size) }
+// Room for the packets that are granted as a session begins: the first window, and on hold none, which takes no memory.
+fn first_join(alloc: Global, size: u32, flow: Flow) -> Result<Join, AllocError>
+    ensures join { IfOk result (λ join. join ≡ first_join_of size flow) }
+    ensures memory { IfOk result (λ join. flow ≡ Held → held join ≡ 0) }
+    ensures on_hold { flow ≡ Held → IsOk result }
 {
     let mut join = Join::new(alloc, size);
-    join.make_room(u32::from(ETP_MAX_WINDOW))?;
+    match flow {
+        Flow::Open => join.make_room(u32::from(ETP_MAX_WINDOW))?,
+        Flow::Held => {}
+    }
     Ok(join)
 }
 
@@ -166,8 +173,8 @@ impl Station {
         match refusal(is_etp_size(size), room, &set, others) {
             Some(reason) => Ok(self.refuse_session(key, Some(peer.abort(Kind::Etp, reason)))),
             None => {
-                let join = first_join(self.alloc, size)?;
                 let flow = flow(&self.ports, &set);
+                let join = first_join(self.alloc, size, flow)?;
                 let (state, frame) = etp_session::AwaitPacket::begin(peer, join, flow, now);
                 self.open_session(key, set, Incoming::Etp(state), Some(frame))
             }

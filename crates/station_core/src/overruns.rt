@@ -1,6 +1,6 @@
 //! Frames that were missed.
-ghost use Rattle.std.specs.Prelude.{◌≡◌, IfOk, OnErr};
-ghost use Rattle.station_core.specs.Overruns.{overrun};
+ghost use Rattle.std.specs.Prelude.{◌≡◌, IfOk, OnOk, OnErr};
+ghost use Rattle.station_core.specs.Overruns.{overrun, HasNoneUnderWay};
 
 use crate::station::Station;
 use station_lanes::Events;
@@ -13,6 +13,7 @@ impl Station {
     /// Want of memory changes nothing.
     pub fn overrun(&mut self) -> Result<Events, AllocError>
         ensures ok { IfOk result (λ events. overrun self.old ≡ record { station = self.new; events = events }) }
+        ensures ended { OnOk result (HasNoneUnderWay self.new) }
         ensures err { OnErr result (self.new ≡ self.old) }
     {
         let events = self.lanes.overrun_all(self.alloc, self.address)?;

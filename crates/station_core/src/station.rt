@@ -3,7 +3,7 @@ ghost use Rattle.std.specs.Prelude.{◌≡◌, ◌≤◌, ◌<◌, ◌+◌, ◌+
 ghost use Rattle.pgn_ids.specs.Address.{is_one};
 ghost use Rattle.tx_queue.specs.Queue.{queue_limit, free_places, front, behind};
 ghost use Rattle.lane_core.specs.Steps.{option_frames};
-ghost use Rattle.port_table.specs.Ports.{next_id, opening, pausing, resuming, with_port, with_paused};
+ghost use Rattle.port_table.specs.Ports.{next_id, are_full, opening, pausing, resuming, with_port, with_paused};
 ghost use Rattle.station_core.specs.Station.{new_station};
 
 use bus_frame::Frame;
@@ -143,6 +143,13 @@ impl Station {
         ensures err { OnErr result (self.new ≡ self.old) }
     {
         self.ports.open(pgn, max_len)
+    }
+
+    /// Whether no port can be opened: 16 are open, or the next number would pass the end of `u64`.
+    pub fn has_all_ports(&self) -> bool
+        ensures { result ≡ are_full self.now.ports }
+    {
+        self.ports.is_full()
     }
 
     /// Pauses a port: each session that gives to it is held, and grants no packet.

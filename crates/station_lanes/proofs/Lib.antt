@@ -2,3 +2,5 @@ pub mod SlotLaws
 pub mod LaneLaws
 pub mod Counting
 pub mod Told
+pub mod Overruns
+pub mod EventPlaces

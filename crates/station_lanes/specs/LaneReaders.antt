@@ -1,9 +1,11 @@
 -- What is asked of the lanes, their timers, and what an overrun makes of them.
-use Rattle.std.specs.Prelude.{ℕ, zero, suc, Bool, false, if◌then◌else◌, ◌+◌, nat_lt, length, List, [], ◌++◌, Option, Some, None, is_none}
+use Rattle.std.specs.Prelude.{◌≡◌, ℕ, zero, suc, Bool, true, false, if◌then◌else◌, ◌+◌, ◌^◌, ◌<◌, nat_lt, length, List, [], ◌++◌, Option, Some, None, is_none}
 use Rattle.std.specs.FinMap as map
 use Rattle.pgn_ids.specs.declared.address.Address.{Address}
 use Rattle.lane_core.specs.Pump.{is_lane_due, missing, pump_refusal}
 use Rattle.lane_core.specs.Endings.{overrun, numbered, queues_abort}
+use Rattle.lane_core.specs.declared.place.UnderWay.{UnderWay}
+use Rattle.lane_core.specs.declared.place.UnderWay.TheVariants.{Connection}
 use Rattle.lane_core.specs.declared.refused.PumpRefused.{PumpRefused}
 use Rattle.lane_core.specs.declared.refused.PumpRefused.TheVariants.{NothingToSend}
 use Rattle.station_lanes.specs.declared.event.Event.{Event}
@@ -17,6 +19,19 @@ refusal_at lanes to now = elim (map.get lanes to) [ None ↦ Some NothingToSend 
 -- a message to a destination has this number and no outcome
 abbrev pub is_pending_at : Lanes → (to number : ℕ) → Bool
 is_pending_at lanes to number = elim (map.get lanes to) [ None ↦ false | Some lane ↦ numbered lane.pending number ]
+
+-- what is under way is a connection
+abbrev pub is_connection : UnderWay → Bool
+is_connection (Connection s) = true
+is_connection _ = false
+
+-- a connection to a destination is under way
+abbrev pub has_connection_to : Lanes → (to : ℕ) → Bool
+has_connection_to lanes to = elim (map.get lanes to) [ None ↦ false | Some lane ↦ is_connection lane.under_way ]
+
+-- no connection is under way to any address
+abbrev pub HasNoConnection : Lanes → Type 0
+HasNoConnection lanes = (to : ℕ) → to < 2 ^ 8 → has_connection_to lanes to ≡ false
 
 -- cancelling it queues an abort
 abbrev pub queues_abort_at : Lanes → (to number : ℕ) → Bool

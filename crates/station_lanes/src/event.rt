@@ -1,5 +1,5 @@
 //! What a station tells.
-ghost use Rattle.std.specs.Prelude.{◌≡◌, ◌==◌, ◌+◌, ◌<◌, ◌≤◌, ◌∷◌, ◌++◌, [], length, None, option_to_list, vec_len, vec_capacity};
+ghost use Rattle.std.specs.Prelude.{◌≡◌, ◌==◌, ◌+◌, ◌<◌, ◌≤◌, ◌∷◌, ◌++◌, [], length, None, option_to_list, option_copied, drop, slice_get, vec_len, vec_capacity};
 ghost use Rattle.station_lanes.specs.LaneCalls.{outcome_of};
 
 use lane_core::{Bytes, Ended};
@@ -94,6 +94,25 @@ impl Events {
         ensures { result ≡ (length self.now == 0) }
     {
         self.first.is_none()
+    }
+
+    /// The event at a place, counted from 0.
+    #[tactic(auto, using(crate::proofs::EventPlaces::event_laws))]
+    pub fn get(&self, place: usize) -> Option<&Event>
+        ensures { option_copied result ≡ slice_get self.now place }
+    {
+        if place == 0 {
+            return self.first.as_ref();
+        }
+        self.rest.get(place - 1)
+    }
+
+    /// The events behind the first.
+    #[tactic(auto, using(crate::proofs::EventPlaces::event_laws))]
+    pub fn rest(&self) -> &[Event]
+        ensures { result.now ≡ drop 1 self.now }
+    {
+        self.rest.as_slice()
     }
 
     /// The first event, and those behind it.

@@ -9,7 +9,7 @@ ghost use Rattle.lane_core.specs.Lane.{is_full as is_full_lane, longest_to, push
 ghost use Rattle.lane_core.specs.Refused.{IsHandedBack};
 ghost use Rattle.lane_core.specs.Steps.{nothing_to_do};
 ghost use Rattle.station_lanes.specs.LaneCalls.{stepped_lanes, step_at, lane_to};
-ghost use Rattle.station_lanes.specs.LaneReaders.{refusal_at, pumping_lane, missing_at, is_pending_at, queues_abort_at, is_due_at, due_lane, overrun_lanes, overrun_events, is_waiting_at, count_below};
+ghost use Rattle.station_lanes.specs.LaneReaders.{refusal_at, pumping_lane, missing_at, is_pending_at, queues_abort_at, is_due_at, due_lane, overrun_lanes, overrun_events, is_waiting_at, count_below, HasNoConnection};
 ghost use Rattle.std.specs.Option.{option_map};
 
 use crate::event::{Events, append, outcome};
@@ -235,6 +235,7 @@ impl Lanes {
     pub fn overrun_all(&mut self, alloc: Global, from: Address) -> Result<Events, AllocError>
         ensures ok { OnOk result (self.new ≡ overrun_lanes self.old 256) }
         ensures told { IfOk result (λ events. events ≡ overrun_events from self.old 256) }
+        ensures ended { OnOk result (HasNoConnection self.new) }
         ensures err { OnErr result (self.new ≡ self.old) }
     {
         let mut first = None;

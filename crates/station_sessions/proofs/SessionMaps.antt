@@ -1,13 +1,16 @@
 -- Sessions that are taken out of their table and put back, or ended.
-use Rattle.std.proofs.Common.{◌≡◌, ℕ, ◌+◌, ◌-◌, ◌≤◌, arith, Bool, true, false, cond, List, Option, Some, None, refl, sym, ap, ◌∙◌}
+use Rattle.std.proofs.Common.{◌≡◌, ℕ, ◌-◌, ◌<◌, nat_lt, Bool, true, false, cond, List, Option, Some, None, refl, sym, ap, ◌∙◌, subst}
+use Rattle.std.proofs.lemmas.Bool.{lt-ltb}
 use Rattle.std.specs.Option.{option_flatten}
-use Rattle.std.specs.Ordering.{eq_by_cmp}
 use Rattle.std.specs.FinMap as map
 use Rattle.std.specs.FinMap.{get-empty, get-insert, get-remove, len-remove, same_map}
 use Rattle.session_table.specs.declared.key.Key.{Key}
 use Rattle.session_table.specs.declared.incoming.Incoming.{Incoming}
 use Rattle.session_table.specs.Key.{key_cmp, key_eq}
-use Rattle.session_table.specs.Sessions.{Sessions, state_at}
+use Rattle.session_table.specs.Sessions.{state_at}
+use Rattle.session_table.specs.Refusal.{refusal}
+use Rattle.session_table.specs.declared.TheConstants.{MAX_SESSIONS}
+use Rattle.session_table.specs.declared.table.OpenRefused.TheVariants.{TableFull, OutOfMemory}
 use Rattle.session_table.proofs.Keys.{key_total, key_apart}
 use Rattle.session_table.proofs.Tables.{key_eq-same}
 use Rattle.station_sessions.specs.Receiving.{Inbound, NoneHeld}
@@ -86,3 +89,11 @@ pub len_others : (m : Inbound) (k : Key) → map.len (map.remove m k) ≡ cond (
 len_others m k = len-remove key_total m k
 
 pub ruleset session_lens = (len_others)
+
+-- with less than 32 beside a key that isn't there, the table isn't full
+pub room_for : {T : Type 0} (m : Inbound) (k : Key) (bound back : T) (state end : Incoming) → map.get m k ≡ None → map.len (map.remove m k) < MAX_SESSIONS → TableFull back end ≡ refusal (map.len m) bound state → ⊥
+room_for m k bound back state end none few = by (nat_lt (map.len m) MAX_SESSIONS) (lt-ltb (map.len m) MAX_SESSIONS (subst (λ (x : Inbound). map.len x < MAX_SESSIONS) (remove_missing m k none) few))
+  where
+    by : (b : Bool) → b ≡ true → TableFull back end ≡ cond b (OutOfMemory bound state) (TableFull bound state) → ⊥
+    by true e is = cc
+    by false e is = cc

@@ -1,7 +1,7 @@
 -- The room for the copies of a message, made before the step that completes it.
 use Rattle.std.specs.Prelude.{ℕ, ◌≡◌, ◌-◌, ◌≤◌, Bool, true, List, length, All, ⊤}
 use Rattle.station_sessions.specs.declared.progress.Progress.{Progress}
-use Rattle.station_sessions.specs.declared.progress.Progress.TheVariants.{On, Complete, Ended}
+use Rattle.station_sessions.specs.declared.progress.Progress.TheVariants.{Complete}
 use Rattle.station_sessions.specs.declared.progress.Whole.{Whole}
 use Rattle.station_sessions.specs.Progress.{whole_size}
 

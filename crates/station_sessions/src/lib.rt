@@ -5,7 +5,5 @@
 mod copies;
 mod progress;
 mod receivers;
-#[cfg(test)]
-mod tests;
 
 pub use receivers::{Receivers, Told, flow};

@@ -109,7 +109,7 @@ impl Receivers {
                 Ok(()) => Ok(()),
                 Err(OpenRefused::TableFull(_set, state)) => {
                     state.overrun();
-                    Err(AllocError)
+                    unreachable!()
                 }
                 Err(OpenRefused::OutOfMemory(_set, state)) => {
                     state.overrun();

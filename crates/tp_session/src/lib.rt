@@ -22,3 +22,4 @@ pub use in_state::InState;
 pub use opening::begin;
 pub use originator::{AwaitCts, AwaitEnd, Burst, OutOver, OutState, Sending, Stepped};
 pub use received::Received;
+pub use responder::{Finished, Flow, Peer};

@@ -1,4 +1,4 @@
-use Rattle.std.proofs.Common.{◌≡◌, ◌≤◌, length, vec_capacity}
+use Rattle.std.proofs.Common.{◌≡◌, length, vec_capacity}
 use Rattle.std.specs.Prelude.{All}
 use Rattle.station_sessions.proofs.copies.Copies.make.Given as goal
 

@@ -1,4 +1,4 @@
-use Rattle.std.proofs.Common.{◌≡◌, ◌∙◌, ap, sym, subst}
+use Rattle.std.proofs.Common.{◌∙◌, ap, sym, subst}
 use Rattle.station_sessions.specs.Receiving.{NoneHeld, fired_at}
 use Rattle.station_sessions.proofs.Settling.{fired_is, fired_none_held}
 use Rattle.station_sessions.proofs.receivers.Receivers.fire.Goals as goal

@@ -1,4 +1,4 @@
-use Rattle.std.proofs.Common.{◌≡◌, ◌∙◌, ap, sym, subst}
+use Rattle.std.proofs.Common.{◌∙◌, ap, sym, subst}
 use Rattle.station_sessions.specs.Receiving.{NoneHeld, received}
 use Rattle.station_sessions.proofs.Settling.{received_is, received_none_held}
 use Rattle.station_sessions.proofs.receivers.Receivers.step.Goals as goal

@@ -1,4 +1,4 @@
-use Rattle.std.proofs.Common.{◌≡◌, ℕ, ◌==◌, List, length, ◌∙◌, ap, sym}
+use Rattle.std.proofs.Common.{ℕ, ◌==◌, List, length, ◌∙◌, ap, sym}
 use Rattle.station_sessions.specs.Receiving.{unbound_at}
 use Rattle.station_sessions.proofs.Settling.{unbound_is}
 use Rattle.station_sessions.proofs.receivers.Receivers.unbind.Goals as goal
