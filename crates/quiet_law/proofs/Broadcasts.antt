@@ -62,7 +62,7 @@ module _ {X Y : Type 0} (test : X → Bool) (y : Y) (g : X → Y) where
   none_where (x ∷ xs) fails = (λ i. cond (sym (fails 0 x refl) i) y (g x) ∷ none_where xs (λ j z e. fails (suc j) z e) i)
 
   -- one element has the test
-  set_where : (xs : List X) (i : ℕ) (z : X) → slice_get xs i ≡ Some z → test z ≡ true → ((j : ℕ) (x : X) → slice_get xs j ≡ Some x → test x ≡ true → j ≡ i) → set (map g xs) i y ≡ map (λ x. cond (test x) y (g x)) xs
+  pub set_where : (xs : List X) (i : ℕ) (z : X) → slice_get xs i ≡ Some z → test z ≡ true → ((j : ℕ) (x : X) → slice_get xs j ≡ Some x → test x ≡ true → j ≡ i) → set (map g xs) i y ≡ map (λ x. cond (test x) y (g x)) xs
   set_where [] i z at is only = refl
   set_where (x ∷ xs) zero z at is only =
       let same : test x ≡ true = ap (λ (o : Option X). elim o as (λ (_ : Option X). Bool) [ None ↦ true | Some w ↦ test w ]) at ∙ is in

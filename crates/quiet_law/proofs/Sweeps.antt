@@ -162,10 +162,11 @@ module _ (n L now : ℕ) (f : CanFrame) (t : ℕ) (fs : List CanFrame) where
   abbrev pub told_by : List Station → List Event
   told_by rest = flat_map (λ st. (go st).events) rest
 
-  pub sweep : (rest pre : List Station) (seg : Segment) (calls : Record) → IsReached seg → seg.now ≡ now → seg.stations ≡ pre ++ rest → n ≡ length pre + length rest
-      → All (λ (st : Station). st.queue ≡ []) rest → Offers n L (length pre) f seg.bus
+  -- each has a free place in its queue
+  pub sweep_free : (rest pre : List Station) (seg : Segment) (calls : Record) → IsReached seg → seg.now ≡ now → seg.stations ≡ pre ++ rest → n ≡ length pre + length rest
+      → All (λ (st : Station). no_place st ≡ false) rest → Offers n L (length pre) f seg.bus
       → Swept n L now f (pre ++ after rest) (events_in calls ++ told_by rest) t fs (all_take rest (under_way seg calls t fs))
-  sweep [] pre seg calls r clock stations many queues o = record {
+  sweep_free [] pre seg calls r clock stations many free o = record {
     segment = seg;
     calls = calls;
     is = refl;
@@ -175,12 +176,12 @@ module _ (n L now : ℕ) (f : CanFrame) (t : ℕ) (fs : List CanFrame) where
     offers = subst (λ (j : ℕ). Offers n L j f seg.bus) (let e : length pre ≡ n = omega (arith, many) in e) o;
     told = sym (append-nil (events_in calls));
   }
-  sweep (st ∷ rest) pre seg calls r clock stations many queues o =
+  sweep_free (st ∷ rest) pre seg calls r clock stations many free o =
       let i : ℕ = length pre in
       let here : i < n = omega (arith, many) in
       let at : slice_get seg.stations i ≡ Some st = ap (λ (xs : List Station). slice_get xs i) stations ∙ slice_get-right pre (st ∷ rest) i 0 (omega arith) in
       let place : place_of seg st.address ≡ Some i = r.places i st at in
-      let room : no_place st ≡ false = ap (λ (q : List CanFrame). free_places q == 0) (All-head (λ (s : Station). s.queue ≡ []) st rest queues) in
+      let room : no_place st ≡ false = All-head (λ (s : Station). no_place s ≡ false) st rest free in
       let next : next_frame seg.bus i ≡ Some f = next_is n L i f seg.bus o here in
       let first : applied seg (Take st.address true) ≡ (took seg st.address i st place at f next room, Done (taken st f true seg.now).events) = take_is seg st.address i st place at f next room in
       let new : Segment = took seg st.address i st place at f next room in
@@ -199,7 +200,7 @@ module _ (n L now : ℕ) (f : CanFrame) (t : ℕ) (fs : List CanFrame) where
       let one : takes_all st.address (under_way seg calls t fs) ≡ under_way new calls_new t fs = takes_one seg new st.address (taken st f true seg.now).events calls t fs waits first last in
       let longer : length (pre ++ y ∷ []) ≡ i + 1 = length_push pre y in
       let rec : Swept n L now f ((pre ++ y ∷ []) ++ after rest) (events_in calls_new ++ told_by rest) t fs (all_take rest (under_way new calls_new t fs)) =
-      sweep rest (pre ++ y ∷ []) new calls_new reached clock stations_new (omega (arith, many, longer)) (All-tail (λ (s : Station). s.queue ≡ []) st rest queues) (subst (λ (j : ℕ). Offers n L j f new.bus) (sym longer) offers) in
+      sweep_free rest (pre ++ y ∷ []) new calls_new reached clock stations_new (omega (arith, many, longer)) (All-tail (λ (s : Station). no_place s ≡ false) st rest free) (subst (λ (j : ℕ). Offers n L j f new.bus) (sym longer) offers) in
       let step_now : go st ≡ taken st f true seg.now = ap (taken st f true) (sym clock) in
       record {
         segment = rec.segment;
@@ -215,3 +216,9 @@ module _ (n L now : ℕ) (f : CanFrame) (t : ℕ) (fs : List CanFrame) where
             ∙ append_assoc (events_in calls) (taken st f true seg.now).events (told_by rest)
             ∙ ap (λ (s : StationStep). events_in calls ++ (s.events ++ told_by rest)) (sym step_now);
       }
+
+  -- as each has where nothing is queued
+  pub sweep : (rest pre : List Station) (seg : Segment) (calls : Record) → IsReached seg → seg.now ≡ now → seg.stations ≡ pre ++ rest → n ≡ length pre + length rest
+      → All (λ (st : Station). st.queue ≡ []) rest → Offers n L (length pre) f seg.bus
+      → Swept n L now f (pre ++ after rest) (events_in calls ++ told_by rest) t fs (all_take rest (under_way seg calls t fs))
+  sweep rest pre seg calls r clock stations many queues o = sweep_free rest pre seg calls r clock stations many (λ j d lt. ap (λ (q : List CanFrame). free_places q == 0) (queues j d lt)) o

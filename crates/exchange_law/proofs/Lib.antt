@@ -1,0 +1,15 @@
+pub mod Nodes
+pub mod Pairs
+pub mod Puts
+pub mod Turns
+pub mod Senders
+pub mod Windows
+pub mod Receivers
+pub mod TpSessions
+pub mod EtpSessions
+pub mod Rows
+pub mod Sessions
+pub mod Exchanges
+pub mod Tilings
+pub mod Selves
+pub mod Quiets
