@@ -1,0 +1,4 @@
+pub mod Gives
+pub mod Sound
+pub mod Walk
+pub mod Following

@@ -1,0 +1,91 @@
+-- What a segment keeps of one client and of one port, as contracts see it.
+use Rattle.std.specs.Prelude.{◌≡◌, ℕ, ◌-◌, ◌≤◌, ◌<◌, Bool, true, false, List, [], ◌∷◌, ◌++◌, length, ◌⊎◌}
+use Rattle.pgn_ids.specs.declared.address.Address.{Address}
+use Rattle.port_table.specs.declared.port.PortId.{PortId}
+use Rattle.segment_rings.specs.declared.words.Submission.{Submission}
+use Rattle.segment_rings.specs.declared.words.Note.{Note}
+use Rattle.segment_rings.specs.declared.words.Delivery.{Delivery}
+use Rattle.segment_rings.specs.declared.seat.Offer.{Offer}
+use Rattle.segment_rings.specs.declared.seat.Offer.TheVariants as offer
+
+-- popped and noted: what went out of and into the client's rings; ahead and free: what is known of them; spare: room for
+-- notes that are kept
+pub record SeatView : Type 0 where
+  pub id : ℕ
+  pub station : Address
+  pub active : Bool
+  pub popped : List Submission
+  pub ahead : List Submission
+  pub noted : List Note
+  pub free : ℕ
+  pub spare : ℕ
+
+-- pushed: what went into the port's ring; free: how many places of it are known to be free; spare: room for deliveries that
+-- are kept
+pub record DoorView : Type 0 where
+  pub port : PortId
+  pub active : Bool
+  pub pushed : List Delivery
+  pub free : ℕ
+  pub spare : ℕ
+
+abbrev pub new_seat : ℕ → Address → ℕ → ℕ → SeatView
+new_seat id station free spare = record { id = id; station = station; active = true; popped = []; ahead = []; noted = []; free = free; spare = spare }
+
+abbrev pub looked : SeatView → List Submission → SeatView
+looked s ahead = record s { ahead = ahead }
+
+abbrev pub looked_for_room : SeatView → ℕ → SeatView
+looked_for_room s free = record s { free = free }
+
+abbrev pub with_spare : SeatView → ℕ → SeatView
+with_spare s spare = record s { spare = spare }
+
+abbrev pub popped_one : SeatView → Submission → List Submission → SeatView
+popped_one s x ahead = record s { popped = s.popped ++ x ∷ []; ahead = ahead }
+
+abbrev pub with_note : SeatView → Note → SeatView
+with_note s n = record s { noted = s.noted ++ n ∷ []; free = s.free - 1; spare = s.spare - 1 }
+
+abbrev pub closed_seat : SeatView → SeatView
+closed_seat s = record s { active = false }
+
+-- the same seat, of which more may be known
+pub record SameSeat (a b : SeatView) : Type 0 where
+  pub id : b.id ≡ a.id
+  pub station : b.station ≡ a.station
+  pub active : b.active ≡ a.active
+  pub popped : b.popped ≡ a.popped
+  pub noted : b.noted ≡ a.noted
+  pub free : a.free ≤ b.free
+  pub spare : a.spare ≤ b.spare
+
+-- what is known of a seat for which so many notes are owed: no submission is seen, or none is taken any more; or one is seen,
+-- and its note has no free place beside those that are owed, or has one
+abbrev pub IsOffer : SeatView → ℕ → Offer → Type 0
+IsOffer s owed offer.Empty = (s.active ≡ false) ⊎ (length s.ahead ≡ 0)
+IsOffer s owed offer.Owed = (s.active ≡ true) × (0 < length s.ahead) × (s.free ≤ owed)
+IsOffer s owed offer.Ready = (s.active ≡ true) × (0 < length s.ahead) × (owed < s.free)
+
+abbrev pub new_door : PortId → ℕ → ℕ → DoorView
+new_door port free spare = record { port = port; active = true; pushed = []; free = free; spare = spare }
+
+abbrev pub door_looked : DoorView → ℕ → DoorView
+door_looked d free = record d { free = free }
+
+abbrev pub door_with_spare : DoorView → ℕ → DoorView
+door_with_spare d spare = record d { spare = spare }
+
+abbrev pub with_delivery : DoorView → Delivery → DoorView
+with_delivery d x = record d { pushed = d.pushed ++ x ∷ []; free = d.free - 1; spare = d.spare - 1 }
+
+abbrev pub closed_door : DoorView → DoorView
+closed_door d = record d { active = false }
+
+-- the same door, of which more may be known
+pub record SameDoor (a b : DoorView) : Type 0 where
+  pub port : b.port ≡ a.port
+  pub active : b.active ≡ a.active
+  pub pushed : b.pushed ≡ a.pushed
+  pub free : a.free ≤ b.free
+  pub spare : a.spare ≤ b.spare

@@ -1,0 +1,140 @@
+//! An inbox: what a port received, with its end of the ring.
+use crate::words::Delivery;
+use port_table::PortId;
+use rtrb::Consumer;
+use std::alloc::{AllocError, Global};
+use std::marker::Model;
+use std::sync::Wait;
+use std::thread;
+
+/// Receives what a port is given. It may move to a thread of its own; `try_receive` takes no lock and never waits.
+#[derive(Drop)]
+pub struct Inbox {
+    alloc: Global,
+    port: PortId,
+    closed: bool,
+    deliveries: Consumer<Delivery>,
+    taken: Vec<Delivery>,
+}
+
+impl Model for Inbox {
+    ghost use Rattle.std.specs.Prelude.{◌≡◌, ◌-◌, false, vec_len, vec_capacity};
+    ghost use Rattle.rtrb.specs.Ring.{received};
+    ghost use Rattle.segment_rings.specs.Ends.{InboxEnd};
+
+    ghost Value = { InboxEnd };
+
+    ghost view = { λ i. record { port = i.port; closed = i.closed; popped = received i.deliveries; received = i.taken.items; spare = vec_capacity i.taken - vec_len i.taken } };
+
+    ghost invariant = { λ i. i.closed ≡ false → i.taken.items ≡ received i.deliveries };
+}
+
+ghost use Rattle.std.specs.Prelude.{◌≡◌, OnErr, IfOk};
+
+/// The same delivery once more.
+pub(crate) fn copy_delivery(alloc: Global, delivery: &Delivery) -> Result<Delivery, AllocError>
+    ensures { IfOk result (λ d. d ≡ delivery.now) }
+{
+    let bytes = delivery.bytes.copy(alloc)?;
+    Ok(Delivery {
+        from: delivery.from,
+        to: delivery.to,
+        pgn: delivery.pgn,
+        bytes,
+    })
+}
+
+impl Inbox {
+    ghost use Rattle.std.specs.Prelude.{◌≡◌, ◌+◌, ◌<◌, ◌≤◌, [], ◌∷◌, ◌++◌, length, true, false, IfOk, OnErr, OnOk, MatchOption, Some, None, Ok};
+    ghost use Rattle.rtrb.specs.Ring.{received};
+    ghost use Rattle.segment_rings.specs.Ends.{InboxEnd, new_inbox_end, with_room_kept, receives, closes};
+
+    pub(crate) fn new(alloc: Global, port: PortId, deliveries: Consumer<Delivery>) -> Inbox
+        requires { received deliveries ≡ [] }
+        ensures { result ≡ new_inbox_end port result.spare }
+    {
+        Inbox {
+            alloc,
+            port,
+            closed: false,
+            deliveries,
+            taken: Vec::new(alloc),
+        }
+    }
+
+    /// The port.
+    pub fn port(&self) -> PortId
+        ensures { result ≡ self.now.port }
+    {
+        self.port
+    }
+
+    /// Whether the port was closed by this inbox.
+    pub fn is_closed(&self) -> bool
+        ensures { result ≡ self.now.closed }
+    {
+        self.closed
+    }
+
+    /// Receives the next delivery, if one is there. A closed inbox gives none. Want of memory leaves it in the ring.
+    pub fn try_receive(&mut self) -> Result<Option<Delivery>, AllocError>
+        ensures delivery { IfOk result (λ r. MatchOption r (self.new ≡ self.old) (λ d. self.new ≡ receives self.old d self.new.spare)) }
+        ensures closed { self.old.closed ≡ true → result ≡ Ok None }
+        ensures err { OnErr result (self.new ≡ with_room_kept self.old self.new.spare) }
+    {
+        if self.closed {
+            return Ok(None);
+        }
+        if self.deliveries.is_empty() {
+            return Ok(None);
+        }
+        self.taken.reserve(1)?;
+        let copy = copy_delivery(self.alloc, self.deliveries.peek_known())?;
+        let delivery = self.deliveries.pop_known();
+        self.taken.push_reserved(copy);
+        Ok(Some(delivery))
+    }
+
+    /// Tries to receive at most so often, and ends at the first delivery, or at want of memory.
+    pub fn receive<R: Wait>(
+        &mut self,
+        _rt: &R,
+        turns: u64,
+    ) -> Result<Option<Delivery>, AllocError> {
+        for _ in 0..turns {
+            if let Some(delivery) = self.try_receive()? {
+                return Ok(Some(delivery));
+            }
+            thread::yield_now();
+        }
+        Ok(None)
+    }
+
+    /// What was received, in order.
+    pub fn received(&self) -> &[Delivery]
+        ensures { result.now ≡ self.now.received }
+    {
+        self.taken.as_slice()
+    }
+
+    /// Makes room to keep so many deliveries more.
+    pub fn reserve(&mut self, needed: usize) -> Result<(), AllocError>
+        ensures same { self.new ≡ with_room_kept self.old self.new.spare }
+        ensures ok { OnOk result (needed ≤ self.new.spare) }
+    {
+        self.taken.reserve(needed)
+    }
+
+    /// Receives the rest of its deliveries, and is closed.
+    pub fn close(&mut self, rest: Vec<Delivery>)
+        requires { length rest.items ≤ self.old.spare }
+        ensures { self.new ≡ closes self.old rest.items self.new.spare }
+    {
+        let mut rest = rest;
+        self.closed = true;
+        match self.taken.append(&mut rest) {
+            Ok(()) => {}
+            Err(_) => unreachable!(),
+        }
+    }
+}

@@ -1,0 +1,23 @@
+//! What threads hold of a shared segment, and what the segment keeps of each: the two ends of every ring, each beside the
+//! list of all that went through it.
+//!
+//! A client pushes submissions and pops notes; its seat is the other end of both rings. An inbox pops deliveries; its door
+//! pushes them. Nothing above this crate sees a ring. Nothing here takes a lock; only `outcome` and `receive` wait, for so many
+//! turns at most.
+#![tactic(auto)]
+
+mod buffer;
+mod client;
+mod door;
+mod inbox;
+mod seat;
+#[cfg(test)]
+mod tests;
+mod words;
+
+pub use buffer::Buffer;
+pub use client::{Client, SubmitRefused, submit_refusal};
+pub use door::{Door, Doorway};
+pub use inbox::Inbox;
+pub use seat::{Offer, Seat};
+pub use words::{Delivery, Note, RING_PLACES, Submission};

@@ -1,0 +1,181 @@
+//! What a segment keeps of one client: the far ends of its two rings, and the notes made for it.
+use crate::client::Client;
+use crate::words::{Note, RING_PLACES, Submission};
+use pgn_ids::Address;
+use rtrb::{Consumer, Producer, RingBuffer};
+use std::alloc::{AllocError, Global};
+use std::marker::Model;
+
+/// Whether the front submission can be accepted now.
+#[derive(Clone, Copy, Debug, PartialEq, Eq)]
+pub enum Offer {
+    /// No submission waits, or none is taken any more.
+    Empty,
+    /// Each place for a note that is known to be free is owed already.
+    Owed,
+    /// A submission waits, and its note has a place.
+    Ready,
+}
+
+/// The segment's side of a client.
+#[derive(Drop)]
+pub struct Seat {
+    id: u64,
+    station: Address,
+    active: bool,
+    submissions: Consumer<Submission>,
+    notes: Producer<Note>,
+    kept: Vec<Note>,
+    taken: u64,
+}
+
+impl Model for Seat {
+    ghost use Rattle.std.specs.Prelude.{◌≡◌, ◌-◌, length, vec_len, vec_capacity};
+    ghost use Rattle.rtrb.specs.Ring.{sent, received, known_free, known_items};
+    ghost use Rattle.segment_rings.specs.Views.{SeatView};
+
+    ghost Value = { SeatView };
+
+    ghost view = { λ s. record { id = s.id; station = s.station; active = s.active; popped = received s.submissions; ahead = known_items s.submissions; noted = sent s.notes; free = known_free s.notes; spare = vec_capacity s.kept - vec_len s.kept } };
+
+    ghost invariant = { λ s. (s.kept.items ≡ sent s.notes) × (s.taken ≡ length (received s.submissions)) };
+}
+
+impl Seat {
+    ghost use Rattle.std.specs.Prelude.{◌≡◌, ◌≤◌, ◌<◌, ◌+◌, ◌-◌, ◌^◌, ◌↔◌, [], ◌∷◌, ◌++◌, length, true, false, IfOk, OnOk, OnErr, IsTrue, IsFalse};
+    ghost use mathlib.Core.List.{IsPrefix};
+    ghost use Rattle.segment_rings.specs.Views.{SeatView, new_seat, looked, looked_for_room, with_spare, popped_one, with_note, closed_seat, SameSeat, IsOffer};
+    ghost use Rattle.segment_rings.specs.Ends.{new_client_end};
+
+    /// A client of a station, and the seat that it has in the segment.
+    pub fn new(alloc: Global, id: u64, station: Address) -> Result<(Seat, Client), AllocError>
+        ensures seat { IfOk result (λ r. r.0 ≡ new_seat id station r.0.free r.0.spare) }
+        ensures client { IfOk result (λ r. r.1 ≡ new_client_end id station) }
+    {
+        let (producer, submissions) = RingBuffer::new(alloc, RING_PLACES)?;
+        let (notes, consumer) = RingBuffer::new(alloc, RING_PLACES)?;
+        let seat = Seat {
+            id,
+            station,
+            active: true,
+            submissions,
+            notes,
+            kept: Vec::new(alloc),
+            taken: 0,
+        };
+        Ok((seat, Client::new(alloc, id, station, producer, consumer)))
+    }
+
+    /// The client's number in its segment.
+    pub fn id(&self) -> u64
+        ensures { result ≡ self.now.id }
+    {
+        self.id
+    }
+
+    /// The station that the client sends from.
+    pub fn station(&self) -> Address
+        ensures { result ≡ self.now.station }
+    {
+        self.station
+    }
+
+    /// Whether submissions are still taken.
+    pub fn is_active(&self) -> bool
+        ensures { result ≡ self.now.active }
+    {
+        self.active
+    }
+
+    /// How many submissions were taken.
+    pub fn taken(&self) -> u64
+        ensures { result ≡ length self.now.popped }
+    {
+        self.taken
+    }
+
+    // Looks whether a submission waits.
+    fn look(&mut self) -> bool
+        ensures same { self.new ≡ looked self.old self.new.ahead }
+        ensures value { IsTrue result ↔ (0 < length self.new.ahead) }
+    {
+        !self.submissions.is_empty()
+    }
+
+    /// The submission in front.
+    pub fn front(&self) -> &Submission
+        requires { 0 < length self.now.ahead }
+        ensures { IsPrefix (result.now ∷ []) self.now.ahead }
+    {
+        self.submissions.peek_known()
+    }
+
+    /// Takes the submission in front.
+    pub fn take(&mut self) -> Submission
+        requires waits { 0 < length self.old.ahead }
+        requires room { length self.old.popped < 2 ^ 32 }
+        ensures front { self.old.ahead ≡ result ∷ self.new.ahead }
+        ensures same { self.new ≡ popped_one self.old result self.new.ahead }
+    {
+        self.taken += 1;
+        self.submissions.pop_known()
+    }
+
+    // How many places for notes are known to be free.
+    fn room(&mut self) -> usize
+        ensures same { self.new ≡ looked_for_room self.old result }
+        ensures more { self.old.free ≤ result }
+    {
+        self.notes.slots()
+    }
+
+    /// Makes room to keep this many notes more.
+    pub fn reserve(&mut self, count: usize) -> Result<(), AllocError>
+        ensures same { self.new ≡ with_spare self.old self.new.spare }
+        ensures more { self.old.spare ≤ self.new.spare }
+        ensures ok { OnOk result (count ≤ self.new.spare) }
+    {
+        self.kept.reserve(count)
+    }
+
+    /// Makes a note, for which there is room.
+    pub fn note(&mut self, note: Note)
+        requires free { 0 < self.old.free }
+        requires spare { 0 < self.old.spare }
+        ensures { self.new ≡ with_note self.old note }
+    {
+        self.notes.push_reserved(note);
+        self.kept.push_reserved(note);
+    }
+
+    /// Takes no more submissions.
+    pub fn close(&mut self)
+        ensures { self.new ≡ closed_seat self.old }
+    {
+        self.active = false;
+    }
+
+    /// The notes made so far.
+    pub fn notes(&self) -> &[Note]
+        ensures { result.now ≡ self.now.noted }
+    {
+        self.kept.as_slice()
+    }
+
+    /// Looks whether a submission waits and its note has a place beside those that are owed.
+    pub fn offer(&mut self, owed: usize) -> Offer
+        ensures same { SameSeat self.old self.new }
+        ensures offer { IsOffer self.new owed result }
+    {
+        if !self.active {
+            return Offer::Empty;
+        }
+        if !self.look() {
+            return Offer::Empty;
+        }
+        if self.room() <= owed {
+            return Offer::Owed;
+        }
+        Offer::Ready
+    }
+}
