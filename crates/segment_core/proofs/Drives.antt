@@ -20,7 +20,7 @@ use Rattle.segment_law.specs.declared.refusal.Refusal.TheVariants as refusal
 use Rattle.segment_law.specs.declared.reply.Reply.{Reply}
 use Rattle.segment_law.specs.declared.reply.Reply.TheVariants.{Opened, Sent, Refused, Done}
 use Rattle.segment_law.proofs.Booleans.{both, both_pass}
-use Rattle.segment_core.specs.Drives.{IsShown, GoesOn}
+use Rattle.segment_core.specs.Drives.{IsShown, GoesOn, GoesOnBy}
 use Rattle.segment_core.specs.Transmits.{put_by, transmitted}
 
 -- One more call
@@ -140,6 +140,16 @@ on_trans a b c x y = record {
   frames = sym (append_assoc a.frames x.later y.later) ∙ ap (λ (fs : List CanFrame). fs ++ y.later) x.frames ∙ y.frames;
 }
 
+-- and by a call first, where it is made next
+pub by_trans : (call : Call) (a b c : Driven) → GoesOnBy call a b → GoesOn b c → GoesOnBy call a c
+by_trans call a b c x y = record {
+  reply = x.reply;
+  rest = x.rest ++ y.rest;
+  later = x.later ++ y.later;
+  calls = sym (append_assoc a.calls ((call, x.reply) ∷ x.rest) y.rest) ∙ ap (λ (cs : Record). cs ++ y.rest) x.calls ∙ y.calls;
+  frames = sym (append_assoc a.frames x.later y.later) ∙ ap (λ (fs : List CanFrame). fs ++ y.later) x.frames ∙ y.frames;
+}
+
 pub on_call : (d : Driven) (call : Call) (step : Segment × Reply) → GoesOn d (with_call d call step)
 on_call d call step = record { rest = (call, step.1) ∷ []; later = []; calls = refl; frames = append-nil d.frames }
 
@@ -148,6 +158,12 @@ on_stops d (Opened port) = on_refl d
 on_stops d (Sent number) = on_refl d
 on_stops d (Refused cause) = record { rest = []; later = []; calls = append-nil d.calls; frames = append-nil d.frames }
 on_stops d (Done events) = on_refl d
+
+by_call : (d : Driven) (call : Call) (step : Segment × Reply) → GoesOnBy call d (with_call d call step)
+by_call d call step = record { reply = step.1; rest = []; later = []; calls = refl; frames = append-nil d.frames }
+
+pub by_makes_call : (d : Driven) (call : Call) → GoesOnBy call d (makes_call call d)
+by_makes_call d call = by_trans call d (with_call d call (applied d.segment call)) (makes_call call d) (by_call d call (applied d.segment call)) (on_stops (with_call d call (applied d.segment call)) (applied d.segment call).1)
 
 pub on_goes : (d : Driven) (next : Driven → Driven) → ((x : Driven) → GoesOn x (next x)) → GoesOn d (goes_on d next)
 on_goes d next keeps = by d.ended

@@ -1,5 +1,5 @@
 -- The segment that is kept, after a call of one station.
-use Rattle.std.proofs.Common.{◌≡◌, ℕ, ◌<◌, Bool, true, false, cond, not, List, [], length, set, get_or, Some, None, Result, Ok, Err, refl, sym, ap, ◌∙◌, arith, rules, length-set}
+use Rattle.std.proofs.Common.{◌≡◌, ℕ, ◌<◌, ◌≤◌, Bool, true, false, cond, not, nat_lt, List, [], length, set, get_or, Some, None, Result, Ok, Err, IsOk, refl, sym, ap, ◌∙◌, subst, arith, rules, length-set}
 use Rattle.std.specs.Prelude.{slice_get}
 use Rattle.std.specs.Vec.{with_item}
 use Rattle.std.proofs.lemmas.List.{set-get_or}
@@ -7,7 +7,7 @@ use Rattle.std.proofs.lemmas.Option.{slice_get_read, same_Some}
 use Rattle.bus_frame.specs.Frames.{CanFrame}
 use Rattle.bus_order.specs.Bus as bus
 use Rattle.tx_queue.specs.Queue.{free_places}
-use Rattle.std.proofs.lemmas.Bool.{eqb-true}
+use Rattle.std.proofs.lemmas.Bool.{eqb-true, le-ltb}
 use Rattle.segment_law.specs.declared.counts.Counts.{Counts}
 use Rattle.pgn_ids.specs.declared.address.Address.{Address}
 use Rattle.port_table.specs.Ports.{Ports, is_open, are_full, opening, with_port, next_id}
@@ -16,16 +16,20 @@ use Rattle.station_lanes.specs.declared.event.Event.{Event}
 use Rattle.station_core.specs.Station.{Station, StationStep}
 use Rattle.station_core.specs.Taking.{is_malformed_for, taken}
 use Rattle.station_core.specs.Closing.{closed}
+use Rattle.station_core.specs.Overruns.{overrun}
 use Rattle.station_core.specs.Timers.{is_due, fired}
 use Rattle.station_core.specs.Taking as taking
 use Rattle.segment_law.specs.Readers.{frame_for, wanted_with}
+use Rattle.segment_core.specs.Answers.{IsAnswer}
 use Rattle.segment_core.specs.Looks.{firing_refusal}
+use Rattle.segment_core.specs.declared.stop.Stop.{Stop}
+use Rattle.segment_core.specs.declared.stop.Stop.TheVariants.{OutOfMemory}
 use Rattle.segment_law.specs.Segment.{Segment, place_of, with_station, counted, counted_look, counted_repeat}
-use Rattle.segment_law.specs.Calls.{Answer, at_address, stepped, no_place, looks, opens, closes, fires, takes_by, takes, repeats_by, repeats}
+use Rattle.segment_law.specs.Calls.{Answer, at_address, stepped, no_place, looks, opens, closes, fires, takes_by, takes, repeats_by, repeats, overruns}
 use Rattle.segment_law.specs.declared.reply.Reply.{Reply}
 use Rattle.segment_law.specs.declared.reply.Reply.TheVariants.{Done, Opened}
 use Rattle.segment_law.specs.declared.refusal.Refusal.{Refusal}
-use Rattle.segment_law.specs.declared.refusal.Refusal.TheVariants.{NoSuchPort, TxFull, NothingDue, PortsFull as PortsFullCause}
+use Rattle.segment_law.specs.declared.refusal.Refusal.TheVariants.{NoSuchPort, NothingToTake, TxFull, NothingDue, PortsFull as PortsFullCause}
 use Rattle.segment_core.specs.SegmentFields.{segment_value, IsSegmentInside}
 use Rattle.segment_core.specs.declared.segment.Segment.TheInside.{Inside}
 use Rattle.segment_core.proofs.Stations.{at_is, places_kept}
@@ -54,6 +58,14 @@ inside_moved s i st old b h is same cursors =
 pub at_here : (s : Inside) (seg : Segment) (a : Address) (i : ℕ) (old : Station) (call : ℕ → Station → Answer) → segment_value s ≡ seg → Some i ≡ place_of seg a → i < length seg.stations → old ≡ get_or s.stations.items i old → at_address seg a call ≡ call i old
 at_here s seg a i old call view here within is =
     at_is seg a i old call (sym here) (slice_get_read seg.stations (length seg.stations) i old refl within (is ∙ ap (λ (x : Segment). get_or x.stations i old) view))
+
+-- where the station's call isn't refused, neither is that of its address
+pub passes_here : (s : Inside) (seg : Segment) (a : Address) (i : ℕ) (old : Station) (call : ℕ → Station → Answer) → segment_value s ≡ seg → Some i ≡ place_of seg a → i < length seg.stations → old ≡ get_or s.stations.items i old → IsOk (call i old) → IsOk (at_address seg a call)
+passes_here s seg a i old call view here within is passes = subst (λ (x : Answer). IsOk x) (sym (at_here s seg a i old call view here within is)) passes
+
+-- a call that found no memory, though it isn't refused
+pub no_memory : (answer : Answer) (before after : Segment) (r : Result Reply Stop) → r ≡ Err OutOfMemory → IsOk answer × (after ≡ before) → IsAnswer answer before after r
+no_memory answer before after r e h = subst (λ (x : Result Reply Stop). IsAnswer answer before after x) (sym e) h
 
 abbrev pub said : Segment → Reply → Answer
 said seg reply = Ok (seg, reply)
@@ -90,6 +102,9 @@ pub takes_full : (seg : Segment) (room : Bool) (i : ℕ) (st : Station) (frame :
 takes_full seg room i st frame next full =
     ap (takes_by seg room i st) (sym next) ∙ ap (λ b. cond b (Err TxFull) (looks (record seg { bus = bus.released (bus.taken seg.bus i) }) room i st frame)) full
 
+pub takes_pass : (seg : Segment) (room : Bool) (i : ℕ) (st : Station) (frame : CanFrame) → Some frame ≡ bus.next_frame seg.bus i → no_place st ≡ false → IsOk (takes seg room i st)
+takes_pass seg room i st frame next place = subst (λ (x : Answer). IsOk x) (sym (takes_is seg room i st frame (taken st frame room seg.now) next place refl)) refl
+
 -- a TakeAgain
 pub repeats_is : (seg : Segment) (room : Bool) (i : ℕ) (st : Station) (frame : CanFrame) (step : StationStep) → Some frame ≡ bus.frame_again seg.bus i → no_place st ≡ false → taken st frame room seg.now ≡ step
     → repeats seg room i st ≡ Ok (record { now = seg.now; stations = set seg.stations i step.station; bus = seg.bus; counts = counted (counted_look (counted_repeat seg.counts) (is_malformed_for st frame)) step.events }, Done step.events)
@@ -102,6 +117,17 @@ pub repeats_full : (seg : Segment) (room : Bool) (i : ℕ) (st : Station) (frame
 repeats_full seg room i st frame again full =
     ap (repeats_by seg room i st) (sym again) ∙ ap (λ b. cond b (Err TxFull) (looks (record seg { counts = counted_repeat seg.counts }) room i st frame)) full
 
+pub repeats_pass : (seg : Segment) (room : Bool) (i : ℕ) (st : Station) (frame : CanFrame) → Some frame ≡ bus.frame_again seg.bus i → no_place st ≡ false → IsOk (repeats seg room i st)
+repeats_pass seg room i st frame again place = subst (λ (x : Answer). IsOk x) (sym (repeats_is seg room i st frame (taken st frame room seg.now) again place refl)) refl
+
+-- an Overrun
+pub overruns_pass : (seg : Segment) (n i : ℕ) (st : Station) → n ≤ bus.waiting seg.bus i → IsOk (overruns seg n i st)
+overruns_pass seg n i st le = by (nat_lt (bus.waiting seg.bus i) n) (le-ltb (bus.waiting seg.bus i) n le)
+  where
+    by : (b : Bool) → b ≡ false → IsOk (cond b (Err NothingToTake) (stepped (record seg { bus = bus.released (bus.passed seg.bus i n) }) i (overrun st)))
+    by true e = absurd cc
+    by false e = refl
+
 -- a firing
 pub fires_is : (seg : Segment) (i : ℕ) (st : Station) (step : StationStep) → firing_refusal st seg.now ≡ None → fired st seg.now ≡ step → fires seg i st ≡ stepped seg i step
 fires_is seg i st step due is = by (is_due st seg.now) (no_place st) due ∙ ap (stepped seg i) is
@@ -110,6 +136,9 @@ fires_is seg i st step due is = by (is_due st seg.now) (no_place st) due ∙ ap 
     by true false e = refl
     by true true e = absurd cc
     by false p e = absurd cc
+
+pub fires_pass : (seg : Segment) (i : ℕ) (st : Station) → firing_refusal st seg.now ≡ None → IsOk (fires seg i st)
+fires_pass seg i st due = subst (λ (x : Answer). IsOk x) (sym (fires_is seg i st (fired st seg.now) due refl)) refl
 
 pub fires_refused : (seg : Segment) (i : ℕ) (st : Station) (cause : Refusal) → firing_refusal st seg.now ≡ Some cause → fires seg i st ≡ Err cause
 fires_refused seg i st cause due = by (is_due st seg.now) (no_place st) due

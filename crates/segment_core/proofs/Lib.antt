@@ -4,6 +4,7 @@ pub mod Placing
 pub mod Stations
 pub mod Kept
 pub mod Refusals
+pub mod Causes
 pub mod Pumping
 pub mod Records
 pub mod Joining

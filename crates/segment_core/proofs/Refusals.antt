@@ -1,5 +1,5 @@
 -- Why calls on a station are refused.
-use Rattle.std.proofs.Common.{◌≡◌, ℕ, Bool, true, false, List, Some, None, Result, Ok, Err, length, ◌+◌, refl, subst, rules, arith}
+use Rattle.std.proofs.Common.{◌≡◌, ℕ, Bool, true, false, List, Some, None, Result, Ok, Err, IsOk, length, ◌+◌, refl, sym, subst, rules, arith}
 use Rattle.pgn_ids.specs.declared.address.Address.{Address}
 use Rattle.port_table.specs.Ports.{opening, closing, pausing, resuming}
 use Rattle.port_table.specs.declared.port.PauseError.TheVariants as pause
@@ -12,7 +12,7 @@ use Rattle.lane_core.specs.Lane.{is_full}
 use Rattle.station_core.specs.Station.{Station}
 use Rattle.station_core.specs.Sending.{lane_of, sent}
 use Rattle.segment_law.specs.Segment.{Segment, with_station}
-use Rattle.segment_law.specs.Calls.{opens, closes, pauses, resumes, sends}
+use Rattle.segment_law.specs.Calls.{Answer, opens, closes, pauses, resumes, sends}
 use Rattle.segment_law.specs.declared.refusal.Refusal.{Refusal}
 use Rattle.segment_law.specs.declared.refusal.Refusal.TheVariants as refusal
 use Rattle.segment_law.specs.declared.reply.Reply.TheVariants.{Sent}
@@ -44,6 +44,9 @@ send_full seg to pgn bytes i st e full = grind arith
 
 pub send_done : (seg : Segment) (to : Address) (pgn : ℕ) (bytes : List ℕ) (i : ℕ) (st : Station) → sending_refusal st.address to (length bytes) ≡ None → is_full (lane_of st to) ≡ false → sends seg to pgn bytes i st ≡ Ok (with_station seg i (sent st to pgn bytes), Sent ((lane_of st to).sent + 1))
 send_done seg to pgn bytes i st e room = grind arith
+
+pub send_passes : (seg : Segment) (to : Address) (pgn : ℕ) (bytes : List ℕ) (i : ℕ) (st : Station) → sending_refusal st.address to (length bytes) ≡ None → is_full (lane_of st to) ≡ false → IsOk (sends seg to pgn bytes i st)
+send_passes seg to pgn bytes i st e room = subst (λ (x : Answer). IsOk x) (sym (send_done seg to pgn bytes i st e room)) refl
 
 -- a lane that took a message wasn't full
 pub not_full : (full : Bool) (r : Result ℕ PushRefused) (number : ℕ) → r ≡ Ok number → (full ≡ true → IsErr r) → full ≡ false

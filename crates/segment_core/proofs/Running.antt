@@ -1,14 +1,14 @@
 -- Calls that are made one after another.
-use Rattle.std.proofs.Common.{◌≡◌, ℕ, ◌+◌, List, [], ◌∷◌, ◌++◌, length, refl, sym, ap, ◌∙◌, subst, append_assoc, arith}
+use Rattle.std.proofs.Common.{◌≡◌, ℕ, ◌+◌, List, [], ◌∷◌, ◌++◌, length, drop, IsOk, refl, sym, ap, ◌∙◌, subst, append_assoc, arith}
 use Rattle.std.proofs.lemmas.List.{append-nil}
 use Rattle.std.proofs.lemmas.List.{length_push}
 use Rattle.pgn_ids.specs.declared.address.Address.{Address}
 use Rattle.segment_law.specs.Segment.{Segment}
-use Rattle.segment_law.specs.Calls.{applied}
+use Rattle.segment_law.specs.Calls.{called, applied}
 use Rattle.segment_law.specs.Record.{Record, StandsAt, replies_from, after}
 use Rattle.segment_law.specs.declared.call.Call.{Call}
 use Rattle.segment_law.specs.declared.reply.Reply.{Reply}
-use Rattle.segment_core.specs.Runs.{steps_of}
+use Rattle.segment_core.specs.Runs.{steps_of, FirstIsNotRefused}
 
 -- what was made of these calls, and which are left
 pub record Made (before : Segment) (all made rest : List Call) (seg : Segment) (replies : List Reply) : Type 0 where
@@ -64,3 +64,14 @@ pub made_stands : (before : Segment) (all made rest : List Call) (seg : Segment)
 made_stands before all made rest seg replies h addresses steps s =
     let same : steps_of made replies ≡ steps_of all replies = sym (steps_front made rest replies h.count) ∙ ap (λ (cs : List Call). steps_of cs replies) h.calls in
     subst (λ (ss : Record). StandsAt addresses (steps ++ ss) seg) same (h.stands addresses steps s)
+
+-- the first call that wasn't made
+drop_front : (made rest : List Call) → drop (length made) (made ++ rest) ≡ rest
+drop_front [] rest = refl
+drop_front (c ∷ made) rest = drop_front made rest
+
+pub next_passes : (before : Segment) (all made rest : List Call) (seg next : Segment) (replies : List Reply) (call : Call) → Made before all made (call ∷ rest) seg replies → next ≡ seg → IsOk (called seg call) → FirstIsNotRefused next (drop (length replies) all)
+next_passes before all made rest seg next replies call h same ok =
+    let left : call ∷ rest ≡ drop (length replies) all =
+    sym (drop_front made (call ∷ rest)) ∙ (λ i. drop (sym h.count i) (h.calls i)) in
+    subst (λ (cs : List Call). FirstIsNotRefused next cs) left (subst (λ (s : Segment). IsOk (called s call)) (sym same) ok)

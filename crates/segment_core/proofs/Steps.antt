@@ -1,5 +1,5 @@
 -- The calls of the code as steps of a drive.
-use Rattle.std.proofs.Common.{◌≡◌, ℕ, ◌+◌, ◌<◌, ◌≤◌, ◌==◌, Bool, true, false, cond, nat_lt, List, [], ◌∷◌, ◌++◌, length, map, set, get_or, Option, Some, None, Result, Ok, Err, refl, sym, ap, ◌∙◌, subst, arith, length-set}
+use Rattle.std.proofs.Common.{◌≡◌, ℕ, ◌+◌, ◌<◌, ◌≤◌, ◌==◌, Bool, true, false, cond, nat_lt, List, [], ◌∷◌, ◌++◌, length, map, set, get_or, Option, Some, None, Result, Ok, Err, IsOk, refl, sym, ap, ◌∙◌, subst, arith, length-set}
 use Rattle.std.proofs.lemmas.List.{append-nil}
 use Rattle.std.specs.Prelude.{slice_get, position, option_to_list, unwrap_or}
 use Rattle.std.specs.List.{position_or_len}
@@ -26,7 +26,7 @@ use Rattle.lane_core.specs.Pump.{missing}
 use Rattle.std.specs.FinMap.{get-empty}
 use Rattle.station_core.specs.Taking as taking
 use Rattle.segment_law.specs.Segment.{Segment, place_of, station_at, waiting_at}
-use Rattle.segment_law.specs.Calls.{Answer, called, applied, events_of, is_call, at_station, at_place, at_address, no_place, looks, takes_by, takes, transmits_by, transmits, pumps_by, pump_places, pumps, ticks}
+use Rattle.segment_law.specs.Calls.{Answer, called, replied, applied, events_of, is_call, at_station, at_place, at_address, no_place, looks, takes_by, takes, transmits_by, transmits, pumps_by, pump_places, pumps, ticks}
 use Rattle.segment_law.specs.Drive.{Driven, end_by, with_call, stops_at, pumps_again, goes_on, makes, makes_call, with_put, puts_from, puts, has_queued, last_take, takes_all}
 use Rattle.segment_law.specs.Drive as drive
 use Rattle.segment_law.specs.declared.call.Call.{Call}
@@ -38,13 +38,13 @@ use Rattle.segment_law.specs.declared.reply.Reply.{Reply}
 use Rattle.segment_law.specs.declared.reply.Reply.TheVariants.{Done}
 use Rattle.segment_law.specs.declared.reply.Reply.TheVariants as reply
 use Rattle.segment_law.proofs.Buses.{frame_past, frame_within}
-use Rattle.segment_core.specs.Answers.{IsAnswer}
+use Rattle.segment_core.specs.Answers.{IsAnswer, refusal_of}
 use Rattle.segment_core.specs.Transmits.{put_by}
 use Rattle.segment_core.specs.Drives.{IsShown, GoesOn, HasGone, IsFollowed, HasTaken, too_soon}
 use Rattle.segment_core.specs.declared.stop.Stop.{Stop}
 use Rattle.segment_core.specs.declared.stop.Stop.TheVariants.{Refused, OutOfMemory}
 use Rattle.segment_core.proofs.Addresses.{taken_keeps}
-use Rattle.segment_core.proofs.Drives.{shown_step, shown_call, ok_applied, err_applied, on_pumps, shown_ok, shown_err, goes, stays, on_trans, on_goes, on_makes_call, on_put}
+use Rattle.segment_core.proofs.Drives.{shown_step, shown_call, ok_applied, err_applied, shown_ok, shown_err, goes, stays, by_trans, by_makes_call, on_goes, on_makes_call, on_put}
 
 -- What the calls are
 
@@ -141,16 +141,18 @@ made start d seg next put told more call answer reply h fit is ok tells more_is 
 pub stopped : (start : Segment) (d : Driven) (seg next : Segment) (put : List CanFrame) (told : List Event) (call : Call) (answer : Answer) (stop : Stop) → IsShown None start d seg put told → is_call call ≡ true → called seg call ≡ answer → IsAnswer answer seg next (Err stop) → HasGone start (makes_call call d) next put told (Err stop)
 stopped start d seg next put told call answer (Refused cause) h fit is e =
     subst (λ (s : Segment). IsShown (Some (end_by cause)) start (makes_call call d) s put told) (sym e.1) (shown_err start d seg put told call cause h fit (is ∙ e.0))
-stopped start d seg next put told call answer OutOfMemory h fit is e = record { made = d; shown = subst (λ (s : Segment). IsShown None start d s put told) (sym e) h; on = on_makes_call d call }
+stopped start d seg next put told call answer OutOfMemory h fit is e = record {
+  made = d;
+  shown = subst (λ (s : Segment). IsShown None start d s put told) (sym e.1) h;
+  call = call;
+  not_refused = subst (λ (s : Segment). IsOk (called s call)) (sym e.1) (subst (λ (x : Answer). IsOk x) (sym is) e.0);
+  on = by_makes_call d call;
+}
 
 -- a step that stopped, and then the drive stays
 pub stays_stopped : (start : Segment) (d whole : Driven) (seg : Segment) (put : List CanFrame) (told : List Event) (stop : Stop) → HasGone start d seg put told (Err stop) → ((end : DriveEnd) → d.ended ≡ Some end → whole ≡ d) → GoesOn d whole → HasGone start whole seg put told (Err stop)
 stays_stopped start d whole seg put told (Refused cause) h stay on = subst (λ (x : Driven). IsShown (Some (end_by cause)) start x seg put told) (sym (stay (end_by cause) h.end)) h
-stays_stopped start d whole seg put told OutOfMemory h stay on = record { made = h.made; shown = h.shown; on = on_trans h.made d whole h.on on }
-
--- no room for what the next call tells
-pub no_room : (start : Segment) (d whole : Driven) (seg : Segment) (put : List CanFrame) (told : List Event) (stop : Stop) → stop ≡ OutOfMemory → IsShown None start d seg put told → GoesOn d whole → HasGone start whole seg put told (Err stop)
-no_room start d whole seg put told stop e h on = subst (λ (s : Stop). HasGone start whole seg put told (Err s)) (sym e) (record { made = d; shown = h; on = on })
+stays_stopped start d whole seg put told OutOfMemory h stay on = record { made = h.made; shown = h.shown; call = h.call; not_refused = h.not_refused; on = by_trans h.call h.made d whole h.on on }
 
 -- the same of a drive that hasn't ended
 pub gone_on : (start : Segment) (d : Driven) (next : Driven → Driven) (seg : Segment) (put : List CanFrame) (told : List Event) (result : Result (Unit {0}) Stop) → d.ended ≡ None → HasGone start (next d) seg put told result → HasGone start (goes_on d next) seg put told result
@@ -287,45 +289,32 @@ has_taken seg next a reply h ok = by_place (place_of seg a) refl ok
 
 -- Pumps
 
-again_is : (from to : Address) (x : Driven) (cause : Refusal) → too_soon (Refused cause) ≡ false → pumps_again from to (reply.Refused cause) x ≡ stops_at x (reply.Refused cause)
-again_is from to x refusal.NotYet e = absurd cc
-again_is from to x cause e = refl
+soon_is : (answer : Answer) → too_soon (refusal_of answer) ≡ true → answer ≡ Err refusal.NotYet
+soon_is (Ok step) e = absurd cc
+soon_is (Err refusal.NotYet) e = refl
+soon_is (Err cause) e = absurd cc
 
-soon_is : (stop : Stop) → too_soon stop ≡ true → stop ≡ Refused refusal.NotYet
-soon_is (Refused refusal.NotYet) e = refl
-soon_is stop e = absurd cc
+-- a lane that isn't too soon is pumped once
+pub pumps_once : (d : Driven) (seg : Segment) (from to : Address) → seg ≡ d.segment → d.ended ≡ None → too_soon (refusal_of (at_address seg from (pumps seg to))) ≡ false → makes d (Pump from to) ≡ drive.pumps from to d
+pumps_once d seg from to same none soon =
+    let call : Call = Pump from to in
+    let is : called d.segment call ≡ at_address d.segment from (pumps d.segment to) = called_pump d.segment from to in
+    let late : too_soon (refusal_of (called d.segment call)) ≡ false = ap (λ (x : Answer). too_soon (refusal_of x)) is ∙ ap (λ (s : Segment). too_soon (refusal_of (at_address s from (pumps s to)))) (sym same) ∙ soon in
+    goes d (makes_call call) none ∙ sym (by (called d.segment call) (sym is) late (with_call d call (applied d.segment call)))
+  where
+    by : (answer : Answer) → at_address d.segment from (pumps d.segment to) ≡ answer → too_soon (refusal_of answer) ≡ false → (x : Driven) → pumps_again from to (replied d.segment answer).1 x ≡ stops_at x (replied d.segment answer).1
+    by (Ok step) is e x = subst (λ (r : Reply). pumps_again from to r x ≡ stops_at x r) (sym (pump_tells d.segment from to step.0 step.1 is)) refl
+    by (Err refusal.NotYet) is e x = absurd cc
+    by (Err cause) is e x = refl
 
-pub pumps_made : (start : Segment) (d : Driven) (seg next : Segment) (put : List CanFrame) (told more : List Event) (from to : Address) (reply : Reply) → IsShown None start d seg put told → is_call (Pump from to) ≡ true → at_address seg from (pumps seg to) ≡ Ok (next, reply) → more ≡ told ++ events_of reply → IsShown None start (drive.pumps from to d) next put more
-pumps_made start d seg next put told more from to reply h fit ok e =
+pub pumps_later : (start : Segment) (d : Driven) (seg after : Segment) (put more : List CanFrame) (told others : List Event) (from to : Address) (result : Result (Unit {0}) Stop) → IsShown None start d seg put told → is_call (Pump from to) ≡ true → too_soon (refusal_of (at_address seg from (pumps seg to))) ≡ true
+    → ((x : Driven) → IsShown None start x seg put told → HasGone start (makes (makes x (Tick (missing_at (station_at seg from).lanes to.0 seg.now))) (Pump from to)) after more others result) → HasGone start (drive.pumps from to d) after more others result
+pumps_later start d seg after put more told others from to result h fit soon each =
     let call : Call = Pump from to in
     let x : Driven = with_call d call (applied d.segment call) in
-    let tells : Tells reply = pump_tells seg from to next reply ok in
-    let is : applied seg call ≡ (next, reply) = ok_applied seg next call reply (called_pump seg from to ∙ ok) in
-    let shown : IsShown None start x next put more = shown_call start d seg next put told more call reply h fit is e refl in
-    let answer : (applied d.segment call).1 ≡ Done (events_of reply) = ap (λ (s : Segment). (applied s call).1) (sym h.segment) ∙ ap (λ (p : Segment × Reply). p.1) is ∙ tells in
-    subst (λ (r : Reply). IsShown None start (pumps_again from to r x) next put more) (sym answer) shown
-
-pub pumps_stopped : (start : Segment) (d : Driven) (seg next : Segment) (put : List CanFrame) (told : List Event) (from to : Address) (stop : Stop) → IsShown None start d seg put told → is_call (Pump from to) ≡ true → IsAnswer (at_address seg from (pumps seg to)) seg next (Err stop) → too_soon stop ≡ false → HasGone start (drive.pumps from to d) next put told (Err stop)
-pumps_stopped start d seg next put told from to OutOfMemory h fit e soon = record { made = d; shown = subst (λ (s : Segment). IsShown None start d s put told) (sym e) h; on = on_pumps from to d }
-pumps_stopped start d seg next put told from to (Refused cause) h fit e soon =
-    let call : Call = Pump from to in
-    let x : Driven = with_call d call (applied d.segment call) in
-    let is : applied seg call ≡ (seg, reply.Refused cause) = err_applied seg call cause (called_pump seg from to ∙ e.0) in
-    let answer : (applied d.segment call).1 ≡ reply.Refused cause = ap (λ (s : Segment). (applied s call).1) (sym h.segment) ∙ ap (λ (p : Segment × Reply). p.1) is in
-    let same : makes_call call d ≡ drive.pumps from to d =
-    ap (stops_at x) answer ∙ sym (again_is from to x cause soon) ∙ ap (λ (r : Reply). pumps_again from to r x) (sym answer) in
-    subst (λ (y : Driven). HasGone start y next put told (Err (Refused cause))) same (stopped start d seg next put told call (at_address seg from (pumps seg to)) (Refused cause) h fit (called_pump seg from to) e)
-
-pub pumps_later : (start : Segment) (d : Driven) (seg next after : Segment) (put more : List CanFrame) (told others : List Event) (from to : Address) (stop : Stop) (result : Result (Unit {0}) Stop) → IsShown None start d seg put told → is_call (Pump from to) ≡ true → IsAnswer (at_address seg from (pumps seg to)) seg next (Err stop) → too_soon stop ≡ true
-    → ((x : Driven) → IsShown None start x next put told → HasGone start (makes (makes x (Tick (missing_at (station_at next from).lanes to.0 next.now))) (Pump from to)) after more others result) → HasGone start (drive.pumps from to d) after more others result
-pumps_later start d seg next after put more told others from to stop result h fit e soon each =
-    let call : Call = Pump from to in
-    let x : Driven = with_call d call (applied d.segment call) in
-    let refused : IsAnswer (at_address seg from (pumps seg to)) seg next (Err (Refused refusal.NotYet)) = subst (λ (s : Stop). IsAnswer (at_address seg from (pumps seg to)) seg next (Err s)) (soon_is stop soon) e in
-    let is : applied seg call ≡ (seg, reply.Refused refusal.NotYet) = err_applied seg call refusal.NotYet (called_pump seg from to ∙ refused.0) in
+    let is : applied seg call ≡ (seg, reply.Refused refusal.NotYet) = err_applied seg call refusal.NotYet (called_pump seg from to ∙ soon_is (at_address seg from (pumps seg to)) soon) in
     let answer : (applied d.segment call).1 ≡ reply.Refused refusal.NotYet = ap (λ (s : Segment). (applied s call).1) (sym h.segment) ∙ ap (λ (p : Segment × Reply). p.1) is in
-    let here : IsShown None start x seg put told = shown_call start d seg seg put told told call (reply.Refused refusal.NotYet) h fit is (sym (append-nil told)) refl in
-    let shown : IsShown None start x next put told = subst (λ (s : Segment). IsShown None start x s put told) (sym refused.1) here in
+    let shown : IsShown None start x seg put told = shown_call start d seg seg put told told call (reply.Refused refusal.NotYet) h fit is (sym (append-nil told)) refl in
     let gone : HasGone start (makes (makes x (Tick (missing_at (station_at x.segment from).lanes to.0 x.segment.now))) (Pump from to)) after more others result =
     subst (λ (s : Segment). HasGone start (makes (makes x (Tick (missing_at (station_at s from).lanes to.0 s.now))) (Pump from to)) after more others result) shown.segment (each x shown) in
     subst (λ (r : Reply). HasGone start (pumps_again from to r x) after more others result) (sym answer) gone

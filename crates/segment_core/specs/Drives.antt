@@ -1,15 +1,18 @@
 -- What a drive of the code did, beside the drive that the law says.
-use Rattle.std.specs.Prelude.{◌≡◌, List, ◌++◌, length, map, Option, Some, None, Result, Ok, Err, ◌+◌, Bool, true, false, IsTrue}
+use Rattle.std.specs.Prelude.{◌≡◌, List, ◌∷◌, ◌++◌, length, map, Option, Some, None, Result, Ok, Err, IsOk, ◌+◌, Bool, true, false, IsTrue}
 use Rattle.std.specs.List.{list_all}
 use Rattle.bus_frame.specs.Frames.{CanFrame}
 use Rattle.pgn_ids.specs.declared.address.Address.{Address}
 use Rattle.bus_order.specs.Kept.{IsSound}
 use Rattle.station_lanes.specs.declared.event.Event.{Event}
 use Rattle.segment_law.specs.Segment.{Segment, waiting_at}
-use Rattle.segment_law.specs.Calls.{is_call}
-use Rattle.segment_law.specs.Record.{Record, StandsAt, replies_from, after, calls_of, replies_of}
+use Rattle.segment_law.specs.Calls.{called, is_call}
+use Rattle.segment_law.specs.Record.{Step, Record, StandsAt, replies_from, after, calls_of, replies_of}
 use Rattle.segment_law.specs.Drive.{Driven, events_in, end_by, end_of}
+use Rattle.segment_law.specs.declared.call.Call.{Call}
 use Rattle.segment_law.specs.declared.end.DriveEnd.{DriveEnd}
+use Rattle.segment_law.specs.declared.refusal.Refusal.{Refusal}
+use Rattle.segment_law.specs.declared.reply.Reply.{Reply}
 use Rattle.segment_core.specs.declared.stop.Stop.{Stop}
 use Rattle.segment_core.specs.declared.stop.Stop.TheVariants.{Refused, OutOfMemory}
 use Rattle.segment_core.specs.declared.driven.Driven as ran
@@ -30,12 +33,14 @@ pub record IsDriven (d : Driven) (seg : Segment) (done : ran.Driven) : Type 0 wh
   pub segment : seg ≡ d.segment
 
 -- what was done before a call found no memory: the first of the drive's calls, and the first of its frames, which are those
--- that these calls put
+-- that these calls put; the next call isn't refused
 pub record IsBegun (d : Driven) (before seg : Segment) (done : ran.Driven) : Type 0 where
   pub made : Record
+  pub next : Step
   pub rest : Record
   pub later : List CanFrame
-  pub calls : made ++ rest ≡ d.calls
+  pub calls : made ++ next ∷ rest ≡ d.calls
+  pub not_refused : IsOk (called seg next.0)
   pub frames : done.frames ++ later ≡ d.frames
   pub transmits : done.frames ≡ transmitted before made
   pub turns : done.turns ≡ length done.frames
@@ -51,9 +56,9 @@ stop_end (Refused cause) = end_by cause
 stop_end OutOfMemory = end.OutOfMemory
 
 -- a call is refused only because it came too soon
-abbrev pub too_soon : Stop → Bool
-too_soon (Refused refusal.NotYet) = true
-too_soon stop = false
+abbrev pub too_soon : Option Refusal → Bool
+too_soon (Some refusal.NotYet) = true
+too_soon cause = false
 
 -- these frames and events are those of a drive that began at a segment and stands at another
 pub record IsShown (ended : Option DriveEnd) (start : Segment) (d : Driven) (seg : Segment) (put : List CanFrame) (told : List Event) : Type 0 where
@@ -78,13 +83,23 @@ pub record GoesOn (e d : Driven) : Type 0 where
   pub calls : e.calls ++ rest ≡ d.calls
   pub frames : e.frames ++ later ≡ d.frames
 
--- the code stands before the end of a step
+-- the same, and the first of these calls is this one
+pub record GoesOnBy (call : Call) (e d : Driven) : Type 0 where
+  pub reply : Reply
+  pub rest : Record
+  pub later : List CanFrame
+  pub calls : e.calls ++ (call, reply) ∷ rest ≡ d.calls
+  pub frames : e.frames ++ later ≡ d.frames
+
+-- the code stands before the end of a step, at a call that isn't refused
 pub record IsCut (start : Segment) (d : Driven) (seg : Segment) (put : List CanFrame) (told : List Event) : Type 0 where
   pub made : Driven
   pub shown : IsShown None start made seg put told
-  pub on : GoesOn made d
+  pub call : Call
+  pub not_refused : IsOk (called seg call)
+  pub on : GoesOnBy call made d
 
--- the code did a step of the drive, or its refused call ended it, or it found no memory before its end
+-- the code did a step of the drive, or its refused call ended it, or a call that isn't refused found no memory
 abbrev pub HasGone : (start : Segment) (next : Driven) (seg : Segment) (put : List CanFrame) (told : List Event) → Result (Unit {0}) Stop → Type 0
 HasGone start next seg put told (Ok _) = IsShown None start next seg put told
 HasGone start next seg put told (Err (Refused cause)) = IsShown (Some (end_by cause)) start next seg put told

@@ -9,3 +9,4 @@ pub mod Runs
 pub mod Transmits
 pub mod Drives
 pub mod Undisturbed
+pub mod Promise

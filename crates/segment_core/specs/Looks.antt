@@ -18,11 +18,11 @@ pub record IsLooked (st : Station) (frame : CanFrame) (room : Bool) (now : ℕ) 
   pub step : taken st frame room now ≡ record { station = next; events = looked.events }
   pub malformed : looked.is_malformed ≡ is_malformed_for st frame
 
--- a station takes a frame; where no place is free or memory is refused, it is as it was
+-- a station takes a frame; where no place is free, and where it finds no memory though one is free, it is as it was
 abbrev pub IsLook : Station → CanFrame → (room : Bool) → (now : ℕ) → Station → Result look.Taken Stop → Type 0
 IsLook st frame room now next (Ok looked) = IsLooked st frame room now next looked
 IsLook st frame room now next (Err (Refused cause)) = (no_place st ≡ true) × (cause ≡ TxFull) × (next ≡ st)
-IsLook st frame room now next (Err OutOfMemory) = next ≡ st
+IsLook st frame room now next (Err OutOfMemory) = (no_place st ≡ false) × (next ≡ st)
 
 -- why no timer is fired: the first that holds
 abbrev pub firing_refusal : Station → (now : ℕ) → Option Refusal
@@ -33,8 +33,8 @@ pub record IsFired (st : Station) (now : ℕ) (next : Station) (events : List Ev
   pub due : firing_refusal st now ≡ None
   pub step : fired st now ≡ record { station = next; events = events }
 
--- a station fires a timer, or is as it was
+-- a station fires a timer; where it is refused, and where it finds no memory though it isn't, it is as it was
 abbrev pub IsFire : Station → (now : ℕ) → Station → Result (List Event) Stop → Type 0
 IsFire st now next (Ok events) = IsFired st now next events
 IsFire st now next (Err (Refused cause)) = (firing_refusal st now ≡ Some cause) × (next ≡ st)
-IsFire st now next (Err OutOfMemory) = next ≡ st
+IsFire st now next (Err OutOfMemory) = (firing_refusal st now ≡ None) × (next ≡ st)

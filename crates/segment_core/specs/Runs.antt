@@ -1,6 +1,7 @@
 -- What a list of calls was answered.
-use Rattle.std.specs.Prelude.{◌≡◌, ◌≤◌, List, [], ◌∷◌, length, take}
+use Rattle.std.specs.Prelude.{◌≡◌, ◌≤◌, List, [], ◌∷◌, length, take, IsOk}
 use Rattle.segment_law.specs.Segment.{Segment}
+use Rattle.segment_law.specs.Calls.{called}
 use Rattle.segment_law.specs.Record.{Record, replies_from, after}
 use Rattle.segment_law.specs.declared.call.Call.{Call}
 use Rattle.segment_law.specs.declared.reply.Reply.{Reply}
@@ -16,3 +17,8 @@ pub record IsRun (before : Segment) (calls : List Call) (seg : Segment) (replies
   pub within : length replies ≤ length calls
   pub replied : replies ≡ replies_from before (take (length replies) calls)
   pub segment : seg ≡ after before (take (length replies) calls)
+
+-- there is a first of these calls, and it isn't refused
+abbrev pub FirstIsNotRefused : Segment → List Call → Type 0
+FirstIsNotRefused seg [] = ⊥
+FirstIsNotRefused seg (call ∷ calls) = IsOk (called seg call)

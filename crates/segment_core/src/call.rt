@@ -1,12 +1,14 @@
 //! One call on a segment.
-ghost use Rattle.std.specs.Prelude.{◌≡◌, ℕ, ◌<◌, ◌∷◌, ◌++◌, [], true, slice_index, List, IfOk, OnErr};
+ghost use Rattle.std.specs.Prelude.{◌≡◌, ℕ, ◌<◌, ◌∷◌, ◌++◌, [], true, slice_index, List, IfOk, OnErr, IsOk};
 ghost use Rattle.segment_law.specs.Calls.{are_bytes, is_address, is_call, called, applied};
 ghost use Rattle.segment_law.specs.Record.{Record, StandsAt};
 ghost use Rattle.pgn_ids.specs.declared.address.Address.{Address as AddressValue};
 ghost use Rattle.segment_core.specs.Answers.{IsAnswer};
+ghost use Rattle.segment_core.specs.Promise.{KeepsPromise};
 
 use crate::segment::Segment;
 use crate::stop::Stop;
+use headline_law::the_headline_holds;
 use pgn_ids::Address;
 use segment_law::{Call, Reply};
 use std::alloc::AllocError;
@@ -56,13 +58,17 @@ fn fits(call: &Call)
 impl Segment {
     /// Makes one call: one atomic step. A refused call is answered by the first of its causes, and changes nothing.
     ///
-    /// Want of memory changes nothing either, and then the call is no step. The call is spent in each case: who wants to
-    /// make it again keeps a copy.
+    /// Want of memory changes nothing either, and then the call is no step: it is answered only for a call that isn't
+    /// refused. The call is spent in each case: who wants to make it again keeps a copy.
     pub fn apply(&mut self, call: Call) -> Result<Reply, AllocError>
         ensures ok { IfOk result (λ reply. applied self.old call ≡ (self.new, reply)) }
         ensures err { OnErr result (self.new ≡ self.old) }
+        ensures not_refused { OnErr result (IsOk (called self.old call)) }
         ensures stands { (addresses : List AddressValue) (steps : Record) → StandsAt addresses steps self.old → IfOk result (λ reply. StandsAt addresses (steps ++ (call, reply) ∷ []) self.new) }
+        ensures headline { KeepsPromise self.new }
     {
+        // A law, for the last clause: the call does nothing.
+        the_headline_holds();
         fits(&call);
         match self.call(call) {
             Ok(reply) => Ok(reply),

@@ -1,6 +1,5 @@
 //! Driving one lane, turn by turn.
-ghost use Rattle.std.specs.Prelude.{◌≡◌, ◌≢◌, ◌<◌, ◌++◌, List, length, None, true, OnOk, slice_index_or, vec_len, vec_capacity};
-ghost use Rattle.pgn_ids.specs.Address.{global_address};
+ghost use Rattle.std.specs.Prelude.{◌≡◌, ◌≢◌, ◌<◌, ◌++◌, List, length, None, true, OnOk, slice_index_or};
 ghost use Rattle.pgn_ids.specs.declared.address.Address.{Address};
 ghost use Rattle.lane_core.specs.declared.message.Pending.{Pending};
 ghost use Rattle.station_lanes.specs.LaneReaders.{missing_at};
@@ -11,6 +10,7 @@ ghost use Rattle.segment_law.specs.Drive.{Driven as Drive, driven, makes, makes_
 ghost use Rattle.segment_law.specs.declared.call.Call.TheVariants.{Pump, Take, Tick};
 ghost use Rattle.segment_law.specs.declared.end.DriveEnd.TheVariants as end;
 ghost use Rattle.segment_core.specs.Drives.{IsDriven, IsBegun, IsCourse, Went, IsFollowed, HasTaken, addresses_of, stop_end, too_soon};
+ghost use Rattle.segment_core.specs.Promise.{KeepsPromise};
 ghost use Rattle.segment_core.specs.Undisturbed.{IsQuietDrive};
 
 use crate::call::one_byte;
@@ -18,8 +18,9 @@ use crate::course::Course;
 use crate::driven::Driven;
 use crate::segment::Segment;
 use crate::stop::Stop;
+use exchange_law::messages_are_undisturbed;
+use headline_law::the_headline_holds;
 use pgn_ids::Address;
-use quiet_law::broadcasts_are_undisturbed;
 use segment_law::{DriveEnd, Refusal};
 
 // How a drive ends where one of its calls isn't done.
@@ -34,11 +35,11 @@ fn end_at(stop: Stop) -> DriveEnd
 }
 
 // Whether a call is refused only because it came too soon.
-fn is_too_soon(stop: Stop) -> bool
-    ensures { result ≡ too_soon stop }
+fn is_too_soon(cause: Option<Refusal>) -> bool
+    ensures { result ≡ too_soon cause }
 {
-    match stop {
-        Stop::Refused(Refusal::NotYet) => true,
+    match cause {
+        Some(Refusal::NotYet) => true,
         _ => false,
     }
 }
@@ -50,22 +51,24 @@ impl Segment {
     /// that one transmits; else the lane is pumped, after a Tick of what is missing to the 50 ticks between the frames of a
     /// broadcast, and `from` transmits. Then every station, by rising address, takes with room until no frame waits for it.
     ///
-    /// It ends after its turns; as idle where the lane has nothing to queue; at another refusal; or where a call finds no
-    /// memory, which then wasn't made. A turn counts once its frame is put.
+    /// It ends after its turns; as idle where the lane has nothing to queue; at another refusal; or at a call that isn't
+    /// refused and for which memory is wanting, which then wasn't made. A turn counts once its frame is put.
     ///
-    /// Where nothing disturbs the first message of a lane to all, as many turns as it has frames put exactly these, tell that
-    /// it was broadcast, give it at each port that takes it, and leave all at rest (SAE J1939-21).
+    /// Where nothing disturbs the first message of a lane, as many turns as its exchange has frames put exactly these, give it at each
+    /// port that takes it, tell that it was acknowledged or broadcast, and leave all at rest (SAE J1939-21; ISO 11783-3).
     pub fn drive(&mut self, from: Address, to: Address, turns: u64) -> Driven
         ensures done { result.end ≢ end.OutOfMemory → IsDriven (driven self.old from to turns) self.new result }
         ensures begun { result.end ≡ end.OutOfMemory → IsBegun (driven self.old from to turns) self.old self.new result }
         ensures stands { (addresses : List Address) (steps : Record) → StandsAt addresses steps self.old → result.end ≢ end.OutOfMemory
             → StandsAt addresses (steps ++ (driven self.old from to turns).calls) self.new }
-        ensures undisturbed { (addresses : List Address) (steps : Record) (m : Pending) → StandsAt addresses steps self.old → to.0 ≡ global_address
+        ensures undisturbed { (addresses : List Address) (steps : Record) (m : Pending) → StandsAt addresses steps self.old
             → IsQuiet self.old from to m → turns ≡ length (quiet m from to) → result.end ≢ end.OutOfMemory
             → IsQuietDrive self.old from to m self.new result }
+        ensures headline { KeepsPromise self.new }
     {
-        // A law, for the last clause: the call does nothing.
-        broadcasts_are_undisturbed();
+        // Laws, for the last two clauses: these calls do nothing.
+        messages_are_undisturbed();
+        the_headline_holds();
         let mut course = Course::new(self.alloc);
         for _ in 0..turns {
             if let Err(stop) = self.turn(from, to, &mut course) {
@@ -104,10 +107,13 @@ impl Segment {
         self.put_one(from, course)
     }
 
-    // A station transmits.
+    // A station transmits. Memory is taken only once it isn't refused.
     fn put_one(&mut self, station: Address, course: &mut Course) -> Result<(), Stop>
         ensures { (start : State) (d : Drive) → IsCourse None start d self.old course.old → Went start (puts d station) self.new course.new result }
     {
+        if let Some(cause) = self.transmit_refusal(station) {
+            return Err(Stop::Refused(cause));
+        }
         course.frames.reserve(1)?;
         let front = self.front(station);
         let _done = self.transmit(station)?;
@@ -120,29 +126,31 @@ impl Segment {
         ensures { (start : State) (d : Drive) → IsCourse None start d self.old course.old → Went start (pumps from to d) self.new course.new result }
     {
         one_byte(to);
-        course.parts.reserve(1)?;
-        match self.pump(from, to) {
-            Ok(reply) => {
-                course.tell(reply);
-                Ok(())
-            }
-            Err(stop) => {
-                if is_too_soon(stop) {
-                    return self.pump_in_time(from, to, course);
-                }
-                Err(stop)
-            }
+        let cause = self.pump_refusal(from, to);
+        if is_too_soon(cause) {
+            return self.pump_in_time(from, to, course);
         }
+        self.pump_once(from, to, course)
     }
 
-    // The lane is pumped after a Tick of what is missing. There is room for what it tells.
+    // The lane is pumped after a Tick of what is missing.
     fn pump_in_time(&mut self, from: Address, to: Address, course: &mut Course) -> Result<(), Stop>
-        requires room { vec_len course.old.parts < vec_capacity course.old.parts }
         ensures { (start : State) (d : Drive) → IsCourse None start d self.old course.old → Went start (makes (makes d (Tick (missing_at (station_at self.old from).lanes to.0 self.old.now))) (Pump from to)) self.new course.new result }
     {
-        one_byte(to);
         let missing = self.missing(from, to);
         let _done = self.tick(missing)?;
+        self.pump_once(from, to, course)
+    }
+
+    // The lane is pumped. Memory is taken only once it isn't refused.
+    fn pump_once(&mut self, from: Address, to: Address, course: &mut Course) -> Result<(), Stop>
+        ensures { (start : State) (d : Drive) → IsCourse None start d self.old course.old → Went start (makes d (Pump from to)) self.new course.new result }
+    {
+        one_byte(to);
+        if let Some(cause) = self.pump_refusal(from, to) {
+            return Err(Stop::Refused(cause));
+        }
+        course.parts.reserve(1)?;
         let reply = self.pump(from, to)?;
         course.tell(reply);
         Ok(())
@@ -160,12 +168,15 @@ impl Segment {
         Ok(())
     }
 
-    // A station takes the next frame, with room.
+    // A station takes the next frame, with room. Memory is taken only once it isn't refused.
     fn take_one(&mut self, station: Address, course: &mut Course) -> Result<(), Stop>
         requires { IsFollowed self.old }
         ensures took { (start : State) (d : Drive) → IsCourse None start d self.old course.old → Went start (makes d (Take station true)) self.new course.new result }
         ensures taken { OnOk result (HasTaken station self.old self.new) }
     {
+        if let Some(cause) = self.take_refusal(station) {
+            return Err(Stop::Refused(cause));
+        }
         course.parts.reserve(1)?;
         let reply = self.take(station, true)?;
         course.tell(reply);

@@ -37,6 +37,14 @@ impl FrameList {
     {
         self.frames.as_slice()
     }
+
+    /// The frames as a vector. It takes no memory.
+    pub fn into_vec(self) -> Vec<Frame>
+        ensures { result.items ≡ self }
+    {
+        let FrameList { frames } = self;
+        frames
+    }
 }
 
 /// The events of several calls, in their order: one part for each call that told something.
@@ -63,7 +71,14 @@ impl EventList {
         EventList { parts }
     }
 
-    /// The events, part by part.
+    /// The events in place, part by part.
+    pub fn parts(&self) -> &[Events]
+        ensures { joined result.now ≡ self.now }
+    {
+        self.parts.as_slice()
+    }
+
+    /// The events as a vector of parts. It takes no memory.
     pub fn into_parts(self) -> Vec<Events>
         ensures { joined result.items ≡ self }
     {

@@ -13,13 +13,12 @@ mod frames;
 mod places;
 mod ports;
 mod readers;
+mod refusing;
 mod run;
 mod segment;
 mod sending;
 mod stop;
 mod taking;
-#[cfg(test)]
-mod tests;
 
 pub use driven::{Driven, EventList, FrameList};
 pub use lane_core::Bytes;

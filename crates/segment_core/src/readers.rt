@@ -2,7 +2,7 @@
 ghost use Rattle.std.specs.Prelude.{◌≡◌, ℕ, ◌<◌, List, length, is_ok, slice_get};
 ghost use Rattle.pgn_ids.specs.declared.address.Address.{Address as AddressValue};
 ghost use Rattle.bus_order.specs.Bus.{bus_len, frame_at};
-ghost use Rattle.segment_law.specs.Segment.{Segment as State, waiting_at};
+ghost use Rattle.segment_law.specs.Segment.{Segment as State, has_station, waiting_at};
 ghost use Rattle.segment_law.specs.Calls.{pumps};
 ghost use Rattle.segment_law.specs.Readers.{queue_len, front_at, pumps_to, next_pump, is_due, wanted, wanted_with, given_by_take, frame_for, rests, is_idle};
 ghost use Rattle.segment_law.specs.Record.{Record, StandsAt};
@@ -32,6 +32,13 @@ impl Segment {
         ensures { result ≡ self.now.now }
     {
         self.clock.now()
+    }
+
+    /// Whether the address is that of a station.
+    pub fn has_station(&self, address: Address) -> bool
+        ensures { result ≡ has_station self.now address }
+    {
+        self.place_of(address).is_some()
     }
 
     /// How many frames wait in a station's transmit queue; 0 where the address isn't a station's.

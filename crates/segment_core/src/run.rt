@@ -1,11 +1,13 @@
 //! A list of calls.
-ghost use Rattle.std.specs.Prelude.{◌≡◌, ◌↔◌, ◌++◌, List, length};
+ghost use Rattle.std.specs.Prelude.{◌≡◌, ◌≢◌, ◌↔◌, ◌++◌, List, [], length, drop};
 ghost use Rattle.pgn_ids.specs.declared.address.Address.{Address};
 ghost use Rattle.segment_law.specs.Record.{Record, StandsAt};
 ghost use Rattle.segment_law.specs.declared.end.RunEnd.TheVariants as run_end;
-ghost use Rattle.segment_core.specs.Runs.{IsRun, steps_of};
+ghost use Rattle.segment_core.specs.Runs.{IsRun, FirstIsNotRefused, steps_of};
+ghost use Rattle.segment_core.specs.Promise.{KeepsPromise};
 
 use crate::segment::Segment;
+use headline_law::the_headline_holds;
 use segment_law::{Call, Reply, RunEnd};
 use std::alloc::Global;
 
@@ -19,15 +21,21 @@ pub struct Ran {
 }
 
 impl Segment {
-    /// Makes calls one after another, up to one that finds no memory. The room for all replies is made first.
+    /// Makes calls one after another, up to one that isn't refused and finds no memory. The room for all replies is made
+    /// first: where there is none, no call is made.
     ///
     /// The calls are spent, those that weren't applied too: who wants to make them again keeps a copy.
     pub fn run(&mut self, calls: Vec<Call>) -> Ran
         ensures ran { IsRun self.old calls.items self.new result.replies.items }
         ensures all { (result.end ≡ run_end.All) ↔ (length result.replies.items ≡ length calls.items) }
+        ensures next { result.end ≡ run_end.OutOfMemory → result.replies.items ≢ []
+            → FirstIsNotRefused self.new (drop (length result.replies.items) calls.items) }
         ensures stands { (addresses : List Address) (steps : Record) → StandsAt addresses steps self.old
             → StandsAt addresses (steps ++ steps_of calls.items result.replies.items) self.new }
+        ensures headline { KeepsPromise self.new }
     {
+        // A law, for the last clause: the call does nothing.
+        the_headline_holds();
         let mut replies = Vec::new(self.alloc);
         if let Err(_) = replies.reserve(calls.len()) {
             return Ran {

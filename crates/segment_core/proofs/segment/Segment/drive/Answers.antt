@@ -25,8 +25,9 @@ returns-in-Err c =
       done = says.done_is;
       begun = says.begun_is;
       stands = says.stands_is;
-      undisturbed = λ addresses steps m stands all quiet many ends.
-          quiet_drive c.broadcasts_are_undisturbed.ensures addresses steps c.args.self.now c.turn.new.self c.args.from c.args.to m c.args.turns c.ended.result stands all quiet many (says.done_is ends);
+      undisturbed = λ addresses steps m stands quiet many ends.
+          quiet_drive c.messages_are_undisturbed.ensures addresses steps c.args.self.now c.turn.new.self c.args.from c.args.to m c.args.turns c.ended.result stands quiet many (says.done_is ends);
+      headline = λ addresses steps. c.the_headline_holds.ensures addresses steps c.turn.new.self;
     }
 
 pub returns : goal.returns
@@ -40,6 +41,7 @@ returns c =
       done = says.done_is;
       begun = says.begun_is;
       stands = says.stands_is;
-      undisturbed = λ addresses steps m stands all quiet many ends.
-          quiet_drive c.broadcasts_are_undisturbed.ensures addresses steps c.args.self.now c.loop.self c.args.from c.args.to m c.args.turns c.ended-2.result stands all quiet many (says.done_is ends);
+      undisturbed = λ addresses steps m stands quiet many ends.
+          quiet_drive c.messages_are_undisturbed.ensures addresses steps c.args.self.now c.loop.self c.args.from c.args.to m c.args.turns c.ended-2.result stands quiet many (says.done_is ends);
+      headline = λ addresses steps. c.the_headline_holds.ensures addresses steps c.loop.self;
     }

@@ -2,7 +2,7 @@ use Rattle.std.proofs.Common.{◌≡◌, sym, ap, ◌∙◌}
 use Rattle.bus_order.specs.Bus.{frame_again}
 use Rattle.station_core.specs.Taking.{taken}
 use Rattle.segment_core.proofs.Addresses.{taken_keeps}
-use Rattle.segment_core.proofs.Kept.{inside_kept, at_here, repeats_is, repeats_full, repeated_view, unchanged_view, refused}
+use Rattle.segment_core.proofs.Kept.{inside_kept, at_here, passes_here, repeats_is, repeats_full, repeats_pass, repeated_view, unchanged_view, refused}
 use Rattle.segment_core.proofs.segment.Segment.take_again.Goals as goal
 
 pub invariant_of-self-2 : goal.invariant_of-self-2
@@ -25,4 +25,12 @@ returns-in-Err-Refused c =
           ∙ repeats_full c.args.self.now c.args.room c.in-Some.place c.index_mut.result.now c.in-Some-again.frame (c.in-Some-again.ensures.frame ∙ ap (λ x. frame_again x.bus c.in-Some.place) c.self.view_is) e.0
           ∙ ap refused (sym e.1),
       unchanged_view c.self.inside _ c.in-Some.place _ c.index_mut.result.now c.self.view_is e.2 c.index_mut.ensures.value,
+    )
+
+pub returns-in-Err-OutOfMemory : goal.returns-in-Err-OutOfMemory
+returns-in-Err-OutOfMemory c =
+    let e = rw c.in-Err-OutOfMemory.field-0-is at c.in-Err-OutOfMemory.ensures in (
+      passes_here c.self.inside _ _ c.in-Some.place c.index_mut.result.now _ c.self.view_is c.in-Some.ensures.value c.in-Some.ensures.within c.index_mut.ensures.value
+          (repeats_pass c.args.self.now c.args.room c.in-Some.place c.index_mut.result.now c.in-Some-again.frame (c.in-Some-again.ensures.frame ∙ ap (λ x. frame_again x.bus c.in-Some.place) c.self.view_is) e.0),
+      unchanged_view c.self.inside _ c.in-Some.place _ c.index_mut.result.now c.self.view_is e.1 c.index_mut.ensures.value,
     )

@@ -1,11 +1,29 @@
-use Rattle.std.proofs.Common.{◌≡◌, None, Err, refl, ap, rules}
+use Rattle.std.proofs.Common.{◌≡◌, None, Err, refl, sym, ap, ◌∙◌, rules}
 use Rattle.segment_core.specs.Joined.{joined}
 use Rattle.segment_law.specs.Drive.{makes}
 use Rattle.segment_law.specs.declared.call.Call.TheVariants.{Take}
 use Rattle.std.specs.Prelude.{true}
+use Rattle.segment_core.specs.declared.stop.Stop.TheVariants.{Refused, OutOfMemory}
+use Rattle.segment_core.proofs.Causes.{cause_refused, no_cause_passes}
 use Rattle.segment_core.proofs.Drives.{relisted}
 use Rattle.segment_core.proofs.Steps.{takes_made, takes_stopped, has_taken, gone_by}
 use Rattle.segment_core.proofs.segment.Segment.take_one.Goals as goal
+
+pub returns-in-Some-clause-took : goal.returns-in-Some-clause-took
+returns-in-Some-clause-took c = λ start d h.
+    let put = c.args.course.now.frames.items in
+    let told = joined c.args.course.now.parts.items in
+    takes_stopped start d c.args.self.now c.args.self.now put told c.args.station (Refused c.in-Some.cause) h (cause_refused _ c.in-Some.cause c.in-Some.ensures, refl)
+
+pub returns-in_err-reserve-clause-took : goal.returns-in_err-reserve-clause-took
+returns-in_err-reserve-clause-took c = λ start d h.
+    let e : c.from_residual.result ≡ Err OutOfMemory = search rules in
+    let put = c.args.course.now.frames.items in
+    let told = joined c.reserve.new.self.items in
+    gone_by start (makes d (Take c.args.station true)) c.args.self.now put told c.from_residual.result OutOfMemory e
+    (takes_stopped start d c.args.self.now c.args.self.now put told c.args.station OutOfMemory
+    (relisted None start d c.args.self.now put put (joined c.args.course.now.parts.items) told refl (ap joined c.reserve.ensures.items) h)
+    (no_cause_passes _ (sym c.in_default.is ∙ c.take_refusal.ensures), refl))
 
 pub returns-in_err-reply-clause-took : goal.returns-in_err-reply-clause-took
 returns-in_err-reply-clause-took c = λ start d h.
