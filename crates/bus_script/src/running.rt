@@ -115,9 +115,9 @@ fn tell<W: Write>(writer: &mut W, text: &[u8]) -> Result<(), ()>
 /// Runs a script: reads its lines to the end of the input, obeys each, and writes and flushes what is printed for it before
 /// the next line is read. It ends at the first fault, at 1,000,001 lines at the latest.
 ///
-/// Where no read or write failed and no memory was refused, exactly the text of the script was written, and the fault is the
-/// script's. Where a read or a write failed, or memory was refused outside a call, a front of that text was written. A call
-/// that finds no memory prints `no memory`, and the run goes on.
+/// Unless the run reports a failed read or write or refused memory, exactly the text of the script was written, and the fault is
+/// the script's. Where it reports a failed read or write, or memory that was refused outside a call and in none, a front of that
+/// text was written. A call that finds no memory prints `no memory`, the run goes on, and then nothing is promised of the text.
 pub fn run_script<R: Read, W: Write>(alloc: Global, reader: &mut R, writer: &mut W) -> Ran
     ensures { IfSome (R.remaining reader.old) (λ script.
         Ended result (W.contents writer.old) (W.contents writer.new) (outcome script)) }

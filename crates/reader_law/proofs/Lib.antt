@@ -1,5 +1,11 @@
 pub mod Wanted
 pub mod Takes
+pub mod Filled
+pub mod Keeping
+pub mod Sessions
+pub mod Walk
+pub mod Lengths
 pub mod Totals
 pub mod Counted
 pub mod Recorded
+pub mod Missed

@@ -64,7 +64,7 @@ module _ (st : Station) (now : ℕ) where
   cm_ports (EtpEoma size pgn) from = lane_ports from (Cm (EtpEoma size pgn))
   cm_ports (EtpAbort reason pgn) from = lane_ports from (Cm (EtpAbort reason pgn))
 
-  wire_ports : (wire : Wire) (from to : Address) → ports_given (wire_taken st wire from to true now).events ≡ (taking.wire_wanted st wire from to).0
+  pub wire_ports : (wire : Wire) (from to : Address) → ports_given (wire_taken st wire from to true now).events ≡ (taking.wire_wanted st wire from to).0
   wire_ports (Cm frame) from to = cm_ports frame from
   wire_ports (Packet k sequence bytes) from to = in_session_ports st.ports (key_of from (packet_kind k to)) now st.sessions (state_at st.sessions (key_of from (packet_kind k to))) k sequence bytes
   wire_ports (Request pgn) from to = refl

@@ -44,6 +44,8 @@ pub(crate) fn shows(
     let mut out = Vec::new(alloc);
     let ran = ran(rt, alloc, script, &mut out, text);
     assert_eq!(rt; out.as_slice(), text.as_bytes());
+    // Who always reports refused memory promises nothing: this run was refused none.
+    assert!(rt; !ran.memory_refused);
     match ran.fault {
         None => {
             assert_eq!(rt; ran.status(), 0);

@@ -135,6 +135,7 @@ impl Segment {
     pub fn wants(&self, station: Address, again: bool) -> (PortSet, u32)
         ensures value { result ≡ wanted self.now station again }
         ensures given { result.0 ≡ (given_by_take self.now station again).0 }
+        ensures whole { (addresses : List AddressValue) (steps : Record) → StandsAt addresses steps self.now → result ≡ given_by_take self.now station again }
     {
         match self.place_of(station) {
             None => (PortSet::empty(), 0),
