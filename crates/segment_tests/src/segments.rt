@@ -53,20 +53,18 @@ fn tells(
     expected: &str,
 ) -> Result<(), Fail> {
     match segment.apply(call)? {
-        Reply::Done(events) => assert_eq!(rt; printed(alloc, events)?.as_str(), expected),
+        Reply::Done(events) => assert_eq!(rt; printed(alloc, &events)?.as_str(), expected),
         reply => panic!(rt; "{reply:?}"),
     }
     Ok(())
 }
 
-fn printed(alloc: Global, events: Events) -> Result<String, Fail> {
+fn printed(alloc: Global, events: &Events) -> Result<String, Fail> {
     let mut text = String::new(alloc);
-    let (first, rest) = events.into_parts();
-    if let Some(event) = first {
-        print_event(&mut text, &event)?;
-    }
-    for event in rest {
-        print_event(&mut text, &event)?;
+    for place in 0..events.len() {
+        if let Some(event) = events.get(place) {
+            print_event(&mut text, event)?;
+        }
     }
     Ok(text)
 }
@@ -115,13 +113,13 @@ fn with_port(rt: &impl Abort, alloc: Global) -> Result<Segment, Fail> {
 // The same with a message of station 21.
 fn with_message(rt: &impl Abort, alloc: Global, to: Address) -> Result<Segment, Fail> {
     let mut segment = with_port(rt, alloc)?;
-    let sent = segment.apply(Call::Send {
+    let send = Call::Send {
         from: A,
         to,
         pgn: feca()?,
         bytes: message(alloc)?,
-    })?;
-    match sent {
+    };
+    match segment.apply(send.copy(alloc)?)? {
         Reply::Sent(number) => assert_eq!(rt; number, 1),
         reply => panic!(rt; "{reply:?}"),
     }
@@ -200,7 +198,7 @@ fn drove(
         assert_eq!(rt; *frame, frame_of(*shown)?);
     }
     let mut text = String::new(alloc);
-    for part in driven.events.into_parts() {
+    for part in driven.events.parts() {
         text.push_str(printed(alloc, part)?.as_str())?;
     }
     assert_eq!(rt; text.as_str(), told);
@@ -269,6 +267,9 @@ fn refusals(rt: HostRuntime) -> Result<(), Fail> {
 fn readers(rt: HostRuntime) -> Result<(), Fail> {
     let alloc = rt.alloc();
     let mut segment = with_message(&rt, alloc, B)?;
+    assert!(rt; segment.has_station(A));
+    assert_eq!(rt; segment.open_refusal(B), None);
+    assert_eq!(rt; segment.open_refusal(Address::GLOBAL), Some(Refusal::NoSuchStation));
     assert!(rt; !segment.is_idle());
     assert_eq!(rt; segment.next_pump(A), Some(B));
     assert_eq!(rt; segment.drive(A, B, 3).turns, 3);
