@@ -269,7 +269,10 @@ fn readers(rt: HostRuntime) -> Result<(), Fail> {
     let mut segment = with_message(&rt, alloc, B)?;
     assert!(rt; segment.has_station(A));
     assert_eq!(rt; segment.open_refusal(B), None);
-    assert_eq!(rt; segment.open_refusal(Address::GLOBAL), Some(Refusal::NoSuchStation));
+    assert_eq!(rt;
+        segment.open_refusal(Address::GLOBAL),
+        Some(Refusal::NoSuchStation)
+    );
     assert!(rt; !segment.is_idle());
     assert_eq!(rt; segment.next_pump(A), Some(B));
     assert_eq!(rt; segment.drive(A, B, 3).turns, 3);
