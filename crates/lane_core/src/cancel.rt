@@ -1,5 +1,5 @@
 //! Messages that are cancelled.
-ghost use Rattle.std.specs.Prelude.{◌≡◌, ◌≤◌, true, length};
+ghost use Rattle.std.specs.Prelude.{◌≡◌, ◌≤◌, ◌↔◌, length, IsSome, IsTrue, OnSome, IfSome, IfNone};
 ghost use Rattle.lane_core.specs.Endings.{numbered, is_front as is_front_of, cancelled as cancelled_lane, queues_abort as queues_abort_of, withdrawn, without_number, place_of};
 ghost use Rattle.lane_core.specs.declared.place.UnderWay.TheVariants.{Nothing};
 
@@ -55,10 +55,23 @@ impl Lane {
         )
     }
 
-    /// Cancels the message with this number, which is pending: a connection under way ends by an abort, a broadcast under
-    /// way without a frame, and one that has not begun leaves the lane otherwise as it was.
-    pub fn cancel(&mut self, number: u64) -> LaneStep
-        requires { numbered self.old.pending number ≡ true }
+    /// Cancels the message with this number: a connection under way ends by an abort, a broadcast under way without a
+    /// frame, and one that has not begun leaves the lane otherwise as it was. None exactly where no message with this
+    /// number is pending, and then nothing changes.
+    pub fn cancel(&mut self, number: u64) -> Option<LaneStep>
+        ensures pending { IsSome result ↔ IsTrue (numbered self.old.pending number) }
+        ensures lane { OnSome result (self.new ≡ (cancelled_lane self.old number).0) }
+        ensures step { IfSome result (λ step. step ≡ (cancelled_lane self.old number).1) }
+        ensures none { IfNone result (self.new ≡ self.old) }
+    {
+        if !self.is_pending(number) {
+            return None;
+        }
+        Some(self.end(number))
+    }
+
+    // The same of a message that is pending.
+    fn end(&mut self, number: u64) -> LaneStep
         ensures lane { self.new ≡ (cancelled_lane self.old number).0 }
         ensures step { result ≡ (cancelled_lane self.old number).1 }
     {

@@ -1,5 +1,5 @@
 //! When the timer of a lane fires.
-ghost use Rattle.std.specs.Prelude.{◌≡◌, true};
+ghost use Rattle.std.specs.Prelude.{◌≡◌};
 ghost use Rattle.lane_core.specs.declared.place.UnderWay.TheVariants.{Nothing};
 ghost use Rattle.lane_core.specs.Pump.{is_lane_due, is_probe_due as is_probe_due_at, probe_fired, fired as fired_lane};
 
@@ -34,10 +34,9 @@ impl Lane {
         }
     }
 
-    /// Its timer fires at tick `now`, where it is due: a connection under way timed out and is aborted; a Request is
-    /// repeated, and after the third one the front message is unreachable.
+    /// Its timer fired at tick `now`, as `is_due` told: a connection under way timed out and is aborted; a Request is
+    /// repeated, and after the third one the front message is unreachable. It looks at no clock.
     pub fn fire(&mut self, now: u64) -> LaneStep
-        requires { is_lane_due self.old now ≡ true }
         ensures lane { self.new ≡ (fired_lane self.old now).0 }
         ensures step { result ≡ (fired_lane self.old now).1 }
     {
@@ -59,7 +58,7 @@ impl Lane {
     {
         match self.standing {
             Standing::Probing { count, timer: _ } if count < MOST_REQUESTS => {
-                self.ask(count + 1, now)
+                self.probe(count + 1, now)
             }
             Standing::Probing { .. } => self.over(Outcome::Unreachable, None),
             _ => LaneStep::none(),

@@ -2,6 +2,8 @@
 ghost use Rattle.std.specs.Prelude.{◌≡◌};
 ghost use Rattle.originator.specs.Readers.{link_of, KeepsLink};
 ghost use Rattle.lane_core.specs.Endings.{overrun as overrun_lane};
+ghost use Rattle.lane_core.specs.Token.{other_token};
+ghost use Rattle.lane_core.specs.declared.probe.Standing.TheVariants.{Settled};
 ghost use Rattle.lane_core.specs.Heard.{heard as heard_lane, answered as answered_lane, connection_heard, abort_heard};
 
 use crate::lane::Lane;
@@ -65,10 +67,17 @@ impl Lane {
     {
         if let Standing::Probing { .. } = self.standing {
             if self.token.is_named(pgn) {
-                self.standing = Standing::Settled;
-                self.token = self.token.other();
+                self.settle();
             }
         }
+    }
+
+    // What was asked for was answered.
+    fn settle(&mut self)
+        ensures { self.new ≡ record self.old { standing = Settled; token = other_token self.old.token } }
+    {
+        self.standing = Standing::Settled;
+        self.token = self.token.other();
     }
 
     /// The station missed frames: a connection under way ends, and nothing is queued. A broadcast and a Request go on.

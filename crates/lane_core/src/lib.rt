@@ -18,7 +18,7 @@ mod tests;
 
 pub use bytes::Bytes;
 pub use lane::Lane;
-pub use message::Pending;
+pub use message::{Pending, longest_to};
 pub use place::UnderWay;
 pub use probe::{Standing, Token};
 pub use refused::{PumpRefused, PushRefused};

@@ -1,9 +1,11 @@
 //! What a lane queues when it is pumped.
-ghost use Rattle.std.specs.Prelude.{◌≡◌, ◌≢◌, ◌≤◌, None};
+ghost use Rattle.std.specs.Prelude.{◌≡◌, ◌≢◌, ◌≤◌, Some};
 ghost use Rattle.lane_core.specs.declared.place.UnderWay.TheVariants.{Nothing, Broadcast, Connection};
 ghost use Rattle.lane_core.specs.declared.probe.Standing.TheVariants.{Settled};
 ghost use Rattle.lane_core.specs.Lane.{kind_for as kind_for_len};
+ghost use Rattle.lane_core.specs.declared.refused.PumpRefused.{PumpRefused};
 ghost use Rattle.lane_core.specs.Shape.{CarriesFront};
+ghost use Rattle.lane_core.specs.Endings.{still};
 ghost use Rattle.lane_core.specs.Pump.{idle_refusal, pump_refusal as refusal_of, missing as missing_of, front_bytes as bytes_of_front, most_requests, request_frame as request_frame_of, probes, idle_pumped, pumped as pumped_lane, pumped_by};
 
 use crate::lane::Lane;
@@ -13,7 +15,7 @@ use crate::refused::PumpRefused;
 use crate::step::LaneStep;
 use bam_session::{BamOut, BamPumped};
 use bus_frame::Frame;
-use originator::{OutState, begin};
+use originator::OutState;
 use pgn_ids::{Address, WirePgn};
 use tick_timers::{PROBE, Timer};
 use tp_wire::constants::TP_MAX_SIZE;
@@ -63,11 +65,13 @@ impl Lane {
     }
 
     /// Queues what comes next at tick `now`: the first frame of the front message, or of a round of Requests where the
-    /// lane is in doubt; the next packet of a broadcast; the next part of a connection's window.
+    /// lane is in doubt; the next packet of a broadcast; the next part of a connection's window. Where `pump_refusal`
+    /// gives a cause, nothing is queued and the lane stays as it was.
+    #[tactic(auto, using(crate::proofs::Unpumped::refused_pump))]
     pub fn pump(&mut self, now: u64) -> LaneStep
-        requires { refusal_of self.old now ≡ None }
         ensures lane { self.new ≡ (pumped_lane self.old now).0 }
         ensures step { result ≡ (pumped_lane self.old now).1 }
+        ensures refused { (cause : PumpRefused) → refusal_of self.old now ≡ Some cause → pumped_lane self.old now ≡ still self.old }
     {
         match self.take_under_way() {
             UnderWay::Nothing => self.pump_idle(now),
@@ -86,14 +90,14 @@ impl Lane {
             return LaneStep::none();
         }
         match self.standing {
-            Standing::Settled => self.begin_front(now),
-            Standing::InDoubt => self.ask(1, now),
+            Standing::Settled => self.begin(now),
+            Standing::InDoubt => self.probe(1, now),
             Standing::Probing { .. } => LaneStep::none(),
         }
     }
 
     /// The front message begins: BAM to all, else an RTS.
-    fn begin_front(&mut self, now: u64) -> LaneStep
+    fn begin(&mut self, now: u64) -> LaneStep
         requires nothing { self.old.under_way ≡ Nothing }
         requires settled { self.old.standing ≡ Settled }
         ensures lane { self.new ≡ (idle_pumped Settled self.old.pending self.old now).0 }
@@ -108,13 +112,13 @@ impl Lane {
             self.put_under_way(UnderWay::Broadcast(state));
             return LaneStep::one(frame);
         }
-        let (state, frame) = begin(kind_for(len), self.from, self.to, pgn, len, now);
+        let (state, frame) = originator::begin(kind_for(len), self.from, self.to, pgn, len, now);
         self.put_under_way(UnderWay::Connection(OutState::AwaitCts(state)));
         LaneStep::one(frame)
     }
 
     /// The lane asks for its token, for the `count`-th time.
-    pub(crate) fn ask(&mut self, count: u8, now: u64) -> LaneStep
+    pub(crate) fn probe(&mut self, count: u8, now: u64) -> LaneStep
         requires nothing { self.old.under_way ≡ Nothing }
         requires unsettled { self.old.standing ≢ Settled }
         requires from_one { 1 ≤ count }

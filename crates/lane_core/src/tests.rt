@@ -90,8 +90,10 @@ fn hear(lane: &mut Lane, frame: CmFrame, now: u64) -> LaneStep {
 }
 
 fn cancel(rt: &impl Abort, lane: &mut Lane, number: u64) -> LaneStep {
-    assert!(rt; lane.is_pending(number));
-    lane.cancel(number)
+    match lane.cancel(number) {
+        Some(step) => step,
+        None => panic!(rt; "no such message"),
+    }
 }
 
 // Whether a step queues just these frames.

@@ -1,16 +1,16 @@
 -- The message that a connection carries, and its sender's frames (SAE J1939-21, connection mode data transfer; ISO 11783-3).
-use Rattle.std.specs.Prelude.{ℕ, ◌+◌, Bool, true, false, ◌&&◌, nat_le, ◌==◌}
+use Rattle.std.specs.Prelude.{ℕ, Bool, true, false, ◌&&◌, ◌==◌}
 use Rattle.bus_frame.specs.Frames.{CanFrame}
 use Rattle.pgn_ids.specs.Pgn.{clean}
 use Rattle.tp_wire.specs.Reason.{reason_byte}
 use Rattle.tp_wire.specs.Aborts.{connection_abort}
 use Rattle.tp_wire.specs.Rows.{written}
-use Rattle.tp_wire.specs.declared.constants.TheConstants.{MIN_SIZE, TP_MAX_SIZE, ETP_MAX_SIZE, ANY_WINDOW}
+use Rattle.tp_wire.specs.declared.constants.TheConstants.{ANY_WINDOW}
 use Rattle.tp_wire.specs.declared.reason.AbortReason.{AbortReason}
 use Rattle.tp_wire.specs.declared.wire.Kind.{Kind}
 use Rattle.tp_wire.specs.declared.wire.Kind.TheVariants.{Tp, Etp}
 use Rattle.tp_wire.specs.declared.wire.CmFrame.{CmFrame}
-use Rattle.tp_wire.specs.declared.wire.CmFrame.TheVariants.{Rts, EtpRts, Abort, EtpAbort}
+use Rattle.tp_wire.specs.declared.wire.CmFrame.TheVariants.{Rts, EtpRts}
 use Rattle.tp_wire.specs.declared.wire.Wire.{Wire}
 use Rattle.tp_wire.specs.declared.wire.Wire.TheVariants.{Cm}
 use Rattle.seg_cut.specs.Packets.{packet_count}

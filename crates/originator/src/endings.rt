@@ -1,6 +1,6 @@
 //! How a message ends for its sender.
-ghost use Rattle.std.specs.Prelude.{◌≡◌, true};
-ghost use Rattle.originator.specs.Readers.{link_of, has_timer};
+ghost use Rattle.std.specs.Prelude.{◌≡◌};
+ghost use Rattle.originator.specs.Readers.{link_of};
 ghost use Rattle.originator.specs.Endings.{gives_up, aborts, expired, cancelled, aborted, overrun as overrun_over, acknowledged};
 
 use crate::link::Link;
@@ -41,9 +41,8 @@ impl Link {
 }
 
 impl OutState {
-    /// Its timer fired: the message ended as timed out, and an abort is queued. It has a timer, as where it is due.
+    /// Its timer fired: the message ended as timed out, and an abort is queued. `is_due` says where it has a timer.
     pub fn expire(self) -> OutOver
-        requires { has_timer self ≡ true }
         ensures { result ≡ expired (link_of self) }
     {
         self.into_link().expire()

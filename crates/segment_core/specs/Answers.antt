@@ -1,12 +1,10 @@
 -- How the code answers a call.
-use Rattle.std.specs.Prelude.{◌≡◌, ℕ, nat_lt, ◌==◌, if◌then◌else◌, Option, Some, None, Result, Ok, Err, IsOk}
-use Rattle.pgn_ids.specs.Address.{null_address}
-use Rattle.pgn_ids.specs.declared.address.Address.{Address}
-use Rattle.tp_wire.specs.declared.constants.TheConstants.{MIN_SIZE}
-use Rattle.lane_core.specs.Lane.{longest_to}
+use Rattle.std.specs.Prelude.{◌≡◌, Option, Some, None, Result, Ok, Err, IsOk}
+use Rattle.station_core.specs.declared.refused.SendingCause.{SendingCause}
+use Rattle.station_core.specs.declared.refused.SendingCause.TheVariants as sending
 use Rattle.segment_law.specs.Segment.{Segment}
 use Rattle.segment_law.specs.declared.refusal.Refusal.{Refusal}
-use Rattle.segment_law.specs.declared.refusal.Refusal.TheVariants.{NoSuchStation, SameStation, TooShort, TooLong}
+use Rattle.segment_law.specs.declared.refusal.Refusal.TheVariants.{NoSuchStation, SameStation, TooShort, TooLong, LaneFull}
 use Rattle.segment_law.specs.Calls.{Answer}
 use Rattle.segment_law.specs.declared.reply.Reply.{Reply}
 use Rattle.segment_core.specs.declared.stop.Stop.{Stop}
@@ -23,11 +21,11 @@ abbrev pub refusal_of : Answer → Option Refusal
 refusal_of (Ok step) = None
 refusal_of (Err cause) = Some cause
 
--- why a message of so many bytes isn't sent to a destination, before the lane is looked at: the first that holds
-abbrev pub sending_refusal : (from to : Address) → (len : ℕ) → Option Refusal
-sending_refusal from to len =
-    if to.0 == null_address then Some NoSuchStation
-    else if from.0 == to.0 then Some SameStation
-    else if nat_lt len MIN_SIZE then Some TooShort
-    else if nat_lt (longest_to to.0) len then Some TooLong
-    else None
+-- how a call ends whose message isn't sent
+abbrev pub sending_stop : SendingCause → Stop
+sending_stop sending.NoSuchStation = Refused NoSuchStation
+sending_stop sending.SameStation = Refused SameStation
+sending_stop sending.TooShort = Refused TooShort
+sending_stop sending.TooLong = Refused TooLong
+sending_stop sending.LaneFull = Refused LaneFull
+sending_stop sending.OutOfMemory = OutOfMemory

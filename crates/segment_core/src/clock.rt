@@ -7,20 +7,18 @@ use crate::segment::Segment;
 use crate::stop::Stop;
 use pgn_ids::Address;
 use segment_law::{Refusal, Reply};
-use station_core::{Events, Station};
+use station_core::{Events, FiringRefused, Station};
 
 // Fires the first timer of a station that is due, where its queue has a free place.
 fn fire_first(station: &mut Station, now: u64) -> Result<Events, Stop>
     ensures { IsFire station.old now station.new result }
 {
-    if !station.is_due(now) {
-        return Err(Stop::Refused(Refusal::NothingDue));
+    match station.fire(now) {
+        Ok(events) => Ok(events),
+        Err(FiringRefused::NothingDue) => Err(Stop::Refused(Refusal::NothingDue)),
+        Err(FiringRefused::TxFull) => Err(Stop::Refused(Refusal::TxFull)),
+        Err(FiringRefused::OutOfMemory) => Err(Stop::OutOfMemory),
     }
-    if station.free() == 0 {
-        return Err(Stop::Refused(Refusal::TxFull));
-    }
-    let events = station.fire(now)?;
-    Ok(events)
 }
 
 impl Segment {

@@ -8,8 +8,8 @@ ghost use Rattle.segment_law.specs.Readers.{queue_len, front_at, pumps_to, next_
 ghost use Rattle.segment_law.specs.Record.{Record, StandsAt};
 ghost use Rattle.reader_law.specs.Counting.{counts_over};
 
+use crate::refusing::MOST_PUMPED;
 use crate::segment::Segment;
-use crate::sending::MOST_PUMPED;
 use bus_frame::Frame;
 use pgn_ids::Address;
 use port_table::PortSet;

@@ -6,13 +6,15 @@ ghost use Rattle.segment_law.specs.declared.call.Call.TheVariants.{Open};
 ghost use Rattle.segment_core.specs.Answers.{refusal_of};
 
 use crate::segment::Segment;
-use crate::sending::MOST_PUMPED;
 use lane_core::PumpRefused;
 use pgn_ids::Address;
 use segment_law::Refusal;
 
 /// How many frames the bus keeps at most.
 const MOST_KEPT: u64 = 4096;
+
+/// The most frames that a Pump queues, for which a place each has to be free.
+pub(crate) const MOST_PUMPED: usize = 8;
 
 impl Segment {
     /// Why an Open at a station would be refused, whatever its PGN and length: the address isn't a station's, or the

@@ -1,52 +1,27 @@
 //! Messages that are sent, pumped and cancelled.
-ghost use Rattle.std.specs.Prelude.{◌≡◌, ◌≤◌, ◌||◌, ◌==◌, true, None};
-ghost use Rattle.pgn_ids.specs.Address.{is_one, global_address};
-ghost use Rattle.tp_wire.specs.declared.constants.TheConstants.{MIN_SIZE};
-ghost use Rattle.lane_core.specs.Lane.{longest_to as longest_to_of};
+ghost use Rattle.std.specs.Prelude.{◌≡◌};
 ghost use Rattle.segment_law.specs.Calls.{at_address, sends, pumps, cancels};
-ghost use Rattle.segment_core.specs.Answers.{IsAnswer, sending_refusal as sending_refusal_of};
+ghost use Rattle.segment_core.specs.Answers.{IsAnswer, sending_stop as sending_stop_of};
 
 use crate::segment::Segment;
 use crate::stop::Stop;
-use lane_core::{Bytes, PumpRefused, PushRefused};
+use lane_core::Bytes;
 use pgn_ids::{Address, Pgn};
 use segment_law::{Refusal, Reply};
-use tp_wire::constants::{ETP_MAX_SIZE, MIN_SIZE, TP_MAX_SIZE};
+use station_core::{CancellingRefused, PumpingRefused, SendingCause};
 
-/// The most frames that a Pump queues, for which a place each has to be free.
-pub(crate) const MOST_PUMPED: usize = 8;
-
-// The most bytes that one message to a destination carries.
-fn longest_to(to: Address) -> usize
-    ensures { result ≡ longest_to_of to.0 }
+// How a call ends whose message isn't sent.
+fn sending_stop(cause: SendingCause) -> Stop
+    ensures { result ≡ sending_stop_of cause }
 {
-    if to == Address::GLOBAL {
-        return TP_MAX_SIZE as usize;
+    match cause {
+        SendingCause::NoSuchStation => Stop::Refused(Refusal::NoSuchStation),
+        SendingCause::SameStation => Stop::Refused(Refusal::SameStation),
+        SendingCause::TooShort => Stop::Refused(Refusal::TooShort),
+        SendingCause::TooLong => Stop::Refused(Refusal::TooLong),
+        SendingCause::LaneFull => Stop::Refused(Refusal::LaneFull),
+        SendingCause::OutOfMemory => Stop::OutOfMemory,
     }
-    ETP_MAX_SIZE as usize
-}
-
-// Why a message of so many bytes isn't sent from a station to a destination, before the lane is looked at: the first that
-// holds.
-fn sending_refusal(from: Address, to: Address, len: usize) -> Option<Refusal>
-    ensures value { result ≡ sending_refusal_of from to len }
-    ensures destination { result ≡ None → (is_one to.0 || to.0 == global_address) ≡ true }
-    ensures least { result ≡ None → MIN_SIZE ≤ len }
-    ensures most { result ≡ None → len ≤ longest_to_of to.0 }
-{
-    if to == Address::NULL {
-        return Some(Refusal::NoSuchStation);
-    }
-    if from == to {
-        return Some(Refusal::SameStation);
-    }
-    if len < MIN_SIZE as usize {
-        return Some(Refusal::TooShort);
-    }
-    if len > longest_to(to) {
-        return Some(Refusal::TooLong);
-    }
-    None
 }
 
 impl Segment {
@@ -64,15 +39,11 @@ impl Segment {
         let Some(place) = self.place_of(from) else {
             return Err(Stop::Refused(Refusal::NoSuchStation));
         };
-        let own = self.stations[place].address();
-        if let Some(cause) = sending_refusal(own, to, bytes.len()) {
-            return Err(Stop::Refused(cause));
-        }
-        match self.stations[place].send(to, pgn, bytes) {
-            Ok(number) => Ok(Reply::Sent(number)),
-            Err(PushRefused::LaneFull(_)) => Err(Stop::Refused(Refusal::LaneFull)),
-            Err(PushRefused::OutOfMemory(_)) => Err(Stop::OutOfMemory),
-        }
+        let number = match self.stations[place].send(to, pgn, bytes) {
+            Ok(number) => number,
+            Err(refused) => return Err(sending_stop(refused.cause)),
+        };
+        Ok(Reply::Sent(number))
     }
 
     /// Queues what comes next in a lane.
@@ -87,16 +58,11 @@ impl Segment {
             return Err(Stop::Refused(Refusal::NoSuchStation));
         }
         let now = self.clock.now();
-        match self.stations[place].pump_refusal(to, now) {
-            Some(PumpRefused::NothingToSend) => Err(Stop::Refused(Refusal::NothingToSend)),
-            Some(PumpRefused::NotYet) => Err(Stop::Refused(Refusal::NotYet)),
-            None => {
-                if self.stations[place].free() < MOST_PUMPED {
-                    return Err(Stop::Refused(Refusal::TxFull));
-                }
-                let events = self.stations[place].pump(to, now);
-                Ok(self.told(events))
-            }
+        match self.stations[place].pump(to, now) {
+            Ok(events) => Ok(self.told(events)),
+            Err(PumpingRefused::NothingToSend) => Err(Stop::Refused(Refusal::NothingToSend)),
+            Err(PumpingRefused::NotYet) => Err(Stop::Refused(Refusal::NotYet)),
+            Err(PumpingRefused::TxFull) => Err(Stop::Refused(Refusal::TxFull)),
         }
     }
 
@@ -111,13 +77,10 @@ impl Segment {
         if to == Address::NULL {
             return Err(Stop::Refused(Refusal::NoSuchStation));
         }
-        if !self.stations[place].is_pending(to, number) {
-            return Err(Stop::Refused(Refusal::NothingToSend));
+        match self.stations[place].cancel(to, number) {
+            Ok(events) => Ok(self.told(events)),
+            Err(CancellingRefused::NothingToSend) => Err(Stop::Refused(Refusal::NothingToSend)),
+            Err(CancellingRefused::TxFull) => Err(Stop::Refused(Refusal::TxFull)),
         }
-        if self.stations[place].queues_abort(to, number) && self.stations[place].free() == 0 {
-            return Err(Stop::Refused(Refusal::TxFull));
-        }
-        let events = self.stations[place].cancel(to, number);
-        Ok(self.told(events))
     }
 }

@@ -13,17 +13,17 @@ use crate::stop::Stop;
 use bus_frame::Frame;
 use pgn_ids::Address;
 use segment_law::{Refusal, Reply};
-use station_core::{Station, Taken};
+use station_core::{Station, Taken, TakingRefused};
 
 // A station takes a frame, where its queue has a free place.
 fn look(station: &mut Station, frame: &Frame, room: bool, now: u64) -> Result<Taken, Stop>
     ensures { IsLook station.old frame.now room now station.new result }
 {
-    if station.free() == 0 {
-        return Err(Stop::Refused(Refusal::TxFull));
+    match station.take(frame, room, now) {
+        Ok(taken) => Ok(taken),
+        Err(TakingRefused::TxFull) => Err(Stop::Refused(Refusal::TxFull)),
+        Err(TakingRefused::OutOfMemory) => Err(Stop::OutOfMemory),
     }
-    let taken = station.take(frame, room, now)?;
-    Ok(taken)
 }
 
 impl Segment {

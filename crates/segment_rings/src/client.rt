@@ -1,6 +1,6 @@
 //! A client: what it submitted and the notes that it read, with its ends of the two rings.
 use crate::words::{Note, Submission};
-use lane_core::Bytes;
+use lane_core::{Bytes, longest_to};
 use pgn_ids::{Address, Pgn};
 use rtrb::{Consumer, Producer};
 use segment_law::Refusal;
@@ -8,7 +8,7 @@ use std::alloc::{AllocError, Global};
 use std::marker::Model;
 use std::sync::Wait;
 use std::thread;
-use tp_wire::constants::{ETP_MAX_SIZE, MIN_SIZE, TP_MAX_SIZE};
+use tp_wire::constants::MIN_SIZE;
 
 /// A submission that was refused, or, without a refusal, for which there was no memory. The bytes come back.
 #[derive(Debug, Drop)]
@@ -43,18 +43,7 @@ impl Model for Client {
 }
 
 ghost use Rattle.std.specs.Prelude.{◌≡◌, length, IsErr, None};
-ghost use Rattle.lane_core.specs.Lane.{longest_to as longest_to_of};
 ghost use Rattle.segment_rings.specs.Submitting.{submit_refusal as submit_refusal_of};
-
-// The most bytes that one message to a destination carries.
-fn longest_to(to: Address) -> usize
-    ensures { result ≡ longest_to_of to.0 }
-{
-    if to == Address::GLOBAL {
-        return TP_MAX_SIZE as usize;
-    }
-    ETP_MAX_SIZE as usize
-}
 
 /// Why a message of so many bytes isn't submitted, where its PGN is one and before a ring is looked at: the first that holds.
 pub fn submit_refusal(from: Address, to: Address, len: usize) -> Option<Refusal>

@@ -1,2 +1,3 @@
 pub mod PortLaws
 pub mod Counting
+pub mod Cancelling

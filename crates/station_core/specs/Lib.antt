@@ -7,3 +7,4 @@ pub mod Sending
 pub mod Timers
 pub mod Closing
 pub mod Overruns
+pub mod Refusals

@@ -5,11 +5,15 @@
 mod closing;
 mod opening;
 mod overruns;
+mod refused;
 mod sending;
 mod station;
 mod taking;
 mod timers;
 
+pub use refused::{
+    CancellingRefused, FiringRefused, PumpingRefused, SendingCause, SendingRefused, TakingRefused,
+};
 pub use station::Station;
 pub use station_lanes::{Event, Events};
 pub use taking::Taken;

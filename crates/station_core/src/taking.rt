@@ -1,12 +1,14 @@
 //! Frames that are taken, row by row (SAE J1939-21; ISO 11783-3).
-ghost use Rattle.std.specs.Prelude.{◌≡◌, ◌≤◌, ◌<◌, ◌+◌, ◌++◌, true, length, IfOk, OnErr};
+ghost use Rattle.std.specs.Prelude.{◌≡◌, ◌≤◌, ◌<◌, ◌+◌, ◌++◌, true, false, length, IfOk, IfErr, OnOk, OnErr};
 ghost use Rattle.tp_wire.specs.Rows.{comes_from};
 ghost use Rattle.tp_wire.specs.declared.wire.Wire.TheVariants.{Cm};
 ghost use Rattle.tx_queue.specs.Queue.{queue_limit};
 ghost use Rattle.station_lanes.specs.LaneCalls.{outcome_of};
 ghost use Rattle.station_core.specs.Opening.{key_of};
+ghost use Rattle.station_core.specs.Refusals.{is_queue_full, IsTakingRefused};
 ghost use Rattle.station_core.specs.Taking.{packet_kind as packet_kind_of, in_session, in_lane, abort_taken, cm_taken, answer, request_taken, ack_taken, wire_taken, looks_at as looks_at_frame, is_malformed_for, wanted, wire_wanted, taken};
 
+use crate::refused::TakingRefused;
 use crate::station::{Station, enqueue, enqueue_all, enqueue_option};
 use bus_frame::Frame;
 use lane_core::LaneStep;
@@ -86,17 +88,21 @@ impl Station {
         }
     }
 
-    /// Takes a frame at tick `now`, where its queue has a free place: the same call takes a frame again. `room` says
-    /// whether each port of the set has room for a message that the frame completes, and whether there is room to go on with
-    /// one.
+    /// Takes a frame at tick `now`: the same call takes a frame again. `room` says whether each port of the set has room for
+    /// a message that the frame completes, and whether there is room to go on with one.
     ///
-    /// Want of memory changes nothing.
-    pub fn take(&mut self, frame: &Frame, room: bool, now: u64) -> Result<Taken, AllocError>
-        requires { length self.old.queue < queue_limit }
+    /// Refused as `TxFull` exactly where its queue has no free place, and else as `OutOfMemory` where memory is refused. A
+    /// refusal changes nothing.
+    pub fn take(&mut self, frame: &Frame, room: bool, now: u64) -> Result<Taken, TakingRefused>
         ensures ok { IfOk result (λ step. taken self.old frame.now room now ≡ record { station = self.new; events = step.events }) }
         ensures malformed { IfOk result (λ step. step.is_malformed ≡ is_malformed_for self.old frame.now) }
+        ensures place { OnOk result (is_queue_full self.old ≡ false) }
+        ensures refused { IfErr result (IsTakingRefused self.old) }
         ensures err { OnErr result (self.new ≡ self.old) }
     {
+        if self.queue.free() == 0 {
+            return Err(TakingRefused::TxFull);
+        }
         if !self.looks_at(frame) {
             return Ok(Taken {
                 is_malformed: false,

@@ -1,5 +1,5 @@
 -- What the steps of a lane keep, and lanes that are taken out and put back.
-use Rattle.std.proofs.Common.{◌≡◌, ℕ, ◌+◌, ◌≤◌, ◌==◌, nat_lt, Bool, true, false, cond, List, [], ◌∷◌, length, Option, Some, None, refl, sym, ap, ◌∙◌, arith, true≢false}
+use Rattle.std.proofs.Common.{◌≡◌, ℕ, ◌+◌, ◌≤◌, ◌==◌, nat_lt, Bool, true, false, cond, List, [], ◌∷◌, length, Option, Some, None, refl, sym, ap, ◌∙◌, arith, true≢false, IfNone}
 use Rattle.std.specs.Cmp.{nat_cmp_total, unsigned_tied}
 use Rattle.std.proofs.lemmas.Bool.{eqb-true}
 use Rattle.std.specs.Ordering.{nat_cmp, eq_by_cmp}
@@ -216,3 +216,8 @@ module _ (lane : Lane) (number : ℕ) where
   cancelled_none = cancelled_by-none lane.under_way
 
 pub ruleset cancelled_laws = (put_back, remove_absent, cancelled_to, cancelled_few, cancelled_none)
+
+-- a lane that was taken out and stayed as it was
+pub put_as_it_was : (r : Option LaneStep) (lanes after : Lanes) (to : ℕ) (lane last : Lane) → map.get lanes to ≡ Some lane → IfNone r (last ≡ lane) → after ≡ map.insert (map.remove lanes to) to last → IfNone r (after ≡ lanes)
+put_as_it_was None lanes after to lane last is same e = e ∙ put_back lanes to last ∙ ap (map.insert lanes to) same ∙ insert_same lanes to lane is
+put_as_it_was (Some step) lanes after to lane last is same e = tt

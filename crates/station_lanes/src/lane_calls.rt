@@ -1,5 +1,5 @@
 //! The calls of a lane, by its destination.
-ghost use Rattle.std.specs.Prelude.{◌≡◌, ◌≤◌, ◌||◌, ◌==◌, ◌+◌, true, false, length, [], IfOk, IfSome, OnOk, OnErr, IfErr, IsErr, Some, None};
+ghost use Rattle.std.specs.Prelude.{◌≡◌, ◌≤◌, ◌||◌, ◌==◌, ◌+◌, true, false, length, [], IfOk, IfSome, IfNone, OnSome, OnOk, OnErr, IfErr, IsErr, IsSome, IsTrue, Some, None, ◌↔◌};
 ghost use Rattle.std.specs.FinMap as map;
 ghost use Rattle.pgn_ids.specs.Address.{is_one, global_address};
 ghost use Rattle.lane_core.specs.Heard.{heard, answered};
@@ -145,10 +145,9 @@ impl Lanes {
         }
     }
 
-    /// Queues what comes next to a destination at tick `now`.
+    /// Queues what comes next to a destination at tick `now`; where `pump_refusal` gives a cause, nothing.
     #[tactic(auto, using(crate::proofs::LaneLaws::pumped_laws))]
     pub fn pump(&mut self, to: Address, now: u64) -> LaneStep
-        requires { refusal_at self.old to.0 now ≡ None }
         ensures lanes { self.new ≡ stepped_lanes self.old to.0 (λ lane. pumped_lane lane now) }
         ensures step { result ≡ step_at self.old to.0 (λ lane. pumped_lane lane now) }
         ensures few { length result.frames ≤ 8 }
@@ -188,10 +187,9 @@ impl Lanes {
         None
     }
 
-    /// The timer of the lane to a destination fires at tick `now`.
+    /// The timer of the lane to a destination fired at tick `now`, as `is_due` told.
     #[tactic(auto, using(crate::proofs::LaneLaws::fired_laws))]
     pub fn fire(&mut self, to: Address, now: u64) -> LaneStep
-        requires { is_due_at self.old now to.0 ≡ true }
         ensures lanes { self.new ≡ stepped_lanes self.old to.0 (λ lane. fired_lane lane now) }
         ensures step { result ≡ step_at self.old to.0 (λ lane. fired_lane lane now) }
         ensures few { length result.frames ≤ 1 }
@@ -271,18 +269,18 @@ impl Lanes {
         }
     }
 
-    /// Cancels the message to a destination with this number, which has no outcome yet.
+    /// Cancels the message to a destination with this number. None exactly where no such message is without an outcome, and
+    /// then nothing changes.
     #[tactic(auto, using(crate::proofs::LaneLaws::cancelled_laws))]
-    pub fn cancel(&mut self, to: Address, number: u64) -> LaneStep
-        requires { is_pending_at self.old to.0 number ≡ true }
-        ensures lanes { self.new ≡ stepped_lanes self.old to.0 (λ lane. cancelled_lane lane number) }
-        ensures step { result ≡ step_at self.old to.0 (λ lane. cancelled_lane lane number) }
-        ensures few { length result.frames ≤ 1 }
-        ensures none { queues_abort_at self.old to.0 number ≡ false → result.frames ≡ [] }
+    pub fn cancel(&mut self, to: Address, number: u64) -> Option<LaneStep>
+        ensures pending { IsSome result ↔ IsTrue (is_pending_at self.old to.0 number) }
+        ensures lanes { OnSome result (self.new ≡ stepped_lanes self.old to.0 (λ lane. cancelled_lane lane number)) }
+        ensures step { IfSome result (λ step. step ≡ step_at self.old to.0 (λ lane. cancelled_lane lane number)) }
+        ensures few { IfSome result (λ step. length step.frames ≤ 1) }
+        ensures none { IfSome result (λ step. queues_abort_at self.old to.0 number ≡ false → step.frames ≡ []) }
+        ensures absent { IfNone result (self.new ≡ self.old) }
     {
-        let Some(mut lane) = self.take_out(to) else {
-            return nothing();
-        };
+        let mut lane = self.take_out(to)?;
         let step = lane.cancel(number);
         self.put(to, lane);
         step

@@ -1,6 +1,6 @@
 //! Station 35 takes frames of node 80, and station 21 sends. Where memory is refused once, the call is made again.
 use bus_frame::{CanId, Frame};
-use lane_core::{Bytes, PushRefused};
+use lane_core::Bytes;
 use pgn_ids::{Address, Pgn};
 use station_core::*;
 use std::alloc::{AllocError, Global};
@@ -57,35 +57,16 @@ fn see_all(seen: &mut Seen, events: Events) -> Result<(), AllocError> {
     Ok(())
 }
 
-fn take(rt: &impl Abort, station: &mut Station, frame: &Frame, room: bool) -> Result<Events, Fail> {
-    assert!(rt; station.free() > 0);
+fn take(station: &mut Station, frame: &Frame, room: bool) -> Result<Events, Fail> {
     match station.take(frame, room, 0) {
         Ok(taken) => Ok(taken.events),
         Err(_) => Ok(station.take(frame, room, 0)?.events),
     }
 }
 
-fn send(
-    rt: &impl Abort,
-    alloc: Global,
-    station: &mut Station,
-    to: Address,
-    message: &[u8],
-) -> Result<u64, Fail> {
+fn send(alloc: Global, station: &mut Station, to: Address, message: &[u8]) -> Result<u64, Fail> {
     let bytes = Bytes::new(Vec::from_slice(alloc, message)?);
-    let len = bytes.len();
-    let limit = if to == Address::GLOBAL {
-        1785
-    } else {
-        117_440_505
-    };
-    assert!(rt; len >= 9 && len <= limit);
-    assert!(rt; to.is_one() || to == Address::GLOBAL);
-    match station.send(to, Pgn::new(FECA)?, bytes) {
-        Ok(number) => Ok(number),
-        Err(PushRefused::LaneFull(_)) => panic!(rt; "the lane is full"),
-        Err(PushRefused::OutOfMemory(_)) => panic!(rt; "out of memory"),
-    }
+    Ok(station.send(to, Pgn::new(FECA)?, bytes)?)
 }
 
 // What a station answers to a frame at once.
@@ -95,7 +76,7 @@ fn answer(
     id: u32,
     bytes: [u8; 8],
 ) -> Result<Option<Frame>, Fail> {
-    let events = take(rt, station, &Frame::full(CanId::new(id)?, bytes), true)?;
+    let events = take(station, &Frame::full(CanId::new(id)?, bytes), true)?;
     assert!(rt; events.is_empty());
     Ok(station.pop())
 }
@@ -153,7 +134,7 @@ fn a_message_is_given(rt: HostRuntime) -> Result<(), Fail> {
     let (ports, size) = station.wants(&last);
     assert!(rt; ports.numbers() == [1].as_slice());
     assert_eq!(rt; size, 9);
-    let events = take(&rt, &mut station, &last, true)?;
+    let events = take(&mut station, &last, true)?;
     let mut seen = nothing_seen(rt.alloc());
     see_all(&mut seen, events)?;
     assert!(rt; seen.given.as_slice() == [(1, 9)].as_slice());
@@ -211,7 +192,6 @@ fn requests_are_answered(rt: HostRuntime) -> Result<(), Fail> {
     answers(&rt, &mut station, 0x18EA_3521, request, acknowledgement)?;
     is_silent(&rt, &mut station, 0x18EA_FF21, request)?;
     let malformed = Frame::full(CanId::new(0x1CEB_FF80)?, [0; 8]);
-    assert!(rt; station.free() > 0);
     let taken = station.take(&malformed, true, 0)?;
     assert!(rt; taken.is_malformed);
     assert!(rt; taken.events.is_empty());
@@ -229,8 +209,8 @@ fn a_paused_port_holds_its_session(rt: HostRuntime) -> Result<(), Fail> {
     answers(&rt, &mut station, RTS_OF_80, RTS, hold)?;
     assert!(rt; station.resume(1).is_ok());
     assert!(rt; !station.is_due(499));
+    assert!(rt; station.fire(499).is_err());
     assert!(rt; station.is_due(500));
-    assert!(rt; station.free() > 0);
     assert!(rt; station.fire(500)?.is_empty());
     let cts = Frame::full(CanId::new(CTS.0)?, CTS.1);
     assert!(rt; station.pop() == Some(cts));
@@ -240,14 +220,15 @@ fn a_paused_port_holds_its_session(rt: HostRuntime) -> Result<(), Fail> {
 #[test]
 fn a_message_is_cancelled(rt: HostRuntime) -> Result<(), Fail> {
     let mut station = Station::new(rt.alloc(), A)?;
-    let number = send(&rt, rt.alloc(), &mut station, B, &M9)?;
-    assert!(rt; station.free() >= 8);
-    assert!(rt; station.pump_refusal(B, 0).is_none());
-    assert!(rt; station.pump(B, 0).is_empty());
+    assert!(rt; send(rt.alloc(), &mut station, A, &M9).is_err());
+    assert!(rt; send(rt.alloc(), &mut station, B, &M9[1..]).is_err());
+    assert!(rt; station.pump(B, 0).is_err());
+    let number = send(rt.alloc(), &mut station, B, &M9)?;
+    assert!(rt; station.pump(B, 0)?.is_empty());
     assert!(rt; station.queues_abort(B, number));
     assert!(rt; station.is_pending(B, number));
-    assert!(rt; station.free() > 0);
-    let (event, _) = station.cancel(B, number).into_parts();
+    let (event, _) = station.cancel(B, number)?.into_parts();
+    assert!(rt; station.cancel(B, number).is_err());
     let mut seen = nothing_seen(rt.alloc());
     if let Some(event) = event {
         see(&mut seen, event)?;
