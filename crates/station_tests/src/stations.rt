@@ -64,9 +64,8 @@ fn take(station: &mut Station, frame: &Frame, room: bool) -> Result<Events, Fail
     }
 }
 
-fn send(alloc: Global, station: &mut Station, to: Address, message: &[u8]) -> Result<u64, Fail> {
-    let bytes = Bytes::new(Vec::from_slice(alloc, message)?);
-    Ok(station.send(to, Pgn::new(FECA)?, bytes)?)
+fn message(alloc: Global, bytes: &[u8]) -> Result<Bytes, AllocError> {
+    Ok(Bytes::new(Vec::from_slice(alloc, bytes)?))
 }
 
 // What a station answers to a frame at once.
@@ -220,10 +219,15 @@ fn a_paused_port_holds_its_session(rt: HostRuntime) -> Result<(), Fail> {
 #[test]
 fn a_message_is_cancelled(rt: HostRuntime) -> Result<(), Fail> {
     let mut station = Station::new(rt.alloc(), A)?;
-    assert!(rt; send(rt.alloc(), &mut station, A, &M9).is_err());
-    assert!(rt; send(rt.alloc(), &mut station, B, &M9[1..]).is_err());
+    let pgn = Pgn::new(FECA)?;
+    assert!(rt; station.send(A, pgn, message(rt.alloc(), &M9)?).is_err());
+    assert!(rt;
+        station
+            .send(B, pgn, message(rt.alloc(), &M9[1..])?)
+            .is_err()
+    );
     assert!(rt; station.pump(B, 0).is_err());
-    let number = send(rt.alloc(), &mut station, B, &M9)?;
+    let number = station.send(B, pgn, message(rt.alloc(), &M9)?)?;
     assert!(rt; station.pump(B, 0)?.is_empty());
     assert!(rt; station.queues_abort(B, number));
     assert!(rt; station.is_pending(B, number));
