@@ -23,6 +23,8 @@ use Rattle.segment_law.specs.declared.reply.Reply.{Reply}
 use Rattle.segment_law.specs.declared.reply.Reply.TheVariants.{Opened, Sent, Refused, Done}
 use Rattle.segment_law.proofs.Booleans.{both_pass}
 use Rattle.segment_law.proofs.Reaching.{reached_call}
+use Rattle.record_lemmas.proofs.Lists.{Each, each_get}
+use Rattle.record_lemmas.proofs.Told.{items_placed, none_done, told_last}
 use Rattle.lane_law.specs.Message.{Message, IsSent}
 use Rattle.lane_law.specs.Session.{Given}
 use Rattle.lane_law.specs.Choice as choice
@@ -36,29 +38,10 @@ use Rattle.broadcast_law.proofs.Places.{IsAt, AllOwn, view}
 use Rattle.broadcast_law.proofs.Ports.{Distinct, station_told, first_message}
 use Rattle.broadcast_law.proofs.Send.{AreSeven}
 use Rattle.broadcast_law.proofs.View.{View, plain, cleaned, IsClean, Stands, GoesOn}
-use Rattle.broadcast_law.proofs.Words.{Each}
 
 -- What the steps tell
 
-pub items_placed : {A : Type 0} (place : ℕ) (xs : List A) → items_of (map (λ (x : A). (place, x)) xs) ≡ xs
-items_placed place [] = refl
-items_placed place (x ∷ xs) = ap (λ ys. x ∷ ys) (items_placed place xs)
-
-told_last : {A : Type 0} (tells : Step → List A) (place : ℕ) (steps : Record) (x : Step) → told_from tells place (steps ++ x ∷ []) ≡ told_from tells place steps ++ map (λ (y : A). (place + length steps, y)) (tells x)
-told_last {A} tells place [] x =
-    let e : place ≡ place + 0 = omega arith in
-    append-nil (map (λ (y : A). (place, y)) (tells x)) ∙ ap (λ n. map (λ (y : A). (n, y)) (tells x)) e
-told_last {A} tells place (w ∷ steps) x =
-    let e : (place + 1) + length steps ≡ place + length (w ∷ steps) = omega arith in
-    ap (λ ys. map (λ (y : A). (place, y)) (tells w) ++ ys) (told_last tells (place + 1) steps x ∙ ap (λ n. told_from tells (place + 1) steps ++ map (λ (y : A). (n, y)) (tells x)) e)
-    ∙ sym (append_assoc (map (λ (y : A). (place, y)) (tells w)) (told_from tells (place + 1) steps) (map (λ (y : A). (place + length (w ∷ steps), y)) (tells x)))
-
 -- A choice by numbers is a numbering
-
-each_get : {A : Type 0} (P : A → Type 0) (xs : List A) (n : ℕ) (x : A) → slice_get xs n ≡ Some x → Each P xs → P x
-each_get P [] n x e h = absurd (none-some x e)
-each_get P (y ∷ ys) zero x e h = subst P (same_Some y x e) h.0
-each_get P (y ∷ ys) (suc n) x e h = each_get P ys n x e h.1
 
 item_of : (ms : List Message) (n : ℕ) (m : Message) → IsSent ms n m → item (map plain ms) n ≡ Some (plain m)
 item_of ms zero m h = absurd (omega (arith, h.0))
@@ -85,27 +68,11 @@ stands_choice choose s v (st, h) =
 
 -- A reply that gives a message takes none for sending
 
-none_done : (s : Address) (call : Call) (events : List Event) → sent_by s all call (Done events) ≡ []
-none_done s (Open station pgn max_len) events = refl
-none_done s (Close port) events = refl
-none_done s (Send from to pgn bytes) events = refl
-none_done s (Pump station to) events = refl
-none_done s (Transmit station) events = refl
-none_done s (Take station room) events = refl
-none_done s (TakeAgain station room) events = refl
-none_done s (Overrun station n) events = refl
-none_done s (Tick n) events = refl
-none_done s (Fire station) events = refl
-none_done s (Cancel from to number) events = refl
-none_done s (Inject frame) events = refl
-none_done s (Pause port) events = refl
-none_done s (Resume port) events = refl
-
 none_sent : (s listener : Address) (call : Call) (reply : Reply) (x : AtPort) (xs : List AtPort) → station_told listener s (events_of reply) ≡ x ∷ xs → sent_by s all call reply ≡ []
 none_sent s listener call (Opened port) x xs e = absurd (cc)
 none_sent s listener call (Sent n) x xs e = absurd (cc)
 none_sent s listener call (Refused cause) x xs e = absurd (cc)
-none_sent s listener call (Done events) x xs e = none_done s call events
+none_sent s listener call (Done events) x xs e = none_done s all call events
 
 module _ (goes : GoesOn) (choose : StreamsChoose) (gives : GivesBack) (reads : ReadsBack) (seven : AreSeven) (s listener : Address) (one : is_one s.0 ≡ true) where
   -- at this record the broadcasts stand, and what was given has numbers

@@ -16,11 +16,12 @@ use Rattle.segment_law.specs.Reached.{IsReached}
 use Rattle.segment_law.specs.declared.call.Call.{Call}
 use Rattle.segment_law.specs.declared.call.Call.TheVariants.{Open, Close, Send, Pump, Transmit, Take, TakeAgain, Overrun, Tick, Fire, Cancel, Inject, Pause, Resume}
 use Rattle.segment_law.proofs.Booleans.{both_pass}
+use Rattle.record_lemmas.proofs.Segments.{found_passes}
 use Rattle.broadcast_law.proofs.Buses.{put_ahead, put_again}
 use Rattle.broadcast_law.proofs.Carried.{GivesBack, ReadsBack, all, carried_foreign}
 use Rattle.broadcast_law.proofs.Frames.{transmits_good, takes_good, repeats_good, overruns_good}
 use Rattle.broadcast_law.proofs.Good.{Good, Keeps, nothing_more, replied_good, or_refused}
-use Rattle.broadcast_law.proofs.Places.{AllOwn, cursor_of, found_passes, view}
+use Rattle.broadcast_law.proofs.Places.{AllOwn, cursor_of, view}
 use Rattle.broadcast_law.proofs.Ports.{one_of_none}
 use Rattle.broadcast_law.proofs.Send.{AreSeven, puts_other}
 use Rattle.broadcast_law.proofs.Sends.{opens_good, closes_good, pauses_good, resumes_good, fires_good, pumps_good, cancels_good, sends_good}

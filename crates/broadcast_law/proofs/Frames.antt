@@ -24,14 +24,17 @@ use Rattle.segment_law.specs.Reached.{IsReached}
 use Rattle.segment_law.specs.declared.call.Call.TheVariants.{Transmit, Take, TakeAgain, Overrun}
 use Rattle.segment_law.specs.declared.counts.Counts.{Counts}
 use Rattle.segment_law.proofs.Buses.{frame_within}
+use Rattle.record_lemmas.proofs.Lists.{Each}
+use Rattle.record_lemmas.proofs.Maps.{session_at, state_empty}
+use Rattle.record_lemmas.proofs.Segments.{same_address}
+use Rattle.record_lemmas.proofs.Tests.{equal_or_not}
 use Rattle.broadcast_law.proofs.Buses.{ahead_of, IsTaken, taken_here, taken_ahead_else, taken_again_else, passed_ahead, passed_again, passed_long, passed_ahead_else, passed_again_else, put_ahead, put_again}
 use Rattle.broadcast_law.proofs.Calm.{Calm, calm_taken, own_untold}
 use Rattle.broadcast_law.proofs.Carried.{GivesBack, carried, carried_foreign}
 use Rattle.broadcast_law.proofs.Endings.{does_overrun, overrun_untold}
-use Rattle.broadcast_law.proofs.Good.{same_address, Silent, Good, Keeps, or_refused, bus_same, small, is_of, is_here, good_step}
+use Rattle.broadcast_law.proofs.Good.{Silent, Good, Keeps, or_refused, bus_same, small, is_of, is_here, good_step}
 use Rattle.broadcast_law.proofs.Hears.{hears}
-use Rattle.broadcast_law.proofs.Maps.{session_at, state_empty}
-use Rattle.broadcast_law.proofs.Places.{IsAt, AllOwn, cursor_of, equal_or_not, apart_places, parts, station_in, view, at_it, sends_calmly, receives_calmly}
+use Rattle.broadcast_law.proofs.Places.{IsAt, AllOwn, cursor_of, apart_places, parts, station_in, view, at_it, sends_calmly, receives_calmly}
 use Rattle.broadcast_law.proofs.Ports.{station_told, first_message, told_to, one_of_none, none_told, none_elsewhere}
 use Rattle.broadcast_law.proofs.Receive.{Taken, takes_other, takes_own, repeats, skips}
 use Rattle.broadcast_law.proofs.Receptions.{key_all}
@@ -39,7 +42,6 @@ use Rattle.broadcast_law.proofs.Send.{transmits, puts_other}
 use Rattle.broadcast_law.proofs.Stations.{IsOwn, Does}
 use Rattle.broadcast_law.proofs.Takes.{does_taken, taken_ports, taken_one}
 use Rattle.broadcast_law.proofs.View.{View, Stands, GoesOn}
-use Rattle.broadcast_law.proofs.Words.{Each}
 
 queue_front : (queue : List CanFrame) (f : CanFrame) → front queue ≡ Some f → queue ≡ f ∷ drop 1 queue
 queue_front [] f e = absurd (none-some f e)

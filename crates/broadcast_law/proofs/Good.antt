@@ -23,20 +23,18 @@ use Rattle.segment_law.specs.declared.counts.Counts.{Counts}
 use Rattle.segment_law.specs.declared.refusal.Refusal.{Refusal}
 use Rattle.segment_law.specs.declared.reply.Reply.TheVariants.{Refused}
 use Rattle.segment_law.proofs.Reaching.{as_it_is}
+use Rattle.record_lemmas.proofs.Lists.{Each}
+use Rattle.record_lemmas.proofs.Maps.{session_at, StaysOrEnds, lane_here}
+use Rattle.record_lemmas.proofs.Segments.{same_address}
 use Rattle.broadcast_law.proofs.Buses.{ahead_of}
 use Rattle.broadcast_law.proofs.Carried.{GivesBack, all}
 use Rattle.broadcast_law.proofs.LaneSteps.{IsLaneOf, Fits}
-use Rattle.broadcast_law.proofs.Maps.{session_at, StaysOrEnds, lane_here}
 use Rattle.broadcast_law.proofs.Places.{IsAt, AllOwn, one_place, apart_places, own_next, at_next, at_before, parts, station_in, view, in_roles, sends_calmly, receives_calmly, at_it}
 use Rattle.broadcast_law.proofs.Ports.{IsUntold, IsOneGiving, one_of_none, station_told, first_message, told_to, none_told}
 use Rattle.broadcast_law.proofs.Receptions.{key_all}
 use Rattle.broadcast_law.proofs.Send.{stepped_view}
 use Rattle.broadcast_law.proofs.Stations.{IsOwn, Does, own_lane, does_lane, does_sessions, outcome_untold}
 use Rattle.broadcast_law.proofs.View.{View, Stands, GoesOn}
-use Rattle.broadcast_law.proofs.Words.{Each}
-
-abbrev pub same_address : (a b : Address) → a.0 ≡ b.0 → a ≡ b
-same_address a b e = λ k. record { 0 = e k }
 
 module _ (s listener : Address) where
   -- the listener is s itself, or no station

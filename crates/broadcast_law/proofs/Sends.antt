@@ -28,29 +28,21 @@ use Rattle.segment_law.specs.Calls.{no_place, pump_places, opens, closes, pauses
 use Rattle.segment_law.specs.Reached.{IsReached}
 use Rattle.segment_law.specs.declared.call.Call.TheVariants.{Open, Close, Send, Pump, Fire, Cancel, Pause, Resume}
 use Rattle.segment_law.specs.declared.counts.Counts.{Counts}
+use Rattle.record_lemmas.proofs.Maps.{lane_here, lane_else}
+use Rattle.record_lemmas.proofs.Segments.{same_address}
+use Rattle.record_lemmas.proofs.Tests.{on_test}
+use Rattle.record_lemmas.proofs.Told.{clean_is}
 use Rattle.broadcast_law.proofs.Carried.{GivesBack, ReadsBack, all}
 use Rattle.broadcast_law.proofs.Endings.{does_fired, fired_calm, closes as station_closes}
-use Rattle.broadcast_law.proofs.Good.{same_address, Good, Keeps, or_refused, small, is_of, is_here, good_step, good_calm, good_lane, good_all}
+use Rattle.broadcast_law.proofs.Good.{Good, Keeps, or_refused, small, is_of, is_here, good_step, good_calm, good_lane, good_all}
 use Rattle.broadcast_law.proofs.LaneSteps.{IsLaneOf, Fits, fits_new, fits_pushed, fits_pumped, fits_cancelled}
 use Rattle.broadcast_law.proofs.LaneToAll.{all_cancelled}
-use Rattle.broadcast_law.proofs.Maps.{lane_here, lane_else}
 use Rattle.broadcast_law.proofs.Places.{AllOwn, apart_places, station_in, view, at_it, receives_calmly}
 use Rattle.broadcast_law.proofs.Ports.{ports_opened, ports_paused, one_of_none}
 use Rattle.broadcast_law.proofs.Receptions.{key_all}
 use Rattle.broadcast_law.proofs.Send.{AreSeven, stepped_view, pushes, pumps as view_pumps, cancels as view_cancels}
 use Rattle.broadcast_law.proofs.Stations.{IsOwn, put_lane, does_ports}
 use Rattle.broadcast_law.proofs.View.{View, Stands, GoesOn}
-use Rattle.broadcast_law.proofs.Words.{on_test}
-
--- a PGN is meant as it is
-clean_is : (pgn : ℕ) → is_pgn pgn ≡ true → (pgn < 2 ^ 18) × (clean pgn ≡ pgn)
-clean_is pgn is =
-    let h : (nat_lt pgn (2 ^ 18) ≡ true) × ((not (is_pdu1 pgn) || pgn % 2 ^ 8 == 0) ≡ true) = and_parts (nat_lt pgn (2 ^ 18)) (not (is_pdu1 pgn) || pgn % 2 ^ 8 == 0) is in
-    (ltb-true pgn (2 ^ 18) h.0, by (is_pdu1 pgn) h.1)
-  where
-    by : (b : Bool) → (not b || pgn % 2 ^ 8 == 0) ≡ true → cond b (pgn / 2 ^ 8 * 2 ^ 8) pgn ≡ pgn
-    by true e = let z : pgn % 2 ^ 8 ≡ 0 = eqb-true (pgn % 2 ^ 8) 0 e in omega (arith, z)
-    by false e = refl
 
 module _ (s listener : Address) (one : is_one s.0 ≡ true) (goes : GoesOn) (gives : GivesBack) (reads : ReadsBack) (seven : AreSeven)
     (seg : Segment) (r : IsReached seg) (each : AllOwn seg) (i : ℕ) (st : Station) (at : slice_get seg.stations i ≡ Some st) where

@@ -19,14 +19,14 @@ use Rattle.segment_law.specs.Segment.{Segment, counted, counted_frame}
 use Rattle.segment_law.specs.Calls.{transmits_by, overruns, with_frame}
 use Rattle.segment_law.specs.Reached.{IsReached}
 use Rattle.segment_law.specs.declared.call.Call.TheVariants.{Transmit, Overrun}
+use Rattle.record_lemmas.proofs.Lists.{Each}
+use Rattle.record_lemmas.proofs.Maps.{state_empty}
+use Rattle.record_lemmas.proofs.Segments.{same_address}
 use Rattle.lane_law.specs.Choice.{IsChoice}
 use Rattle.lane_law.specs.Lane as machine
 use Rattle.broadcast_law.proofs.Buses.{ahead_of, passed_ahead, passed_again, passed_ahead_else, passed_again_else, put_ahead, put_again}
-use Rattle.broadcast_law.proofs.Good.{same_address}
-use Rattle.broadcast_law.proofs.Maps.{state_empty}
 use Rattle.broadcast_law.proofs.Places.{IsAt, AllOwn, cursor_of, apart_places}
 use Rattle.broadcast_law.proofs.Stations.{IsOwn}
-use Rattle.broadcast_law.proofs.Words.{Each}
 use Rattle.connection_law.proofs.Frames.{goes, returns, goes_foreign, returns_foreign}
 use Rattle.connection_law.proofs.Roles.{session_for, real_at, told_to}
 use Rattle.connection_law.proofs.View.{Laws, IsPair, View, Still, next_still, still_same, still_then}

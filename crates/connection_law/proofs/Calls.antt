@@ -26,13 +26,14 @@ use Rattle.segment_law.specs.Reached.{IsReached}
 use Rattle.segment_law.specs.declared.call.Call.TheVariants.{Open, Close, Send, Pump, Fire, Cancel, Pause, Resume}
 use Rattle.segment_law.specs.declared.reply.Reply.TheVariants.{Opened}
 use Rattle.segment_law.specs.declared.counts.Counts.{Counts}
+use Rattle.record_lemmas.proofs.Segments.{same_address}
+use Rattle.record_lemmas.proofs.Tests.{on_test, not_fails}
+use Rattle.record_lemmas.proofs.Told.{clean_is}
 use Rattle.lane_law.specs.Choice.{IsChoice}
 use Rattle.lane_law.specs.Lane as machine
 use Rattle.broadcast_law.proofs.Buses.{ahead_of}
-use Rattle.broadcast_law.proofs.Good.{same_address}
 use Rattle.broadcast_law.proofs.Places.{AllOwn}
 use Rattle.broadcast_law.proofs.Stations.{IsOwn}
-use Rattle.broadcast_law.proofs.Words.{on_test}
 use Rattle.connection_law.proofs.Roles.{sender_view, receiver_view, IsSenderOf, IsReceiverOf, station_told, told_to, ended_in}
 use Rattle.connection_law.proofs.View.{Laws, IsPair, Mark, View, Sim, Still, next_still, still_same}
 use Rattle.connection_law.proofs.Marks.{less_mark}
@@ -42,20 +43,6 @@ use Rattle.connection_law.proofs.Segments.{Ghost, parts, station_in, Goes, goes_
 use Rattle.connection_law.proofs.StepsOut.{out_ports, out_closes, aside as out_aside, sender_pumps, sender_cancels, sender_fires, sender_sends_here, sender_sends_else}
 use Rattle.connection_law.proofs.ClosesIn.{receiver_closes}
 use Rattle.connection_law.proofs.StepsIn.{in_ports, in_pumps, in_cancels, in_sends, aside as in_aside, receiver_fires}
-
--- a PGN is meant as it is
-clean_is : (pgn : ℕ) → is_pgn pgn ≡ true → (pgn < 2 ^ 18) × (clean pgn ≡ pgn)
-clean_is pgn is =
-    let h : (nat_lt pgn (2 ^ 18) ≡ true) × ((not (is_pdu1 pgn) || pgn % 2 ^ 8 == 0) ≡ true) = and_parts (nat_lt pgn (2 ^ 18)) (not (is_pdu1 pgn) || pgn % 2 ^ 8 == 0) is in
-    (ltb-true pgn (2 ^ 18) h.0, by (is_pdu1 pgn) h.1)
-  where
-    by : (b : Bool) → (not b || pgn % 2 ^ 8 == 0) ≡ true → cond b (pgn / 2 ^ 8 * 2 ^ 8) pgn ≡ pgn
-    by true e = let z : pgn % 2 ^ 8 ≡ 0 = eqb-true (pgn % 2 ^ 8) 0 e in omega (arith, z)
-    by false e = refl
-
-not_true : (b : Bool) → not b ≡ false → b ≡ true
-not_true true e = refl
-not_true false e = absurd (cc)
 
 module _ (laws : Laws) (choose : machine.OnEachLane (λ lane. IsChoice lane.stream.given lane.stream.sent)) (s d : Address) (pair : IsPair s d)
     (seg : Segment) (r : IsReached seg) (each : AllOwn seg) (i : ℕ) (st : Station) (at : slice_get seg.stations i ≡ Some st) where
@@ -186,7 +173,7 @@ module _ (laws : Laws) (choose : machine.OnEachLane (λ lane. IsChoice lane.stre
       or_refused laws s d pair seg (Cancel from to number) (not (is_pending_at st.lanes to.0 number)) _ _ (λ pending.
       or_refused laws s d pair seg (Cancel from to number) (queues_abort_at st.lanes to.0 number && no_place st) _ _ (λ _.
       good_plain (counted seg.counts (cancelled st to number).events) (cancelled st to number) none_opened (turns_none laws s d pair seg r i st at (cancelled st to number).station refl) (tells_lane s d st.address st own to (λ l. Rattle.lane_core.specs.Endings.cancelled l number)) (record {
-        out = λ k v l ahead is h. sender_cancels laws s d pair v ahead l st k is h to number (not_true (is_pending_at st.lanes to.0 number) pending);
+        out = λ k v l ahead is h. sender_cancels laws s d pair v ahead l st k is h to number (not_fails (is_pending_at st.lanes to.0 number) pending);
         in_it = λ k v l behind is h. in_aside laws choose s d pair v behind l st k is h _ (in_cancels laws choose s d pair st k to number);
       }))))
 

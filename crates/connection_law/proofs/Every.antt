@@ -15,9 +15,10 @@ use Rattle.segment_law.specs.Reached.{IsReached}
 use Rattle.segment_law.specs.declared.call.Call.{Call}
 use Rattle.segment_law.specs.declared.call.Call.TheVariants.{Open, Close, Send, Pump, Transmit, Take, TakeAgain, Overrun, Tick, Fire, Cancel, Inject, Pause, Resume}
 use Rattle.segment_law.proofs.Booleans.{both_pass}
+use Rattle.record_lemmas.proofs.Segments.{found_passes}
 use Rattle.lane_law.specs.Choice.{IsChoice}
 use Rattle.lane_law.specs.Lane as machine
-use Rattle.broadcast_law.proofs.Places.{IsAt, AllOwn, found_passes}
+use Rattle.broadcast_law.proofs.Places.{IsAt, AllOwn}
 use Rattle.broadcast_law.proofs.Ports.{one_of_none}
 use Rattle.connection_law.proofs.View.{Laws, IsPair, still_same}
 use Rattle.connection_law.proofs.Segments.{Good, Keeps, station_in, goes_quietly, replied_good, or_refused}

@@ -21,9 +21,10 @@ use Rattle.segment_law.specs.declared.call.Call.TheVariants.{Open, Close, Send, 
 use Rattle.segment_law.specs.declared.counts.Counts.{Counts}
 use Rattle.segment_law.specs.declared.refusal.Refusal.{Refusal}
 use Rattle.segment_law.specs.declared.reply.Reply.TheVariants.{Refused}
+use Rattle.record_lemmas.proofs.Tests.{equal_or_not}
 use Rattle.lane_law.specs.Lane as machine
 use Rattle.broadcast_law.proofs.Buses.{ahead_of}
-use Rattle.broadcast_law.proofs.Places.{IsAt, equal_or_not, one_place, apart_places}
+use Rattle.broadcast_law.proofs.Places.{IsAt, one_place, apart_places}
 use Rattle.broadcast_law.proofs.Ports.{IsOneGiving, one_of_none, first_message}
 use Rattle.connection_law.proofs.Frames.{goes, returns}
 use Rattle.connection_law.proofs.Roles.{real_at, station_told, numbers_at, ended_in}

@@ -22,13 +22,14 @@ use Rattle.segment_law.specs.declared.call.Call.{Call}
 use Rattle.segment_law.specs.declared.reply.Reply.{Reply}
 use Rattle.segment_law.proofs.Booleans.{both_pass}
 use Rattle.segment_law.proofs.Reaching.{reached_call}
+use Rattle.record_lemmas.proofs.Lists.{Each, each_append, each_get}
+use Rattle.record_lemmas.proofs.Told.{items_placed, told_last}
 use Rattle.lane_law.specs.Message.{IsSent}
 use Rattle.lane_law.specs.Session.{Given}
 use Rattle.lane_law.specs.Choice as choice
 use Rattle.lane_law.specs.Choice.{IsChoice, IsGiven}
 use Rattle.lane_law.specs.Outcome as fate
 use Rattle.lane_law.specs.Lane as machine
-use Rattle.broadcast_law.proofs.AlongRecords.{items_placed}
 use Rattle.broadcast_law.proofs.Counted.{at_step, giving}
 use Rattle.broadcast_law.proofs.Every.{good_call as others_good}
 use Rattle.broadcast_law.proofs.Good.{Good as OthersGood}
@@ -36,13 +37,11 @@ use Rattle.broadcast_law.proofs.Numbered.{Giving, messages}
 use Rattle.broadcast_law.proofs.Places.{IsAt, AllOwn}
 use Rattle.broadcast_law.proofs.Ports.{Distinct, first_message}
 use Rattle.broadcast_law.proofs.View.{plain, cleaned, GoesOn}
-use Rattle.broadcast_law.proofs.Words.{Each, each_append}
 use Rattle.port_law.proofs.Calls.{Good as OfPort, Goes as GoesOfPort}
 use Rattle.port_law.proofs.Every.{goes_call}
 use Rattle.port_law.proofs.Lives.{Openings, Closings}
 use Rattle.connection_law.proofs.Roles.{station_told, numbers_at, ended_in}
 use Rattle.connection_law.proofs.View.{Laws, IsPair, Mark, IsMarked, View, kind_of, IsGood, IsTold, Has, fate_of, Sim}
-use Rattle.connection_law.proofs.Pumping.{each_get}
 use Rattle.connection_law.proofs.Receiver.{all_last}
 use Rattle.connection_law.proofs.Segments.{Ghost, view, parts, station_in, Goes, Good}
 use Rattle.connection_law.proofs.HearsIn.{at_all}
@@ -52,7 +51,7 @@ use Rattle.connection_law.proofs.Openings.{IsOpened}
 use Rattle.connection_law.proofs.Kept.{Kept, IsMarkAfter, place_of_mark, kept_next, all_opened_on, opened_new}
 use Rattle.connection_law.proofs.Every.{good_call}
 use Rattle.connection_law.proofs.Tally.{Tally, tally_sent, tally_given, as_long}
-use Rattle.connection_law.proofs.Along.{told_last, item_of, cancel_front, none_mapped, one_mapped, none_sent, IsBefore, IsTrueAt, true_more}
+use Rattle.connection_law.proofs.Along.{item_of, cancel_front, none_mapped, one_mapped, none_sent, IsBefore, IsTrueAt, true_more}
 
 module _ (broadcasts : GoesOn) (laws : Laws) (choose : machine.OnEachLane (λ lane. IsChoice lane.stream.given lane.stream.sent)) (s d : Address) (pair : IsPair s d) where
   -- at this record a lane stands for the segment

@@ -23,9 +23,10 @@ use Rattle.segment_law.specs.declared.reply.Reply.TheVariants.{Sent}
 use Rattle.segment_law.proofs.Booleans.{both_pass}
 use Rattle.segment_law.proofs.Reaching.{reached_call}
 use Rattle.segment_law.proofs.New.{new_reached}
-use Rattle.outcome_law.proofs.Counting.{on_test, times, times-here}
+use Rattle.record_lemmas.proofs.Segments.{found_passes}
+use Rattle.record_lemmas.proofs.Tests.{on_test}
+use Rattle.outcome_law.proofs.Counting.{times, times-here}
 use Rattle.outcome_law.proofs.LaneSteps.{numbers_of}
-use Rattle.outcome_law.proofs.Places.{found_passes}
 use Rattle.outcome_law.proofs.Beginning.{new_at}
 use Rattle.outcome_law.proofs.Calls.{Good}
 use Rattle.outcome_law.proofs.Every.{good_call}

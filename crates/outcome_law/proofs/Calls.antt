@@ -33,7 +33,8 @@ use Rattle.segment_law.specs.declared.call.Call.TheVariants.{Open, Close, Send, 
 use Rattle.segment_law.specs.declared.refusal.Refusal.{Refusal}
 use Rattle.segment_law.proofs.FitStations.{Stays, taken_stays, pumped_stays, cancelled_stays, fired_stays, closed_stays}
 use Rattle.segment_law.proofs.Reaching.{as_it_is}
-use Rattle.outcome_law.proofs.Counting.{on_test, times}
+use Rattle.record_lemmas.proofs.Tests.{on_test, not_fails}
+use Rattle.outcome_law.proofs.Counting.{times}
 use Rattle.outcome_law.proofs.LaneSteps.{numbers_of}
 use Rattle.outcome_law.proofs.Events.{named_in}
 use Rattle.outcome_law.proofs.Lanes.{put_here, put_apart}
@@ -152,11 +153,7 @@ module _ (s d : Address) where
         or_refused seg (Cancel from to number) (not (is_pending_at st.lanes to.0 number)) _ _ (λ pending.
         or_refused seg (Cancel from to number) (queues_abort_at st.lanes to.0 number && no_place st) _ _ (λ _.
         good_step (cancelled st to number) (cancelled_stays st.address st to number stays).address
-        (cancelled_tells st to number (is_true (is_pending_at st.lanes to.0 number) pending)))))
-      where
-        is_true : (b : Bool) → not b ≡ false → b ≡ true
-        is_true true e = refl
-        is_true false e = absurd (let no : true ≡ false = e in cc)
+        (cancelled_tells st to number (not_fails (is_pending_at st.lanes to.0 number) pending)))))
 
     pub transmits_good : (station : Address) (o : Option CanFrame) → Keeps seg (Transmit station) (transmits_by seg i st o)
     transmits_good station None = tt

@@ -14,7 +14,7 @@ use Rattle.segment_law.specs.declared.call.Call.{Call}
 use Rattle.segment_law.specs.declared.call.Call.TheVariants.{Open, Close, Send, Pump, Transmit, Take, TakeAgain, Overrun, Tick, Fire, Cancel, Inject, Pause, Resume}
 use Rattle.segment_law.specs.declared.refusal.Refusal.{Refusal}
 use Rattle.segment_law.specs.declared.reply.Reply.TheVariants.{Refused}
-use Rattle.outcome_law.proofs.Places.{found_passes}
+use Rattle.record_lemmas.proofs.Segments.{found_passes}
 use Rattle.outcome_law.proofs.Calls.{Good, Keeps, or_refused, good_same, opens_good, closes_good, pauses_good, resumes_good, pumps_good, cancels_good, transmits_good, takes_good, repeats_good, overruns_good, fires_good, sends_good}
 
 module _ (s d : Address) where

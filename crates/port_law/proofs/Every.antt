@@ -29,14 +29,11 @@ use Rattle.segment_law.specs.declared.call.Call.{Call}
 use Rattle.segment_law.specs.declared.call.Call.TheVariants.{Open, Close, Send, Pump, Transmit, Take, TakeAgain, Overrun, Tick, Fire, Cancel, Inject, Pause, Resume}
 use Rattle.segment_law.specs.declared.refusal.Refusal.{Refusal}
 use Rattle.segment_law.specs.declared.reply.Reply.TheVariants.{Refused}
+use Rattle.record_lemmas.proofs.Tests.{not_fails}
 use Rattle.port_law.proofs.Calls.{Good, Goes, goes_same, goes_acts, goes_opened, goes_paused, goes_closed}
 use Rattle.port_law.proofs.Lives.{Openings, Closings}
 use Rattle.port_law.proofs.Receptions.{AreBound}
 use Rattle.port_law.proofs.Stations.{Acts, acts_lane, acts_taken, acts_fired, acts_overrun}
-
-not_not : (b : Bool) → not b ≡ false → b ≡ true
-not_not true e = refl
-not_not false e = absurd (cc)
 
 module _ (p : PortId) (n : ℕ) (os : Openings) (cs : Closings) where
   abbrev Keeps : Call → Answer → Type 0
@@ -89,7 +86,7 @@ module _ (p : PortId) (n : ℕ) (os : Openings) (cs : Closings) where
       opens_keeps station pgn max_len = or_refused (Open station pgn max_len) (are_full st.ports) _ _ (λ _. goes_opened p n os cs seg.stations good i st at pgn max_len)
 
       closes_keeps : (port : PortId) → place_of seg port.station ≡ Some i → Keeps (Close port) (closes seg port.number i st)
-      closes_keeps port place = or_refused (Close port) (not (is_open st.ports port.number)) _ _ (λ e. goes_closed p n os cs seg.stations good i st at port (not_not (is_open st.ports port.number) e) place r.places)
+      closes_keeps port place = or_refused (Close port) (not (is_open st.ports port.number)) _ _ (λ e. goes_closed p n os cs seg.stations good i st at port (not_fails (is_open st.ports port.number) e) place r.places)
 
       pauses_keeps : (port : PortId) → Keeps (Pause port) (pauses seg port.number i st)
       pauses_keeps port = or_refused (Pause port) (not (is_open st.ports port.number)) _ _ (λ _. or_refused (Pause port) (is_paused st.ports port.number) _ _ (λ _. goes_paused p n os cs seg.stations good i st at port.number true))

@@ -16,10 +16,10 @@ use Rattle.segment_law.specs.declared.reply.Reply.{Reply}
 use Rattle.segment_law.proofs.Booleans.{both_pass}
 use Rattle.segment_law.proofs.New.{new_reached}
 use Rattle.segment_law.proofs.Reaching.{reached_call}
+use Rattle.record_lemmas.proofs.Maps.{of_each_none}
 use Rattle.port_law.proofs.Calls.{IsSound, placed, HasLife, Good, Goes}
 use Rattle.port_law.proofs.Every.{goes_call}
 use Rattle.port_law.proofs.Lives.{Openings, Closings, lives_first}
-use Rattle.port_law.proofs.Maps.{of_each_none}
 use Rattle.port_law.proofs.Receptions.{IsBound}
 
 module _ (p : PortId) where

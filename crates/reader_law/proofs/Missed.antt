@@ -40,32 +40,15 @@ use Rattle.segment_law.proofs.Booleans.{both_pass, not_passes}
 use Rattle.segment_law.proofs.FitStations.{Stays, taken_stays, fired_stays, closed_stays}
 use Rattle.segment_law.proofs.Reaching.{position_kept, slice_get_same, as_it_is, reached_call}
 use Rattle.segment_law.proofs.Records.{stands_reached}
+use Rattle.record_lemmas.proofs.Segments.{found_passes, found_there}
+use Rattle.record_lemmas.proofs.Tests.{on_test}
 use Rattle.reader_law.specs.Counting.{is_done}
 use Rattle.reader_law.specs.Missed.{is_take_at, takes_at, HasMissed}
-use Rattle.reader_law.proofs.Filled.{on_test}
 
 -- Where the station with an address stands
 
 abbrev has : Address → Station → Bool
 has a st = st.address.0 == a.0
-
-found_at : (test : Station → Bool) (xs : List Station) (x : Station) → slice_get xs (position_or_len test xs) ≡ Some x → test x ≡ true
-found_at test [] x e = absurd (none-some x e)
-found_at test (y ∷ ys) x e = on_test (λ b. test y ≡ b → slice_get (y ∷ ys) (cond (not b) (1 + position_or_len test ys) 0) ≡ Some x → test x ≡ true) (test y)
-    (λ _ t q. subst (λ z. test z ≡ true) (same_Some y x q) t)
-    (λ _ t q. let n : 1 + position_or_len test ys ≡ suc (position_or_len test ys) = omega arith in found_at test ys x (subst (λ k. slice_get (y ∷ ys) k ≡ Some x) n q)) refl e
-
--- it has that address
-found_passes : (test : Station → Bool) (xs : List Station) (i : ℕ) (x : Station) → position test xs ≡ Some i → slice_get xs i ≡ Some x → test x ≡ true
-found_passes test xs i x p e = on_test (λ b. cond b (Some (position_or_len test xs)) None ≡ Some i → test x ≡ true) (nat_lt (position_or_len test xs) (length xs))
-    (λ _ q. found_at test xs x (ap (slice_get xs) (same_Some (position_or_len test xs) i q) ∙ e))
-    (λ _ q. absurd (none-some i q)) p
-
--- there is one
-found_there : (test : Station → Bool) (xs : List Station) (i : ℕ) (d : Station) → position test xs ≡ Some i → slice_get xs i ≡ Some (get_or xs i d)
-found_there test xs i d p = on_test (λ b. nat_lt (position_or_len test xs) (length xs) ≡ b → cond b (Some (position_or_len test xs)) None ≡ Some i → slice_get xs i ≡ Some (get_or xs i d)) (nat_lt (position_or_len test xs) (length xs))
-    (λ _ t q. slice_get-get_or xs i d (subst (λ k. k < length xs) (same_Some (position_or_len test xs) i q) (ltb-true (position_or_len test xs) (length xs) t)))
-    (λ _ t q. absurd (none-some i q)) refl p
 
 -- Cursors
 

@@ -120,7 +120,7 @@ module _ (seg : Segment) (P : Call → Segment × Reply → Type 0) where
     pub each_called : (call : Call) → Holds call (called seg call)
     unfolding called
     each_called (Open a pgn max_len) = at_holds (Open a pgn max_len) a _ (λ i st k q. or_refused (Open a pgn max_len) (are_full st.ports) _ _ (λ _. k.opens a pgn max_len q))
-    each_called (Close port) = at_holds (Close port) port.station _ (λ i st k q. or_refused (Close port) (not (is_open st.ports port.number)) _ _ (λ open. k.closes port q (not_fails (is_open st.ports port.number) open)))
+    each_called (Close port) = at_holds (Close port) port.station _ (λ i st k q. or_refused (Close port) (not (is_open st.ports port.number)) _ _ (λ is. k.closes port q (not_fails (is_open st.ports port.number) is)))
     each_called (Send from to pgn bytes) = at_holds (Send from to pgn bytes) from _ (λ i st k q. sends_hold i st k from to pgn bytes q)
     each_called (Pump a to) = at_holds (Pump a to) a _ (λ i st k q. or_refused (Pump a to) (to.0 == null_address) _ _ (λ _. pumps_hold i st k a to q (refusal_at st.lanes to.0 seg.now)))
     each_called (Transmit a) = at_holds (Transmit a) a _ (λ i st k q. transmits_hold i st k a q (front st.queue) refl)

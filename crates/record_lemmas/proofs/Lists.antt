@@ -1,5 +1,5 @@
 -- Lists each or some of whose items pass, by recursion on the list, so that what lists are made of shows it item by item.
-use Rattle.std.proofs.Common.{◌≡◌, ◌⊎◌, inl, inr, ℕ, zero, suc, ◌<◌, Bool, true, false, cond, List, [], ◌∷◌, ◌++◌, filter, map, length, Some, refl, sym, subst, arith}
+use Rattle.std.proofs.Common.{◌≡◌, ◌⊎◌, inl, inr, ℕ, zero, suc, ◌-◌, take, ap, ◌∙◌, ◌<◌, Bool, true, cond, List, [], ◌∷◌, ◌++◌, filter, map, length, Some, refl, sym, subst, arith}
 use Rattle.std.specs.Prelude.{All, Any, slice_get, slice_index_or}
 use Rattle.std.proofs.lemmas.List.Elements.{All-head, All-tail, All-nil, All-cons}
 use Rattle.std.proofs.lemmas.Option.{same_Some, none-some}
@@ -103,3 +103,11 @@ any_in P xs (k, x, l, e, p) = at xs k l e
     at [] k l e = absurd (omega (arith, l))
     at (y ∷ ys) zero l e = inl (subst P (sym e) p)
     at (y ∷ ys) (suc k) l e = inr (at ys k (omega (arith, l)) e)
+
+-- the first n items of a list followed by another
+pub take_more : (n : ℕ) (xs ys : List ℕ) → take n xs ++ take (n - length (take n xs)) ys ≡ take n (xs ++ ys)
+take_more zero xs ys = refl
+take_more (suc n) [] ys = let e : suc n - 0 ≡ suc n = omega arith in ap (λ k. take k ys) e
+take_more (suc n) (x ∷ xs) ys =
+    let e : suc n - suc (length (take n xs)) ≡ n - length (take n xs) = omega arith in
+    ap (λ k. x ∷ (take n xs ++ take k ys)) e ∙ ap (λ zs. x ∷ zs) (take_more n xs ys)

@@ -1,6 +1,6 @@
 -- Look-ups in the parts of a segment: the station that an address leads to has that address, and each station and each cursor
 -- of a new segment is new.
-use Rattle.std.proofs.Common.{◌≡◌, ◌<◌, ℕ, zero, suc, ◌+◌, ◌==◌, nat_lt, Bool, true, cond, not, List, [], ◌∷◌, map, length, get_or, replicate, Some, None, refl, sym, ap, ◌∙◌, subst, arith, eqb-true}
+use Rattle.std.proofs.Common.{◌≡◌, ◌<◌, ℕ, zero, suc, ◌+◌, ◌==◌, nat_lt, Bool, true, cond, not, List, [], ◌∷◌, map, length, get_or, replicate, Some, None, refl, ap, ◌∙◌, subst, arith, eqb-true}
 use Rattle.std.specs.Prelude.{slice_get, position}
 use Rattle.std.specs.List.{position_or_len}
 use Rattle.std.proofs.lemmas.Bool.{ltb-true}
@@ -11,7 +11,7 @@ use Rattle.station_core.specs.Station.{Station, new_station}
 use Rattle.segment_law.specs.Segment.{Segment, place_of}
 use Rattle.record_lemmas.proofs.Tests.{on_test}
 
-pub same_address : (a b : Address) → a.0 ≡ b.0 → a ≡ b
+abbrev pub same_address : (a b : Address) → a.0 ≡ b.0 → a ≡ b
 same_address a b e = λ i. record { 0 = e i }
 
 -- what is found at a place passes

@@ -1,9 +1,11 @@
 -- What the steps of a record tell stands at their places, in their order; and only a Send that isn't refused tells a message
 -- that is sent, to another station than its own.
-use Rattle.std.proofs.Common.{◌≡◌, ℕ, zero, suc, ◌+◌, ◌<◌, ◌≤◌, ◌==◌, true, false, cond, List, [], ◌∷◌, ◌++◌, map, length, Option, Some, None, refl, sym, ap, ◌∙◌, subst, arith, append-nil, append_assoc}
+use Rattle.std.proofs.Common.{◌≡◌, ℕ, zero, suc, ◌+◌, ◌<◌, ◌≤◌, ◌==◌, ◌^◌, ◌%◌, ◌/◌, ◌*◌, ◌||◌, not, nat_lt, Bool, true, false, cond, List, [], ◌∷◌, ◌++◌, map, length, Option, Some, None, refl, sym, ap, ◌∙◌, subst, arith, append-nil, append_assoc}
 use Rattle.std.specs.Prelude.{slice_get}
-use Rattle.std.proofs.lemmas.Bool.{and_parts, eqb-true, eq-eqb, true≢false}
+use Rattle.std.proofs.lemmas.Bool.{and_parts, ltb-true, eqb-true, eq-eqb, true≢false}
+use Rattle.pgn_ids.specs.Pgn.{is_pdu1, is_pgn, clean}
 use Rattle.pgn_ids.specs.declared.address.Address.{Address}
+use Rattle.station_core.specs.Sending.{lane_of}
 use Rattle.station_lanes.specs.declared.event.Event.{Event}
 use Rattle.segment_law.specs.Told.{Message, Placed, told_from, items_of, places_of, sent_by, is_lane}
 use Rattle.segment_law.specs.Numbering.{item, IsAfter}
@@ -62,6 +64,16 @@ after_all sends (suc n) place h some within = got sends n h (omega (arith, withi
     got (x ∷ xs) zero h l = h.0
     got (x ∷ xs) (suc k) h l = got xs k h.1 (omega (arith, l))
 
+-- a PGN is meant as it is
+pub clean_is : (pgn : ℕ) → is_pgn pgn ≡ true → (pgn < 2 ^ 18) × (clean pgn ≡ pgn)
+clean_is pgn is =
+    let h : (nat_lt pgn (2 ^ 18) ≡ true) × ((not (is_pdu1 pgn) || pgn % 2 ^ 8 == 0) ≡ true) = and_parts (nat_lt pgn (2 ^ 18)) (not (is_pdu1 pgn) || pgn % 2 ^ 8 == 0) is in
+    (ltb-true pgn (2 ^ 18) h.0, by (is_pdu1 pgn) h.1)
+  where
+    by : (b : Bool) → (not b || pgn % 2 ^ 8 == 0) ≡ true → cond b (pgn / 2 ^ 8 * 2 ^ 8) pgn ≡ pgn
+    by true e = let z : pgn % 2 ^ 8 ≡ 0 = eqb-true (pgn % 2 ^ 8) 0 e in omega (arith, z)
+    by false e = refl
+
 -- A refusal, or a reply with events, takes no message for sending
 
 module _ (s d : Address) where
@@ -116,8 +128,8 @@ module _ (s : Address) where
   accepted seg = record {
     station = λ i st at. record {
       opens = λ a pgn max_len q. refl;
-      closes = λ port q open. refl;
-      sends = λ from to pgn bytes q other long short. none_if from to pgn bytes _ (other_lane st.address from to (has_address seg from i st q at) other);
+      closes = λ port q is. refl;
+      sends = λ from to pgn bytes q other long short. none_if from to pgn bytes ((lane_of st to).sent + 1) (other_lane st.address from to (has_address seg from i st q at) other);
       pumps = λ a to q. refl;
       transmits = λ a f q e free. refl;
       takes = λ a room f q e free. refl;

@@ -9,9 +9,9 @@ use Rattle.station_core.specs.Station.{Station, new_station}
 use Rattle.segment_law.specs.Segment.{Segment, new_segment, rising}
 use Rattle.segment_law.specs.Calls.{applied}
 use Rattle.segment_law.specs.Record.{Record, StandsAt, after, calls_of}
+use Rattle.record_lemmas.proofs.Maps.{of_each_none}
 use Rattle.port_law.proofs.Calls.{IsSound, placed}
 use Rattle.port_law.proofs.Lives.{Openings, Closings}
-use Rattle.port_law.proofs.Maps.{of_each_none}
 use Rattle.port_law.proofs.Receptions.{IsBound}
 use Rattle.port_law.proofs.Records.{opens, shuts, AllGo, record_goes}
 

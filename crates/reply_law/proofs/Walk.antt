@@ -40,17 +40,15 @@ use Rattle.segment_law.specs.declared.refusal.Refusal.{Refusal}
 use Rattle.segment_law.specs.declared.reply.Reply.{Reply}
 use Rattle.segment_law.specs.declared.reply.Reply.TheVariants.{Opened, Sent, Done}
 use Rattle.segment_law.proofs.Reaching.{slice_get_same, slice_get_other}
+use Rattle.record_lemmas.proofs.Lists.{Each, In}
+use Rattle.record_lemmas.proofs.Segments.{found_passes, same_address}
+use Rattle.record_lemmas.proofs.Tests.{equal_or_not}
 use Rattle.port_law.proofs.Calls.{IsSound}
 use Rattle.port_law.proofs.Closing.{closes as closing_is}
 use Rattle.port_law.proofs.Ports.{IsAllowed, Opens}
 use Rattle.port_law.proofs.Stations.{Acts, acts_lane, acts_taken, acts_fired, acts_overrun}
-use Rattle.port_law.proofs.Words.{Each, In}
-use Rattle.outcome_law.proofs.Places.{found_passes}
 use Rattle.reply_law.specs.Replies.{IsRefusal, IsAnsweredBy, expected, EachAt, IsKnown, EachKnown}
 use Rattle.reply_law.proofs.Gives.{EachShort, taken_none, taken_short, by_lane_none, fired_none, overrun_none}
-
-same_address : (a b : Address) → a.0 ≡ b.0 → a ≡ b
-same_address a b e = λ i. record { 0 = e i }
 
 -- nothing is given
 none_at : (a : Address) (n : ℕ) (es : List Event) → ports_given es ≡ [] → EachAt a n es
@@ -88,13 +86,6 @@ pub record Goes (seg : Segment) (call : Call) (next : Segment) (reply : Reply) :
 
 abbrev KnownIn : PortId → List Station → Type 0
 KnownIn p stations = (i : ℕ) (st : Station) → slice_get stations i ≡ Some st → st.address.0 ≡ p.station.0 → p.number ≤ st.ports.opened
-
-equal_or_not : (j k : ℕ) → (j ≡ k) ⊎ (j ≡ k → ⊥)
-equal_or_not j k = by (j == k) refl
-  where
-    by : (b : Bool) → (j == k) ≡ b → (j ≡ k) ⊎ (j ≡ k → ⊥)
-    by true e = inl (eqb-true j k e)
-    by false e = inr (eqb-false j k e)
 
 not_opened : (es : List Event) (p : PortId) → Done es ≡ Opened p → ⊥
 not_opened es p e = cc
