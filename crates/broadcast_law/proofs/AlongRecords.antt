@@ -5,20 +5,18 @@ use Rattle.std.specs.List.{list_all}
 use Rattle.std.specs.Option.{option_map}
 use Rattle.std.proofs.lemmas.List.{map-append, length_push}
 use Rattle.std.proofs.lemmas.List.Elements.{All-head, All-tail}
-use Rattle.std.proofs.lemmas.Option.{slice_get-map, none-some, same_Some}
+use Rattle.std.proofs.lemmas.Option.{slice_get-map}
 use Rattle.pgn_ids.specs.Address.{is_one}
 use Rattle.pgn_ids.specs.Pgn.{clean}
 use Rattle.pgn_ids.specs.declared.address.Address.{Address}
-use Rattle.station_lanes.specs.declared.event.Event.{Event}
 use Rattle.segment_law.specs.Told as told
 use Rattle.segment_law.specs.Told.{Placed, AtPort, told_from, items_of, sent_by, sends, sent, station_givens}
 use Rattle.segment_law.specs.Numbering.{item, IsChoice}
 use Rattle.segment_law.specs.Segment.{Segment}
 use Rattle.segment_law.specs.Calls.{applied, events_of, is_call}
-use Rattle.segment_law.specs.Record.{Step, Record, replies_from, after, calls_of, replies_of}
+use Rattle.segment_law.specs.Record.{Record, replies_from, after, calls_of, replies_of}
 use Rattle.segment_law.specs.Reached.{IsReached}
 use Rattle.segment_law.specs.declared.call.Call.{Call}
-use Rattle.segment_law.specs.declared.call.Call.TheVariants.{Open, Close, Send, Pump, Transmit, Take, TakeAgain, Overrun, Tick, Fire, Cancel, Inject, Pause, Resume}
 use Rattle.segment_law.specs.declared.reply.Reply.{Reply}
 use Rattle.segment_law.specs.declared.reply.Reply.TheVariants.{Opened, Sent, Refused, Done}
 use Rattle.segment_law.proofs.Booleans.{both_pass}

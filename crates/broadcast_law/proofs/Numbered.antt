@@ -1,15 +1,14 @@
 -- Numbers of what a station was given over all its ports: one for each reply that gives a message, once for each of its ports.
 use Rattle.std.proofs.Common.{◌≡◌, ◌⊎◌, inl, inr, ℕ, zero, suc, ◌+◌, ◌<◌, ◌≤◌, ◌==◌, Bool, cond, List, [], ◌∷◌, ◌++◌, map, filter, Some, refl, sym, ap, ◌∙◌, subst, arith, eqb-true}
-use Rattle.std.specs.Prelude.{All, AllPairs, zip, slice_index_or}
+use Rattle.std.specs.Prelude.{AllPairs, zip, slice_index_or}
 use Rattle.std.specs.List.{AllZip}
 use Rattle.std.specs.List.Sorted.{IsStrictlyIncreasing, IsNonDecreasing}
 use Rattle.std.proofs.lemmas.Bool.{cases_eq}
 use Rattle.std.proofs.lemmas.List.{map-append}
-use Rattle.std.proofs.lemmas.List.Elements.{All-head, All-tail, All-nil, All-cons}
 use Rattle.std.proofs.lemmas.List.Kept.{AllPairs-cons, AllPairs-from_increasing}
 use Rattle.segment_law.specs.Told.{Message, Placed, AtPort, items_of, places_of}
 use Rattle.segment_law.specs.Numbering.{item, IsNumbering, IsAfter, Numbered, part_of}
-use Rattle.record_lemmas.proofs.Lists.{Each, each_append, each_map, each_of_all, each_all}
+use Rattle.record_lemmas.proofs.Lists.{Each, each_append, each_map, each_of_all, each_all, all_each, each_weaker}
 use Rattle.record_lemmas.proofs.Tests.{on_test}
 use Rattle.broadcast_law.proofs.Ports.{Distinct}
 

@@ -1,6 +1,6 @@
 -- The steps of an incoming session: each packet before the next one is there whole, and a message that is complete has the size
 -- that was announced.
-use Rattle.std.proofs.Common.{◌≡◌, ◌⊎◌, inl, inr, ℕ, ◌+◌, ◌-◌, ◌*◌, ◌<◌, ◌≤◌, nat_lt, Bool, true, false, cond, not, ◌&&◌, ◌||◌, List, length, take, None, ap, ◌∙◌, arith, refl, ⊎_elim}
+use Rattle.std.proofs.Common.{◌≡◌, ◌⊎◌, inl, inr, ℕ, ◌+◌, ◌-◌, ◌*◌, ◌<◌, ◌≤◌, nat_lt, Bool, true, false, cond, not, ◌&&◌, ◌||◌, List, length, take, None, ap, ◌∙◌, arith, ⊎_elim}
 use Rattle.std.specs.Prelude.{nat_le}
 use Rattle.std.proofs.lemmas.Bool.{cases_lt, eqb-true}
 use Rattle.std.proofs.lemmas.List.{length-append, length-take-le, take_all}
@@ -35,7 +35,7 @@ use Rattle.etp_session.specs.declared.in_state.InState.{InState as EtpState}
 use Rattle.etp_session.specs.declared.in_state.InState.TheVariants as etp-state
 use Rattle.etp_session.specs.declared.received.Received as etp
 use Rattle.etp_session.specs.declared.received.Received.TheVariants as etp-received
-use Rattle.record_lemmas.proofs.Tests.{on_test}
+use Rattle.record_lemmas.proofs.Tests.{on_test, either}
 
 -- Joins
 

@@ -1,9 +1,9 @@
 -- A station that missed frames has none to take again: its cursor says so until it takes a frame, whatever calls come between.
-use Rattle.std.proofs.Common.{◌≡◌, ◌≢◌, ℕ, suc, ◌+◌, ◌<◌, ◌^◌, ◌==◌, nat_lt, Bool, true, false, cond, not, ◌&&◌, List, [], ◌∷◌, length, set, get_or, Option, Some, None, Ok, Err, refl, sym, ap, ◌∙◌, subst, arith, eqb-true, get_or-set_same, get_or-set_other}
+use Rattle.std.proofs.Common.{◌≡◌, ◌≢◌, ℕ, ◌+◌, ◌<◌, ◌^◌, ◌==◌, nat_lt, Bool, true, false, cond, not, ◌&&◌, List, [], ◌∷◌, length, set, get_or, Option, Some, None, Ok, Err, refl, sym, ap, ◌∙◌, subst, arith, eqb-true, get_or-set_same, get_or-set_other}
 use Rattle.std.specs.Prelude.{slice_get, position, unwrap_or}
-use Rattle.std.specs.List.{list_all, position_or_len}
-use Rattle.std.proofs.lemmas.Bool.{eqb-false, ltb-true}
-use Rattle.std.proofs.lemmas.Option.{same_Some, none-some, slice_get_within, slice_get-get_or}
+use Rattle.std.specs.List.{list_all}
+use Rattle.std.proofs.lemmas.Bool.{eqb-false}
+use Rattle.std.proofs.lemmas.Option.{slice_get_within}
 use Rattle.bus_frame.specs.Frames.{CanFrame}
 use Rattle.pgn_ids.specs.Address.{null_address}
 use Rattle.pgn_ids.specs.Identifier.{meaning_of}
@@ -41,7 +41,6 @@ use Rattle.segment_law.proofs.FitStations.{Stays, taken_stays, fired_stays, clos
 use Rattle.segment_law.proofs.Reaching.{position_kept, slice_get_same, as_it_is, reached_call}
 use Rattle.segment_law.proofs.Records.{stands_reached}
 use Rattle.record_lemmas.proofs.Segments.{found_passes, found_there}
-use Rattle.record_lemmas.proofs.Tests.{on_test}
 use Rattle.reader_law.specs.Counting.{is_done}
 use Rattle.reader_law.specs.Missed.{is_take_at, takes_at, HasMissed}
 
