@@ -1,5 +1,5 @@
 -- Along a record: what a station is given of the messages of s to all has numbers, over all its ports.
-use Rattle.std.proofs.Common.{◌≡◌, inl, inr, ℕ, ◌+◌, true, List, [], ◌∷◌, ◌++◌, map, length, Some, refl, sym, ap, ◌∙◌, subst, arith, append-nil, append_assoc, zero, suc, ◌-◌}
+use Rattle.std.proofs.Common.{◌≡◌, inl, inr, ℕ, ◌+◌, true, List, [], ◌∷◌, ◌++◌, map, length, Some, refl, sym, ap, ◌∙◌, subst, arith, append-nil, zero, suc, ◌-◌}
 use Rattle.std.specs.Prelude.{All, slice_get}
 use Rattle.std.specs.List.{list_all}
 use Rattle.std.specs.Option.{option_map}
@@ -19,8 +19,7 @@ use Rattle.segment_law.specs.Reached.{IsReached}
 use Rattle.segment_law.specs.declared.call.Call.{Call}
 use Rattle.segment_law.specs.declared.reply.Reply.{Reply}
 use Rattle.segment_law.specs.declared.reply.Reply.TheVariants.{Opened, Sent, Refused, Done}
-use Rattle.segment_law.proofs.Booleans.{both_pass}
-use Rattle.segment_law.proofs.Reaching.{reached_call}
+use Rattle.record_lemmas.proofs.AlongRecords.{along, carried}
 use Rattle.record_lemmas.proofs.Lists.{Each, each_get}
 use Rattle.record_lemmas.proofs.Told.{items_placed, none_done, told_last}
 use Rattle.lane_law.specs.Message.{Message, IsSent}
@@ -140,33 +139,32 @@ module _ (goes : GoesOn) (choose : StreamsChoose) (gives : GivesBack) (reads : R
             chosen = subst (λ xs. IsChoice xs (sent steps s all)) given_is
                 (subst (λ xs. IsChoice (messages h.givings ++ first_message given) xs) (ap (λ xs. sent steps s all ++ xs) none ∙ append-nil (sent steps s all)) (stands_choice choose s _ v))
 
-  -- a call, and the rest
+  -- and every station is as it should be
+  abbrev StoodAt : ℕ → ℕ → Record → Segment → Type 0
+  StoodAt x y steps seg = AllOwn seg × IsAt seg x s × IsAt seg y listener × Stood x y steps seg
+
+  stood_on : (x y : ℕ) → (s.0 ≡ listener.0 → ⊥) → (steps : Record) (seg : Segment) (call : Call) → IsReached seg → is_call call ≡ true → StoodAt x y steps seg → StoodAt x y (steps ++ (call, (applied seg call).1) ∷ []) (applied seg call).0
+  stood_on x y n steps seg call r is (each, at_x, at_y, h) =
+      let g : Good s listener seg (applied seg call).0 (sent_by s all call (applied seg call).1) (events_of (applied seg call).1) = good_call s listener one goes gives reads seven seg r each call is in
+      (g.each, g.there x s at_x, g.there y listener at_y, stood_next x y steps seg (applied seg call).0 call (applied seg call).1 g at_x at_y n h)
+
   pub all_stood : (todo steps : Record) (seg : Segment) → IsReached seg → AllOwn seg → list_all is_call (calls_of todo) ≡ true → replies_from seg (calls_of todo) ≡ replies_of todo
       → (x y : ℕ) → IsAt seg x s → IsAt seg y listener → (s.0 ≡ listener.0 → ⊥) → Stood x y steps seg → Stood x y (steps ++ todo) (after seg (calls_of todo))
-  all_stood [] steps seg r each fit replies x y at_x at_y n h = subst (λ xs. Stood x y xs seg) (sym (append-nil steps)) h
-  all_stood (w ∷ todo) steps seg r each fit replies x y at_x at_y n h =
-      let f : (is_call w.0 ≡ true) × (list_all is_call (calls_of todo) ≡ true) = both_pass (is_call w.0) (list_all is_call (calls_of todo)) fit in
-      let next : Segment = (applied seg w.0).0 in
-      let e : (applied seg w.0).1 ≡ w.1 = cc in
-      let rest : replies_from next (calls_of todo) ≡ replies_of todo = cc in
-      let g : Good s listener seg next (sent_by s all w.0 (applied seg w.0).1) (events_of (applied seg w.0).1) = good_call s listener one goes gives reads seven seg r each w.0 f.0 in
-      let now : Stood x y (steps ++ w ∷ []) next = subst (λ reply. Stood x y (steps ++ (w.0, reply) ∷ []) next) e (stood_next x y steps seg next w.0 (applied seg w.0).1 g at_x at_y n h) in
-      subst (λ xs. Stood x y xs (after next (calls_of todo))) (append_assoc steps (w ∷ []) todo)
-      (all_stood todo (steps ++ w ∷ []) next (reached_call seg r w.0 f.0) g.each f.1 rest x y (g.there x s at_x) (g.there y listener at_y) n now)
+  all_stood todo steps seg r each fit replies x y at_x at_y n h = (carried (StoodAt x y) (stood_on x y n) todo seg r fit replies steps (each, at_x, at_y, h)).3
 
   -- to s itself, and where there is no station, nothing is told
+  still : (seg next : Segment) → Silent s listener seg → ((x : ℕ) (a : Address) → IsAt next x a → IsAt seg x a) → Silent s listener next
+  still seg next (inl e) back = inl e
+  still seg next (inr n) back = inr (λ j h. n j (back j listener h))
+
+  abbrev SilentAlong : Segment → Record → Type 0
+  SilentAlong seg todo = (place : ℕ) → AllOwn seg → Silent s listener seg → told_from (λ step. station_told listener s (events_of step.1)) place todo ≡ []
+
+  silent_on : (seg : Segment) (call : Call) (rest : Record) → IsReached seg → is_call call ≡ true → SilentAlong (applied seg call).0 rest → SilentAlong seg ((call, (applied seg call).1) ∷ rest)
+  silent_on seg call rest r is go place each q =
+      let g : Good s listener seg (applied seg call).0 (sent_by s all call (applied seg call).1) (events_of (applied seg call).1) = good_call s listener one goes gives reads seven seg r each call is in
+      (λ k. map (λ (z : AtPort). (place, z)) (g.silent q k) ++ go (place + 1) g.each (still seg (applied seg call).0 q g.before) k)
+
   pub all_silent : (todo : Record) (place : ℕ) (seg : Segment) → IsReached seg → AllOwn seg → list_all is_call (calls_of todo) ≡ true → replies_from seg (calls_of todo) ≡ replies_of todo
       → Silent s listener seg → told_from (λ step. station_told listener s (events_of step.1)) place todo ≡ []
-  all_silent [] place seg r each fit replies q = refl
-  all_silent (w ∷ todo) place seg r each fit replies q =
-      let f : (is_call w.0 ≡ true) × (list_all is_call (calls_of todo) ≡ true) = both_pass (is_call w.0) (list_all is_call (calls_of todo)) fit in
-      let next : Segment = (applied seg w.0).0 in
-      let e : (applied seg w.0).1 ≡ w.1 = cc in
-      let rest : replies_from next (calls_of todo) ≡ replies_of todo = cc in
-      let g : Good s listener seg next (sent_by s all w.0 (applied seg w.0).1) (events_of (applied seg w.0).1) = good_call s listener one goes gives reads seven seg r each w.0 f.0 in
-      let none : station_told listener s (events_of w.1) ≡ [] = subst (λ reply. station_told listener s (events_of reply) ≡ []) e (g.silent q) in
-      (λ k. map (λ (z : AtPort). (place, z)) (none k) ++ all_silent todo (place + 1) next (reached_call seg r w.0 f.0) g.each f.1 rest (still next q g.before) k)
-    where
-      still : (next : Segment) → Silent s listener seg → ((x : ℕ) (a : Address) → IsAt next x a → IsAt seg x a) → Silent s listener next
-      still next (inl e) back = inl e
-      still next (inr n) back = inr (λ j h. n j (back j listener h))
+  all_silent todo place seg r each fit replies q = along SilentAlong (λ seg r place each q. refl) silent_on todo seg r fit replies place each q

@@ -1,7 +1,7 @@
 -- What a sender is told is true: an acknowledged message had been given to each port that was found for it, and an unreachable one
 -- is never given.
-use Rattle.std.proofs.Common.{◌≡◌, ◌⊎◌, inl, inr, ℕ, zero, suc, ◌<◌, true, List, [], ◌∷◌, ◌++◌, map, length, refl, sym, ap, ◌∙◌, subst, arith}
-use Rattle.std.specs.Prelude.{All, Any, Contains, zip, slice_index_or}
+use Rattle.std.proofs.Common.{◌≡◌, ◌⊎◌, inl, inr, ℕ, ◌<◌, true, List, [], ◌∷◌, ◌++◌, map, length, refl, sym, ap, ◌∙◌, subst, arith}
+use Rattle.std.specs.Prelude.{Contains, zip}
 use Rattle.std.specs.List.{AllZip}
 use Rattle.std.proofs.lemmas.List.{map-append}
 use Rattle.std.proofs.lemmas.List.Elements.{All-head, All-tail, All-nil, All-cons, All-contains, Contains-append_left, Contains-append_right}
@@ -14,7 +14,7 @@ use Rattle.segment_law.specs.Headline.{IsStationOf, HaveOneOutcome, IsOpenedFor,
 use Rattle.segment_law.specs.Numbering.{Numbered, numbered, IsLaneNumbering}
 use Rattle.segment_law.specs.Segment.{Segment, new_segment}
 use Rattle.segment_law.specs.Record.{Record, StandsAt, after, calls_of}
-use Rattle.record_lemmas.proofs.Lists.{Each, each_append, In, in_any, all_each, any_in, each_all, each_weaker}
+use Rattle.record_lemmas.proofs.Lists.{Each, each_append, in_any, all_each, any_in, each_all, each_weaker}
 use Rattle.record_lemmas.proofs.Segments.{same_address}
 use Rattle.record_lemmas.proofs.Tests.{equal_or_not}
 use Rattle.lane_law.specs.Choice as choice

@@ -13,11 +13,11 @@ use Rattle.segment_law.proofs.Booleans.{both_pass}
 use Rattle.segment_law.proofs.New.{new_reached}
 use Rattle.segment_law.proofs.Reaching.{reached_call}
 
-module _ (P : Segment → Record → Type 0) (none : (seg : Segment) → P seg [])
+module _ (P : Segment → Record → Type 0) (none : (seg : Segment) → IsReached seg → P seg [])
     (one : (seg : Segment) (call : Call) (rest : Record) → IsReached seg → is_call call ≡ true → P (applied seg call).0 rest → P seg ((call, (applied seg call).1) ∷ rest)) where
   -- from a segment, along the steps that are still to come
   pub along : (steps : Record) (seg : Segment) → IsReached seg → list_all is_call (calls_of steps) ≡ true → replies_from seg (calls_of steps) ≡ replies_of steps → P seg steps
-  along [] seg r fit replies = none seg
+  along [] seg r fit replies = none seg r
   along (step ∷ steps) seg r fit replies =
       let f : (is_call step.0 ≡ true) × (list_all is_call (calls_of steps) ≡ true) = both_pass (is_call step.0) (list_all is_call (calls_of steps)) fit in
       let next : Segment = (applied seg step.0).0 in
@@ -37,7 +37,7 @@ module _ (P : Record → Segment → Type 0)
 
   pub carried : (todo : Record) (seg : Segment) → IsReached seg → list_all is_call (calls_of todo) ≡ true → replies_from seg (calls_of todo) ≡ replies_of todo → (steps : Record) → P steps seg → P (steps ++ todo) (after seg (calls_of todo))
   carried = along Carried
-      (λ seg steps h. subst (λ xs. P xs seg) (sym (append-nil steps)) h)
+      (λ seg r steps h. subst (λ xs. P xs seg) (sym (append-nil steps)) h)
       (λ seg call rest r is go steps h. subst (λ xs. P xs (after (applied seg call).0 (calls_of rest))) (append_assoc steps ((call, (applied seg call).1) ∷ []) rest)
       (go (steps ++ (call, (applied seg call).1) ∷ []) (one steps seg call r is h)))
 
