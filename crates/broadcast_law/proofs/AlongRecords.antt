@@ -1,28 +1,27 @@
 -- Along a record: what a station is given of the messages of s to all has numbers, over all its ports.
-use Rattle.std.proofs.Common.{◌≡◌, inl, inr, ℕ, ◌+◌, true, List, [], ◌∷◌, ◌++◌, map, length, Some, refl, sym, ap, ◌∙◌, subst, arith, append-nil, append_assoc, zero, suc, ◌-◌}
+use Rattle.std.proofs.Common.{◌≡◌, inl, inr, ℕ, ◌+◌, true, List, [], ◌∷◌, ◌++◌, map, length, Some, refl, sym, ap, ◌∙◌, subst, arith, append-nil, zero, suc, ◌-◌}
 use Rattle.std.specs.Prelude.{All, slice_get}
 use Rattle.std.specs.List.{list_all}
 use Rattle.std.specs.Option.{option_map}
 use Rattle.std.proofs.lemmas.List.{map-append, length_push}
 use Rattle.std.proofs.lemmas.List.Elements.{All-head, All-tail}
-use Rattle.std.proofs.lemmas.Option.{slice_get-map, none-some, same_Some}
+use Rattle.std.proofs.lemmas.Option.{slice_get-map}
 use Rattle.pgn_ids.specs.Address.{is_one}
 use Rattle.pgn_ids.specs.Pgn.{clean}
 use Rattle.pgn_ids.specs.declared.address.Address.{Address}
-use Rattle.station_lanes.specs.declared.event.Event.{Event}
 use Rattle.segment_law.specs.Told as told
 use Rattle.segment_law.specs.Told.{Placed, AtPort, told_from, items_of, sent_by, sends, sent, station_givens}
 use Rattle.segment_law.specs.Numbering.{item, IsChoice}
 use Rattle.segment_law.specs.Segment.{Segment}
 use Rattle.segment_law.specs.Calls.{applied, events_of, is_call}
-use Rattle.segment_law.specs.Record.{Step, Record, replies_from, after, calls_of, replies_of}
+use Rattle.segment_law.specs.Record.{Record, replies_from, after, calls_of, replies_of}
 use Rattle.segment_law.specs.Reached.{IsReached}
 use Rattle.segment_law.specs.declared.call.Call.{Call}
-use Rattle.segment_law.specs.declared.call.Call.TheVariants.{Open, Close, Send, Pump, Transmit, Take, TakeAgain, Overrun, Tick, Fire, Cancel, Inject, Pause, Resume}
 use Rattle.segment_law.specs.declared.reply.Reply.{Reply}
 use Rattle.segment_law.specs.declared.reply.Reply.TheVariants.{Opened, Sent, Refused, Done}
-use Rattle.segment_law.proofs.Booleans.{both_pass}
-use Rattle.segment_law.proofs.Reaching.{reached_call}
+use Rattle.record_lemmas.proofs.AlongRecords.{along, carried}
+use Rattle.record_lemmas.proofs.Lists.{Each, each_get}
+use Rattle.record_lemmas.proofs.Told.{items_placed, none_done, told_last}
 use Rattle.lane_law.specs.Message.{Message, IsSent}
 use Rattle.lane_law.specs.Session.{Given}
 use Rattle.lane_law.specs.Choice as choice
@@ -36,29 +35,10 @@ use Rattle.broadcast_law.proofs.Places.{IsAt, AllOwn, view}
 use Rattle.broadcast_law.proofs.Ports.{Distinct, station_told, first_message}
 use Rattle.broadcast_law.proofs.Send.{AreSeven}
 use Rattle.broadcast_law.proofs.View.{View, plain, cleaned, IsClean, Stands, GoesOn}
-use Rattle.broadcast_law.proofs.Words.{Each}
 
 -- What the steps tell
 
-pub items_placed : {A : Type 0} (place : ℕ) (xs : List A) → items_of (map (λ (x : A). (place, x)) xs) ≡ xs
-items_placed place [] = refl
-items_placed place (x ∷ xs) = ap (λ ys. x ∷ ys) (items_placed place xs)
-
-told_last : {A : Type 0} (tells : Step → List A) (place : ℕ) (steps : Record) (x : Step) → told_from tells place (steps ++ x ∷ []) ≡ told_from tells place steps ++ map (λ (y : A). (place + length steps, y)) (tells x)
-told_last {A} tells place [] x =
-    let e : place ≡ place + 0 = omega arith in
-    append-nil (map (λ (y : A). (place, y)) (tells x)) ∙ ap (λ n. map (λ (y : A). (n, y)) (tells x)) e
-told_last {A} tells place (w ∷ steps) x =
-    let e : (place + 1) + length steps ≡ place + length (w ∷ steps) = omega arith in
-    ap (λ ys. map (λ (y : A). (place, y)) (tells w) ++ ys) (told_last tells (place + 1) steps x ∙ ap (λ n. told_from tells (place + 1) steps ++ map (λ (y : A). (n, y)) (tells x)) e)
-    ∙ sym (append_assoc (map (λ (y : A). (place, y)) (tells w)) (told_from tells (place + 1) steps) (map (λ (y : A). (place + length (w ∷ steps), y)) (tells x)))
-
 -- A choice by numbers is a numbering
-
-each_get : {A : Type 0} (P : A → Type 0) (xs : List A) (n : ℕ) (x : A) → slice_get xs n ≡ Some x → Each P xs → P x
-each_get P [] n x e h = absurd (none-some x e)
-each_get P (y ∷ ys) zero x e h = subst P (same_Some y x e) h.0
-each_get P (y ∷ ys) (suc n) x e h = each_get P ys n x e h.1
 
 item_of : (ms : List Message) (n : ℕ) (m : Message) → IsSent ms n m → item (map plain ms) n ≡ Some (plain m)
 item_of ms zero m h = absurd (omega (arith, h.0))
@@ -85,27 +65,11 @@ stands_choice choose s v (st, h) =
 
 -- A reply that gives a message takes none for sending
 
-none_done : (s : Address) (call : Call) (events : List Event) → sent_by s all call (Done events) ≡ []
-none_done s (Open station pgn max_len) events = refl
-none_done s (Close port) events = refl
-none_done s (Send from to pgn bytes) events = refl
-none_done s (Pump station to) events = refl
-none_done s (Transmit station) events = refl
-none_done s (Take station room) events = refl
-none_done s (TakeAgain station room) events = refl
-none_done s (Overrun station n) events = refl
-none_done s (Tick n) events = refl
-none_done s (Fire station) events = refl
-none_done s (Cancel from to number) events = refl
-none_done s (Inject frame) events = refl
-none_done s (Pause port) events = refl
-none_done s (Resume port) events = refl
-
 none_sent : (s listener : Address) (call : Call) (reply : Reply) (x : AtPort) (xs : List AtPort) → station_told listener s (events_of reply) ≡ x ∷ xs → sent_by s all call reply ≡ []
 none_sent s listener call (Opened port) x xs e = absurd (cc)
 none_sent s listener call (Sent n) x xs e = absurd (cc)
 none_sent s listener call (Refused cause) x xs e = absurd (cc)
-none_sent s listener call (Done events) x xs e = none_done s call events
+none_sent s listener call (Done events) x xs e = none_done s all call events
 
 module _ (goes : GoesOn) (choose : StreamsChoose) (gives : GivesBack) (reads : ReadsBack) (seven : AreSeven) (s listener : Address) (one : is_one s.0 ≡ true) where
   -- at this record the broadcasts stand, and what was given has numbers
@@ -175,33 +139,32 @@ module _ (goes : GoesOn) (choose : StreamsChoose) (gives : GivesBack) (reads : R
             chosen = subst (λ xs. IsChoice xs (sent steps s all)) given_is
                 (subst (λ xs. IsChoice (messages h.givings ++ first_message given) xs) (ap (λ xs. sent steps s all ++ xs) none ∙ append-nil (sent steps s all)) (stands_choice choose s _ v))
 
-  -- a call, and the rest
+  -- and every station is as it should be
+  abbrev StoodAt : ℕ → ℕ → Record → Segment → Type 0
+  StoodAt x y steps seg = AllOwn seg × IsAt seg x s × IsAt seg y listener × Stood x y steps seg
+
+  stood_on : (x y : ℕ) → (s.0 ≡ listener.0 → ⊥) → (steps : Record) (seg : Segment) (call : Call) → IsReached seg → is_call call ≡ true → StoodAt x y steps seg → StoodAt x y (steps ++ (call, (applied seg call).1) ∷ []) (applied seg call).0
+  stood_on x y n steps seg call r is (each, at_x, at_y, h) =
+      let g : Good s listener seg (applied seg call).0 (sent_by s all call (applied seg call).1) (events_of (applied seg call).1) = good_call s listener one goes gives reads seven seg r each call is in
+      (g.each, g.there x s at_x, g.there y listener at_y, stood_next x y steps seg (applied seg call).0 call (applied seg call).1 g at_x at_y n h)
+
   pub all_stood : (todo steps : Record) (seg : Segment) → IsReached seg → AllOwn seg → list_all is_call (calls_of todo) ≡ true → replies_from seg (calls_of todo) ≡ replies_of todo
       → (x y : ℕ) → IsAt seg x s → IsAt seg y listener → (s.0 ≡ listener.0 → ⊥) → Stood x y steps seg → Stood x y (steps ++ todo) (after seg (calls_of todo))
-  all_stood [] steps seg r each fit replies x y at_x at_y n h = subst (λ xs. Stood x y xs seg) (sym (append-nil steps)) h
-  all_stood (w ∷ todo) steps seg r each fit replies x y at_x at_y n h =
-      let f : (is_call w.0 ≡ true) × (list_all is_call (calls_of todo) ≡ true) = both_pass (is_call w.0) (list_all is_call (calls_of todo)) fit in
-      let next : Segment = (applied seg w.0).0 in
-      let e : (applied seg w.0).1 ≡ w.1 = cc in
-      let rest : replies_from next (calls_of todo) ≡ replies_of todo = cc in
-      let g : Good s listener seg next (sent_by s all w.0 (applied seg w.0).1) (events_of (applied seg w.0).1) = good_call s listener one goes gives reads seven seg r each w.0 f.0 in
-      let now : Stood x y (steps ++ w ∷ []) next = subst (λ reply. Stood x y (steps ++ (w.0, reply) ∷ []) next) e (stood_next x y steps seg next w.0 (applied seg w.0).1 g at_x at_y n h) in
-      subst (λ xs. Stood x y xs (after next (calls_of todo))) (append_assoc steps (w ∷ []) todo)
-      (all_stood todo (steps ++ w ∷ []) next (reached_call seg r w.0 f.0) g.each f.1 rest x y (g.there x s at_x) (g.there y listener at_y) n now)
+  all_stood todo steps seg r each fit replies x y at_x at_y n h = (carried (StoodAt x y) (stood_on x y n) todo seg r fit replies steps (each, at_x, at_y, h)).3
 
   -- to s itself, and where there is no station, nothing is told
+  still : (seg next : Segment) → Silent s listener seg → ((x : ℕ) (a : Address) → IsAt next x a → IsAt seg x a) → Silent s listener next
+  still seg next (inl e) back = inl e
+  still seg next (inr n) back = inr (λ j h. n j (back j listener h))
+
+  abbrev SilentAlong : Segment → Record → Type 0
+  SilentAlong seg todo = (place : ℕ) → AllOwn seg → Silent s listener seg → told_from (λ step. station_told listener s (events_of step.1)) place todo ≡ []
+
+  silent_on : (seg : Segment) (call : Call) (rest : Record) → IsReached seg → is_call call ≡ true → SilentAlong (applied seg call).0 rest → SilentAlong seg ((call, (applied seg call).1) ∷ rest)
+  silent_on seg call rest r is go place each q =
+      let g : Good s listener seg (applied seg call).0 (sent_by s all call (applied seg call).1) (events_of (applied seg call).1) = good_call s listener one goes gives reads seven seg r each call is in
+      (λ k. map (λ (z : AtPort). (place, z)) (g.silent q k) ++ go (place + 1) g.each (still seg (applied seg call).0 q g.before) k)
+
   pub all_silent : (todo : Record) (place : ℕ) (seg : Segment) → IsReached seg → AllOwn seg → list_all is_call (calls_of todo) ≡ true → replies_from seg (calls_of todo) ≡ replies_of todo
       → Silent s listener seg → told_from (λ step. station_told listener s (events_of step.1)) place todo ≡ []
-  all_silent [] place seg r each fit replies q = refl
-  all_silent (w ∷ todo) place seg r each fit replies q =
-      let f : (is_call w.0 ≡ true) × (list_all is_call (calls_of todo) ≡ true) = both_pass (is_call w.0) (list_all is_call (calls_of todo)) fit in
-      let next : Segment = (applied seg w.0).0 in
-      let e : (applied seg w.0).1 ≡ w.1 = cc in
-      let rest : replies_from next (calls_of todo) ≡ replies_of todo = cc in
-      let g : Good s listener seg next (sent_by s all w.0 (applied seg w.0).1) (events_of (applied seg w.0).1) = good_call s listener one goes gives reads seven seg r each w.0 f.0 in
-      let none : station_told listener s (events_of w.1) ≡ [] = subst (λ reply. station_told listener s (events_of reply) ≡ []) e (g.silent q) in
-      (λ k. map (λ (z : AtPort). (place, z)) (none k) ++ all_silent todo (place + 1) next (reached_call seg r w.0 f.0) g.each f.1 rest (still next q g.before) k)
-    where
-      still : (next : Segment) → Silent s listener seg → ((x : ℕ) (a : Address) → IsAt next x a → IsAt seg x a) → Silent s listener next
-      still next (inl e) back = inl e
-      still next (inr n) back = inr (λ j h. n j (back j listener h))
+  all_silent todo place seg r each fit replies q = along SilentAlong (λ seg r place each q. refl) silent_on todo seg r fit replies place each q

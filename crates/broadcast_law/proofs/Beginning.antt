@@ -1,5 +1,5 @@
 -- The broadcasts of a new segment: nothing was sent, and nothing is under way.
-use Rattle.std.proofs.Common.{◌≡◌, ◌⊎◌, inl, inr, ℕ, zero, suc, ◌+◌, ◌-◌, ◌==◌, nat_lt, true, cond, ◌||◌, List, [], ◌∷◌, map, length, get_or, replicate, drop, Option, Some, None, refl, sym, ap, ◌∙◌, subst, arith, eqb-true}
+use Rattle.std.proofs.Common.{◌≡◌, ◌⊎◌, inl, inr, ℕ, zero, suc, ◌+◌, ◌-◌, ◌==◌, nat_lt, true, cond, ◌||◌, List, [], ◌∷◌, length, drop, Option, Some, None, refl, sym, ap, ◌∙◌, subst, arith, eqb-true}
 use Rattle.std.specs.Prelude.{slice_get}
 use Rattle.std.specs.Option.{option_map}
 use Rattle.std.specs.List.{list_any}
@@ -14,20 +14,15 @@ use Rattle.session_table.specs.declared.incoming.Incoming.{Incoming}
 use Rattle.station_lanes.specs.LaneCalls.{lane_to}
 use Rattle.station_core.specs.Station.{Station, new_station}
 use Rattle.segment_law.specs.Segment.{Segment, new_segment, rising, rising_insert}
+use Rattle.record_lemmas.proofs.Maps.{session_at, state_empty}
+use Rattle.record_lemmas.proofs.Segments.{same_address, new_at, start_at}
+use Rattle.record_lemmas.proofs.Tests.{equal_or_not, on_test}
 use Rattle.lane_law.specs.Stream as stream
 use Rattle.broadcast_law.proofs.Buses.{ahead_of}
-use Rattle.broadcast_law.proofs.Good.{same_address}
-use Rattle.broadcast_law.proofs.Maps.{session_at, state_empty}
-use Rattle.broadcast_law.proofs.Places.{IsAt, AllOwn, equal_or_not, parts, station_in, view}
+use Rattle.broadcast_law.proofs.Places.{IsAt, AllOwn, parts, station_in, view}
 use Rattle.broadcast_law.proofs.Receptions.{key_all}
 use Rattle.broadcast_law.proofs.Stations.{IsOwn, new_is_own}
 use Rattle.broadcast_law.proofs.View.{View, Stands}
-use Rattle.broadcast_law.proofs.Words.{on_test}
-
-new_at : (addresses : List Address) (j : ℕ) (st : Station) → slice_get (map new_station addresses) j ≡ Some st → st ≡ new_station st.address
-new_at [] j st e = absurd (none-some st e)
-new_at (b ∷ addresses) zero st e = let q : new_station b ≡ st = same_Some (new_station b) st e in sym q ∙ ap (λ (z : Station). new_station z.address) q
-new_at (b ∷ addresses) (suc j) st e = new_at addresses j st e
 
 pub new_own : (addresses : List Address) → AllOwn (new_segment addresses)
 new_own addresses j st e = subst (IsOwn st.address) (sym (new_at (rising addresses) j st e)) (new_is_own st.address)
@@ -87,11 +82,6 @@ module _ (s : Address) where
   -- at some place, or at none
   pub somewhere : (seg : Segment) → ((x : ℕ) × IsAt seg x s) ⊎ ((x : ℕ) → IsAt seg x s → ⊥)
   somewhere seg = anywhere seg.stations
-
-  start_at : (n y : ℕ) → get_or (replicate n start) y start ≡ start
-  start_at zero y = refl
-  start_at (suc n) zero = refl
-  start_at (suc n) (suc y) = start_at n y
 
   -- what is shown first
   abbrev first : View

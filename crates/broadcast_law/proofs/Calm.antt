@@ -25,13 +25,14 @@ use Rattle.station_sessions.specs.Receiving.{received, flow_at}
 use Rattle.station_core.specs.Station.{Station, StationStep, quietly, queues}
 use Rattle.station_core.specs.Opening.{key_of, refusal, is_tp_size, is_etp_size, set_for, others_than, whole_join, peer_of, opened, not_opened}
 use Rattle.station_core.specs.Taking.{packet_kind, in_session, in_lane, abort_taken, cm_taken, answer, wire_taken, looks_at, meaning_taken, taken}
+use Rattle.record_lemmas.proofs.Lists.{Each}
+use Rattle.record_lemmas.proofs.Maps.{StaysOrEnds, session_at, put_stays, dropped_stays}
+use Rattle.record_lemmas.proofs.Tests.{on_test, either, by_option}
 use Rattle.broadcast_law.proofs.Carried.{carried_foreign, of_lane, of_meaning, carried, Meaning, reading_tells}
-use Rattle.broadcast_law.proofs.Maps.{StaysOrEnds, session_at, put_stays, dropped_stays}
 use Rattle.broadcast_law.proofs.Ports.{IsUntold}
 use Rattle.broadcast_law.proofs.Receptions.{Settles, settles_received, aborted_stays, key_all}
 use Rattle.broadcast_law.proofs.Stations.{IsOwn, outcome_untold}
 use Rattle.broadcast_law.proofs.Takes.{other_node}
-use Rattle.broadcast_law.proofs.Words.{on_test, either, by_option, Each}
 
 module _ (a : Address) (small : a.0 < 254) (s : Address) where
   pub record Calm (st : Station) (step : StationStep) : Type 0 where

@@ -17,7 +17,8 @@ use Rattle.tp_wire.specs.declared.wire.Kind.TheVariants.{Tp, Etp}
 use Rattle.tp_wire.specs.declared.wire.CmFrame.TheVariants.{Rts, Cts, EndOfMsgAck, Bam, Abort, EtpRts, EtpCts, EtpDpo, EtpEoma, EtpAbort}
 use Rattle.tp_wire.specs.declared.wire.Wire.{Wire}
 use Rattle.tp_wire.specs.declared.wire.Wire.TheVariants.{Cm, Packet, Request, Ack}
-use Rattle.broadcast_law.proofs.Words.{on_test, either, Each}
+use Rattle.record_lemmas.proofs.Lists.{Each}
+use Rattle.record_lemmas.proofs.Tests.{on_test, either}
 
 abbrev pub all : Address
 all = record { 0 = 255 }

@@ -18,18 +18,19 @@ use Rattle.segment_law.specs.Record.{Record, StandsAt, after, calls_of}
 use Rattle.segment_law.specs.Reached.{IsReached}
 use Rattle.segment_law.proofs.New.{new_reached}
 use Rattle.segment_law.proofs.Reaching.{as_it_is}
+use Rattle.record_lemmas.proofs.Tests.{equal_or_not, on_test}
+use Rattle.record_lemmas.proofs.Told.{items_placed}
 use Rattle.lane_law.specs.Stream as stream
-use Rattle.broadcast_law.proofs.AlongRecords.{items_placed, StreamsChoose, Stood, all_stood, all_silent}
+use Rattle.broadcast_law.proofs.AlongRecords.{StreamsChoose, Stood, all_stood, all_silent}
 use Rattle.broadcast_law.proofs.Beginning.{new_own, stands_at, somewhere, new_stands}
 use Rattle.broadcast_law.proofs.Carried.{GivesBack, ReadsBack, all}
 use Rattle.broadcast_law.proofs.Counted.{counted_none, counted_numbers}
 use Rattle.broadcast_law.proofs.Good.{Silent}
 use Rattle.broadcast_law.proofs.Numbered.{at_port, given_messages, AreNumbers, all_numbered}
-use Rattle.broadcast_law.proofs.Places.{IsAt, equal_or_not}
+use Rattle.broadcast_law.proofs.Places.{IsAt}
 use Rattle.broadcast_law.proofs.Ports.{station_told}
 use Rattle.broadcast_law.proofs.Send.{AreSeven}
 use Rattle.broadcast_law.proofs.View.{GoesOn}
-use Rattle.broadcast_law.proofs.Words.{on_test}
 
 -- What a port is given is the part of its station's that is for it
 

@@ -1,14 +1,15 @@
 -- How the numbers go on, reply by reply: where messages are sent they stay. Where one is given, each is the lower of what it was
 -- and of what the choice at this place of the record has, so that it stays within what had been sent at its own reply.
-use Rattle.std.proofs.Common.{◌≡◌, ◌⊎◌, inl, inr, ℕ, zero, suc, ◌+◌, ◌<◌, ◌≤◌, List, [], ◌∷◌, ◌++◌, map, length, Option, Some, None, refl, sym, ap, ◌∙◌, subst, arith, append-nil, append_assoc}
+use Rattle.std.proofs.Common.{◌≡◌, ◌⊎◌, inl, inr, ℕ, zero, suc, ◌+◌, ◌<◌, ◌≤◌, List, [], ◌∷◌, ◌++◌, map, length, Some, refl, sym, ap, ◌∙◌, subst, arith, append-nil, append_assoc}
 use Rattle.std.specs.Prelude.{min, slice_get}
 use Rattle.std.specs.List.{AllZip}
 use Rattle.std.proofs.lemmas.List.{map-append}
 use Rattle.segment_law.specs.Told.{Message, Placed, AtPort, items_of, places_of}
 use Rattle.segment_law.specs.Numbering.{item, IsChoice, IsAfter}
-use Rattle.broadcast_law.proofs.Numbered.{Giving, at_ports, all_at_ports, messages, Pairs, pairs_rising, each_more, IsFit, IsEarly, firsts, all_spread, AreNumbers, all_numbered}
+use Rattle.record_lemmas.proofs.Lists.{each_weaker, Each, each_append, each_map, each_of_all}
+use Rattle.record_lemmas.proofs.Told.{after_all, after_more, item_more}
+use Rattle.broadcast_law.proofs.Numbered.{Giving, at_ports, all_at_ports, messages, Pairs, pairs_rising, IsFit, IsEarly, firsts, all_spread, AreNumbers, all_numbered}
 use Rattle.broadcast_law.proofs.Ports.{Distinct}
-use Rattle.broadcast_law.proofs.Words.{Each, each_append, each_map, each_of_all}
 
 -- the lower of each two numbers, and the rest of the second list
 abbrev lower : List ℕ → List ℕ → List ℕ
@@ -17,7 +18,7 @@ lower (n ∷ ns) [] = []
 lower (n ∷ ns) (m ∷ ms) = min n m ∷ lower ns ms
 
 above_lower : (n m : ℕ) (ns ms : List ℕ) → Each (λ x. n < x) ns → Each (λ x. m < x) ms → Each (λ x. min n m < x) (lower ns ms)
-above_lower n m [] ms h k = each_more (λ x. m < x) (λ x. min n m < x) (λ x l. omega (arith, l)) ms k
+above_lower n m [] ms h k = each_weaker (λ x. m < x) (λ x. min n m < x) (λ x l. omega (arith, l)) ms k
 above_lower n m (x ∷ ns) [] h k = tt
 above_lower n m (x ∷ ns) (y ∷ ms) h k = (omega (arith, h.0, k.0), above_lower n m ns ms h.1 k.1)
 
@@ -67,35 +68,10 @@ lower_fits sent new (n ∷ ns) (m ∷ ms) (g ∷ gs) c h e =
 
 -- what was sent
 
-item_more : {A : Type 0} (xs ys : List A) (n : ℕ) (x : A) → item xs n ≡ Some x → item (xs ++ ys) n ≡ Some x
-item_more xs ys zero x e = absurd (cc)
-item_more xs ys (suc n) x e = got xs n e
-  where
-    got : (xs : List _) (k : ℕ) → slice_get xs k ≡ Some x → slice_get (xs ++ ys) k ≡ Some x
-    got [] k e = absurd (cc)
-    got (z ∷ xs) zero e = e
-    got (z ∷ xs) (suc k) e = got xs k e
-
-after_more : (xs ys : List ℕ) (n place : ℕ) → IsAfter (item xs n) place → IsAfter (item (xs ++ ys) n) place
-after_more xs ys n place h = by (item xs n) refl h
-  where
-    by : (o : Option ℕ) → item xs n ≡ o → IsAfter o place → IsAfter (item (xs ++ ys) n) place
-    by None e k = absurd k
-    by (Some x) e k = subst (λ o. IsAfter o place) (sym (item_more xs ys n x e)) k
-
-after_all : (sends : List (Placed Message)) (n place : ℕ) → Each (λ (x : Placed Message). x.0 < place) sends → 0 < n → n ≤ length sends → IsAfter (item (places_of sends) n) place
-after_all sends zero place h some within = absurd (omega (arith, some))
-after_all sends (suc n) place h some within = got sends n h (omega (arith, within))
-  where
-    got : (xs : List (Placed Message)) (k : ℕ) → Each (λ (x : Placed Message). x.0 < place) xs → k < length xs → IsAfter (slice_get (places_of xs) k) place
-    got [] k h l = absurd (omega (arith, l))
-    got (x ∷ xs) zero h l = h.0
-    got (x ∷ xs) (suc k) h l = got xs k h.1 (omega (arith, l))
-
-early_more : (sends more : List (Placed Message)) (g : Giving) → IsEarly sends g → IsEarly (sends ++ more) g
+pub early_more : (sends more : List (Placed Message)) (g : Giving) → IsEarly sends g → IsEarly (sends ++ more) g
 early_more sends more g h n some l = subst (λ xs. IsAfter (item xs n) g.place) (sym (map-append (λ (x : Placed Message). x.0) sends more)) (after_more (places_of sends) (places_of more) n g.place (h n some l))
 
-fits_more : (sent more : List Message) (ns : List ℕ) (gs : List Giving) → AllZip (IsFit sent) ns gs → AllZip (IsFit (sent ++ more)) ns gs
+pub fits_more : (sent more : List Message) (ns : List ℕ) (gs : List Giving) → AllZip (IsFit sent) ns gs → AllZip (IsFit (sent ++ more)) ns gs
 fits_more sent more [] [] h = tt
 fits_more sent more [] (g ∷ gs) h = absurd h
 fits_more sent more (n ∷ ns) [] h = absurd h
@@ -124,9 +100,9 @@ pub counted_sent : (sends : List (Placed Message)) (steps : ℕ) (givens : List 
 counted_sent sends steps givens gs more h = record {
   told = append-nil givens ∙ h.told;
   distinct = h.distinct;
-  early = each_more (IsEarly sends) (IsEarly (sends ++ at_step steps more)) (early_more sends (at_step steps more)) gs h.early;
+  early = each_weaker (IsEarly sends) (IsEarly (sends ++ at_step steps more)) (early_more sends (at_step steps more)) gs h.early;
   past = each_append (λ (x : Placed Message). x.0 ≤ steps + 1) sends (at_step steps more)
-      (each_more (λ (x : Placed Message). x.0 ≤ steps) (λ (x : Placed Message). x.0 ≤ steps + 1) (λ x l. omega (arith, l)) sends h.past)
+      (each_weaker (λ (x : Placed Message). x.0 ≤ steps) (λ (x : Placed Message). x.0 ≤ steps + 1) (λ x l. omega (arith, l)) sends h.past)
       (each_map (λ (x : Placed Message). x.0 ≤ steps + 1) (λ x. (1 + steps, x)) more (each_of_all (λ x. 1 + steps ≤ steps + 1) (λ x. omega arith) more));
   numbers = h.numbers;
   fits = subst (λ xs. AllZip (IsFit xs) h.numbers gs) (sym (map-append (λ (x : Placed Message). x.1) sends (at_step steps more))) (fits_more (items_of sends) (items_of (at_step steps more)) h.numbers gs h.fits);
@@ -136,7 +112,7 @@ counted_sent sends steps givens gs more h = record {
 abbrev pub giving : ℕ → List ℕ → Message → ℕ → Giving
 giving steps ports message count = record { place = 1 + steps; ports = ports; message = message; count = count }
 
-all_at_more : (gs : List Giving) (g : Giving) → all_at_ports gs ++ at_ports g ≡ all_at_ports (gs ++ g ∷ [])
+pub all_at_more : (gs : List Giving) (g : Giving) → all_at_ports gs ++ at_ports g ≡ all_at_ports (gs ++ g ∷ [])
 all_at_more [] g = sym (append-nil (at_ports g))
 all_at_more (h ∷ gs) g = append_assoc (at_ports h) (all_at_ports gs) (at_ports g) ∙ ap (λ xs. at_ports h ++ xs) (all_at_more gs g)
 
@@ -147,7 +123,7 @@ counted_given sends steps givens gs ports m h d (ms, c) = subst (λ xs. Counted 
   told = (λ i. h.told i ++ each_at ports i) ∙ all_at_more gs new;
   distinct = each_append (λ (g : Giving). Distinct g.ports) gs (new ∷ []) h.distinct (d, tt);
   early = each_append (IsEarly sends) gs (new ∷ []) h.early (λ n some l. after_all sends n (1 + steps) past some l, tt);
-  past = each_more (λ (x : Placed Message). x.0 ≤ steps) (λ (x : Placed Message). x.0 ≤ steps + 1) (λ x l. omega (arith, l)) sends h.past;
+  past = each_weaker (λ (x : Placed Message). x.0 ≤ steps) (λ (x : Placed Message). x.0 ≤ steps + 1) (λ x l. omega (arith, l)) sends h.past;
   numbers = lower h.numbers ms;
   fits = lower_fits (items_of sends) new h.numbers ms gs (sym (as_long sends)) h.fits c.items;
   rising = lower_rising h.numbers ms h.rising (pairs_rising ms c.rising);
@@ -157,7 +133,7 @@ counted_given sends steps givens gs ports m h d (ms, c) = subst (λ xs. Counted 
     new = giving steps ports m (length sends)
 
     past : Each (λ (x : Placed Message). x.0 < 1 + steps) sends
-    past = each_more (λ (x : Placed Message). x.0 ≤ steps) (λ (x : Placed Message). x.0 < 1 + steps) (λ x l. omega (arith, l)) sends h.past
+    past = each_weaker (λ (x : Placed Message). x.0 ≤ steps) (λ (x : Placed Message). x.0 < 1 + steps) (λ x l. omega (arith, l)) sends h.past
 
     each_at : (ks : List ℕ) → at_step {A = AtPort} steps (map (λ k. (k, m)) ks) ≡ map (λ k. (1 + steps, (k, m))) ks
     each_at [] = refl

@@ -24,13 +24,14 @@ use Rattle.station_core.specs.Opening.{key_of}
 use Rattle.station_core.specs.Closing.{if_free, unbound_session, unbound_source, closed_below, closed}
 use Rattle.station_core.specs.Overruns.{overrun}
 use Rattle.station_core.specs.Timers.{lane_fired, fired}
+use Rattle.record_lemmas.proofs.Lists.{Each, each_append}
+use Rattle.record_lemmas.proofs.Maps.{OfEach, of_each_none, StaysOrEnds, stays_or_ends, session_at}
+use Rattle.record_lemmas.proofs.Tests.{on_test, either}
 use Rattle.broadcast_law.proofs.Carried.{GivesBack, IsSaid}
-use Rattle.broadcast_law.proofs.Maps.{OfEach, of_each_none, StaysOrEnds, stays_or_ends, session_at}
 use Rattle.broadcast_law.proofs.Ports.{ports_closed, IsUntold}
 use Rattle.broadcast_law.proofs.LaneSteps.{fits_overrun, fits_fired}
 use Rattle.broadcast_law.proofs.LaneToAll.{all_fired, all_overrun}
 use Rattle.broadcast_law.proofs.Receptions.{IsSessionOf, Settles, settles_fired, fired_calmly, key_all, settles_unbound, unbound_stays}
-use Rattle.broadcast_law.proofs.Words.{on_test, either, Each, each_append}
 use Rattle.broadcast_law.proofs.Stations.{AreLanes, IsOwn, Does, does_none, does_then, does_ports, does_sessions, does_reception, does_lane, does_still, lanes_stepped, lanes_else, lanes_still, outcome_untold}
 
 module _ (gives : GivesBack) (a : Address) (small : a.0 < 254) where

@@ -1,26 +1,26 @@
 -- Every call.
-use Rattle.std.proofs.Common.{◌≡◌, ℕ, ◌+◌, ◌<◌, ◌^◌, ◌==◌, nat_lt, true, false, not, ◌&&◌, [], length, Option, Some, None, refl, sym, ap, ◌∙◌, subst, eqb-true, ltb-true}
+use Rattle.std.proofs.Common.{◌≡◌, ℕ, ◌+◌, ◌<◌, ◌==◌, true, false, ◌&&◌, [], length, Some, refl, sym, ap, ◌∙◌, subst, ltb-true}
 use Rattle.std.specs.Prelude.{slice_get, position, is_some}
 use Rattle.bus_frame.specs.Frames.{CanFrame}
 use Rattle.pgn_ids.specs.Address.{is_one}
 use Rattle.pgn_ids.specs.Pgn.{is_pgn}
 use Rattle.pgn_ids.specs.Identifier.{meaning_of}
 use Rattle.pgn_ids.specs.declared.address.Address.{Address}
-use Rattle.tx_queue.specs.Queue.{front}
-use Rattle.bus_order.specs.Bus as bus
 use Rattle.station_core.specs.Station.{Station}
 use Rattle.segment_law.specs.Told.{sent_by}
 use Rattle.segment_law.specs.Segment.{Segment, place_of, has_station}
-use Rattle.segment_law.specs.Calls.{Answer, at_station, at_place, called, applied, events_of, with_frame, is_address, are_bytes, is_call}
+use Rattle.segment_law.specs.Calls.{applied, events_of, with_frame, is_address, are_bytes, is_call}
 use Rattle.segment_law.specs.Reached.{IsReached}
 use Rattle.segment_law.specs.declared.call.Call.{Call}
-use Rattle.segment_law.specs.declared.call.Call.TheVariants.{Open, Close, Send, Pump, Transmit, Take, TakeAgain, Overrun, Tick, Fire, Cancel, Inject, Pause, Resume}
 use Rattle.segment_law.proofs.Booleans.{both_pass}
+use Rattle.segment_law.specs.declared.reply.Reply.{Reply}
+use Rattle.record_lemmas.proofs.EachCall.{OfStation, each_applied}
+use Rattle.record_lemmas.proofs.Segments.{has_address}
 use Rattle.broadcast_law.proofs.Buses.{put_ahead, put_again}
 use Rattle.broadcast_law.proofs.Carried.{GivesBack, ReadsBack, all, carried_foreign}
 use Rattle.broadcast_law.proofs.Frames.{transmits_good, takes_good, repeats_good, overruns_good}
-use Rattle.broadcast_law.proofs.Good.{Good, Keeps, nothing_more, replied_good, or_refused}
-use Rattle.broadcast_law.proofs.Places.{AllOwn, cursor_of, found_passes, view}
+use Rattle.broadcast_law.proofs.Good.{Good, GoodBy, nothing_more, refused_good}
+use Rattle.broadcast_law.proofs.Places.{AllOwn, cursor_of, view}
 use Rattle.broadcast_law.proofs.Ports.{one_of_none}
 use Rattle.broadcast_law.proofs.Send.{AreSeven, puts_other}
 use Rattle.broadcast_law.proofs.Sends.{opens_good, closes_good, pauses_good, resumes_good, fires_good, pumps_good, cancels_good, sends_good}
@@ -57,37 +57,27 @@ module _ (s listener : Address) (one : is_one s.0 ≡ true) (goes : GoesOn) (giv
       one = one_of_none [] refl;
     }
 
-    at_keeps : (call : Call) (a : Address) (does : ℕ → Station → Answer) → ((i : ℕ) (st : Station) → slice_get seg.stations i ≡ Some st → place_of seg a ≡ Some i → Keeps s listener seg call (does i st)) → Keeps s listener seg call (at_place seg (place_of seg a) does)
-    at_keeps call a does h = by (place_of seg a) refl
-      where
-        there : (i : ℕ) → place_of seg a ≡ Some i → (o : Option Station) → slice_get seg.stations i ≡ o → Keeps s listener seg call (at_station o (does i))
-        there i q None e = tt
-        there i q (Some st) e = h i st e q
+    -- of a call whose values are of its types
+    abbrev Shown : Call → Segment × Reply → Type 0
+    Shown call step = is_call call ≡ true → GoodBy s listener seg call step
 
-        by : (o : Option ℕ) → place_of seg a ≡ o → Keeps s listener seg call (at_place seg o does)
-        by None q = tt
-        by (Some i) q = there i q (slice_get seg.stations i) refl
-
-    called_good : (call : Call) → is_call call ≡ true → Keeps s listener seg call (called seg call)
-    unfolding called
-    called_good (Open station pgn max_len) is = at_keeps (Open station pgn max_len) station _ (λ i st at q. opens_good s listener one goes gives reads seven seg r each i st at station pgn max_len)
-    called_good (Close port) is = at_keeps (Close port) port.station _ (λ i st at q. closes_good s listener one goes gives reads seven seg r each i st at port)
-    called_good (Send from to pgn bytes) is =
-        let h : (is_address to ≡ true) × (is_pgn pgn ≡ true) = both_pass (is_address to) (is_pgn pgn) (both_pass (is_address to && is_pgn pgn) (are_bytes bytes) is).0 in
-        at_keeps (Send from to pgn bytes) from _ (λ i st at q.
-        let found : st.address.0 ≡ from.0 = eqb-true st.address.0 from.0 (found_passes (λ (z : Station). z.address.0 == from.0) seg.stations i st q at) in
-        sends_good s listener one goes gives reads seven seg r each i st at from to pgn bytes (sym found) (ltb-true to.0 256 h.0) h.1)
-    called_good (Pump station to) is = at_keeps (Pump station to) station _ (λ i st at q. pumps_good s listener one goes gives reads seven seg r each i st at station to)
-    called_good (Transmit station) is = at_keeps (Transmit station) station _ (λ i st at q. transmits_good s listener goes gives seg r each i st at station (front st.queue) refl)
-    called_good (Take station room) is = at_keeps (Take station room) station _ (λ i st at q. takes_good s listener goes gives seg r each i st at station room (bus.next_frame seg.bus i) refl)
-    called_good (TakeAgain station room) is = at_keeps (TakeAgain station room) station _ (λ i st at q. repeats_good s listener goes gives seg r each i st at station room (bus.frame_again seg.bus i) refl)
-    called_good (Overrun station n) is = at_keeps (Overrun station n) station _ (λ i st at q. overruns_good s listener goes gives seg r each i st at station n)
-    called_good (Tick n) is = or_refused s listener seg (Tick n) (not (nat_lt (seg.now + n) (2 ^ 64))) _ _ (λ _. ticks_good n)
-    called_good (Fire station) is = at_keeps (Fire station) station _ (λ i st at q. fires_good s listener one goes gives reads seven seg r each i st at station)
-    called_good (Cancel from to number) is = at_keeps (Cancel from to number) from _ (λ i st at q. cancels_good s listener one goes gives reads seven seg r each i st at from to number)
-    called_good (Inject frame) is = or_refused s listener seg (Inject frame) (has_station seg (meaning_of frame.id).from) _ _ (λ foreign. or_refused s listener seg (Inject frame) (bus.is_full seg.bus) _ _ (λ _. injects_good frame foreign))
-    called_good (Pause port) is = at_keeps (Pause port) port.station _ (λ i st at q. pauses_good s listener one goes gives reads seven seg r each i st at port)
-    called_good (Resume port) is = at_keeps (Resume port) port.station _ (λ i st at q. resumes_good s listener one goes gives reads seven seg r each i st at port)
+    of_station : (i : ℕ) (st : Station) → slice_get seg.stations i ≡ Some st → OfStation seg Shown i st
+    of_station i st at = record {
+      opens = λ a pgn max_len q is. opens_good s listener one goes gives reads seven seg r each i st at a pgn max_len;
+      closes = λ port q _ is. closes_good s listener one goes gives reads seven seg r each i st at port;
+      sends = λ from to pgn bytes q other long short is.
+          let h : (is_address to ≡ true) × (is_pgn pgn ≡ true) = both_pass (is_address to) (is_pgn pgn) (both_pass (is_address to && is_pgn pgn) (are_bytes bytes) is).0 in
+          sends_good s listener one goes gives reads seven seg r each i st at from to pgn bytes (sym (has_address seg from i st q at)) (ltb-true to.0 256 h.0) h.1 long;
+      pumps = λ a to q is. pumps_good s listener one goes gives reads seven seg r each i st at a to;
+      transmits = λ a f q e free is. transmits_good s listener goes gives seg r each i st at a f e;
+      takes = λ a room f q e free is. takes_good s listener goes gives seg r each i st at a room f e;
+      repeats = λ a room f q e free is. repeats_good s listener goes gives seg r each i st at a room f e;
+      overruns = λ a n q few is. overruns_good s listener goes gives seg r each i st at a n few;
+      fires = λ a q is. fires_good s listener one goes gives reads seven seg r each i st at a;
+      cancels = λ from to number q pending is. cancels_good s listener one goes gives reads seven seg r each i st at from to number pending;
+      pauses = λ port q is. pauses_good s listener one goes gives reads seven seg r each i st at port;
+      resumes = λ port q is. resumes_good s listener one goes gives reads seven seg r each i st at port;
+    }
 
     pub good_call : (call : Call) → is_call call ≡ true → Good s listener seg (applied seg call).0 (sent_by s all call (applied seg call).1) (events_of (applied seg call).1)
-    good_call call is = replied_good s listener seg call (called seg call) each (called_good call is)
+    good_call call is = each_applied seg Shown (record { station = of_station; ticks = λ n is. ticks_good n; injects = λ f foreign free is. injects_good f foreign }) (λ call cause is. refused_good s listener seg each call cause) call is

@@ -1,5 +1,5 @@
 -- Frames are put on the bus and taken from it.
-use Rattle.std.proofs.Common.{◌≡◌, ◌⊎◌, inl, inr, ℕ, ◌+◌, ◌<◌, ◌≤◌, nat_lt, Bool, List, [], ◌∷◌, ◌++◌, length, drop, set, Option, Some, None, refl, sym, ap, ◌∙◌, subst, append-nil, ltb-false}
+use Rattle.std.proofs.Common.{◌≡◌, ◌⊎◌, inl, inr, ℕ, ◌+◌, ◌<◌, ◌≤◌, nat_lt, Bool, List, [], ◌∷◌, ◌++◌, length, drop, set, Option, Some, None, refl, sym, ap, ◌∙◌, subst, append-nil, ltb-false, false}
 use Rattle.std.specs.Prelude.{slice_get}
 use Rattle.std.specs.Option.{option_map}
 use Rattle.std.proofs.lemmas.Option.{none-some, same_Some}
@@ -18,20 +18,25 @@ use Rattle.station_core.specs.Station.{Station, StationStep}
 use Rattle.station_core.specs.Taking.{is_malformed_for, taken}
 use Rattle.station_core.specs.Overruns.{overrun}
 use Rattle.segment_law.specs.Told as told
-use Rattle.segment_law.specs.Segment.{Segment, counted, counted_frame, counted_look, counted_repeat}
-use Rattle.segment_law.specs.Calls.{no_place, transmits_by, takes_by, repeats_by, overruns}
+use Rattle.segment_law.specs.Segment.{Segment, counted, counted_frame, counted_look, counted_repeat, with_station}
+use Rattle.segment_law.specs.Calls.{with_frame}
 use Rattle.segment_law.specs.Reached.{IsReached}
 use Rattle.segment_law.specs.declared.call.Call.TheVariants.{Transmit, Take, TakeAgain, Overrun}
 use Rattle.segment_law.specs.declared.counts.Counts.{Counts}
 use Rattle.segment_law.proofs.Buses.{frame_within}
+use Rattle.segment_law.specs.declared.reply.Reply.TheVariants.{Done}
+use Rattle.record_lemmas.proofs.EachCall.{stepped, looked}
+use Rattle.record_lemmas.proofs.Lists.{Each}
+use Rattle.record_lemmas.proofs.Maps.{session_at, state_empty}
+use Rattle.record_lemmas.proofs.Segments.{same_address}
+use Rattle.record_lemmas.proofs.Tests.{equal_or_not}
 use Rattle.broadcast_law.proofs.Buses.{ahead_of, IsTaken, taken_here, taken_ahead_else, taken_again_else, passed_ahead, passed_again, passed_long, passed_ahead_else, passed_again_else, put_ahead, put_again}
 use Rattle.broadcast_law.proofs.Calm.{Calm, calm_taken, own_untold}
 use Rattle.broadcast_law.proofs.Carried.{GivesBack, carried, carried_foreign}
 use Rattle.broadcast_law.proofs.Endings.{does_overrun, overrun_untold}
-use Rattle.broadcast_law.proofs.Good.{same_address, Silent, Good, Keeps, or_refused, bus_same, small, is_of, is_here, good_step}
+use Rattle.broadcast_law.proofs.Good.{Silent, Good, GoodBy, bus_same, small, is_of, is_here, good_step}
 use Rattle.broadcast_law.proofs.Hears.{hears}
-use Rattle.broadcast_law.proofs.Maps.{session_at, state_empty}
-use Rattle.broadcast_law.proofs.Places.{IsAt, AllOwn, cursor_of, equal_or_not, apart_places, parts, station_in, view, at_it, sends_calmly, receives_calmly}
+use Rattle.broadcast_law.proofs.Places.{IsAt, AllOwn, cursor_of, apart_places, parts, station_in, view, at_it, sends_calmly, receives_calmly}
 use Rattle.broadcast_law.proofs.Ports.{station_told, first_message, told_to, one_of_none, none_told, none_elsewhere}
 use Rattle.broadcast_law.proofs.Receive.{Taken, takes_other, takes_own, repeats, skips}
 use Rattle.broadcast_law.proofs.Receptions.{key_all}
@@ -39,7 +44,6 @@ use Rattle.broadcast_law.proofs.Send.{transmits, puts_other}
 use Rattle.broadcast_law.proofs.Stations.{IsOwn, Does}
 use Rattle.broadcast_law.proofs.Takes.{does_taken, taken_ports, taken_one}
 use Rattle.broadcast_law.proofs.View.{View, Stands, GoesOn}
-use Rattle.broadcast_law.proofs.Words.{Each}
 
 queue_front : (queue : List CanFrame) (f : CanFrame) → front queue ≡ Some f → queue ≡ f ∷ drop 1 queue
 queue_front [] f e = absurd (none-some f e)
@@ -63,10 +67,8 @@ module _ (s listener : Address) (goes : GoesOn) (gives : GivesBack)
   here = cursor_of seg r i a (st, at, refl)
 
   -- the front frame of the queue is put
-  pub transmits_good : (station : Address) (o : Option CanFrame) → front st.queue ≡ o → Keeps s listener seg (Transmit station) (transmits_by seg i st o)
-  transmits_good station None e = tt
-  transmits_good station (Some f) e = or_refused s listener seg (Transmit station) (bus.is_full seg.bus) _ _ (λ _.
-      good_step s listener goes seg r each i st at seg.now (bus.put seg.bus f) (counted_frame seg.counts) new [] [] new_own (λ x y sent given at_x at_y n v.
+  pub transmits_good : (station : Address) (f : CanFrame) → front st.queue ≡ Some f → GoodBy s listener seg (Transmit station) (with_frame (with_station seg i (record st { queue = behind st.queue })) f, Done [])
+  transmits_good station f e = good_step s listener goes seg r each i st at seg.now (bus.put seg.bus f) (counted_frame seg.counts) new [] [] new_own (λ x y sent given at_x at_y n v.
       let n' : x ≡ y → ⊥ = apart_places seg x y s listener at_x at_y n in
       let w : Stands s (view s x y seg (sent ++ []) given) = subst (λ ms. Stands s (view s x y seg ms given)) (sym (append-nil sent)) v in
       let l : y < length seg.bus.cursors = cursor_of seg r y listener at_y in
@@ -85,7 +87,7 @@ module _ (s listener : Address) (goes : GoesOn) (gives : GivesBack)
             let d : a.0 ≡ s.0 → ⊥ = λ q. n (sym q ∙ is_of s listener goes seg r each i st at y listener at_y h) in
             receives_calmly s x y n' seg.stations i st new at (bus.put seg.bus f) (sent ++ []) given [] goes (inr refl) refl h (other d);
         other = λ h _. other (λ q. h (is_here s listener goes seg r each i st at x s at_x q));
-      }) (λ _ _ _. refl) (λ _. refl) (one_of_none [] refl))
+      }) (λ _ _ _. refl) (λ _. refl) (one_of_none [] refl)
     where
       new : Station
       new = record st { queue = behind st.queue }
@@ -183,17 +185,15 @@ module _ (s listener : Address) (goes : GoesOn) (gives : GivesBack)
       carries = λ e w c. repeats s goes (view s x y seg sent given) v.0 f w v.1 (ap (bus.frame_again seg.bus) (sym e) ∙ again) c;
     }
 
-  pub takes_good : (station : Address) (room : Bool) (o : Option CanFrame) → bus.next_frame seg.bus i ≡ o → Keeps s listener seg (Take station room) (takes_by seg room i st o)
-  takes_good station room None e = tt
-  takes_good station room (Some f) e = or_refused s listener seg (Take station room) (no_place st) _ _ (λ _. look_good f room (released (bus.taken seg.bus i)) (counted (counted_look seg.counts (is_malformed_for st f)) (step f room).events) (taken_looks f room e))
+  pub takes_good : (station : Address) (room : Bool) (f : CanFrame) → bus.next_frame seg.bus i ≡ Some f → GoodBy s listener seg (Take station room) (looked (record seg { bus = released (bus.taken seg.bus i) }) room i st f)
+  takes_good station room f e = look_good f room (released (bus.taken seg.bus i)) (counted (counted_look seg.counts (is_malformed_for st f)) (step f room).events) (taken_looks f room e)
 
-  pub repeats_good : (station : Address) (room : Bool) (o : Option CanFrame) → bus.frame_again seg.bus i ≡ o → Keeps s listener seg (TakeAgain station room) (repeats_by seg room i st o)
-  repeats_good station room None e = tt
-  repeats_good station room (Some f) e = or_refused s listener seg (TakeAgain station room) (no_place st) _ _ (λ _. look_good f room seg.bus (counted (counted_look (counted_repeat seg.counts) (is_malformed_for st f)) (step f room).events) (repeated_looks f room e))
+  pub repeats_good : (station : Address) (room : Bool) (f : CanFrame) → bus.frame_again seg.bus i ≡ Some f → GoodBy s listener seg (TakeAgain station room) (looked (record seg { counts = counted_repeat seg.counts }) room i st f)
+  repeats_good station room f e = look_good f room seg.bus (counted (counted_look (counted_repeat seg.counts) (is_malformed_for st f)) (step f room).events) (repeated_looks f room e)
 
   -- Frames are passed over
-  pub overruns_good : (station : Address) (n : ℕ) → Keeps s listener seg (Overrun station n) (overruns seg n i st)
-  overruns_good station k = or_refused s listener seg (Overrun station k) (nat_lt (bus.waiting seg.bus i) k) _ _ (λ few. passes (ltb-false (bus.waiting seg.bus i) k few))
+  pub overruns_good : (station : Address) (n : ℕ) → nat_lt (bus.waiting seg.bus i) n ≡ false → GoodBy s listener seg (Overrun station n) (stepped (record seg { bus = released (bus.passed seg.bus i n) }) i (overrun st))
+  overruns_good station k few = passes (ltb-false (bus.waiting seg.bus i) k few)
     where
       new : Station
       new = (overrun st).station

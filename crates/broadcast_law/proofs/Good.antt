@@ -1,5 +1,5 @@
 -- What is shown of every call: it leads from a segment whose broadcasts a stream stands for to another one.
-use Rattle.std.proofs.Common.{◌≡◌, ◌⊎◌, inr, ℕ, ◌<◌, Bool, true, false, cond, List, [], ◌++◌, set, Option, Some, None, Ok, Err, refl, sym, ap, ◌∙◌, subst, arith, append-nil, ltb-true}
+use Rattle.std.proofs.Common.{◌≡◌, ◌⊎◌, inr, ℕ, ◌<◌, List, [], ◌++◌, set, Option, Some, None, refl, sym, ap, ◌∙◌, subst, arith, append-nil, ltb-true}
 use Rattle.std.specs.Prelude.{slice_get}
 use Rattle.std.proofs.lemmas.Option.{same_Some}
 use Rattle.std.specs.FinMap as finmap
@@ -15,28 +15,27 @@ use Rattle.station_core.specs.Station.{Station, by_lane}
 use Rattle.segment_law.specs.Told as told
 use Rattle.segment_law.specs.Told.{sent_by}
 use Rattle.segment_law.specs.Segment.{Segment}
-use Rattle.segment_law.specs.Calls.{Answer, events_of, replied}
+use Rattle.segment_law.specs.Calls.{events_of}
 use Rattle.segment_law.specs.Reached.{IsReached}
 use Rattle.segment_law.specs.declared.call.Call.{Call}
-use Rattle.segment_law.specs.declared.call.Call.TheVariants.{Open, Close, Send, Pump, Transmit, Take, TakeAgain, Overrun, Tick, Fire, Cancel, Inject, Pause, Resume}
 use Rattle.segment_law.specs.declared.counts.Counts.{Counts}
 use Rattle.segment_law.specs.declared.refusal.Refusal.{Refusal}
 use Rattle.segment_law.specs.declared.reply.Reply.TheVariants.{Refused}
 use Rattle.segment_law.proofs.Reaching.{as_it_is}
+use Rattle.segment_law.specs.declared.reply.Reply.{Reply}
+use Rattle.record_lemmas.proofs.Told.{none_refused}
+use Rattle.record_lemmas.proofs.Lists.{Each}
+use Rattle.record_lemmas.proofs.Maps.{session_at, StaysOrEnds, lane_here}
+use Rattle.record_lemmas.proofs.Segments.{same_address}
 use Rattle.broadcast_law.proofs.Buses.{ahead_of}
 use Rattle.broadcast_law.proofs.Carried.{GivesBack, all}
 use Rattle.broadcast_law.proofs.LaneSteps.{IsLaneOf, Fits}
-use Rattle.broadcast_law.proofs.Maps.{session_at, StaysOrEnds, lane_here}
 use Rattle.broadcast_law.proofs.Places.{IsAt, AllOwn, one_place, apart_places, own_next, at_next, at_before, parts, station_in, view, in_roles, sends_calmly, receives_calmly, at_it}
 use Rattle.broadcast_law.proofs.Ports.{IsUntold, IsOneGiving, one_of_none, station_told, first_message, told_to, none_told}
 use Rattle.broadcast_law.proofs.Receptions.{key_all}
 use Rattle.broadcast_law.proofs.Send.{stepped_view}
 use Rattle.broadcast_law.proofs.Stations.{IsOwn, Does, own_lane, does_lane, does_sessions, outcome_untold}
 use Rattle.broadcast_law.proofs.View.{View, Stands, GoesOn}
-use Rattle.broadcast_law.proofs.Words.{Each}
-
-abbrev pub same_address : (a b : Address) → a.0 ≡ b.0 → a ≡ b
-same_address a b e = λ k. record { 0 = e k }
 
 module _ (s listener : Address) where
   -- the listener is s itself, or no station
@@ -51,9 +50,8 @@ module _ (s listener : Address) where
     pub silent : Silent seg → station_told listener s events ≡ []
     pub one : IsOneGiving (station_told listener s events)
 
-  abbrev pub Keeps : Segment → Call → Answer → Type 0
-  Keeps seg call (Err cause) = Unit {0}
-  Keeps seg call (Ok step) = Good seg step.0 (sent_by s all call step.1) (events_of step.1)
+  abbrev pub GoodBy : Segment → Call → Segment × Reply → Type 0
+  GoodBy seg call step = Good seg step.0 (sent_by s all call step.1) (events_of step.1)
 
   -- nothing is sent or told
   pub nothing_more : (v : View) → Stands s v → Stands s (record v { sent = v.sent ++ []; given = v.given ++ [] })
@@ -69,29 +67,8 @@ module _ (s listener : Address) where
     one = one_of_none [] refl;
   }
 
-  refused_none : (call : Call) (cause : Refusal) → sent_by s all call (Refused cause) ≡ []
-  refused_none (Open station pgn max_len) cause = refl
-  refused_none (Close port) cause = refl
-  refused_none (Send from to pgn bytes) cause = refl
-  refused_none (Pump station to) cause = refl
-  refused_none (Transmit station) cause = refl
-  refused_none (Take station room) cause = refl
-  refused_none (TakeAgain station room) cause = refl
-  refused_none (Overrun station n) cause = refl
-  refused_none (Tick n) cause = refl
-  refused_none (Fire station) cause = refl
-  refused_none (Cancel from to number) cause = refl
-  refused_none (Inject frame) cause = refl
-  refused_none (Pause port) cause = refl
-  refused_none (Resume port) cause = refl
-
-  pub replied_good : (seg : Segment) (call : Call) (x : Answer) → AllOwn seg → Keeps seg call x → Good seg (replied seg x).0 (sent_by s all call (replied seg x).1) (events_of (replied seg x).1)
-  replied_good seg call (Err cause) each k = subst (λ ms. Good seg seg ms []) (sym (refused_none call cause)) (good_same seg each)
-  replied_good seg call (Ok step) each k = k
-
-  pub or_refused : (seg : Segment) (call : Call) (b : Bool) (cause : Refusal) (x : Answer) → (b ≡ false → Keeps seg call x) → Keeps seg call (cond b (Err cause) x)
-  or_refused seg call true cause x h = tt
-  or_refused seg call false cause x h = h refl
+  pub refused_good : (seg : Segment) → AllOwn seg → (call : Call) (cause : Refusal) → GoodBy seg call (seg, Refused cause)
+  refused_good seg each call cause = subst (λ ms. Good seg seg ms []) (sym (none_refused s all call cause)) (good_same seg each)
 
   -- the same stations and the same to come
   pub bus_same : (xs ys : Station) (before after : Bus) (y : ℕ) (sent given : List told.Message) → ahead_of after y ≡ ahead_of before y → frame_again after y ≡ frame_again before y → Stands s (parts s xs ys before y sent given) → Stands s (parts s xs ys after y sent given)

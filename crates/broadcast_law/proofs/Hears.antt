@@ -25,16 +25,16 @@ use Rattle.station_core.specs.Station.{Station, StationStep, quietly, by_session
 use Rattle.station_core.specs.Opening.{refusal, is_tp_size, set_for, others_than, whole_join, bam_taken}
 use Rattle.station_core.specs.Taking.{in_session, looks_at, meaning_taken, wire_taken, taken}
 use Rattle.segment_law.specs.Told as told
+use Rattle.record_lemmas.proofs.Maps.{session_at, state_put, state_dropped}
+use Rattle.record_lemmas.proofs.Tests.{on_test, by_option}
 use Rattle.lane_law.specs.Frame.{Frame, Packet as Data}
 use Rattle.lane_law.specs.Session.{Session}
 use Rattle.broadcast_law.proofs.Carried.{all, of_lane, of_meaning, carried, is_to_all, Meaning, IsRead, reading_tells}
-use Rattle.broadcast_law.proofs.Maps.{session_at, state_put, state_dropped}
 use Rattle.broadcast_law.proofs.Ports.{gives_to, told_to, told_once}
 use Rattle.broadcast_law.proofs.Receive.{left_of, MayTell, Taken, ends, packet_heard, bam_opens, packet_shown, bam_shown, ShowsBam}
 use Rattle.broadcast_law.proofs.Receptions.{key_all}
 use Rattle.broadcast_law.proofs.Stations.{IsOwn}
 use Rattle.broadcast_law.proofs.View.{View, IsHeard, Stands, GoesOn}
-use Rattle.broadcast_law.proofs.Words.{on_test, by_option}
 
 -- a carried frame is a BAM or a packet, of s to all
 pub record IsOfLane (s : Address) (from to : Address) : Type 0 where

@@ -42,8 +42,9 @@ use Rattle.lane_core.specs.declared.place.UnderWay.TheVariants.{Nothing, Broadca
 use Rattle.lane_core.specs.declared.probe.Standing.{Standing}
 use Rattle.lane_core.specs.declared.probe.Standing.TheVariants.{Settled, InDoubt, Probing}
 use Rattle.lane_core.specs.declared.step.LaneStep.{LaneStep}
+use Rattle.record_lemmas.proofs.Lists.{Each, each_append, each_map, each_of_all}
+use Rattle.record_lemmas.proofs.Tests.{on_test, either}
 use Rattle.broadcast_law.proofs.Carried.{IsSaid}
-use Rattle.broadcast_law.proofs.Words.{on_test, either, Each, each_append, each_map, each_of_all}
 
 module _ (a to : ℕ) where
   abbrev pub FitsLink : Link → Type 0

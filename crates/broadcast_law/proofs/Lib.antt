@@ -1,5 +1,3 @@
-pub mod Words
-pub mod Maps
 pub mod Carried
 pub mod View
 pub mod Receive

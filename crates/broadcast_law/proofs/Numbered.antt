@@ -1,16 +1,16 @@
 -- Numbers of what a station was given over all its ports: one for each reply that gives a message, once for each of its ports.
 use Rattle.std.proofs.Common.{◌≡◌, ◌⊎◌, inl, inr, ℕ, zero, suc, ◌+◌, ◌<◌, ◌≤◌, ◌==◌, Bool, cond, List, [], ◌∷◌, ◌++◌, map, filter, Some, refl, sym, ap, ◌∙◌, subst, arith, eqb-true}
-use Rattle.std.specs.Prelude.{All, AllPairs, zip, slice_index_or}
+use Rattle.std.specs.Prelude.{AllPairs, zip, slice_index_or}
 use Rattle.std.specs.List.{AllZip}
 use Rattle.std.specs.List.Sorted.{IsStrictlyIncreasing, IsNonDecreasing}
 use Rattle.std.proofs.lemmas.Bool.{cases_eq}
 use Rattle.std.proofs.lemmas.List.{map-append}
-use Rattle.std.proofs.lemmas.List.Elements.{All-head, All-tail, All-nil, All-cons}
 use Rattle.std.proofs.lemmas.List.Kept.{AllPairs-cons, AllPairs-from_increasing}
 use Rattle.segment_law.specs.Told.{Message, Placed, AtPort, items_of, places_of}
 use Rattle.segment_law.specs.Numbering.{item, IsNumbering, IsAfter, Numbered, part_of}
+use Rattle.record_lemmas.proofs.Lists.{Each, each_append, each_map, each_of_all, each_all, all_each, each_weaker}
+use Rattle.record_lemmas.proofs.Tests.{on_test}
 use Rattle.broadcast_law.proofs.Ports.{Distinct}
-use Rattle.broadcast_law.proofs.Words.{on_test, Each, each_append, each_map, each_of_all}
 
 -- a reply that gives a message at ports of a station, when so many messages had been sent
 pub record Giving : Type 0 where
@@ -44,14 +44,6 @@ abbrev pub Pairs : {A : Type 0} → (A → A → Type 0) → List A → Type 0
 Pairs R [] = Unit {0}
 Pairs R (x ∷ xs) = Each (R x) xs × Pairs R xs
 
-each_all : {A : Type 0} (P : A → Type 0) (xs : List A) → Each P xs → All P xs
-each_all P [] h = All-nil P
-each_all P (x ∷ xs) h = All-cons P x xs h.0 (each_all P xs h.1)
-
-all_each : {A : Type 0} (P : A → Type 0) (xs : List A) → All P xs → Each P xs
-all_each P [] h = tt
-all_each P (x ∷ xs) h = (All-head P x xs h, all_each P xs (All-tail P x xs h))
-
 pub all_pairs : {A : Type 0} (R : A → A → Type 0) (xs : List A) → Pairs R xs → AllPairs R xs
 all_pairs R [] h = λ i j d lt within. absurd (omega arith)
 all_pairs R (x ∷ xs) h = AllPairs-cons R x xs (each_all (R x) xs h.0) (all_pairs R xs h.1)
@@ -66,13 +58,9 @@ pairs_of_all R (x ∷ xs) h = (
 pub pairs_rising : (ns : List ℕ) → IsStrictlyIncreasing ns → Pairs (λ n m. n < m) ns
 pairs_rising ns h = pairs_of_all (λ n m. n < m) ns (AllPairs-from_increasing ns h)
 
-pub each_more : {A : Type 0} (P Q : A → Type 0) → ((x : A) → P x → Q x) → (xs : List A) → Each P xs → Each Q xs
-each_more P Q w [] h = tt
-each_more P Q w (x ∷ xs) h = (w x h.0, each_more P Q w xs h.1)
-
 pairs_more : {A : Type 0} (R S : A → A → Type 0) → ((x y : A) → R x y → S x y) → (xs : List A) → Pairs R xs → Pairs S xs
 pairs_more R S w [] h = tt
-pairs_more R S w (x ∷ xs) h = (each_more (R x) (S x) (w x) xs h.0, pairs_more R S w xs h.1)
+pairs_more R S w (x ∷ xs) h = (each_weaker (R x) (S x) (w x) xs h.0, pairs_more R S w xs h.1)
 
 pairs_map : {A B : Type 0} (R : B → B → Type 0) (f : A → B) (xs : List A) → Pairs (λ x y. R (f x) (f y)) xs → Pairs R (map f xs)
 pairs_map R f [] h = tt
@@ -92,7 +80,7 @@ spread_apart : (n place : ℕ) (m : Message) (ks : List ℕ) → Distinct ks →
 spread_apart n place m [] h = tt
 spread_apart n place m (k ∷ ks) h = (
   each_map (IsApart (n, (place, (k, m)))) (λ j. (n, (place, (j, m)))) ks
-      (each_more (λ j. j ≡ k → ⊥) (λ j. IsApart (n, (place, (k, m))) (n, (place, (j, m)))) (λ j d. inr (refl, refl, λ e. d (sym e))) ks h.0),
+      (each_weaker (λ j. j ≡ k → ⊥) (λ j. IsApart (n, (place, (k, m))) (n, (place, (j, m)))) (λ j d. inr (refl, refl, λ e. d (sym e))) ks h.0),
   spread_apart n place m ks h.1,
 )
 
@@ -110,7 +98,7 @@ all_apart (n ∷ ns) [] h d = tt
 all_apart (n ∷ ns) (g ∷ gs) h d =
     pairs_append IsApart (spread n g) (all_spread ns gs) (spread_apart n g.place g.message g.ports d.0) (all_apart ns gs h.1 d.1)
     (each_spread (λ x. Each (IsApart x) (all_spread ns gs)) n g (λ k.
-    each_more (λ (y : Numbered). n < y.0) (IsApart (n, (g.place, (k, g.message)))) (λ y l. inl l) (all_spread ns gs) (above_spread n ns gs h.0)))
+    each_weaker (λ (y : Numbered). n < y.0) (IsApart (n, (g.place, (k, g.message)))) (λ y l. inl l) (all_spread ns gs) (above_spread n ns gs h.0)))
 
 abbrev IsNumberOf : List (Placed Message) → Numbered → Type 0
 IsNumberOf sends x = (item (items_of sends) x.0 ≡ Some x.1.1.1) × IsAfter (item (places_of sends) x.0) x.1.0
@@ -205,7 +193,7 @@ module _ (port : ℕ) where
   pairs_kept : (xs : List Numbered) → Pairs IsApart xs → Pairs (λ (x y : Numbered). x.0 < y.0) (filter here xs)
   pairs_kept [] h = tt
   pairs_kept (x ∷ xs) h = on_test (λ b. here x ≡ b → Pairs (λ (x y : Numbered). x.0 < y.0) (cond b (x ∷ filter here xs) (filter here xs))) (here x)
-      (λ _ e. (each_more (λ y. IsApart x y × (y.1.1.0 ≡ port)) (λ (y : Numbered). x.0 < y.0) (λ y k. below y (eqb-true x.1.1.0 port e) k.1 k.0) (filter here xs) (each_kept (IsApart x) xs h.0), pairs_kept xs h.1))
+      (λ _ e. (each_weaker (λ y. IsApart x y × (y.1.1.0 ≡ port)) (λ (y : Numbered). x.0 < y.0) (λ y k. below y (eqb-true x.1.1.0 port e) k.1 k.0) (filter here xs) (each_kept (IsApart x) xs h.0), pairs_kept xs h.1))
       (λ _ e. pairs_kept xs h.1) refl
     where
       below : (y : Numbered) → x.1.1.0 ≡ port → y.1.1.0 ≡ port → IsApart x y → x.0 < y.0
@@ -220,7 +208,7 @@ module _ (port : ℕ) where
   kept_numbers : (sends : List (Placed Message)) (xs : List Numbered) → Pairs IsApart xs → Each (IsNumberOf sends) xs → IsNumbering (firsts (filter here xs)) (given_messages (at_port port (seconds xs))) (items_of sends)
   kept_numbers sends xs h e = record {
     rising = rises (firsts (filter here xs)) (all_pairs (λ n m. n < m) (firsts (filter here xs)) (pairs_map (λ n m. n < m) (λ (x : Numbered). x.0) (filter here xs) (pairs_kept xs h)));
-    items = items_each sends (filter here xs) (each_more (λ x. IsNumberOf sends x × (x.1.1.0 ≡ port)) (IsNumberOf sends) (λ x k. k.0) (filter here xs) (each_kept (IsNumberOf sends) xs e)) ∙ ap (λ gs. map Some (given_messages gs)) (kept_seconds xs);
+    items = items_each sends (filter here xs) (each_weaker (λ x. IsNumberOf sends x × (x.1.1.0 ≡ port)) (IsNumberOf sends) (λ x k. k.0) (filter here xs) (each_kept (IsNumberOf sends) xs e)) ∙ ap (λ gs. map Some (given_messages gs)) (kept_seconds xs);
   }
 
 numbers_of_spread : (sends : List (Placed Message)) (xs : List Numbered) → Pairs IsApart xs → Each (IsNumberOf sends) xs → AreNumbers sends (seconds xs) (firsts xs)

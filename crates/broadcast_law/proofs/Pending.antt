@@ -5,8 +5,8 @@ use Rattle.std.proofs.lemmas.Option.{slice_get_within}
 use Rattle.seg_cut.specs.Packets.{packet_count}
 use Rattle.lane_core.specs.Endings.{without_number}
 use Rattle.lane_core.specs.declared.message.Pending.{Pending}
+use Rattle.record_lemmas.proofs.Tests.{on_test}
 use Rattle.lane_law.specs.Message.{Message, IsSent}
-use Rattle.broadcast_law.proofs.Words.{on_test}
 use Rattle.broadcast_law.proofs.View.{message, ArePending}
 
 sent_more : (sent more : List Message) (n : ℕ) (m : Message) → IsSent sent n m → IsSent (sent ++ more) n m

@@ -1,9 +1,7 @@
 -- Where stations stand, and what of a segment the broadcasts of s show at a listener.
-use Rattle.std.proofs.Common.{◌≡◌, ◌⊎◌, inl, inr, ℕ, suc, ◌+◌, ◌<◌, ◌==◌, nat_lt, Bool, true, cond, not, List, [], ◌∷◌, ◌++◌, length, set, get_or, Option, Some, None, refl, sym, ap, ◌∙◌, subst, arith, eqb-true, append-nil, length-set, get_or-set_same, get_or-set_other}
+use Rattle.std.proofs.Common.{◌≡◌, ◌⊎◌, inl, inr, ℕ, ◌<◌, ◌==◌, List, [], ◌++◌, length, set, get_or, Option, Some, None, sym, ap, ◌∙◌, subst, arith, append-nil, length-set, get_or-set_same, get_or-set_other}
 use Rattle.std.specs.Prelude.{slice_get, position}
-use Rattle.std.specs.List.{position_or_len}
-use Rattle.std.proofs.lemmas.Bool.{eqb-false}
-use Rattle.std.proofs.lemmas.Option.{same_Some, none-some, slice_get_within, get_or_from_slice_get, slice_get-get_or}
+use Rattle.std.proofs.lemmas.Option.{same_Some, slice_get_within, get_or_from_slice_get, slice_get-get_or}
 use Rattle.std.specs.FinMap as finmap
 use Rattle.pgn_ids.specs.declared.address.Address.{Address}
 use Rattle.bus_order.specs.Bus.{Bus, frame_again}
@@ -15,30 +13,15 @@ use Rattle.segment_law.specs.Told as told
 use Rattle.segment_law.specs.Segment.{Segment}
 use Rattle.segment_law.specs.Reached.{IsReached}
 use Rattle.segment_law.proofs.Reaching.{slice_get_same, slice_get_other}
+use Rattle.record_lemmas.proofs.Maps.{session_at, StaysOrEnds}
+use Rattle.record_lemmas.proofs.Tests.{equal_or_not}
 use Rattle.broadcast_law.proofs.Buses.{ahead_of}
 use Rattle.broadcast_law.proofs.Carried.{none_carried}
-use Rattle.broadcast_law.proofs.Maps.{session_at, StaysOrEnds}
 use Rattle.broadcast_law.proofs.Receive.{ends}
 use Rattle.broadcast_law.proofs.Receptions.{key_all}
 use Rattle.broadcast_law.proofs.Send.{queues_others}
 use Rattle.broadcast_law.proofs.Stations.{IsOwn, Does}
 use Rattle.broadcast_law.proofs.View.{View, Stands, GoesOn}
-use Rattle.broadcast_law.proofs.Words.{on_test}
-
-pub equal_or_not : (i j : ℕ) → (i ≡ j) ⊎ (i ≡ j → ⊥)
-equal_or_not i j = on_test (λ b. (i == j) ≡ b → (i ≡ j) ⊎ (i ≡ j → ⊥)) (i == j) (λ _ e. inl (eqb-true i j e)) (λ _ e. inr (eqb-false i j e)) refl
-
--- what is found at a place passes
-found_at : {A : Type 0} (test : A → Bool) (xs : List A) (x : A) → slice_get xs (position_or_len test xs) ≡ Some x → test x ≡ true
-found_at test [] x e = absurd (none-some x e)
-found_at test (y ∷ ys) x e = on_test (λ b. test y ≡ b → slice_get (y ∷ ys) (cond (not b) (1 + position_or_len test ys) 0) ≡ Some x → test x ≡ true) (test y)
-    (λ _ t q. subst (λ z. test z ≡ true) (same_Some y x q) t)
-    (λ _ t q. let n : 1 + position_or_len test ys ≡ suc (position_or_len test ys) = omega arith in found_at test ys x (subst (λ k. slice_get (y ∷ ys) k ≡ Some x) n q)) refl e
-
-pub found_passes : {A : Type 0} (test : A → Bool) (xs : List A) (i : ℕ) (x : A) → position test xs ≡ Some i → slice_get xs i ≡ Some x → test x ≡ true
-found_passes test xs i x p e = on_test (λ b. cond b (Some (position_or_len test xs)) None ≡ Some i → test x ≡ true) (nat_lt (position_or_len test xs) (length xs))
-    (λ _ q. found_at test xs x (ap (slice_get xs) (same_Some (position_or_len test xs) i q) ∙ e))
-    (λ _ q. absurd (none-some i q)) p
 
 -- a station with this address stands there
 abbrev pub IsAt : Segment → ℕ → Address → Type 0

@@ -9,8 +9,9 @@ use Rattle.station_lanes.specs.declared.event.Event.{Event}
 use Rattle.station_lanes.specs.declared.event.Event.TheVariants as event
 use Rattle.segment_law.specs.Told as told
 use Rattle.segment_law.specs.Told.{AtPort, is_lane, given_to_station}
+use Rattle.record_lemmas.proofs.Lists.{Each, each_append, each_filter, each_map}
+use Rattle.record_lemmas.proofs.Tests.{on_test, either}
 use Rattle.broadcast_law.proofs.Carried.{all}
-use Rattle.broadcast_law.proofs.Words.{on_test, either, Each, each_append, each_filter, each_map}
 
 -- no number stands twice
 abbrev pub Distinct : List ℕ → Type 0

@@ -17,13 +17,14 @@ use Rattle.session_table.specs.declared.incoming.Incoming.{Incoming}
 use Rattle.session_table.specs.declared.incoming.Incoming.TheVariants as incoming
 use Rattle.station_core.specs.Opening.{whole_join}
 use Rattle.segment_law.specs.Told as told
+use Rattle.record_lemmas.proofs.Lists.{take_more}
+use Rattle.record_lemmas.proofs.Tests.{on_test}
 use Rattle.lane_law.specs.Message.{Message}
 use Rattle.lane_law.specs.Frame.{Frame, Rts, Dpo, Packet as Data, Request as Asks}
 use Rattle.lane_law.specs.Session.{Session, given_of, session_after}
 use Rattle.lane_law.specs.Stream as stream
 use Rattle.lane_law.specs.Stream.{Stream, Take, PassOver, Forget, EndSession, Reopen, Accept, Give}
 use Rattle.broadcast_law.proofs.Carried.{carried}
-use Rattle.broadcast_law.proofs.Words.{on_test, take_more}
 use Rattle.broadcast_law.proofs.View.{View, wire_of, cleaned, IsSame, IsHeard, Carries, Sim, Stands, GoesOn}
 
 -- what the step of a broadcast session leaves of it

@@ -32,11 +32,12 @@ use Rattle.session_table.specs.Sessions.{state_at}
 use Rattle.station_sessions.specs.Progress.{after_broadcast, after_tp, after_etp, progress, fired, prepared, prepared_to_fire, closing_frame}
 use Rattle.station_sessions.specs.Receiving.{Inbound, Reception, unheard, settled, flow_at, received_by, received, fired_by, fired_at, aborted_at, unbound_by, unbound_at}
 use Rattle.segment_law.specs.Told.{is_lane}
+use Rattle.record_lemmas.proofs.Lists.{Each}
+use Rattle.record_lemmas.proofs.Maps.{OfEach, StaysOrEnds, session_at, key_cases, state_put, put_stays, dropped_stays, of_each_put, of_each_dropped}
+use Rattle.record_lemmas.proofs.Tests.{either}
 use Rattle.broadcast_law.proofs.Carried.{all}
-use Rattle.broadcast_law.proofs.Maps.{OfEach, StaysOrEnds, session_at, key_cases, state_put, put_stays, dropped_stays, of_each_put, of_each_dropped}
 use Rattle.broadcast_law.proofs.Ports.{Distinct, distinct_without, IsOfPort, IsUntold, gives_to, given_of_port, given_untold, IsOneGiving, station_told, one_of_none, given_one}
 use Rattle.broadcast_law.proofs.SessionSteps.{FitsPeer, SaidBack, said_peer, said_end, FitsTp, FitsEtp, tp_step, tp_expired, etp_step, etp_expired, etp_prepared, etp_prepared_fire}
-use Rattle.broadcast_law.proofs.Words.{either, Each}
 
 -- the key of the broadcasts of s
 abbrev pub key_all : Address → Key

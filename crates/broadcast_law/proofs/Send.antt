@@ -25,11 +25,12 @@ use Rattle.lane_core.specs.declared.probe.Standing.TheVariants.{Settled}
 use Rattle.lane_core.specs.declared.step.LaneStep.{LaneStep}
 use Rattle.originator.specs.Opening.{begun as connects}
 use Rattle.originator.specs.declared.states.OutState.TheVariants.{AwaitCts}
+use Rattle.record_lemmas.proofs.Lists.{each_append}
+use Rattle.record_lemmas.proofs.Tests.{on_test}
 use Rattle.lane_law.specs.Message.{Message}
 use Rattle.lane_law.specs.Frame.{Frame, Rts, Packet as Data, Place}
 use Rattle.lane_law.specs.Stream as stream
 use Rattle.lane_law.specs.Stream.{Stream, Send, Begin, QueuePacket}
-use Rattle.broadcast_law.proofs.Words.{on_test, each_append}
 use Rattle.broadcast_law.proofs.Carried.{ReadsBack, carried, carried_bam, carried_packet}
 use Rattle.broadcast_law.proofs.Pending.{fewer_pending, within, last_pending, enough, below}
 use Rattle.broadcast_law.proofs.View.{View, wire_of, plain, message, IsClean, ArePending, IsBroadcasting, IsUnderWay, IsSender, Sim, Stands, GoesOn}

@@ -1,56 +1,46 @@
 -- Ports open and close, messages are sent, pumped and cancelled, and timers fire.
-use Rattle.std.proofs.Common.{◌≡◌, inr, ℕ, ◌*◌, ◌/◌, ◌%◌, ◌^◌, ◌<◌, ◌≤◌, ◌==◌, nat_lt, Bool, true, false, cond, not, ◌&&◌, ◌||◌, List, [], ◌∷◌, ◌++◌, length, set, Option, Some, None, refl, sym, ap, ◌∙◌, subst, arith, append-nil, eqb-true, eq-eqb, ltb-true, ltb-false}
+use Rattle.std.proofs.Common.{◌≡◌, inr, ℕ, ◌^◌, ◌<◌, ◌≤◌, ◌==◌, nat_lt, Bool, true, false, cond, List, [], ◌∷◌, ◌++◌, length, set, Option, Some, None, refl, sym, ap, ◌∙◌, subst, arith, append-nil, eqb-true, eq-eqb, ltb-false, ◌+◌}
 use Rattle.std.specs.Prelude.{slice_get}
 use Rattle.std.proofs.lemmas.Bool.{eqb-false, and_parts, and_from}
 use Rattle.std.specs.FinMap as finmap
-use Rattle.pgn_ids.specs.Address.{is_one, null_address}
-use Rattle.pgn_ids.specs.Pgn.{is_pgn, is_pdu1, clean}
+use Rattle.pgn_ids.specs.Address.{is_one}
+use Rattle.pgn_ids.specs.Pgn.{is_pgn, clean}
 use Rattle.pgn_ids.specs.declared.address.Address.{Address}
 use Rattle.tp_wire.specs.declared.constants.TheConstants.{MIN_SIZE}
-use Rattle.tx_queue.specs.Queue.{free_places}
-use Rattle.port_table.specs.Ports.{are_full, is_open, is_paused, with_port, with_paused}
+use Rattle.port_table.specs.Ports.{with_port, with_paused, next_id}
 use Rattle.port_table.specs.declared.port.PortId.{PortId}
-use Rattle.lane_core.specs.Lane.{Lane, new_lane, longest_to, is_full, pushed}
+use Rattle.lane_core.specs.Lane.{Lane, new_lane, pushed}
 use Rattle.lane_core.specs.Pump as lane
 use Rattle.lane_core.specs.Endings as endings
-use Rattle.lane_core.specs.declared.refused.PumpRefused.{PumpRefused}
-use Rattle.lane_core.specs.declared.refused.PumpRefused.TheVariants as pump
 use Rattle.lane_core.specs.declared.step.LaneStep.{LaneStep}
 use Rattle.station_lanes.specs.LaneCalls.{lane_to}
-use Rattle.station_lanes.specs.LaneReaders.{refusal_at, is_pending_at, queues_abort_at}
+use Rattle.station_lanes.specs.LaneReaders.{is_pending_at}
 use Rattle.station_core.specs.Station.{Station, by_lane}
 use Rattle.station_core.specs.Sending.{lane_of, sent, pumped, cancelled}
-use Rattle.station_core.specs.Timers.{is_due, fired}
+use Rattle.station_core.specs.Timers.{fired}
 use Rattle.station_core.specs.Closing.{closed}
 use Rattle.segment_law.specs.Told.{is_lane}
 use Rattle.segment_law.specs.Segment.{Segment, with_station, counted}
-use Rattle.segment_law.specs.Calls.{no_place, pump_places, opens, closes, pauses, resumes, sends, pumps_by, pumps, cancels, fires}
 use Rattle.segment_law.specs.Reached.{IsReached}
 use Rattle.segment_law.specs.declared.call.Call.TheVariants.{Open, Close, Send, Pump, Fire, Cancel, Pause, Resume}
 use Rattle.segment_law.specs.declared.counts.Counts.{Counts}
+use Rattle.segment_law.specs.declared.reply.Reply.TheVariants.{Opened, Sent, Done}
+use Rattle.record_lemmas.proofs.EachCall.{stepped}
+use Rattle.record_lemmas.proofs.Maps.{lane_here, lane_else}
+use Rattle.record_lemmas.proofs.Segments.{same_address}
+use Rattle.record_lemmas.proofs.Tests.{on_test}
+use Rattle.record_lemmas.proofs.Told.{clean_is}
 use Rattle.broadcast_law.proofs.Carried.{GivesBack, ReadsBack, all}
 use Rattle.broadcast_law.proofs.Endings.{does_fired, fired_calm, closes as station_closes}
-use Rattle.broadcast_law.proofs.Good.{same_address, Good, Keeps, or_refused, small, is_of, is_here, good_step, good_calm, good_lane, good_all}
+use Rattle.broadcast_law.proofs.Good.{Good, GoodBy, small, is_of, is_here, good_step, good_calm, good_lane, good_all}
 use Rattle.broadcast_law.proofs.LaneSteps.{IsLaneOf, Fits, fits_new, fits_pushed, fits_pumped, fits_cancelled}
 use Rattle.broadcast_law.proofs.LaneToAll.{all_cancelled}
-use Rattle.broadcast_law.proofs.Maps.{lane_here, lane_else}
 use Rattle.broadcast_law.proofs.Places.{AllOwn, apart_places, station_in, view, at_it, receives_calmly}
 use Rattle.broadcast_law.proofs.Ports.{ports_opened, ports_paused, one_of_none}
 use Rattle.broadcast_law.proofs.Receptions.{key_all}
 use Rattle.broadcast_law.proofs.Send.{AreSeven, stepped_view, pushes, pumps as view_pumps, cancels as view_cancels}
 use Rattle.broadcast_law.proofs.Stations.{IsOwn, put_lane, does_ports}
 use Rattle.broadcast_law.proofs.View.{View, Stands, GoesOn}
-use Rattle.broadcast_law.proofs.Words.{on_test}
-
--- a PGN is meant as it is
-clean_is : (pgn : ℕ) → is_pgn pgn ≡ true → (pgn < 2 ^ 18) × (clean pgn ≡ pgn)
-clean_is pgn is =
-    let h : (nat_lt pgn (2 ^ 18) ≡ true) × ((not (is_pdu1 pgn) || pgn % 2 ^ 8 == 0) ≡ true) = and_parts (nat_lt pgn (2 ^ 18)) (not (is_pdu1 pgn) || pgn % 2 ^ 8 == 0) is in
-    (ltb-true pgn (2 ^ 18) h.0, by (is_pdu1 pgn) h.1)
-  where
-    by : (b : Bool) → (not b || pgn % 2 ^ 8 == 0) ≡ true → cond b (pgn / 2 ^ 8 * 2 ^ 8) pgn ≡ pgn
-    by true e = let z : pgn % 2 ^ 8 ≡ 0 = eqb-true (pgn % 2 ^ 8) 0 e in omega (arith, z)
-    by false e = refl
 
 module _ (s listener : Address) (one : is_one s.0 ≡ true) (goes : GoesOn) (gives : GivesBack) (reads : ReadsBack) (seven : AreSeven)
     (seg : Segment) (r : IsReached seg) (each : AllOwn seg) (i : ℕ) (st : Station) (at : slice_get seg.stations i ≡ Some st) where
@@ -63,25 +53,20 @@ module _ (s listener : Address) (one : is_one s.0 ≡ true) (goes : GoesOn) (giv
   low : a.0 < 254
   low = small s listener goes seg r each i st at
 
-  pub opens_good : (station : Address) (pgn max_len : ℕ) → Keeps s listener seg (Open station pgn max_len) (opens seg pgn max_len i st)
-  opens_good station pgn max_len = or_refused s listener seg (Open station pgn max_len) (are_full st.ports) _ _
-      (λ _. good_calm s listener goes seg r each i st at seg.now seg.counts (record st { ports = with_port st.ports pgn max_len }) [] (does_ports a st (with_port st.ports pgn max_len) own (ports_opened a st.ports own.ports pgn max_len)) (inr refl) tt)
+  pub opens_good : (station : Address) (pgn max_len : ℕ) → GoodBy s listener seg (Open station pgn max_len) (with_station seg i (record st { ports = with_port st.ports pgn max_len }), Opened (next_id st.ports))
+  opens_good station pgn max_len = good_calm s listener goes seg r each i st at seg.now seg.counts (record st { ports = with_port st.ports pgn max_len }) [] (does_ports a st (with_port st.ports pgn max_len) own (ports_opened a st.ports own.ports pgn max_len)) (inr refl) tt
 
-  pub closes_good : (port : PortId) → Keeps s listener seg (Close port) (closes seg port.number i st)
-  closes_good port = or_refused s listener seg (Close port) (not (is_open st.ports port.number)) _ _
-      (λ _. let c = station_closes gives a low st port.number own in good_calm s listener goes seg r each i st at seg.now seg.counts (closed st port.number) [] c.0 (c.1 (key_all s)) tt)
+  pub closes_good : (port : PortId) → GoodBy s listener seg (Close port) (with_station seg i (closed st port.number), Done [])
+  closes_good port = let c = station_closes gives a low st port.number own in good_calm s listener goes seg r each i st at seg.now seg.counts (closed st port.number) [] c.0 (c.1 (key_all s)) tt
 
-  pub pauses_good : (port : PortId) → Keeps s listener seg (Pause port) (pauses seg port.number i st)
-  pauses_good port = or_refused s listener seg (Pause port) (not (is_open st.ports port.number)) _ _ (λ _. or_refused s listener seg (Pause port) (is_paused st.ports port.number) _ _
-      (λ _. good_calm s listener goes seg r each i st at seg.now seg.counts (record st { ports = with_paused st.ports port.number true }) [] (does_ports a st (with_paused st.ports port.number true) own (ports_paused a st.ports own.ports port.number true)) (inr refl) tt))
+  pub pauses_good : (port : PortId) → GoodBy s listener seg (Pause port) (with_station seg i (record st { ports = with_paused st.ports port.number true }), Done [])
+  pauses_good port = good_calm s listener goes seg r each i st at seg.now seg.counts (record st { ports = with_paused st.ports port.number true }) [] (does_ports a st (with_paused st.ports port.number true) own (ports_paused a st.ports own.ports port.number true)) (inr refl) tt
 
-  pub resumes_good : (port : PortId) → Keeps s listener seg (Resume port) (resumes seg port.number i st)
-  resumes_good port = or_refused s listener seg (Resume port) (not (is_open st.ports port.number)) _ _ (λ _. or_refused s listener seg (Resume port) (not (is_paused st.ports port.number)) _ _
-      (λ _. good_calm s listener goes seg r each i st at seg.now seg.counts (record st { ports = with_paused st.ports port.number false }) [] (does_ports a st (with_paused st.ports port.number false) own (ports_paused a st.ports own.ports port.number false)) (inr refl) tt))
+  pub resumes_good : (port : PortId) → GoodBy s listener seg (Resume port) (with_station seg i (record st { ports = with_paused st.ports port.number false }), Done [])
+  resumes_good port = good_calm s listener goes seg r each i st at seg.now seg.counts (record st { ports = with_paused st.ports port.number false }) [] (does_ports a st (with_paused st.ports port.number false) own (ports_paused a st.ports own.ports port.number false)) (inr refl) tt
 
-  pub fires_good : (station : Address) → Keeps s listener seg (Fire station) (fires seg i st)
-  fires_good station = or_refused s listener seg (Fire station) (not (is_due st seg.now)) _ _ (λ _. or_refused s listener seg (Fire station) (no_place st) _ _
-      (λ _. let c = fired_calm gives a low s st seg.now own in good_calm s listener goes seg r each i st at seg.now (counted seg.counts (fired st seg.now).events) (fired st seg.now).station (fired st seg.now).events (does_fired gives a low st seg.now own) c.1 c.0))
+  pub fires_good : (station : Address) → GoodBy s listener seg (Fire station) (stepped seg i (fired st seg.now))
+  fires_good station = let c = fired_calm gives a low s st seg.now own in good_calm s listener goes seg r each i st at seg.now (counted seg.counts (fired st seg.now).events) (fired st seg.now).station (fired st seg.now).events (does_fired gives a low st seg.now own) c.1 c.0
 
   -- A lane makes a step
 
@@ -95,22 +80,13 @@ module _ (s listener : Address) (one : is_one s.0 ≡ true) (goes : GoesOn) (giv
       Goal : Address → Type 0
       Goal z = Good s listener seg (record { now = seg.now; stations = set seg.stations i (by_lane st z step).station; bus = seg.bus; counts = counts }) [] (by_lane st z step).events
 
-  pumps_by_good : (station to : Address) (o : Option PumpRefused) → Keeps s listener seg (Pump station to) (pumps_by seg to i st o)
-  pumps_by_good station to (Some pump.NothingToSend) = tt
-  pumps_by_good station to (Some pump.NotYet) = tt
-  pumps_by_good station to None = or_refused s listener seg (Pump station to) (nat_lt (free_places st.queue) pump_places) _ _
-      (λ _. by_lane_good to (λ l. lane.pumped l seg.now) (λ n l. fits_pumped a.0 n l seg.now)
-      (λ l k same v e h. subst (λ x. Stands s (stepped_view v (lane.pumped x seg.now))) e (view_pumps s goes one reads seven v seg.now h)) (counted seg.counts (pumped st to seg.now).events))
+  pub pumps_good : (station to : Address) → GoodBy s listener seg (Pump station to) (stepped seg i (pumped st to seg.now))
+  pumps_good station to = by_lane_good to (λ l. lane.pumped l seg.now) (λ n l. fits_pumped a.0 n l seg.now)
+      (λ l k same v e h. subst (λ x. Stands s (stepped_view v (lane.pumped x seg.now))) e (view_pumps s goes one reads seven v seg.now h)) (counted seg.counts (pumped st to seg.now).events)
 
-  pub pumps_good : (station to : Address) → Keeps s listener seg (Pump station to) (pumps seg to i st)
-  pumps_good station to = or_refused s listener seg (Pump station to) (to.0 == null_address) _ _ (λ _. pumps_by_good station to (refusal_at st.lanes to.0 seg.now))
-
-  pub cancels_good : (from to : Address) (number : ℕ) → Keeps s listener seg (Cancel from to number) (cancels seg to number i st)
-  cancels_good from to number =
-      or_refused s listener seg (Cancel from to number) (to.0 == null_address) _ _ (λ _.
-      or_refused s listener seg (Cancel from to number) (not (is_pending_at st.lanes to.0 number)) _ _ (λ _.
-      or_refused s listener seg (Cancel from to number) (queues_abort_at st.lanes to.0 number && no_place st) _ _ (λ _.
-      by_lane_good to (λ l. endings.cancelled l number) (λ n l. fits_cancelled a.0 n l number) shows (counted seg.counts (cancelled st to number).events))))
+  pub cancels_good : (from to : Address) (number : ℕ) → is_pending_at st.lanes to.0 number ≡ true → GoodBy s listener seg (Cancel from to number) (stepped seg i (cancelled st to number))
+  cancels_good from to number pending =
+      by_lane_good to (λ l. endings.cancelled l number) (λ n l. fits_cancelled a.0 n l number) shows (counted seg.counts (cancelled st to number).events)
     where
       shows : (l : Lane) → IsLaneOf a.0 255 l → a.0 ≡ s.0 → (v : View) → v.lane ≡ l → Stands s v → Stands s (stepped_view v (endings.cancelled l number))
       shows l k same v e h =
@@ -176,11 +152,6 @@ module _ (s listener : Address) (one : is_one s.0 ≡ true) (goes : GoesOn) (giv
         other = λ _ _. w;
       }) (λ _ _ _. refl) (λ _. refl) (one_of_none [] refl)
 
-  pub sends_good : (from to : Address) (pgn : ℕ) (bytes : List ℕ) → from.0 ≡ a.0 → to.0 < 256 → is_pgn pgn ≡ true → Keeps s listener seg (Send from to pgn bytes) (sends seg to pgn bytes i st)
-  sends_good from to pgn bytes is l pgn_is =
-      or_refused s listener seg (Send from to pgn bytes) (to.0 == null_address) _ _ (λ _.
-      or_refused s listener seg (Send from to pgn bytes) (a.0 == to.0) _ _ (λ _.
-      or_refused s listener seg (Send from to pgn bytes) (nat_lt (length bytes) MIN_SIZE) _ _ (λ long.
-      or_refused s listener seg (Send from to pgn bytes) (nat_lt (longest_to to.0) (length bytes)) _ _ (λ _.
-      or_refused s listener seg (Send from to pgn bytes) (is_full (lane_of st to)) _ _ (λ _.
-      sent_good from to pgn bytes is l pgn_is (let m : MIN_SIZE ≤ length bytes = ltb-false (length bytes) MIN_SIZE long in omega (arith, m)) (is_lane s all from to) refl)))))
+  pub sends_good : (from to : Address) (pgn : ℕ) (bytes : List ℕ) → from.0 ≡ a.0 → to.0 < 256 → is_pgn pgn ≡ true → nat_lt (length bytes) MIN_SIZE ≡ false → GoodBy s listener seg (Send from to pgn bytes) (with_station seg i (sent st to pgn bytes), Sent ((lane_of st to).sent + 1))
+  sends_good from to pgn bytes is l pgn_is long =
+      sent_good from to pgn bytes is l pgn_is (let m : MIN_SIZE ≤ length bytes = ltb-false (length bytes) MIN_SIZE long in omega (arith, m)) (is_lane s all from to) refl

@@ -33,8 +33,9 @@ use Rattle.etp_session.specs.declared.in_state.InState.TheVariants as etp-state
 use Rattle.etp_session.specs.declared.received.Received as etp
 use Rattle.etp_session.specs.declared.received.Received.TheVariants as etp-received
 use Rattle.lane_core.specs.Steps.{option_frames}
+use Rattle.record_lemmas.proofs.Lists.{Each}
+use Rattle.record_lemmas.proofs.Tests.{either}
 use Rattle.broadcast_law.proofs.Carried.{IsSaid}
-use Rattle.broadcast_law.proofs.Words.{either, Each}
 
 module _ (a from : ℕ) where
   abbrev pub FitsPeer : Peer → Type 0

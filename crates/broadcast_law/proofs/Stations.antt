@@ -20,12 +20,12 @@ use Rattle.station_lanes.specs.LaneCalls.{stepped_lanes, step_at, outcome_of}
 use Rattle.station_lanes.specs.declared.event.Event.{Event}
 use Rattle.station_sessions.specs.Receiving.{Inbound, Reception}
 use Rattle.station_core.specs.Station.{Station, new_station, by_session, by_lane}
+use Rattle.record_lemmas.proofs.Lists.{Each, each_append}
+use Rattle.record_lemmas.proofs.Maps.{lane_here, lane_else, OfEach, of_each_none}
 use Rattle.broadcast_law.proofs.Carried.{GivesBack, IsSaid, IsQuiet, quiet_each, own_each, own_quiet}
-use Rattle.broadcast_law.proofs.Maps.{lane_here, lane_else, OfEach, of_each_none}
 use Rattle.broadcast_law.proofs.Ports.{ArePortsOf, IsOfPort, IsUntold}
 use Rattle.broadcast_law.proofs.LaneSteps.{IsLaneOf, Fits}
 use Rattle.broadcast_law.proofs.Receptions.{IsSessionOf, Settles}
-use Rattle.broadcast_law.proofs.Words.{Each, each_append}
 
 abbrev pub AreLanes : ℕ → Lanes → Type 0
 AreLanes a lanes = (to : ℕ) (lane : Lane) → finmap.get lanes to ≡ Some lane → IsLaneOf a to lane

@@ -34,14 +34,15 @@ use Rattle.station_sessions.specs.Receiving.{received, flow_at, aborted_at}
 use Rattle.station_core.specs.Station.{Station, StationStep, quietly, queues}
 use Rattle.station_core.specs.Opening.{key_of, refusal, is_tp_size, is_etp_size, set_for, others_than, whole_join, peer_of, opened, not_opened, rts_taken, etp_rts_taken, bam_taken}
 use Rattle.station_core.specs.Taking.{packet_kind, in_session, in_lane, abort_taken, cm_taken, answer, request_taken, ack_taken, wire_taken, looks_at, meaning_taken, taken}
+use Rattle.record_lemmas.proofs.Lists.{Each, each_append}
+use Rattle.record_lemmas.proofs.Maps.{of_each_put, of_each_dropped}
+use Rattle.record_lemmas.proofs.Tests.{on_test, either, by_option}
 use Rattle.broadcast_law.proofs.Carried.{GivesBack, IsQuiet, quiet_ack, Meaning, IsRead, reading_tells}
-use Rattle.broadcast_law.proofs.Maps.{of_each_put, of_each_dropped}
 use Rattle.broadcast_law.proofs.Ports.{set_distinct, IsOfPort, IsOneGiving, station_told, one_of_none, none_told}
 use Rattle.broadcast_law.proofs.LaneSteps.{fits_heard, fits_answered}
 use Rattle.broadcast_law.proofs.SessionSteps.{FitsPeer, SaidBack, said_peer, tp_asking, etp_asking}
 use Rattle.broadcast_law.proofs.Receptions.{IsSessionOf, IsStateOf, settles_received, each_aborted}
 use Rattle.broadcast_law.proofs.Stations.{IsOwn, Does, does_none, does_then, does_sessions, does_reception, does_lane, lanes_stepped, lanes_else, outcome_ports, outcome_untold}
-use Rattle.broadcast_law.proofs.Words.{on_test, either, by_option, Each, each_append}
 
 -- a frame that a station looks at is of another one
 pub other_node : (a : Address) (st : Station) (f : CanFrame) → IsOwn a st → looks_at st f ≡ true → (meaning_of f.id).from.0 ≡ a.0 → ⊥

@@ -18,13 +18,13 @@ use Rattle.lane_core.specs.declared.probe.Standing.TheVariants.{Settled}
 use Rattle.session_table.specs.declared.incoming.Incoming.{Incoming}
 use Rattle.session_table.specs.declared.incoming.Incoming.TheVariants as incoming
 use Rattle.segment_law.specs.Told as told
+use Rattle.record_lemmas.proofs.Lists.{Each}
 use Rattle.lane_law.specs.Message.{Message, IsSent}
 use Rattle.lane_law.specs.Frame.{Frame, Rts, Dpo, Packet as Data, Request as Asks, Place}
 use Rattle.lane_law.specs.Session.{Session, Given}
 use Rattle.lane_law.specs.Stream as stream
 use Rattle.lane_law.specs.Stream.{Stream, StreamEvent}
 use Rattle.broadcast_law.proofs.Carried.{carried}
-use Rattle.broadcast_law.proofs.Words.{Each}
 
 -- the lane at the sender, the sender's queue, what is on the bus past the receiver's cursor, what it would take again, and
 -- its session; and what was told so far

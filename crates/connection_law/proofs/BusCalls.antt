@@ -1,5 +1,5 @@
 -- Frames are put on the bus, and passed over.
-use Rattle.std.proofs.Common.{◌≡◌, inl, ℕ, zero, suc, ◌<◌, ◌≤◌, nat_lt, List, [], ◌∷◌, ◌++◌, length, drop, take, set, filter_map, Option, Some, None, refl, sym, ap, ◌∙◌, subst, append-nil, append_assoc, ltb-false}
+use Rattle.std.proofs.Common.{◌≡◌, inl, ℕ, zero, suc, ◌<◌, ◌≤◌, nat_lt, List, [], ◌∷◌, ◌++◌, length, drop, take, set, filter_map, Option, Some, None, refl, sym, ap, ◌∙◌, subst, append-nil, append_assoc, ltb-false, false}
 use Rattle.std.specs.Prelude.{slice_get, option_to_list}
 use Rattle.std.specs.List.{cons_option}
 use Rattle.std.proofs.lemmas.List.Elements.{filter_map-append}
@@ -15,25 +15,27 @@ use Rattle.bus_order.specs.Bus.{Bus, cursor_at, bus_len, released, frame_again}
 use Rattle.bus_order.specs.Kept.{IsSound}
 use Rattle.station_core.specs.Station.{Station, quietly}
 use Rattle.station_core.specs.Overruns.{overrun}
-use Rattle.segment_law.specs.Segment.{Segment, counted, counted_frame}
-use Rattle.segment_law.specs.Calls.{transmits_by, overruns, with_frame}
+use Rattle.segment_law.specs.Segment.{Segment, counted, counted_frame, with_station}
+use Rattle.segment_law.specs.Calls.{with_frame}
 use Rattle.segment_law.specs.Reached.{IsReached}
 use Rattle.segment_law.specs.declared.call.Call.TheVariants.{Transmit, Overrun}
+use Rattle.segment_law.specs.declared.reply.Reply.TheVariants.{Done}
+use Rattle.record_lemmas.proofs.EachCall.{stepped}
+use Rattle.record_lemmas.proofs.Lists.{Each}
+use Rattle.record_lemmas.proofs.Maps.{state_empty}
+use Rattle.record_lemmas.proofs.Segments.{same_address}
 use Rattle.lane_law.specs.Choice.{IsChoice}
 use Rattle.lane_law.specs.Lane as machine
 use Rattle.broadcast_law.proofs.Buses.{ahead_of, passed_ahead, passed_again, passed_ahead_else, passed_again_else, put_ahead, put_again}
-use Rattle.broadcast_law.proofs.Good.{same_address}
-use Rattle.broadcast_law.proofs.Maps.{state_empty}
 use Rattle.broadcast_law.proofs.Places.{IsAt, AllOwn, cursor_of, apart_places}
 use Rattle.broadcast_law.proofs.Stations.{IsOwn}
-use Rattle.broadcast_law.proofs.Words.{Each}
 use Rattle.connection_law.proofs.Frames.{goes, returns, goes_foreign, returns_foreign}
 use Rattle.connection_law.proofs.Roles.{session_for, real_at, told_to}
 use Rattle.connection_law.proofs.View.{Laws, IsPair, View, Still, next_still, still_same, still_then}
 use Rattle.connection_law.proofs.Moves.{skips, misses}
 use Rattle.connection_law.proofs.Events.{Tells, tells_none, tells_taken, tells_overrun}
 use Rattle.connection_law.proofs.Turns.{none_opened, turns_same}
-use Rattle.connection_law.proofs.Segments.{Ghost, parts, station_in, view, goes_quietly, turns_none, Good, Keeps, or_refused, is_of, is_here, at_it, good_step}
+use Rattle.connection_law.proofs.Segments.{Ghost, parts, station_in, view, goes_quietly, turns_none, Good, GoodBy, is_of, is_here, at_it, good_step}
 use Rattle.connection_law.proofs.Calls.{sends_so}
 use Rattle.connection_law.proofs.StepsOut.{sender_overruns}
 
@@ -103,10 +105,8 @@ module _ (laws : Laws) (choose : machine.OnEachLane (λ lane. IsChoice lane.stre
 
     -- The front frame of the queue is put
 
-    pub transmits_good : (station : Address) (o : Option CanFrame) → front st.queue ≡ o → Keeps laws s d pair seg (Transmit station) (transmits_by seg i st o)
-    transmits_good station None e = tt
-    transmits_good station (Some f) e = or_refused laws s d pair seg (Transmit station) (bus.is_full seg.bus) _ _ (λ _.
-        good_step laws s d pair seg r i st at seg.now (bus.put seg.bus f) (counted_frame seg.counts) (quietly new) [] none_opened [] (tells_none s d st.address) (turns_none laws s d pair seg r i st at new refl) (λ x y g l at_x at_y h. record {
+    pub transmits_good : (station : Address) (f : CanFrame) → front st.queue ≡ Some f → GoodBy laws s d pair seg (Transmit station) (with_frame (with_station seg i (record st { queue = behind st.queue })) f, Done [])
+    transmits_good station f e = good_step laws s d pair seg r i st at seg.now (bus.put seg.bus f) (counted_frame seg.counts) (quietly new) [] none_opened [] (tells_none s d st.address) (turns_none laws s d pair seg r i st at new refl) (λ x y g l at_x at_y h. record {
           sends = λ q.
               let mine : st.address.0 ≡ s.0 = is_of laws s d pair seg r i st at x s at_x q in
               let lx : x < length seg.bus.cursors = cursor_of seg r x s at_x in
@@ -146,7 +146,7 @@ module _ (laws : Laws) (choose : machine.OnEachLane (λ lane. IsChoice lane.stre
               } in w))) (still_same s d l _ h));
           other = λ n m. goes_quietly laws s d pair (in_place x) (in_place y) (bus.put seg.bus f) x y g l
               (subst (Still s d l) (sym (put_is seg r f (in_place x) (in_place y) x y g at_x at_y (goes_foreign s d f (λ z. n (is_here laws s d pair seg r i st at x s at_x (sym from ∙ z)))) (returns_foreign s d f (λ z. m (is_here laws s d pair seg r i st at y d at_y (sym from ∙ z)))))) (still_same s d l _ h));
-        }))
+        })
       where
         new : Station
         new = record st { queue = behind st.queue }
@@ -162,8 +162,8 @@ module _ (laws : Laws) (choose : machine.OnEachLane (λ lane. IsChoice lane.stre
     passed_parts : {A : Type 0} (p : CanFrame → Option A) (k : ℕ) (fs queue : List CanFrame) → filter_map p (fs ++ queue) ≡ filter_map p (take k fs) ++ filter_map p (drop k fs ++ queue)
     passed_parts p k fs queue = ap (λ xs. filter_map p (xs ++ queue)) (take_drop k fs) ∙ ap (filter_map p) (append_assoc (take k fs) (drop k fs) queue) ∙ filter_map-append p (take k fs) (drop k fs ++ queue)
 
-    pub overruns_good : (station : Address) (k : ℕ) → Keeps laws s d pair seg (Overrun station k) (overruns seg k i st)
-    overruns_good station k = or_refused laws s d pair seg (Overrun station k) (nat_lt (bus.waiting seg.bus i) k) _ _ (λ few. passes (ltb-false (bus.waiting seg.bus i) k few))
+    pub overruns_good : (station : Address) (k : ℕ) → nat_lt (bus.waiting seg.bus i) k ≡ false → GoodBy laws s d pair seg (Overrun station k) (stepped (record seg { bus = released (bus.passed seg.bus i k) }) i (overrun st))
+    overruns_good station k few = passes (ltb-false (bus.waiting seg.bus i) k few)
       where
         b : Bus
         b = released (bus.passed seg.bus i k)

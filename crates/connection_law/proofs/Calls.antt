@@ -1,61 +1,44 @@
 -- Calls on a station that leave the bus as it is.
-use Rattle.std.proofs.Common.{◌≡◌, inl, ℕ, ◌*◌, ◌/◌, ◌%◌, ◌^◌, ◌<◌, ◌≤◌, ◌==◌, nat_lt, Bool, true, false, cond, not, ◌&&◌, ◌||◌, List, [], ◌∷◌, ◌++◌, length, set, Option, Some, None, refl, sym, ap, ◌∙◌, subst, arith, append-nil, eqb-true, eq-eqb, ltb-true, ltb-false, true≢false}
+use Rattle.std.proofs.Common.{◌≡◌, inl, ℕ, ◌^◌, ◌<◌, ◌≤◌, ◌==◌, nat_lt, Bool, true, false, cond, List, [], ◌∷◌, ◌++◌, length, set, Some, refl, sym, ap, ◌∙◌, subst, arith, append-nil, eqb-true, eq-eqb, ltb-false, true≢false, ◌+◌}
 use Rattle.std.specs.Prelude.{slice_get}
 use Rattle.std.proofs.lemmas.Bool.{and_parts, and_from}
-use Rattle.pgn_ids.specs.Address.{null_address}
-use Rattle.pgn_ids.specs.Pgn.{is_pgn, is_pdu1, clean}
+use Rattle.pgn_ids.specs.Pgn.{is_pgn, clean}
 use Rattle.pgn_ids.specs.declared.address.Address.{Address}
 use Rattle.tp_wire.specs.declared.wire.Kind.{Kind}
 use Rattle.tp_wire.specs.declared.constants.TheConstants.{MIN_SIZE, ETP_MAX_SIZE}
-use Rattle.tx_queue.specs.Queue.{free_places}
 use Rattle.bus_order.specs.Bus.{Bus}
-use Rattle.port_table.specs.Ports.{Ports, next_id, are_full, is_open, is_paused, with_port, with_paused}
+use Rattle.port_table.specs.Ports.{Ports, next_id, with_port, with_paused}
 use Rattle.port_table.specs.declared.port.PortId.{PortId}
-use Rattle.lane_core.specs.Lane.{longest_to, is_full}
-use Rattle.lane_core.specs.declared.refused.PumpRefused.{PumpRefused}
-use Rattle.lane_core.specs.declared.refused.PumpRefused.TheVariants as pump
-use Rattle.station_lanes.specs.LaneReaders.{refusal_at, is_pending_at, queues_abort_at}
+use Rattle.lane_core.specs.Lane.{longest_to}
+use Rattle.station_lanes.specs.LaneReaders.{is_pending_at}
 use Rattle.station_core.specs.Station.{Station, StationStep, quietly}
 use Rattle.station_core.specs.Sending.{lane_of, sent, pumped, cancelled}
-use Rattle.station_core.specs.Timers.{is_due, fired}
+use Rattle.station_core.specs.Timers.{fired}
 use Rattle.station_core.specs.Closing.{closed}
 use Rattle.segment_law.specs.Told.{is_lane}
 use Rattle.segment_law.specs.Segment.{Segment, with_station, counted}
-use Rattle.segment_law.specs.Calls.{no_place, opens, closes, pauses, resumes, sends, pumps_by, pumps, cancels, fires}
 use Rattle.segment_law.specs.Reached.{IsReached}
 use Rattle.segment_law.specs.declared.call.Call.TheVariants.{Open, Close, Send, Pump, Fire, Cancel, Pause, Resume}
-use Rattle.segment_law.specs.declared.reply.Reply.TheVariants.{Opened}
+use Rattle.segment_law.specs.declared.reply.Reply.TheVariants.{Opened, Sent, Done}
 use Rattle.segment_law.specs.declared.counts.Counts.{Counts}
+use Rattle.record_lemmas.proofs.EachCall.{stepped}
+use Rattle.record_lemmas.proofs.Segments.{same_address}
+use Rattle.record_lemmas.proofs.Tests.{on_test}
+use Rattle.record_lemmas.proofs.Told.{clean_is}
 use Rattle.lane_law.specs.Choice.{IsChoice}
 use Rattle.lane_law.specs.Lane as machine
 use Rattle.broadcast_law.proofs.Buses.{ahead_of}
-use Rattle.broadcast_law.proofs.Good.{same_address}
 use Rattle.broadcast_law.proofs.Places.{AllOwn}
 use Rattle.broadcast_law.proofs.Stations.{IsOwn}
-use Rattle.broadcast_law.proofs.Words.{on_test}
 use Rattle.connection_law.proofs.Roles.{sender_view, receiver_view, IsSenderOf, IsReceiverOf, station_told, told_to, ended_in}
 use Rattle.connection_law.proofs.View.{Laws, IsPair, Mark, View, Sim, Still, next_still, still_same}
 use Rattle.connection_law.proofs.Marks.{less_mark}
 use Rattle.connection_law.proofs.Turns.{opened_at, none_opened, Turns, turns_opened, opens_elsewhere, turns_paused, turns_closed, fired_ports, closed_ports}
 use Rattle.connection_law.proofs.Events.{Tells, tells_none, tells_lane, tells_fire}
-use Rattle.connection_law.proofs.Segments.{Ghost, parts, station_in, Goes, goes_quietly, TurnsAt, turns_none, Good, Keeps, or_refused, is_of, is_here, at_it, good_step}
+use Rattle.connection_law.proofs.Segments.{Ghost, parts, station_in, Goes, goes_quietly, TurnsAt, turns_none, Good, GoodBy, is_of, is_here, at_it, good_step}
 use Rattle.connection_law.proofs.StepsOut.{out_ports, out_closes, aside as out_aside, sender_pumps, sender_cancels, sender_fires, sender_sends_here, sender_sends_else}
 use Rattle.connection_law.proofs.ClosesIn.{receiver_closes}
 use Rattle.connection_law.proofs.StepsIn.{in_ports, in_pumps, in_cancels, in_sends, aside as in_aside, receiver_fires}
-
--- a PGN is meant as it is
-clean_is : (pgn : ℕ) → is_pgn pgn ≡ true → (pgn < 2 ^ 18) × (clean pgn ≡ pgn)
-clean_is pgn is =
-    let h : (nat_lt pgn (2 ^ 18) ≡ true) × ((not (is_pdu1 pgn) || pgn % 2 ^ 8 == 0) ≡ true) = and_parts (nat_lt pgn (2 ^ 18)) (not (is_pdu1 pgn) || pgn % 2 ^ 8 == 0) is in
-    (ltb-true pgn (2 ^ 18) h.0, by (is_pdu1 pgn) h.1)
-  where
-    by : (b : Bool) → (not b || pgn % 2 ^ 8 == 0) ≡ true → cond b (pgn / 2 ^ 8 * 2 ^ 8) pgn ≡ pgn
-    by true e = let z : pgn % 2 ^ 8 ≡ 0 = eqb-true (pgn % 2 ^ 8) 0 e in omega (arith, z)
-    by false e = refl
-
-not_true : (b : Bool) → not b ≡ false → b ≡ true
-not_true true e = refl
-not_true false e = absurd (cc)
 
 module _ (laws : Laws) (choose : machine.OnEachLane (λ lane. IsChoice lane.stream.given lane.stream.sent)) (s d : Address) (pair : IsPair s d)
     (seg : Segment) (r : IsReached seg) (each : AllOwn seg) (i : ℕ) (st : Station) (at : slice_get seg.stations i ≡ Some st) where
@@ -105,11 +88,11 @@ module _ (laws : Laws) (choose : machine.OnEachLane (λ lane. IsChoice lane.stre
     in_it = λ k v l behind is h. in_aside laws choose s d pair v behind l st k is h _ (in_ports laws choose s d pair st ports);
   })
 
-  pub opens_good : (station : Address) (pgn max_len : ℕ) → Keeps laws s d pair seg (Open station pgn max_len) (opens seg pgn max_len i st)
-  opens_good station pgn max_len = or_refused laws s d pair seg (Open station pgn max_len) (are_full st.ports) _ _ (λ _. good_ports seg.counts (with_port st.ports pgn max_len) (opened_at d (Open station pgn max_len) (Opened (next_id st.ports))) (record {
+  pub opens_good : (station : Address) (pgn max_len : ℕ) → GoodBy laws s d pair seg (Open station pgn max_len) (with_station seg i (record st { ports = with_port st.ports pgn max_len }), Opened (next_id st.ports))
+  opens_good station pgn max_len = good_ports seg.counts (with_port st.ports pgn max_len) (opened_at d (Open station pgn max_len) (Opened (next_id st.ports))) (record {
     here = λ _. turns_opened d st.ports pgn max_len;
     elsewhere = λ n p o h. opens_elsewhere d st.ports pgn max_len p o (λ e. n (sym (ap (λ (x : Address). x.0) own.ports.station) ∙ e)) h;
-  }))
+  })
 
   -- a port closes: it is one of d, or of another station
   closes_by : (port : PortId) → st.address.0 ≡ port.station.0 → (b : Bool) → (port.station.0 == d.0) ≡ b → Good laws s d pair seg (with_station seg i (closed st port.number)) [] none_opened (cond b (port.number ∷ []) []) []
@@ -153,42 +136,33 @@ module _ (laws : Laws) (choose : machine.OnEachLane (λ lane. IsChoice lane.stre
       foreign : st.address.0 ≡ d.0 → ⊥
       foreign m = true≢false (sym (eq-eqb port.station.0 d.0 (sym is ∙ m)) ∙ e)
 
-  pub closes_good : (port : PortId) → st.address.0 ≡ port.station.0 → Keeps laws s d pair seg (Close port) (closes seg port.number i st)
-  closes_good port is = or_refused laws s d pair seg (Close port) (not (is_open st.ports port.number)) _ _ (λ _. closes_by port is (port.station.0 == d.0) refl)
+  pub closes_good : (port : PortId) → st.address.0 ≡ port.station.0 → GoodBy laws s d pair seg (Close port) (with_station seg i (closed st port.number), Done [])
+  closes_good port is = closes_by port is (port.station.0 == d.0) refl
 
-  pub pauses_good : (port : PortId) → Keeps laws s d pair seg (Pause port) (pauses seg port.number i st)
-  pauses_good port = or_refused laws s d pair seg (Pause port) (not (is_open st.ports port.number)) _ _ (λ _. or_refused laws s d pair seg (Pause port) (is_paused st.ports port.number) _ _ (λ _. good_ports seg.counts (with_paused st.ports port.number true) none_opened (record { here = λ _. turns_paused st.ports port.number true; elsewhere = λ n p o h. h })))
+  pub pauses_good : (port : PortId) → GoodBy laws s d pair seg (Pause port) (with_station seg i (record st { ports = with_paused st.ports port.number true }), Done [])
+  pauses_good port = good_ports seg.counts (with_paused st.ports port.number true) none_opened (record { here = λ _. turns_paused st.ports port.number true; elsewhere = λ n p o h. h })
 
-  pub resumes_good : (port : PortId) → Keeps laws s d pair seg (Resume port) (resumes seg port.number i st)
-  resumes_good port = or_refused laws s d pair seg (Resume port) (not (is_open st.ports port.number)) _ _ (λ _. or_refused laws s d pair seg (Resume port) (not (is_paused st.ports port.number)) _ _ (λ _. good_ports seg.counts (with_paused st.ports port.number false) none_opened (record { here = λ _. turns_paused st.ports port.number false; elsewhere = λ n p o h. h })))
+  pub resumes_good : (port : PortId) → GoodBy laws s d pair seg (Resume port) (with_station seg i (record st { ports = with_paused st.ports port.number false }), Done [])
+  resumes_good port = good_ports seg.counts (with_paused st.ports port.number false) none_opened (record { here = λ _. turns_paused st.ports port.number false; elsewhere = λ n p o h. h })
 
-  pub fires_good : (station : Address) → Keeps laws s d pair seg (Fire station) (fires seg i st)
-  fires_good station = or_refused laws s d pair seg (Fire station) (not (is_due st seg.now)) _ _ (λ _. or_refused laws s d pair seg (Fire station) (no_place st) _ _
-      (λ _. good_plain (counted seg.counts (fired st seg.now).events) (fired st seg.now) none_opened (turns_none laws s d pair seg r i st at (fired st seg.now).station (fired_ports st seg.now)) (tells_fire s d st.address st own seg.now) (record {
+  pub fires_good : (station : Address) → GoodBy laws s d pair seg (Fire station) (stepped seg i (fired st seg.now))
+  fires_good station = good_plain (counted seg.counts (fired st seg.now).events) (fired st seg.now) none_opened (turns_none laws s d pair seg r i st at (fired st seg.now).station (fired_ports st seg.now)) (tells_fire s d st.address st own seg.now) (record {
         out = λ k v l ahead is h. sender_fires laws s d pair v ahead l st k is h seg.now;
         in_it = λ k v l behind is h. receiver_fires laws choose s d pair v behind l st k is h seg.now;
-      })))
+      })
 
-  pumps_by_good : (station to : Address) (o : Option PumpRefused) → Keeps laws s d pair seg (Pump station to) (pumps_by seg to i st o)
-  pumps_by_good station to (Some pump.NothingToSend) = tt
-  pumps_by_good station to (Some pump.NotYet) = tt
-  pumps_by_good station to None = or_refused laws s d pair seg (Pump station to) (nat_lt (free_places st.queue) 8) _ _ (λ _. good_plain (counted seg.counts (pumped st to seg.now).events) (pumped st to seg.now) none_opened (turns_none laws s d pair seg r i st at (pumped st to seg.now).station refl) (tells_lane s d st.address st own to (λ l. Rattle.lane_core.specs.Pump.pumped l seg.now)) (record {
+  pub pumps_good : (station to : Address) → GoodBy laws s d pair seg (Pump station to) (stepped seg i (pumped st to seg.now))
+  pumps_good station to = good_plain (counted seg.counts (pumped st to seg.now).events) (pumped st to seg.now) none_opened (turns_none laws s d pair seg r i st at (pumped st to seg.now).station refl) (tells_lane s d st.address st own to (λ l. Rattle.lane_core.specs.Pump.pumped l seg.now)) (record {
     out = λ k v l ahead is h. sender_pumps laws s d pair v ahead l st k is h to seg.now;
     in_it = λ k v l behind is h. in_aside laws choose s d pair v behind l st k is h _ (in_pumps laws choose s d pair st k to seg.now);
-  }))
+  })
 
-  pub pumps_good : (station to : Address) → Keeps laws s d pair seg (Pump station to) (pumps seg to i st)
-  pumps_good station to = or_refused laws s d pair seg (Pump station to) (to.0 == null_address) _ _ (λ _. pumps_by_good station to (refusal_at st.lanes to.0 seg.now))
-
-  pub cancels_good : (from to : Address) (number : ℕ) → Keeps laws s d pair seg (Cancel from to number) (cancels seg to number i st)
-  cancels_good from to number =
-      or_refused laws s d pair seg (Cancel from to number) (to.0 == null_address) _ _ (λ _.
-      or_refused laws s d pair seg (Cancel from to number) (not (is_pending_at st.lanes to.0 number)) _ _ (λ pending.
-      or_refused laws s d pair seg (Cancel from to number) (queues_abort_at st.lanes to.0 number && no_place st) _ _ (λ _.
+  pub cancels_good : (from to : Address) (number : ℕ) → is_pending_at st.lanes to.0 number ≡ true → GoodBy laws s d pair seg (Cancel from to number) (stepped seg i (cancelled st to number))
+  cancels_good from to number pending =
       good_plain (counted seg.counts (cancelled st to number).events) (cancelled st to number) none_opened (turns_none laws s d pair seg r i st at (cancelled st to number).station refl) (tells_lane s d st.address st own to (λ l. Rattle.lane_core.specs.Endings.cancelled l number)) (record {
-        out = λ k v l ahead is h. sender_cancels laws s d pair v ahead l st k is h to number (not_true (is_pending_at st.lanes to.0 number) pending);
+        out = λ k v l ahead is h. sender_cancels laws s d pair v ahead l st k is h to number pending;
         in_it = λ k v l behind is h. in_aside laws choose s d pair v behind l st k is h _ (in_cancels laws choose s d pair st k to number);
-      }))))
+      })
 
   -- A message is sent
 
@@ -232,14 +206,9 @@ module _ (laws : Laws) (choose : machine.OnEachLane (λ lane. IsChoice lane.stre
           let t : is_lane s d from to ≡ true = and_from (from.0 == s.0) (to.0 == d.0) (eq-eqb from.0 s.0 f) (eq-eqb to.0 d.0 q) in
           let u : true ≡ false = sym t ∙ e in cc
 
-  pub sends_good : (from to : Address) (pgn : ℕ) (bytes : List ℕ) → from.0 ≡ st.address.0 → is_pgn pgn ≡ true → Keeps laws s d pair seg (Send from to pgn bytes) (sends seg to pgn bytes i st)
-  sends_good from to pgn bytes is pgn_is =
-      or_refused laws s d pair seg (Send from to pgn bytes) (to.0 == null_address) _ _ (λ _.
-      or_refused laws s d pair seg (Send from to pgn bytes) (st.address.0 == to.0) _ _ (λ _.
-      or_refused laws s d pair seg (Send from to pgn bytes) (nat_lt (length bytes) MIN_SIZE) _ _ (λ long.
-      or_refused laws s d pair seg (Send from to pgn bytes) (nat_lt (longest_to to.0) (length bytes)) _ _ (λ most.
-      or_refused laws s d pair seg (Send from to pgn bytes) (is_full (lane_of st to)) _ _ (λ _.
-      sent_good from to pgn bytes is pgn_is (let m : MIN_SIZE ≤ length bytes = ltb-false (length bytes) MIN_SIZE long in omega (arith, m)) (at_most most) (is_lane s d from to) refl)))))
+  pub sends_good : (from to : Address) (pgn : ℕ) (bytes : List ℕ) → from.0 ≡ st.address.0 → is_pgn pgn ≡ true → nat_lt (length bytes) MIN_SIZE ≡ false → nat_lt (longest_to to.0) (length bytes) ≡ false → GoodBy laws s d pair seg (Send from to pgn bytes) (with_station seg i (sent st to pgn bytes), Sent ((lane_of st to).sent + 1))
+  sends_good from to pgn bytes is pgn_is long most =
+      sent_good from to pgn bytes is pgn_is (let m : MIN_SIZE ≤ length bytes = ltb-false (length bytes) MIN_SIZE long in omega (arith, m)) (at_most most) (is_lane s d from to) refl
     where
       at_most : nat_lt (longest_to to.0) (length bytes) ≡ false → length bytes ≤ ETP_MAX_SIZE
       at_most e = on_test (λ b. (to.0 == 255) ≡ b → length bytes ≤ cond b Rattle.tp_wire.specs.declared.constants.TheConstants.TP_MAX_SIZE ETP_MAX_SIZE → length bytes ≤ ETP_MAX_SIZE) (to.0 == 255) (λ _ _ l. omega (arith, l)) (λ _ _ l. l) refl (ltb-false (longest_to to.0) (length bytes) e)

@@ -20,12 +20,12 @@ use Rattle.station_sessions.specs.Receiving.{Inbound, Reception, unbound_at, unb
 use Rattle.station_core.specs.Station.{Station, quietly}
 use Rattle.station_core.specs.Opening.{key_of}
 use Rattle.station_core.specs.Closing.{if_free, unbound_session, closed_below, closed}
+use Rattle.record_lemmas.proofs.Maps.{OfEach}
+use Rattle.record_lemmas.proofs.Tests.{either}
 use Rattle.lane_law.specs.Choice.{IsChoice}
 use Rattle.lane_law.specs.Lane as machine
-use Rattle.broadcast_law.proofs.Maps.{OfEach}
 use Rattle.broadcast_law.proofs.Receptions.{IsSessionOf, settles_unbound}
 use Rattle.broadcast_law.proofs.Stations.{IsOwn}
-use Rattle.broadcast_law.proofs.Words.{either}
 use Rattle.connection_law.proofs.Frames.{returns}
 use Rattle.connection_law.proofs.Sides.{asked_none}
 use Rattle.connection_law.proofs.Replies.{closing_asks}

@@ -1,26 +1,26 @@
 -- Every call.
-use Rattle.std.proofs.Common.{◌≡◌, inl, ℕ, ◌+◌, ◌^◌, ◌==◌, nat_lt, true, false, not, ◌&&◌, [], Option, Some, None, refl, sym, ap, ◌∙◌, eqb-true}
+use Rattle.std.proofs.Common.{◌≡◌, inl, ℕ, ◌+◌, ◌==◌, true, false, ◌&&◌, [], Some, refl, sym, ap, ◌∙◌}
 use Rattle.std.specs.Prelude.{slice_get, position, is_some}
 use Rattle.bus_frame.specs.Frames.{CanFrame}
 use Rattle.pgn_ids.specs.Pgn.{is_pgn}
 use Rattle.pgn_ids.specs.Identifier.{meaning_of}
 use Rattle.pgn_ids.specs.declared.address.Address.{Address}
-use Rattle.tx_queue.specs.Queue.{front}
-use Rattle.bus_order.specs.Bus as bus
 use Rattle.station_core.specs.Station.{Station}
 use Rattle.segment_law.specs.Told.{sent_by}
 use Rattle.segment_law.specs.Segment.{Segment, place_of, has_station}
-use Rattle.segment_law.specs.Calls.{Answer, at_station, at_place, called, applied, events_of, is_address, are_bytes, is_call}
+use Rattle.segment_law.specs.Calls.{applied, events_of, is_address, are_bytes, is_call}
 use Rattle.segment_law.specs.Reached.{IsReached}
 use Rattle.segment_law.specs.declared.call.Call.{Call}
-use Rattle.segment_law.specs.declared.call.Call.TheVariants.{Open, Close, Send, Pump, Transmit, Take, TakeAgain, Overrun, Tick, Fire, Cancel, Inject, Pause, Resume}
 use Rattle.segment_law.proofs.Booleans.{both_pass}
+use Rattle.segment_law.specs.declared.reply.Reply.{Reply}
+use Rattle.record_lemmas.proofs.EachCall.{OfStation, each_applied}
+use Rattle.record_lemmas.proofs.Segments.{has_address}
 use Rattle.lane_law.specs.Choice.{IsChoice}
 use Rattle.lane_law.specs.Lane as machine
-use Rattle.broadcast_law.proofs.Places.{IsAt, AllOwn, found_passes}
+use Rattle.broadcast_law.proofs.Places.{IsAt, AllOwn}
 use Rattle.broadcast_law.proofs.Ports.{one_of_none}
 use Rattle.connection_law.proofs.View.{Laws, IsPair, still_same}
-use Rattle.connection_law.proofs.Segments.{Good, Keeps, station_in, goes_quietly, replied_good, or_refused}
+use Rattle.connection_law.proofs.Segments.{Good, GoodBy, station_in, goes_quietly, refused_good}
 use Rattle.connection_law.proofs.Turns.{opened_at, closed_at, none_opened, turns_same}
 use Rattle.connection_law.proofs.Calls.{opens_good, closes_good, pauses_good, resumes_good, fires_good, pumps_good, cancels_good, sends_good}
 use Rattle.connection_law.proofs.BusCalls.{injects_good, transmits_good, overruns_good}
@@ -38,37 +38,31 @@ module _ (laws : Laws) (choose : machine.OnEachLane (λ lane. IsChoice lane.stre
       let has : has_station seg (meaning_of f.id).from ≡ true = ap is_some place in
       let z : true ≡ false = sym has ∙ unknown in cc
 
-  at_keeps : (call : Call) (a : Address) (does : ℕ → Station → Answer) → ((i : ℕ) (st : Station) → slice_get seg.stations i ≡ Some st → place_of seg a ≡ Some i → Keeps laws s d pair seg call (does i st)) → Keeps laws s d pair seg call (at_place seg (place_of seg a) does)
-  at_keeps call a does h = by (place_of seg a) refl
-    where
-      there : (i : ℕ) → place_of seg a ≡ Some i → (o : Option Station) → slice_get seg.stations i ≡ o → Keeps laws s d pair seg call (at_station o (does i))
-      there i q None e = tt
-      there i q (Some st) e = h i st e q
+  -- of a call whose values are of its types
+  abbrev Shown : Call → Segment × Reply → Type 0
+  Shown call step = is_call call ≡ true → GoodBy laws s d pair seg call step
 
-      by : (o : Option ℕ) → place_of seg a ≡ o → Keeps laws s d pair seg call (at_place seg o does)
-      by None q = tt
-      by (Some i) q = there i q (slice_get seg.stations i) refl
-
-  called_good : (call : Call) → is_call call ≡ true → Keeps laws s d pair seg call (called seg call)
-  unfolding called
-  called_good (Open station pgn max_len) is = at_keeps (Open station pgn max_len) station _ (λ i st at q. opens_good laws choose s d pair seg r each i st at station pgn max_len)
-  called_good (Close port) is = at_keeps (Close port) port.station _ (λ i st at q. closes_good laws choose s d pair seg r each i st at port (eqb-true st.address.0 port.station.0 (found_passes (λ (z : Station). z.address.0 == port.station.0) seg.stations i st q at)))
-  called_good (Send from to pgn bytes) is =
-      let h : (is_address to ≡ true) × (is_pgn pgn ≡ true) = both_pass (is_address to) (is_pgn pgn) (both_pass (is_address to && is_pgn pgn) (are_bytes bytes) is).0 in
-      at_keeps (Send from to pgn bytes) from _ (λ i st at q.
-      let found : st.address.0 ≡ from.0 = eqb-true st.address.0 from.0 (found_passes (λ (z : Station). z.address.0 == from.0) seg.stations i st q at) in
-      sends_good laws choose s d pair seg r each i st at from to pgn bytes (sym found) h.1)
-  called_good (Pump station to) is = at_keeps (Pump station to) station _ (λ i st at q. pumps_good laws choose s d pair seg r each i st at station to)
-  called_good (Transmit station) is = at_keeps (Transmit station) station _ (λ i st at q. transmits_good laws choose s d pair seg r each i st at station (front st.queue) refl)
-  called_good (Take station room) is = at_keeps (Take station room) station _ (λ i st at q. takes_good laws choose s d pair seg r each i st at station room (bus.next_frame seg.bus i) refl)
-  called_good (TakeAgain station room) is = at_keeps (TakeAgain station room) station _ (λ i st at q. repeats_good laws choose s d pair seg r each i st at station room (bus.frame_again seg.bus i) refl)
-  called_good (Overrun station n) is = at_keeps (Overrun station n) station _ (λ i st at q. overruns_good laws choose s d pair seg r each i st at station n)
-  called_good (Tick n) is = or_refused laws s d pair seg (Tick n) (not (nat_lt (seg.now + n) (2 ^ 64))) _ _ (λ _. ticks_good n)
-  called_good (Fire station) is = at_keeps (Fire station) station _ (λ i st at q. fires_good laws choose s d pair seg r each i st at station)
-  called_good (Cancel from to number) is = at_keeps (Cancel from to number) from _ (λ i st at q. cancels_good laws choose s d pair seg r each i st at from to number)
-  called_good (Inject frame) is = or_refused laws s d pair seg (Inject frame) (has_station seg (meaning_of frame.id).from) _ _ (λ no. or_refused laws s d pair seg (Inject frame) (bus.is_full seg.bus) _ _ (λ _. injects_good laws choose s d pair seg r frame (foreign frame x s s_at no) (foreign frame y d d_at no)))
-  called_good (Pause port) is = at_keeps (Pause port) port.station _ (λ i st at q. pauses_good laws choose s d pair seg r each i st at port)
-  called_good (Resume port) is = at_keeps (Resume port) port.station _ (λ i st at q. resumes_good laws choose s d pair seg r each i st at port)
+  of_station : (i : ℕ) (st : Station) → slice_get seg.stations i ≡ Some st → OfStation seg Shown i st
+  of_station i st at = record {
+    opens = λ a pgn max_len q is. opens_good laws choose s d pair seg r each i st at a pgn max_len;
+    closes = λ port q _ is. closes_good laws choose s d pair seg r each i st at port (has_address seg port.station i st q at);
+    sends = λ from to pgn bytes q other long short is.
+        let h : (is_address to ≡ true) × (is_pgn pgn ≡ true) = both_pass (is_address to) (is_pgn pgn) (both_pass (is_address to && is_pgn pgn) (are_bytes bytes) is).0 in
+        sends_good laws choose s d pair seg r each i st at from to pgn bytes (sym (has_address seg from i st q at)) h.1 long short;
+    pumps = λ a to q is. pumps_good laws choose s d pair seg r each i st at a to;
+    transmits = λ a f q e free is. transmits_good laws choose s d pair seg r each i st at a f e;
+    takes = λ a room f q e free is. takes_good laws choose s d pair seg r each i st at a room f e;
+    repeats = λ a room f q e free is. repeats_good laws choose s d pair seg r each i st at a room f e;
+    overruns = λ a n q few is. overruns_good laws choose s d pair seg r each i st at a n few;
+    fires = λ a q is. fires_good laws choose s d pair seg r each i st at a;
+    cancels = λ from to number q pending is. cancels_good laws choose s d pair seg r each i st at from to number pending;
+    pauses = λ port q is. pauses_good laws choose s d pair seg r each i st at port;
+    resumes = λ port q is. resumes_good laws choose s d pair seg r each i st at port;
+  }
 
   pub good_call : (call : Call) → is_call call ≡ true → Good laws s d pair seg (applied seg call).0 (sent_by s d call (applied seg call).1) (opened_at d call (applied seg call).1) (closed_at d call (applied seg call).1) (events_of (applied seg call).1)
-  good_call call is = replied_good laws s d pair seg call (called seg call) (called_good call is)
+  good_call call is = each_applied seg Shown (record {
+    station = of_station;
+    ticks = λ n is. ticks_good n;
+    injects = λ f no free is. injects_good laws choose s d pair seg r f (foreign f x s s_at no) (foreign f y d d_at no);
+  }) (λ call cause is. refused_good laws s d pair seg call cause) call is

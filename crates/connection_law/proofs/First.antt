@@ -1,8 +1,8 @@
 -- The messages of s to d on a new segment: nothing was sent, and nothing is under way.
-use Rattle.std.proofs.Common.{◌≡◌, ℕ, zero, suc, ◌+◌, ◌-◌, ◌≤◌, true, cond, List, [], ◌∷◌, ◌++◌, map, filter_map, length, get_or, replicate, drop, Option, Some, None, refl, sym, ap, ◌∙◌, subst, arith}
-use Rattle.std.specs.Prelude.{slice_get, option_to_list}
+use Rattle.std.proofs.Common.{◌≡◌, ℕ, ◌+◌, ◌-◌, ◌≤◌, true, cond, List, [], ◌++◌, filter_map, length, drop, Option, Some, None, refl, sym, ap, ◌∙◌, subst, arith}
+use Rattle.std.specs.Prelude.{option_to_list}
 use Rattle.std.specs.Ordering.{nat_cmp}
-use Rattle.std.proofs.lemmas.Option.{same_Some, none-some, get_or_from_slice_get}
+use Rattle.std.proofs.lemmas.Option.{get_or_from_slice_get}
 use Rattle.std.specs.FinMap as finmap
 use Rattle.std.specs.FinMap.{get-empty}
 use Rattle.pgn_ids.specs.declared.address.Address.{Address}
@@ -14,18 +14,17 @@ use Rattle.station_lanes.specs.LaneCalls.{lane_to}
 use Rattle.station_core.specs.Opening.{key_of}
 use Rattle.station_core.specs.Station.{Station, new_station}
 use Rattle.segment_law.specs.Segment.{Segment, new_segment, rising}
+use Rattle.record_lemmas.proofs.Maps.{state_empty, of_each_none}
+use Rattle.record_lemmas.proofs.Segments.{same_address, new_at, start_at}
 use Rattle.lane_law.specs.Lane as machine
 use Rattle.lane_law.specs.Choice.{IsChoice}
 use Rattle.broadcast_law.proofs.Buses.{ahead_of}
-use Rattle.broadcast_law.proofs.Good.{same_address}
-use Rattle.broadcast_law.proofs.Maps.{state_empty}
 use Rattle.broadcast_law.proofs.Places.{IsAt}
 use Rattle.broadcast_law.proofs.View.{GoesOn}
 use Rattle.port_table.specs.Ports.{no_ports}
 use Rattle.segment_law.specs.Headline.{port_of}
 use Rattle.port_law.proofs.Calls.{IsSound, HasLife, Good}
 use Rattle.port_law.proofs.Lives.{lives_first}
-use Rattle.port_law.proofs.Maps.{of_each_none}
 use Rattle.port_law.proofs.Receptions.{IsBound}
 use Rattle.connection_law.proofs.Openings.{no_mark, marked_none}
 use Rattle.connection_law.proofs.Frames.{goes, returns}
@@ -34,16 +33,6 @@ use Rattle.connection_law.proofs.View.{Mark, Laws, IsPair, View, Sim}
 use Rattle.connection_law.proofs.Segments.{Ghost, parts, station_in, view}
 use Rattle.connection_law.proofs.Stood.{Stood}
 use Rattle.connection_law.proofs.Tally.{tally_none}
-
-new_at : (addresses : List Address) (j : ℕ) (st : Station) → slice_get (map new_station addresses) j ≡ Some st → st ≡ new_station st.address
-new_at [] j st e = absurd (none-some st e)
-new_at (b ∷ addresses) zero st e = let q : new_station b ≡ st = same_Some (new_station b) st e in sym q ∙ ap (λ (z : Station). new_station z.address) q
-new_at (b ∷ addresses) (suc j) st e = new_at addresses j st e
-
-start_at : (n y : ℕ) → get_or (replicate n start) y start ≡ start
-start_at zero y = refl
-start_at (suc n) zero = refl
-start_at (suc n) (suc y) = start_at n y
 
 module _ (broadcasts : GoesOn) (laws : Laws) (choose : machine.OnEachLane (λ lane. IsChoice lane.stream.given lane.stream.sent)) (begins : machine.IsReached true (machine.start true)) (s d : Address) (pair : IsPair s d) where
   abbrev none_opened : Kind → Mark

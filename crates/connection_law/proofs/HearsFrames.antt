@@ -17,13 +17,13 @@ use Rattle.station_core.specs.Station.{Station, StationStep, quietly, queues}
 use Rattle.station_core.specs.Opening.{key_of}
 use Rattle.station_core.specs.Taking.{answer, in_session, wire_taken, looks_at, meaning_taken, taken}
 use Rattle.segment_law.specs.Told.{AtPort}
+use Rattle.record_lemmas.proofs.Segments.{same_address}
+use Rattle.record_lemmas.proofs.Tests.{on_test}
 use Rattle.lane_law.specs.Choice.{IsChoice}
 use Rattle.lane_law.specs.Frame.{Frame, Rts as Begins, Dpo, Packet as Data, Request as Asks, Place}
 use Rattle.lane_law.specs.Lane as machine
 use Rattle.broadcast_law.proofs.Carried.{Meaning, IsRead, reading_tells}
-use Rattle.broadcast_law.proofs.Good.{same_address}
 use Rattle.broadcast_law.proofs.Stations.{IsOwn}
-use Rattle.broadcast_law.proofs.Words.{on_test}
 use Rattle.connection_law.proofs.Frames.{BackAck, goes, returns, forward_of, of_forward, is_way}
 use Rattle.connection_law.proofs.Rows.{returns_ack}
 use Rattle.connection_law.proofs.Roles.{station_told, numbers_at, IsReceiverOf, receiver_view}

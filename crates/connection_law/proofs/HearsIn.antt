@@ -32,9 +32,9 @@ use Rattle.station_sessions.specs.Receiving.{Inbound, settled}
 use Rattle.station_core.specs.Station.{Station, StationStep, quietly, by_session}
 use Rattle.station_core.specs.Opening.{key_of}
 use Rattle.segment_law.specs.Told.{Message}
+use Rattle.record_lemmas.proofs.Maps.{state_put, state_dropped, state_put_else, state_dropped_else}
 use Rattle.lane_law.specs.Choice.{IsChoice}
 use Rattle.lane_law.specs.Lane as machine
-use Rattle.broadcast_law.proofs.Maps.{state_put, state_dropped, state_put_else, state_dropped_else}
 use Rattle.broadcast_law.proofs.Ports.{gives_to, first_message}
 use Rattle.broadcast_law.proofs.SessionSteps.{FitsPeer}
 use Rattle.broadcast_law.proofs.Stations.{IsOwn}

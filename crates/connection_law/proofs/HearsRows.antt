@@ -34,19 +34,19 @@ use Rattle.station_sessions.specs.Receiving.{settled, received_by, flow_at}
 use Rattle.station_core.specs.Station.{Station, StationStep, quietly, by_session}
 use Rattle.station_core.specs.Opening.{key_of, refusal, is_tp_size, is_etp_size, set_for, others_than, whole_join, peer_of, opened, not_opened, rts_taken, etp_rts_taken}
 use Rattle.station_core.specs.Taking.{in_session}
+use Rattle.record_lemmas.proofs.Lists.{each_get}
+use Rattle.record_lemmas.proofs.Tests.{on_test}
 use Rattle.lane_law.specs.Choice.{IsChoice}
 use Rattle.lane_law.specs.Session.{Session}
 use Rattle.lane_law.specs.Stream.{IsOfReached}
 use Rattle.lane_law.specs.Lane as machine
 use Rattle.broadcast_law.proofs.SessionSteps.{FitsPeer, etp_prepared}
 use Rattle.broadcast_law.proofs.Stations.{IsOwn}
-use Rattle.broadcast_law.proofs.Words.{on_test}
 use Rattle.connection_law.proofs.SessionWires.{AsksIn, said_peer, RepliesTp, RepliesEtp, tp_step, etp_step, tp_asking, etp_asking}
 use Rattle.connection_law.proofs.Sides.{asked_none}
 use Rattle.connection_law.proofs.Roles.{session_for, station_told, numbers_at, receiver_view, IsReceiverOf}
 use Rattle.connection_law.proofs.View.{Laws, IsPair, Mark, IsMarked, View, kind_of, IsHeardAs, IsHeard, IsSame, IsAlmost, IsGood, of_kind, Carries, Sim, Still, Next, next_still}
 use Rattle.connection_law.proofs.Sender.{small_s, small_d}
-use Rattle.connection_law.proofs.Pumping.{each_get}
 use Rattle.connection_law.proofs.Moves.{IsPlain, Taken, carries_else}
 use Rattle.connection_law.proofs.Follows.{Left, Goes, Whole, Gone, left_tp, left_etp, Follows, Keeps, tp_follows, etp_follows, dpo_keeps, same_prepared, almost_prepared}
 use Rattle.connection_law.proofs.Receiver.{Real, tp_with, etp_with, with_kind, marked, mark_of, left_of, ports_of, settled_view, opens_tp, opens_etp, refuses_tp, refuses_etp, replies, ShowsPacket, packet_shown, ShowsDpo}

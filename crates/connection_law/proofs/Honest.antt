@@ -1,7 +1,7 @@
 -- What a sender is told is true: an acknowledged message had been given to each port that was found for it, and an unreachable one
 -- is never given.
-use Rattle.std.proofs.Common.{◌≡◌, ◌⊎◌, inl, inr, ℕ, zero, suc, ◌<◌, true, List, [], ◌∷◌, ◌++◌, map, length, refl, sym, ap, ◌∙◌, subst, arith}
-use Rattle.std.specs.Prelude.{All, Any, Contains, zip, slice_index_or}
+use Rattle.std.proofs.Common.{◌≡◌, ◌⊎◌, inl, inr, ℕ, ◌<◌, true, List, [], ◌∷◌, ◌++◌, map, length, refl, sym, ap, ◌∙◌, subst, arith}
+use Rattle.std.specs.Prelude.{Contains, zip}
 use Rattle.std.specs.List.{AllZip}
 use Rattle.std.proofs.lemmas.List.{map-append}
 use Rattle.std.proofs.lemmas.List.Elements.{All-head, All-tail, All-nil, All-cons, All-contains, Contains-append_left, Contains-append_right}
@@ -14,29 +14,21 @@ use Rattle.segment_law.specs.Headline.{IsStationOf, HaveOneOutcome, IsOpenedFor,
 use Rattle.segment_law.specs.Numbering.{Numbered, numbered, IsLaneNumbering}
 use Rattle.segment_law.specs.Segment.{Segment, new_segment}
 use Rattle.segment_law.specs.Record.{Record, StandsAt, after, calls_of}
+use Rattle.record_lemmas.proofs.Lists.{Each, each_append, in_any, all_each, any_in, each_all, each_weaker}
+use Rattle.record_lemmas.proofs.Segments.{same_address}
+use Rattle.record_lemmas.proofs.Tests.{equal_or_not}
 use Rattle.lane_law.specs.Choice as choice
 use Rattle.lane_law.specs.Choice.{IsGiven}
 use Rattle.lane_law.specs.Outcome as fate
 use Rattle.broadcast_law.proofs.Beginning.{stands_at}
 use Rattle.broadcast_law.proofs.Numbered.{Giving, all_at_ports, spread, all_spread, firsts, IsFit, above_zero}
-use Rattle.broadcast_law.proofs.Good.{same_address}
-use Rattle.broadcast_law.proofs.Places.{IsAt, equal_or_not}
-use Rattle.broadcast_law.proofs.Words.{Each, each_append}
-use Rattle.port_law.proofs.Words.{In, in_any}
+use Rattle.broadcast_law.proofs.Places.{IsAt}
 use Rattle.connection_law.proofs.View.{IsTold, Has}
 use Rattle.connection_law.proofs.Along.{IsBefore, IsTrueAt}
 use Rattle.connection_law.proofs.Openings.{IsOpened}
 use Rattle.connection_law.proofs.Stood.{Stood}
 use Rattle.connection_law.proofs.Final.{Machine, lane_numbers, stood, are_numbers, numbered_over, pair, place}
 use Rattle.connection_law.proofs.Itself.{no_outcomes}
-
-each_to_all : {A : Type 0} (P : A → Type 0) (xs : List A) → Each P xs → All P xs
-each_to_all P [] h = All-nil P
-each_to_all P (x ∷ xs) h = All-cons P x xs h.0 (each_to_all P xs h.1)
-
-each_more : {A : Type 0} (P Q : A → Type 0) → ((x : A) → P x → Q x) → (xs : List A) → Each P xs → Each Q xs
-each_more P Q w [] h = tt
-each_more P Q w (x ∷ xs) h = (w x h.0, each_more P Q w xs h.1)
 
 -- The spread of numbers over ports
 
@@ -87,18 +79,6 @@ from_before s d steps (n ∷ ns) (g ∷ gs) number later fits opened some (inr h
     let r : AtGiving s d steps (all_spread ns gs) number later = from_before s d steps ns gs number later fits.1 opened.1 some.1 h in
     record { giving = r.giving; before = r.before; fit = r.fit; opened = r.opened; some = r.some; found = λ port k. Contains-append_right (spread n g) (all_spread ns gs) (number, (r.giving.place, (port, r.giving.message))) (r.found port k) }
 
-any_in : {A : Type 0} (P : A → Type 0) (xs : List A) → Any P xs → In P xs
-any_in P xs (k, x, l, e, p) = at xs k l e
-  where
-    at : (ys : List _) (k : ℕ) → k < length ys → slice_index_or ys k x ≡ x → In P ys
-    at [] k l e = absurd (omega (arith, l))
-    at (y ∷ ys) zero l e = inl (subst P (sym e) p)
-    at (y ∷ ys) (suc k) l e = inr (at ys k (omega (arith, l)) e)
-
-all_to_each : {A : Type 0} (P : A → Type 0) (xs : List A) → All P xs → Each P xs
-all_to_each P [] h = tt
-all_to_each P (x ∷ xs) h = (All-head P x xs h, all_to_each P xs (All-tail P x xs h))
-
 first_port : (ports : List ℕ) → 0 < length ports → (port : ℕ) × Has ports port
 first_port [] l = absurd (omega (arith, l))
 first_port (k ∷ ks) l = (k, inl refl)
@@ -116,12 +96,12 @@ given_before s d steps numbers number later h = record {
     port,
     record {
       opened = in_any (IsOpenedFor (h.opened.opening, h.giving.message)) (openings steps (port_of d port)) o;
-      not_closed = each_to_all (λ (c : Placed PortId). h.opened.opening < c.0) (closings steps (port_of d port)) c;
+      not_closed = each_all (λ (c : Placed PortId). h.opened.opening < c.0) (closings steps (port_of d port)) c;
     },
   ));
   to_each = λ port then now. h.found port (h.opened.all port
       (any_in (IsOpenedFor (h.opened.opening, h.giving.message)) (openings steps (port_of d port)) then.opened)
-      (all_to_each (λ (c : Placed PortId). h.giving.place < c.0) (closings steps (port_of d port)) now.not_closed));
+      (all_each (λ (c : Placed PortId). h.giving.place < c.0) (closings steps (port_of d port)) now.not_closed));
   to_one = (let (port, k) = first_port h.giving.ports h.some in (port, h.found port k));
 }
 
@@ -135,7 +115,7 @@ spread_has : (ns : List ℕ) (gs : List Giving) → Each (Has ns) (firsts (all_s
 spread_has [] gs = tt
 spread_has (n ∷ ns) [] = tt
 spread_has (n ∷ ns) (g ∷ gs) = subst (Each (Has (n ∷ ns))) (sym (map-append (λ (x : Numbered). x.0) (spread n g) (all_spread ns gs)))
-    (each_append (Has (n ∷ ns)) (firsts (spread n g)) (firsts (all_spread ns gs)) (here g.ports) (each_more (Has ns) (Has (n ∷ ns)) (λ x h. inr h) (firsts (all_spread ns gs)) (spread_has ns gs)))
+    (each_append (Has (n ∷ ns)) (firsts (spread n g)) (firsts (all_spread ns gs)) (here g.ports) (each_weaker (Has ns) (Has (n ∷ ns)) (λ x h. inr h) (firsts (all_spread ns gs)) (spread_has ns gs)))
   where
     here : (ks : List ℕ) → Each (Has (n ∷ ns)) (firsts (map (λ k. (n, (g.place, (k, g.message)))) ks))
     here [] = tt
@@ -159,12 +139,12 @@ module _ (m : Machine) (addresses : List Address) (steps : Record) (seg : Segmen
   are_honest = record {
     lane = lane_numbers steps s d (firsts (all_spread ns it.givings)) (are_numbers m addresses steps seg h s is d apart y d_at);
     acknowledged = λ place number c.
-        let b : IsBefore ns it.givings number place = All-contains (IsTrueAt ns it.givings) (outcomes steps s d) (place, (number, outcome.Acknowledged)) (each_to_all (IsTrueAt ns it.givings) (outcomes steps s d) it.true_at) c refl in
+        let b : IsBefore ns it.givings number place = All-contains (IsTrueAt ns it.givings) (outcomes steps s d) (place, (number, outcome.Acknowledged)) (each_all (IsTrueAt ns it.givings) (outcomes steps s d) it.true_at) c refl in
         given_before s d steps (firsts (all_spread ns it.givings)) number place (subst (λ xs. AtGiving s d steps xs number place) (sym numbered_is) (from_before s d steps ns it.givings number place it.tally.fits it.kept.all_opened it.some b));
     unreachable = λ place number c found.
-        let told_it : IsTold it.lane.outcomes (number, outcome.Unreachable) = All-contains (λ (o : Placed told.NumberedOutcome). IsTold it.lane.outcomes o.1) (outcomes steps s d) (place, (number, outcome.Unreachable)) (each_to_all _ (outcomes steps s d) (items_each (IsTold it.lane.outcomes) (outcomes steps s d) it.sim.carries.ended)) c in
+        let told_it : IsTold it.lane.outcomes (number, outcome.Unreachable) = All-contains (λ (o : Placed told.NumberedOutcome). IsTold it.lane.outcomes o.1) (outcomes steps s d) (place, (number, outcome.Unreachable)) (each_all _ (outcomes steps s d) (items_each (IsTold it.lane.outcomes) (outcomes steps s d) it.sim.carries.ended)) c in
         let none : IsGiven it.lane.stream.given number → ⊥ = true_of it.lane.outcomes it.lane.stream.given (fate.outcome number fate.Unreachable) (m.agree true it.lane it.sim.carries.reached) told_it in
-        none (has_contains ns number (All-contains (Has ns) (firsts (all_spread ns it.givings)) number (each_to_all (Has ns) (firsts (all_spread ns it.givings)) (spread_has ns it.givings)) found));
+        none (has_contains ns number (All-contains (Has ns) (firsts (all_spread ns it.givings)) number (each_all (Has ns) (firsts (all_spread ns it.givings)) (spread_has ns it.givings)) found));
   }
     where
       true_of : (outcomes : List fate.Outcome) (gs : List _) (o : fate.Outcome) → fate.AreTrue gs outcomes → Has outcomes o → fate.Says gs o.number o.fate

@@ -14,10 +14,9 @@ use Rattle.segment_law.specs.Calls.{events_of}
 use Rattle.segment_law.specs.Record.{Step, Record}
 use Rattle.segment_law.specs.declared.call.Call.{Call}
 use Rattle.segment_law.specs.declared.reply.Reply.{Reply}
+use Rattle.record_lemmas.proofs.Lists.{Each, each_append, each_map, each_of_all, In, each_weaker}
 use Rattle.broadcast_law.proofs.Counted.{giving}
 use Rattle.broadcast_law.proofs.Numbered.{Giving}
-use Rattle.broadcast_law.proofs.Words.{Each, each_append, each_map, each_of_all}
-use Rattle.port_law.proofs.Words.{In}
 use Rattle.port_law.proofs.Calls.{Good, Goes, placed}
 use Rattle.port_law.proofs.Lives.{Openings, Closings, Lives}
 use Rattle.connection_law.proofs.View.{Mark, Has, IsMarked}
@@ -32,7 +31,7 @@ told_within : {A : Type 0} (tells : Step → List A) (place : ℕ) (steps : Reco
 told_within tells place [] = tt
 told_within {A} tells place (step ∷ steps) = each_append (λ (x : Placed A). x.0 < place + length (step ∷ steps)) (map (λ x. (place, x)) (tells step)) (told_from tells (place + 1) steps)
     (each_map (λ (x : Placed A). x.0 < place + length (step ∷ steps)) (λ x. (place, x)) (tells step) (each_of_all (λ x. place < place + length (step ∷ steps)) (λ x. omega arith) (tells step)))
-    (Rattle.broadcast_law.proofs.Numbered.each_more (λ (x : Placed A). x.0 < (place + 1) + length steps) (λ (x : Placed A). x.0 < place + length (step ∷ steps)) (λ x l. omega (arith, l)) (told_from tells (place + 1) steps) (told_within tells (place + 1) steps))
+    (each_weaker (λ (x : Placed A). x.0 < (place + 1) + length steps) (λ (x : Placed A). x.0 < place + length (step ∷ steps)) (λ x l. omega (arith, l)) (told_from tells (place + 1) steps) (told_within tells (place + 1) steps))
 
 -- nothing is both within and behind
 none_behind : {A : Type 0} (n m : ℕ) (xs : List (Placed A)) → m ≤ n + 1 → Each (λ (x : Placed A). x.0 < m) xs → Each (λ (x : Placed A). n < x.0) xs → xs ≡ []

@@ -13,19 +13,17 @@ use Rattle.segment_law.specs.Numbering.{item, IsAfter}
 use Rattle.segment_law.specs.Record.{Record}
 use Rattle.segment_law.specs.declared.call.Call.{Call}
 use Rattle.segment_law.specs.declared.reply.Reply.{Reply}
+use Rattle.record_lemmas.proofs.Lists.{Each, each_append, each_map, each_of_all, In, in_front, in_one, in_both, in_weaker, each_weaker}
+use Rattle.record_lemmas.proofs.Told.{after_all, after_more, told_last}
 use Rattle.broadcast_law.proofs.Counted.{at_step}
 use Rattle.broadcast_law.proofs.Numbered.{Giving}
-use Rattle.broadcast_law.proofs.Words.{Each, each_append, each_map, each_of_all}
-use Rattle.port_law.proofs.Words.{In, in_front, in_one, in_both, in_weaker}
-use Rattle.port_law.proofs.Words as port
 use Rattle.port_law.proofs.Ports.{Opens, Receives, found_receive}
 use Rattle.port_law.proofs.Lives.{Opened, IsKnown, Lives}
 use Rattle.connection_law.proofs.View.{Mark, Has}
 use Rattle.connection_law.proofs.Marks.{less_mark, has_without}
 use Rattle.connection_law.proofs.Receiver.{mark_of}
 use Rattle.connection_law.proofs.Tables.{Stands, stands_found}
-use Rattle.connection_law.proofs.Tally.{after_all, after_more, as_long}
-use Rattle.connection_law.proofs.Along.{told_last}
+use Rattle.connection_law.proofs.Tally.{as_long}
 
 -- Lists
 
@@ -206,7 +204,7 @@ module _ (s d : Address) where
           known : (q : Port) → Opens pgn size p q → IsKnown (length steps) (opened_so steps p) (closed_so steps p) q → (closed_so steps p ≡ []) × In (Fits (1 + length steps) pgn size) (opened_so steps p)
           known q o k = (k.0, in_weaker (Opened (length steps) q) (Fits (1 + length steps) pgn size) (λ x t. ((let l : x.0 ≤ length steps = t.0 in omega (arith, l)), t.1 ∙ o.1, (let l : size ≤ q.max_len = o.2 in let e : x.1.1 ≡ q.max_len = t.2 in omega (arith, l, e)))) (opened_so steps p) k.1)
 
-      first_open : (pgn size : ℕ) (set : List ℕ) → port.Each (Receives table.open_ports pgn size) set → 0 < length set → IsSomeOpen longer (1 + length steps) pgn size
+      first_open : (pgn size : ℕ) (set : List ℕ) → Each (Receives table.open_ports pgn size) set → 0 < length set → IsSomeOpen longer (1 + length steps) pgn size
       first_open pgn size [] r l = absurd (omega (arith, l))
       first_open pgn size (p ∷ set) r l =
           let k : (closed_so steps p ≡ []) × In (Fits (1 + length steps) pgn size) (opened_so steps p) = found_open pgn size p r.0 in (
@@ -224,7 +222,7 @@ module _ (s d : Address) where
       }
         where
           before : Each (λ (x : Placed Message). x.0 < 1 + length steps) (sends steps s d)
-          before = Rattle.broadcast_law.proofs.Numbered.each_more (λ (x : Placed Message). x.0 ≤ length steps) (λ (x : Placed Message). x.0 < 1 + length steps) (λ x l. omega (arith, l)) (sends steps s d) past
+          before = each_weaker (λ (x : Placed Message). x.0 ≤ length steps) (λ (x : Placed Message). x.0 < 1 + length steps) (λ x l. omega (arith, l)) (sends steps s d) past
 
           in_found : (p : ℕ) → ((len : ℕ) × (size ≤ len) × In (Is (clean pgn) len) (opened_so steps p)) → closed_so steps p ≡ [] → Has (ports_for table (clean pgn) size) p
           in_found p (len, l, i) e = stands_found p (clean pgn) len size table.open_ports l (stands p (clean pgn) len i e)

@@ -24,8 +24,8 @@ use Rattle.session_table.specs.Incoming.{pgn_of}
 use Rattle.session_table.specs.Sessions.{state_at}
 use Rattle.station_sessions.specs.Progress.{after_broadcast, after_tp, after_etp, progress, fired, prepared, prepared_to_fire}
 use Rattle.station_sessions.specs.Receiving.{Inbound, Reception, settled, flow_at, received_by, received, fired_by, fired_at, aborted_at, unbound_by, unbound_at}
-use Rattle.broadcast_law.proofs.Maps.{key_cases, state_put, state_dropped, state_put_else, state_dropped_else}
-use Rattle.broadcast_law.proofs.Words.{on_test, either}
+use Rattle.record_lemmas.proofs.Maps.{key_cases, state_put, state_dropped, state_put_else, state_dropped_else}
+use Rattle.record_lemmas.proofs.Tests.{on_test, either}
 use Rattle.connection_law.proofs.Marks.{HasOthers, Lessens, has_without}
 use Rattle.connection_law.proofs.Roles.{Recedes}
 

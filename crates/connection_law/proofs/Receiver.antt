@@ -17,6 +17,7 @@ use Rattle.etp_session.specs.declared.in_state.InState.{InState as EtpState}
 use Rattle.session_table.specs.declared.incoming.Incoming.{Incoming}
 use Rattle.session_table.specs.declared.incoming.Incoming.TheVariants as incoming
 use Rattle.segment_law.specs.Told as told
+use Rattle.record_lemmas.proofs.Lists.{each_weaker, Each}
 use Rattle.lane_law.specs.Message.{Message}
 use Rattle.lane_law.specs.Choice.{IsChoice}
 use Rattle.lane_law.specs.Frame.{Frame, Rts as Begins, Dpo, Packet as Data, Request as Asks, Place}
@@ -25,9 +26,7 @@ use Rattle.lane_law.specs.Stream.{IsOfReached}
 use Rattle.lane_law.specs.Lane as machine
 use Rattle.lane_law.specs.Lane.{Reopens, Accepts, Gives, Replies}
 use Rattle.broadcast_law.proofs.Pending.{within}
-use Rattle.broadcast_law.proofs.Numbered.{each_more}
 use Rattle.broadcast_law.proofs.View.{plain}
-use Rattle.broadcast_law.proofs.Words.{Each}
 use Rattle.connection_law.proofs.Frames.{Back, BackEnd, BackAck}
 use Rattle.connection_law.proofs.View.{Laws, Mark, Has, IsMarked, View, kind_of, token_of, IsShown, shape, IsPeer, IsCollected, IsHeardAs, IsHeard, IsSame, IsAlmost, of_kind, Carries, Sim, Still, Next, next_still}
 use Rattle.connection_law.proofs.Moves.{IsPlain, Taken, carries_else, ends}
@@ -69,7 +68,7 @@ mark_of count pgn size found = record { count = count; pgn = pgn; size = size; f
 
 pub each_has : (xs : List ℕ) → Each (Has xs) xs
 each_has [] = tt
-each_has (x ∷ xs) = (inl refl, each_more (Has xs) (Has (x ∷ xs)) (λ y h. inr h) xs (each_has xs))
+each_has (x ∷ xs) = (inl refl, each_weaker (Has xs) (Has (x ∷ xs)) (λ y h. inr h) xs (each_has xs))
 
 -- what the step of a session leaves, answers and tells
 abbrev pub left_of : List ℕ → Left → Real

@@ -22,9 +22,9 @@ use Rattle.station_core.specs.Opening.{key_of}
 use Rattle.station_core.specs.Station.{Station, StationStep, by_lane}
 use Rattle.segment_law.specs.Told as told
 use Rattle.segment_law.specs.Told.{AtPort, is_lane, given_to_station, outcome_in}
+use Rattle.record_lemmas.proofs.Maps.{lane_here}
 use Rattle.lane_law.specs.Lane as machine
 use Rattle.lane_law.specs.Session.{Session}
-use Rattle.broadcast_law.proofs.Maps.{lane_here}
 use Rattle.broadcast_law.proofs.Ports.{first_message}
 use Rattle.connection_law.proofs.Frames.{goes, returns}
 use Rattle.connection_law.proofs.View.{Laws, IsPair, Mark, View, kind_of, IsHeardAs, IsSame, of_kind, Carries, Sim, Still}

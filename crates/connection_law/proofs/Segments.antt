@@ -1,5 +1,5 @@
 -- What a segment shows of the messages from s to d, and what is shown of every call.
-use Rattle.std.proofs.Common.{◌≡◌, ◌⊎◌, inl, inr, ℕ, Bool, true, false, cond, List, [], ◌++◌, set, filter_map, length, Some, Ok, Err, refl, sym, ap, ◌∙◌, subst, append-nil, ⊎_elim, get_or-set_same, get_or-set_other}
+use Rattle.std.proofs.Common.{◌≡◌, ◌⊎◌, inl, inr, ℕ, List, [], ◌++◌, set, filter_map, length, Some, refl, sym, ap, ◌∙◌, subst, append-nil, ⊎_elim, get_or-set_same, get_or-set_other}
 use Rattle.std.specs.Prelude.{slice_get, option_to_list, get_or}
 use Rattle.std.proofs.lemmas.Option.{same_Some, slice_get_within, get_or_from_slice_get}
 use Rattle.pgn_ids.specs.declared.address.Address.{Address}
@@ -14,16 +14,18 @@ use Rattle.station_core.specs.Station.{Station, StationStep, new_station}
 use Rattle.segment_law.specs.Told as told
 use Rattle.segment_law.specs.Told.{AtPort, sent_by}
 use Rattle.segment_law.specs.Segment.{Segment}
-use Rattle.segment_law.specs.Calls.{Answer, events_of, replied}
+use Rattle.segment_law.specs.Calls.{events_of}
 use Rattle.segment_law.specs.Reached.{IsReached}
 use Rattle.segment_law.specs.declared.call.Call.{Call}
-use Rattle.segment_law.specs.declared.call.Call.TheVariants.{Open, Close, Send, Pump, Transmit, Take, TakeAgain, Overrun, Tick, Fire, Cancel, Inject, Pause, Resume}
 use Rattle.segment_law.specs.declared.counts.Counts.{Counts}
 use Rattle.segment_law.specs.declared.refusal.Refusal.{Refusal}
 use Rattle.segment_law.specs.declared.reply.Reply.TheVariants.{Refused}
+use Rattle.segment_law.specs.declared.reply.Reply.{Reply}
+use Rattle.record_lemmas.proofs.Told.{none_refused}
+use Rattle.record_lemmas.proofs.Tests.{equal_or_not}
 use Rattle.lane_law.specs.Lane as machine
 use Rattle.broadcast_law.proofs.Buses.{ahead_of}
-use Rattle.broadcast_law.proofs.Places.{IsAt, equal_or_not, one_place, apart_places}
+use Rattle.broadcast_law.proofs.Places.{IsAt, one_place, apart_places}
 use Rattle.broadcast_law.proofs.Ports.{IsOneGiving, one_of_none, first_message}
 use Rattle.connection_law.proofs.Frames.{goes, returns}
 use Rattle.connection_law.proofs.Roles.{real_at, station_told, numbers_at, ended_in}
@@ -84,9 +86,8 @@ module _ (laws : Laws) (s d : Address) (pair : IsPair s d) where
     pub one : IsOneGiving (station_told d s d events)
     pub apart : (station_told d s d events ≡ []) ⊎ (ended_in s d events ≡ [])
 
-  abbrev pub Keeps : Segment → Call → Answer → Type 0
-  Keeps seg call (Err cause) = Unit {0}
-  Keeps seg call (Ok step) = Good seg step.0 (sent_by s d call step.1) (opened_at d call step.1) (closed_at d call step.1) (events_of step.1)
+  abbrev pub GoodBy : Segment → Call → Segment × Reply → Type 0
+  GoodBy seg call step = Good seg step.0 (sent_by s d call step.1) (opened_at d call step.1) (closed_at d call step.1) (events_of step.1)
 
   -- nothing is told and nothing opens
   pub goes_quietly : {table : Ports} (xs ys : Station) (b : Bus) (x y : ℕ) (g : Ghost) (l : machine.Lane) → Still s d l (parts xs ys b x y g) → Goes table [] xs ys b x y g [] [] [] l
@@ -99,29 +100,8 @@ module _ (laws : Laws) (s d : Address) (pair : IsPair s d) where
   pub good_same : (seg : Segment) → Good seg seg [] none_opened [] []
   good_same seg = record { stands = λ x y g l at_x at_y h. goes_quietly (station_in seg.stations x) (station_in seg.stations y) seg.bus x y g l (still_same s d l _ h); turns = λ y at_y. turns_same (station_in seg.stations y).ports (station_in seg.stations y).ports refl; one = one_of_none [] refl; apart = inl refl }
 
-  refused_none : (call : Call) (cause : Refusal) → sent_by s d call (Refused cause) ≡ []
-  refused_none (Open station pgn max_len) cause = refl
-  refused_none (Close port) cause = refl
-  refused_none (Send from to pgn bytes) cause = refl
-  refused_none (Pump station to) cause = refl
-  refused_none (Transmit station) cause = refl
-  refused_none (Take station room) cause = refl
-  refused_none (TakeAgain station room) cause = refl
-  refused_none (Overrun station n) cause = refl
-  refused_none (Tick n) cause = refl
-  refused_none (Fire station) cause = refl
-  refused_none (Cancel from to number) cause = refl
-  refused_none (Inject frame) cause = refl
-  refused_none (Pause port) cause = refl
-  refused_none (Resume port) cause = refl
-
-  pub replied_good : (seg : Segment) (call : Call) (x : Answer) → Keeps seg call x → Good seg (replied seg x).0 (sent_by s d call (replied seg x).1) (opened_at d call (replied seg x).1) (closed_at d call (replied seg x).1) (events_of (replied seg x).1)
-  replied_good seg call (Err cause) k = subst (λ (z : List told.Message × (ℕ → List (ℕ × ℕ))). Good seg seg z.0 z.1 [] []) (λ i. (sym (refused_none call cause) i, λ p. sym (Rattle.connection_law.proofs.Turns.refused_none d call cause p) i)) (good_same seg)
-  replied_good seg call (Ok step) k = k
-
-  pub or_refused : (seg : Segment) (call : Call) (b : Bool) (cause : Refusal) (x : Answer) → (b ≡ false → Keeps seg call x) → Keeps seg call (cond b (Err cause) x)
-  or_refused seg call true cause x h = tt
-  or_refused seg call false cause x h = h refl
+  pub refused_good : (seg : Segment) (call : Call) (cause : Refusal) → GoodBy seg call (seg, Refused cause)
+  refused_good seg call cause = subst (λ (z : List told.Message × (ℕ → List (ℕ × ℕ))). Good seg seg z.0 z.1 [] []) (λ i. (sym (none_refused s d call cause) i, λ p. sym (Rattle.connection_law.proofs.Turns.refused_none d call cause p) i)) (good_same seg)
 
   module _ (seg : Segment) (r : IsReached seg) (i : ℕ) (st : Station) (at : slice_get seg.stations i ≡ Some st) where
     abbrev pub a : Address

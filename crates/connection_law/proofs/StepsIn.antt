@@ -34,13 +34,13 @@ use Rattle.station_core.specs.Station.{Station, StationStep, quietly, by_session
 use Rattle.station_core.specs.Opening.{key_of}
 use Rattle.station_core.specs.Sending.{pumped, cancelled, sent}
 use Rattle.station_core.specs.Timers.{lane_fired, fired}
+use Rattle.record_lemmas.proofs.Maps.{key_cases}
+use Rattle.record_lemmas.proofs.Tests.{on_test}
 use Rattle.lane_law.specs.Choice.{IsChoice}
 use Rattle.lane_law.specs.Session.{Session}
 use Rattle.lane_law.specs.Lane as machine
-use Rattle.broadcast_law.proofs.Maps.{key_cases}
 use Rattle.broadcast_law.proofs.SessionSteps.{etp_prepared_fire}
 use Rattle.broadcast_law.proofs.Stations.{IsOwn}
-use Rattle.broadcast_law.proofs.Words.{on_test}
 use Rattle.connection_law.proofs.Frames.{returns}
 use Rattle.connection_law.proofs.LaneWires.{out_pumped, out_cancelled, out_fired}
 use Rattle.connection_law.proofs.SessionWires.{RepliesIn, RepliesTp, RepliesEtp, tp_expired, etp_expired}

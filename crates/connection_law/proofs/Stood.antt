@@ -1,5 +1,5 @@
 -- The walk over a record.
-use Rattle.std.proofs.Common.{◌≡◌, ◌⊎◌, inl, inr, ℕ, zero, suc, ◌+◌, ◌-◌, ◌<◌, ◌≤◌, true, List, [], ◌∷◌, ◌++◌, map, length, Some, refl, sym, ap, ◌∙◌, subst, arith, append-nil, append_assoc, length-append}
+use Rattle.std.proofs.Common.{◌≡◌, ◌⊎◌, inl, inr, ℕ, zero, suc, ◌+◌, ◌-◌, ◌<◌, ◌≤◌, true, List, [], ◌∷◌, ◌++◌, map, length, Some, refl, sym, ap, ◌∙◌, subst, arith, append-nil, length-append}
 use Rattle.std.specs.Prelude.{All, slice_index_or}
 use Rattle.std.specs.List.{list_all, AllZip}
 use Rattle.std.proofs.lemmas.List.{map-append, length_push}
@@ -20,15 +20,15 @@ use Rattle.segment_law.specs.Record.{Record, replies_from, after, calls_of, repl
 use Rattle.segment_law.specs.Reached.{IsReached}
 use Rattle.segment_law.specs.declared.call.Call.{Call}
 use Rattle.segment_law.specs.declared.reply.Reply.{Reply}
-use Rattle.segment_law.proofs.Booleans.{both_pass}
-use Rattle.segment_law.proofs.Reaching.{reached_call}
+use Rattle.record_lemmas.proofs.AlongRecords.{carried}
+use Rattle.record_lemmas.proofs.Lists.{Each, each_append, each_get}
+use Rattle.record_lemmas.proofs.Told.{items_placed, told_last}
 use Rattle.lane_law.specs.Message.{IsSent}
 use Rattle.lane_law.specs.Session.{Given}
 use Rattle.lane_law.specs.Choice as choice
 use Rattle.lane_law.specs.Choice.{IsChoice, IsGiven}
 use Rattle.lane_law.specs.Outcome as fate
 use Rattle.lane_law.specs.Lane as machine
-use Rattle.broadcast_law.proofs.AlongRecords.{items_placed}
 use Rattle.broadcast_law.proofs.Counted.{at_step, giving}
 use Rattle.broadcast_law.proofs.Every.{good_call as others_good}
 use Rattle.broadcast_law.proofs.Good.{Good as OthersGood}
@@ -36,13 +36,11 @@ use Rattle.broadcast_law.proofs.Numbered.{Giving, messages}
 use Rattle.broadcast_law.proofs.Places.{IsAt, AllOwn}
 use Rattle.broadcast_law.proofs.Ports.{Distinct, first_message}
 use Rattle.broadcast_law.proofs.View.{plain, cleaned, GoesOn}
-use Rattle.broadcast_law.proofs.Words.{Each, each_append}
 use Rattle.port_law.proofs.Calls.{Good as OfPort, Goes as GoesOfPort}
 use Rattle.port_law.proofs.Every.{goes_call}
 use Rattle.port_law.proofs.Lives.{Openings, Closings}
 use Rattle.connection_law.proofs.Roles.{station_told, numbers_at, ended_in}
 use Rattle.connection_law.proofs.View.{Laws, IsPair, Mark, IsMarked, View, kind_of, IsGood, IsTold, Has, fate_of, Sim}
-use Rattle.connection_law.proofs.Pumping.{each_get}
 use Rattle.connection_law.proofs.Receiver.{all_last}
 use Rattle.connection_law.proofs.Segments.{Ghost, view, parts, station_in, Goes, Good}
 use Rattle.connection_law.proofs.HearsIn.{at_all}
@@ -52,7 +50,7 @@ use Rattle.connection_law.proofs.Openings.{IsOpened}
 use Rattle.connection_law.proofs.Kept.{Kept, IsMarkAfter, place_of_mark, kept_next, all_opened_on, opened_new}
 use Rattle.connection_law.proofs.Every.{good_call}
 use Rattle.connection_law.proofs.Tally.{Tally, tally_sent, tally_given, as_long}
-use Rattle.connection_law.proofs.Along.{told_last, item_of, cancel_front, none_mapped, one_mapped, none_sent, IsBefore, IsTrueAt, true_more}
+use Rattle.connection_law.proofs.Along.{item_of, cancel_front, none_mapped, one_mapped, none_sent, IsBefore, IsTrueAt, true_more}
 
 module _ (broadcasts : GoesOn) (laws : Laws) (choose : machine.OnEachLane (λ lane. IsChoice lane.stream.given lane.stream.sent)) (s d : Address) (pair : IsPair s d) where
   -- at this record a lane stands for the segment
@@ -320,17 +318,17 @@ module _ (broadcasts : GoesOn) (laws : Laws) (choose : machine.OnEachLane (λ la
                 (subst (λ xs. Tally (sends steps s d ++ []) (length steps + 1) xs (choice.numbers h.lane.stream.given ++ g1.number ∷ []) (h.givings ++ new ∷ [])) (sym (givens_more ∙ ap (λ xs. station_givens steps d s d ++ at_step (length steps) xs) e))
                 (tally_given (sends steps s d) (length steps) (station_givens steps d s d) (choice.numbers h.lane.stream.given) h.givings (k ∷ ks) m g1.number (q.opened (kind_of g1.message)).count h.tally dist item_is early within))))
 
-  -- a call, and the rest
+  -- and every station is as it should be
+  abbrev StoodAt : ℕ → ℕ → Record → Segment → Type 0
+  StoodAt x y steps seg = AllOwn seg × IsAt seg x s × IsAt seg y d × Stood x y steps seg
+
+  stood_on : machine.OnEachLane (λ lane. fate.AreTrue lane.stream.given lane.outcomes) → (x y : ℕ) (steps : Record) (seg : Segment) (call : Call) → IsReached seg → is_call call ≡ true → StoodAt x y steps seg → StoodAt x y (steps ++ (call, (applied seg call).1) ∷ []) (applied seg call).0
+  stood_on agree x y steps seg call r is (each, at_x, at_y, h) =
+      let next : Segment = (applied seg call).0 in
+      let o : OthersGood s d seg next (sent_by s Rattle.broadcast_law.proofs.Carried.all call (applied seg call).1) (events_of (applied seg call).1) = others_good s d pair.one_s broadcasts laws.gives laws.reads laws.seven seg r each call is in
+      let g : Good laws s d pair seg next (sent_by s d call (applied seg call).1) (opened_at d call (applied seg call).1) (closed_at d call (applied seg call).1) (events_of (applied seg call).1) = good_call laws choose s d pair x y seg r each at_x at_y call is in
+      (o.each, o.there x s at_x, o.there y d at_y, stood_next agree x y steps seg next call (applied seg call).1 g (λ p n os cs good. goes_call (port_of d p) n os cs seg r good call) at_x at_y h)
+
   pub all_stood : machine.OnEachLane (λ lane. fate.AreTrue lane.stream.given lane.outcomes) → (todo steps : Record) (seg : Segment) → IsReached seg → AllOwn seg → list_all is_call (calls_of todo) ≡ true → replies_from seg (calls_of todo) ≡ replies_of todo
       → (x y : ℕ) → IsAt seg x s → IsAt seg y d → Stood x y steps seg → Stood x y (steps ++ todo) (after seg (calls_of todo))
-  all_stood agree [] steps seg r each fit replies x y at_x at_y h = subst (λ xs. Stood x y xs seg) (sym (append-nil steps)) h
-  all_stood agree (w ∷ todo) steps seg r each fit replies x y at_x at_y h =
-      let f : (is_call w.0 ≡ true) × (list_all is_call (calls_of todo) ≡ true) = both_pass (is_call w.0) (list_all is_call (calls_of todo)) fit in
-      let next : Segment = (applied seg w.0).0 in
-      let e : (applied seg w.0).1 ≡ w.1 = cc in
-      let rest : replies_from next (calls_of todo) ≡ replies_of todo = cc in
-      let o : OthersGood s d seg next (sent_by s Rattle.broadcast_law.proofs.Carried.all w.0 (applied seg w.0).1) (events_of (applied seg w.0).1) = others_good s d pair.one_s broadcasts laws.gives laws.reads laws.seven seg r each w.0 f.0 in
-      let g : Good laws s d pair seg next (sent_by s d w.0 (applied seg w.0).1) (opened_at d w.0 (applied seg w.0).1) (closed_at d w.0 (applied seg w.0).1) (events_of (applied seg w.0).1) = good_call laws choose s d pair x y seg r each at_x at_y w.0 f.0 in
-      let now : Stood x y (steps ++ w ∷ []) next = subst (λ reply. Stood x y (steps ++ (w.0, reply) ∷ []) next) e (stood_next agree x y steps seg next w.0 (applied seg w.0).1 g (λ p n os cs good. goes_call (port_of d p) n os cs seg r good w.0) at_x at_y h) in
-      subst (λ xs. Stood x y xs (after next (calls_of todo))) (append_assoc steps (w ∷ []) todo)
-      (all_stood agree todo (steps ++ w ∷ []) next (reached_call seg r w.0 f.0) o.each f.1 rest x y (o.there x s at_x) (o.there y d at_y) now)
+  all_stood agree todo steps seg r each fit replies x y at_x at_y h = (carried (StoodAt x y) (stood_on agree x y) todo seg r fit replies steps (each, at_x, at_y, h)).3

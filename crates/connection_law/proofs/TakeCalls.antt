@@ -18,15 +18,15 @@ use Rattle.station_core.specs.Station.{Station, StationStep}
 use Rattle.station_core.specs.Taking.{is_malformed_for, taken}
 use Rattle.segment_law.specs.Told.{AtPort}
 use Rattle.segment_law.specs.Segment.{Segment, counted, counted_look, counted_repeat}
-use Rattle.segment_law.specs.Calls.{no_place, takes_by, repeats_by}
 use Rattle.segment_law.specs.Reached.{IsReached}
 use Rattle.segment_law.specs.declared.call.Call.TheVariants.{Take, TakeAgain}
 use Rattle.segment_law.specs.declared.counts.Counts.{Counts}
 use Rattle.segment_law.proofs.Buses.{frame_within}
+use Rattle.record_lemmas.proofs.EachCall.{looked}
+use Rattle.record_lemmas.proofs.Segments.{same_address}
 use Rattle.lane_law.specs.Choice.{IsChoice}
 use Rattle.lane_law.specs.Lane as machine
 use Rattle.broadcast_law.proofs.Buses.{ahead_of, IsTaken, taken_here, taken_ahead_else, taken_again_else}
-use Rattle.broadcast_law.proofs.Good.{same_address}
 use Rattle.broadcast_law.proofs.Places.{IsAt, AllOwn, cursor_of, apart_places}
 use Rattle.broadcast_law.proofs.Stations.{IsOwn}
 use Rattle.connection_law.proofs.Frames.{Back, goes, returns}
@@ -36,7 +36,7 @@ use Rattle.connection_law.proofs.Moves.{Taken, takes, repeats, forgets, hears, f
 use Rattle.connection_law.proofs.Receiver.{mark_of}
 use Rattle.connection_law.proofs.Turns.{none_opened, taken_ports}
 use Rattle.connection_law.proofs.Events.{tells_taken}
-use Rattle.connection_law.proofs.Segments.{Ghost, parts, station_in, view, Goes, goes_quietly, turns_none, Good, Keeps, or_refused, a, is_of, at_it, good_step}
+use Rattle.connection_law.proofs.Segments.{Ghost, parts, station_in, view, Goes, goes_quietly, turns_none, Good, GoodBy, a, is_of, at_it, good_step}
 use Rattle.connection_law.proofs.Calls.{sends_so, receives_so}
 use Rattle.connection_law.proofs.TakesOut.{sender_takes}
 use Rattle.connection_law.proofs.TakesIn.{takes_aside}
@@ -236,10 +236,8 @@ module _ (laws : Laws) (choose : machine.OnEachLane (λ lane. IsChoice lane.stre
           same : Still s d l (view laws s d pair x y seg g)
           same = still_same s d l _ h
 
-    pub takes_good : (station : Address) (room : Bool) (o : Option CanFrame) → bus.next_frame seg.bus i ≡ o → Keeps laws s d pair seg (Take station room) (takes_by seg room i st o)
-    takes_good station room None e = tt
-    takes_good station room (Some f) e = or_refused laws s d pair seg (Take station room) (no_place st) _ _ (λ _. look_good f room (released (bus.taken seg.bus i)) (counted (counted_look seg.counts (is_malformed_for st f)) (step f room).events) (taken_looks f room e))
+    pub takes_good : (station : Address) (room : Bool) (f : CanFrame) → bus.next_frame seg.bus i ≡ Some f → GoodBy laws s d pair seg (Take station room) (looked (record seg { bus = released (bus.taken seg.bus i) }) room i st f)
+    takes_good station room f e = look_good f room (released (bus.taken seg.bus i)) (counted (counted_look seg.counts (is_malformed_for st f)) (step f room).events) (taken_looks f room e)
 
-    pub repeats_good : (station : Address) (room : Bool) (o : Option CanFrame) → bus.frame_again seg.bus i ≡ o → Keeps laws s d pair seg (TakeAgain station room) (repeats_by seg room i st o)
-    repeats_good station room None e = tt
-    repeats_good station room (Some f) e = or_refused laws s d pair seg (TakeAgain station room) (no_place st) _ _ (λ _. look_good f room seg.bus (counted (counted_look (counted_repeat seg.counts) (is_malformed_for st f)) (step f room).events) (repeated_looks f room e))
+    pub repeats_good : (station : Address) (room : Bool) (f : CanFrame) → bus.frame_again seg.bus i ≡ Some f → GoodBy laws s d pair seg (TakeAgain station room) (looked (record seg { counts = counted_repeat seg.counts }) room i st f)
+    repeats_good station room f e = look_good f room seg.bus (counted (counted_look (counted_repeat seg.counts) (is_malformed_for st f)) (step f room).events) (repeated_looks f room e)

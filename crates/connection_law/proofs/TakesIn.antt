@@ -41,12 +41,12 @@ use Rattle.station_sessions.specs.Receiving.{Inbound, received, received_by, set
 use Rattle.station_core.specs.Station.{Station, StationStep, quietly, queues, by_lane}
 use Rattle.station_core.specs.Opening.{key_of, refusal, is_tp_size, is_etp_size, set_for, others_than, whole_join, peer_of, rts_taken, etp_rts_taken, bam_taken}
 use Rattle.station_core.specs.Taking.{packet_kind, in_session, in_lane, abort_taken, cm_taken, answer, wire_taken, looks_at, meaning_taken, taken}
+use Rattle.record_lemmas.proofs.Maps.{state_put_else, state_dropped_else}
+use Rattle.record_lemmas.proofs.Tests.{on_test, either, by_option}
 use Rattle.broadcast_law.proofs.Carried.{Meaning, IsRead, reading_tells}
 use Rattle.broadcast_law.proofs.LaneSteps.{IsLaneOf}
-use Rattle.broadcast_law.proofs.Maps.{state_put_else, state_dropped_else}
 use Rattle.broadcast_law.proofs.Receptions.{IsSessionOf}
 use Rattle.broadcast_law.proofs.Stations.{IsOwn}
-use Rattle.broadcast_law.proofs.Words.{on_test, either, by_option}
 use Rattle.connection_law.proofs.Frames.{goes, returns, forward_of, of_forward, is_way, returns_ack_else}
 use Rattle.connection_law.proofs.LaneWires.{FitsOut, out_heard}
 use Rattle.connection_law.proofs.SessionWires.{RepliesIn, aborted_in, tp_asked_in, etp_asked_in}

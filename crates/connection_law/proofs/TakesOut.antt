@@ -30,13 +30,13 @@ use Rattle.station_sessions.specs.Receiving.{received, flow_at, aborted_at}
 use Rattle.station_core.specs.Station.{Station, StationStep, quietly, by_lane}
 use Rattle.station_core.specs.Opening.{key_of, refusal, is_tp_size, is_etp_size, set_for, others_than, whole_join, peer_of, rts_taken, etp_rts_taken, bam_taken}
 use Rattle.station_core.specs.Taking.{packet_kind, in_session, in_lane, abort_taken, cm_taken, answer, wire_taken, looks_at, meaning_taken, taken}
+use Rattle.record_lemmas.proofs.Maps.{lane_else, lane_here}
+use Rattle.record_lemmas.proofs.Segments.{same_address}
+use Rattle.record_lemmas.proofs.Tests.{on_test, either, by_option}
 use Rattle.lane_law.specs.Lane as machine
 use Rattle.broadcast_law.proofs.Carried.{Meaning, IsRead, reading_tells}
-use Rattle.broadcast_law.proofs.Good.{same_address}
 use Rattle.broadcast_law.proofs.LaneSteps.{IsLaneOf}
-use Rattle.broadcast_law.proofs.Maps.{lane_else, lane_here}
 use Rattle.broadcast_law.proofs.Stations.{IsOwn}
-use Rattle.broadcast_law.proofs.Words.{on_test, either, by_option}
 use Rattle.connection_law.proofs.Frames.{BackEnd, BackAck, returns, return_of, of_return, goes_ack}
 use Rattle.connection_law.proofs.LaneWires.{FitsOut, out_heard}
 use Rattle.connection_law.proofs.SessionWires.{RepliesIn, aborted_in, tp_asked_in, etp_asked_in}

@@ -1,48 +1,14 @@
 -- How the numbers of a lane go on, reply by reply.
-use Rattle.std.proofs.Common.{◌≡◌, ℕ, zero, suc, ◌+◌, ◌<◌, ◌≤◌, List, [], ◌∷◌, ◌++◌, map, length, Option, Some, None, refl, sym, ap, ◌∙◌, subst, arith, append-nil, append_assoc}
-use Rattle.std.specs.Prelude.{slice_get}
+use Rattle.std.proofs.Common.{◌≡◌, ℕ, suc, ◌+◌, ◌<◌, ◌≤◌, List, [], ◌∷◌, ◌++◌, map, length, Some, refl, sym, ap, ◌∙◌, subst, arith, append-nil}
 use Rattle.std.specs.List.{AllZip}
 use Rattle.std.proofs.lemmas.List.{map-append}
-use Rattle.segment_law.specs.Told.{Message, Placed, AtPort, items_of, places_of}
-use Rattle.segment_law.specs.Numbering.{item, IsAfter}
-use Rattle.broadcast_law.proofs.Numbered.{Giving, at_ports, all_at_ports, each_more, IsFit, IsEarly}
-use Rattle.broadcast_law.proofs.Counted.{at_step, giving}
+use Rattle.segment_law.specs.Told.{Message, Placed, AtPort, items_of}
+use Rattle.segment_law.specs.Numbering.{item}
+use Rattle.record_lemmas.proofs.Lists.{each_weaker, Each, each_append, each_map, each_of_all}
+use Rattle.record_lemmas.proofs.Told.{after_all}
+use Rattle.broadcast_law.proofs.Numbered.{Giving, all_at_ports, IsFit, IsEarly}
+use Rattle.broadcast_law.proofs.Counted.{at_step, giving, early_more, fits_more, all_at_more}
 use Rattle.broadcast_law.proofs.Ports.{Distinct}
-use Rattle.broadcast_law.proofs.Words.{Each, each_append, each_map, each_of_all}
-
-item_more : {A : Type 0} (xs ys : List A) (n : ℕ) (x : A) → item xs n ≡ Some x → item (xs ++ ys) n ≡ Some x
-item_more xs ys zero x e = absurd (cc)
-item_more xs ys (suc n) x e = got xs n e
-  where
-    got : (xs : List _) (k : ℕ) → slice_get xs k ≡ Some x → slice_get (xs ++ ys) k ≡ Some x
-    got [] k e = absurd (cc)
-    got (z ∷ xs) zero e = e
-    got (z ∷ xs) (suc k) e = got xs k e
-
-pub after_more : (xs ys : List ℕ) (n place : ℕ) → IsAfter (item xs n) place → IsAfter (item (xs ++ ys) n) place
-after_more xs ys n place h = by (item xs n) refl h
-  where
-    by : (o : Option ℕ) → item xs n ≡ o → IsAfter o place → IsAfter (item (xs ++ ys) n) place
-    by None e k = absurd k
-    by (Some x) e k = subst (λ o. IsAfter o place) (sym (item_more xs ys n x e)) k
-
-pub after_all : (sends : List (Placed Message)) (n place : ℕ) → Each (λ (x : Placed Message). x.0 < place) sends → 0 < n → n ≤ length sends → IsAfter (item (places_of sends) n) place
-after_all sends zero place h some within = absurd (omega (arith, some))
-after_all sends (suc n) place h some within = got sends n h (omega (arith, within))
-  where
-    got : (xs : List (Placed Message)) (k : ℕ) → Each (λ (x : Placed Message). x.0 < place) xs → k < length xs → IsAfter (slice_get (places_of xs) k) place
-    got [] k h l = absurd (omega (arith, l))
-    got (x ∷ xs) zero h l = h.0
-    got (x ∷ xs) (suc k) h l = got xs k h.1 (omega (arith, l))
-
-early_more : (sends more : List (Placed Message)) (g : Giving) → IsEarly sends g → IsEarly (sends ++ more) g
-early_more sends more g h n some l = subst (λ xs. IsAfter (item xs n) g.place) (sym (map-append (λ (x : Placed Message). x.0) sends more)) (after_more (places_of sends) (places_of more) n g.place (h n some l))
-
-fits_more : (sent more : List Message) (ns : List ℕ) (gs : List Giving) → AllZip (IsFit sent) ns gs → AllZip (IsFit (sent ++ more)) ns gs
-fits_more sent more [] [] h = tt
-fits_more sent more [] (g ∷ gs) h = absurd h
-fits_more sent more (n ∷ ns) [] h = absurd h
-fits_more sent more (n ∷ ns) (g ∷ gs) h = (record { was_sent = item_more sent more n g.message h.0.was_sent; before = h.0.before }, fits_more sent more ns gs h.1)
 
 fits_one : (sent : List Message) (ns : List ℕ) (gs : List Giving) (n : ℕ) (g : Giving) → AllZip (IsFit sent) ns gs → IsFit sent n g → AllZip (IsFit sent) (ns ++ n ∷ []) (gs ++ g ∷ [])
 fits_one sent [] [] n g h k = (k, tt)
@@ -65,16 +31,12 @@ pub tally_sent : (sends : List (Placed Message)) (steps : ℕ) (givens : List (P
 tally_sent sends steps givens numbers gs more h = record {
   told = append-nil givens ∙ h.told;
   distinct = h.distinct;
-  early = each_more (IsEarly sends) (IsEarly (sends ++ at_step steps more)) (early_more sends (at_step steps more)) gs h.early;
+  early = each_weaker (IsEarly sends) (IsEarly (sends ++ at_step steps more)) (early_more sends (at_step steps more)) gs h.early;
   past = each_append (λ (x : Placed Message). x.0 ≤ steps + 1) sends (at_step steps more)
-      (each_more (λ (x : Placed Message). x.0 ≤ steps) (λ (x : Placed Message). x.0 ≤ steps + 1) (λ x l. omega (arith, l)) sends h.past)
+      (each_weaker (λ (x : Placed Message). x.0 ≤ steps) (λ (x : Placed Message). x.0 ≤ steps + 1) (λ x l. omega (arith, l)) sends h.past)
       (each_map (λ (x : Placed Message). x.0 ≤ steps + 1) (λ x. (1 + steps, x)) more (each_of_all (λ x. 1 + steps ≤ steps + 1) (λ x. omega arith) more));
   fits = subst (λ xs. AllZip (IsFit xs) numbers gs) (sym (map-append (λ (x : Placed Message). x.1) sends (at_step steps more))) (fits_more (items_of sends) (items_of (at_step steps more)) numbers gs h.fits);
 }
-
-all_at_more : (gs : List Giving) (g : Giving) → all_at_ports gs ++ at_ports g ≡ all_at_ports (gs ++ g ∷ [])
-all_at_more [] g = sym (append-nil (at_ports g))
-all_at_more (h ∷ gs) g = append_assoc (at_ports h) (all_at_ports gs) (at_ports g) ∙ ap (λ xs. at_ports h ++ xs) (all_at_more gs g)
 
 pub as_long : (xs : List (Placed Message)) → length (items_of xs) ≡ length xs
 as_long [] = refl
@@ -87,7 +49,7 @@ tally_given sends steps givens numbers gs ports m n count h d e l within = subst
   told = (λ i. h.told i ++ each_at ports i) ∙ all_at_more gs new;
   distinct = each_append (λ (g : Giving). Distinct g.ports) gs (new ∷ []) h.distinct (d, tt);
   early = each_append (IsEarly sends) gs (new ∷ []) h.early (λ k some c. after_all sends k (1 + steps) past some (omega (arith, c, within)), tt);
-  past = each_more (λ (x : Placed Message). x.0 ≤ steps) (λ (x : Placed Message). x.0 ≤ steps + 1) (λ x l. omega (arith, l)) sends h.past;
+  past = each_weaker (λ (x : Placed Message). x.0 ≤ steps) (λ (x : Placed Message). x.0 ≤ steps + 1) (λ x l. omega (arith, l)) sends h.past;
   fits = fits_one (items_of sends) numbers gs n new h.fits (record { was_sent = e; before = l });
 })
   where
@@ -95,7 +57,7 @@ tally_given sends steps givens numbers gs ports m n count h d e l within = subst
     new = giving steps ports m count
 
     past : Each (λ (x : Placed Message). x.0 < 1 + steps) sends
-    past = each_more (λ (x : Placed Message). x.0 ≤ steps) (λ (x : Placed Message). x.0 < 1 + steps) (λ x l. omega (arith, l)) sends h.past
+    past = each_weaker (λ (x : Placed Message). x.0 ≤ steps) (λ (x : Placed Message). x.0 < 1 + steps) (λ x l. omega (arith, l)) sends h.past
 
     each_at : (ks : List ℕ) → at_step {A = AtPort} steps (map (λ k. (k, m)) ks) ≡ map (λ k. (1 + steps, (k, m))) ks
     each_at [] = refl

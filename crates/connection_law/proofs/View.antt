@@ -32,6 +32,7 @@ use Rattle.lane_core.specs.declared.probe.Standing.TheVariants.{Settled, InDoubt
 use Rattle.session_table.specs.declared.incoming.Incoming.{Incoming}
 use Rattle.session_table.specs.declared.incoming.Incoming.TheVariants as incoming
 use Rattle.segment_law.specs.Told as told
+use Rattle.record_lemmas.proofs.Lists.{Each}
 use Rattle.lane_law.specs.Message.{Message}
 use Rattle.lane_law.specs.Frame.{Frame, Rts as Begins, Dpo, Packet as Data, Request as Asks, Place, place_after}
 use Rattle.lane_law.specs.Session.{Session, Given}
@@ -43,7 +44,6 @@ use Rattle.lane_law.specs.Lane.{Answer, EndAcknowledgement, Acknowledgement, Pha
 use Rattle.broadcast_law.proofs.Carried.{GivesBack, ReadsBack}
 use Rattle.broadcast_law.proofs.Send.{AreSeven}
 use Rattle.broadcast_law.proofs.View.{plain, cleaned, message, IsPending, ArePending}
-use Rattle.broadcast_law.proofs.Words.{Each}
 use Rattle.connection_law.proofs.Frames.{Back, BackEnd, BackAck}
 
 -- what is known of the machine, of frames and of packets

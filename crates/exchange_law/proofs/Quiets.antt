@@ -44,7 +44,7 @@ use Rattle.exchange_law.proofs.Rows.{Laws}
 use Rattle.exchange_law.proofs.Turns.{Stands}
 use Rattle.exchange_law.proofs.Exchanges.{told, left, Finished, exchange_runs}
 use Rattle.exchange_law.proofs.Tilings.{Tiled, tiled}
-use Rattle.exchange_law.proofs.Selves.{none_to_itself}
+use Rattle.exchange_law.proofs.Selves.{none_pending}
 
 -- ---- a message that has not begun
 
@@ -145,7 +145,7 @@ module _ (laws : Laws) (addresses : List Address) (steps : Record) (seg : Segmen
   apart = by (d.0 == s.0) refl
     where
       by : (b : Bool) → (d.0 == s.0) ≡ b → b ≡ false
-      by true e = absurd (let same : d ≡ s = (λ j. record { 0 = eqb-true d.0 s.0 e j }) in none_to_itself s addresses steps seg stands m (ap (λ (a : Address). slice_get (lane_at seg s a).pending 0) (sym same) ∙ q.front))
+      by true e = absurd (let same : d ≡ s = (λ j. record { 0 = eqb-true d.0 s.0 e j }) in none_pending s addresses steps seg stands m (ap (λ (a : Address). slice_get (lane_at seg s a).pending 0) (sym same) ∙ q.front))
       by false e = refl
 
   empty : (j : ℕ) (st : Station) → slice_get seg.stations j ≡ Some st → st.queue ≡ []

@@ -25,7 +25,7 @@ use Rattle.station_core.specs.Opening.{key_of, others_than, set_for, refusal}
 use Rattle.station_core.specs.Station.{Station, by_session}
 use Rattle.station_core.specs.Taking.{packet_kind, in_session}
 use Rattle.segment_law.specs.Quiet.{session_for, takers, has_place}
-use Rattle.quiet_law.proofs.Receivers.{clean_is}
+use Rattle.record_lemmas.proofs.Told.{clean_is}
 use Rattle.exchange_law.proofs.Senders.{Sent, s, d, len, not_to_all}
 
 -- the receiver takes the message, and has a place for it
@@ -58,7 +58,7 @@ module _ (e : Sent) where
   key_is Etp = refl
 
   pub set_is : (queue : List CanFrame) (sessions : Inbound) → set_for (hears queue sessions) e.m.pgn (len e) ≡ set
-  set_is queue sessions = ap (λ (p : ℕ). ports_for e.pair.ys.ports p (len e)) (clean_is e.m.pgn e.pgn)
+  set_is queue sessions = ap (λ (p : ℕ). ports_for e.pair.ys.ports p (len e)) (clean_is e.m.pgn e.pgn).1
 
   module _ (h : Welcome e) where
     pub flow_is : flow_at e.pair.ys.ports set ≡ Open

@@ -49,7 +49,7 @@ use Rattle.station_lanes.specs.declared.event.Event.TheVariants as event
 use Rattle.station_core.specs.Station.{Station, StationStep, by_lane}
 use Rattle.station_core.specs.Sending as sending
 use Rattle.station_core.specs.Taking.{wire_taken}
-use Rattle.quiet_law.proofs.Receivers.{clean_is}
+use Rattle.record_lemmas.proofs.Told.{clean_is}
 use Rattle.exchange_law.proofs.Pairs.{Pair}
 
 -- a message to one node
@@ -173,7 +173,7 @@ module _ (e : Sent) where
   -- ---- a CTS is taken
 
   is_its_own : (clean e.m.pgn == e.m.pgn) ≡ true
-  is_its_own = eq-eqb (clean e.m.pgn) e.m.pgn (clean_is e.m.pgn e.pgn)
+  is_its_own = eq-eqb (clean e.m.pgn) e.m.pgn (clean_is e.m.pgn e.pgn).1
 
   opens : (k g u : ℕ) (timer : Timer) (now : ℕ) → 1 ≤ g → 1 ≤ k → k ≤ last → k - 1 + g ≡ u → u ≤ last → on_cts (awaits k timer) g k now ≡ On (Sending (window k g u k false))
   opens k g u timer now some from_first in_message end within =

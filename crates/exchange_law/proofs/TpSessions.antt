@@ -36,7 +36,8 @@ use Rattle.station_core.specs.Opening.{others_than, set_for, is_tp_size, refusal
 use Rattle.station_core.specs.Station.{Station, StationStep, quietly, by_session}
 use Rattle.station_core.specs.Taking.{in_session, wire_taken}
 use Rattle.segment_law.specs.Quiet.{given_by}
-use Rattle.quiet_law.proofs.Receivers.{GoesOn, Ends, clean_is}
+use Rattle.record_lemmas.proofs.Told.{clean_is}
+use Rattle.quiet_law.proofs.Receivers.{GoesOn, Ends}
 use Rattle.exchange_law.proofs.Senders.{Sent, s, d, len, last}
 use Rattle.exchange_law.proofs.Receivers.{Welcome, peer, key, set, hears, sessions_with, key_is, set_is, flow_is, admits, stepped_as}
 
@@ -196,5 +197,5 @@ module _ (e : Sent) where
           goes_with (Complete (finished (peer e) next_join)) does
           ∙ (λ i. record {
             station = hears e (written (Cm (EndOfMsgAck (size_is i) (packet_count (size_is i)) e.m.pgn)) (d e).0 (s e).0 ∷ []) (finmap.remove (sessions_with e Tp x) (key e Tp));
-            events = given_to (h.ports i) (set e) (record { from = s e; to = d e; pgn = clean_is e.m.pgn e.pgn i; bytes = whole i });
+            events = given_to (h.ports i) (set e) (record { from = s e; to = d e; pgn = (clean_is e.m.pgn e.pgn).1 i; bytes = whole i });
           })

@@ -4,5 +4,9 @@ mod Streams
 mod Ahead
 mod Numbers
 mod Lanes
+mod Destination
+mod Hearing
+mod Sending
+mod Events
 mod Senders
 mod Words

@@ -2,7 +2,8 @@
 use Rattle.std.proofs.Common.{◌≡◌, ℕ, zero, suc, ◌+◌, ◌<◌, ◌≤◌, ◌==◌, List, [], ◌∷◌, ◌++◌, refl, ap, ◌∙◌, arith, eqb-true, ⊎_elim}
 use Rattle.std.proofs.lemmas.Bool.{cases_lt}
 use Rattle.lane_core.specs.Lane.{Lane}
-use Rattle.outcome_law.proofs.Counting.{on_test, one_if, times, times-append}
+use Rattle.record_lemmas.proofs.Tests.{on_test}
+use Rattle.outcome_law.proofs.Counting.{one_if, times, times-append}
 use Rattle.outcome_law.proofs.LaneSteps.{numbers_of}
 use Rattle.outcome_law.proofs.Calls.{Ended, Added}
 

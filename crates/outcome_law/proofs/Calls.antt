@@ -1,5 +1,5 @@
 -- What each call of a station makes of the lane from s to d: a message is sent, or some of those pending end.
-use Rattle.std.proofs.Common.{◌≡◌, ◌⊎◌, inl, inr, ℕ, ◌+◌, ◌==◌, nat_lt, Bool, true, false, cond, not, ◌&&◌, List, [], ◌∷◌, ◌++◌, length, Option, Some, None, Ok, Err, refl, sym, ap, ◌∙◌, arith, eqb-true}
+use Rattle.std.proofs.Common.{◌≡◌, ◌⊎◌, inl, inr, ℕ, ◌+◌, ◌==◌, nat_lt, Bool, true, false, cond, not, ◌&&◌, List, [], ◌∷◌, ◌++◌, length, Option, Some, None, Ok, Err, refl, sym, subst, ap, ◌∙◌, arith, eqb-true}
 use Rattle.std.specs.Prelude.{slice_get}
 use Rattle.std.proofs.lemmas.Bool.{eqb-false}
 use Rattle.bus_frame.specs.Frames.{CanFrame}
@@ -26,14 +26,20 @@ use Rattle.station_core.specs.Closing.{closed}
 use Rattle.station_core.specs.Overruns.{overrun}
 use Rattle.segment_law.specs.Told.{Message, sent_by, is_lane}
 use Rattle.segment_law.specs.Segment.{Segment, lane_at, with_station}
-use Rattle.segment_law.specs.Calls.{Answer, no_place, pump_places, events_of, opens, closes, pauses, resumes, sends, pumps_by, pumps, cancels, transmits_by, takes_by, repeats_by, overruns, fires}
+use Rattle.segment_law.specs.Calls.{applied, with_frame, events_of, opens, closes, pauses, resumes, sends, pumps_by, pumps, cancels, transmits_by, takes_by, repeats_by, overruns, fires}
 use Rattle.segment_law.specs.Reached.{IsReached}
 use Rattle.segment_law.specs.declared.call.Call.{Call}
 use Rattle.segment_law.specs.declared.call.Call.TheVariants.{Open, Close, Send, Pump, Transmit, Take, TakeAgain, Overrun, Fire, Cancel, Pause, Resume}
 use Rattle.segment_law.specs.declared.refusal.Refusal.{Refusal}
+use Rattle.segment_law.specs.declared.reply.Reply.{Reply}
+use Rattle.segment_law.specs.declared.reply.Reply.TheVariants.{Refused}
 use Rattle.segment_law.proofs.FitStations.{Stays, taken_stays, pumped_stays, cancelled_stays, fired_stays, closed_stays}
 use Rattle.segment_law.proofs.Reaching.{as_it_is}
-use Rattle.outcome_law.proofs.Counting.{on_test, times}
+use Rattle.record_lemmas.proofs.EachCall.{OfStation, each_applied}
+use Rattle.record_lemmas.proofs.Segments.{has_address}
+use Rattle.record_lemmas.proofs.Told.{none_refused}
+use Rattle.record_lemmas.proofs.Tests.{on_test, not_fails}
+use Rattle.outcome_law.proofs.Counting.{times}
 use Rattle.outcome_law.proofs.LaneSteps.{numbers_of}
 use Rattle.outcome_law.proofs.Events.{named_in}
 use Rattle.outcome_law.proofs.Lanes.{put_here, put_apart}
@@ -66,13 +72,8 @@ module _ (s d : Address) where
   abbrev pub Good : (seg next : Segment) → List Message → List Event → Type 0
   Good seg next more events = SendsOne (lane_at seg s d) (lane_at next s d) more (named_in s d events) ⊎ EndsSome (lane_at seg s d) (lane_at next s d) more (named_in s d events)
 
-  abbrev pub Keeps : Segment → Call → Answer → Type 0
-  Keeps seg call (Err cause) = Unit {0}
-  Keeps seg call (Ok step) = Good seg step.0 (sent_by s d call step.1) (events_of step.1)
-
-  pub or_refused : (seg : Segment) (call : Call) (b : Bool) (cause : Refusal) (x : Answer) → (b ≡ false → Keeps seg call x) → Keeps seg call (cond b (Err cause) x)
-  or_refused seg call true cause x h = tt
-  or_refused seg call false cause x h = h refl
+  abbrev pub GoodBy : Segment → Call → Segment × Reply → Type 0
+  GoodBy seg call step = Good seg step.0 (sent_by s d call step.1) (events_of step.1)
 
   -- nothing of the lane changes
   pub good_same : (seg next : Segment) (events : List Event) → lane_at next s d ≡ lane_at seg s d → named_in s d events ≡ [] → Good seg next [] events
@@ -120,65 +121,6 @@ module _ (s d : Address) where
 
     stays : Stays st.address st
     stays = as_it_is seg r i st at
-
-    pub opens_good : (station : Address) (pgn max_len : ℕ) → Keeps seg (Open station pgn max_len) (opens seg pgn max_len i st)
-    opens_good station pgn max_len = or_refused seg (Open station pgn max_len) (are_full st.ports) _ _
-        (λ _. good_quiet (record st { ports = with_port st.ports pgn max_len }) refl (same st))
-
-    pub closes_good : (port : PortId) → Keeps seg (Close port) (closes seg port.number i st)
-    closes_good port = or_refused seg (Close port) (not (is_open st.ports port.number)) _ _
-        (λ _. good_quiet (closed st port.number) (closed_stays st.address st port.number stays).address (closed_tells st port.number))
-
-    pub pauses_good : (port : PortId) → Keeps seg (Pause port) (pauses seg port.number i st)
-    pauses_good port = or_refused seg (Pause port) (not (is_open st.ports port.number)) _ _ (λ _. or_refused seg (Pause port) (is_paused st.ports port.number) _ _
-        (λ _. good_quiet (record st { ports = with_paused st.ports port.number true }) refl (same st)))
-
-    pub resumes_good : (port : PortId) → Keeps seg (Resume port) (resumes seg port.number i st)
-    resumes_good port = or_refused seg (Resume port) (not (is_open st.ports port.number)) _ _ (λ _. or_refused seg (Resume port) (not (is_paused st.ports port.number)) _ _
-        (λ _. good_quiet (record st { ports = with_paused st.ports port.number false }) refl (same st)))
-
-    pumps_by_good : (station to : Address) (o : Option PumpRefused) → Keeps seg (Pump station to) (pumps_by seg to i st o)
-    pumps_by_good station to (Some pump.NothingToSend) = tt
-    pumps_by_good station to (Some pump.NotYet) = tt
-    pumps_by_good station to None = or_refused seg (Pump station to) (nat_lt (free_places st.queue) pump_places) _ _
-        (λ _. good_step (pumped st to seg.now) (pumped_stays st.address st to seg.now stays).address (pumped_tells st to seg.now))
-
-    pub pumps_good : (station to : Address) → Keeps seg (Pump station to) (pumps seg to i st)
-    pumps_good station to = or_refused seg (Pump station to) (to.0 == null_address) _ _ (λ _. pumps_by_good station to (refusal_at st.lanes to.0 seg.now))
-
-    pub cancels_good : (from to : Address) (number : ℕ) → Keeps seg (Cancel from to number) (cancels seg to number i st)
-    cancels_good from to number =
-        or_refused seg (Cancel from to number) (to.0 == null_address) _ _ (λ _.
-        or_refused seg (Cancel from to number) (not (is_pending_at st.lanes to.0 number)) _ _ (λ pending.
-        or_refused seg (Cancel from to number) (queues_abort_at st.lanes to.0 number && no_place st) _ _ (λ _.
-        good_step (cancelled st to number) (cancelled_stays st.address st to number stays).address
-        (cancelled_tells st to number (is_true (is_pending_at st.lanes to.0 number) pending)))))
-      where
-        is_true : (b : Bool) → not b ≡ false → b ≡ true
-        is_true true e = refl
-        is_true false e = absurd (let no : true ≡ false = e in cc)
-
-    pub transmits_good : (station : Address) (o : Option CanFrame) → Keeps seg (Transmit station) (transmits_by seg i st o)
-    transmits_good station None = tt
-    transmits_good station (Some f) = or_refused seg (Transmit station) (bus.is_full seg.bus) _ _ (λ _. good_quiet (record st { queue = behind st.queue }) refl (same st))
-
-    pub takes_good : (station : Address) (room : Bool) (o : Option CanFrame) → Keeps seg (Take station room) (takes_by seg room i st o)
-    takes_good station room None = tt
-    takes_good station room (Some f) = or_refused seg (Take station room) (no_place st) _ _
-        (λ _. good_step (taken st f room seg.now) (taken_stays st.address st f room seg.now stays).address (taken_tells st f room seg.now))
-
-    pub repeats_good : (station : Address) (room : Bool) (o : Option CanFrame) → Keeps seg (TakeAgain station room) (repeats_by seg room i st o)
-    repeats_good station room None = tt
-    repeats_good station room (Some f) = or_refused seg (TakeAgain station room) (no_place st) _ _
-        (λ _. good_step (taken st f room seg.now) (taken_stays st.address st f room seg.now stays).address (taken_tells st f room seg.now))
-
-    pub overruns_good : (station : Address) (n : ℕ) → Keeps seg (Overrun station n) (overruns seg n i st)
-    overruns_good station n = or_refused seg (Overrun station n) (nat_lt (bus.waiting seg.bus i) n) _ _
-        (λ _. good_step (overrun st) refl (overrun_tells st))
-
-    pub fires_good : (station : Address) → Keeps seg (Fire station) (fires seg i st)
-    fires_good station = or_refused seg (Fire station) (not (is_due st seg.now)) _ _ (λ _. or_refused seg (Fire station) (no_place st) _ _
-        (λ _. good_step (fired st seg.now) (fired_stays st.address st seg.now stays).address (fired_tells st seg.now)))
 
     -- A message is sent
 
@@ -228,10 +170,29 @@ module _ (s d : Address) where
           by true false e f = sent_else (λ x y. eqb-false to.0 d.0 f y)
           by false q e f = sent_else (λ x y. eqb-false from.0 s.0 e (is ∙ x))
 
-      pub sends_good : (from : Address) → from.0 ≡ st.address.0 → Keeps seg (Send from to pgn bytes) (sends seg to pgn bytes i st)
-      sends_good from is =
-          or_refused seg (Send from to pgn bytes) (to.0 == null_address) _ _ (λ _.
-          or_refused seg (Send from to pgn bytes) (st.address.0 == to.0) _ _ (λ _.
-          or_refused seg (Send from to pgn bytes) (nat_lt (length bytes) MIN_SIZE) _ _ (λ _.
-          or_refused seg (Send from to pgn bytes) (nat_lt (longest_to to.0) (length bytes)) _ _ (λ _.
-          or_refused seg (Send from to pgn bytes) (is_full (lane_of st to)) _ _ (λ _. sent_good from is)))))
+    pub of_station : OfStation seg (GoodBy seg) i st
+    of_station = record {
+      opens = λ a pgn max_len q. good_quiet (record st { ports = with_port st.ports pgn max_len }) refl (same st);
+      closes = λ port q is. good_quiet (closed st port.number) (closed_stays st.address st port.number stays).address (closed_tells st port.number);
+      sends = λ from to pgn bytes q other long short. sent_good to pgn bytes from (sym (has_address seg from i st q at));
+      pumps = λ a to q. good_step (pumped st to seg.now) (pumped_stays st.address st to seg.now stays).address (pumped_tells st to seg.now);
+      transmits = λ a f q e free. good_quiet (record st { queue = behind st.queue }) refl (same st);
+      takes = λ a room f q e free. good_step (taken st f room seg.now) (taken_stays st.address st f room seg.now stays).address (taken_tells st f room seg.now);
+      repeats = λ a room f q e free. good_step (taken st f room seg.now) (taken_stays st.address st f room seg.now stays).address (taken_tells st f room seg.now);
+      overruns = λ a n q few. good_step (overrun st) refl (overrun_tells st);
+      fires = λ a q. good_step (fired st seg.now) (fired_stays st.address st seg.now stays).address (fired_tells st seg.now);
+      cancels = λ from to number q pending. good_step (cancelled st to number) (cancelled_stays st.address st to number stays).address (cancelled_tells st to number pending);
+      pauses = λ port q. good_quiet (record st { ports = with_paused st.ports port.number true }) refl (same st);
+      resumes = λ port q. good_quiet (record st { ports = with_paused st.ports port.number false }) refl (same st);
+    }
+
+  -- a call that is refused changes nothing
+  refused_good : (seg : Segment) (call : Call) (cause : Refusal) → GoodBy seg call (seg, Refused cause)
+  refused_good seg call cause = subst (λ (ms : List Message). Good seg seg ms []) (sym (none_refused s d call cause)) (good_same seg seg [] refl refl)
+
+  pub good_call : (seg : Segment) → IsReached seg → (call : Call) → GoodBy seg call (applied seg call)
+  good_call seg r call = each_applied seg (GoodBy seg) (record {
+    station = of_station seg r;
+    ticks = λ n. good_same seg (record seg { now = seg.now + n }) [] refl refl;
+    injects = λ f foreign free. good_same seg (with_frame seg f) [] refl refl;
+  }) (refused_good seg) call

@@ -27,7 +27,8 @@ use Rattle.lane_core.specs.Lane.{Lane, link_for, with_under_way}
 use Rattle.lane_core.specs.Endings.{front_ended, over, still, after_step, numbered, withdrawn, without_number, is_front, cancelled, cancelled_by, overrun, overrun_by}
 use Rattle.lane_core.specs.Heard.{heard, heard_by, connection_heard, answered, answered_by}
 use Rattle.lane_core.specs.Pump.{begins, idle_pumped, after_packet, front_bytes, pumped, pumped_by, most_requests, probes, probe_fired, fired, fired_by}
-use Rattle.outcome_law.proofs.Counting.{on_test, times}
+use Rattle.record_lemmas.proofs.Tests.{on_test}
+use Rattle.outcome_law.proofs.Counting.{times}
 
 -- the numbers of messages
 abbrev pub numbers_of : List Pending → List ℕ

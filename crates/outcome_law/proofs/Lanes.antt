@@ -13,7 +13,8 @@ use Rattle.station_lanes.specs.Lanes.{Lanes}
 use Rattle.station_lanes.specs.LaneCalls.{stepped_lanes, step_at, outcome_of, lane_to}
 use Rattle.station_lanes.specs.LaneReaders.{overrun_lanes, overrun_events}
 use Rattle.station_lanes.specs.declared.event.Event.{Event}
-use Rattle.outcome_law.proofs.Counting.{on_test, times, times-append, times-none}
+use Rattle.record_lemmas.proofs.Tests.{on_test}
+use Rattle.outcome_law.proofs.Counting.{times, times-append, times-none}
 use Rattle.outcome_law.proofs.LaneSteps.{numbers_of, ended_number, Ends, ends_overrun}
 use Rattle.outcome_law.proofs.Events.{named_in, named_append, named_own, named_foreign, named_else}
 

@@ -6,7 +6,6 @@ pub mod Sessions
 pub mod Stations
 pub mod Places
 pub mod Calls
-pub mod Every
 pub mod Books
 pub mod Beginning
 pub mod Records

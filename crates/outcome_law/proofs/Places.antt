@@ -1,8 +1,7 @@
 -- The lane from s to d in a segment whose station at a place changes.
-use Rattle.std.proofs.Common.{◌≡◌, ℕ, suc, ◌+◌, ◌==◌, nat_lt, Bool, true, cond, not, List, [], ◌∷◌, length, set, get_or, Option, Some, None, refl, sym, ap, ◌∙◌, subst, arith, eqb-true, get_or-set_other}
+use Rattle.std.proofs.Common.{◌≡◌, ℕ, ◌==◌, List, set, get_or, Option, Some, None, refl, sym, ap, ◌∙◌, eqb-true, get_or-set_other}
 use Rattle.std.specs.Prelude.{slice_get, position, unwrap_or}
-use Rattle.std.specs.List.{position_or_len}
-use Rattle.std.proofs.lemmas.Option.{same_Some, none-some, unwrap_or-slice_get}
+use Rattle.std.proofs.lemmas.Option.{unwrap_or-slice_get}
 use Rattle.pgn_ids.specs.declared.address.Address.{Address}
 use Rattle.lane_core.specs.Lane.{Lane}
 use Rattle.station_lanes.specs.LaneCalls.{lane_to}
@@ -10,19 +9,7 @@ use Rattle.station_core.specs.Station.{Station, new_station}
 use Rattle.segment_law.specs.Segment.{Segment, lane_at}
 use Rattle.segment_law.specs.Reached.{IsReached}
 use Rattle.segment_law.proofs.Reaching.{position_kept, slice_get_same}
-use Rattle.outcome_law.proofs.Counting.{on_test}
-
--- what is found at a place passes
-found_at : {A : Type 0} (test : A → Bool) (xs : List A) (x : A) → slice_get xs (position_or_len test xs) ≡ Some x → test x ≡ true
-found_at test [] x e = absurd (none-some x e)
-found_at test (y ∷ ys) x e = on_test (λ b. test y ≡ b → slice_get (y ∷ ys) (cond (not b) (1 + position_or_len test ys) 0) ≡ Some x → test x ≡ true) (test y)
-    (λ _ t q. subst (λ z. test z ≡ true) (same_Some y x q) t)
-    (λ _ t q. let n : 1 + position_or_len test ys ≡ suc (position_or_len test ys) = omega arith in found_at test ys x (subst (λ k. slice_get (y ∷ ys) k ≡ Some x) n q)) refl e
-
-pub found_passes : {A : Type 0} (test : A → Bool) (xs : List A) (i : ℕ) (x : A) → position test xs ≡ Some i → slice_get xs i ≡ Some x → test x ≡ true
-found_passes test xs i x p e = on_test (λ b. cond b (Some (position_or_len test xs)) None ≡ Some i → test x ≡ true) (nat_lt (position_or_len test xs) (length xs))
-    (λ _ q. found_at test xs x (ap (slice_get xs) (same_Some (position_or_len test xs) i q) ∙ e))
-    (λ _ q. absurd (none-some i q)) p
+use Rattle.record_lemmas.proofs.Segments.{found_passes}
 
 module _ (seg next : Segment) (r : IsReached seg) (i : ℕ) (st new : Station) (at : slice_get seg.stations i ≡ Some st) (address : new.address ≡ st.address) (stations : next.stations ≡ set seg.stations i new) (s d : Address) where
   -- the station that an address leads to

@@ -15,17 +15,18 @@ use Rattle.segment_law.specs.Reached.{IsReached}
 use Rattle.segment_law.specs.Told.{Message, Placed, NumberedOutcome, told_from, places_of, sent_by, outcome_in, outcomes}
 use Rattle.segment_law.specs.Numbering.{item, IsAfter}
 use Rattle.segment_law.specs.Headline.{IsStationOf, HaveOneOutcome}
+use Rattle.segment_law.specs.declared.call.Call.{Call}
 use Rattle.segment_law.specs.declared.reply.Reply.{Reply}
 use Rattle.segment_law.proofs.Booleans.{both_pass}
 use Rattle.segment_law.proofs.Reaching.{reached_call}
 use Rattle.segment_law.proofs.New.{new_reached}
+use Rattle.record_lemmas.proofs.AlongRecords.{along_record}
 use Rattle.outcome_law.proofs.Counting.{times, times-here, apart}
 use Rattle.outcome_law.proofs.LaneSteps.{numbers_of}
 use Rattle.outcome_law.proofs.Events.{number_of, named_in}
 use Rattle.outcome_law.proofs.Books.{Books, up_to_once, up_to, books_ended, ended_within, books_added}
 use Rattle.outcome_law.proofs.Beginning.{new_books, new_sent}
-use Rattle.outcome_law.proofs.Calls.{SendsOne, EndsSome, Good}
-use Rattle.outcome_law.proofs.Every.{good_call}
+use Rattle.outcome_law.proofs.Calls.{SendsOne, EndsSome, Good, good_call}
 
 -- Places of outcomes
 
@@ -138,24 +139,24 @@ module _ (s d : Address) where
   one_call seg next place step places ended (inl g) h = one_sends seg next place step places ended g h
   one_call seg next place step places ended (inr g) h = one_tells seg next place step places ended g h
 
-  same_tail : (a b : Reply) (x y : List Reply) → a ∷ x ≡ b ∷ y → (a ≡ b) × (x ≡ y)
-  same_tail a b x y e = (cc, cc)
+  -- the calls that come after a segment, whatever was told before
+  abbrev Onwards : Segment → Record → Type 0
+  Onwards seg steps = (place : ℕ) (places ended : List ℕ) → Before seg place places ended → After (after seg (calls_of steps)) place steps places ended
 
-  -- all calls
-  all_calls : (steps : Record) (seg : Segment) (place : ℕ) (places ended : List ℕ) → IsReached seg → list_all is_call (calls_of steps) ≡ true → replies_from seg (calls_of steps) ≡ replies_of steps → Before seg place places ended → After (after seg (calls_of steps)) place steps places ended
-  all_calls [] seg place places ended r fit replies h = record {
+  last_call : (seg : Segment) → Onwards seg []
+  last_call seg place places ended h = record {
     books = subst (Books (lane_at seg s d)) (sym (append-nil ended)) h.books;
     sent_before = λ k x l. absurd (omega (arith, l));
   }
-  all_calls (step ∷ steps) seg place places ended r fit replies h =
-      let fits : (is_call step.0 ≡ true) × (list_all is_call (calls_of steps) ≡ true) = both_pass (is_call step.0) (list_all is_call (calls_of steps)) fit in
-      let next : Segment = (applied seg step.0).0 in
-      let same : ((applied seg step.0).1 ≡ step.1) × (replies_from next (calls_of steps) ≡ replies_of steps) = same_tail _ _ _ _ replies in
-      let good : Good s d seg next (sent_in_step step) (events_of step.1) = subst (λ (reply : Reply). Good s d seg next (sent_by s d step.0 reply) (events_of reply)) same.0 (good_call s d seg r step.0) in
-      let one : OneCall seg next place step places ended = one_call seg next place step places ended good h in
+
+  next_call : (seg : Segment) (call : Call) (steps : Record) → IsReached seg → Onwards (applied seg call).0 steps → Onwards seg ((call, (applied seg call).1) ∷ steps)
+  next_call seg call steps r go place places ended h =
+      let step : Step = (call, (applied seg call).1) in
+      let next : Segment = (applied seg call).0 in
+      let one : OneCall seg next place step places ended = one_call seg next place step places ended (good_call s d seg r call) h in
       let now : List ℕ = places_in place step in
       let numbers : List ℕ = map number_of (told_in_step step) in
-      let rest : After (after next (calls_of steps)) (place + 1) steps (places ++ now) (ended ++ numbers) = all_calls steps next (place + 1) (places ++ now) (ended ++ numbers) (reached_call seg r step.0 fits.0) fits.1 same.1 one.before in
+      let rest : After (after next (calls_of steps)) (place + 1) steps (places ++ now) (ended ++ numbers) = go (place + 1) (places ++ now) (ended ++ numbers) one.before in
       let split : places_of (map (λ (x : Message). (place, x)) (sent_in_step step) ++ told_from sent_in_step (place + 1) steps) ≡ now ++ sent_from (place + 1) steps = map-append (λ (x : Placed Message). x.0) (map (λ (x : Message). (place, x)) (sent_in_step step)) (told_from sent_in_step (place + 1) steps) in
       let whole : (places ++ now) ++ sent_from (place + 1) steps ≡ places ++ sent_from place (step ∷ steps) = append_assoc places now (sent_from (place + 1) steps) ∙ ap (λ (ps : List ℕ). places ++ ps) (sym split) in
       record {
@@ -168,7 +169,7 @@ module _ (s d : Address) where
 pub one_outcome : (addresses : List Address) (steps : Record) (seg : Segment) → StandsAt addresses steps seg → (s d : Address) → IsStationOf addresses s → HaveOneOutcome steps s d
 one_outcome addresses steps seg h s d is =
     let new : Segment = new_segment addresses in
-    let all : After s d (after new (calls_of steps)) 1 steps [] [] = all_calls s d steps new 1 [] [] (new_reached addresses h.addresses_fit) h.calls_fit h.replies (record {
+    let all : After s d (after new (calls_of steps)) 1 steps [] [] = along_record (Onwards s d) (λ seg r. last_call s d seg) (λ seg call steps r is go. next_call s d seg call steps r go) addresses steps seg h 1 [] [] (record {
       books = new_books s d addresses;
       numbers = sym (new_sent s d addresses);
       earlier = λ k x l. absurd (omega (arith, l));

@@ -12,11 +12,13 @@ use Rattle.segment_law.specs.Headline.{IsStationOf}
 use Rattle.segment_law.specs.Segment.{Segment, new_segment}
 use Rattle.segment_law.specs.Calls.{applied, events_of}
 use Rattle.segment_law.specs.Record.{Step, Record, StandsAt}
+use Rattle.record_lemmas.proofs.Lists.{Each, each_append, each_map}
+use Rattle.record_lemmas.proofs.Segments.{same_address}
+use Rattle.record_lemmas.proofs.Tests.{on_test}
 use Rattle.port_law.proofs.Calls.{placed}
 use Rattle.port_law.proofs.Lives.{Openings, Closings}
-use Rattle.port_law.proofs.Ports.{same_address, IsToStationOrAll, IsAddressed}
+use Rattle.port_law.proofs.Ports.{IsToStationOrAll, IsAddressed}
 use Rattle.port_law.proofs.Records.{AllGo, record_goes}
-use Rattle.port_law.proofs.Words.{on_test, Each, each_append, each_map}
 
 -- what follows of each item holds where there is one
 of_one : {A B : Type 0} (R : Type 0) (f : A → B) (xs : List A) → Each (λ x. R) xs → 0 < length (map f xs) → R

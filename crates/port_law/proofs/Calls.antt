@@ -12,12 +12,13 @@ use Rattle.station_core.specs.Closing.{closed}
 use Rattle.station_core.specs.Station.{Station, StationStep}
 use Rattle.segment_law.proofs.Reaching.{slice_get_same, slice_get_other}
 use Rattle.segment_law.specs.Told.{Message, Placed, same_port, any_given_to}
+use Rattle.record_lemmas.proofs.Lists.{Each, each_weaker}
+use Rattle.record_lemmas.proofs.Tests.{on_test}
 use Rattle.port_law.proofs.Closing.{Closes, closes}
 use Rattle.port_law.proofs.Lives.{Openings, Closings, Lives, AreUsed, used_opened, used_closed, used_paused, open_used, lives_on, lives_paused, lives_opened, lives_closed, lives_ended, IsTaken, given_taken}
 use Rattle.port_law.proofs.Ports.{receive_more, receive_marked, IsAllowed, IsAddressed, allowed_addressed}
 use Rattle.port_law.proofs.Receptions.{IsBound, AreBound}
 use Rattle.port_law.proofs.Stations.{Acts}
-use Rattle.port_law.proofs.Words.{on_test, Each, each_weaker}
 
 -- what holds of a station whatever the port is
 pub record IsSound (st : Station) : Type 0 where

@@ -1,5 +1,3 @@
-pub mod Words
-pub mod Maps
 pub mod Sessions
 pub mod Ports
 pub mod Receptions

@@ -10,8 +10,9 @@ use Rattle.port_table.specs.declared.port.PortId.{PortId}
 use Rattle.station_lanes.specs.declared.event.Event.{Event}
 use Rattle.station_lanes.specs.declared.event.Event.TheVariants as event
 use Rattle.segment_law.specs.Told.{Message, Placed, same_port, any_given_to}
+use Rattle.record_lemmas.proofs.Lists.{Each, each_append, each_filter, each_weaker, In, in_front, in_behind, in_weaker, in_both, in_one}
+use Rattle.record_lemmas.proofs.Tests.{on_test}
 use Rattle.port_law.proofs.Ports.{Receives, Opens, IsAllowed, each_marked, less_lacks}
-use Rattle.port_law.proofs.Words.{on_test, Each, each_append, each_filter, each_weaker, In, in_front, in_behind, in_weaker, in_both, in_one}
 
 -- openings of a port, each with its PGN and length, and closings, as far as the record goes
 abbrev pub Openings : Type 0

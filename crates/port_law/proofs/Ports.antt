@@ -9,7 +9,8 @@ use Rattle.port_table.specs.Ports.{Ports, less_port, marked, receives, ports_for
 use Rattle.port_table.specs.declared.port.Port.{Port}
 use Rattle.station_lanes.specs.declared.event.Event.{Event}
 use Rattle.station_lanes.specs.declared.event.Event.TheVariants as event
-use Rattle.port_law.proofs.Words.{on_test, either, Each, each_kept, each_map, each_weaker, each_both, In, in_front, in_map, in_weaker}
+use Rattle.record_lemmas.proofs.Lists.{Each, each_kept, each_map, each_weaker, each_both, In, in_front, in_map, in_weaker}
+use Rattle.record_lemmas.proofs.Tests.{on_test, either}
 
 -- the port is open, on this PGN and for so many bytes
 abbrev pub Opens : (pgn len number : ℕ) → Port → Type 0
@@ -80,9 +81,6 @@ receive_less number qs pgn len set l h = each_both (λ k. k ≡ number → ⊥) 
     by k n (q ∷ qs) (inr r) = either (λ (rs : List Port). Receives rs pgn len k) (not (q.number == number)) (q ∷ less_port number qs) (less_port number qs) (inr (by k n qs r)) (by k n qs r)
 
 -- What events give
-
-pub same_address : (a b : Address) → a.0 ≡ b.0 → a ≡ b
-same_address a b e = λ i. record { 0 = e i }
 
 -- to a station, or to all
 abbrev pub IsToStationOrAll : (station to : Address) → Type 0

@@ -24,10 +24,12 @@ use Rattle.session_table.specs.Incoming.{pgn_of}
 use Rattle.session_table.specs.Sessions.{state_at}
 use Rattle.station_sessions.specs.Progress.{after_broadcast, after_tp, after_etp, progress, fired, prepared, prepared_to_fire}
 use Rattle.station_sessions.specs.Receiving.{Inbound, Reception, unheard, settled, flow_at, received_by, received, fired_by, fired_at, aborted_at, unbound_by, unbound_at}
-use Rattle.port_law.proofs.Maps.{State, OfEach, put_of_each, dropped_of_each, of_each_put, of_each_dropped}
-use Rattle.port_law.proofs.Ports.{AllReceive, Lacks, without_lacks, same_address, IsToStationOrAll, IsAllowed, gives_to, given_allowed}
+use Rattle.record_lemmas.proofs.Lists.{Each, each_filter}
+use Rattle.record_lemmas.proofs.Maps.{State, OfEach, put_of_each, dropped_of_each, of_each_put, of_each_dropped}
+use Rattle.record_lemmas.proofs.Segments.{same_address}
+use Rattle.record_lemmas.proofs.Tests.{either}
+use Rattle.port_law.proofs.Ports.{AllReceive, Lacks, without_lacks, IsToStationOrAll, IsAllowed, gives_to, given_allowed}
 use Rattle.port_law.proofs.Sessions.{IsOf, GoesTp, GoesEtp, GoesBroadcast, tp_step, tp_expired, etp_step, etp_expired, etp_prepared, etp_prepared_fire, broadcast_step}
-use Rattle.port_law.proofs.Words.{either, Each, each_filter}
 
 -- a session with one node, to the own address or to all, gives to ports that are open on its PGN and for its size
 pub record IsBound (ports : Ports) (key : Key) (v : State) : Type 0 where

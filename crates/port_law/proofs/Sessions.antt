@@ -34,7 +34,7 @@ use Rattle.etp_session.specs.declared.received.Received as etp
 use Rattle.etp_session.specs.declared.received.Received.TheVariants as etp-received
 use Rattle.session_table.specs.declared.incoming.Incoming.{Incoming}
 use Rattle.session_table.specs.declared.incoming.Incoming.TheVariants as incoming
-use Rattle.port_law.proofs.Words.{either}
+use Rattle.record_lemmas.proofs.Tests.{either}
 
 -- the length of what is taken
 taken_short : (n : ℕ) (xs : List ℕ) → length (take n xs) ≤ n

@@ -41,11 +41,12 @@ use Rattle.station_core.specs.Opening.{key_of, refusal, is_tp_size, is_etp_size,
 use Rattle.station_core.specs.Overruns.{overrun}
 use Rattle.station_core.specs.Taking.{packet_kind, in_session, abort_taken, cm_taken, request_taken, ack_taken, wire_taken, looks_at, meaning_taken, taken}
 use Rattle.station_core.specs.Timers.{lane_fired, fired}
-use Rattle.port_law.proofs.Maps.{of_each_none, of_each_put, of_each_dropped}
+use Rattle.record_lemmas.proofs.Lists.{Each, each_append}
+use Rattle.record_lemmas.proofs.Maps.{of_each_none, of_each_put, of_each_dropped}
+use Rattle.record_lemmas.proofs.Tests.{on_test, either, by_option}
 use Rattle.port_law.proofs.Ports.{IsAllowed, found_receive}
 use Rattle.port_law.proofs.Receptions.{IsBound, AreBound, Settles, settles_received, settles_fired, bound_aborted}
 use Rattle.port_law.proofs.Sessions.{IsOf, tp_asking, etp_asking}
-use Rattle.port_law.proofs.Words.{on_test, either, by_option, Each, each_append}
 
 -- what is promised of a step that leaves the ports as they are
 pub record Acts (st : Station) (step : StationStep) : Type 0 where

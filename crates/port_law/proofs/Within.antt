@@ -8,10 +8,10 @@ use Rattle.segment_law.specs.Headline.{IsOpenedFor, IsOpenFor}
 use Rattle.segment_law.specs.Segment.{Segment, new_segment}
 use Rattle.segment_law.specs.Calls.{applied, events_of}
 use Rattle.segment_law.specs.Record.{Step, Record, StandsAt}
+use Rattle.record_lemmas.proofs.Lists.{Each, each_append, each_map, each_weaker, each_all, In, in_front, in_any, in_weaker}
 use Rattle.port_law.proofs.Calls.{placed}
 use Rattle.port_law.proofs.Lives.{Openings, Closings, IsTaken}
 use Rattle.port_law.proofs.Records.{opens, shuts, AllGo, record_goes}
-use Rattle.port_law.proofs.Words.{Each, each_append, each_map, each_weaker, each_all, In, in_front, in_any, in_weaker}
 
 -- what steps tell stands at their places
 later : {A : Type 0} (tells : Step → List A) (place n : ℕ) (steps : Record) → n < place → Each (λ (x : Placed A). n < x.0) (told_from tells place steps)

@@ -3,5 +3,6 @@ pub mod Receivers
 pub mod Senders
 pub mod Turns
 pub mod Meanings
+pub mod Lists
 pub mod Broadcasts
 pub mod Quiets

@@ -1,11 +1,11 @@
 -- What a station makes of the frames of a message to all (SAE J1939-21, TP.CM_BAM, TP.DT).
-use Rattle.std.proofs.Common.{◌≡◌, ℕ, zero, suc, ◌+◌, ◌*◌, ◌/◌, ◌%◌, ◌<◌, ◌≤◌, ◌^◌, ◌==◌, Bool, true, false, cond, not, ◌&&◌, ◌||◌, List, [], ◌∷◌, length, Option, Some, None, refl, sym, ap, ◌∙◌, subst, arith, add-one}
+use Rattle.std.proofs.Common.{◌≡◌, ℕ, zero, suc, ◌+◌, ◌<◌, ◌≤◌, ◌==◌, Bool, true, false, cond, not, ◌&&◌, List, [], ◌∷◌, length, Option, Some, None, refl, sym, ap, ◌∙◌, subst, arith, add-one}
 use Rattle.std.specs.Prelude.{IsTrue, nat_le, nat_lt}
 use Rattle.std.specs.Option.{option_flatten}
-use Rattle.std.proofs.lemmas.Bool.{le-leb, lt-leb, lt-ltb, le-ltb, ltb-true, ltb-false, eqb-true, ne_eqb, eq-eqb}
+use Rattle.std.proofs.lemmas.Bool.{le-leb, lt-leb, lt-ltb, le-ltb, ltb-true, ltb-false, ne_eqb, eq-eqb}
 use Rattle.std.specs.FinMap as finmap
 use Rattle.std.specs.FinMap.{get-insert, get-remove}
-use Rattle.pgn_ids.specs.Pgn.{is_pgn, is_pdu1, clean}
+use Rattle.pgn_ids.specs.Pgn.{is_pgn}
 use Rattle.pgn_ids.specs.declared.address.Address.{Address}
 use Rattle.tp_wire.specs.declared.reason.AbortReason.{AbortReason}
 use Rattle.tp_wire.specs.declared.reason.AbortReason.TheVariants.{NoFurtherSession, Resources}
@@ -36,18 +36,7 @@ use Rattle.station_core.specs.Station.{Station, StationStep, quietly, by_session
 use Rattle.station_core.specs.Taking.{in_session}
 use Rattle.station_sessions.proofs.SessionMaps.{insert_again, remove_inserted}
 use Rattle.segment_law.specs.Quiet.{takers, has_place, given_by}
-
--- a PGN is meant as it is
-pub clean_is : (pgn : ℕ) → is_pgn pgn ≡ true → clean pgn ≡ pgn
-clean_is pgn is = by (is_pdu1 pgn) (both (nat_lt pgn (2 ^ 18)) (not (is_pdu1 pgn) || pgn % 2 ^ 8 == 0) is)
-  where
-    both : (a b : Bool) → (a && b) ≡ true → b ≡ true
-    both true b e = e
-    both false b e = absurd cc
-
-    by : (b : Bool) → (not b || pgn % 2 ^ 8 == 0) ≡ true → cond b (pgn / 2 ^ 8 * 2 ^ 8) pgn ≡ pgn
-    by true e = let z : pgn % 2 ^ 8 ≡ 0 = eqb-true (pgn % 2 ^ 8) 0 e in omega (arith, z)
-    by false e = refl
+use Rattle.record_lemmas.proofs.Told.{clean_is}
 
 module _ {T : Type 0} (m : Sessions T) (k : Key) where
   state_inserted : (v : T × Incoming) → state_at (finmap.insert m k (Some v)) k ≡ Some v
@@ -130,7 +119,7 @@ module _ (s : Address) (m : Pending) where
   unfolding join_of
   bam_heard is long short st t =
       let size : is_tp_size len last ≡ true = sized in
-      let set : set_for (record st { queue = [] }) m.pgn len ≡ takers st m = ap (λ (p : ℕ). ports_for st.ports p len) (clean_is m.pgn is) in
+      let set : set_for (record st { queue = [] }) m.pgn len ≡ takers st m = ap (λ (p : ℕ). ports_for st.ports p len) (clean_is m.pgn is).1 in
       let x : List ℕ → Station = λ (ns : List ℕ). record st { queue = []; sessions = finmap.insert st.sessions key (Some (ns, incoming.Broadcast (broadcast 0 t))) } in
       let z : Station = record st { queue = []; sessions = finmap.remove st.sessions key } in
       let others : ℕ = others_than st key in
@@ -211,7 +200,7 @@ module _ (s : Address) (m : Pending) where
             ap (as_step (at true k t)) (stepped_by (receiving.Completes (join_of (suc k)).bytes) (ends_tests k t now is_last))
             ∙ (λ i. let r : StationStep = record {
               station = record st { queue = []; sessions = remove_inserted st.sessions key (Some (takers st m, incoming.Broadcast (broadcast k t))) i };
-              events = given_to (own i) (takers st m) (record { from = s; to = all; pgn = clean_is m.pgn is i; bytes = whole i });
+              events = given_to (own i) (takers st m) (record { from = s; to = all; pgn = (clean_is m.pgn is).1 i; bytes = whole i });
             } in r)
         by false = ap (as_step (at false k t)) nothing_there
 

@@ -1,6 +1,6 @@
 -- The steps of an incoming session: each packet before the next one is there whole, and a message that is complete has the size
 -- that was announced.
-use Rattle.std.proofs.Common.{◌≡◌, ◌⊎◌, inl, inr, ℕ, ◌+◌, ◌-◌, ◌*◌, ◌<◌, ◌≤◌, nat_lt, Bool, true, false, cond, not, ◌&&◌, ◌||◌, List, length, take, None, ap, ◌∙◌, arith, refl, ⊎_elim}
+use Rattle.std.proofs.Common.{◌≡◌, ◌⊎◌, inl, inr, ℕ, ◌+◌, ◌-◌, ◌*◌, ◌<◌, ◌≤◌, nat_lt, Bool, true, false, cond, not, ◌&&◌, ◌||◌, List, length, take, None, ap, ◌∙◌, arith, ⊎_elim}
 use Rattle.std.specs.Prelude.{nat_le}
 use Rattle.std.proofs.lemmas.Bool.{cases_lt, eqb-true}
 use Rattle.std.proofs.lemmas.List.{length-append, length-take-le, take_all}
@@ -35,16 +35,7 @@ use Rattle.etp_session.specs.declared.in_state.InState.{InState as EtpState}
 use Rattle.etp_session.specs.declared.in_state.InState.TheVariants as etp-state
 use Rattle.etp_session.specs.declared.received.Received as etp
 use Rattle.etp_session.specs.declared.received.Received.TheVariants as etp-received
-
--- either way
-pub either : {A : Type 0} (P : A → Type 0) (b : Bool) (x y : A) → P x → P y → P (cond b x y)
-either P true x y h k = h
-either P false x y h k = k
-
--- a goal by the value of a test in it
-pub on_test : (P : Bool → Type 0) (b : Bool) → (b ≡ true → P true) → (b ≡ false → P false) → P b
-on_test P true t f = t refl
-on_test P false t f = f refl
+use Rattle.record_lemmas.proofs.Tests.{on_test, either}
 
 -- Joins
 

@@ -30,7 +30,8 @@ use Rattle.session_table.specs.Sessions.{state_at}
 use Rattle.session_table.proofs.Keys.{key_total}
 use Rattle.station_sessions.specs.Progress.{after_broadcast, after_tp, after_etp, progress, fired, prepared, prepared_to_fire}
 use Rattle.station_sessions.specs.Receiving.{Inbound, Reception, settled, flow_at, received_by, received, fired_by, fired_at, aborted_at, unbound_by, unbound_at}
-use Rattle.reader_law.proofs.Filled.{either, IsFilled, IsSeven, GoesTp, GoesEtp, GoesBroadcast, tp_step, tp_expired, etp_step, etp_expired, broadcast_step}
+use Rattle.record_lemmas.proofs.Tests.{either}
+use Rattle.reader_law.proofs.Filled.{IsFilled, IsSeven, GoesTp, GoesEtp, GoesBroadcast, tp_step, tp_expired, etp_step, etp_expired, broadcast_step}
 
 -- a session with the ports that it gives to
 abbrev pub State : Type 0

@@ -1,14 +1,15 @@
 -- What a segment counts is what its record holds.
-use Rattle.std.proofs.Common.{◌≡◌, ℕ, Bool, ◌++◌, List, [], ◌∷◌, refl, sym, ap, ◌∙◌}
+use Rattle.std.proofs.Common.{◌≡◌, ℕ, Bool, ◌++◌, List, ◌∷◌, refl, sym, ap, ◌∙◌}
 use Rattle.std.proofs.lemmas.List.Sums.{fold-append}
 use Rattle.pgn_ids.specs.declared.address.Address.{Address}
 use Rattle.station_lanes.specs.declared.event.Event.{Event}
 use Rattle.segment_law.specs.Segment.{Segment, new_segment, no_counts}
 use Rattle.segment_law.specs.Calls.{applied, events_of}
 use Rattle.segment_law.specs.Drive.{events_in}
-use Rattle.segment_law.specs.Record.{Step, Record, StandsAt, after, calls_of, replies_of, replies_from}
+use Rattle.segment_law.specs.Record.{Step, Record, StandsAt, after, calls_of}
 use Rattle.segment_law.specs.declared.counts.Counts.{Counts}
-use Rattle.segment_law.specs.declared.reply.Reply.{Reply}
+use Rattle.segment_law.specs.declared.call.Call.{Call}
+use Rattle.record_lemmas.proofs.AlongRecords.{along_record}
 use Rattle.reader_law.specs.Counting.{counts_over, steps_from, puts_frame, takes_again, takes_malformed, is_given, is_acknowledged, is_broadcast, is_aborted, is_timed_out, is_overrun, is_cancelled, is_unreachable}
 use Rattle.reader_law.proofs.Totals.{grown, more, number_is}
 use Rattle.reader_law.proofs.Counted.{with_events, with_step, call_counts}
@@ -38,18 +39,16 @@ events_then events later c = λ i.
 abbrev step_counts : Segment → Step → Counts → Counts
 step_counts seg step c = with_step (puts_frame step) (takes_again step) (takes_malformed (seg, step)) (events_of step.1) c
 
-heads : {A : Type 0} (a b : A) (x y : List A) → a ∷ x ≡ b ∷ y → (a ≡ b) × (x ≡ y)
-heads a b x y e = (cc, cc)
+-- what comes after a segment adds to its counts
+abbrev Adds : Segment → Record → Type 0
+Adds seg steps = (after seg (calls_of steps)).counts ≡ with_steps seg steps seg.counts
 
--- over the steps, from any segment
-steps_count : (steps : Record) (seg : Segment) → replies_from seg (calls_of steps) ≡ replies_of steps → (after seg (calls_of steps)).counts ≡ with_steps seg steps seg.counts
-steps_count [] seg replies = refl
-steps_count (step ∷ steps) seg replies =
-    let next : Segment = (applied seg step.0).0 in
-    let both : ((applied seg step.0).1 ≡ step.1) × (replies_from next (calls_of steps) ≡ replies_of steps) = heads _ _ _ _ replies in
-    let counts : next.counts ≡ step_counts seg step seg.counts = call_counts seg step.0 ∙ ap (λ (r : Reply). step_counts seg (step.0, r) seg.counts) both.0 in
-    let c : Counts = record seg.counts { frames = more puts_frame (step ∷ steps) seg.counts.frames; malformed = more takes_malformed (steps_from seg (step ∷ steps)) seg.counts.malformed; repeated = more takes_again (step ∷ steps) seg.counts.repeated } in
-    steps_count steps next both.1 ∙ ap (with_steps next steps) counts ∙ events_then (events_of step.1) (events_in steps) c
+call_adds : (seg : Segment) (call : Call) (rest : Record) → Adds (applied seg call).0 rest → Adds seg ((call, (applied seg call).1) ∷ rest)
+call_adds seg call rest go =
+    let step : Step = (call, (applied seg call).1) in
+    let next : Segment = (applied seg call).0 in
+    let c : Counts = record seg.counts { frames = more puts_frame (step ∷ rest) seg.counts.frames; malformed = more takes_malformed (steps_from seg (step ∷ rest)) seg.counts.malformed; repeated = more takes_again (step ∷ rest) seg.counts.repeated } in
+    go ∙ ap (with_steps next rest) (call_counts seg call) ∙ events_then (events_of step.1) (events_in rest) c
 
 -- from nothing counted
 from_none : (addresses : List Address) (steps : Record) → with_steps (new_segment addresses) steps no_counts ≡ counts_over addresses steps
@@ -70,4 +69,6 @@ from_none addresses steps = λ i.
 
 pub counts_are_recorded : (addresses : List Address) (steps : Record) (seg : Segment) → StandsAt addresses steps seg → seg.counts ≡ counts_over addresses steps
 counts_are_recorded addresses steps seg stands =
-    ap (λ (s : Segment). s.counts) (sym stands.state) ∙ steps_count steps (new_segment addresses) stands.replies ∙ from_none addresses steps
+    ap (λ (s : Segment). s.counts) (sym stands.state)
+    ∙ along_record Adds (λ seg r. refl) (λ seg call rest r is go. call_adds seg call rest go) addresses steps seg stands
+    ∙ from_none addresses steps

@@ -36,7 +36,8 @@ use Rattle.station_core.specs.Taking.{packet_kind, cm_taken, wire_taken, meaning
 use Rattle.station_core.specs.Timers.{lane_fired, fired}
 use Rattle.station_core.specs.Closing.{closed_below, closed}
 use Rattle.port_table.specs.Ports.{without_port}
-use Rattle.reader_law.proofs.Filled.{either, IsFilled, IsSeven, tp_asking, etp_asking}
+use Rattle.record_lemmas.proofs.Tests.{either}
+use Rattle.reader_law.proofs.Filled.{IsFilled, IsSeven, tp_asking, etp_asking}
 use Rattle.reader_law.proofs.Keeping.{join_of, AreKept, kept_put, kept_dropped, kept_received, kept_fired, kept_aborted, kept_unbound}
 
 -- What a frame means has packets of seven bytes

@@ -13,10 +13,11 @@ use Rattle.segment_law.specs.declared.call.Call.TheVariants.{Open, Close, Send, 
 use Rattle.segment_law.specs.declared.refusal.Refusal.{Refusal}
 use Rattle.segment_law.specs.declared.reply.Reply.TheVariants.{Opened, Refused}
 use Rattle.segment_law.proofs.Records.{stands_reached}
+use Rattle.record_lemmas.proofs.EachCall.{Holds, each_called}
 use Rattle.reader_law.proofs.Takes.{wanted_is_given}
 use Rattle.reply_law.specs.Replies.{expected, Follows}
 use Rattle.reply_law.proofs.Sound.{sound_at}
-use Rattle.reply_law.proofs.Walk.{Keeps, takes_with_room, called_keeps}
+use Rattle.reply_law.proofs.Walk.{GoesBy, takes_with_room, accepted}
 
 -- the ports that a call gives at are those that were wanted
 refused_ports : (seg : Segment) (call : Call) → takes_with_room call ≡ false → (expected seg call).1.0 ≡ []
@@ -59,9 +60,9 @@ refused_opens : (c : Refusal) (p : PortId) → Refused c ≡ Opened p → ⊥
 refused_opens c p e = cc
 
 pub follows : (addresses : List Address) (steps : Record) (seg : Segment) → StandsAt addresses steps seg → (call : Call) → Follows seg call (applied seg call).0 (applied seg call).1
-follows addresses steps seg h call = by (called seg call) refl (called_keeps seg (stands_reached addresses steps seg h) (sound_at addresses steps seg h) call)
+follows addresses steps seg h call = by (called seg call) refl (each_called seg (GoesBy seg (stands_reached addresses steps seg h) (sound_at addresses steps seg h)) (accepted seg (stands_reached addresses steps seg h) (sound_at addresses steps seg h)) call)
   where
-    by : (x : Answer) → called seg call ≡ x → Keeps seg (stands_reached addresses steps seg h) (sound_at addresses steps seg h) call x → Follows seg call (replied seg x).0 (replied seg x).1
+    by : (x : Answer) → called seg call ≡ x → Holds seg (GoesBy seg (stands_reached addresses steps seg h) (sound_at addresses steps seg h)) call x → Follows seg call (replied seg x).0 (replied seg x).1
     by (Err cause) e k = record {
       refused = λ _. refl;
       kind = tt;

@@ -1,7 +1,6 @@
 -- At each record, every station's sessions give to its open ports: a new station has none, and each call keeps it.
-use Rattle.std.proofs.Common.{◌≡◌, ℕ, zero, suc, ◌+◌, ◌++◌, List, [], ◌∷◌, map, Some, refl, subst}
+use Rattle.std.proofs.Common.{◌≡◌, ℕ, ◌+◌, ◌++◌, List, [], ◌∷◌, map, Some, refl, subst}
 use Rattle.std.specs.Prelude.{slice_get}
-use Rattle.std.proofs.lemmas.Option.{none-some, same_Some}
 use Rattle.pgn_ids.specs.declared.address.Address.{Address}
 use Rattle.port_table.specs.Ports.{no_ports}
 use Rattle.port_table.specs.declared.port.PortId.{PortId}
@@ -9,9 +8,10 @@ use Rattle.station_core.specs.Station.{Station, new_station}
 use Rattle.segment_law.specs.Segment.{Segment, new_segment, rising}
 use Rattle.segment_law.specs.Calls.{applied}
 use Rattle.segment_law.specs.Record.{Record, StandsAt, after, calls_of}
+use Rattle.record_lemmas.proofs.Maps.{of_each_none}
+use Rattle.record_lemmas.proofs.Segments.{new_each}
 use Rattle.port_law.proofs.Calls.{IsSound, placed}
 use Rattle.port_law.proofs.Lives.{Openings, Closings}
-use Rattle.port_law.proofs.Maps.{of_each_none}
 use Rattle.port_law.proofs.Receptions.{IsBound}
 use Rattle.port_law.proofs.Records.{opens, shuts, AllGo, record_goes}
 
@@ -23,9 +23,7 @@ abbrev AreSound : List Station → Type 0
 AreSound stations = (j : ℕ) (st : Station) → slice_get stations j ≡ Some st → IsSound st
 
 new_sound : (addresses : List Address) → AreSound (map new_station addresses)
-new_sound [] j st e = absurd (none-some st e)
-new_sound (a ∷ addresses) zero st e = subst IsSound (same_Some (new_station a) st e) (record { own = refl; used = tt; sessions = of_each_none (IsBound (no_ports a)) })
-new_sound (a ∷ addresses) (suc j) st e = new_sound addresses j st e
+new_sound addresses = new_each IsSound (λ a. record { own = refl; used = tt; sessions = of_each_none (IsBound (no_ports a)) }) addresses
 
 last_sound : (steps : Record) (seg : Segment) (n : ℕ) (os : Openings) (cs : Closings) → AreSound seg.stations → AllGo some_port n os cs seg steps → AreSound (after seg (calls_of steps)).stations
 last_sound [] seg n os cs h go = h

@@ -1,56 +1,46 @@
 -- Each call, in the table's order: a call acts on one station at most, whose count of opened ports never falls, and gives only
 -- where a frame is taken with room.
-use Rattle.std.proofs.Common.{◌≡◌, ◌⊎◌, inl, inr, ℕ, ◌+◌, ◌≤◌, ◌^◌, ◌==◌, Bool, true, false, cond, not, ◌&&◌, List, [], ◌∷◌, length, set, Option, Some, None, Ok, Err, refl, sym, ap, ◌∙◌, subst, arith, eqb-true, ne_eqb}
-use Rattle.std.specs.Prelude.{nat_lt, slice_get}
-use Rattle.std.proofs.lemmas.Bool.{eqb-false}
+use Rattle.std.proofs.Common.{◌≡◌, ◌⊎◌, inl, inr, ℕ, ◌+◌, ◌≤◌, ◌==◌, Bool, true, false, cond, ◌&&◌, List, [], ◌∷◌, length, set, Option, Some, None, refl, sym, ap, ◌∙◌, subst, arith, eqb-true, ne_eqb}
+use Rattle.std.specs.Prelude.{slice_get}
 use Rattle.std.proofs.lemmas.Option.{same_Some}
 use Rattle.bus_frame.specs.Frames.{CanFrame}
-use Rattle.pgn_ids.specs.Address.{null_address}
-use Rattle.pgn_ids.specs.Identifier.{meaning_of}
 use Rattle.pgn_ids.specs.declared.address.Address.{Address}
-use Rattle.tp_wire.specs.declared.constants.TheConstants.{MIN_SIZE}
-use Rattle.tx_queue.specs.Queue.{free_places, front, behind}
+use Rattle.tx_queue.specs.Queue.{behind}
 use Rattle.bus_order.specs.Bus as bus
-use Rattle.port_table.specs.Ports.{Ports, are_full, is_open, is_paused, with_port, with_paused}
+use Rattle.port_table.specs.Ports.{Ports, next_id, with_port, with_paused}
 use Rattle.port_table.specs.declared.port.Port.{Port}
 use Rattle.port_table.specs.declared.port.PortId.{PortId}
-use Rattle.lane_core.specs.Lane.{longest_to, is_full}
 use Rattle.lane_core.specs.Pump as lane
 use Rattle.lane_core.specs.Endings as endings
-use Rattle.lane_core.specs.declared.refused.PumpRefused.{PumpRefused}
-use Rattle.lane_core.specs.declared.refused.PumpRefused.TheVariants as pump
-use Rattle.station_lanes.specs.LaneReaders.{refusal_at, is_pending_at, queues_abort_at}
 use Rattle.station_lanes.specs.declared.event.Event.{Event}
 use Rattle.station_lanes.specs.declared.event.Event.TheVariants as event
 use Rattle.station_core.specs.Station.{Station, StationStep}
 use Rattle.station_core.specs.Sending.{lane_of, sent, pumped, cancelled}
-use Rattle.station_core.specs.Timers.{is_due, fired}
+use Rattle.station_core.specs.Timers.{fired}
 use Rattle.station_core.specs.Taking as taking
 use Rattle.station_core.specs.Taking.{taken}
 use Rattle.station_core.specs.Overruns.{overrun}
 use Rattle.station_core.specs.Closing.{closed}
-use Rattle.segment_law.specs.Segment.{Segment, place_of, has_station}
-use Rattle.segment_law.specs.Calls.{Answer, no_place, opens as opens_at, closes, pauses, resumes, sends as sends_at, pumps_by, pumps, cancels, transmits_by, takes_by, repeats_by, overruns, fires, at_station, at_place, called, events_of}
+use Rattle.segment_law.specs.Segment.{Segment, place_of, with_station, counted_repeat}
+use Rattle.segment_law.specs.Calls.{no_place, events_of}
 use Rattle.segment_law.specs.Told.{same_port}
 use Rattle.segment_law.specs.Readers.{ports_given, wanted, wanted_with, frame_for}
 use Rattle.segment_law.specs.Reached.{IsReached}
 use Rattle.segment_law.specs.declared.call.Call.{Call}
 use Rattle.segment_law.specs.declared.call.Call.TheVariants.{Open, Close, Send, Pump, Transmit, Take, TakeAgain, Overrun, Tick, Fire, Cancel, Inject, Pause, Resume}
-use Rattle.segment_law.specs.declared.refusal.Refusal.{Refusal}
 use Rattle.segment_law.specs.declared.reply.Reply.{Reply}
 use Rattle.segment_law.specs.declared.reply.Reply.TheVariants.{Opened, Sent, Done}
 use Rattle.segment_law.proofs.Reaching.{slice_get_same, slice_get_other}
+use Rattle.record_lemmas.proofs.Lists.{Each, In}
+use Rattle.record_lemmas.proofs.EachCall.{looked, OfStation, Accepted}
+use Rattle.record_lemmas.proofs.Segments.{has_address, same_address}
+use Rattle.record_lemmas.proofs.Tests.{equal_or_not}
 use Rattle.port_law.proofs.Calls.{IsSound}
 use Rattle.port_law.proofs.Closing.{closes as closing_is}
 use Rattle.port_law.proofs.Ports.{IsAllowed, Opens}
 use Rattle.port_law.proofs.Stations.{Acts, acts_lane, acts_taken, acts_fired, acts_overrun}
-use Rattle.port_law.proofs.Words.{Each, In}
-use Rattle.outcome_law.proofs.Places.{found_passes}
 use Rattle.reply_law.specs.Replies.{IsRefusal, IsAnsweredBy, expected, EachAt, IsKnown, EachKnown}
 use Rattle.reply_law.proofs.Gives.{EachShort, taken_none, taken_short, by_lane_none, fired_none, overrun_none}
-
-same_address : (a b : Address) → a.0 ≡ b.0 → a ≡ b
-same_address a b e = λ i. record { 0 = e i }
 
 -- nothing is given
 none_at : (a : Address) (n : ℕ) (es : List Event) → ports_given es ≡ [] → EachAt a n es
@@ -89,13 +79,6 @@ pub record Goes (seg : Segment) (call : Call) (next : Segment) (reply : Reply) :
 abbrev KnownIn : PortId → List Station → Type 0
 KnownIn p stations = (i : ℕ) (st : Station) → slice_get stations i ≡ Some st → st.address.0 ≡ p.station.0 → p.number ≤ st.ports.opened
 
-equal_or_not : (j k : ℕ) → (j ≡ k) ⊎ (j ≡ k → ⊥)
-equal_or_not j k = by (j == k) refl
-  where
-    by : (b : Bool) → (j == k) ≡ b → (j ≡ k) ⊎ (j ≡ k → ⊥)
-    by true e = inl (eqb-true j k e)
-    by false e = inr (eqb-false j k e)
-
 not_opened : (es : List Event) (p : PortId) → Done es ≡ Opened p → ⊥
 not_opened es p e = cc
 
@@ -103,13 +86,8 @@ not_sent_opened : (n : ℕ) (p : PortId) → Sent n ≡ Opened p → ⊥
 not_sent_opened n p e = cc
 
 module _ (seg : Segment) (r : IsReached seg) (sound : (j : ℕ) (st : Station) → slice_get seg.stations j ≡ Some st → IsSound st) where
-  abbrev pub Keeps : Call → Answer → Type 0
-  Keeps call (Err cause) = Unit {0}
-  Keeps call (Ok step) = Goes seg call step.0 step.1
-
-  or_refused : (call : Call) (b : Bool) (cause : Refusal) (x : Answer) → (b ≡ false → Keeps call x) → Keeps call (cond b (Err cause) x)
-  or_refused call true cause x h = tt
-  or_refused call false cause x h = h refl
+  abbrev pub GoesBy : Call → Segment × Reply → Type 0
+  GoesBy call step = Goes seg call step.0 step.1
 
   -- the stations are as they were
   goes_same : (call : Call) (next : Segment) → next.stations ≡ seg.stations → IsAnsweredBy call (Done []) → Goes seg call next (Done [])
@@ -169,8 +147,8 @@ module _ (seg : Segment) (r : IsReached seg) (sound : (j : ℕ) (st : Station) �
 
     -- Ports
 
-    opens_keeps : (station : Address) (pgn max_len : ℕ) → Keeps (Open station pgn max_len) (opens_at seg pgn max_len i st)
-    opens_keeps station pgn max_len = or_refused (Open station pgn max_len) (are_full st.ports) _ _ (λ _. record {
+    goes_opened : (station : Address) (pgn max_len : ℕ) → GoesBy (Open station pgn max_len) (with_station seg i (record st { ports = with_port st.ports pgn max_len }), Opened (next_id st.ports))
+    goes_opened station pgn max_len = record {
       goes = λ h. h;
       kind = refl;
       fits = tt;
@@ -178,7 +156,7 @@ module _ (seg : Segment) (r : IsReached seg) (sound : (j : ℕ) (st : Station) �
       stays = λ p h. stays_in new refl rises p h;
       opened = λ p e. of p (port_is p e);
       none = λ _. refl;
-    })
+    }
       where
         new : Station
         new = record st { ports = with_port st.ports pgn max_len }
@@ -206,72 +184,38 @@ module _ (seg : Segment) (r : IsReached seg) (sound : (j : ℕ) (st : Station) �
         of p e = subst (λ (x : PortId). KnownIn x (set seg.stations i new) × ((q : PortId) → IsKnown q seg → same_port q x ≡ false)) e
             (known_here new refl rises id (sym (ap (λ (a : Address). a.0) it_is.own)) (omega arith), fresh)
 
-    closes_keeps : (port : PortId) → Keeps (Close port) (closes seg port.number i st)
-    closes_keeps port = or_refused (Close port) (not (is_open st.ports port.number)) _ _ (λ _.
+    goes_closed : (port : PortId) → GoesBy (Close port) (with_station seg i (closed st port.number), Done [])
+    goes_closed port =
         let h = closing_is st port.number it_is.sessions in
         let same : (closed st port.number).ports.opened ≡ st.ports.opened = ap (λ (x : Ports). x.opened) h.ports in
-        goes_set (closed st port.number) h.address (omega (arith, same)) (Close port) _ [] refl refl (refl, refl))
+        goes_set (closed st port.number) h.address (omega (arith, same)) (Close port) _ [] refl refl (refl, refl)
 
     marks : (number : ℕ) (paused : Bool) (call : Call) → IsAnsweredBy call (Done []) → Goes seg call (record seg { stations = set seg.stations i (record st { ports = with_paused st.ports number paused }) }) (Done [])
     marks number paused call kind = goes_set (record st { ports = with_paused st.ports number paused }) refl (omega arith) call _ [] refl refl kind
 
-    pauses_keeps : (port : PortId) → Keeps (Pause port) (pauses seg port.number i st)
-    pauses_keeps port = or_refused (Pause port) (not (is_open st.ports port.number)) _ _ (λ _. or_refused (Pause port) (is_paused st.ports port.number) _ _ (λ _. marks port.number true (Pause port) (refl, refl)))
-
-    resumes_keeps : (port : PortId) → Keeps (Resume port) (resumes seg port.number i st)
-    resumes_keeps port = or_refused (Resume port) (not (is_open st.ports port.number)) _ _ (λ _. or_refused (Resume port) (not (is_paused st.ports port.number)) _ _ (λ _. marks port.number false (Resume port) (refl, refl)))
-
     -- Messages
 
-    sends_keeps : (from to : Address) (pgn : ℕ) (bytes : List ℕ) → Keeps (Send from to pgn bytes) (sends_at seg to pgn bytes i st)
-    sends_keeps from to pgn bytes =
-        let call : Call = Send from to pgn bytes in
-        or_refused call (to.0 == null_address) _ _ (λ _.
-        or_refused call (st.address.0 == to.0) _ _ (λ _.
-        or_refused call (nat_lt (length bytes) MIN_SIZE) _ _ (λ _.
-        or_refused call (nat_lt (longest_to to.0) (length bytes)) _ _ (λ _.
-        or_refused call (is_full (lane_of st to)) _ _ (λ _.
-        record {
-          goes = λ h. h;
-          kind = refl;
-          fits = tt;
-          known = tt;
-          stays = λ p h. stays_in (sent st to pgn bytes) refl (omega arith) p h;
-          opened = λ p e. absurd (not_sent_opened _ p e);
-          none = λ _. refl;
-        })))))
+    goes_sent : (from to : Address) (pgn : ℕ) (bytes : List ℕ) → GoesBy (Send from to pgn bytes) (with_station seg i (sent st to pgn bytes), Sent ((lane_of st to).sent + 1))
+    goes_sent from to pgn bytes = record {
+      goes = λ h. h;
+      kind = refl;
+      fits = tt;
+      known = tt;
+      stays = λ p h. stays_in (sent st to pgn bytes) refl (omega arith) p h;
+      opened = λ p e. absurd (not_sent_opened _ p e);
+      none = λ _. refl;
+    }
 
     -- a step that leaves the ports as they are
     quiet_step : (call : Call) (next : Segment) (step : StationStep) → next.stations ≡ set seg.stations i step.station → Acts st step → ports_given step.events ≡ [] → IsAnsweredBy call (Done step.events) → Goes seg call next (Done step.events)
     quiet_step call next step is h none kind = let same : step.station.ports.opened ≡ st.ports.opened = ap (λ (x : Ports). x.opened) h.ports in
         goes_set step.station h.address (omega (arith, same)) call next step.events is none kind
 
-    pumps_by_keeps : (station to : Address) (o : Option PumpRefused) → Keeps (Pump station to) (pumps_by seg to i st o)
-    pumps_by_keeps station to (Some pump.NothingToSend) = tt
-    pumps_by_keeps station to (Some pump.NotYet) = tt
-    pumps_by_keeps station to None = or_refused (Pump station to) (nat_lt (free_places st.queue) 8) _ _ (λ _.
-        quiet_step (Pump station to) _ (pumped st to seg.now) refl (acts_lane st it_is.own it_is.sessions to (λ l. lane.pumped l seg.now)) (by_lane_none st seg.now to (λ l. lane.pumped l seg.now)) (refl, refl))
-
-    pumps_keeps : (station to : Address) → Keeps (Pump station to) (pumps seg to i st)
-    pumps_keeps station to = or_refused (Pump station to) (to.0 == null_address) _ _ (λ _. pumps_by_keeps station to (refusal_at st.lanes to.0 seg.now))
-
-    cancels_keeps : (from to : Address) (number : ℕ) → Keeps (Cancel from to number) (cancels seg to number i st)
-    cancels_keeps from to number =
-        let call : Call = Cancel from to number in
-        or_refused call (to.0 == null_address) _ _ (λ _.
-        or_refused call (not (is_pending_at st.lanes to.0 number)) _ _ (λ _.
-        or_refused call (queues_abort_at st.lanes to.0 number && no_place st) _ _ (λ _.
-        quiet_step call _ (cancelled st to number) refl (acts_lane st it_is.own it_is.sessions to (λ l. endings.cancelled l number)) (by_lane_none st seg.now to (λ l. endings.cancelled l number)) (refl, refl))))
-
     -- Frames
-
-    transmits_keeps : (station : Address) (o : Option CanFrame) → Keeps (Transmit station) (transmits_by seg i st o)
-    transmits_keeps station None = tt
-    transmits_keeps station (Some f) = or_refused (Transmit station) (bus.is_full seg.bus) _ _ (λ _. goes_set (record st { queue = behind st.queue }) refl (omega arith) (Transmit station) _ [] refl refl (refl, refl))
 
     module _ (a : Address) (place : place_of seg a ≡ Some i) where
       own_address : st.address.0 ≡ a.0
-      own_address = eqb-true st.address.0 a.0 (found_passes (λ (z : Station). z.address.0 == a.0) seg.stations i st place at)
+      own_address = has_address seg a i st place at
 
       abbrev looked_up : (again : Bool) → Option ℕ → List ℕ × ℕ
       looked_up again p = elim p as (λ (_ : Option ℕ). List ℕ × ℕ) [ None ↦ ([], 0) | Some k ↦ wanted_with (elim p as (λ (_ : Option ℕ). Option Station) [ None ↦ None | Some j ↦ slice_get seg.stations j ]) (frame_for seg again k) ]
@@ -314,49 +258,33 @@ module _ (seg : Segment) (r : IsReached seg) (sound : (j : ℕ) (st : Station) �
             none = λ x. absurd (let y : true ≡ false = sym gives ∙ x in cc);
           }
 
-      takes_keeps : (room : Bool) (o : Option CanFrame) → bus.next_frame seg.bus i ≡ o → Keeps (Take a room) (takes_by seg room i st o)
-      takes_keeps room None e = tt
-      takes_keeps true (Some f) e = or_refused (Take a true) (no_place st) _ _ (λ free. taken_keeps (Take a true) false _ f refl refl (refl, refl) e free refl)
-      takes_keeps false (Some f) e = or_refused (Take a false) (no_place st) _ _ (λ free.
-          quiet_step (Take a false) _ (taken st f false seg.now) refl (acts_taken st it_is.own it_is.sessions f false seg.now) (taken_none st seg.now f) (refl, refl))
+      take_goes : (room : Bool) (f : CanFrame) → bus.next_frame seg.bus i ≡ Some f → no_place st ≡ false → GoesBy (Take a room) (looked (record seg { bus = bus.released (bus.taken seg.bus i) }) room i st f)
+      take_goes true f e free = taken_keeps (Take a true) false _ f refl refl (refl, refl) e free refl
+      take_goes false f e free = quiet_step (Take a false) _ (taken st f false seg.now) refl (acts_taken st it_is.own it_is.sessions f false seg.now) (taken_none st seg.now f) (refl, refl)
 
-      repeats_keeps : (room : Bool) (o : Option CanFrame) → bus.frame_again seg.bus i ≡ o → Keeps (TakeAgain a room) (repeats_by seg room i st o)
-      repeats_keeps room None e = tt
-      repeats_keeps true (Some f) e = or_refused (TakeAgain a true) (no_place st) _ _ (λ free. taken_keeps (TakeAgain a true) true _ f refl refl (refl, refl) e free refl)
-      repeats_keeps false (Some f) e = or_refused (TakeAgain a false) (no_place st) _ _ (λ free.
-          quiet_step (TakeAgain a false) _ (taken st f false seg.now) refl (acts_taken st it_is.own it_is.sessions f false seg.now) (taken_none st seg.now f) (refl, refl))
+      repeat_goes : (room : Bool) (f : CanFrame) → bus.frame_again seg.bus i ≡ Some f → no_place st ≡ false → GoesBy (TakeAgain a room) (looked (record seg { counts = counted_repeat seg.counts }) room i st f)
+      repeat_goes true f e free = taken_keeps (TakeAgain a true) true _ f refl refl (refl, refl) e free refl
+      repeat_goes false f e free = quiet_step (TakeAgain a false) _ (taken st f false seg.now) refl (acts_taken st it_is.own it_is.sessions f false seg.now) (taken_none st seg.now f) (refl, refl)
 
-    overruns_keeps : (station : Address) (k : ℕ) → Keeps (Overrun station k) (overruns seg k i st)
-    overruns_keeps station k = or_refused (Overrun station k) (nat_lt (bus.waiting seg.bus i) k) _ _ (λ _. quiet_step (Overrun station k) _ (overrun st) refl (acts_overrun st it_is.own it_is.sessions) (overrun_none st) (refl, refl))
+    of_station : OfStation seg GoesBy i st
+    of_station = record {
+      opens = λ a pgn max_len q. goes_opened a pgn max_len;
+      closes = λ port q is. goes_closed port;
+      sends = λ from to pgn bytes q other long short. goes_sent from to pgn bytes;
+      pumps = λ a to q. quiet_step (Pump a to) _ (pumped st to seg.now) refl (acts_lane st it_is.own it_is.sessions to (λ l. lane.pumped l seg.now)) (by_lane_none st seg.now to (λ l. lane.pumped l seg.now)) (refl, refl);
+      transmits = λ a f q e free. goes_set (record st { queue = behind st.queue }) refl (omega arith) (Transmit a) _ [] refl refl (refl, refl);
+      takes = λ a room f q e free. take_goes a q room f e free;
+      repeats = λ a room f q e free. repeat_goes a q room f e free;
+      overruns = λ a k q few. quiet_step (Overrun a k) _ (overrun st) refl (acts_overrun st it_is.own it_is.sessions) (overrun_none st) (refl, refl);
+      fires = λ a q. quiet_step (Fire a) _ (fired st seg.now) refl (acts_fired st it_is.own it_is.sessions seg.now) (fired_none st seg.now) (refl, refl);
+      cancels = λ from to number q pending. quiet_step (Cancel from to number) _ (cancelled st to number) refl (acts_lane st it_is.own it_is.sessions to (λ l. endings.cancelled l number)) (by_lane_none st seg.now to (λ l. endings.cancelled l number)) (refl, refl);
+      pauses = λ port q. marks port.number true (Pause port) (refl, refl);
+      resumes = λ port q. marks port.number false (Resume port) (refl, refl);
+    }
 
-    fires_keeps : (station : Address) → Keeps (Fire station) (fires seg i st)
-    fires_keeps station = or_refused (Fire station) (not (is_due st seg.now)) _ _ (λ _. or_refused (Fire station) (no_place st) _ _ (λ _.
-        quiet_step (Fire station) _ (fired st seg.now) refl (acts_fired st it_is.own it_is.sessions seg.now) (fired_none st seg.now) (refl, refl)))
-
-  at_keeps : (call : Call) (a : Address) (does : ℕ → Station → Answer) → ((i : ℕ) (st : Station) → slice_get seg.stations i ≡ Some st → place_of seg a ≡ Some i → Keeps call (does i st)) → Keeps call (at_place seg (place_of seg a) does)
-  at_keeps call a does h = by (place_of seg a) refl
-    where
-      there : (i : ℕ) → place_of seg a ≡ Some i → (o : Option Station) → slice_get seg.stations i ≡ o → Keeps call (at_station o (does i))
-      there i q None e = tt
-      there i q (Some st) e = h i st e q
-
-      by : (o : Option ℕ) → place_of seg a ≡ o → Keeps call (at_place seg o does)
-      by None q = tt
-      by (Some i) q = there i q (slice_get seg.stations i) refl
-
-  pub called_keeps : (call : Call) → Keeps call (called seg call)
-  unfolding called
-  called_keeps (Open station pgn max_len) = at_keeps (Open station pgn max_len) station _ (λ i st at q. opens_keeps i st at station pgn max_len)
-  called_keeps (Close port) = at_keeps (Close port) port.station _ (λ i st at q. closes_keeps i st at port)
-  called_keeps (Send from to pgn bytes) = at_keeps (Send from to pgn bytes) from _ (λ i st at q. sends_keeps i st at from to pgn bytes)
-  called_keeps (Pump station to) = at_keeps (Pump station to) station _ (λ i st at q. pumps_keeps i st at station to)
-  called_keeps (Transmit station) = at_keeps (Transmit station) station _ (λ i st at q. transmits_keeps i st at station (front st.queue))
-  called_keeps (Take station room) = at_keeps (Take station room) station _ (λ i st at q. takes_keeps i st at station q room (bus.next_frame seg.bus i) refl)
-  called_keeps (TakeAgain station room) = at_keeps (TakeAgain station room) station _ (λ i st at q. repeats_keeps i st at station q room (bus.frame_again seg.bus i) refl)
-  called_keeps (Overrun station k) = at_keeps (Overrun station k) station _ (λ i st at q. overruns_keeps i st at station k)
-  called_keeps (Tick k) = or_refused (Tick k) (not (nat_lt (seg.now + k) (2 ^ 64))) _ _ (λ _. goes_same (Tick k) _ refl (refl, refl))
-  called_keeps (Fire station) = at_keeps (Fire station) station _ (λ i st at q. fires_keeps i st at station)
-  called_keeps (Cancel from to number) = at_keeps (Cancel from to number) from _ (λ i st at q. cancels_keeps i st at from to number)
-  called_keeps (Inject frame) = or_refused (Inject frame) (has_station seg (meaning_of frame.id).from) _ _ (λ _. or_refused (Inject frame) (bus.is_full seg.bus) _ _ (λ _. goes_same (Inject frame) _ refl (refl, refl)))
-  called_keeps (Pause port) = at_keeps (Pause port) port.station _ (λ i st at q. pauses_keeps i st at port)
-  called_keeps (Resume port) = at_keeps (Resume port) port.station _ (λ i st at q. resumes_keeps i st at port)
+  pub accepted : Accepted seg GoesBy
+  accepted = record {
+    station = of_station;
+    ticks = λ k. goes_same (Tick k) _ refl (refl, refl);
+    injects = λ f foreign free. goes_same (Inject f) _ refl (refl, refl);
+  }

@@ -1,7 +1,7 @@
 use Rattle.lane_law.specs.Lane
 use Rattle.lane_law.proofs.Reached.{leads_nowhere, leads_on}
 use Rattle.lane_law.proofs.Words.{of_reached}
-use Rattle.lane_law.proofs.Lanes.{is_lane, last_begun}
+use Rattle.lane_law.proofs.Events.{is_lane, last_begun}
 use Rattle.lane_law.proofs.lanes_go_on.Goals as goal
 
 pub returns-clause-begins : goal.returns-clause-begins

@@ -1,5 +1,6 @@
 use Rattle.std.proofs.Common.{length}
-use Rattle.lane_law.proofs.Lanes.{is_lane, given_earlier, own_end}
+use Rattle.lane_law.proofs.Events.{is_lane}
+use Rattle.lane_law.proofs.Hearing.{given_earlier, own_end}
 use Rattle.lane_law.proofs.Words.{is_choice, is_given, are_true, are_one_each, are_within, outcomes_stay}
 use Rattle.lane_law.proofs.outcomes_are_true.Goals as goal
 

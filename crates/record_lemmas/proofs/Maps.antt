@@ -1,4 +1,4 @@
--- Look-ups in the lanes and in the sessions of a station.
+-- Look-ups in the lanes and in the sessions of a station: what was put is found under its own key, and all else is as it was.
 use Rattle.std.proofs.Common.{◌≡◌, ◌⊎◌, inl, inr, ℕ, true, false, cond, List, Option, Some, None, refl, sym, ap, ◌∙◌, subst, eq-eqb, ne_eqb}
 use Rattle.std.specs.Option.{option_flatten, option_map}
 use Rattle.std.specs.Cmp.{nat_cmp_total, unsigned_tied}
@@ -13,7 +13,7 @@ use Rattle.session_table.proofs.Keys.{key_total}
 use Rattle.session_table.proofs.Tables.{key_eq-refl, key_eq-same}
 use Rattle.station_lanes.specs.Lanes.{Lanes}
 use Rattle.station_sessions.specs.Receiving.{Inbound}
-use Rattle.broadcast_law.proofs.Words.{on_test}
+use Rattle.record_lemmas.proofs.Tests.{on_test}
 
 pub lane_here : (lanes : Lanes) (to : ℕ) (lane : Lane) → finmap.get (finmap.insert lanes to lane) to ≡ Some lane
 lane_here lanes to lane = get-insert nat_cmp_total lanes to lane to ∙ ap (λ b. cond b (Some lane) (finmap.get lanes to)) (unsigned_tied to to ∙ eq-eqb to to refl)
@@ -24,7 +24,8 @@ lane_else lanes to q lane n = get-insert nat_cmp_total lanes to lane q ∙ ap (�
 key_apart_eq : (q k : Key) → (q ≡ k → ⊥) → key_eq q k ≡ false
 key_apart_eq q k n = on_test (λ b. key_eq q k ≡ b → key_eq q k ≡ false) (key_eq q k) (λ e p. absurd (n (key_eq-same q k p))) (λ e p. p) refl
 
-abbrev State : Type 0
+-- a session with the ports that it gives to
+abbrev pub State : Type 0
 State = List ℕ × Incoming
 
 module _ (m : Inbound) (k : Key) where
@@ -80,20 +81,27 @@ abbrev pub OfEach : (Key → State → Type 0) → Inbound → Type 0
 OfEach P m = (q : Key) (v : State) → state_at m q ≡ Some v → P q v
 
 module _ (P : Key → State → Type 0) (m : Inbound) (k : Key) where
-  pub of_each_put : (v : State) → P k v → OfEach P m → OfEach P (finmap.insert m k (Some v))
-  of_each_put v h all q w e = by (key_cases q k)
+  -- where the fact is of the others before
+  pub put_of_each : (v : State) → P k v → ((q : Key) (w : State) → (q ≡ k → ⊥) → state_at m q ≡ Some w → P q w) → OfEach P (finmap.insert m k (Some v))
+  put_of_each v h all q w e = by (key_cases q k)
     where
       by : (q ≡ k) ⊎ (q ≡ k → ⊥) → P q w
       by (inl s) = let is : Some v ≡ Some w = sym (ap (λ x. state_at (finmap.insert m k (Some v)) x) s ∙ state_put m k v) ∙ e in
           let it : v ≡ w = cc in subst (λ x. P x w) (sym s) (subst (λ x. P k x) it h)
-      by (inr n) = all q w (sym (state_put_else m k v q n) ∙ e)
+      by (inr n) = all q w n (sym (state_put_else m k v q n) ∙ e)
 
-  pub of_each_dropped : OfEach P m → OfEach P (finmap.remove m k)
-  of_each_dropped all q w e = by (key_cases q k)
+  pub dropped_of_each : ((q : Key) (w : State) → (q ≡ k → ⊥) → state_at m q ≡ Some w → P q w) → OfEach P (finmap.remove m k)
+  dropped_of_each all q w e = by (key_cases q k)
     where
       by : (q ≡ k) ⊎ (q ≡ k → ⊥) → P q w
       by (inl s) = let is : None ≡ Some w = sym (ap (λ x. state_at (finmap.remove m k) x) s ∙ state_dropped m k) ∙ e in absurd (cc)
-      by (inr n) = all q w (sym (state_dropped_else m k q n) ∙ e)
+      by (inr n) = all q w n (sym (state_dropped_else m k q n) ∙ e)
+
+  pub of_each_put : (v : State) → P k v → OfEach P m → OfEach P (finmap.insert m k (Some v))
+  of_each_put v h all = put_of_each v h (λ q w n e. all q w e)
+
+  pub of_each_dropped : OfEach P m → OfEach P (finmap.remove m k)
+  of_each_dropped all = dropped_of_each (λ q w n e. all q w e)
 
 pub of_each_none : (P : Key → State → Type 0) → OfEach P finmap.empty
 of_each_none P q v e = let is : None ≡ Some v = sym (state_empty q) ∙ e in absurd (cc)

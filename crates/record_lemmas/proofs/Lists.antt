@@ -1,21 +1,9 @@
--- Tests, options, and lists each or some of whose items pass.
-use Rattle.std.proofs.Common.{◌≡◌, ◌⊎◌, inl, inr, suc, Bool, true, false, cond, List, [], ◌∷◌, ◌++◌, filter, map, Option, Some, None, refl, arith}
-use Rattle.std.specs.Prelude.{All, Any}
-use Rattle.std.proofs.lemmas.List.Elements.{All-nil, All-cons}
-
--- a goal by the value of a test in it
-pub on_test : (P : Bool → Type 0) (b : Bool) → (b ≡ true → P true) → (b ≡ false → P false) → P b
-on_test P true t f = t refl
-on_test P false t f = f refl
-
--- either way
-pub either : {A : Type 0} (P : A → Type 0) (b : Bool) (x y : A) → P x → P y → P (cond b x y)
-either P true x y h k = h
-either P false x y h k = k
-
-pub by_option : {A B : Type 0} (P : B → Type 0) (o : Option A) (x : B) (y : A → B) → P x → ((z : A) → P (y z)) → P (elim o [ None ↦ x | Some z ↦ y z ])
-by_option P None x y h k = h
-by_option P (Some z) x y h k = k z
+-- Lists each or some of whose items pass, by recursion on the list, so that what lists are made of shows it item by item.
+use Rattle.std.proofs.Common.{◌≡◌, ◌⊎◌, inl, inr, ℕ, zero, suc, ◌-◌, take, ap, ◌∙◌, ◌<◌, Bool, true, cond, List, [], ◌∷◌, ◌++◌, filter, map, length, Some, refl, sym, subst, arith}
+use Rattle.std.specs.Prelude.{All, Any, slice_get, slice_index_or}
+use Rattle.std.proofs.lemmas.List.Elements.{All-head, All-tail, All-nil, All-cons}
+use Rattle.std.proofs.lemmas.Option.{same_Some, none-some}
+use Rattle.record_lemmas.proofs.Tests.{on_test}
 
 -- Each item
 
@@ -51,6 +39,19 @@ each_both P Q R w (x ∷ xs) h k = (w x h.0 k.0, each_both P Q R w xs h.1 k.1)
 pub each_all : {A : Type 0} (P : A → Type 0) (xs : List A) → Each P xs → All P xs
 each_all P [] h = All-nil P
 each_all P (x ∷ xs) h = All-cons P x xs h.0 (each_all P xs h.1)
+
+pub all_each : {A : Type 0} (P : A → Type 0) (xs : List A) → All P xs → Each P xs
+all_each P [] h = tt
+all_each P (x ∷ xs) h = (All-head P x xs h, all_each P xs (All-tail P x xs h))
+
+pub each_of_all : {A : Type 0} (P : A → Type 0) → ((x : A) → P x) → (xs : List A) → Each P xs
+each_of_all P w [] = tt
+each_of_all P w (x ∷ xs) = (w x, each_of_all P w xs)
+
+pub each_get : {A : Type 0} (P : A → Type 0) (xs : List A) (n : ℕ) (x : A) → slice_get xs n ≡ Some x → Each P xs → P x
+each_get P [] n x e h = absurd (none-some x e)
+each_get P (y ∷ ys) zero x e h = subst P (same_Some y x e) h.0
+each_get P (y ∷ ys) (suc n) x e h = each_get P ys n x e h.1
 
 -- Some item
 
@@ -94,3 +95,19 @@ pub in_one : {A : Type 0} (P : A → Type 0) (R : Type 0) → ((x : A) → P x �
 in_one P R w [] h = absurd h
 in_one P R w (x ∷ xs) (inl h) = w x h
 in_one P R w (x ∷ xs) (inr h) = in_one P R w xs h
+
+pub any_in : {A : Type 0} (P : A → Type 0) (xs : List A) → Any P xs → In P xs
+any_in P xs (k, x, l, e, p) = at xs k l e
+  where
+    at : (ys : List _) (k : ℕ) → k < length ys → slice_index_or ys k x ≡ x → In P ys
+    at [] k l e = absurd (omega (arith, l))
+    at (y ∷ ys) zero l e = inl (subst P (sym e) p)
+    at (y ∷ ys) (suc k) l e = inr (at ys k (omega (arith, l)) e)
+
+-- the first n items of a list followed by another
+pub take_more : (n : ℕ) (xs ys : List ℕ) → take n xs ++ take (n - length (take n xs)) ys ≡ take n (xs ++ ys)
+take_more zero xs ys = refl
+take_more (suc n) [] ys = let e : suc n - 0 ≡ suc n = omega arith in ap (λ k. take k ys) e
+take_more (suc n) (x ∷ xs) ys =
+    let e : suc n - suc (length (take n xs)) ≡ n - length (take n xs) = omega arith in
+    ap (λ k. x ∷ (take n xs ++ take k ys)) e ∙ ap (λ zs. x ∷ zs) (take_more n xs ys)

@@ -1,0 +1,7 @@
+pub mod Tests
+pub mod Lists
+pub mod Maps
+pub mod Segments
+pub mod Told
+pub mod EachCall
+pub mod AlongRecords
