@@ -9,7 +9,7 @@ use std::test::Fail;
 const MISSED: Call = Call::Overrun { station: B, n: 1 };
 
 fn applied(rt: &impl Abort, segment: &mut Segment, call: Call) -> Result<(), Fail> {
-    let reply = segment.apply(call)?;
+    let reply = apply(segment, call)?;
     assert!(rt; !matches!(reply, Reply::Refused(_)));
     Ok(())
 }
@@ -26,13 +26,13 @@ fn sent(rt: &impl Abort, alloc: Global, segment: &mut Segment, len: u32) -> Resu
 
 // Queues what comes next where no queue has a frame, and puts a frame; false where nothing is left to put.
 fn puts(rt: &impl Abort, segment: &mut Segment) -> Result<bool, Fail> {
-    if segment.queue_len(A) == 0 && segment.queue_len(B) == 0 {
-        if let Reply::Refused(cause) = segment.apply(PUMP)? {
+    if queue_len(segment, A) == 0 && queue_len(segment, B) == 0 {
+        if let Reply::Refused(cause) = apply(segment, PUMP)? {
             assert_eq!(rt; cause, Refusal::NothingToSend);
             return Ok(false);
         }
     }
-    if segment.queue_len(A) > 0 {
+    if queue_len(segment, A) > 0 {
         applied(rt, segment, TRANSMIT_A)?;
     } else {
         applied(rt, segment, TRANSMIT_B)?;
@@ -66,16 +66,17 @@ fn one_missed_frame_ends_the_message_and_no_other(rt: HostRuntime) -> Result<(),
     let alloc = rt.alloc();
     for missed in 1..273 {
         let mut segment = with_missed_frame(&rt, alloc, missed)?;
-        assert_eq!(rt; segment.counts().given, 0);
-        assert_eq!(rt; segment.queue_len(A) + segment.queue_len(B), 0);
+        assert_eq!(rt; counts(&segment).given, 0);
+        assert_eq!(rt; queue_len(&segment, A), 0);
+        assert_eq!(rt; queue_len(&segment, B), 0);
         applied(&rt, &mut segment, Call::Tick { n: 1250 })?;
         applied(&rt, &mut segment, Call::Fire { station: A })?;
-        assert_eq!(rt; segment.counts().timed_out, 1);
+        assert_eq!(rt; counts(&segment).timed_out, 1);
         sent(&rt, alloc, &mut segment, 9)?;
         // The abort, the Request and its answer, and five frames of the message.
-        assert_eq!(rt; segment.drive(A, B, 8).turns, 8);
-        assert_eq!(rt; segment.counts().acknowledged, 1);
-        assert_eq!(rt; segment.counts().given, 1);
+        assert_eq!(rt; drive(&mut segment, 8).turns, 8);
+        assert_eq!(rt; counts(&segment).acknowledged, 1);
+        assert_eq!(rt; counts(&segment).given, 1);
     }
     Ok(())
 }
@@ -84,9 +85,9 @@ fn one_missed_frame_ends_the_message_and_no_other(rt: HostRuntime) -> Result<(),
 fn missed_end_acknowledgement_of_its_own_is_none(rt: HostRuntime) -> Result<(), Fail> {
     let alloc = rt.alloc();
     let mut segment = with_missed_frame(&rt, alloc, 273)?;
-    assert_eq!(rt; segment.counts().acknowledged, 1);
+    assert_eq!(rt; counts(&segment).acknowledged, 1);
     sent(&rt, alloc, &mut segment, 9)?;
-    assert_eq!(rt; segment.drive(A, B, 5).turns, 5);
-    assert_eq!(rt; segment.counts().acknowledged, 2);
+    assert_eq!(rt; drive(&mut segment, 5).turns, 5);
+    assert_eq!(rt; counts(&segment).acknowledged, 2);
     Ok(())
 }
