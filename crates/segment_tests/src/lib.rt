@@ -4,6 +4,10 @@
 #[cfg(test)]
 mod commands;
 #[cfg(test)]
+mod memory;
+#[cfg(test)]
+mod missed;
+#[cfg(test)]
 mod refusals;
 #[cfg(test)]
 mod segments;
