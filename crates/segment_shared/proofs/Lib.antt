@@ -1,0 +1,14 @@
+pub mod Seats
+pub mod Trails
+pub mod Prefixes
+pub mod Doors
+pub mod Buffers
+pub mod Preparing
+pub mod Holding
+pub mod Laws
+pub mod Fronts
+pub mod Sending
+pub mod Ready
+pub mod Applying
+pub mod Closings
+pub mod Openings
