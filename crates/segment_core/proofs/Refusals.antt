@@ -12,7 +12,8 @@ use Rattle.lane_core.specs.Lane.{is_full}
 use Rattle.station_core.specs.Station.{Station}
 use Rattle.station_core.specs.Sending.{lane_of, sent}
 use Rattle.segment_law.specs.Segment.{Segment, with_station}
-use Rattle.segment_law.specs.Calls.{Answer, opens, closes, pauses, resumes, sends}
+use Rattle.segment_law.specs.Calls.{Answer, at_address, called, opens, closes, pauses, resumes, sends}
+use Rattle.segment_law.specs.declared.call.Call.TheVariants.{Send}
 use Rattle.segment_law.specs.declared.refusal.Refusal.{Refusal}
 use Rattle.segment_law.specs.declared.refusal.Refusal.TheVariants as refusal
 use Rattle.segment_law.specs.declared.reply.Reply.TheVariants.{Sent}
@@ -52,3 +53,8 @@ send_passes seg to pgn bytes i st e room = subst (λ (x : Answer). IsOk x) (sym 
 pub not_full : (full : Bool) (r : Result ℕ PushRefused) (number : ℕ) → r ≡ Ok number → (full ≡ true → IsErr r) → full ≡ false
 not_full false r number e h = refl
 not_full true r number e h = absurd (search (rules, subst IsErr e (h refl)))
+
+-- what a Send is
+pub called_send : (seg : Segment) (from to : Address) (pgn : ℕ) (bytes : List ℕ) → called seg (Send from to pgn bytes) ≡ at_address seg from (sends seg to pgn bytes)
+unfolding called
+called_send seg from to pgn bytes = refl

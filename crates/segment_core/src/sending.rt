@@ -26,9 +26,9 @@ fn longest_to(to: Address) -> usize
     ETP_MAX_SIZE as usize
 }
 
-// Why a message of so many bytes isn't sent from a station to a destination, before the lane is looked at: the first that
-// holds.
-fn sending_refusal(from: Address, to: Address, len: usize) -> Option<Refusal>
+/// Why a message of so many bytes isn't sent from a station to a destination, before the lane is looked at: the first that
+/// holds.
+pub(crate) fn sending_refusal(from: Address, to: Address, len: usize) -> Option<Refusal>
     ensures value { result ≡ sending_refusal_of from to len }
     ensures destination { result ≡ None → (is_one to.0 || to.0 == global_address) ≡ true }
     ensures least { result ≡ None → MIN_SIZE ≤ len }

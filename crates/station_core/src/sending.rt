@@ -37,6 +37,16 @@ impl Station {
         self.lanes.push(self.alloc, self.address, to, pgn, bytes)
     }
 
+    /// Whether the lane to a destination takes no further message: 32 have no outcome, or no number is left.
+    pub fn is_lane_full(&self, to: Address) -> bool
+        ensures { result ≡ is_full (lane_of self.now to) }
+    {
+        match self.lanes.get(to) {
+            None => false,
+            Some(lane) => lane.is_full(),
+        }
+    }
+
     /// Why the lane to a destination queues nothing at tick `now`, or `None` where a pump queues a frame.
     pub fn pump_refusal(&self, to: Address, now: u64) -> Option<PumpRefused>
         ensures { result ≡ refusal_at self.now.lanes to.0 now }
