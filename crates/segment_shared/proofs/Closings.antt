@@ -14,8 +14,8 @@ use Rattle.segment_shared.specs.declared.call.Owed.{Owed}
 use Rattle.segment_shared.specs.declared.closing.Closed.{Closed}
 use Rattle.segment_shared.specs.Record.{given, Trail, trail}
 use Rattle.segment_shared.specs.Facts.{Holds}
-use Rattle.segment_shared.specs.LiveView.{PortView, live_view, port_of, stored, calls_after}
-use Rattle.segment_shared.specs.Reports.{HasPort, InboxAgrees, ClosedFor}
+use Rattle.segment_shared.specs.LiveView.{PortView, live_view, client_of, port_of, stored, calls_after, told_clients}
+use Rattle.segment_shared.specs.Reports.{HasPort, InboxAgrees, ClosedFor, closing}
 use Rattle.segment_shared.proofs.Laws.{pushed_at, has_port}
 
 -- the k-th door keeps what its port was given
@@ -27,8 +27,9 @@ given_here addresses st xs ws ss ds k d p h l at =
 
 pub closed_for : (addresses : List Address) (st : Segment) (xs ys : List Stored) (ss ts : List SeatView) (ds gs : List DoorView) (i j : InboxEnd) (p : PortId) (r : Closed)
     → st ≡ (trail addresses xs).state → length xs < 1000000 → HasPort (map port_of ds) i.port → p ≡ i.port → r.port ≡ p → i.received ++ r.rest.items ≡ given i.port (trail addresses xs).events → j ≡ closes i r.rest.items j.spare
-    → ys ≡ calls_after (reply_of st (Close p)) xs (stored None (Close p)) → ClosedFor (live_view addresses xs ss ds) (live_view addresses ys ts gs) i j r
-closed_for addresses st xs ys ss ts ds gs i j p r at few here e is rest inbox calls = record {
+    → ys ≡ calls_after (reply_of st (Close p)) xs (stored None (Close p)) → map client_of ts ≡ told_clients (live_view addresses xs ss ds) (reply_of st (Close p)) → map port_of gs ≡ map (closing p) (map port_of ds)
+    → ClosedFor (live_view addresses xs ss ds) (live_view addresses ys ts gs) i j r
+closed_for addresses st xs ys ss ts ds gs i j p r at few here e is rest inbox calls clients ports = record {
   few = few;
   within = here;
   port = is ∙ e;
@@ -36,6 +37,8 @@ closed_for addresses st xs ys ss ts ds gs i j p r at few here e is rest inbox ca
   inbox = inbox;
   addresses = refl;
   calls = calls ∙ ap (λ (q : PortId). calls_after (reply_of st (Close q)) xs (stored None (Close q))) e ∙ ap (λ (s : Segment). calls_after (reply_of s (Close i.port)) xs (stored None (Close i.port))) at;
+  clients = clients ∙ ap (λ (q : PortId). told_clients (live_view addresses xs ss ds) (reply_of st (Close q))) e ∙ ap (λ (s : Segment). told_clients (live_view addresses xs ss ds) (reply_of s (Close i.port))) at;
+  ports = ports ∙ ap (λ (q : PortId). map (closing q) (map port_of ds)) e;
 }
 
 -- an inbox whose list begins what the k-th port was given is of this segment

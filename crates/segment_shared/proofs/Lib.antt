@@ -9,6 +9,8 @@ pub mod Laws
 pub mod Fronts
 pub mod Sending
 pub mod Ready
+pub mod Refusing
+pub mod Telling
 pub mod Applying
 pub mod Closings
 pub mod Openings

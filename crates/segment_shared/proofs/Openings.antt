@@ -10,7 +10,7 @@ use Rattle.segment_law.specs.declared.reply.Reply.TheVariants.{Refused}
 use Rattle.segment_core.specs.Answers.{refusal_of}
 use Rattle.reply_law.specs.Replies.{reply_of}
 
-refused_reply : (st : Segment) (c : Refusal) (x : Answer) → Some c ≡ refusal_of x → Refused c ≡ (replied st x).1
+pub refused_reply : (st : Segment) (c : Refusal) (x : Answer) → Some c ≡ refusal_of x → Refused c ≡ (replied st x).1
 refused_reply st c (Ok step) e = absurd (cc)
 refused_reply st c (Err d) e = ap (λ (r : Refusal). Refused r) (same_Some c d e)
 

@@ -8,7 +8,8 @@ use Rattle.pgn_ids.specs.declared.address.Address.{Address}
 use Rattle.port_table.specs.declared.port.PortId.{PortId}
 use Rattle.station_lanes.specs.declared.event.Event.{Event}
 use Rattle.segment_law.specs.Segment.{Segment}
-use Rattle.segment_law.specs.Calls.{events_of}
+use Rattle.segment_law.specs.Calls.{called, events_of}
+use Rattle.segment_core.specs.Answers.{refusal_of}
 use Rattle.segment_law.specs.Record.{StandsAt}
 use Rattle.segment_law.specs.declared.call.Call.{Call}
 use Rattle.segment_law.specs.declared.call.Call.TheVariants.{Send}
@@ -22,9 +23,10 @@ use Rattle.segment_shared.specs.declared.call.Stored.{Stored}
 use Rattle.segment_shared.specs.declared.call.Owed.{Owed}
 use Rattle.segment_shared.specs.Record.{sent_in, is_by, accepted, given, notes_of, owed_by, settle_notes, settle_owed, newly_owed, owe, Trail, trail, start, step}
 use Rattle.segment_shared.specs.Facts.{IdsFrom, HaveRoom, OwedWithin, PopsAccepted, PushesNotes, PushesGiven, PortsApart, Holds, NotedWithin}
-use Rattle.segment_shared.specs.LiveView.{LiveView, ClientView, live_view, stored, client_of, port_of, seat_seen}
-use Rattle.segment_shared.specs.Offers.{send_call, owed_for, SentFor, RefusedSend}
+use Rattle.segment_shared.specs.LiveView.{LiveView, ClientView, live_view, stored, client_of, port_of, seat_seen, seat_free}
+use Rattle.segment_shared.specs.Offers.{send_call, owed_for, popped_client, SentFor, RefusedSend, IsCauseFor, LacksRoomToSend, LacksMemoryFor}
 use Rattle.segment_shared.proofs.Doors.{known-more, each-more}
+use Rattle.segment_shared.proofs.Fronts.{waits_at, free_is}
 use Rattle.segment_shared.proofs.Holding.{stands-more, state-more}
 use Rattle.segment_shared.proofs.Seats.{id_at, apart, together}
 use Rattle.segment_shared.proofs.Trails.{trail-nil, trail-snoc, made-trail, accepted-append, senders-append}
@@ -145,14 +147,11 @@ pub sent_for : (addresses : List Address) (st : Segment) (xs : List Stored) (ss 
     → SentFor (live_view addresses xs ss ds) (live_view addresses (xs ++ stored (Some k) (send_call s.station x) ∷ []) (set ts k (popped_one s x a)) es) k number x
 sent_for addresses st xs ss ts ds es k number x a s is l at cs ps act r =
     let own : (v : ClientView) → get_or (map client_of ss) k v ≡ client_of s = λ v. ap (λ (u : List ClientView). get_or u k v) (sym cs) ∙ get_or-map client_of ts k s v l ∙ ap client_of (sym at) in
-    let own' : (v : ClientView) → get_or (map client_of (set ts k (popped_one s x a))) k v ≡ client_of (popped_one s x a) = λ v.
-    let l' : k < length (set ts k (popped_one s x a)) = rw length-set l in
-    get_or-map client_of (set ts k (popped_one s x a)) k s v l' ∙ ap client_of (get_or-set_same ts k (popped_one s x a) s l) in
     record {
       within = rw (← cs, length-map) l;
       active = λ v. ap (λ (u : ClientView). u.active) (own v) ∙ act;
       addresses = refl;
-      popped = λ v. ap (λ (u : ClientView). u.popped) (own' v) ∙ ap (λ (u : ClientView). u.popped ++ x ∷ []) (sym (own v));
+      clients = λ v. map-set client_of ts k (popped_one s x a) ∙ ap (λ (u : List ClientView). set u k (client_of (popped_one s x a))) cs ∙ ap (λ (u : ClientView). set (map client_of ss) k (popped_client u x)) (sym (own v));
       calls = λ v. ap (λ (u : ClientView). xs ++ stored (Some k) (send_call u.station x) ∷ []) (sym (own v));
       reply = λ v. sym (ap (λ (u : Segment). reply_of u (send_call s.station x)) (sym is) ∙ r) ∙ ap (λ (u : ClientView). reply_of (trail addresses xs).state (send_call u.station x)) (sym (own v));
       ports = ps;
@@ -177,3 +176,22 @@ refused_send addresses st xs ss ts ds es k x s r is l at cs few front e =
 -- a Send is answered by a number
 pub send_answer : (from : Address) (x : Submission) (call : Call) (r : Reply) → call ≡ send_call from x → IsAnsweredBy call r → IsAnsweredBy (send_call from x) r
 send_answer from x call r e k = subst (λ (c : Call). IsAnsweredBy c r) e k
+
+-- nothing but memory is lacking to send the submission in front
+pub lacks_memory_for : (addresses : List Address) (st : Segment) (xs : List Stored) (ws : List Owed) (ss ts : List SeatView) (ds es : List DoorView) (k : ℕ) (s : SeatView) → st ≡ (trail addresses xs).state → ws ≡ (trail addresses xs).owed
+    → k < length ts → map client_of ts ≡ map client_of ss → LacksRoomToSend st xs ws ts k → LacksMemoryFor (live_view addresses xs ss ds) (live_view addresses xs ts es) k
+lacks_memory_for addresses st xs ws ss ts ds es k s is owes l cs r =
+    let t = get_or ts k s in
+    let cause : IsCauseFor st t None = r.1 s in
+    let own : (v : ClientView) → get_or (map client_of ss) k v ≡ client_of t = λ v. ap (λ (u : List ClientView). get_or u k v) (sym cs) ∙ get_or-map client_of ts k s v l in
+    let seen : get_or (map seat_seen ts) k [] ≡ t.ahead = get_or-map seat_seen ts k s [] l in
+    let f : slice_index (map seat_free ts) k ≡ t.free = free_is addresses xs ts es k s l in
+    let o : owed_by k ws ≡ owed_by k (trail addresses xs).owed = ap (owed_by k) owes in
+    record {
+      few = r.0.0;
+      waits = waits_at addresses xs ts es k s l (r.0.1 s).0;
+      place = omega (arith, f, o, (r.0.1 s).1);
+      x = cause.0;
+      front = subst (λ (u : List Submission). IsPrefix (cause.0 ∷ []) u) (sym seen) cause.1;
+      passes = λ v. sym (cause.2 ∙ ap (λ (u : Segment). refusal_of (called u (send_call t.station cause.0))) is ∙ ap (λ (u : ClientView). refusal_of (called (trail addresses xs).state (send_call u.station cause.0))) (sym (own v)));
+    }

@@ -4,7 +4,8 @@ use Rattle.std.specs.List.{list_any}
 use Rattle.pgn_ids.specs.declared.address.Address.{Address}
 use Rattle.port_table.specs.declared.port.PortId.{PortId}
 use Rattle.segment_law.specs.Record.{StandsAt}
-use Rattle.segment_law.specs.Calls.{called}
+use Rattle.station_lanes.specs.declared.event.Event.{Event}
+use Rattle.segment_law.specs.Calls.{called, events_of}
 use Rattle.segment_law.specs.declared.call.Call.{Call}
 use Rattle.segment_law.specs.declared.call.Call.TheVariants.{Open, Close}
 use Rattle.segment_law.specs.declared.reply.Reply.{Reply}
@@ -19,11 +20,11 @@ use Rattle.segment_rings.specs.Ends.{ClientEnd, new_client_end, InboxEnd, new_in
 use Rattle.segment_rings.specs.Views.{SeatView, DoorView}
 use Rattle.segment_shared.specs.declared.call.Stored.{Stored}
 use Rattle.segment_shared.specs.declared.call.WorkerCall.{WorkerCall}
-use Rattle.segment_shared.specs.declared.live.OpenRefused.{OpenRefused}
-use Rattle.segment_shared.specs.declared.live.OpenRefused.TheVariants as open_refused
+use Rattle.segment_shared.specs.declared.refused.OpenRefused.{OpenRefused}
+use Rattle.segment_shared.specs.declared.refused.OpenRefused.TheVariants as open_refused
 use Rattle.segment_shared.specs.Words.{call_of, wanted_by}
 use Rattle.segment_shared.specs.Places.{times}
-use Rattle.segment_shared.specs.Record.{accepted, given, notes_of, Trail, trail}
+use Rattle.segment_shared.specs.Record.{accepted, given, notes_of, settle_notes, Trail, trail}
 
 -- popped, noted: what went out of the client's submissions and into its notes
 pub record ClientView : Type 0 where
@@ -91,6 +92,24 @@ calls_after (Sent n) xs x = xs ++ x ∷ []
 calls_after (Refused e) xs x = xs
 calls_after (Done es) xs x = xs ++ x ∷ []
 
+-- what events give to a port
+abbrev pub port_after : List Event → PortView → PortView
+port_after es p = record p { pushed = p.pushed ++ given p.port es }
+
+-- the notes of the clients, of which the first has number n
+abbrev pub clients_after : ℕ → List (ℕ × Note) → List ClientView → List ClientView
+clients_after n ns [] = []
+clients_after n ns (c ∷ cs) = record c { noted = c.noted ++ notes_of n ns } ∷ clients_after (n + 1) ns cs
+
+-- the clients after a call of nobody that is answered so
+abbrev pub told_clients : LiveView → Reply → List ClientView
+told_clients a r = clients_after 0 (settle_notes (trail a.addresses a.calls).owed (events_of r)) a.clients
+
+-- nothing is given to a port that is closed
+abbrev pub SparesClosed : List Event → List PortView → Type 0
+SparesClosed es [] = Unit {0}
+SparesClosed es (p ∷ ps) = (p.active ≡ false → given p.port es ≡ []) × SparesClosed es ps
+
 -- a port that the call gives to has too few places that are known to be free, or gets no more deliveries
 pub record NoPlace (a b : LiveView) (call : WorkerCall) : Type 0 where
   pub place : ℕ
@@ -104,7 +123,15 @@ pub record Applied (a b : LiveView) (call : WorkerCall) (r : Reply) (with_room :
   pub reply : r ≡ reply_of (trail a.addresses a.calls).state (call_of call with_room)
   pub addresses : b.addresses ≡ a.addresses
   pub calls : b.calls ≡ calls_after r a.calls (stored None (call_of call with_room))
+  pub clients : b.clients ≡ told_clients a r
+  pub ports : b.ports ≡ map (port_after (events_of r)) a.ports
+  pub closed : SparesClosed (events_of r) a.ports
   pub room : with_room ≡ false → NoPlace a b call
+
+-- nothing but memory is lacking: one more call can be stored, and the segment doesn't refuse it
+pub record LacksMemory (a : LiveView) (call : WorkerCall) : Type 0 where
+  pub few : length a.calls < 1000000
+  pub passes : (room : Bool) → refusal_of (called (trail a.addresses a.calls).state (call_of call room)) ≡ None
 
 abbrev pub new_client : Address → ClientView
 new_client station = record { station = station; active = true; popped = []; noted = [] }
@@ -136,9 +163,10 @@ pub record Laws (v : LiveView) : Type 0 where
 abbrev pub new_port_view : PortId → PortView
 new_port_view p = record { port = p; active = true; pushed = [] }
 
--- why a port isn't opened: the segment refuses the Open, or else no more calls can be stored; or for want of memory
+-- why a port isn't opened: the segment refuses the Open, or else no more calls can be stored; or for want of memory, where
+-- neither holds
 abbrev pub IsOpenCause : LiveView → (station : Address) → (pgn max_len : ℕ) → OpenRefused → Type 0
-IsOpenCause a station pgn max_len open_refused.OutOfMemory = Unit {0}
+IsOpenCause a station pgn max_len open_refused.OutOfMemory = (refusal_of (called (trail a.addresses a.calls).state (Open station pgn max_len)) ≡ None) × (length a.calls < 1000000)
 IsOpenCause a station pgn max_len (open_refused.Refused c) = (Refused c ≡ reply_of (trail a.addresses a.calls).state (Open station pgn max_len))
     ⊎ ((c ≡ TraceFull) × (refusal_of (called (trail a.addresses a.calls).state (Open station pgn max_len)) ≡ None) × (1000000 ≤ length a.calls))
 

@@ -1,7 +1,8 @@
 -- What is reported once the threads have ended.
-use Rattle.std.specs.Prelude.{◌≡◌, ℕ, ◌<◌, ◌≤◌, ◌⊎◌, List, [], ◌∷◌, ◌++◌, length, slice_index_or, None}
+use Rattle.std.specs.Prelude.{◌≡◌, ℕ, zero, suc, ◌<◌, ◌≤◌, ◌⊎◌, false, cond, List, [], ◌∷◌, ◌++◌, length, map, slice_index_or, None}
 use mathlib.Core.List.{IsPrefix}
 use Rattle.port_table.specs.declared.port.PortId.{PortId}
+use Rattle.segment_law.specs.Told.{same_port}
 use Rattle.segment_law.specs.declared.call.Call.TheVariants.{Close}
 use Rattle.segment_law.specs.declared.refusal.Refusal.TheVariants.{NotThisSegment, TraceFull}
 use Rattle.reply_law.specs.Replies.{reply_of}
@@ -12,7 +13,7 @@ use Rattle.segment_shared.specs.declared.closing.CloseRefused.TheVariants as clo
 use Rattle.segment_shared.specs.declared.report.ClientReport.{ClientReport}
 use Rattle.segment_shared.specs.declared.report.InboxReport.{InboxReport}
 use Rattle.segment_shared.specs.Record.{accepted, given, notes_of, Trail, trail}
-use Rattle.segment_shared.specs.LiveView.{LiveView, PortView, stored, calls_after}
+use Rattle.segment_shared.specs.LiveView.{LiveView, ClientView, PortView, stored, calls_after, told_clients}
 
 -- the client is of this segment, and its lists begin and are begun as they are to
 pub record ClientAgrees (v : LiveView) (c : ClientEnd) : Type 0 where
@@ -57,7 +58,12 @@ EachClientAgrees v cs = (k : ℕ) (c : ClientEnd) → k < length cs → ClientAg
 abbrev pub EachInboxAgrees : LiveView → List InboxEnd → Type 0
 EachInboxAgrees v is = (k : ℕ) (i : InboxEnd) → k < length is → InboxAgrees v (slice_index_or is k i)
 
--- the Close was added, unless the port was closed already; and the inbox received the rest of what its port was given
+-- the port of this id is closed
+abbrev pub closing : PortId → PortView → PortView
+closing q p = cond (same_port q p.port) (record p { active = false }) p
+
+-- the Close was added, unless the port was closed already; the inbox received the rest of what its port was given; and the port
+-- is closed, so that no later call gives to it
 pub record ClosedFor (a b : LiveView) (i j : InboxEnd) (r : Closed) : Type 0 where
   pub few : length a.calls < 1000000
   pub within : HasPort a.ports i.port
@@ -66,6 +72,8 @@ pub record ClosedFor (a b : LiveView) (i j : InboxEnd) (r : Closed) : Type 0 whe
   pub inbox : j ≡ closes i r.rest.items j.spare
   pub addresses : b.addresses ≡ a.addresses
   pub calls : b.calls ≡ calls_after (reply_of (trail a.addresses a.calls).state (Close i.port)) a.calls (stored None (Close i.port))
+  pub clients : b.clients ≡ told_clients a (reply_of (trail a.addresses a.calls).state (Close i.port))
+  pub ports : b.ports ≡ map (closing i.port) a.ports
 
 -- why a port isn't closed: the inbox isn't of this segment, or else no more calls can be stored; or for want of memory, where
 -- neither holds
@@ -73,7 +81,25 @@ abbrev pub IsCloseCause : LiveView → InboxEnd → CloseRefused → Type 0
 IsCloseCause a i close_refused.OutOfMemory = InboxAgrees a i × (length a.calls < 1000000)
 IsCloseCause a i (close_refused.Refused c) = ((c ≡ NotThisSegment) × (InboxAgrees a i → ⊥)) ⊎ ((c ≡ TraceFull) × InboxAgrees a i × (1000000 ≤ length a.calls))
 
--- the same record, of which some clients and ports may have been retired
-pub record SameRecord (a b : LiveView) : Type 0 where
+-- the client of this number is gone
+abbrev pub gone : List ClientView → ℕ → List ClientView
+gone [] c = []
+gone (v ∷ vs) zero = record v { active = false } ∷ vs
+gone (v ∷ vs) (suc c) = v ∷ gone vs c
+
+-- these clients are gone, one after another
+abbrev pub gone_clients : List ClientEnd → List ClientView → List ClientView
+gone_clients [] vs = vs
+gone_clients (c ∷ cs) vs = gone_clients cs (gone vs c.id)
+
+-- the ports of these inboxes are closed, one after another
+abbrev pub gone_ports : List InboxEnd → List PortView → List PortView
+gone_ports [] ps = ps
+gone_ports (i ∷ is) ps = gone_ports is (map (closing i.port) ps)
+
+-- the same record, of which these clients and ports are gone
+pub record Retired (a b : LiveView) (cs : List ClientEnd) (is : List InboxEnd) : Type 0 where
   pub addresses : b.addresses ≡ a.addresses
   pub calls : b.calls ≡ a.calls
+  pub clients : b.clients ≡ gone_clients cs a.clients
+  pub ports : b.ports ≡ gone_ports is a.ports

@@ -1,13 +1,12 @@
 //! A segment with its stored calls and the far ends of all rings.
 ghost use Rattle.std.specs.Prelude.{◌≡◌, ◌≤◌, map, true};
 ghost use Rattle.segment_shared.specs.LiveView.{is_station_of, clients_at, client_of};
-ghost use Rattle.segment_shared.specs.declared.live.AttachRefused.TheVariants.{OutOfMemory as AttachOutOfMemory};
-ghost use Rattle.segment_shared.specs.declared.live.OpenRefused.TheVariants.{OutOfMemory as OpenOutOfMemory};
 
 use crate::call::{Owed, Stored, WorkerCall};
 use crate::offer::{MOST_CALLS, Ready, make_ready, store};
 use crate::places::{Found, door_of, find_places};
-use crate::step::make;
+use crate::refused::{Accepted, AttachRefused, NewRefused, OpenRefused};
+use crate::step::{make, refusal_for};
 use crate::tell::tell;
 use crate::wanted::wanted_of;
 use headline_law::the_headline_holds;
@@ -17,7 +16,6 @@ use segment_law::Counts;
 use segment_rings::{Client, Delivery, Door, Doorway, Inbox, Note, Seat};
 use std::alloc::{AllocError, Global};
 use std::marker::Model;
-use thiserror::Error;
 
 /// How many clients a station has at most.
 pub const MOST_CLIENTS: usize = 16;
@@ -46,81 +44,16 @@ impl Model for Live {
     ghost invariant = { λ s. Holds s.addresses.items s.segment s.calls.items s.owed.items s.seats.items s.doors.items };
 }
 
-/// Why no segment is made.
-#[derive(Clone, Copy, Debug, PartialEq, Eq, Error)]
-pub enum NewRefused {
-    /// No address, a repeated one, one above 253, or more than 32.
-    #[error("the addresses are not 1 to 32 distinct ones of 0 to 253")]
-    BadAddresses,
-    /// There was no memory.
-    #[error("out of memory")]
-    OutOfMemory,
-}
-
-/// Why no client is attached.
-#[derive(Clone, Copy, Debug, PartialEq, Eq, Error)]
-pub enum AttachRefused {
-    /// The address isn't that of a station.
-    #[error("no station has this address")]
-    NoSuchStation,
-    /// The station has 16 clients, or no number is left.
-    #[error("the station has 16 clients")]
-    ClientsFull,
-    /// There was no memory.
-    #[error("out of memory")]
-    OutOfMemory,
-}
-
-/// Why no port is opened.
-#[derive(Clone, Copy, Debug, PartialEq, Eq, Error)]
-pub enum OpenRefused {
-    /// The call was refused.
-    #[error("the call is refused")]
-    Refused(Refusal),
-    /// There was no memory.
-    #[error("out of memory")]
-    OutOfMemory,
-}
-
-impl From<AllocError> for OpenRefused {
-    ghost from_gives = { λ _ e. e ≡ OpenOutOfMemory };
-
-    fn from(_error: AllocError) -> OpenRefused {
-        OpenRefused::OutOfMemory
-    }
-}
-
-impl From<AllocError> for AttachRefused {
-    ghost from_gives = { λ _ e. e ≡ AttachOutOfMemory };
-
-    fn from(_error: AllocError) -> AttachRefused {
-        AttachRefused::OutOfMemory
-    }
-}
-
-/// What became of a client's front submission.
-#[derive(Clone, Copy, Debug, PartialEq, Eq)]
-pub enum Accepted {
-    /// There is none, or no client has this number.
-    Empty,
-    /// Each place for its note that is known to be free is owed to an accepted message.
-    Owed,
-    /// It stays.
-    Refused(Refusal),
-    /// It is sent, with this number.
-    Sent(u64),
-}
-
 impl Live {
-    ghost use Rattle.std.specs.Prelude.{◌≡◌, ◌≤◌, ◌<◌, ◌↔◌, [], ◌∷◌, ◌++◌, length, Bool, true, false, IfOk, OnOk, OnErr, IfErr, IsErrOf, Ok, MatchOption};
+    ghost use Rattle.std.specs.Prelude.{◌≡◌, ◌≤◌, ◌<◌, ◌↔◌, [], ◌∷◌, ◌++◌, length, Bool, true, false, IfOk, OnOk, OnErr, IfErr, IsErrOf, Ok, MatchOption, slice_index_or};
     ghost use Rattle.segment_law.specs.Headline.{Headline};
     ghost use Rattle.segment_law.specs.Segment.{are_addresses};
     ghost use Rattle.segment_law.specs.Record.{StandsAt};
     ghost use Rattle.segment_law.specs.declared.reply.Reply.TheVariants.{Refused};
     ghost use Rattle.segment_law.specs.declared.refusal.Refusal.TheVariants.{TraceFull};
     ghost use Rattle.segment_shared.specs.Record.{Trail, trail, given, notes_of};
-    ghost use Rattle.segment_shared.specs.LiveView.{live_view, SameLive, Applied, Attached, Laws, OpenedFor, IsOpenCause};
-    ghost use Rattle.segment_shared.specs.Offers.{AcceptedAs};
+    ghost use Rattle.segment_shared.specs.LiveView.{ClientView, live_view, SameLive, Applied, LacksMemory, Attached, Laws, OpenedFor, IsOpenCause};
+    ghost use Rattle.segment_shared.specs.Offers.{AcceptedAs, LacksMemoryFor};
     ghost use Rattle.segment_shared.specs.Reports.{HasPort};
 
     /// A new segment with stations of these addresses, no clients and no ports.
@@ -196,14 +129,21 @@ impl Live {
     }
 
     /// Makes a call, and gives and notes what it tells. `room` is false only where a ring that the call needs has no place
-    /// that is known to be free.
+    /// that is known to be free, or is that of a closed port: such a port is given nothing.
+    ///
+    /// Refused where no more calls can be stored, and then where the segment refuses the call. Want of memory is answered
+    /// only for a call that isn't refused. A refused call and want of memory change nothing.
     pub fn apply(&mut self, call: WorkerCall) -> Result<Reply, AllocError>
         ensures full { 1000000 ≤ length self.old.calls → (result ≡ Ok (Refused TraceFull)) × (self.new ≡ self.old) }
         ensures applied { length self.old.calls < 1000000 → IfOk result (λ r. (room : Bool) × Applied self.old self.new call r room) }
         ensures err { OnErr result (SameLive self.old self.new) }
+        ensures not_refused { OnErr result (LacksMemory self.old call) }
     {
         if self.calls.len() >= MOST_CALLS {
             return Ok(Reply::Refused(Refusal::TraceFull));
+        }
+        if let Some(refusal) = refusal_for(&self.segment, &call) {
+            return Ok(Reply::Refused(refusal));
         }
         self.calls.reserve(1)?;
         let wanted = wanted_of(&self.segment, &call);
@@ -233,11 +173,12 @@ impl Live {
     /// Accepts the front submission of a client: its message is sent, and the Send is stored with the client's number.
     ///
     /// The first that holds is answered: `Empty` where none is seen or no client has the number, `Owed`, and `Refused` where no
-    /// more calls can be stored or else where the segment refuses the Send. These and want of memory change nothing.
+    /// more calls can be stored or else where the segment refuses the Send. Want of memory is answered only where none of them
+    /// holds. These and want of memory change nothing.
     pub fn accept(&mut self, client: u64) -> Result<Accepted, AllocError>
         ensures accepted { IfOk result (λ r. AcceptedAs self.old self.new client r) }
         ensures err { OnErr result (SameLive self.old self.new) }
-        ensures few { OnErr result (length self.old.calls < 1000000) }
+        ensures not_refused { OnErr result (LacksMemoryFor self.old self.new client) }
     {
         if client >= self.seats.len() as u64 {
             return Ok(Accepted::Empty);
@@ -245,6 +186,7 @@ impl Live {
         let k = client as usize;
         match make_ready(
             self.alloc,
+            &self.segment,
             &mut self.calls,
             &mut self.owed,
             &mut self.seats,
@@ -253,6 +195,7 @@ impl Live {
             Ready::Empty => Ok(Accepted::Empty),
             Ready::Owed => Ok(Accepted::Owed),
             Ready::Full => Ok(Accepted::Refused(Refusal::TraceFull)),
+            Ready::NotSent(refusal) => Ok(Accepted::Refused(refusal)),
             Ready::Send(call) => match make(&mut self.segment, call)? {
                 Reply::Sent(number) => {
                     store(&mut self.calls, &mut self.owed, &mut self.seats, k, number);
@@ -287,8 +230,8 @@ impl Live {
 
     /// Opens a port, and gives its inbox.
     ///
-    /// Refused where the segment refuses the Open, and then where no more calls can be stored. These and want of memory change
-    /// nothing.
+    /// Refused where the segment refuses the Open, and then where no more calls can be stored. Want of memory is answered only
+    /// where neither holds. These and want of memory change nothing.
     pub fn open_port(
         &mut self,
         station: Address,
@@ -342,7 +285,9 @@ impl Live {
     }
 
     /// The station of a client, if there is one with this number.
-    pub fn station_of(&self, client: u64) -> Option<Address> {
+    pub fn station_of(&self, client: u64) -> Option<Address>
+        ensures { MatchOption result (length self.now.clients ≤ client) (λ a. (client < length self.now.clients) × ((v : ClientView) → a ≡ (slice_index_or self.now.clients client v).station)) }
+    {
         if client >= self.seats.len() as u64 {
             return None;
         }

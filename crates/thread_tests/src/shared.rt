@@ -1,9 +1,10 @@
 //! Threads on one segment, and what clients, ports and workers do on one thread.
 mod limits;
+mod steps;
 
-use pgn_ids::{Address, Pgn};
+use pgn_ids::Address;
 use segment_shared::{
-    Accepted, AttachRefused, Bytes, Client, CloseRefused, Gate, Inbox, Live, Refusal, Reply,
+    Accepted, AttachRefused, Client, CloseRefused, Gate, Inbox, Live, Refusal, Reply,
     SharedSegment, WorkerCall, bus_worker, finish, station_worker,
 };
 use std::alloc::Global;
@@ -11,18 +12,11 @@ use std::process::Abort;
 use std::sync::atomic::{AtomicU64, Ordering};
 use std::test::Fail;
 use std::thread;
+use steps::*;
 
 const LOOKS: u64 = 100_000_000;
 
 const TURNS: u64 = 1_000_000;
-
-const A: Address = Address(0x21);
-
-const B: Address = Address(0x22);
-
-const R: Address = Address(0x35);
-
-const FECA: u32 = 0xFECA;
 
 // Holds each worker at its first turn until all have come, or the looks are used up.
 #[derive(Drop)]
@@ -48,38 +42,13 @@ impl Gate for Crossing {
     }
 }
 
-fn bytes(alloc: Global, first: u8, many: u8) -> Result<Bytes, Fail> {
-    let mut all = Vec::new(alloc);
-    for k in 0..many {
-        all.push(first.wrapping_add(k))?;
-    }
-    Ok(Bytes::new(all))
-}
-
-fn feca() -> Result<Pgn, Fail> {
-    Ok(Pgn::new(FECA)?)
-}
-
-fn three(rt: &impl Abort, alloc: Global) -> Result<Live, Fail> {
-    match Live::new(alloc, &[A, B, R]) {
-        Ok(live) => Ok(live),
-        Err(_) => panic!(rt; "no segment"),
-    }
-}
-
 #[test]
 fn messages_of_two_threads_come_to_a_third(rt: HostRuntime) -> Result<(), Fail> {
     let alloc = rt.alloc();
     let mut live = three(&rt, alloc)?;
-    let Ok(mut inbox) = live.open_port(R, feca()?, 1785) else {
-        panic!(rt; "no port");
-    };
-    let Ok(mut first) = live.attach(A) else {
-        panic!(rt; "no client");
-    };
-    let Ok(mut second) = live.attach(B) else {
-        panic!(rt; "no client");
-    };
+    let mut inbox = port(&rt, &mut live)?;
+    let mut first = client(&rt, &mut live, A);
+    let mut second = client(&rt, &mut live, B);
     let nine = bytes(alloc, 1, 9)?;
     let ten = bytes(alloc, 0x11, 10)?;
     let shared = SharedSegment::share(live);
@@ -128,62 +97,31 @@ fn messages_of_two_threads_come_to_a_third(rt: HostRuntime) -> Result<(), Fail> 
     assert!(rt; again?.is_some());
     let mut live = shared.into_live();
     let ((a, b), (r, bus)) = workers;
-    assert_eq!(rt;
-        live.calls().len() as u64,
-        1 + a.calls + b.calls + r.calls + bus.calls
-    );
+    let applied = a
+        .calls
+        .saturating_add(b.calls)
+        .saturating_add(r.calls)
+        .saturating_add(bus.calls);
+    assert_eq!(rt; live.calls().len() as u64, applied.saturating_add(1));
     let clients = vec![in alloc; first, second]?;
-    let inboxes = vec![in alloc; inbox]?;
-    match finish(&mut live, clients, inboxes) {
-        Ok(report) => {
-            assert_eq!(rt; report.clients.len(), 2);
-            assert_eq!(rt; report.inboxes.len(), 1);
-            assert_eq!(rt; report.inboxes[0].rest.len(), 0);
-            assert_eq!(rt; report.clients[0].left.len(), 0);
-            assert_eq!(rt; report.clients[0].unread.len(), 0);
-            assert_eq!(rt; report.clients[1].unread.len(), 0);
-        }
-        Err(_) => panic!(rt; "not this segment"),
+    let report = report(&rt, &mut live, clients, inbox, alloc)?;
+    assert!(rt; report.clients.len() == 2 && report.inboxes.len() == 1);
+    for client in &report.clients {
+        assert!(rt; client.left.is_empty() && client.unread.is_empty());
+    }
+    for inbox in &report.inboxes {
+        assert!(rt; inbox.rest.is_empty());
     }
     Ok(())
 }
 
-// So many turns of the workers of stations 21 and 35 and of the bus, one after another.
-fn go_on(live: &mut Live, turns: u64) {
-    for _ in 0..turns {
-        let _sender = live.station_turn(A);
-        let _receiver = live.station_turn(R);
-        let _bus = live.bus_turn();
-    }
-}
-
-// A port of 35 and a client of 21.
-fn ends(rt: &impl Abort, live: &mut Live) -> Result<(Inbox, Client), Fail> {
-    let Ok(inbox) = live.open_port(R, feca()?, 1785) else {
-        panic!(rt; "no port");
-    };
-    let Ok(client) = live.attach(A) else {
-        panic!(rt; "no client");
-    };
-    Ok((inbox, client))
-}
-
-fn submit(rt: &impl Abort, client: &mut Client, to: Address, alloc: Global) -> Result<u64, Fail> {
-    match client.submit(to, FECA, bytes(alloc, 1, 9)?) {
-        Ok(ticket) => Ok(ticket),
-        Err(refused) => panic!(rt; "{refused:?}"),
-    }
-}
-
 #[test]
-fn submissions_wait_and_what_is_left_is_reported(rt: HostRuntime) -> Result<(), Fail> {
+fn clients_and_submissions_are_limited(rt: HostRuntime) -> Result<(), Fail> {
     let alloc = rt.alloc();
     let mut live = three(&rt, alloc)?;
-    let (mut inbox, mut client) = ends(&rt, &mut live)?;
+    let mut first = client(&rt, &mut live, A);
     for _ in 0..15 {
-        let Ok(_) = live.attach(A) else {
-            panic!(rt; "no client");
-        };
+        let _other = client(&rt, &mut live, A);
     }
     assert!(rt; matches!(live.attach(A), Err(AttachRefused::ClientsFull)));
     assert!(rt;
@@ -193,51 +131,53 @@ fn submissions_wait_and_what_is_left_is_reported(rt: HostRuntime) -> Result<(), 
         )
     );
     for ticket in 1..65u64 {
-        assert_eq!(rt; submit(&rt, &mut client, R, alloc)?, ticket);
+        assert_eq!(rt; submit(&rt, &mut first, R, alloc)?, ticket);
     }
-    match client.submit(R, FECA, bytes(alloc, 1, 9)?) {
+    match first.submit(R, FECA, bytes(alloc, 1, 9)?) {
         Ok(_) => panic!(rt; "accepted"),
         Err(refused) => {
             assert!(rt; refused.refusal == Some(Refusal::RingFull));
             assert_eq!(rt; refused.bytes.len(), 9);
         }
     }
-    assert!(rt; live.accept(client.id())? == Accepted::Sent(1));
-    drive(&rt, &mut live)?;
-    match client.try_outcome()? {
+    Ok(())
+}
+
+#[test]
+fn what_is_left_is_reported(rt: HostRuntime) -> Result<(), Fail> {
+    let alloc = rt.alloc();
+    let mut live = three(&rt, alloc)?;
+    let mut inbox = port(&rt, &mut live)?;
+    let mut first = client(&rt, &mut live, A);
+    for _ in 0..64 {
+        submit(&rt, &mut first, R, alloc)?;
+    }
+    assert!(rt; accept(&mut live, &first)? == Accepted::Sent(1));
+    exchange(&rt, &mut live)?;
+    match note(&mut first)? {
         Some(note) => {
             assert_eq!(rt; note.ticket, 1);
             assert!(rt; note.outcome == tp_wire::Outcome::Acknowledged);
         }
         None => panic!(rt; "no note"),
     }
-    match live.close_on(&mut inbox) {
-        Ok(closed) => {
-            assert_eq!(rt; closed.rest.len(), 1);
-            assert_eq!(rt; closed.rest[0].bytes.len(), 9);
-        }
-        Err(_) => panic!(rt; "not closed"),
+    assert!(rt; close(&mut live, &mut inbox) == Ok(1));
+    assert!(rt; close(&mut live, &mut inbox) == Ok(0));
+    assert!(rt; !receive(&mut inbox)?);
+    let clients = vec![in alloc; first]?;
+    let report = report(&rt, &mut live, clients, inbox, alloc)?;
+    for client in &report.clients {
+        assert_eq!(rt; client.left.len(), 63);
     }
-    match live.close_on(&mut inbox) {
-        Ok(closed) => assert_eq!(rt; closed.rest.len(), 0),
-        Err(_) => panic!(rt; "not closed"),
-    }
-    assert!(rt; inbox.try_receive()?.is_none());
-    let clients = vec![in alloc; client]?;
-    let inboxes = vec![in alloc; inbox]?;
-    match finish(&mut live, clients, inboxes) {
-        Ok(report) => {
-            assert_eq!(rt; report.clients[0].left.len(), 63);
-            assert_eq!(rt; report.inboxes[0].rest.len(), 0);
-        }
-        Err(_) => panic!(rt; "not this segment"),
+    for inbox in &report.inboxes {
+        assert!(rt; inbox.rest.is_empty());
     }
     assert!(rt; live.accept(0)? == Accepted::Empty);
     Ok(())
 }
 
 // The calls by which 35 is given the message of 21 and 21 takes its end acknowledgement.
-fn drive(rt: &impl Abort, live: &mut Live) -> Result<(), Fail> {
+fn exchange(rt: &impl Abort, live: &mut Live) -> Result<(), Fail> {
     let calls = [
         WorkerCall::Pump { station: A, to: R },
         WorkerCall::Transmit { station: A },
@@ -258,10 +198,7 @@ fn drive(rt: &impl Abort, live: &mut Live) -> Result<(), Fail> {
     ];
     let mut events = 0usize;
     for call in calls {
-        match live.apply(call)? {
-            Reply::Done(told) => events = told.len().saturating_add(events),
-            reply => panic!(rt; "{reply:?}"),
-        }
+        events = events.saturating_add(made(rt, live, call)?);
     }
     assert_eq!(rt; events, 2);
     Ok(())
@@ -271,16 +208,15 @@ fn drive(rt: &impl Abort, live: &mut Live) -> Result<(), Fail> {
 fn the_lowest_identifier_comes_first(rt: HostRuntime) -> Result<(), Fail> {
     let alloc = rt.alloc();
     let mut live = three(&rt, alloc)?;
-    let (_inbox, mut first) = ends(&rt, &mut live)?;
-    let Ok(mut second) = live.attach(B) else {
-        panic!(rt; "no client");
-    };
+    let mut first = client(&rt, &mut live, A);
+    let mut second = client(&rt, &mut live, B);
     submit(&rt, &mut first, R, alloc)?;
     submit(&rt, &mut second, A, alloc)?;
-    assert!(rt; live.accept(first.id())? == Accepted::Sent(1));
-    assert!(rt; live.accept(second.id())? == Accepted::Sent(1));
-    live.apply(WorkerCall::Pump { station: A, to: R })?;
-    live.apply(WorkerCall::Pump { station: B, to: A })?;
+    assert!(rt; accept(&mut live, &first)? == Accepted::Sent(1));
+    assert!(rt; accept(&mut live, &second)? == Accepted::Sent(1));
+    made(&rt, &mut live, WorkerCall::Pump { station: A, to: R })?;
+    made(&rt, &mut live, WorkerCall::Pump { station: B, to: A })?;
+    assert!(rt; live.lowest() == Some(B));
     let shared = SharedSegment::share(live);
     let tally = bus_worker(&rt, &shared, &Open {}, 1);
     assert_eq!(rt; tally.calls, 1);
@@ -290,10 +226,9 @@ fn the_lowest_identifier_comes_first(rt: HostRuntime) -> Result<(), Fail> {
             .frame(1)
             .is_some_and(|frame| frame.id().raw() == 0x1CEC_2122)
     );
-    let reply = live.apply(WorkerCall::Transmit { station: B })?;
-    assert!(rt; matches!(reply, Reply::Refused(Refusal::NothingToSend)));
-    let reply = live.apply(WorkerCall::Transmit { station: A })?;
-    assert!(rt; matches!(reply, Reply::Done(_)));
+    let again = WorkerCall::Transmit { station: B };
+    assert!(rt; refused(&mut live, again)? == Some(Refusal::NothingToSend));
+    made(&rt, &mut live, WorkerCall::Transmit { station: A })?;
     Ok(())
 }
 
@@ -304,24 +239,20 @@ impl Gate for Open {
     fn pass(&self, _worker: u8, _turn: u64) {}
 }
 
+// A segment whose port was given a message, and its ends.
+fn one_given(rt: &impl Abort, alloc: Global) -> Result<(Live, Inbox, Client), Fail> {
+    let mut live = three(rt, alloc)?;
+    let inbox = port(rt, &mut live)?;
+    let mut sender = client(rt, &mut live, A);
+    submit(rt, &mut sender, R, alloc)?;
+    go_on(&mut live, 8);
+    Ok((live, inbox, sender))
+}
+
 #[test]
 fn a_port_closes_with_a_delivery_waiting(rt: HostRuntime) -> Result<(), Fail> {
     let alloc = rt.alloc();
-    let mut live = three(&rt, alloc)?;
-    let mut other = three(&rt, alloc)?;
-    let (inbox, mut client) = ends(&rt, &mut live)?;
-    let (mut stranger, mut theirs) = ends(&rt, &mut other)?;
-    submit(&rt, &mut client, R, alloc)?;
-    submit(&rt, &mut theirs, R, alloc)?;
-    go_on(&mut other, 8);
-    assert!(rt; stranger.try_receive()?.is_some());
-    match live.close_on(&mut stranger) {
-        Ok(_) => panic!(rt; "closed"),
-        Err(refused) => {
-            assert!(rt; refused == CloseRefused::Refused(Refusal::NotThisSegment));
-        }
-    }
-    go_on(&mut live, 8);
+    let (live, inbox, _sender) = one_given(&rt, alloc)?;
     let shared = SharedSegment::share(live);
     match shared.close_port(&rt, inbox) {
         Ok(closed) => assert_eq!(rt; closed.rest.len(), 1),
@@ -329,5 +260,24 @@ fn a_port_closes_with_a_delivery_waiting(rt: HostRuntime) -> Result<(), Fail> {
     }
     let reply = shared.apply(&rt, WorkerCall::Tick { n: 1 })?;
     assert!(rt; matches!(reply, Reply::Done(_)));
+    Ok(())
+}
+
+#[test]
+fn ends_of_another_segment_are_refused(rt: HostRuntime) -> Result<(), Fail> {
+    let alloc = rt.alloc();
+    let (_other, mut stranger, theirs) = one_given(&rt, alloc)?;
+    assert!(rt; receive(&mut stranger)?);
+    let mut live = three(&rt, alloc)?;
+    let _inbox = port(&rt, &mut live)?;
+    let not_this = CloseRefused::Refused(Refusal::NotThisSegment);
+    assert!(rt; close(&mut live, &mut stranger) == Err(not_this));
+    match finish(&mut live, vec![in alloc; theirs]?, Vec::new(alloc)) {
+        Ok(_) => panic!(rt; "reported"),
+        Err(refused) => {
+            assert!(rt; refused.not_this_segment);
+            assert_eq!(rt; refused.clients.len(), 1);
+        }
+    }
     Ok(())
 }

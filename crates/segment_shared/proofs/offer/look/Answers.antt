@@ -1,6 +1,5 @@
 use Rattle.std.proofs.Common.{◌≡◌, ◌<◌, length, get_or, sym, ap, ◌∙◌, arith, subst}
 use Rattle.segment_rings.specs.Views.{SeatView, SameSeat}
-use Rattle.segment_shared.proofs.Fronts.{same_seat-spare}
 use Rattle.segment_shared.proofs.Holding.{same_seats-set}
 use Rattle.segment_shared.proofs.offer.look.Goals as goal
 
@@ -8,12 +7,6 @@ pub returns-then-stored-ge-MOST_CALLS-clause-same : goal.returns-then-stored-ge-
 returns-then-stored-ge-MOST_CALLS-clause-same c =
     let s = c.index_mut-seat.result.now in
     same_seats-set c.args.seats.now.items c.args.k s _ c.requires (subst (λ (x : SeatView). SameSeat x c.offer.new.self) c.index_mut-seat.ensures.value c.offer.ensures.same)
-
-pub returns-in_err-reserve-in-Ready-clause-same : goal.returns-in_err-reserve-in-Ready-clause-same
-returns-in_err-reserve-in-Ready-clause-same c =
-    let s = c.index_mut-seat.result.now in
-    same_seats-set c.args.seats.now.items c.args.k s _ c.requires
-    (same_seat-spare _ c.offer.new.self _ (subst (λ (x : SeatView). SameSeat x c.offer.new.self) c.index_mut-seat.ensures.value c.offer.ensures.same) c.reserve.ensures.same c.reserve.ensures.more)
 
 pub returns-in-Empty-clause-same : goal.returns-in-Empty-clause-same
 returns-in-Empty-clause-same c =
@@ -25,8 +18,7 @@ returns-in-Owed-clause-same c =
     let s = c.index_mut-seat.result.now in
     same_seats-set c.args.seats.now.items c.args.k s _ c.requires (subst (λ (x : SeatView). SameSeat x c.offer.new.self) c.index_mut-seat.ensures.value c.offer.ensures.same)
 
-pub returns-in_ok-reserve-in-Ready-clause-same : goal.returns-in_ok-reserve-in-Ready-clause-same
-returns-in_ok-reserve-in-Ready-clause-same c =
+pub returns-else-stored-ge-MOST_CALLS-clause-same : goal.returns-in-Ready-clause-same
+returns-else-stored-ge-MOST_CALLS-clause-same c =
     let s = c.index_mut-seat.result.now in
-    same_seats-set c.args.seats.now.items c.args.k s _ c.requires
-    (same_seat-spare _ c.offer.new.self _ (subst (λ (x : SeatView). SameSeat x c.offer.new.self) c.index_mut-seat.ensures.value c.offer.ensures.same) c.reserve.ensures.same c.reserve.ensures.more)
+    same_seats-set c.args.seats.now.items c.args.k s _ c.requires (subst (λ (x : SeatView). SameSeat x c.offer.new.self) c.index_mut-seat.ensures.value c.offer.ensures.same)

@@ -1,8 +1,9 @@
-use Rattle.std.proofs.Common.{◌≡◌, ℕ, ◌+◌, ◌<◌, ◌≤◌, List, [], ◌∷◌, ◌++◌, length, map, get_or, refl, sym, ap, ◌∙◌, arith, subst, inl, inr, ◌⊎◌, zero-add, true, false}
+use Rattle.std.proofs.Common.{◌≡◌, ℕ, ◌+◌, ◌<◌, ◌≤◌, List, [], ◌∷◌, ◌++◌, length, map, get_or, refl, sym, ap, ◌∙◌, arith, subst, inl, inr, ◌⊎◌, zero-add, true, false, Some, None, IsOk}
 use Rattle.std.proofs.lemmas.List.{get_or_default, get_or-map, length-map}
 use Rattle.pgn_ids.specs.declared.address.Address.{Address}
 use Rattle.segment_law.specs.Segment.{Segment}
 use Rattle.segment_law.specs.Record.{StandsAt}
+use Rattle.segment_law.specs.Calls.{called}
 use Rattle.segment_law.specs.declared.call.Call.{Call}
 use Rattle.segment_law.specs.declared.reply.Reply.{Reply}
 use Rattle.segment_law.specs.declared.reply.Reply.TheVariants.{Opened, Sent, Refused, Done}
@@ -15,12 +16,14 @@ use Rattle.segment_shared.specs.declared.offer.Ready.{Ready}
 use Rattle.segment_shared.specs.Record.{owed_by, Trail, trail}
 use Rattle.segment_shared.specs.Facts.{Holds}
 use Rattle.segment_shared.specs.LiveView.{live_view, client_of, seat_free}
-use Rattle.segment_shared.specs.Offers.{IsReadyToSend, IsSendOf, send_call, owed_for}
+use Rattle.segment_shared.specs.Offers.{IsReadyToSend, IsSendOf, IsCauseFor, LacksRoomToSend, send_call, owed_for}
 use Rattle.segment_shared.proofs.Trails.{accepted_le}
 use Rattle.segment_shared.proofs.Doors.{same_doors-refl}
 use Rattle.segment_shared.proofs.Fronts.{empty_at, none_at, waits_at, free_is}
 use Rattle.segment_shared.proofs.Holding.{holds-same, same_live, on_err, clients-same}
-use Rattle.segment_shared.proofs.Sending.{holds-send, sent_for, refused_send, popped_at, same_front}
+use Rattle.segment_shared.proofs.Sending.{holds-send, sent_for, refused_send, popped_at, same_front, lacks_memory_for}
+use Rattle.segment_shared.proofs.Openings.{refused_reply}
+use Rattle.segment_shared.proofs.Refusing.{no_cause}
 use Rattle.segment_shared.proofs.live.Live.accept.Goals as goal
 
 abbrev nobody : SeatView
@@ -31,6 +34,40 @@ invariant_of-self c = rw (c.make_ready.ensures.calls, c.make_ready.ensures.owed)
 
 pub returns-in_err-make_ready-clause-err : goal.returns-in_err-make_ready-clause-err
 returns-in_err-make_ready-clause-err c = rw (← c.self.view_is, c.make_ready.ensures.calls) (on_err _ (same_live _ _ _ _ _ _ c.make_ready.ensures.seats (same_doors-refl _)))
+
+pub returns-in_err-make_ready-clause-not_refused : goal.returns-in_err-make_ready-clause-not_refused
+returns-in_err-make_ready-clause-not_refused c =
+    let addrs = c.self.inside.addresses.items in
+    let st = c.self.inside.segment in
+    let xs = c.self.inside.calls.items in
+    let ws = c.self.inside.owed.items in
+    let ss = c.self.inside.seats.items in
+    let ts = c.make_ready.new.seats.items in
+    let ds = c.self.inside.doors.items in
+    let k = c.args.client in
+    let l : k < length ss = omega (arith, c.self.inside.seats.ok.0, c.len.ensures) in
+    let l' : k < length ts = omega (arith, c.make_ready.ensures.count) in
+    let lacks : LacksRoomToSend st xs ws ts k = c.in_err-make_ready.ensures.err in
+    rw (← c.self.view_is, c.make_ready.ensures.calls) (on_err _ (lacks_memory_for addrs st xs ws ss ts ds ds k nobody c.self.invariant.at c.self.invariant.owes l' (clients-same ss ts c.make_ready.ensures.seats) lacks))
+
+pub returns-in_err-number-in-Send-clause-not_refused : goal.returns-in_err-number-in-Send-clause-not_refused
+returns-in_err-number-in-Send-clause-not_refused c =
+    let addrs = c.self.inside.addresses.items in
+    let st = c.self.inside.segment in
+    let xs = c.self.inside.calls.items in
+    let ws = c.self.inside.owed.items in
+    let ss = c.self.inside.seats.items in
+    let ts = c.make_ready.new.seats.items in
+    let ds = c.self.inside.doors.items in
+    let k = c.args.client in
+    let d = nobody in
+    let l : k < length ss = omega (arith, c.self.inside.seats.ok.0, c.len.ensures) in
+    let l' : k < length ts = omega (arith, c.make_ready.ensures.count) in
+    let r = subst (λ (u : Ready). IsReadyToSend st xs ws ts k u) c.in-Send.is c.in_ok-make_ready.ensures.ready in
+    let passes : IsOk (called st c.in-Send.call) = c.in_err-number-in-Send.ensures.not_refused in
+    let cause : (s : SeatView) → IsCauseFor st (get_or ts k s) None = λ s. let q = r.1 s in (q.0, q.1, no_cause (called st (send_call (get_or ts k s).station q.0)) (subst (λ (u : Call). IsOk (called st u)) q.2 passes)) in
+    let lacks : LacksRoomToSend st xs ws ts k = ((r.0.0, λ s. ((r.0.1 s).0, (r.0.1 s).1)), cause) in
+    rw (← c.self.view_is, c.make_ready.ensures.calls) (on_err _ (lacks_memory_for addrs st xs ws ss ts ds ds k nobody c.self.invariant.at c.self.invariant.owes l' (clients-same ss ts c.make_ready.ensures.seats) lacks))
 
 pub invariant_of-self-in-Empty : goal.invariant_of-self-in-Empty
 invariant_of-self-in-Empty c = rw (c.make_ready.ensures.calls, c.make_ready.ensures.owed) (holds-same _ _ _ _ _ _ _ _ c.make_ready.ensures.seats (same_doors-refl _) c.self.invariant)
@@ -65,7 +102,7 @@ returns-in-Empty-clause-accepted c =
     let d = nobody in
     let l : k < length ss = omega (arith, c.self.inside.seats.ok.0, c.len.ensures) in
     let l' : k < length ts = omega (arith, c.make_ready.ensures.count) in
-    let r = subst (λ (u : Ready). IsReadyToSend xs ws ts k u) c.in-Empty.is c.in_ok-make_ready.ensures.ready in
+    let r = subst (λ (u : Ready). IsReadyToSend c.self.inside.segment xs ws ts k u) c.in-Empty.is c.in_ok-make_ready.ensures.ready in
     rw (← c.self.view_is, c.make_ready.ensures.calls) (same_live _ _ _ _ _ _ c.make_ready.ensures.seats (same_doors-refl _), empty_at addrs xs ts ds k d l' (r d))
 
 pub returns-in-Owed-clause-accepted : goal.returns-in-Owed-clause-accepted
@@ -80,7 +117,7 @@ returns-in-Owed-clause-accepted c =
     let d = nobody in
     let l : k < length ss = omega (arith, c.self.inside.seats.ok.0, c.len.ensures) in
     let l' : k < length ts = omega (arith, c.make_ready.ensures.count) in
-    let r = subst (λ (u : Ready). IsReadyToSend xs ws ts k u) c.in-Owed.is c.in_ok-make_ready.ensures.ready in
+    let r = subst (λ (u : Ready). IsReadyToSend c.self.inside.segment xs ws ts k u) c.in-Owed.is c.in_ok-make_ready.ensures.ready in
     let f : get_or (map seat_free ts) k 0 ≡ (get_or ts k d).free = free_is addrs xs ts ds k d l' in
     let o : owed_by k ws ≡ owed_by k (trail addrs xs).owed = ap (owed_by k) c.self.invariant.owes in
     rw (← c.self.view_is, c.make_ready.ensures.calls) (same_live _ _ _ _ _ _ c.make_ready.ensures.seats (same_doors-refl _), waits_at addrs xs ts ds k d l' (r d).0, omega (arith, f, o, (r d).1))
@@ -97,7 +134,7 @@ returns-in-Full-clause-accepted c =
     let d = nobody in
     let l : k < length ss = omega (arith, c.self.inside.seats.ok.0, c.len.ensures) in
     let l' : k < length ts = omega (arith, c.make_ready.ensures.count) in
-    let r = subst (λ (u : Ready). IsReadyToSend xs ws ts k u) c.in-Full.is c.in_ok-make_ready.ensures.ready in
+    let r = subst (λ (u : Ready). IsReadyToSend c.self.inside.segment xs ws ts k u) c.in-Full.is c.in_ok-make_ready.ensures.ready in
     let f : get_or (map seat_free ts) k 0 ≡ (get_or ts k d).free = free_is addrs xs ts ds k d l' in
     let o : owed_by k ws ≡ owed_by k (trail addrs xs).owed = ap (owed_by k) c.self.invariant.owes in
     rw (← c.self.view_is, c.make_ready.ensures.calls) (same_live _ _ _ _ _ _ c.make_ready.ensures.seats (same_doors-refl _), waits_at addrs xs ts ds k d l' (r.1 d).0, omega (arith, f, o, (r.1 d).1), inl (refl, r.0))
@@ -114,7 +151,7 @@ returns-in-Refused-clause-accepted c =
     let d = nobody in
     let l : k < length ss = omega (arith, c.self.inside.seats.ok.0, c.len.ensures) in
     let l' : k < length ts = omega (arith, c.make_ready.ensures.count) in
-    let r = subst (λ (u : Ready). IsReadyToSend xs ws ts k u) c.in-Send.is c.in_ok-make_ready.ensures.ready in
+    let r = subst (λ (u : Ready). IsReadyToSend c.self.inside.segment xs ws ts k u) c.in-Send.is c.in_ok-make_ready.ensures.ready in
     let f : get_or (map seat_free ts) k 0 ≡ (get_or ts k d).free = free_is addrs xs ts ds k d l' in
     let o : owed_by k ws ≡ owed_by k (trail addrs xs).owed = ap (owed_by k) c.self.invariant.owes in
     let st = c.self.inside.segment in
@@ -142,7 +179,7 @@ store-requires-clause-few c s =
 
 pub unreachable-requires : goal.unreachable-requires
 unreachable-requires c =
-    let r = subst (λ (u : Ready). IsReadyToSend c.self.inside.calls.items c.self.inside.owed.items c.make_ready.new.seats.items c.args.client u) c.in-Send.is c.in_ok-make_ready.ensures.ready in
+    let r = subst (λ (u : Ready). IsReadyToSend c.self.inside.segment c.self.inside.calls.items c.self.inside.owed.items c.make_ready.new.seats.items c.args.client u) c.in-Send.is c.in_ok-make_ready.ensures.ready in
     let q = r.1 nobody in
     let f = c.in_ok-number-in-Send.ensures.follows c.self.inside.addresses.items (trail c.self.inside.addresses.items c.self.inside.calls.items).steps c.self.invariant.stands in
     let k = subst (λ (x : Call). IsAnsweredBy x (Opened c.in-Opened.field-0)) q.2 (subst (IsAnsweredBy c.in-Send.call) c.in-Opened.is f.kind) in
@@ -163,7 +200,7 @@ invariant_of-self-in-Sent c =
     let h : Holds addrs st xs ws ts ds = holds-same _ _ _ _ _ _ _ _ c.make_ready.ensures.seats (same_doors-refl _) c.self.invariant in
     let l : k < length c.self.inside.seats.items = omega (arith, c.self.inside.seats.ok.0, c.len.ensures) in
     let l' : k < length ts = omega (arith, c.make_ready.ensures.count) in
-    let r = subst (λ (u : Ready). IsReadyToSend xs ws ts k u) c.in-Send.is c.in_ok-make_ready.ensures.ready in
+    let r = subst (λ (u : Ready). IsReadyToSend c.self.inside.segment xs ws ts k u) c.in-Send.is c.in_ok-make_ready.ensures.ready in
     let q = r.1 d in
     let e = c.store.ensures d in
     let x = e.0 in
@@ -195,7 +232,7 @@ returns-in-Sent-clause-accepted c =
     let s = get_or ts k d in
     let l : k < length ss = omega (arith, c.self.inside.seats.ok.0, c.len.ensures) in
     let l' : k < length ts = omega (arith, c.make_ready.ensures.count) in
-    let r = subst (λ (u : Ready). IsReadyToSend xs ws ts k u) c.in-Send.is c.in_ok-make_ready.ensures.ready in
+    let r = subst (λ (u : Ready). IsReadyToSend c.self.inside.segment xs ws ts k u) c.in-Send.is c.in_ok-make_ready.ensures.ready in
     let q = r.1 d in
     let e = c.store.ensures d in
     let x = e.0 in
@@ -207,9 +244,39 @@ returns-in-Sent-clause-accepted c =
 
 pub unreachable-requires-in-Done : goal.unreachable-requires-in-Done
 unreachable-requires-in-Done c =
-    let r = subst (λ (u : Ready). IsReadyToSend c.self.inside.calls.items c.self.inside.owed.items c.make_ready.new.seats.items c.args.client u) c.in-Send.is c.in_ok-make_ready.ensures.ready in
+    let r = subst (λ (u : Ready). IsReadyToSend c.self.inside.segment c.self.inside.calls.items c.self.inside.owed.items c.make_ready.new.seats.items c.args.client u) c.in-Send.is c.in_ok-make_ready.ensures.ready in
     let q = r.1 nobody in
     let f = c.in_ok-number-in-Send.ensures.follows c.self.inside.addresses.items (trail c.self.inside.addresses.items c.self.inside.calls.items).steps c.self.invariant.stands in
     let k = subst (λ (x : Call). IsAnsweredBy x (Done c.in-Done.field-0)) q.2 (subst (IsAnsweredBy c.in-Send.call) c.in-Done.is f.kind) in
     let no : true ≡ false = k.1 in
     cc
+
+pub invariant_of-self-in-NotSent : goal.invariant_of-self-in-NotSent
+invariant_of-self-in-NotSent c = rw (c.make_ready.ensures.calls, c.make_ready.ensures.owed) (holds-same _ _ _ _ _ _ _ _ c.make_ready.ensures.seats (same_doors-refl _) c.self.invariant)
+
+pub returns-in-NotSent-clause-accepted : goal.returns-in-NotSent-clause-accepted
+returns-in-NotSent-clause-accepted c =
+    let k = c.args.client in
+    let addrs = c.self.inside.addresses.items in
+    let st = c.self.inside.segment in
+    let xs = c.self.inside.calls.items in
+    let ws = c.self.inside.owed.items in
+    let ss = c.self.inside.seats.items in
+    let ts = c.make_ready.new.seats.items in
+    let ds = c.self.inside.doors.items in
+    let d = nobody in
+    let l : k < length ss = omega (arith, c.self.inside.seats.ok.0, c.len.ensures) in
+    let l' : k < length ts = omega (arith, c.make_ready.ensures.count) in
+    let r = subst (λ (u : Ready). IsReadyToSend st xs ws ts k u) c.in-NotSent.is c.in_ok-make_ready.ensures.ready in
+    let f : get_or (map seat_free ts) k 0 ≡ (get_or ts k d).free = free_is addrs xs ts ds k d l' in
+    let o : owed_by k ws ≡ owed_by k (trail addrs xs).owed = ap (owed_by k) c.self.invariant.owes in
+    let s = get_or ts k d in
+    let q : IsCauseFor st s (Some c.in-NotSent.refusal) = r.1 d in
+    let e : Refused c.in-NotSent.refusal ≡ reply_of st (send_call s.station q.0) = refused_reply st c.in-NotSent.refusal (called st (send_call s.station q.0)) q.2 in
+    let at : s ≡ get_or ts k s = get_or_default ts k d s l' in
+    rw (← c.self.view_is, c.make_ready.ensures.calls) (
+      same_live _ _ _ _ _ _ c.make_ready.ensures.seats (same_doors-refl _),
+      waits_at addrs xs ts ds k d l' (r.0.1 d).0,
+      omega (arith, f, o, (r.0.1 d).1),
+      inr (refused_send addrs st xs ss ts ds ds k q.0 s _ c.self.invariant.at l' at (clients-same ss ts c.make_ready.ensures.seats) r.0.0 q.1 e),
+    )

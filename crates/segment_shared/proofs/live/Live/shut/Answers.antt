@@ -1,5 +1,5 @@
 use Rattle.std.proofs.Common.{◌≡◌, ℕ, ◌+◌, ◌<◌, ◌≤◌, List, [], ◌∷◌, ◌++◌, length, map, get_or, set, None, refl, sym, ap, ◌∙◌, arith, subst}
-use Rattle.std.proofs.lemmas.List.{length-map}
+use Rattle.std.proofs.lemmas.List.{length-map, get_or-map}
 use mathlib.Core.List.{IsPrefix}
 use Rattle.pgn_ids.specs.declared.address.Address.{Address}
 use Rattle.port_table.specs.declared.port.PortId.{PortId}
@@ -18,9 +18,12 @@ use Rattle.segment_shared.specs.declared.call.Owed.{Owed}
 use Rattle.segment_shared.specs.declared.closing.Closed.{Closed}
 use Rattle.segment_shared.specs.Record.{given, settle_notes, settle_owed, Trail, trail}
 use Rattle.segment_shared.specs.Facts.{IdsFrom, HaveRoom, OwedWithin, note_all, Holds, give_all}
-use Rattle.segment_shared.specs.LiveView.{LiveView, PortView, live_view, port_of, stored, calls_after}
+use Rattle.segment_shared.specs.LiveView.{LiveView, PortView, live_view, client_of, port_of, stored, calls_after, told_clients}
+use Rattle.segment_shared.specs.Reports.{closing}
+use Rattle.segment_shared.proofs.Applying.{told_as}
 use Rattle.segment_shared.proofs.Closings.{given_here, closed_for}
-use Rattle.segment_shared.proofs.Doors.{length-give_all}
+use Rattle.segment_shared.proofs.Doors.{length-give_all, give_all_unplaced}
+use Rattle.segment_shared.proofs.Telling.{clients_untold, ports_closed}
 use Rattle.segment_shared.proofs.Holding.{holds-tell, holds-close_door}
 use Rattle.segment_shared.proofs.Ready.{none_ready}
 use Rattle.segment_shared.proofs.live.Live.shut.Goals as goal
@@ -191,7 +194,16 @@ returns-in-Done-clause-closed c =
     let same : c.in_ok-kept.kept.items ≡ c.in_ok-rest.rest.items = c.in_ok-kept.ensures ∙ c.as_slice.ensures.value in
     let j = c.hand_over.new.inbox in
     let inbox : j ≡ closes i c.in_ok-rest.rest.items j.spare = c.hand_over.ensures.inbox ∙ ap (λ (x : InboxEnd). closes x c.in_ok-kept.kept.items j.spare) c.reserve.ensures.same ∙ ap (λ (u : List Delivery). closes i u j.spare) same in
-    rw (← c.self.view_is) (closed_for addrs st xs _ ss _ ds _ i j p _ c.self.invariant.at few (k, rw length-map within, port_at) c.port-port.ensures refl got inbox (calls ∙ sym (ap (λ (u : Reply). calls_after u xs (stored None (Close p))) rep)))
+    let told : map client_of c.tell-told.new.seats.items ≡ told_clients v (reply_of st (Close p)) =
+    told_as addrs xs ws ss c.tell-told.new.seats.items ds es c.self.invariant.ids c.self.invariant.owes c.tell-told.ensures.seats ∙ ap (told_clients v) (sym rep) in
+    let none : give_all es ds ≡ ds = give_all_unplaced es ds f.ports in
+    let gs = c.tell-told.new.doors.items in
+    let gs_is : gs ≡ ds = c.tell-told.ensures.doors ∙ none in
+    let d0 = new_door p 0 0 in
+    let at_k : (get_or ds k d0).port ≡ p = sym (ap (λ (x : PortView). x.port) (get_or-map port_of ds k d0 (port_of d0) within)) ∙ port_at (port_of d0) ∙ sym c.port-port.ensures in
+    let shown : map port_of c.hand_over.new.doors.items ≡ map (closing p) (map port_of ds) =
+    ap (map port_of) (c.hand_over.ensures.doors d0) ∙ ap (λ (u : List DoorView). map port_of (set u k (closed_door (get_or u k d0)))) gs_is ∙ ports_closed p k ds d0 within at_k c.self.invariant.apart in
+    rw (← c.self.view_is) (closed_for addrs st xs _ ss _ ds _ i j p _ c.self.invariant.at few (k, rw length-map within, port_at) c.port-port.ensures refl got inbox (calls ∙ sym (ap (λ (u : Reply). calls_after u xs (stored None (Close p))) rep)) told shown)
 
 pub returns-in-Refused-clause-closed : goal.returns-in-Refused-clause-closed
 returns-in-Refused-clause-closed c =
@@ -217,4 +229,8 @@ returns-in-Refused-clause-closed c =
     let j = c.hand_over-in-Refused.new.inbox in
     let rep : reply_of st (Close p) ≡ Refused c.in-Refused.field-0 = sym c.in_ok-events.ensures.reply ∙ c.in-Refused.is in
     let inbox : j ≡ closes i c.in_ok-rest.rest.items j.spare = c.hand_over-in-Refused.ensures.inbox ∙ ap (λ (x : InboxEnd). closes x c.in_ok-kept.kept.items j.spare) c.reserve.ensures.same ∙ ap (λ (u : List Delivery). closes i u j.spare) same in
-    rw (← c.self.view_is) (closed_for addrs st xs _ ss _ ds _ i j p _ c.self.invariant.at few (k, rw length-map within, port_at) c.port-port.ensures refl got inbox (c.reserve-2.ensures.items ∙ sym (ap (λ (u : Reply). calls_after u xs (stored None (Close p))) rep)))
+    let told : map client_of ss ≡ told_clients v (reply_of st (Close p)) = sym (clients_untold 0 (map client_of ss)) ∙ ap (told_clients v) (sym rep) in
+    let d0 = new_door p 0 0 in
+    let at_k : (get_or ds k d0).port ≡ p = sym (ap (λ (x : PortView). x.port) (get_or-map port_of ds k d0 (port_of d0) within)) ∙ port_at (port_of d0) ∙ sym c.port-port.ensures in
+    let shown : map port_of c.hand_over-in-Refused.new.doors.items ≡ map (closing p) (map port_of ds) = ap (map port_of) (c.hand_over-in-Refused.ensures.doors d0) ∙ ports_closed p k ds d0 within at_k c.self.invariant.apart in
+    rw (← c.self.view_is) (closed_for addrs st xs _ ss _ ds _ i j p _ c.self.invariant.at few (k, rw length-map within, port_at) c.port-port.ensures refl got inbox (c.reserve-2.ensures.items ∙ sym (ap (λ (u : Reply). calls_after u xs (stored None (Close p))) rep)) told shown)
