@@ -75,4 +75,4 @@ lacks_memory addresses st xs ss ds call o at few none e = record {
 -- what isn't refused has no cause
 pub no_cause : (x : Answer) → IsOk x → None ≡ refusal_of x
 no_cause (Ok step) h = refl
-no_cause (Err c) h = absurd (cc)
+no_cause (Err c) h = absurd (let no : false ≡ true = h in cc)

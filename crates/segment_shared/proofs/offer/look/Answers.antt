@@ -18,7 +18,7 @@ returns-in-Owed-clause-same c =
     let s = c.index_mut-seat.result.now in
     same_seats-set c.args.seats.now.items c.args.k s _ c.requires (subst (λ (x : SeatView). SameSeat x c.offer.new.self) c.index_mut-seat.ensures.value c.offer.ensures.same)
 
-pub returns-else-stored-ge-MOST_CALLS-clause-same : goal.returns-in-Ready-clause-same
+pub returns-else-stored-ge-MOST_CALLS-clause-same : goal.returns-else-stored-ge-MOST_CALLS-clause-same
 returns-else-stored-ge-MOST_CALLS-clause-same c =
     let s = c.index_mut-seat.result.now in
     same_seats-set c.args.seats.now.items c.args.k s _ c.requires (subst (λ (x : SeatView). SameSeat x c.offer.new.self) c.index_mut-seat.ensures.value c.offer.ensures.same)

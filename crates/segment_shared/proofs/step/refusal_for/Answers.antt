@@ -1,4 +1,4 @@
-use Rattle.std.proofs.Common.{◌≡◌, true, ap, ◌∙◌}
+use Rattle.std.proofs.Common.{true, ap, ◌∙◌}
 use Rattle.segment_law.specs.Calls.{called}
 use Rattle.segment_law.specs.declared.call.Call.{Call}
 use Rattle.segment_core.specs.Answers.{refusal_of}

@@ -1,10 +1,10 @@
-use Rattle.std.proofs.Common.{◌≡◌, ℕ, ◌<◌, ◌≤◌, List, length, map, get_or, true, false, refl, sym, ap, ◌∙◌, subst, inl, inr, arith}
+use Rattle.std.proofs.Common.{◌≡◌, ◌<◌, ◌≤◌, List, length, refl, sym, ap, ◌∙◌, subst, inl, inr, arith}
 use Rattle.std.specs.Prelude.{IsTrue}
 use mathlib.Core.List.{IsPrefix}
 use Rattle.port_table.specs.declared.port.PortId.{PortId}
 use Rattle.segment_rings.specs.declared.words.Delivery.{Delivery}
 use Rattle.segment_rings.specs.Views.{DoorView}
-use Rattle.segment_shared.specs.Record.{given, Trail, trail}
+use Rattle.segment_shared.specs.Record.{given, trail}
 use Rattle.segment_shared.specs.Facts.{NoneAt}
 use Rattle.segment_shared.specs.Places.{IsPlaceIn}
 use Rattle.segment_shared.specs.LiveView.{live_view}

@@ -1,13 +1,12 @@
-use Rattle.std.proofs.Common.{◌≡◌, ℕ, ◌<◌, ◌++◌, List, [], ◌∷◌, length, ◌≤◌, None, refl, inl, inr, sym, ap, ◌∙◌, arith, subst}
+use Rattle.std.proofs.Common.{◌≡◌, ◌<◌, ◌++◌, List, [], ◌∷◌, length, ◌≤◌, None, refl, inl, inr, sym, ap, ◌∙◌, arith, subst}
 use Rattle.segment_law.specs.Record.{StandsAt}
 use Rattle.segment_law.specs.declared.call.Call.TheVariants.{Open}
 use Rattle.segment_law.specs.declared.reply.Reply.{Reply}
 use Rattle.segment_law.specs.declared.reply.Reply.TheVariants.{Opened}
-use Rattle.reply_law.specs.Replies.{reply_of, left_by, Follows}
+use Rattle.reply_law.specs.Replies.{reply_of, Follows}
 use Rattle.segment_rings.specs.Views.{DoorView, new_door}
 use Rattle.segment_shared.specs.declared.call.Stored.{Stored}
-use Rattle.segment_shared.specs.Record.{Trail, trail}
-use Rattle.segment_shared.specs.Facts.{Holds}
+use Rattle.segment_shared.specs.Record.{trail}
 use Rattle.segment_shared.specs.LiveView.{stored}
 use Rattle.segment_shared.proofs.Holding.{holds-open}
 use Rattle.segment_shared.proofs.Openings.{open_refused, open_free}

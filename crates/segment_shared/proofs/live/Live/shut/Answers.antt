@@ -1,22 +1,17 @@
-use Rattle.std.proofs.Common.{◌≡◌, ℕ, ◌+◌, ◌<◌, ◌≤◌, List, [], ◌∷◌, ◌++◌, length, map, get_or, set, None, refl, sym, ap, ◌∙◌, arith, subst}
+use Rattle.std.proofs.Common.{◌≡◌, ◌<◌, List, [], ◌∷◌, ◌++◌, length, map, get_or, set, None, refl, sym, ap, ◌∙◌, arith, subst}
 use Rattle.std.proofs.lemmas.List.{length-map, get_or-map}
 use mathlib.Core.List.{IsPrefix}
-use Rattle.pgn_ids.specs.declared.address.Address.{Address}
-use Rattle.port_table.specs.declared.port.PortId.{PortId}
-use Rattle.station_lanes.specs.declared.event.Event.{Event}
-use Rattle.segment_law.specs.Segment.{Segment}
 use Rattle.segment_law.specs.Record.{StandsAt}
 use Rattle.segment_law.specs.declared.call.Call.TheVariants.{Close}
 use Rattle.segment_law.specs.declared.reply.Reply.{Reply}
 use Rattle.segment_law.specs.declared.reply.Reply.TheVariants.{Done, Refused}
-use Rattle.reply_law.specs.Replies.{reply_of, left_by, IsRefusal, Follows}
+use Rattle.reply_law.specs.Replies.{reply_of, IsRefusal, Follows}
 use Rattle.segment_rings.specs.declared.words.Delivery.{Delivery}
-use Rattle.segment_rings.specs.Ends.{InboxEnd, closes, with_room_kept}
+use Rattle.segment_rings.specs.Ends.{InboxEnd, closes}
 use Rattle.segment_rings.specs.Views.{SeatView, DoorView, new_door, closed_door}
 use Rattle.segment_shared.specs.declared.call.Stored.{Stored}
 use Rattle.segment_shared.specs.declared.call.Owed.{Owed}
-use Rattle.segment_shared.specs.declared.closing.Closed.{Closed}
-use Rattle.segment_shared.specs.Record.{given, settle_notes, settle_owed, Trail, trail}
+use Rattle.segment_shared.specs.Record.{given, settle_notes, settle_owed, trail}
 use Rattle.segment_shared.specs.Facts.{IdsFrom, HaveRoom, OwedWithin, note_all, Holds, give_all}
 use Rattle.segment_shared.specs.LiveView.{LiveView, PortView, live_view, client_of, port_of, stored, calls_after, told_clients}
 use Rattle.segment_shared.specs.Reports.{closing}
