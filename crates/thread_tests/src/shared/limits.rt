@@ -1,9 +1,7 @@
 //! Full rings, owed places, and the most calls that are stored.
 use super::steps::*;
 use pgn_ids::Address;
-use segment_shared::{
-    Accepted, CloseRefused, Live, MOST_CALLS, OpenRefused, Refusal, WorkerCall,
-};
+use segment_shared::{Accepted, CloseRefused, Live, MOST_CALLS, OpenRefused, Refusal, WorkerCall};
 use std::test::Fail;
 
 #[test]

@@ -101,8 +101,7 @@ returns-in_ok-call-in-Waits-clause-ready c =
     let h : (s : SeatView) → IsCauseFor st (get_or ts k s) c.front_refusal.result = λ s. subst (λ (ss : List SeatView). IsCauseFor st (get_or ss k s) c.front_refusal.result) c.as_slice-in-Waits.ensures.value (c.front_refusal.ensures s) in
     let lacks : LacksRoomToSend st xs ws ts k = found_cause st xs ws k ts _ _ _ None n few f h c.in_default.is in
     let us = c.keep_notes.new.seats.items in
-    let kept : LacksRoomToSend st xs ws us k = lacks_kept st xs ws k ts us c.keep_notes.ensures.kept lacks in
-    (
+    let kept : LacksRoomToSend st xs ws us k = lacks_kept st xs ws k ts us c.keep_notes.ensures.kept lacks in (
       (kept.0.0, λ s. let p : c.count_owed-count.result + 1 ≤ (get_or us k s).spare = c.in_ok-keep_notes-in-Waits.ensures.ok s in ((kept.0.1 s).0, (kept.0.1 s).1, omega (arith, n, p))),
       λ s. subst (λ (ss : List SeatView). IsSendOf (get_or ss k s) c.in_ok-call-in-Waits.call) c.as_slice-in-Waits-2.ensures.value (c.in_ok-call-in-Waits.ensures s),
     )
