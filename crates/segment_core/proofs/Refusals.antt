@@ -18,11 +18,12 @@ use Rattle.station_core.specs.Refusals.{message_refusal, IsSendingRefused}
 use Rattle.station_core.specs.declared.refused.SendingCause.{SendingCause}
 use Rattle.station_core.specs.declared.refused.SendingCause.TheVariants as sending
 use Rattle.segment_law.specs.Segment.{Segment, with_station}
-use Rattle.segment_law.specs.Calls.{Answer, stepped, no_place, pump_places, opens, closes, pauses, resumes, sends, pumps_by, pumps, cancels}
+use Rattle.segment_law.specs.Calls.{Answer, at_address, called, stepped, no_place, pump_places, opens, closes, pauses, resumes, sends, pumps_by, pumps, cancels}
+use Rattle.segment_law.specs.declared.call.Call.TheVariants.{Send}
 use Rattle.segment_law.specs.declared.refusal.Refusal.TheVariants as refusal
 use Rattle.segment_law.specs.declared.reply.Reply.TheVariants.{Sent}
 use Rattle.segment_core.specs.declared.stop.Stop.{Stop}
-use Rattle.segment_core.specs.Answers.{IsAnswer, sending_stop}
+use Rattle.segment_core.specs.Answers.{IsAnswer, refusal_of, refused_by, sending_stop}
 
 pub open_full : (seg : Segment) (pgn max_len i : ℕ) (st : Station) (cause : PortsFull) → opening st.ports pgn max_len ≡ Err cause → opens seg pgn max_len i st ≡ Err refusal.PortsFull
 open_full seg pgn max_len i st cause e = grind arith
@@ -94,3 +95,17 @@ send_stopped seg after to pgn bytes i st answer cause stop is same e says = subs
     by sending.TooLong h = (is ∙ send_long seg to pgn bytes i st h, same)
     by sending.LaneFull h = (is ∙ send_full seg to pgn bytes i st h.0 h.1, same)
     by sending.OutOfMemory h = (subst (λ (x : Answer). IsOk x) (sym is) (send_passes seg to pgn bytes i st h.0 h.1), same)
+
+-- what a Send is
+pub called_send : (seg : Segment) (from to : Address) (pgn : ℕ) (bytes : List ℕ) → called seg (Send from to pgn bytes) ≡ at_address seg from (sends seg to pgn bytes)
+unfolding called
+called_send seg from to pgn bytes = refl
+
+-- a message that isn't one to its destination is refused for that
+pub send_refused : (seg : Segment) (to : Address) (pgn : ℕ) (bytes : List ℕ) (i : ℕ) (st : Station) (cause : SendingCause) → message_refusal st.address to (length bytes) ≡ Some cause → refusal_of (sends seg to pgn bytes i st) ≡ refused_by (sending_stop cause)
+send_refused seg to pgn bytes i st sending.NoSuchStation h = ap refusal_of (send_to_none seg to pgn bytes i st h)
+send_refused seg to pgn bytes i st sending.SameStation h = ap refusal_of (send_to_itself seg to pgn bytes i st h)
+send_refused seg to pgn bytes i st sending.TooShort h = ap refusal_of (send_short seg to pgn bytes i st h)
+send_refused seg to pgn bytes i st sending.TooLong h = ap refusal_of (send_long seg to pgn bytes i st h)
+send_refused seg to pgn bytes i st sending.LaneFull h = grind arith
+send_refused seg to pgn bytes i st sending.OutOfMemory h = grind arith

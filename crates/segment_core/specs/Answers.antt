@@ -21,6 +21,11 @@ abbrev pub refusal_of : Answer → Option Refusal
 refusal_of (Ok step) = None
 refusal_of (Err cause) = Some cause
 
+-- the cause of a call that ended so, if it was refused
+abbrev pub refused_by : Stop → Option Refusal
+refused_by (Refused cause) = Some cause
+refused_by OutOfMemory = None
+
 -- how a call ends whose message isn't sent
 abbrev pub sending_stop : SendingCause → Stop
 sending_stop sending.NoSuchStation = Refused NoSuchStation

@@ -174,7 +174,7 @@ impl Segment {
         ensures took { (start : State) (d : Drive) → IsCourse None start d self.old course.old → Went start (makes d (Take station true)) self.new course.new result }
         ensures taken { OnOk result (HasTaken station self.old self.new) }
     {
-        if let Some(cause) = self.take_refusal(station) {
+        if let Some(cause) = self.take_refusal(station, true) {
             return Err(Stop::Refused(cause));
         }
         course.parts.reserve(1)?;

@@ -1,14 +1,19 @@
 //! Why a call would be refused, looked for without a step and without memory.
-ghost use Rattle.std.specs.Prelude.{◌≡◌, ℕ, true};
+ghost use Rattle.std.specs.Prelude.{◌≡◌, ℕ, List, length, true};
 ghost use Rattle.bus_order.specs.Bus.{is_full};
-ghost use Rattle.segment_law.specs.Calls.{at_address, called, pumps, takes, transmits};
-ghost use Rattle.segment_law.specs.declared.call.Call.TheVariants.{Open};
-ghost use Rattle.segment_core.specs.Answers.{refusal_of};
+ghost use Rattle.segment_law.specs.Calls.{at_address, called, cancels, closes, fires, injects, overruns, pauses, pumps, repeats, resumes, takes, ticks, transmits};
+ghost use Rattle.segment_law.specs.declared.call.Call.TheVariants.{Open, Send};
+ghost use Rattle.segment_core.specs.Answers.{refusal_of, refused_by, sending_stop as sending_stop_of};
 
 use crate::segment::Segment;
+use crate::sending::sending_stop;
+use crate::stop::Stop;
+use bus_frame::Frame;
 use lane_core::PumpRefused;
-use pgn_ids::Address;
-use segment_law::Refusal;
+use pgn_ids::{Address, read_id};
+use port_table::PortId;
+use segment_law::{Call, Refusal};
+use station_core::SendingCause;
 
 /// How many frames the bus keeps at most.
 const MOST_KEPT: u64 = 4096;
@@ -16,7 +21,113 @@ const MOST_KEPT: u64 = 4096;
 /// The most frames that a Pump queues, for which a place each has to be free.
 pub(crate) const MOST_PUMPED: usize = 8;
 
+// The cause of a Send whose message isn't one to its destination; want of memory is none.
+fn message_cause(cause: SendingCause) -> Option<Refusal>
+    ensures { result ≡ refused_by (sending_stop_of cause) }
+{
+    match sending_stop(cause) {
+        Stop::Refused(refusal) => Some(refusal),
+        Stop::OutOfMemory => None,
+    }
+}
+
 impl Segment {
+    /// Why a call would be refused: the first of its causes, or `None` where `apply` makes the call or finds no memory
+    /// for it. It takes no memory.
+    #[tactic(auto, unfolding(segment_law::specs::Calls::called))]
+    pub fn refusal(&self, call: &Call) -> Option<Refusal>
+        ensures { result ≡ refusal_of (called self.now call.now) }
+    {
+        match call {
+            Call::Open { station, .. } => self.open_refusal(*station),
+            Call::Close { port } => self.close_refusal(*port),
+            Call::Send {
+                from,
+                to,
+                bytes,
+                ..
+            } => self.send_refusal(*from, *to, bytes.len()),
+            Call::Pump { station, to } => self.pump_refusal(*station, *to),
+            Call::Transmit { station } => self.transmit_refusal(*station),
+            Call::Take { station, room } => self.take_refusal(*station, *room),
+            Call::TakeAgain { station, room } => self.repeat_refusal(*station, *room),
+            Call::Overrun { station, n } => self.overrun_refusal(*station, *n),
+            Call::Tick { n } => self.tick_refusal(*n),
+            Call::Fire { station } => self.fire_refusal(*station),
+            Call::Cancel { from, to, number } => self.cancel_refusal(*from, *to, *number),
+            Call::Inject { frame } => self.inject_refusal(frame),
+            Call::Pause { port } => self.pause_refusal(*port),
+            Call::Resume { port } => self.resume_refusal(*port),
+        }
+    }
+
+    /// Why a Send of so many bytes from a station to a destination would be refused, whatever they are and whatever the
+    /// PGN. It takes no memory.
+    #[tactic(auto, unfolding(segment_law::specs::Calls::called))]
+    pub fn send_refusal(&self, from: Address, to: Address, len: usize) -> Option<Refusal>
+        ensures { (pgn : ℕ) (bytes : List ℕ) → length bytes ≡ len → result ≡ refusal_of (called self.now (Send from to pgn bytes)) }
+    {
+        let Some(place) = self.place_of(from) else {
+            return Some(Refusal::NoSuchStation);
+        };
+        let station = &self.stations[place];
+        if let Some(cause) = station.message_refusal(to, len) {
+            return message_cause(cause);
+        }
+        if station.is_lane_full(to) {
+            return Some(Refusal::LaneFull);
+        }
+        None
+    }
+
+    // Why a Close of a port would be refused.
+    #[tactic(auto, using(crate::proofs::Stations::call_laws))]
+    fn close_refusal(&self, port: PortId) -> Option<Refusal>
+        ensures { result ≡ refusal_of (at_address self.now port.station (closes self.now port.number)) }
+    {
+        let Some(place) = self.place_of(port.station) else {
+            return Some(Refusal::NoSuchStation);
+        };
+        if !self.stations[place].is_open(port.number) {
+            return Some(Refusal::NoSuchPort);
+        }
+        None
+    }
+
+    // Why a Pause of a port would be refused.
+    #[tactic(auto, using(crate::proofs::Stations::call_laws))]
+    fn pause_refusal(&self, port: PortId) -> Option<Refusal>
+        ensures { result ≡ refusal_of (at_address self.now port.station (pauses self.now port.number)) }
+    {
+        let Some(place) = self.place_of(port.station) else {
+            return Some(Refusal::NoSuchStation);
+        };
+        if !self.stations[place].is_open(port.number) {
+            return Some(Refusal::NoSuchPort);
+        }
+        if self.stations[place].is_paused(port.number) {
+            return Some(Refusal::PortPaused);
+        }
+        None
+    }
+
+    // Why a Resume of a port would be refused.
+    #[tactic(auto, using(crate::proofs::Stations::call_laws))]
+    fn resume_refusal(&self, port: PortId) -> Option<Refusal>
+        ensures { result ≡ refusal_of (at_address self.now port.station (resumes self.now port.number)) }
+    {
+        let Some(place) = self.place_of(port.station) else {
+            return Some(Refusal::NoSuchStation);
+        };
+        if !self.stations[place].is_open(port.number) {
+            return Some(Refusal::NoSuchPort);
+        }
+        if !self.stations[place].is_paused(port.number) {
+            return Some(Refusal::PortNotPaused);
+        }
+        None
+    }
+
     /// Why an Open at a station would be refused, whatever its PGN and length: the address isn't a station's, or the
     /// station has 16 open ports or no number left. It takes no memory.
     #[tactic(auto, unfolding(segment_law::specs::Calls::called), using(crate::proofs::Stations::call_laws))]
@@ -88,10 +199,10 @@ impl Segment {
         }
     }
 
-    /// Why a station's Take with room would be refused.
+    /// Why a station's Take would be refused, with room or without.
     #[tactic(auto, using(crate::proofs::Stations::call_laws))]
-    pub(crate) fn take_refusal(&self, station: Address) -> Option<Refusal>
-        ensures { result ≡ refusal_of (at_address self.now station (takes self.now true)) }
+    pub(crate) fn take_refusal(&self, station: Address, room: bool) -> Option<Refusal>
+        ensures { result ≡ refusal_of (at_address self.now station (takes self.now room)) }
     {
         let Some(place) = self.place_of(station) else {
             return Some(Refusal::NoSuchStation);
@@ -101,6 +212,98 @@ impl Segment {
         };
         if self.stations[place].free() == 0 {
             return Some(Refusal::TxFull);
+        }
+        None
+    }
+
+    // Why a station's TakeAgain would be refused.
+    #[tactic(auto, using(crate::proofs::Stations::call_laws))]
+    fn repeat_refusal(&self, station: Address, room: bool) -> Option<Refusal>
+        ensures { result ≡ refusal_of (at_address self.now station (repeats self.now room)) }
+    {
+        let Some(place) = self.place_of(station) else {
+            return Some(Refusal::NoSuchStation);
+        };
+        let Some(_last) = self.bus.again(place) else {
+            return Some(Refusal::NothingToRepeat);
+        };
+        if self.stations[place].free() == 0 {
+            return Some(Refusal::TxFull);
+        }
+        None
+    }
+
+    // Why a station's Overrun would be refused.
+    #[tactic(auto, using(crate::proofs::Stations::call_laws))]
+    fn overrun_refusal(&self, station: Address, n: u64) -> Option<Refusal>
+        ensures { result ≡ refusal_of (at_address self.now station (overruns self.now n)) }
+    {
+        let Some(place) = self.place_of(station) else {
+            return Some(Refusal::NoSuchStation);
+        };
+        if n > self.bus.waiting(place) {
+            return Some(Refusal::NothingToTake);
+        }
+        None
+    }
+
+    // Why a Tick would be refused.
+    fn tick_refusal(&self, n: u64) -> Option<Refusal>
+        ensures { result ≡ refusal_of (ticks self.now n) }
+    {
+        if n > u64::MAX - self.clock.now() {
+            return Some(Refusal::ClockEnd);
+        }
+        None
+    }
+
+    // Why a station's Fire would be refused.
+    #[tactic(auto, using(crate::proofs::Stations::call_laws))]
+    fn fire_refusal(&self, station: Address) -> Option<Refusal>
+        ensures { result ≡ refusal_of (at_address self.now station (fires self.now)) }
+    {
+        let Some(place) = self.place_of(station) else {
+            return Some(Refusal::NoSuchStation);
+        };
+        if !self.stations[place].is_due(self.clock.now()) {
+            return Some(Refusal::NothingDue);
+        }
+        if self.stations[place].free() == 0 {
+            return Some(Refusal::TxFull);
+        }
+        None
+    }
+
+    // Why a Cancel of a message would be refused.
+    #[tactic(auto, using(crate::proofs::Stations::call_laws))]
+    fn cancel_refusal(&self, from: Address, to: Address, number: u64) -> Option<Refusal>
+        ensures { result ≡ refusal_of (at_address self.now from (cancels self.now to number)) }
+    {
+        let Some(place) = self.place_of(from) else {
+            return Some(Refusal::NoSuchStation);
+        };
+        if to == Address::NULL {
+            return Some(Refusal::NoSuchStation);
+        }
+        if !self.stations[place].is_pending(to, number) {
+            return Some(Refusal::NothingToSend);
+        }
+        if self.stations[place].queues_abort(to, number) && self.stations[place].free() == 0 {
+            return Some(Refusal::TxFull);
+        }
+        None
+    }
+
+    // Why an Inject of a frame would be refused.
+    #[tactic(auto, using(crate::proofs::Stations::call_laws))]
+    fn inject_refusal(&self, frame: &Frame) -> Option<Refusal>
+        ensures { result ≡ refusal_of (injects self.now frame.now) }
+    {
+        if self.place_of(read_id(frame.id()).from).is_some() {
+            return Some(Refusal::StationAddress);
+        }
+        if self.is_bus_full() {
+            return Some(Refusal::BusFull);
         }
         None
     }

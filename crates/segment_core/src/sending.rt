@@ -10,8 +10,8 @@ use pgn_ids::{Address, Pgn};
 use segment_law::{Refusal, Reply};
 use station_core::{CancellingRefused, PumpingRefused, SendingCause};
 
-// How a call ends whose message isn't sent.
-fn sending_stop(cause: SendingCause) -> Stop
+/// How a call ends whose message isn't sent.
+pub(crate) fn sending_stop(cause: SendingCause) -> Stop
     ensures { result ≡ sending_stop_of cause }
 {
     match cause {

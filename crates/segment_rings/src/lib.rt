@@ -11,8 +11,6 @@ mod client;
 mod door;
 mod inbox;
 mod seat;
-#[cfg(test)]
-mod tests;
 mod words;
 
 pub use buffer::Buffer;

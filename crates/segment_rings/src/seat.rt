@@ -46,6 +46,7 @@ impl Seat {
     ghost use mathlib.Core.List.{IsPrefix};
     ghost use Rattle.segment_rings.specs.Views.{SeatView, new_seat, looked, looked_for_room, with_spare, popped_one, with_note, closed_seat, SameSeat, IsOffer};
     ghost use Rattle.segment_rings.specs.Ends.{new_client_end};
+    ghost use Rattle.segment_rings.specs.declared.seat.Offer.TheVariants as offer;
 
     /// A client of a station, and the seat that it has in the segment.
     pub fn new(alloc: Global, id: u64, station: Address) -> Result<(Seat, Client), AllocError>
@@ -166,6 +167,7 @@ impl Seat {
     pub fn offer(&mut self, owed: usize) -> Offer
         ensures same { SameSeat self.old self.new }
         ensures offer { IsOffer self.new owed result }
+        ensures few { result ≡ offer.Ready → owed + 1 < 2 ^ 64 }
     {
         if !self.active {
             return Offer::Empty;

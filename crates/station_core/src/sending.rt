@@ -76,6 +76,24 @@ impl Station {
         }
     }
 
+    /// Why a message of so many bytes to a destination isn't sent, whatever they are and before the lane is looked at: the
+    /// first cause of `send` that holds. It takes no memory.
+    pub fn message_refusal(&self, to: Address, len: usize) -> Option<SendingCause>
+        ensures { result ≡ message_refusal_of self.now.address to len }
+    {
+        message_refusal(self.address, to, len)
+    }
+
+    /// Whether the lane to a destination takes no further message: 32 have no outcome, or no number is left.
+    pub fn is_lane_full(&self, to: Address) -> bool
+        ensures { result ≡ is_full (lane_of self.now to) }
+    {
+        match self.lanes.get(to) {
+            None => false,
+            Some(lane) => lane.is_full(),
+        }
+    }
+
     /// Why the lane to a destination queues nothing at tick `now`, or `None` where a pump queues a frame.
     pub fn pump_refusal(&self, to: Address, now: u64) -> Option<PumpRefused>
         ensures { result ≡ refusal_at self.now.lanes to.0 now }

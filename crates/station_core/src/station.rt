@@ -3,7 +3,7 @@ ghost use Rattle.std.specs.Prelude.{◌≡◌, ◌≤◌, ◌<◌, ◌+◌, ◌+
 ghost use Rattle.pgn_ids.specs.Address.{is_one};
 ghost use Rattle.tx_queue.specs.Queue.{queue_limit, free_places, front, behind};
 ghost use Rattle.lane_core.specs.Steps.{option_frames};
-ghost use Rattle.port_table.specs.Ports.{next_id, are_full, opening, pausing, resuming, with_port, with_paused};
+ghost use Rattle.port_table.specs.Ports.{next_id, are_full, is_open, is_paused, opening, pausing, resuming, with_port, with_paused};
 ghost use Rattle.station_core.specs.Station.{new_station};
 
 use bus_frame::Frame;
@@ -150,6 +150,20 @@ impl Station {
         ensures { result ≡ are_full self.now.ports }
     {
         self.ports.is_full()
+    }
+
+    /// Whether an open port has this number.
+    pub fn is_open(&self, number: u64) -> bool
+        ensures { result ≡ is_open self.now.ports number }
+    {
+        self.ports.is_open(number)
+    }
+
+    /// Whether the open port with this number is paused; false where there is none.
+    pub fn is_paused(&self, number: u64) -> bool
+        ensures { result ≡ is_paused self.now.ports number }
+    {
+        self.ports.is_paused(number)
     }
 
     /// Pauses a port: each session that gives to it is held, and grants no packet.

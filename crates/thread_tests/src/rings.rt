@@ -1,9 +1,9 @@
 //! Both ends of each ring on one thread: each call on its happy path, full and empty rings, and places that are free again.
-use super::*;
 use lane_core::Bytes;
 use pgn_ids::{Address, Pgn};
 use port_table::PortId;
 use segment_law::Refusal;
+use segment_rings::{Buffer, Delivery, Door, Doorway, Note, Offer, Seat, Submission};
 use std::alloc::{AllocError, Global};
 use std::test::Fail;
 use tp_wire::Outcome;

@@ -1,0 +1,16 @@
+pub mod Seats
+pub mod Trails
+pub mod Prefixes
+pub mod Doors
+pub mod Buffers
+pub mod Preparing
+pub mod Holding
+pub mod Laws
+pub mod Fronts
+pub mod Sending
+pub mod Ready
+pub mod Refusing
+pub mod Telling
+pub mod Applying
+pub mod Closings
+pub mod Openings

@@ -1,0 +1,282 @@
+use Rattle.std.proofs.Common.{◌≡◌, ℕ, ◌+◌, ◌<◌, ◌≤◌, List, [], ◌∷◌, ◌++◌, length, map, get_or, refl, sym, ap, ◌∙◌, arith, subst, inl, inr, ◌⊎◌, zero-add, true, false, Some, None, IsOk}
+use Rattle.std.proofs.lemmas.List.{get_or_default, get_or-map, length-map}
+use Rattle.pgn_ids.specs.declared.address.Address.{Address}
+use Rattle.segment_law.specs.Segment.{Segment}
+use Rattle.segment_law.specs.Record.{StandsAt}
+use Rattle.segment_law.specs.Calls.{called}
+use Rattle.segment_law.specs.declared.call.Call.{Call}
+use Rattle.segment_law.specs.declared.reply.Reply.{Reply}
+use Rattle.segment_law.specs.declared.reply.Reply.TheVariants.{Opened, Sent, Refused, Done}
+use Rattle.reply_law.specs.Replies.{reply_of, left_by, IsRefusal, IsAnsweredBy, Follows}
+use Rattle.segment_rings.specs.declared.words.Submission.{Submission}
+use Rattle.segment_rings.specs.Views.{SeatView, DoorView, new_seat}
+use Rattle.segment_shared.specs.declared.call.Stored.{Stored}
+use Rattle.segment_shared.specs.declared.call.Owed.{Owed}
+use Rattle.segment_shared.specs.declared.offer.Ready.{Ready}
+use Rattle.segment_shared.specs.Record.{owed_by, Trail, trail}
+use Rattle.segment_shared.specs.Facts.{Holds}
+use Rattle.segment_shared.specs.LiveView.{live_view, client_of, seat_free}
+use Rattle.segment_shared.specs.Offers.{IsReadyToSend, IsSendOf, IsCauseFor, LacksRoomToSend, send_call, owed_for}
+use Rattle.segment_shared.proofs.Trails.{accepted_le}
+use Rattle.segment_shared.proofs.Doors.{same_doors-refl}
+use Rattle.segment_shared.proofs.Fronts.{empty_at, none_at, waits_at, free_is}
+use Rattle.segment_shared.proofs.Holding.{holds-same, same_live, on_err, clients-same}
+use Rattle.segment_shared.proofs.Sending.{holds-send, sent_for, refused_send, popped_at, same_front, lacks_memory_for}
+use Rattle.segment_shared.proofs.Openings.{refused_reply}
+use Rattle.segment_shared.proofs.Refusing.{no_cause}
+use Rattle.segment_shared.proofs.live.Live.accept.Goals as goal
+
+abbrev nobody : SeatView
+nobody = new_seat 0 (record { 0 = 0 }) 0 0
+
+pub invariant_of-self : goal.invariant_of-self
+invariant_of-self c = rw (c.make_ready.ensures.calls, c.make_ready.ensures.owed) (holds-same _ _ _ _ _ _ _ _ c.make_ready.ensures.seats (same_doors-refl _) c.self.invariant)
+
+pub returns-in_err-make_ready-clause-err : goal.returns-in_err-make_ready-clause-err
+returns-in_err-make_ready-clause-err c = rw (← c.self.view_is, c.make_ready.ensures.calls) (on_err _ (same_live _ _ _ _ _ _ c.make_ready.ensures.seats (same_doors-refl _)))
+
+pub returns-in_err-make_ready-clause-not_refused : goal.returns-in_err-make_ready-clause-not_refused
+returns-in_err-make_ready-clause-not_refused c =
+    let addrs = c.self.inside.addresses.items in
+    let st = c.self.inside.segment in
+    let xs = c.self.inside.calls.items in
+    let ws = c.self.inside.owed.items in
+    let ss = c.self.inside.seats.items in
+    let ts = c.make_ready.new.seats.items in
+    let ds = c.self.inside.doors.items in
+    let k = c.args.client in
+    let l : k < length ss = omega (arith, c.self.inside.seats.ok.0, c.len.ensures) in
+    let l' : k < length ts = omega (arith, c.make_ready.ensures.count) in
+    let lacks : LacksRoomToSend st xs ws ts k = c.in_err-make_ready.ensures.err in
+    rw (← c.self.view_is, c.make_ready.ensures.calls) (on_err _ (lacks_memory_for addrs st xs ws ss ts ds ds k nobody c.self.invariant.at c.self.invariant.owes l' (clients-same ss ts c.make_ready.ensures.seats) lacks))
+
+pub returns-in_err-number-in-Send-clause-not_refused : goal.returns-in_err-number-in-Send-clause-not_refused
+returns-in_err-number-in-Send-clause-not_refused c =
+    let addrs = c.self.inside.addresses.items in
+    let st = c.self.inside.segment in
+    let xs = c.self.inside.calls.items in
+    let ws = c.self.inside.owed.items in
+    let ss = c.self.inside.seats.items in
+    let ts = c.make_ready.new.seats.items in
+    let ds = c.self.inside.doors.items in
+    let k = c.args.client in
+    let d = nobody in
+    let l : k < length ss = omega (arith, c.self.inside.seats.ok.0, c.len.ensures) in
+    let l' : k < length ts = omega (arith, c.make_ready.ensures.count) in
+    let r = subst (λ (u : Ready). IsReadyToSend st xs ws ts k u) c.in-Send.is c.in_ok-make_ready.ensures.ready in
+    let passes : IsOk (called st c.in-Send.call) = c.in_err-number-in-Send.ensures.not_refused in
+    let cause : (s : SeatView) → IsCauseFor st (get_or ts k s) None = λ s. let q = r.1 s in (q.0, q.1, no_cause (called st (send_call (get_or ts k s).station q.0)) (subst (λ (u : Call). IsOk (called st u)) q.2 passes)) in
+    let lacks : LacksRoomToSend st xs ws ts k = ((r.0.0, λ s. ((r.0.1 s).0, (r.0.1 s).1)), cause) in
+    rw (← c.self.view_is, c.make_ready.ensures.calls) (on_err _ (lacks_memory_for addrs st xs ws ss ts ds ds k nobody c.self.invariant.at c.self.invariant.owes l' (clients-same ss ts c.make_ready.ensures.seats) lacks))
+
+pub invariant_of-self-in-Empty : goal.invariant_of-self-in-Empty
+invariant_of-self-in-Empty c = rw (c.make_ready.ensures.calls, c.make_ready.ensures.owed) (holds-same _ _ _ _ _ _ _ _ c.make_ready.ensures.seats (same_doors-refl _) c.self.invariant)
+
+pub invariant_of-self-in-Owed : goal.invariant_of-self-in-Owed
+invariant_of-self-in-Owed c = rw (c.make_ready.ensures.calls, c.make_ready.ensures.owed) (holds-same _ _ _ _ _ _ _ _ c.make_ready.ensures.seats (same_doors-refl _) c.self.invariant)
+
+pub invariant_of-self-in-Full : goal.invariant_of-self-in-Full
+invariant_of-self-in-Full c = rw (c.make_ready.ensures.calls, c.make_ready.ensures.owed) (holds-same _ _ _ _ _ _ _ _ c.make_ready.ensures.seats (same_doors-refl _) c.self.invariant)
+
+pub invariant_of-self-in_err-number-in-Send : goal.invariant_of-self-in_err-number-in-Send
+invariant_of-self-in_err-number-in-Send c = rw (c.in_err-number-in-Send.ensures.err, c.make_ready.ensures.calls, c.make_ready.ensures.owed) (holds-same _ _ _ _ _ _ _ _ c.make_ready.ensures.seats (same_doors-refl _) c.self.invariant)
+
+pub returns-in_err-number-in-Send-clause-err : goal.returns-in_err-number-in-Send-clause-err
+returns-in_err-number-in-Send-clause-err c = rw (← c.self.view_is, c.make_ready.ensures.calls) (on_err _ (same_live _ _ _ _ _ _ c.make_ready.ensures.seats (same_doors-refl _)))
+
+pub invariant_of-self-in-Refused : goal.invariant_of-self-in-Refused
+invariant_of-self-in-Refused c =
+    let f = c.in_ok-number-in-Send.ensures.follows c.self.inside.addresses.items (trail c.self.inside.addresses.items c.self.inside.calls.items).steps c.self.invariant.stands in
+    let same = f.refused (subst IsRefusal (sym c.in-Refused.is) tt) in
+    rw (same, c.make_ready.ensures.calls, c.make_ready.ensures.owed) (holds-same _ _ _ _ _ _ _ _ c.make_ready.ensures.seats (same_doors-refl _) c.self.invariant)
+
+pub returns-in-Empty-clause-accepted : goal.returns-in-Empty-clause-accepted
+returns-in-Empty-clause-accepted c =
+    let k = c.args.client in
+    let addrs = c.self.inside.addresses.items in
+    let xs = c.self.inside.calls.items in
+    let ws = c.self.inside.owed.items in
+    let ss = c.self.inside.seats.items in
+    let ts = c.make_ready.new.seats.items in
+    let ds = c.self.inside.doors.items in
+    let d = nobody in
+    let l : k < length ss = omega (arith, c.self.inside.seats.ok.0, c.len.ensures) in
+    let l' : k < length ts = omega (arith, c.make_ready.ensures.count) in
+    let r = subst (λ (u : Ready). IsReadyToSend c.self.inside.segment xs ws ts k u) c.in-Empty.is c.in_ok-make_ready.ensures.ready in
+    rw (← c.self.view_is, c.make_ready.ensures.calls) (same_live _ _ _ _ _ _ c.make_ready.ensures.seats (same_doors-refl _), empty_at addrs xs ts ds k d l' (r d))
+
+pub returns-in-Owed-clause-accepted : goal.returns-in-Owed-clause-accepted
+returns-in-Owed-clause-accepted c =
+    let k = c.args.client in
+    let addrs = c.self.inside.addresses.items in
+    let xs = c.self.inside.calls.items in
+    let ws = c.self.inside.owed.items in
+    let ss = c.self.inside.seats.items in
+    let ts = c.make_ready.new.seats.items in
+    let ds = c.self.inside.doors.items in
+    let d = nobody in
+    let l : k < length ss = omega (arith, c.self.inside.seats.ok.0, c.len.ensures) in
+    let l' : k < length ts = omega (arith, c.make_ready.ensures.count) in
+    let r = subst (λ (u : Ready). IsReadyToSend c.self.inside.segment xs ws ts k u) c.in-Owed.is c.in_ok-make_ready.ensures.ready in
+    let f : get_or (map seat_free ts) k 0 ≡ (get_or ts k d).free = free_is addrs xs ts ds k d l' in
+    let o : owed_by k ws ≡ owed_by k (trail addrs xs).owed = ap (owed_by k) c.self.invariant.owes in
+    rw (← c.self.view_is, c.make_ready.ensures.calls) (same_live _ _ _ _ _ _ c.make_ready.ensures.seats (same_doors-refl _), waits_at addrs xs ts ds k d l' (r d).0, omega (arith, f, o, (r d).1))
+
+pub returns-in-Full-clause-accepted : goal.returns-in-Full-clause-accepted
+returns-in-Full-clause-accepted c =
+    let k = c.args.client in
+    let addrs = c.self.inside.addresses.items in
+    let xs = c.self.inside.calls.items in
+    let ws = c.self.inside.owed.items in
+    let ss = c.self.inside.seats.items in
+    let ts = c.make_ready.new.seats.items in
+    let ds = c.self.inside.doors.items in
+    let d = nobody in
+    let l : k < length ss = omega (arith, c.self.inside.seats.ok.0, c.len.ensures) in
+    let l' : k < length ts = omega (arith, c.make_ready.ensures.count) in
+    let r = subst (λ (u : Ready). IsReadyToSend c.self.inside.segment xs ws ts k u) c.in-Full.is c.in_ok-make_ready.ensures.ready in
+    let f : get_or (map seat_free ts) k 0 ≡ (get_or ts k d).free = free_is addrs xs ts ds k d l' in
+    let o : owed_by k ws ≡ owed_by k (trail addrs xs).owed = ap (owed_by k) c.self.invariant.owes in
+    rw (← c.self.view_is, c.make_ready.ensures.calls) (same_live _ _ _ _ _ _ c.make_ready.ensures.seats (same_doors-refl _), waits_at addrs xs ts ds k d l' (r.1 d).0, omega (arith, f, o, (r.1 d).1), inl (refl, r.0))
+
+pub returns-in-Refused-clause-accepted : goal.returns-in-Refused-clause-accepted
+returns-in-Refused-clause-accepted c =
+    let k = c.args.client in
+    let addrs = c.self.inside.addresses.items in
+    let xs = c.self.inside.calls.items in
+    let ws = c.self.inside.owed.items in
+    let ss = c.self.inside.seats.items in
+    let ts = c.make_ready.new.seats.items in
+    let ds = c.self.inside.doors.items in
+    let d = nobody in
+    let l : k < length ss = omega (arith, c.self.inside.seats.ok.0, c.len.ensures) in
+    let l' : k < length ts = omega (arith, c.make_ready.ensures.count) in
+    let r = subst (λ (u : Ready). IsReadyToSend c.self.inside.segment xs ws ts k u) c.in-Send.is c.in_ok-make_ready.ensures.ready in
+    let f : get_or (map seat_free ts) k 0 ≡ (get_or ts k d).free = free_is addrs xs ts ds k d l' in
+    let o : owed_by k ws ≡ owed_by k (trail addrs xs).owed = ap (owed_by k) c.self.invariant.owes in
+    let st = c.self.inside.segment in
+    let s = get_or ts k d in
+    let q = r.1 d in
+    let e = sym c.in-Refused.is ∙ c.in_ok-number-in-Send.ensures.reply ∙ ap (reply_of st) q.2 in
+    let at : s ≡ get_or ts k s = get_or_default ts k d s l' in
+    rw (← c.self.view_is, c.make_ready.ensures.calls) (
+      same_live _ _ _ _ _ _ c.make_ready.ensures.seats (same_doors-refl _),
+      waits_at addrs xs ts ds k d l' (r.0.1 d).0,
+      omega (arith, f, o, (r.0.1 d).1),
+      inr (refused_send addrs st xs ss ts ds ds k q.0 s _ c.self.invariant.at l' at (clients-same ss ts c.make_ready.ensures.seats) r.0.0 q.1 e),
+    )
+
+pub store-requires-clause-few : goal.store-requires-clause-few
+store-requires-clause-few c s =
+    let k = c.args.client in
+    let xs = c.self.inside.calls.items in
+    let ts = c.make_ready.new.seats.items in
+    let h : Holds _ _ xs _ ts _ = holds-same _ _ _ _ _ _ _ _ c.make_ready.ensures.seats (same_doors-refl _) c.self.invariant in
+    let l : k < length c.self.inside.seats.items = omega (arith, c.self.inside.seats.ok.0, c.len.ensures) in
+    let l' : k < length ts = omega (arith, c.make_ready.ensures.count) in
+    let e = ap length (popped_at 0 k xs ts s l' h.ids h.pops) in
+    omega (arith, e, accepted_le (0 + k) xs, h.few)
+
+pub unreachable-requires : goal.unreachable-requires
+unreachable-requires c =
+    let r = subst (λ (u : Ready). IsReadyToSend c.self.inside.segment c.self.inside.calls.items c.self.inside.owed.items c.make_ready.new.seats.items c.args.client u) c.in-Send.is c.in_ok-make_ready.ensures.ready in
+    let q = r.1 nobody in
+    let f = c.in_ok-number-in-Send.ensures.follows c.self.inside.addresses.items (trail c.self.inside.addresses.items c.self.inside.calls.items).steps c.self.invariant.stands in
+    let k = subst (λ (x : Call). IsAnsweredBy x (Opened c.in-Opened.field-0)) q.2 (subst (IsAnsweredBy c.in-Send.call) c.in-Opened.is f.kind) in
+    let no : false ≡ true = k in
+    cc
+
+pub invariant_of-self-in-Sent : goal.invariant_of-self-in-Sent
+invariant_of-self-in-Sent c =
+    let k = c.args.client in
+    let addrs = c.self.inside.addresses.items in
+    let st = c.self.inside.segment in
+    let xs = c.self.inside.calls.items in
+    let ws = c.self.inside.owed.items in
+    let ts = c.make_ready.new.seats.items in
+    let ds = c.self.inside.doors.items in
+    let d = nobody in
+    let s = get_or ts k d in
+    let h : Holds addrs st xs ws ts ds = holds-same _ _ _ _ _ _ _ _ c.make_ready.ensures.seats (same_doors-refl _) c.self.invariant in
+    let l : k < length c.self.inside.seats.items = omega (arith, c.self.inside.seats.ok.0, c.len.ensures) in
+    let l' : k < length ts = omega (arith, c.make_ready.ensures.count) in
+    let r = subst (λ (u : Ready). IsReadyToSend c.self.inside.segment xs ws ts k u) c.in-Send.is c.in_ok-make_ready.ensures.ready in
+    let q = r.1 d in
+    let e = c.store.ensures d in
+    let x = e.0 in
+    let same : q.0 ≡ x = same_front q.0 x s.ahead e.1.rest q.1 e.1.front in
+    let call : c.in-Send.call ≡ send_call s.station x = q.2 ∙ ap (send_call s.station) same in
+    let rep : reply_of st (send_call s.station x) ≡ Sent c.in-Sent.number = ap (reply_of st) (sym call) ∙ sym c.in_ok-number-in-Send.ensures.reply ∙ c.in-Sent.is in
+    let aft : c.make.new.segment ≡ left_by st (send_call s.station x) = c.in_ok-number-in-Send.ensures.after ∙ ap (left_by st) call in
+    let steps = (trail addrs xs).steps in
+    let stands0 = c.in_ok-number-in-Send.ensures.stands addrs steps h.stands in
+    let stands : StandsAt addrs (steps ++ (send_call s.station x, Sent c.in-Sent.number) ∷ []) c.make.new.segment =
+    subst (λ (u : Reply). StandsAt addrs (steps ++ (send_call s.station x, u) ∷ []) c.make.new.segment) c.in-Sent.is (subst (λ (u : Call). StandsAt addrs (steps ++ (u, c.in_ok-number-in-Send.field-0) ∷ []) c.make.new.segment) call stands0) in
+    let f0 = c.in_ok-number-in-Send.ensures.follows addrs steps h.stands in
+    let f : Follows st (send_call s.station x) c.make.new.segment (Sent c.in-Sent.number) =
+    subst (λ (u : Reply). Follows st (send_call s.station x) c.make.new.segment u) c.in-Sent.is (subst (λ (u : Call). Follows st u c.make.new.segment c.in_ok-number-in-Send.field-0) call f0) in
+    let at : s ≡ get_or ts k s = get_or_default ts k d s l' in
+    rw (e.1.calls, e.1.owed, e.1.seats, c.make_ready.ensures.calls, c.make_ready.ensures.owed) (holds-send addrs st c.make.new.segment xs ws ts ds k c.in-Sent.number x e.1.rest s h l' r.0.0 at (r.0.1 d).1 (r.0.1 d).2 rep aft stands f)
+
+pub returns-in-Sent-clause-accepted : goal.returns-in-Sent-clause-accepted
+returns-in-Sent-clause-accepted c =
+    let k = c.args.client in
+    let addrs = c.self.inside.addresses.items in
+    let st = c.self.inside.segment in
+    let xs = c.self.inside.calls.items in
+    let ws = c.self.inside.owed.items in
+    let ss = c.self.inside.seats.items in
+    let ts = c.make_ready.new.seats.items in
+    let ds = c.self.inside.doors.items in
+    let d = nobody in
+    let s = get_or ts k d in
+    let l : k < length ss = omega (arith, c.self.inside.seats.ok.0, c.len.ensures) in
+    let l' : k < length ts = omega (arith, c.make_ready.ensures.count) in
+    let r = subst (λ (u : Ready). IsReadyToSend c.self.inside.segment xs ws ts k u) c.in-Send.is c.in_ok-make_ready.ensures.ready in
+    let q = r.1 d in
+    let e = c.store.ensures d in
+    let x = e.0 in
+    let same : q.0 ≡ x = same_front q.0 x s.ahead e.1.rest q.1 e.1.front in
+    let call : c.in-Send.call ≡ send_call s.station x = q.2 ∙ ap (send_call s.station) same in
+    let rep : reply_of st (send_call s.station x) ≡ Sent c.in-Sent.number = ap (reply_of st) (sym call) ∙ sym c.in_ok-number-in-Send.ensures.reply ∙ c.in-Sent.is in
+    let at : s ≡ get_or ts k s = get_or_default ts k d s l' in
+    rw (← c.self.view_is, e.1.calls, e.1.seats, c.make_ready.ensures.calls) (x, sent_for addrs st xs ss ts ds ds k c.in-Sent.number x e.1.rest s c.self.invariant.at l' at (clients-same ss ts c.make_ready.ensures.seats) refl (r.0.1 d).0.0 rep)
+
+pub unreachable-requires-in-Done : goal.unreachable-requires-in-Done
+unreachable-requires-in-Done c =
+    let r = subst (λ (u : Ready). IsReadyToSend c.self.inside.segment c.self.inside.calls.items c.self.inside.owed.items c.make_ready.new.seats.items c.args.client u) c.in-Send.is c.in_ok-make_ready.ensures.ready in
+    let q = r.1 nobody in
+    let f = c.in_ok-number-in-Send.ensures.follows c.self.inside.addresses.items (trail c.self.inside.addresses.items c.self.inside.calls.items).steps c.self.invariant.stands in
+    let k = subst (λ (x : Call). IsAnsweredBy x (Done c.in-Done.field-0)) q.2 (subst (IsAnsweredBy c.in-Send.call) c.in-Done.is f.kind) in
+    let no : true ≡ false = k.1 in
+    cc
+
+pub invariant_of-self-in-NotSent : goal.invariant_of-self-in-NotSent
+invariant_of-self-in-NotSent c = rw (c.make_ready.ensures.calls, c.make_ready.ensures.owed) (holds-same _ _ _ _ _ _ _ _ c.make_ready.ensures.seats (same_doors-refl _) c.self.invariant)
+
+pub returns-in-NotSent-clause-accepted : goal.returns-in-NotSent-clause-accepted
+returns-in-NotSent-clause-accepted c =
+    let k = c.args.client in
+    let addrs = c.self.inside.addresses.items in
+    let st = c.self.inside.segment in
+    let xs = c.self.inside.calls.items in
+    let ws = c.self.inside.owed.items in
+    let ss = c.self.inside.seats.items in
+    let ts = c.make_ready.new.seats.items in
+    let ds = c.self.inside.doors.items in
+    let d = nobody in
+    let l : k < length ss = omega (arith, c.self.inside.seats.ok.0, c.len.ensures) in
+    let l' : k < length ts = omega (arith, c.make_ready.ensures.count) in
+    let r = subst (λ (u : Ready). IsReadyToSend st xs ws ts k u) c.in-NotSent.is c.in_ok-make_ready.ensures.ready in
+    let f : get_or (map seat_free ts) k 0 ≡ (get_or ts k d).free = free_is addrs xs ts ds k d l' in
+    let o : owed_by k ws ≡ owed_by k (trail addrs xs).owed = ap (owed_by k) c.self.invariant.owes in
+    let s = get_or ts k d in
+    let q : IsCauseFor st s (Some c.in-NotSent.refusal) = r.1 d in
+    let e : Refused c.in-NotSent.refusal ≡ reply_of st (send_call s.station q.0) = refused_reply st c.in-NotSent.refusal (called st (send_call s.station q.0)) q.2 in
+    let at : s ≡ get_or ts k s = get_or_default ts k d s l' in
+    rw (← c.self.view_is, c.make_ready.ensures.calls) (
+      same_live _ _ _ _ _ _ c.make_ready.ensures.seats (same_doors-refl _),
+      waits_at addrs xs ts ds k d l' (r.0.1 d).0,
+      omega (arith, f, o, (r.0.1 d).1),
+      inr (refused_send addrs st xs ss ts ds ds k q.0 s _ c.self.invariant.at l' at (clients-same ss ts c.make_ready.ensures.seats) r.0.0 q.1 e),
+    )

@@ -1,0 +1,132 @@
+//! A port closes, and its inbox is handed what it did not receive.
+ghost use Rattle.std.specs.Prelude.{◌≡◌, ◌<◌, ◌≤◌, ◌++◌, length, slice_set, slice_index_or, IfOk};
+ghost use mathlib.Core.List.{IsPrefix};
+ghost use Rattle.segment_rings.specs.Ends.{closes};
+ghost use Rattle.segment_rings.specs.Views.{DoorView, closed_door};
+
+use crate::call::Stored;
+use crate::compare::{begins, copy_deliveries};
+use crate::live::Live;
+use crate::offer::MOST_CALLS;
+use crate::places::door_of;
+use crate::step::make;
+use crate::tell::tell;
+use segment_core::{Call, PortId, Refusal, Reply};
+use segment_rings::{Delivery, Door, Inbox};
+use std::alloc::{AllocError, Global};
+
+/// What a closed port was given and its inbox did not receive.
+#[derive(Debug, Drop)]
+pub struct Closed {
+    pub port: PortId,
+    pub rest: Vec<Delivery>,
+}
+
+/// Why a port isn't closed.
+#[derive(Clone, Copy, Debug, PartialEq, Eq)]
+pub enum CloseRefused {
+    /// The inbox isn't of this segment, or no more calls can be stored.
+    Refused(Refusal),
+    /// There was no memory.
+    OutOfMemory,
+}
+
+// What follows what was received.
+fn rest_after(
+    alloc: Global,
+    received: &[Delivery],
+    given: &[Delivery],
+) -> Result<Vec<Delivery>, AllocError>
+    requires { IsPrefix received.now given.now }
+    ensures { IfOk result (λ rest. received.now ++ rest.items ≡ given.now) }
+{
+    copy_deliveries(alloc, &given[received.len()..])
+}
+
+// Hands the rest to an inbox, and gives nothing more to its port.
+fn hand_over(doors: &mut Vec<Door>, k: usize, inbox: &mut Inbox, kept: Vec<Delivery>)
+    requires within { k < length doors.old.items }
+    requires room { length kept.items ≤ inbox.old.spare }
+    ensures doors { (d : DoorView) → doors.new.items ≡ slice_set doors.old.items k (closed_door (slice_index_or doors.old.items k d)) }
+    ensures inbox { inbox.new ≡ closes inbox.old kept.items inbox.new.spare }
+{
+    let door = &mut doors[k];
+    door.close();
+    inbox.close(kept);
+}
+
+impl Live {
+    ghost use Rattle.std.specs.Prelude.{◌≡◌, ◌<◌, length, slice_index_or, IfOk, IfErr, OnErr};
+    ghost use mathlib.Core.List.{IsPrefix};
+    ghost use Rattle.segment_rings.specs.Ends.{with_room_kept};
+    ghost use Rattle.segment_shared.specs.Record.{Trail, trail, given};
+    ghost use Rattle.segment_shared.specs.LiveView.{PortView, SameLive};
+    ghost use Rattle.segment_shared.specs.Reports.{ClosedFor, IsCloseCause};
+
+    /// Closes the port of an inbox, and hands out what the port was given and the inbox did not receive. No later call gives
+    /// to it.
+    ///
+    /// Refused where the port was never opened here, or what the inbox received isn't the beginning of what the port was
+    /// given; and then where no more calls can be stored. These and want of memory change nothing but what is known of the rings.
+    pub fn close_on(&mut self, inbox: &mut Inbox) -> Result<Closed, CloseRefused>
+        ensures closed { IfOk result (λ r. ClosedFor self.old self.new inbox.old inbox.new r) }
+        ensures refused { IfErr result (λ e. IsCloseCause self.old inbox.old e) }
+        ensures err { OnErr result (SameLive self.old self.new) }
+        ensures kept { OnErr result (inbox.new ≡ with_room_kept inbox.old inbox.new.spare) }
+    {
+        let Some(k) = door_of(self.doors.as_slice(), inbox.port()) else {
+            return Err(CloseRefused::Refused(Refusal::NotThisSegment));
+        };
+        if !begins(inbox.received(), self.doors[k].deliveries()) {
+            return Err(CloseRefused::Refused(Refusal::NotThisSegment));
+        }
+        if self.calls.len() >= MOST_CALLS {
+            return Err(CloseRefused::Refused(Refusal::TraceFull));
+        }
+        match self.shut(k, inbox) {
+            Ok(closed) => Ok(closed),
+            Err(_) => Err(CloseRefused::OutOfMemory),
+        }
+    }
+
+    // The same for the inbox of the k-th port, where its list agrees.
+    fn shut(&mut self, k: usize, inbox: &mut Inbox) -> Result<Closed, AllocError>
+        requires within { k < length self.old.ports }
+        requires port { (p : PortView) → (slice_index_or self.old.ports k p).port ≡ inbox.old.port }
+        requires begins { IsPrefix inbox.old.received (given inbox.old.port (trail self.old.addresses self.old.calls).events) }
+        requires few { length self.old.calls < 1000000 }
+        ensures closed { IfOk result (λ r. ClosedFor self.old self.new inbox.old inbox.new r) }
+        ensures err { OnErr result (SameLive self.old self.new) }
+        ensures kept { OnErr result (inbox.new ≡ with_room_kept inbox.old inbox.new.spare) }
+    {
+        let port = inbox.port();
+        let rest = rest_after(self.alloc, inbox.received(), self.doors[k].deliveries())?;
+        let kept = copy_deliveries(self.alloc, rest.as_slice())?;
+        inbox.reserve(kept.len())?;
+        self.calls.reserve(1)?;
+        match make(&mut self.segment, Call::Close { port })? {
+            Reply::Done(events) => {
+                let _told = tell(
+                    self.alloc,
+                    &mut self.doors,
+                    &mut self.owed,
+                    &mut self.seats,
+                    Vec::new(self.alloc),
+                    events,
+                );
+                self.calls.push_reserved(Stored {
+                    by: None,
+                    call: Call::Close { port },
+                });
+                hand_over(&mut self.doors, k, inbox, kept);
+                Ok(Closed { port, rest })
+            }
+            Reply::Refused(_) => {
+                hand_over(&mut self.doors, k, inbox, kept);
+                Ok(Closed { port, rest })
+            }
+            Reply::Opened(_) => unreachable!(),
+            Reply::Sent(_) => unreachable!(),
+        }
+    }
+}

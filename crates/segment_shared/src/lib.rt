@@ -1,0 +1,37 @@
+//! A segment that threads share: one bus with its stations under a lock, with rings to each client and each port.
+//!
+//! At every moment the segment stands at the record of the stored calls, and what went through each ring is what this record
+//! says: each client's submissions are its accepted messages, each port's deliveries its given ones, each client's notes the
+//! outcomes of its messages.
+#![tactic(auto)]
+
+mod call;
+mod closing;
+mod compare;
+mod ending;
+mod hand;
+mod live;
+mod offer;
+mod places;
+mod refused;
+mod report;
+mod settle;
+mod shared;
+mod step;
+mod tell;
+mod turns;
+mod wanted;
+mod workers;
+
+pub use call::{Owed, Stored, WorkerCall};
+pub use closing::{CloseRefused, Closed};
+pub use ending::finish;
+pub use live::Live;
+pub use offer::MOST_CALLS;
+pub use refused::{Accepted, AttachRefused, NewRefused, OpenRefused};
+pub use report::{ClientReport, FinishRefused, InboxReport, Report};
+pub use segment_core::{Bytes, Event, Events, PortId, Refusal, Reply};
+pub use segment_rings::{Client, Delivery, Inbox, Note, Submission, SubmitRefused};
+pub use shared::{PortKept, SharedSegment};
+pub use turns::Turn;
+pub use workers::{Gate, Tally, bus_worker, station_worker};

@@ -1,0 +1,348 @@
+//! A segment with its stored calls and the far ends of all rings.
+ghost use Rattle.std.specs.Prelude.{◌≡◌, ◌≤◌, map, true};
+ghost use Rattle.segment_shared.specs.LiveView.{is_station_of, clients_at, client_of};
+
+use crate::call::{Owed, Stored, WorkerCall};
+use crate::offer::{MOST_CALLS, Ready, make_ready, store};
+use crate::places::{Found, door_of, find_places};
+use crate::refused::{Accepted, AttachRefused, NewRefused, OpenRefused};
+use crate::step::{make, refusal_for};
+use crate::tell::tell;
+use crate::wanted::wanted_of;
+use headline_law::the_headline_holds;
+use pgn_ids::{Address, Pgn};
+use segment_core::{Call, PortId, Refusal, Reply, Segment};
+use segment_law::Counts;
+use segment_rings::{Client, Delivery, Door, Doorway, Inbox, Note, Seat};
+use std::alloc::{AllocError, Global};
+use std::marker::Model;
+
+/// How many clients a station has at most.
+pub const MOST_CLIENTS: usize = 16;
+
+/// A segment, the calls that were made on it, and the far ends of its clients' and ports' rings.
+#[derive(Drop)]
+pub struct Live {
+    pub(crate) alloc: Global,
+    pub(crate) addresses: Vec<Address>,
+    pub(crate) segment: Segment,
+    pub(crate) calls: Vec<Stored>,
+    pub(crate) owed: Vec<Owed>,
+    pub(crate) seats: Vec<Seat>,
+    pub(crate) doors: Vec<Door>,
+    pub(crate) stopped: bool,
+}
+
+impl Model for Live {
+    ghost use Rattle.segment_shared.specs.LiveView.{LiveView, live_view};
+    ghost use Rattle.segment_shared.specs.Facts.{Holds};
+
+    ghost Value = { LiveView };
+
+    ghost view = { λ s. live_view s.addresses.items s.calls.items s.seats.items s.doors.items };
+
+    ghost invariant = { λ s. Holds s.addresses.items s.segment s.calls.items s.owed.items s.seats.items s.doors.items };
+}
+
+impl Live {
+    ghost use Rattle.std.specs.Prelude.{◌≡◌, ◌≤◌, ◌<◌, ◌↔◌, [], ◌∷◌, ◌++◌, length, Bool, true, false, IfOk, OnOk, OnErr, IfErr, IsErrOf, Ok, MatchOption, slice_index_or};
+    ghost use Rattle.segment_law.specs.Headline.{Headline};
+    ghost use Rattle.segment_law.specs.Segment.{are_addresses};
+    ghost use Rattle.segment_law.specs.Record.{StandsAt};
+    ghost use Rattle.segment_law.specs.declared.reply.Reply.TheVariants.{Refused};
+    ghost use Rattle.segment_law.specs.declared.refusal.Refusal.TheVariants.{TraceFull};
+    ghost use Rattle.segment_shared.specs.Record.{Trail, trail, given, notes_of};
+    ghost use Rattle.segment_shared.specs.LiveView.{ClientView, live_view, SameLive, Applied, LacksMemory, Attached, Laws, OpenedFor, IsOpenCause};
+    ghost use Rattle.segment_shared.specs.Offers.{AcceptedAs, LacksMemoryFor};
+    ghost use Rattle.segment_shared.specs.Reports.{HasPort};
+
+    /// A new segment with stations of these addresses, no clients and no ports.
+    pub fn new(alloc: Global, addresses: &[Address]) -> Result<Live, NewRefused>
+        ensures ok { IfOk result (λ live. live ≡ live_view addresses.now [] [] []) }
+        ensures bad { IsErrOf result NewRefused.BadAddresses ↔ (are_addresses addresses.now ≡ false) }
+    {
+        let segment = match Segment::new(alloc, addresses) {
+            Ok(segment) => segment,
+            Err(segment_core::NewRefused::BadAddresses) => return Err(NewRefused::BadAddresses),
+            Err(segment_core::NewRefused::OutOfMemory) => return Err(NewRefused::OutOfMemory),
+        };
+        let Ok(addresses) = Vec::from_slice(alloc, addresses) else {
+            return Err(NewRefused::OutOfMemory);
+        };
+        Ok(Live {
+            alloc,
+            addresses,
+            segment,
+            calls: Vec::new(alloc),
+            owed: Vec::new(alloc),
+            seats: Vec::new(alloc),
+            doors: Vec::new(alloc),
+            stopped: false,
+        })
+    }
+
+    /// The segment. It stands at the record of the stored calls.
+    pub fn segment(&self) -> &Segment
+        ensures value { result.now ≡ (trail self.now.addresses self.now.calls).state }
+        ensures stands { StandsAt self.now.addresses (trail self.now.addresses self.now.calls).steps result.now }
+    {
+        &self.segment
+    }
+
+    /// What the segment counted.
+    pub fn counts(&self) -> Counts
+        ensures { result ≡ (trail self.now.addresses self.now.calls).state.counts }
+    {
+        self.segment.counts()
+    }
+
+    /// What went through the rings is what the stored calls say, and the headline holds of their record: each port was given the
+    /// messages of one station to one destination at most once, in order, byte for byte, and what was acknowledged was given.
+    pub fn laws(&self)
+        ensures laws { Laws self.now }
+        ensures headline { Headline self.now.addresses (trail self.now.addresses self.now.calls).steps }
+    {
+        // A law, for the last clause: the call does nothing.
+        the_headline_holds();
+        let _segment = &self.segment;
+    }
+
+    /// The addresses of the stations, in the order in which they were given.
+    pub fn addresses(&self) -> &[Address]
+        ensures { result.now ≡ self.now.addresses }
+    {
+        self.addresses.as_slice()
+    }
+
+    /// Whether an address is that of a station.
+    pub fn has_station(&self, address: Address) -> bool
+        ensures { result ≡ is_station_of self.now.addresses address }
+    {
+        is_station(self.addresses.as_slice(), address)
+    }
+
+    /// The stored calls.
+    pub fn calls(&self) -> &[Stored]
+        ensures { result.now ≡ self.now.calls }
+    {
+        self.calls.as_slice()
+    }
+
+    /// Makes a call, and gives and notes what it tells. `room` is false only where a ring that the call needs has no place
+    /// that is known to be free, or is that of a closed port: such a port is given nothing.
+    ///
+    /// Refused where no more calls can be stored, and then where the segment refuses the call. Want of memory is answered
+    /// only for a call that isn't refused. A refused call and want of memory change nothing.
+    pub fn apply(&mut self, call: WorkerCall) -> Result<Reply, AllocError>
+        ensures full { 1000000 ≤ length self.old.calls → (result ≡ Ok (Refused TraceFull)) × (self.new ≡ self.old) }
+        ensures applied { length self.old.calls < 1000000 → IfOk result (λ r. (room : Bool) × Applied self.old self.new call r room) }
+        ensures err { OnErr result (SameLive self.old self.new) }
+        ensures not_refused { OnErr result (LacksMemory self.old call) }
+    {
+        if self.calls.len() >= MOST_CALLS {
+            return Ok(Reply::Refused(Refusal::TraceFull));
+        }
+        if let Some(refusal) = refusal_for(&self.segment, &call) {
+            return Ok(Reply::Refused(refusal));
+        }
+        self.calls.reserve(1)?;
+        let wanted = wanted_of(&self.segment, &call);
+        let Found { room, buffers } = find_places(self.alloc, &mut self.doors, &wanted)?;
+        match make(&mut self.segment, call.with_room(room))? {
+            Reply::Done(events) => {
+                let told = tell(
+                    self.alloc,
+                    &mut self.doors,
+                    &mut self.owed,
+                    &mut self.seats,
+                    buffers,
+                    events,
+                );
+                self.calls.push_reserved(Stored {
+                    by: None,
+                    call: call.with_room(room),
+                });
+                Ok(Reply::Done(told))
+            }
+            Reply::Refused(refusal) => Ok(Reply::Refused(refusal)),
+            Reply::Opened(_) => unreachable!(),
+            Reply::Sent(_) => unreachable!(),
+        }
+    }
+
+    /// Accepts the front submission of a client: its message is sent, and the Send is stored with the client's number.
+    ///
+    /// The first that holds is answered: `Empty` where none is seen or no client has the number, `Owed`, and `Refused` where no
+    /// more calls can be stored or else where the segment refuses the Send. Want of memory is answered only where none of them
+    /// holds. These and want of memory change nothing.
+    pub fn accept(&mut self, client: u64) -> Result<Accepted, AllocError>
+        ensures accepted { IfOk result (λ r. AcceptedAs self.old self.new client r) }
+        ensures err { OnErr result (SameLive self.old self.new) }
+        ensures not_refused { OnErr result (LacksMemoryFor self.old self.new client) }
+    {
+        if client >= self.seats.len() as u64 {
+            return Ok(Accepted::Empty);
+        }
+        let k = client as usize;
+        match make_ready(
+            self.alloc,
+            &self.segment,
+            &mut self.calls,
+            &mut self.owed,
+            &mut self.seats,
+            k,
+        )? {
+            Ready::Empty => Ok(Accepted::Empty),
+            Ready::Owed => Ok(Accepted::Owed),
+            Ready::Full => Ok(Accepted::Refused(Refusal::TraceFull)),
+            Ready::NotSent(refusal) => Ok(Accepted::Refused(refusal)),
+            Ready::Send(call) => match make(&mut self.segment, call)? {
+                Reply::Sent(number) => {
+                    store(&mut self.calls, &mut self.owed, &mut self.seats, k, number);
+                    Ok(Accepted::Sent(number))
+                }
+                Reply::Refused(refusal) => Ok(Accepted::Refused(refusal)),
+                Reply::Opened(_) => unreachable!(),
+                Reply::Done(_) => unreachable!(),
+            },
+        }
+    }
+
+    /// A new client of a station, with empty lists.
+    pub fn attach(&mut self, station: Address) -> Result<Client, AttachRefused>
+        ensures attached { IfOk result (λ c. Attached self.old self.new station c) }
+        ensures full { IsErrOf result AttachRefused.ClientsFull ↔ ((is_station_of self.old.addresses station ≡ true) × (16 ≤ clients_at station self.old.clients)) }
+        ensures no_station { IsErrOf result AttachRefused.NoSuchStation ↔ (is_station_of self.old.addresses station ≡ false) }
+        ensures err { OnErr result (self.new ≡ self.old) }
+    {
+        if !is_station(self.addresses.as_slice(), station) {
+            return Err(AttachRefused::NoSuchStation);
+        }
+        if clients_of(self.seats.as_slice(), station) >= MOST_CLIENTS {
+            return Err(AttachRefused::ClientsFull);
+        }
+        let id = self.seats.len() as u64;
+        self.seats.reserve(1)?;
+        let (seat, client) = Seat::new(self.alloc, id, station)?;
+        self.seats.push_reserved(seat);
+        Ok(client)
+    }
+
+    /// Opens a port, and gives its inbox.
+    ///
+    /// Refused where the segment refuses the Open, and then where no more calls can be stored. Want of memory is answered only
+    /// where neither holds. These and want of memory change nothing.
+    pub fn open_port(
+        &mut self,
+        station: Address,
+        pgn: Pgn,
+        max_len: u32,
+    ) -> Result<Inbox, OpenRefused>
+        ensures opened { IfOk result (λ i. OpenedFor self.old self.new station pgn max_len i) }
+        ensures refused { IfErr result (λ e. IsOpenCause self.old station pgn max_len e) }
+        ensures err { OnErr result (self.new ≡ self.old) }
+    {
+        match self.segment.open_refusal(station) {
+            Some(refusal) => return Err(OpenRefused::Refused(refusal)),
+            None => {}
+        }
+        if self.calls.len() >= MOST_CALLS {
+            return Err(OpenRefused::Refused(Refusal::TraceFull));
+        }
+        let doorway = Doorway::new(self.alloc)?;
+        self.calls.reserve(1)?;
+        self.doors.reserve(1)?;
+        let call = Call::Open {
+            station,
+            pgn,
+            max_len,
+        };
+        match make(&mut self.segment, call)? {
+            Reply::Opened(port) => {
+                let (door, inbox) = doorway.open(port);
+                self.doors.push_reserved(door);
+                self.calls.push_reserved(Stored {
+                    by: None,
+                    call: Call::Open {
+                        station,
+                        pgn,
+                        max_len,
+                    },
+                });
+                Ok(inbox)
+            }
+            Reply::Refused(refusal) => Err(OpenRefused::Refused(refusal)),
+            Reply::Sent(_) => unreachable!(),
+            Reply::Done(_) => unreachable!(),
+        }
+    }
+
+    /// How many clients there are; their numbers are those below.
+    pub fn clients(&self) -> u64
+        ensures { result ≡ length self.now.clients }
+    {
+        self.seats.len() as u64
+    }
+
+    /// The station of a client, if there is one with this number.
+    pub fn station_of(&self, client: u64) -> Option<Address>
+        ensures { MatchOption result (length self.now.clients ≤ client) (λ a. (client < length self.now.clients) × ((v : ClientView) → a ≡ (slice_index_or self.now.clients client v).station)) }
+    {
+        if client >= self.seats.len() as u64 {
+            return None;
+        }
+        Some(self.seats[client as usize].station())
+    }
+
+    /// The notes of a client, if there is one with this number.
+    pub fn notes_of(&self, client: u64) -> Option<&[Note]>
+        ensures { MatchOption result (length self.now.clients ≤ client) (λ ns. (client < length self.now.clients) × (ns.now ≡ notes_of client (trail self.now.addresses self.now.calls).noted)) }
+    {
+        if client >= self.seats.len() as u64 {
+            return None;
+        }
+        Some(self.seats[client as usize].notes())
+    }
+
+    /// What a port was given, if it was opened here.
+    pub fn given_to(&self, port: PortId) -> Option<&[Delivery]>
+        ensures { MatchOption result (HasPort self.now.ports port → ⊥) (λ ds. HasPort self.now.ports port × (ds.now ≡ given port (trail self.now.addresses self.now.calls).events)) }
+    {
+        match door_of(self.doors.as_slice(), port) {
+            Some(k) => Some(self.doors[k].deliveries()),
+            None => None,
+        }
+    }
+
+    /// The workers are to end.
+    pub fn stop(&mut self)
+        ensures { self.new ≡ self.old }
+    {
+        self.stopped = true;
+    }
+
+    /// Whether the workers are to end.
+    pub fn is_stopped(&self) -> bool {
+        self.stopped
+    }
+}
+
+// Whether an address is one of these.
+fn is_station(addresses: &[Address], station: Address) -> bool
+    ensures { result ≡ is_station_of addresses.now station }
+{
+    addresses.iter().any(|address| address.0 == station.0)
+}
+
+// How many clients a station has.
+fn clients_of(seats: &[Seat], station: Address) -> usize
+    ensures { result ≡ clients_at station (map client_of seats.now) }
+{
+    let mut count = 0;
+    for seat in seats {
+        if seat.station().0 == station.0 {
+            count += 1;
+        }
+    }
+    count
+}

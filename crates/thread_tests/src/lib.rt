@@ -1,0 +1,7 @@
+//! Tests of what threads share: the ends of rings, and a segment under its lock.
+#![tactic(auto)]
+
+#[cfg(test)]
+mod rings;
+#[cfg(test)]
+mod shared;
