@@ -9,6 +9,7 @@ mod counting;
 mod course;
 mod drive;
 mod driven;
+mod due;
 mod frames;
 mod places;
 mod ports;

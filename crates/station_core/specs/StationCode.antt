@@ -1,5 +1,5 @@
 -- How stations are told apart.
-use Rattle.std.specs.Prelude.{ℕ, List, refl}
+use Rattle.std.specs.Prelude.{List, refl}
 use Rattle.std.specs.Coded.{Coded, code_by, coded×, coded_ℕ, coded_list}
 use Rattle.bus_frame.specs.Frames.{CanFrame}
 use Rattle.bus_frame.specs.contracts.frame.Frame as frame

@@ -1,7 +1,6 @@
 -- Timers that fire: one call fires the first that is due, in the order of incoming sessions by source and kind, then of lanes
 -- by destination.
 use Rattle.std.specs.Prelude.{ℕ, Bool, ◌||◌, Option, Some, None, is_some}
-use Rattle.pgn_ids.specs.declared.address.Address.{Address}
 use Rattle.lane_core.specs.Pump as lane
 use Rattle.session_table.specs.DueOrder.{first_due}
 use Rattle.station_lanes.specs.LaneReaders.{due_lane}

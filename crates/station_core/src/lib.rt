@@ -3,6 +3,7 @@
 #![tactic(auto)]
 
 mod closing;
+mod due;
 mod opening;
 mod overruns;
 mod sending;

@@ -3,6 +3,7 @@
 //! A lane is made with the first message to its destination; every other call finds nothing to do where there is none.
 #![tactic(auto)]
 
+mod due;
 mod event;
 mod lane_calls;
 mod lanes;
