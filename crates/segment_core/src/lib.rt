@@ -27,4 +27,4 @@ pub use port_table::{PortId, PortSet};
 pub use run::Ran;
 pub use segment::{NewRefused, Segment};
 pub use segment_law::{Call, Counts, DriveEnd, Refusal, Reply, RunEnd};
-pub use station_core::{Event, Events};
+pub use station_core::{Event, Events, EventsIntoIter, EventsIter};

@@ -12,5 +12,5 @@ mod taking;
 mod timers;
 
 pub use station::Station;
-pub use station_lanes::{Event, Events};
+pub use station_lanes::{Event, Events, EventsIntoIter, EventsIter};
 pub use taking::Taken;

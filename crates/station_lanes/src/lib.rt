@@ -8,5 +8,5 @@ mod event;
 mod lane_calls;
 mod lanes;
 
-pub use event::{Event, Events, outcome};
+pub use event::{Event, Events, EventsIntoIter, EventsIter, outcome};
 pub use lanes::Lanes;
