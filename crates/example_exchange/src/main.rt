@@ -18,7 +18,7 @@ fn call(rt: &impl Print, segment: &mut Segment, call: Call) -> Result<()> {
 }
 
 /// Shows what a drive did.
-fn show(rt: &impl Print, driven: &Driven) -> Result<()> {
+fn show(rt: &impl Print, driven: Driven) -> Result<()> {
     for frame in driven.frames.as_slice() {
         print!(rt; "{:08X}", frame.id().raw())?;
         for byte in frame.bytes() {
@@ -26,11 +26,9 @@ fn show(rt: &impl Print, driven: &Driven) -> Result<()> {
         }
         println!(rt;)?;
     }
-    for events in driven.events.parts() {
-        for place in 0..events.len() {
-            if let Some(event) = events.get(place) {
-                tell(rt, event)?;
-            }
+    for events in driven.events.into_parts() {
+        for event in events {
+            tell(rt, &event)?;
         }
     }
     Ok(())
@@ -71,7 +69,9 @@ fn main(rt: HostRuntime) -> Result<()> {
         };
         call(&rt, &mut segment, send)?;
         // In each turn a frame is put, and both stations take it. It ends once the lane has nothing to send.
-        show(&rt, &segment.drive(from, to, 100))?;
+        show(&rt, segment.drive(from, to, 100))?;
     }
+    // All is at rest, and nothing is waited for.
+    println!(rt; "next timer: {:?}", segment.next_due_at())?;
     Ok(())
 }

@@ -49,15 +49,17 @@ fn show(rt: &impl Print, now: u64, way: &str, frame: &Frame) -> Result<()> {
     Ok(())
 }
 
-/// Shows what the station tells.
+/// Shows what the station tells: a message at a port, or the outcome of one that was sent.
 fn tell(rt: &impl Print, now: u64, events: &Events) -> Result<()> {
-    for place in 0..events.len() {
-        if let Some(Event::Given { port, bytes, .. }) = events.get(place) {
-            let bytes = bytes.as_slice();
-            println!(rt; "{now:4} given at port {}: {bytes:?}", port.number)?;
-        }
-        if let Some(Event::Outcome { outcome, .. }) = events.get(place) {
-            println!(rt; "{now:4} sent: {outcome:?}")?;
+    for event in events {
+        match event {
+            Event::Given { port, bytes, .. } => {
+                let bytes = bytes.as_slice();
+                println!(rt; "{now:4} given at port {}: {bytes:?}", port.number)?;
+            }
+            Event::Outcome { outcome, .. } => {
+                println!(rt; "{now:4} sent: {outcome:?}")?;
+            }
         }
     }
     Ok(())
@@ -70,6 +72,9 @@ fn main(rt: HostRuntime) -> Result<()> {
         let frame = Frame::full(CanId::new(id)?, bytes);
         turn(&rt, &mut station, Some(frame), now)?;
     }
-    // The second announcement was answered at tick 10, and no packet came within T2, 1,250 ticks.
-    turn(&rt, &mut station, None, 1260)
+    // The second message doesn't come: the station waits until its next timer is due.
+    if let Some(now) = station.next_due_at() {
+        turn(&rt, &mut station, None, now)?;
+    }
+    Ok(())
 }
