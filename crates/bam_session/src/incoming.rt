@@ -196,6 +196,13 @@ impl BamIn {
         self.join.size()
     }
 
+    /// Its timer T1.
+    pub fn timer(&self) -> Timer
+        ensures { result ≡ self.now.timer }
+    {
+        self.timer
+    }
+
     /// Whether its timer T1 is due at tick `now`.
     pub fn is_due(&self, now: u64) -> bool
         ensures { result ≡ is_due_at self.now.timer now }

@@ -316,6 +316,13 @@ impl AwaitPacket {
         self.join.capacity()
     }
 
+    /// Its timer: T1 after a packet, T2 after a CTS.
+    pub fn timer(&self) -> Timer
+        ensures { result ≡ self.now.timer }
+    {
+        self.timer
+    }
+
     /// Whether its timer is due at tick `now`.
     pub fn is_due(&self, now: u64) -> bool
         ensures { result ≡ is_due_at self.now.timer now }

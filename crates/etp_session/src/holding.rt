@@ -174,6 +174,13 @@ impl Holding {
         self.join.capacity()
     }
 
+    /// Its timer Th.
+    pub fn timer(&self) -> Timer
+        ensures { result ≡ self.now.timer }
+    {
+        self.timer
+    }
+
     /// Whether Th is due at tick `now`.
     pub fn is_due(&self, now: u64) -> bool
         ensures { result ≡ is_due_at self.now.timer now }

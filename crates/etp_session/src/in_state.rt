@@ -24,6 +24,7 @@ use bus_frame::Frame;
 use responder::{Flow, Peer};
 use seg_cut::Join;
 use std::alloc::AllocError;
+use tick_timers::Timer;
 use tp_wire::{Kind, Wire};
 
 /// The receiver of a connection, in whichever state it is. It must be spent.
@@ -161,6 +162,16 @@ impl InState {
         match self {
             InState::AwaitPacket(state) => state.memory(),
             InState::Holding(state) => state.memory(),
+        }
+    }
+
+    /// Its timer.
+    pub fn timer(&self) -> Timer
+        ensures { result ≡ timer_of self.now }
+    {
+        match self {
+            InState::AwaitPacket(state) => state.timer(),
+            InState::Holding(state) => state.timer(),
         }
     }
 

@@ -4,6 +4,7 @@
 
 mod bytes;
 mod cancel;
+mod due;
 mod fire;
 mod heard;
 mod lane;

@@ -16,6 +16,7 @@ mod states;
 mod step;
 #[cfg(test)]
 mod tests;
+mod timers;
 
 pub use await_cts::AwaitCts;
 pub use await_end::AwaitEnd;

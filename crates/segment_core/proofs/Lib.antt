@@ -14,3 +14,4 @@ pub mod Running
 pub mod Steps
 pub mod Turns
 pub mod Undisturbed
+pub mod Dues

@@ -9,4 +9,5 @@ pub mod Runs
 pub mod Transmits
 pub mod Drives
 pub mod Undisturbed
+pub mod Due
 pub mod Promise

@@ -2,3 +2,4 @@ pub mod Keys
 pub mod Tables
 pub mod Least
 pub mod First
+pub mod Dues

@@ -7,6 +7,7 @@ ghost use Rattle.session_table.specs.Incoming.{goes_on, gone_on, kind_of, pgn_of
 use crate::key::SessionKind;
 use bam_session::BamIn;
 use pgn_ids::WirePgn;
+use tick_timers::Timer;
 use tp_wire::Wire;
 
 /// The state of an incoming session, whatever its kind. It must be spent.
@@ -39,6 +40,17 @@ impl Incoming {
             Incoming::Broadcast(state) => state.pgn(),
             Incoming::Tp(state) => state.peer().pgn(),
             Incoming::Etp(state) => state.peer().pgn(),
+        }
+    }
+
+    /// Its timer.
+    pub fn timer(&self) -> Timer
+        ensures { result ≡ timer_of self.now }
+    {
+        match self {
+            Incoming::Broadcast(state) => state.timer(),
+            Incoming::Tp(state) => state.timer(),
+            Incoming::Etp(state) => state.timer(),
         }
     }
 

@@ -13,6 +13,8 @@ ghost use Rattle.session_table.specs.DueOrder.{IsLeastPicked, first_above, first
 ghost use Rattle.session_table.specs.GoingOn.{gone_on_at, in_place};
 ghost use Rattle.session_table.specs.Refusal.{refusal};
 
+mod due;
+
 use crate::MAX_SESSIONS;
 use crate::held::Held;
 use crate::incoming::Incoming;

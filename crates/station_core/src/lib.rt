@@ -3,6 +3,7 @@
 #![tactic(auto)]
 
 mod closing;
+mod due;
 mod opening;
 mod overruns;
 mod refused;
@@ -15,5 +16,5 @@ pub use refused::{
     CancellingRefused, FiringRefused, PumpingRefused, SendingCause, SendingRefused, TakingRefused,
 };
 pub use station::Station;
-pub use station_lanes::{Event, Events};
+pub use station_lanes::{Event, Events, EventsIntoIter, EventsIter};
 pub use taking::Taken;

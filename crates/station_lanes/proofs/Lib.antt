@@ -4,3 +4,4 @@ pub mod Counting
 pub mod Told
 pub mod Overruns
 pub mod EventPlaces
+pub mod Dues

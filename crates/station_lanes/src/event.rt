@@ -2,6 +2,9 @@
 ghost use Rattle.std.specs.Prelude.{◌≡◌, ◌==◌, ◌+◌, ◌<◌, ◌≤◌, ◌∷◌, ◌++◌, [], length, None, option_to_list, option_copied, drop, slice_get, vec_len, vec_capacity};
 ghost use Rattle.station_lanes.specs.LaneCalls.{outcome_of};
 
+mod iter;
+
+pub use iter::{EventsIntoIter, EventsIter};
 use lane_core::{Bytes, Ended};
 use pgn_ids::{Address, Pgn};
 use port_table::PortId;

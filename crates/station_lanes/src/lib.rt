@@ -3,9 +3,10 @@
 //! A lane is made with the first message to its destination; every other call finds nothing to do where there is none.
 #![tactic(auto)]
 
+mod due;
 mod event;
 mod lane_calls;
 mod lanes;
 
-pub use event::{Event, Events, outcome};
+pub use event::{Event, Events, EventsIntoIter, EventsIter, outcome};
 pub use lanes::Lanes;

@@ -10,6 +10,8 @@ ghost use Rattle.station_sessions.specs.Progress.{completes as completes_at, siz
 ghost use Rattle.station_sessions.specs.Receiving.{Inbound, flow_at, concluded, settled, received, fired_at, aborted_at, unbound_at, unheard, wanted_by};
 ghost use Rattle.station_sessions.specs.CopyRoom.{IsCovered};
 
+mod due;
+
 use crate::copies::{Copies, give};
 use crate::progress::{self, Progress, Whole};
 use bus_frame::Frame;

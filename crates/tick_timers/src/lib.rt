@@ -5,10 +5,12 @@
 
 mod clock;
 mod durations;
+mod ticks;
 mod timer;
 
 pub use clock::{Clock, ClockEnd};
 pub use durations::{
     BROADCAST_GAP, PROBE, T1, T2, T3, T4, TH, durations_are_those_of_the_standard,
 };
+pub use ticks::earlier;
 pub use timer::Timer;

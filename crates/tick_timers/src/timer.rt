@@ -1,5 +1,6 @@
 //! Timers.
 ghost use Rattle.std.specs.Prelude.{◌≡◌, ◌+◌, ◌≤◌, true};
+ghost use Rattle.tick_timers.specs.Due.{IsDueFrom};
 ghost use Rattle.tick_timers.specs.Timers.{is_due as is_due_at, missing as missing_at};
 
 use std::marker::Model;
@@ -37,6 +38,13 @@ impl Timer {
         ensures { result ≡ is_due_at self.now now }
     {
         self.started <= now && self.ticks <= now - self.started
+    }
+
+    /// The tick from which on it is due. None where that would be past the end of `u64`: then it never is.
+    pub fn due_at(&self) -> Option<u64>
+        ensures { IsDueFrom (is_due_at self.now) result }
+    {
+        self.started.checked_add(self.ticks)
     }
 
     /// How many of its ticks are still to pass at tick `now`, which is not before its start: 0 where it is due.

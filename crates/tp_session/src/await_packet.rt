@@ -196,6 +196,13 @@ impl AwaitPacket {
         self.incoming.wants_last() && number == self.incoming.next()
     }
 
+    /// Its timer: T1 after a packet, T2 after a CTS.
+    pub fn timer(&self) -> Timer
+        ensures { result ≡ self.now.timer }
+    {
+        self.timer
+    }
+
     /// Whether its timer is due at tick `now`: T1 after a packet, T2 after a CTS.
     pub fn is_due(&self, now: u64) -> bool
         ensures { result ≡ is_due_at self.now.timer now }

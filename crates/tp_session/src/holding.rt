@@ -95,6 +95,13 @@ impl Holding {
         self.incoming.peer()
     }
 
+    /// Its timer TH.
+    pub fn timer(&self) -> Timer
+        ensures { result ≡ self.now.timer }
+    {
+        self.timer
+    }
+
     /// Whether its timer TH is due at tick `now`.
     pub fn is_due(&self, now: u64) -> bool
         ensures { result ≡ is_due_at self.now.timer now }

@@ -20,6 +20,7 @@ use crate::received::Received;
 use bus_frame::Frame;
 use responder::{Flow, Peer};
 use seg_cut::Join;
+use tick_timers::Timer;
 use tp_wire::{Kind, Wire};
 
 /// The receiver of a connection, in whichever state it is. It must be spent.
@@ -108,6 +109,16 @@ impl InState {
                 },
             ) => state.is_last(*sequence),
             _ => false,
+        }
+    }
+
+    /// Its timer.
+    pub fn timer(&self) -> Timer
+        ensures { result ≡ timer_of self.now }
+    {
+        match self {
+            InState::AwaitPacket(state) => state.timer(),
+            InState::Holding(state) => state.timer(),
         }
     }
 

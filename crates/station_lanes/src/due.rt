@@ -1,0 +1,29 @@
+//! The next timer of the lanes.
+ghost use Rattle.std.specs.Prelude.{is_some};
+ghost use Rattle.tick_timers.specs.Due.{IsDueFrom};
+ghost use Rattle.station_lanes.specs.LaneReaders.{is_due_at, due_lane};
+
+use crate::lanes::{Lanes, PLACES};
+use pgn_ids::Address;
+use tick_timers::earlier;
+
+impl Lanes {
+    /// The tick from which on a lane's timer is due: that of the earliest. None where no connection and no Request is under way
+    /// that is due up to the last tick.
+    pub fn next_due_at(&self) -> Option<u64>
+        ensures { IsDueFrom (λ now. is_some (due_lane self.now now)) result }
+    {
+        let mut tick = None;
+        for place in 0..PLACES {
+            tick = earlier(tick, self.due_at(Address(place as u8)));
+        }
+        tick
+    }
+
+    // The same of the lane to a destination.
+    fn due_at(&self, to: Address) -> Option<u64>
+        ensures { IsDueFrom (λ now. is_due_at self.now now to.0) result }
+    {
+        self.get(to)?.due_at()
+    }
+}

@@ -1,0 +1,16 @@
+//! The next timer of the incoming sessions.
+ghost use Rattle.std.specs.Prelude.{is_some};
+ghost use Rattle.tick_timers.specs.Due.{IsDueFrom};
+ghost use Rattle.session_table.specs.DueOrder.{first_due};
+
+use super::Receivers;
+
+impl Receivers {
+    /// The tick from which on a session's timer is due: that of the earliest. None where there is no session, and where none is
+    /// due up to the last tick.
+    pub fn next_due_at(&self) -> Option<u64>
+        ensures { IsDueFrom (λ now. is_some (first_due self.now now)) result }
+    {
+        self.table.next_due_at()
+    }
+}

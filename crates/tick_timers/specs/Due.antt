@@ -1,0 +1,18 @@
+-- From which tick on something is due.
+use Rattle.std.specs.Prelude.{◌≡◌, ℕ, ◌^◌, ◌<◌, Bool, false, nat_le, if◌then◌else◌, Option, Some, None}
+
+-- there is such a tick, and it has come
+abbrev pub has_come : Option ℕ → (now : ℕ) → Bool
+has_come None now = false
+has_come (Some tick) now = nat_le tick now
+
+-- at each tick that a clock can show, it is due exactly where this tick has come: so this is the least tick at which it is due,
+-- and there is none exactly where it is due at none of them
+abbrev pub IsDueFrom : (ℕ → Bool) → Option ℕ → Type 0
+IsDueFrom is_due tick = (now : ℕ) → now < 2 ^ 64 → is_due now ≡ has_come tick now
+
+-- the lesser of two ticks, where there are two
+abbrev pub earlier_of : Option ℕ → Option ℕ → Option ℕ
+earlier_of None other = other
+earlier_of (Some tick) None = Some tick
+earlier_of (Some tick) (Some other) = if nat_le tick other then Some tick else Some other
