@@ -16,16 +16,8 @@ use Rattle.tp_wire.specs.declared.wire.Wire.{Wire}
 use Rattle.tp_wire.specs.declared.wire.Wire.TheVariants.{Cm, Packet}
 use Rattle.station_core.specs.Station.{Station, StationStep, quietly}
 use Rattle.station_core.specs.Taking.{meaning_taken, taken, wire_taken}
+use Rattle.record_lemmas.proofs.Readings.{GivesBack, ReadsBack}
 use Rattle.quiet_law.proofs.Receivers.{all}
-
--- identifiers give their parts back
-abbrev pub GivesBack : Type 0
-GivesBack = (priority pgn to from : ℕ) → priority < 8 → is_pgn pgn ≡ true → to < 256 → from < 256 → (is_pdu1 pgn ≡ false → to ≡ 255)
-    → meaning_of (id_of priority pgn to from) ≡ record { priority = priority; pgn = pgn; to = record { 0 = to }; from = record { 0 = from } }
-
--- what is written is read
-abbrev pub ReadsBack : Type 0
-ReadsBack = (wire : Wire) (from to : Address) → IsRow wire from.0 to.0 → reading (written wire from.0 to.0) ≡ Some (wire, from, to)
 
 -- a frame from one node to all, with its meaning
 pub record IsSaid (s : Address) (wire : Wire) (f : CanFrame) : Type 0 where
