@@ -5,13 +5,13 @@ use Rattle.std.proofs.lemmas.Option.{same_Some, none-some}
 use Rattle.std.specs.Prelude.{option_and_then}
 use Rattle.bus_frame.specs.Frames.{CanFrame}
 use Rattle.pgn_ids.specs.Address.{is_one}
-use Rattle.pgn_ids.specs.Pgn.{is_pgn, is_pdu1}
+use Rattle.pgn_ids.specs.Pgn.{is_pdu1}
 use Rattle.pgn_ids.specs.Identifier.{id_of, meaning_of}
 use Rattle.pgn_ids.specs.declared.address.Address.{Address}
 use Rattle.pgn_ids.specs.declared.identifier.IdMeaning.{IdMeaning}
 use Rattle.tp_wire.specs.Groups.{cm_group}
 use Rattle.tp_wire.specs.Reading.{reading, between, body_of, ack_of, field_of}
-use Rattle.tp_wire.specs.Rows.{IsRow, written, priority_of, group_of, cm_kind, goes_to, comes_from}
+use Rattle.tp_wire.specs.Rows.{written, priority_of, group_of, cm_kind, goes_to, comes_from}
 use Rattle.tp_wire.specs.declared.wire.Kind.{Kind}
 use Rattle.tp_wire.specs.declared.wire.Kind.TheVariants.{Tp, Etp}
 use Rattle.tp_wire.specs.declared.wire.CmFrame.TheVariants.{Rts, Cts, EndOfMsgAck, Bam, Abort, EtpRts, EtpCts, EtpDpo, EtpEoma, EtpAbort}

@@ -29,7 +29,6 @@ use Rattle.broadcast_law.proofs.Counted.{counted_none, counted_numbers}
 use Rattle.broadcast_law.proofs.Good.{Silent}
 use Rattle.broadcast_law.proofs.Numbered.{at_port, given_messages, AreNumbers, all_numbered}
 use Rattle.broadcast_law.proofs.Places.{IsAt}
-use Rattle.broadcast_law.proofs.Ports.{station_told}
 use Rattle.broadcast_law.proofs.Send.{AreSeven}
 use Rattle.broadcast_law.proofs.View.{GoesOn}
 

@@ -3,13 +3,12 @@ use Rattle.std.proofs.Common.{◌≡◌, ℕ, ◌<◌, ◌^◌, ◌==◌, Bool, 
 use Rattle.std.proofs.lemmas.Bool.{eqb-true, eq-eqb, ltb-true}
 use Rattle.bus_frame.specs.Frames.{CanFrame}
 use Rattle.pgn_ids.specs.Address.{is_one}
-use Rattle.pgn_ids.specs.Pgn.{is_pgn, is_pdu1}
 use Rattle.pgn_ids.specs.Identifier.{id_of, meaning_of}
 use Rattle.pgn_ids.specs.declared.address.Address.{Address}
 use Rattle.pgn_ids.specs.declared.identifier.IdMeaning.{IdMeaning}
 use Rattle.tp_wire.specs.Groups.{tp_cm, tp_dt}
 use Rattle.tp_wire.specs.Reading.{reading}
-use Rattle.tp_wire.specs.Rows.{IsRow, written}
+use Rattle.tp_wire.specs.Rows.{written}
 use Rattle.tp_wire.specs.declared.wire.Kind.TheVariants.{Tp}
 use Rattle.tp_wire.specs.declared.wire.CmFrame.TheVariants.{Bam}
 use Rattle.tp_wire.specs.declared.wire.Wire.{Wire}
