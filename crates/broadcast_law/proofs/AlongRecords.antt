@@ -1,5 +1,5 @@
 -- Along a record: what a station is given of the messages of s to all has numbers, over all its ports.
-use Rattle.std.proofs.Common.{◌≡◌, inl, inr, ℕ, ◌+◌, true, List, [], ◌∷◌, ◌++◌, map, length, Some, refl, sym, ap, ◌∙◌, subst, arith, append-nil, zero, suc, ◌-◌}
+use Rattle.std.proofs.Common.{◌≡◌, ℕ, ◌+◌, true, List, [], ◌∷◌, ◌++◌, map, length, Some, refl, sym, ap, ◌∙◌, subst, arith, append-nil, zero, suc, ◌-◌}
 use Rattle.std.specs.Prelude.{All, slice_get}
 use Rattle.std.specs.List.{list_all}
 use Rattle.std.specs.Option.{option_map}
@@ -21,15 +21,16 @@ use Rattle.segment_law.specs.declared.reply.Reply.{Reply}
 use Rattle.segment_law.specs.declared.reply.Reply.TheVariants.{Opened, Sent, Refused, Done}
 use Rattle.record_lemmas.proofs.AlongRecords.{along, carried}
 use Rattle.record_lemmas.proofs.Lists.{Each, each_get}
+use Rattle.record_lemmas.proofs.Readings.{GivesBack, ReadsBack}
 use Rattle.record_lemmas.proofs.Told.{items_placed, none_done, told_last}
 use Rattle.lane_law.specs.Message.{Message, IsSent}
 use Rattle.lane_law.specs.Session.{Given}
 use Rattle.lane_law.specs.Choice as choice
 use Rattle.lane_law.specs.Stream as stream
-use Rattle.broadcast_law.proofs.Carried.{GivesBack, ReadsBack, all}
+use Rattle.broadcast_law.proofs.Carried.{all}
 use Rattle.broadcast_law.proofs.Counted.{Counted, at_step, giving, counted_sent, counted_given}
 use Rattle.broadcast_law.proofs.Every.{good_call}
-use Rattle.broadcast_law.proofs.Good.{Silent, Good}
+use Rattle.broadcast_law.proofs.Good.{Silent, Good, still}
 use Rattle.broadcast_law.proofs.Numbered.{Giving, messages}
 use Rattle.broadcast_law.proofs.Places.{IsAt, AllOwn, view}
 use Rattle.broadcast_law.proofs.Ports.{Distinct, station_told, first_message}
@@ -40,7 +41,7 @@ use Rattle.broadcast_law.proofs.View.{View, plain, cleaned, IsClean, Stands, Goe
 
 -- A choice by numbers is a numbering
 
-item_of : (ms : List Message) (n : ℕ) (m : Message) → IsSent ms n m → item (map plain ms) n ≡ Some (plain m)
+pub item_of : (ms : List Message) (n : ℕ) (m : Message) → IsSent ms n m → item (map plain ms) n ≡ Some (plain m)
 item_of ms zero m h = absurd (omega (arith, h.0))
 item_of ms (suc n) m h =
     let e : suc n - 1 ≡ n = omega arith in
@@ -153,17 +154,13 @@ module _ (goes : GoesOn) (choose : StreamsChoose) (gives : GivesBack) (reads : R
   all_stood todo steps seg r each fit replies x y at_x at_y n h = (carried (StoodAt x y) (stood_on x y n) todo seg r fit replies steps (each, at_x, at_y, h)).3
 
   -- to s itself, and where there is no station, nothing is told
-  still : (seg next : Segment) → Silent s listener seg → ((x : ℕ) (a : Address) → IsAt next x a → IsAt seg x a) → Silent s listener next
-  still seg next (inl e) back = inl e
-  still seg next (inr n) back = inr (λ j h. n j (back j listener h))
-
   abbrev SilentAlong : Segment → Record → Type 0
   SilentAlong seg todo = (place : ℕ) → AllOwn seg → Silent s listener seg → told_from (λ step. station_told listener s (events_of step.1)) place todo ≡ []
 
   silent_on : (seg : Segment) (call : Call) (rest : Record) → IsReached seg → is_call call ≡ true → SilentAlong (applied seg call).0 rest → SilentAlong seg ((call, (applied seg call).1) ∷ rest)
   silent_on seg call rest r is go place each q =
       let g : Good s listener seg (applied seg call).0 (sent_by s all call (applied seg call).1) (events_of (applied seg call).1) = good_call s listener one goes gives reads seven seg r each call is in
-      (λ k. map (λ (z : AtPort). (place, z)) (g.silent q k) ++ go (place + 1) g.each (still seg (applied seg call).0 q g.before) k)
+      (λ k. map (λ (z : AtPort). (place, z)) (g.silent q k) ++ go (place + 1) g.each (still s listener seg (applied seg call).0 q g.before) k)
 
   pub all_silent : (todo : Record) (place : ℕ) (seg : Segment) → IsReached seg → AllOwn seg → list_all is_call (calls_of todo) ≡ true → replies_from seg (calls_of todo) ≡ replies_of todo
       → Silent s listener seg → told_from (λ step. station_told listener s (events_of step.1)) place todo ≡ []

@@ -5,19 +5,20 @@ use Rattle.std.proofs.lemmas.Option.{same_Some, none-some}
 use Rattle.std.specs.Prelude.{option_and_then}
 use Rattle.bus_frame.specs.Frames.{CanFrame}
 use Rattle.pgn_ids.specs.Address.{is_one}
-use Rattle.pgn_ids.specs.Pgn.{is_pgn, is_pdu1}
+use Rattle.pgn_ids.specs.Pgn.{is_pdu1}
 use Rattle.pgn_ids.specs.Identifier.{id_of, meaning_of}
 use Rattle.pgn_ids.specs.declared.address.Address.{Address}
 use Rattle.pgn_ids.specs.declared.identifier.IdMeaning.{IdMeaning}
 use Rattle.tp_wire.specs.Groups.{cm_group}
 use Rattle.tp_wire.specs.Reading.{reading, between, body_of, ack_of, field_of}
-use Rattle.tp_wire.specs.Rows.{IsRow, written, priority_of, group_of, cm_kind, goes_to, comes_from}
+use Rattle.tp_wire.specs.Rows.{written, priority_of, group_of, cm_kind, goes_to, comes_from}
 use Rattle.tp_wire.specs.declared.wire.Kind.{Kind}
 use Rattle.tp_wire.specs.declared.wire.Kind.TheVariants.{Tp, Etp}
 use Rattle.tp_wire.specs.declared.wire.CmFrame.TheVariants.{Rts, Cts, EndOfMsgAck, Bam, Abort, EtpRts, EtpCts, EtpDpo, EtpEoma, EtpAbort}
 use Rattle.tp_wire.specs.declared.wire.Wire.{Wire}
 use Rattle.tp_wire.specs.declared.wire.Wire.TheVariants.{Cm, Packet, Request, Ack}
 use Rattle.record_lemmas.proofs.Lists.{Each}
+use Rattle.record_lemmas.proofs.Readings.{GivesBack, ReadsBack}
 use Rattle.record_lemmas.proofs.Tests.{on_test, either}
 
 abbrev pub all : Address
@@ -95,15 +96,6 @@ carried_foreign s f n = carried_else s f (and_left ((meaning_of f.id).from.0 == 
 
 carried_elsewhere : (s : Address) (f : CanFrame) → ((meaning_of f.id).to.0 ≡ 255 → ⊥) → carried s f ≡ None
 carried_elsewhere s f n = carried_else s f (and_right ((meaning_of f.id).from.0 == s.0) ((meaning_of f.id).to.0 == 255) (ne_eqb (meaning_of f.id).to.0 255 n))
-
--- identifiers give their parts back
-abbrev pub GivesBack : Type 0
-GivesBack = (priority pgn to from : ℕ) → priority < 8 → is_pgn pgn ≡ true → to < 256 → from < 256 → (is_pdu1 pgn ≡ false → to ≡ 255)
-    → meaning_of (id_of priority pgn to from) ≡ record { priority = priority; pgn = pgn; to = record { 0 = to }; from = record { 0 = from } }
-
--- what is written is read
-abbrev pub ReadsBack : Type 0
-ReadsBack = (wire : Wire) (from to : Address) → IsRow wire from.0 to.0 → reading (written wire from.0 to.0) ≡ Some (wire, from, to)
 
 -- a frame of station a that carries nothing to all
 pub record IsQuiet (a : Address) (f : CanFrame) : Type 0 where

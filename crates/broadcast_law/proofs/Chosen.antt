@@ -9,7 +9,7 @@ use Rattle.port_table.specs.declared.port.PortId.{PortId}
 use Rattle.station_lanes.specs.declared.event.Event.{Event}
 use Rattle.station_lanes.specs.declared.event.Event.TheVariants as event
 use Rattle.segment_law.specs.Told as told
-use Rattle.segment_law.specs.Told.{Placed, AtPort, told_from, items_of, is_lane, given_to_port, sends, sent, given, station_givens}
+use Rattle.segment_law.specs.Told.{Placed, AtPort, told_from, items_of, is_lane, given_to_port, given_to_station, sends, sent, given, station_givens}
 use Rattle.segment_law.specs.Headline.{IsStationOf}
 use Rattle.segment_law.specs.Numbering.{IsNumbering, IsChoice, IsLaneNumbering, numbered, part_of}
 use Rattle.segment_law.specs.Segment.{Segment, new_segment}
@@ -18,23 +18,23 @@ use Rattle.segment_law.specs.Record.{Record, StandsAt, after, calls_of}
 use Rattle.segment_law.specs.Reached.{IsReached}
 use Rattle.segment_law.proofs.New.{new_reached}
 use Rattle.segment_law.proofs.Reaching.{as_it_is}
+use Rattle.record_lemmas.proofs.Readings.{GivesBack, ReadsBack}
 use Rattle.record_lemmas.proofs.Tests.{equal_or_not, on_test}
 use Rattle.record_lemmas.proofs.Told.{items_placed}
 use Rattle.lane_law.specs.Stream as stream
 use Rattle.broadcast_law.proofs.AlongRecords.{StreamsChoose, Stood, all_stood, all_silent}
 use Rattle.broadcast_law.proofs.Beginning.{new_own, stands_at, somewhere, new_stands}
-use Rattle.broadcast_law.proofs.Carried.{GivesBack, ReadsBack, all}
+use Rattle.broadcast_law.proofs.Carried.{all}
 use Rattle.broadcast_law.proofs.Counted.{counted_none, counted_numbers}
 use Rattle.broadcast_law.proofs.Good.{Silent}
 use Rattle.broadcast_law.proofs.Numbered.{at_port, given_messages, AreNumbers, all_numbered}
 use Rattle.broadcast_law.proofs.Places.{IsAt}
-use Rattle.broadcast_law.proofs.Ports.{station_told}
 use Rattle.broadcast_law.proofs.Send.{AreSeven}
 use Rattle.broadcast_law.proofs.View.{GoesOn}
 
 -- What a port is given is the part of its station's that is for it
 
-module _ (p : PortId) (s : Address) where
+module _ (p : PortId) (s d : Address) where
   abbrev is_here : AtPort → Bool
   is_here g = g.0 == p.number
 
@@ -49,9 +49,9 @@ module _ (p : PortId) (s : Address) where
   one_event true false false k m xs ms e q = q
   one_event false b l k m xs ms e q = q
 
-  part_told : (events : List Event) → filter_map (given_to_port p s all) events ≡ part (station_told p.station s events)
+  part_told : (events : List Event) → filter_map (given_to_port p s d) events ≡ part (filter_map (given_to_station p.station s d) events)
   part_told [] = refl
-  part_told (event.Given port from to pgn bytes ∷ events) = one_event (port.station.0 == p.station.0) (port.number == p.number) (is_lane s all from to) port.number (pgn, bytes) (station_told p.station s events) _ refl (part_told events)
+  part_told (event.Given port from to pgn bytes ∷ events) = one_event (port.station.0 == p.station.0) (port.number == p.number) (is_lane s d from to) port.number (pgn, bytes) (filter_map (given_to_station p.station s d) events) _ refl (part_told events)
   part_told (event.Outcome from to number outcome ∷ events) = part_told events
 
   part_placed : (place : ℕ) (xs : List AtPort) (rest : List (Placed AtPort)) → given_messages (at_port p.number (map (λ (x : AtPort). (place, x)) xs ++ rest)) ≡ part xs ++ given_messages (at_port p.number rest)
@@ -59,12 +59,12 @@ module _ (p : PortId) (s : Address) where
   part_placed place (x ∷ xs) rest = on_test (λ b. given_messages (cond b ((place, x) ∷ at_port p.number (map (λ (z : AtPort). (place, z)) xs ++ rest)) (at_port p.number (map (λ (z : AtPort). (place, z)) xs ++ rest))) ≡ map (λ (g : AtPort). g.1) (cond b (x ∷ filter is_here xs) (filter is_here xs)) ++ given_messages (at_port p.number rest)) (is_here x)
       (λ _. ap (λ ms. x.1 ∷ ms) (part_placed place xs rest)) (λ _. part_placed place xs rest)
 
-  given_part : (place : ℕ) (steps : Record) → items_of (told_from (λ step. filter_map (given_to_port p s all) (events_of step.1)) place steps) ≡ given_messages (at_port p.number (told_from (λ step. station_told p.station s (events_of step.1)) place steps))
+  pub given_part : (place : ℕ) (steps : Record) → items_of (told_from (λ step. filter_map (given_to_port p s d) (events_of step.1)) place steps) ≡ given_messages (at_port p.number (told_from (λ step. filter_map (given_to_station p.station s d) (events_of step.1)) place steps))
   given_part place [] = refl
   given_part place (x ∷ steps) =
-      map-append (λ (y : Placed told.Message). y.1) (map (λ (y : told.Message). (place, y)) (filter_map (given_to_port p s all) (events_of x.1))) (told_from (λ step. filter_map (given_to_port p s all) (events_of step.1)) (place + 1) steps)
-      ∙ (λ i. (items_placed place (filter_map (given_to_port p s all) (events_of x.1)) ∙ part_told (events_of x.1)) i ++ given_part (place + 1) steps i)
-      ∙ sym (part_placed place (station_told p.station s (events_of x.1)) (told_from (λ step. station_told p.station s (events_of step.1)) (place + 1) steps))
+      map-append (λ (y : Placed told.Message). y.1) (map (λ (y : told.Message). (place, y)) (filter_map (given_to_port p s d) (events_of x.1))) (told_from (λ step. filter_map (given_to_port p s d) (events_of step.1)) (place + 1) steps)
+      ∙ (λ i. (items_placed place (filter_map (given_to_port p s d) (events_of x.1)) ∙ part_told (events_of x.1)) i ++ given_part (place + 1) steps i)
+      ∙ sym (part_placed place (filter_map (given_to_station p.station s d) (events_of x.1)) (told_from (λ step. filter_map (given_to_station p.station s d) (events_of step.1)) (place + 1) steps))
 
 lane_numbers : (steps : Record) (r s : Address) → (numbers : List ℕ) × AreNumbers (sends steps s all) (station_givens steps r s all) numbers → (numbers : List ℕ) × IsLaneNumbering steps r s all numbers
 lane_numbers steps r s (numbers, h) = (
@@ -74,7 +74,7 @@ lane_numbers steps r s (numbers, h) = (
     items = h.items;
     later = h.later;
     together = h.together;
-    each_port = λ port. subst (λ ms. IsNumbering (part_of port (numbered steps r s all numbers)) ms (sent steps s all)) (sym (given_part (record { station = r; number = port }) s 1 steps)) (h.each_port port);
+    each_port = λ port. subst (λ ms. IsNumbering (part_of port (numbered steps r s all numbers)) ms (sent steps s all)) (sym (given_part (record { station = r; number = port }) s all 1 steps)) (h.each_port port);
   },
 )
 
@@ -122,5 +122,5 @@ module _ (goes : GoesOn) (begins : stream.IsReached stream.empty_stream) (choose
     -- a station is given nothing of its own
     pub not_own : 0 < length (given steps p s all) → s ≢ p.station
     not_own some e =
-        let none : given steps p s all ≡ [] = given_part p s 1 steps ∙ ap (λ xs. given_messages (at_port p.number xs)) (none_given p.station s is (inl (ap (λ (x : Address). x.0) e))) in
+        let none : given steps p s all ≡ [] = given_part p s all 1 steps ∙ ap (λ xs. given_messages (at_port p.number xs)) (none_given p.station s is (inl (ap (λ (x : Address). x.0) e))) in
         let l : 0 < length {A = told.Message} [] = subst (λ xs. 0 < length xs) none some in omega arith

@@ -26,8 +26,9 @@ use Rattle.station_core.specs.Overruns.{overrun}
 use Rattle.station_core.specs.Timers.{lane_fired, fired}
 use Rattle.record_lemmas.proofs.Lists.{Each, each_append}
 use Rattle.record_lemmas.proofs.Maps.{OfEach, of_each_none, StaysOrEnds, stays_or_ends, session_at}
+use Rattle.record_lemmas.proofs.Readings.{GivesBack}
 use Rattle.record_lemmas.proofs.Tests.{on_test, either}
-use Rattle.broadcast_law.proofs.Carried.{GivesBack, IsSaid}
+use Rattle.broadcast_law.proofs.Carried.{IsSaid}
 use Rattle.broadcast_law.proofs.Ports.{ports_closed, IsUntold}
 use Rattle.broadcast_law.proofs.LaneSteps.{fits_overrun, fits_fired}
 use Rattle.broadcast_law.proofs.LaneToAll.{all_fired, all_overrun}

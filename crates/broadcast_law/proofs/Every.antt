@@ -1,4 +1,4 @@
--- Every call.
+-- Every call leads from a segment for which a stream stands to another one: each row of the calls does, and a refusal changes nothing.
 use Rattle.std.proofs.Common.{◌≡◌, ℕ, ◌+◌, ◌<◌, ◌==◌, true, false, ◌&&◌, [], length, Some, refl, sym, ap, ◌∙◌, subst, ltb-true}
 use Rattle.std.specs.Prelude.{slice_get, position, is_some}
 use Rattle.bus_frame.specs.Frames.{CanFrame}
@@ -15,9 +15,10 @@ use Rattle.segment_law.specs.declared.call.Call.{Call}
 use Rattle.segment_law.proofs.Booleans.{both_pass}
 use Rattle.segment_law.specs.declared.reply.Reply.{Reply}
 use Rattle.record_lemmas.proofs.EachCall.{OfStation, each_applied}
+use Rattle.record_lemmas.proofs.Readings.{GivesBack, ReadsBack}
 use Rattle.record_lemmas.proofs.Segments.{has_address}
 use Rattle.broadcast_law.proofs.Buses.{put_ahead, put_again}
-use Rattle.broadcast_law.proofs.Carried.{GivesBack, ReadsBack, all, carried_foreign}
+use Rattle.broadcast_law.proofs.Carried.{all, carried_foreign}
 use Rattle.broadcast_law.proofs.Frames.{transmits_good, takes_good, repeats_good, overruns_good}
 use Rattle.broadcast_law.proofs.Good.{Good, GoodBy, nothing_more, refused_good}
 use Rattle.broadcast_law.proofs.Places.{AllOwn, cursor_of, view}

@@ -1,4 +1,4 @@
--- Frames are put on the bus and taken from it.
+-- A frame that is put on the bus, taken from it or passed over moves in the stream as it does in the segment.
 use Rattle.std.proofs.Common.{◌≡◌, ◌⊎◌, inl, inr, ℕ, ◌+◌, ◌<◌, ◌≤◌, nat_lt, Bool, List, [], ◌∷◌, ◌++◌, length, drop, set, Option, Some, None, refl, sym, ap, ◌∙◌, subst, append-nil, ltb-false, false}
 use Rattle.std.specs.Prelude.{slice_get}
 use Rattle.std.specs.Option.{option_map}
@@ -28,11 +28,12 @@ use Rattle.segment_law.specs.declared.reply.Reply.TheVariants.{Done}
 use Rattle.record_lemmas.proofs.EachCall.{stepped, looked}
 use Rattle.record_lemmas.proofs.Lists.{Each}
 use Rattle.record_lemmas.proofs.Maps.{session_at, state_empty}
+use Rattle.record_lemmas.proofs.Readings.{GivesBack}
 use Rattle.record_lemmas.proofs.Segments.{same_address}
 use Rattle.record_lemmas.proofs.Tests.{equal_or_not}
 use Rattle.broadcast_law.proofs.Buses.{ahead_of, IsTaken, taken_here, taken_ahead_else, taken_again_else, passed_ahead, passed_again, passed_long, passed_ahead_else, passed_again_else, put_ahead, put_again}
 use Rattle.broadcast_law.proofs.Calm.{Calm, calm_taken, own_untold}
-use Rattle.broadcast_law.proofs.Carried.{GivesBack, carried, carried_foreign}
+use Rattle.broadcast_law.proofs.Carried.{carried, carried_foreign}
 use Rattle.broadcast_law.proofs.Endings.{does_overrun, overrun_untold}
 use Rattle.broadcast_law.proofs.Good.{Silent, Good, GoodBy, bus_same, small, is_of, is_here, good_step}
 use Rattle.broadcast_law.proofs.Hears.{hears}

@@ -1,5 +1,5 @@
 -- What is shown of every call: it leads from a segment whose broadcasts a stream stands for to another one.
-use Rattle.std.proofs.Common.{◌≡◌, ◌⊎◌, inr, ℕ, ◌<◌, List, [], ◌++◌, set, Option, Some, None, refl, sym, ap, ◌∙◌, subst, arith, append-nil, ltb-true}
+use Rattle.std.proofs.Common.{◌≡◌, ◌⊎◌, inl, inr, ℕ, ◌<◌, List, [], ◌++◌, set, Option, Some, None, refl, sym, ap, ◌∙◌, subst, arith, append-nil, ltb-true}
 use Rattle.std.specs.Prelude.{slice_get}
 use Rattle.std.proofs.lemmas.Option.{same_Some}
 use Rattle.std.specs.FinMap as finmap
@@ -26,9 +26,10 @@ use Rattle.segment_law.specs.declared.reply.Reply.{Reply}
 use Rattle.record_lemmas.proofs.Told.{none_refused}
 use Rattle.record_lemmas.proofs.Lists.{Each}
 use Rattle.record_lemmas.proofs.Maps.{session_at, StaysOrEnds, lane_here}
+use Rattle.record_lemmas.proofs.Readings.{GivesBack}
 use Rattle.record_lemmas.proofs.Segments.{same_address}
 use Rattle.broadcast_law.proofs.Buses.{ahead_of}
-use Rattle.broadcast_law.proofs.Carried.{GivesBack, all}
+use Rattle.broadcast_law.proofs.Carried.{all}
 use Rattle.broadcast_law.proofs.LaneSteps.{IsLaneOf, Fits}
 use Rattle.broadcast_law.proofs.Places.{IsAt, AllOwn, one_place, apart_places, own_next, at_next, at_before, parts, station_in, view, in_roles, sends_calmly, receives_calmly, at_it}
 use Rattle.broadcast_law.proofs.Ports.{IsUntold, IsOneGiving, one_of_none, station_told, first_message, told_to, none_told}
@@ -41,6 +42,11 @@ module _ (s listener : Address) where
   -- the listener is s itself, or no station
   abbrev pub Silent : Segment → Type 0
   Silent seg = (s.0 ≡ listener.0) ⊎ ((j : ℕ) → IsAt seg j listener → ⊥)
+
+  -- and is so where no station came
+  pub still : (seg next : Segment) → Silent seg → ((x : ℕ) (a : Address) → IsAt next x a → IsAt seg x a) → Silent next
+  still seg next (inl e) back = inl e
+  still seg next (inr n) back = inr (λ j h. n j (back j listener h))
 
   pub record Good (seg next : Segment) (more : List told.Message) (events : List Event) : Type 0 where
     pub each : AllOwn next

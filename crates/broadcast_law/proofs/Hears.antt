@@ -1,4 +1,4 @@
--- The receiver takes a frame of the broadcasts of s.
+-- The receiver takes a frame of the broadcasts of s, and its session and what it gives are what the stream makes of that frame.
 use Rattle.std.proofs.Common.{◌≡◌, inl, ℕ, ◌==◌, Bool, true, false, cond, not, ◌||◌, List, [], ◌∷◌, ◌++◌, Option, Some, None, refl, sym, ap, ◌∙◌, subst, eqb-true, ne_eqb, eq-eqb, append-nil}
 use Rattle.std.specs.Option.{option_map}
 use Rattle.std.proofs.lemmas.Bool.{and_parts, and_from}

@@ -128,10 +128,10 @@ all_numbers sends (n ∷ ns) (g ∷ gs) h e =
 abbrev pub firsts : List Numbered → List ℕ
 firsts xs = map (λ (x : Numbered). x.0) xs
 
-abbrev seconds : List Numbered → List (Placed AtPort)
+abbrev pub seconds : List Numbered → List (Placed AtPort)
 seconds xs = map (λ (x : Numbered). x.1) xs
 
-all_seconds : (sent : List Message) (ns : List ℕ) (gs : List Giving) → AllZip (IsFit sent) ns gs → seconds (all_spread ns gs) ≡ all_at_ports gs
+pub all_seconds : (sent : List Message) (ns : List ℕ) (gs : List Giving) → AllZip (IsFit sent) ns gs → seconds (all_spread ns gs) ≡ all_at_ports gs
 all_seconds sent [] [] h = refl
 all_seconds sent [] (g ∷ gs) h = absurd h
 all_seconds sent (n ∷ ns) [] h = absurd h
@@ -158,7 +158,7 @@ pub record AreNumbers (sends : List (Placed Message)) (givens : List (Placed AtP
   pub together : AllPairs (λ (g h : Numbered). g.0 ≡ h.0 → g.1.0 ≡ h.1.0) (zip numbers givens)
   pub each_port : (port : ℕ) → IsNumbering (part_of port (zip numbers givens)) (given_messages (at_port port givens)) (items_of sends)
 
-zip_both : (xs : List Numbered) → zip (firsts xs) (seconds xs) ≡ xs
+pub zip_both : (xs : List Numbered) → zip (firsts xs) (seconds xs) ≡ xs
 zip_both [] = refl
 zip_both (x ∷ xs) = ap (λ ys. x ∷ ys) (zip_both xs)
 

@@ -1,4 +1,4 @@
--- The receiver of messages to all.
+-- The receiver of messages to all: what its session makes of a BAM or of a packet is what the session of a stream makes of it.
 use Rattle.std.proofs.Common.{◌≡◌, ◌⊎◌, inl, inr, ℕ, zero, suc, ◌+◌, ◌-◌, ◌≤◌, not, cond, List, [], ◌∷◌, ◌++◌, map, filter_map, length, drop, take, Option, Some, None, refl, sym, ap, ◌∙◌, subst, arith, append-nil, ltb-false, eqb-true}
 use Rattle.std.specs.Prelude.{option_to_list, nat_lt}
 use Rattle.std.proofs.lemmas.List.{map-append}

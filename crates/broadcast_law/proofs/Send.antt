@@ -1,4 +1,4 @@
--- The sender of messages to all.
+-- The sender of messages to all: what its lane to all queues, begins or ends, a stream sends, begins or leaves.
 use Rattle.std.proofs.Common.{◌≡◌, ℕ, ◌+◌, ◌<◌, ◌≤◌, ◌^◌, true, false, not, ◌==◌, cond, List, [], ◌∷◌, ◌++◌, map, filter_map, length, Some, None, refl, sym, ap, subst, arith, append_assoc, append-nil, length-append}
 use Rattle.std.proofs.lemmas.Bool.{eqb-false}
 use Rattle.std.proofs.lemmas.List.{map-append}
@@ -26,12 +26,13 @@ use Rattle.lane_core.specs.declared.step.LaneStep.{LaneStep}
 use Rattle.originator.specs.Opening.{begun as connects}
 use Rattle.originator.specs.declared.states.OutState.TheVariants.{AwaitCts}
 use Rattle.record_lemmas.proofs.Lists.{each_append}
+use Rattle.record_lemmas.proofs.Readings.{ReadsBack}
 use Rattle.record_lemmas.proofs.Tests.{on_test}
 use Rattle.lane_law.specs.Message.{Message}
 use Rattle.lane_law.specs.Frame.{Frame, Rts, Packet as Data, Place}
 use Rattle.lane_law.specs.Stream as stream
 use Rattle.lane_law.specs.Stream.{Stream, Send, Begin, QueuePacket}
-use Rattle.broadcast_law.proofs.Carried.{ReadsBack, carried, carried_bam, carried_packet}
+use Rattle.broadcast_law.proofs.Carried.{carried, carried_bam, carried_packet}
 use Rattle.broadcast_law.proofs.Pending.{fewer_pending, within, last_pending, enough, below}
 use Rattle.broadcast_law.proofs.View.{View, wire_of, plain, message, IsClean, ArePending, IsBroadcasting, IsUnderWay, IsSender, Sim, Stands, GoesOn}
 

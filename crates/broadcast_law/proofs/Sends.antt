@@ -1,4 +1,4 @@
--- Ports open and close, messages are sent, pumped and cancelled, and timers fire.
+-- Ports open and close, messages are sent, pumped and cancelled, and timers fire: the bus stays, and a stream stands on.
 use Rattle.std.proofs.Common.{◌≡◌, inr, ℕ, ◌^◌, ◌<◌, ◌≤◌, ◌==◌, nat_lt, Bool, true, false, cond, List, [], ◌∷◌, ◌++◌, length, set, Option, Some, None, refl, sym, ap, ◌∙◌, subst, arith, append-nil, eqb-true, eq-eqb, ltb-false, ◌+◌}
 use Rattle.std.specs.Prelude.{slice_get}
 use Rattle.std.proofs.lemmas.Bool.{eqb-false, and_parts, and_from}
@@ -27,10 +27,11 @@ use Rattle.segment_law.specs.declared.counts.Counts.{Counts}
 use Rattle.segment_law.specs.declared.reply.Reply.TheVariants.{Opened, Sent, Done}
 use Rattle.record_lemmas.proofs.EachCall.{stepped}
 use Rattle.record_lemmas.proofs.Maps.{lane_here, lane_else}
+use Rattle.record_lemmas.proofs.Readings.{GivesBack, ReadsBack}
 use Rattle.record_lemmas.proofs.Segments.{same_address}
 use Rattle.record_lemmas.proofs.Tests.{on_test}
 use Rattle.record_lemmas.proofs.Told.{clean_is}
-use Rattle.broadcast_law.proofs.Carried.{GivesBack, ReadsBack, all}
+use Rattle.broadcast_law.proofs.Carried.{all}
 use Rattle.broadcast_law.proofs.Endings.{does_fired, fired_calm, closes as station_closes}
 use Rattle.broadcast_law.proofs.Good.{Good, GoodBy, small, is_of, is_here, good_step, good_calm, good_lane, good_all}
 use Rattle.broadcast_law.proofs.LaneSteps.{IsLaneOf, Fits, fits_new, fits_pushed, fits_pumped, fits_cancelled}

@@ -22,7 +22,8 @@ use Rattle.station_sessions.specs.Receiving.{Inbound, Reception}
 use Rattle.station_core.specs.Station.{Station, new_station, by_session, by_lane}
 use Rattle.record_lemmas.proofs.Lists.{Each, each_append}
 use Rattle.record_lemmas.proofs.Maps.{lane_here, lane_else, OfEach, of_each_none}
-use Rattle.broadcast_law.proofs.Carried.{GivesBack, IsSaid, IsQuiet, quiet_each, own_each, own_quiet}
+use Rattle.record_lemmas.proofs.Readings.{GivesBack}
+use Rattle.broadcast_law.proofs.Carried.{IsSaid, IsQuiet, quiet_each, own_each, own_quiet}
 use Rattle.broadcast_law.proofs.Ports.{ArePortsOf, IsOfPort, IsUntold}
 use Rattle.broadcast_law.proofs.LaneSteps.{IsLaneOf, Fits}
 use Rattle.broadcast_law.proofs.Receptions.{IsSessionOf, Settles}

@@ -36,8 +36,9 @@ use Rattle.station_core.specs.Opening.{key_of, refusal, is_tp_size, is_etp_size,
 use Rattle.station_core.specs.Taking.{packet_kind, in_session, in_lane, abort_taken, cm_taken, answer, request_taken, ack_taken, wire_taken, looks_at, meaning_taken, taken}
 use Rattle.record_lemmas.proofs.Lists.{Each, each_append}
 use Rattle.record_lemmas.proofs.Maps.{of_each_put, of_each_dropped}
+use Rattle.record_lemmas.proofs.Readings.{GivesBack}
 use Rattle.record_lemmas.proofs.Tests.{on_test, either, by_option}
-use Rattle.broadcast_law.proofs.Carried.{GivesBack, IsQuiet, quiet_ack, Meaning, IsRead, reading_tells}
+use Rattle.broadcast_law.proofs.Carried.{IsQuiet, quiet_ack, Meaning, IsRead, reading_tells}
 use Rattle.broadcast_law.proofs.Ports.{set_distinct, IsOfPort, IsOneGiving, station_told, one_of_none, none_told}
 use Rattle.broadcast_law.proofs.LaneSteps.{fits_heard, fits_answered}
 use Rattle.broadcast_law.proofs.SessionSteps.{FitsPeer, SaidBack, said_peer, tp_asking, etp_asking}

@@ -1,4 +1,4 @@
--- Frames are put on the bus, and passed over.
+-- Frames are put on the bus, and passed over: what is ahead of each end of the lane grows, or is missed.
 use Rattle.std.proofs.Common.{◌≡◌, inl, ℕ, zero, suc, ◌<◌, ◌≤◌, nat_lt, List, [], ◌∷◌, ◌++◌, length, drop, take, set, filter_map, Option, Some, None, refl, sym, ap, ◌∙◌, subst, append-nil, append_assoc, ltb-false, false}
 use Rattle.std.specs.Prelude.{slice_get, option_to_list}
 use Rattle.std.specs.List.{cons_option}

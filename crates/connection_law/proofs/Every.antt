@@ -1,4 +1,4 @@
--- Every call.
+-- Every call leads from a segment for which a lane stands to another one: each row of the calls does, and a refusal changes nothing.
 use Rattle.std.proofs.Common.{◌≡◌, inl, ℕ, ◌+◌, ◌==◌, true, false, ◌&&◌, [], Some, refl, sym, ap, ◌∙◌}
 use Rattle.std.specs.Prelude.{slice_get, position, is_some}
 use Rattle.bus_frame.specs.Frames.{CanFrame}

@@ -21,7 +21,7 @@ use Rattle.lane_law.specs.Choice as choice
 use Rattle.lane_law.specs.Choice.{IsGiven}
 use Rattle.lane_law.specs.Outcome as fate
 use Rattle.broadcast_law.proofs.Beginning.{stands_at}
-use Rattle.broadcast_law.proofs.Numbered.{Giving, all_at_ports, spread, all_spread, firsts, IsFit, above_zero}
+use Rattle.broadcast_law.proofs.Numbered.{zip_both, all_seconds, Giving, all_at_ports, spread, all_spread, firsts, IsFit, above_zero}
 use Rattle.broadcast_law.proofs.Places.{IsAt}
 use Rattle.connection_law.proofs.View.{IsTold, Has}
 use Rattle.connection_law.proofs.Along.{IsBefore, IsTrueAt}
@@ -31,24 +31,6 @@ use Rattle.connection_law.proofs.Final.{Machine, lane_numbers, stood, are_number
 use Rattle.connection_law.proofs.Itself.{no_outcomes}
 
 -- The spread of numbers over ports
-
-abbrev seconds : List Numbered → List (Placed AtPort)
-seconds xs = map (λ (x : Numbered). x.1) xs
-
-zip_both : (xs : List Numbered) → zip (firsts xs) (seconds xs) ≡ xs
-zip_both [] = refl
-zip_both (x ∷ xs) = ap (λ ys. x ∷ ys) (zip_both xs)
-
-all_seconds : (sent : List told.Message) (ns : List ℕ) (gs : List Giving) → AllZip (IsFit sent) ns gs → seconds (all_spread ns gs) ≡ all_at_ports gs
-all_seconds sent [] [] h = refl
-all_seconds sent [] (g ∷ gs) h = absurd h
-all_seconds sent (n ∷ ns) [] h = absurd h
-all_seconds sent (n ∷ ns) (g ∷ gs) h =
-    map-append (λ (x : Numbered). x.1) (spread n g) (all_spread ns gs) ∙ (λ i. at_all g.ports i ++ all_seconds sent ns gs h.1 i)
-  where
-    at_all : (ks : List ℕ) → seconds (map (λ k. (n, (g.place, (k, g.message)))) ks) ≡ map (λ k. (g.place, (k, g.message))) ks
-    at_all [] = refl
-    at_all (k ∷ ks) = ap (λ xs. (g.place, (k, g.message)) ∷ xs) (at_all ks)
 
 -- a giving before a place, under this number
 record AtGiving (s d : Address) (steps : Record) (xs : List Numbered) (number place : ℕ) : Type 0 where

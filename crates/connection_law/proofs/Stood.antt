@@ -1,4 +1,4 @@
--- The walk over a record.
+-- The walk over a record: at each, a lane stands for the segment, and what it was given and what it told are what the record tells.
 use Rattle.std.proofs.Common.{◌≡◌, ◌⊎◌, inl, inr, ℕ, zero, suc, ◌+◌, ◌-◌, ◌<◌, ◌≤◌, true, List, [], ◌∷◌, ◌++◌, map, length, Some, refl, sym, ap, ◌∙◌, subst, arith, append-nil, length-append}
 use Rattle.std.specs.Prelude.{All, slice_index_or}
 use Rattle.std.specs.List.{list_all, AllZip}
@@ -20,6 +20,7 @@ use Rattle.segment_law.specs.Record.{Record, replies_from, after, calls_of, repl
 use Rattle.segment_law.specs.Reached.{IsReached}
 use Rattle.segment_law.specs.declared.call.Call.{Call}
 use Rattle.segment_law.specs.declared.reply.Reply.{Reply}
+use Rattle.broadcast_law.proofs.AlongRecords.{item_of}
 use Rattle.record_lemmas.proofs.AlongRecords.{carried}
 use Rattle.record_lemmas.proofs.Lists.{Each, each_append, each_get}
 use Rattle.record_lemmas.proofs.Told.{items_placed, told_last}
@@ -50,7 +51,7 @@ use Rattle.connection_law.proofs.Openings.{IsOpened}
 use Rattle.connection_law.proofs.Kept.{Kept, IsMarkAfter, place_of_mark, kept_next, all_opened_on, opened_new}
 use Rattle.connection_law.proofs.Every.{good_call}
 use Rattle.connection_law.proofs.Tally.{Tally, tally_sent, tally_given, as_long}
-use Rattle.connection_law.proofs.Along.{item_of, cancel_front, none_mapped, one_mapped, none_sent, IsBefore, IsTrueAt, true_more}
+use Rattle.connection_law.proofs.Along.{cancel_front, none_mapped, one_mapped, none_sent, IsBefore, IsTrueAt, true_more}
 
 module _ (broadcasts : GoesOn) (laws : Laws) (choose : machine.OnEachLane (λ lane. IsChoice lane.stream.given lane.stream.sent)) (s d : Address) (pair : IsPair s d) where
   -- at this record a lane stands for the segment

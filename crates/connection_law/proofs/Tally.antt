@@ -1,4 +1,4 @@
--- How the numbers of a lane go on, reply by reply.
+-- How the numbers of a lane go on, reply by reply: a reply that gives a message adds the number of that message.
 use Rattle.std.proofs.Common.{◌≡◌, ℕ, suc, ◌+◌, ◌<◌, ◌≤◌, List, [], ◌∷◌, ◌++◌, map, length, Some, refl, sym, ap, ◌∙◌, subst, arith, append-nil}
 use Rattle.std.specs.List.{AllZip}
 use Rattle.std.proofs.lemmas.List.{map-append}

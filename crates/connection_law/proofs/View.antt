@@ -33,6 +33,7 @@ use Rattle.session_table.specs.declared.incoming.Incoming.{Incoming}
 use Rattle.session_table.specs.declared.incoming.Incoming.TheVariants as incoming
 use Rattle.segment_law.specs.Told as told
 use Rattle.record_lemmas.proofs.Lists.{Each}
+use Rattle.record_lemmas.proofs.Readings.{GivesBack, ReadsBack}
 use Rattle.lane_law.specs.Message.{Message}
 use Rattle.lane_law.specs.Frame.{Frame, Rts as Begins, Dpo, Packet as Data, Request as Asks, Place, place_after}
 use Rattle.lane_law.specs.Session.{Session, Given}
@@ -41,7 +42,6 @@ use Rattle.lane_law.specs.Outcome.{Fate}
 use Rattle.lane_law.specs.Stream.{IsOfReached}
 use Rattle.lane_law.specs.Lane as machine
 use Rattle.lane_law.specs.Lane.{Answer, EndAcknowledgement, Acknowledgement, Phase, Idle, Begun, Granted, InDoubt, LaneEvent}
-use Rattle.broadcast_law.proofs.Carried.{GivesBack, ReadsBack}
 use Rattle.broadcast_law.proofs.Send.{AreSeven}
 use Rattle.broadcast_law.proofs.View.{plain, cleaned, message, IsPending, ArePending}
 use Rattle.connection_law.proofs.Frames.{Back, BackEnd, BackAck}

@@ -11,8 +11,8 @@ use Rattle.tp_wire.specs.declared.wire.Wire.TheVariants.{Cm, Packet}
 use Rattle.seg_cut.specs.Packets.{packet_count, packet}
 use Rattle.originator.specs.Link.{request_to_send}
 use Rattle.originator.specs.Pump as out
+use Rattle.record_lemmas.proofs.Readings.{GivesBack, ReadsBack}
 use Rattle.quiet_law.proofs.Receivers.{GoesOn, Ends}
-use Rattle.quiet_law.proofs.Meanings.{GivesBack, ReadsBack}
 use Rattle.exchange_law.proofs.Nodes.{IsBetween, between}
 use Rattle.exchange_law.proofs.Senders.{Sent, s, d, len, last, cts_of, end_of}
 

@@ -1,35 +1,25 @@
 -- What each call of a station makes of the lane from s to d: a message is sent, or some of those pending end.
-use Rattle.std.proofs.Common.{◌≡◌, ◌⊎◌, inl, inr, ℕ, ◌+◌, ◌==◌, nat_lt, Bool, true, false, cond, not, ◌&&◌, List, [], ◌∷◌, ◌++◌, length, Option, Some, None, Ok, Err, refl, sym, subst, ap, ◌∙◌, arith, eqb-true}
+use Rattle.std.proofs.Common.{◌≡◌, ◌⊎◌, inl, inr, ℕ, ◌+◌, ◌==◌, Bool, true, false, cond, ◌&&◌, List, [], ◌∷◌, ◌++◌, length, Some, refl, sym, subst, ap, ◌∙◌, arith, eqb-true}
 use Rattle.std.specs.Prelude.{slice_get}
 use Rattle.std.proofs.lemmas.Bool.{eqb-false}
-use Rattle.bus_frame.specs.Frames.{CanFrame}
-use Rattle.pgn_ids.specs.Address.{null_address}
 use Rattle.pgn_ids.specs.declared.address.Address.{Address}
-use Rattle.tp_wire.specs.declared.constants.TheConstants.{MIN_SIZE}
-use Rattle.tx_queue.specs.Queue.{free_places, behind}
-use Rattle.bus_order.specs.Bus as bus
-use Rattle.bus_order.specs.Bus.{Bus}
-use Rattle.port_table.specs.Ports.{are_full, is_open, is_paused, with_port, with_paused}
-use Rattle.port_table.specs.declared.port.PortId.{PortId}
-use Rattle.lane_core.specs.Lane.{Lane, longest_to, is_full, pushed}
+use Rattle.tx_queue.specs.Queue.{behind}
+use Rattle.port_table.specs.Ports.{with_port, with_paused}
+use Rattle.lane_core.specs.Lane.{Lane, pushed}
 use Rattle.lane_core.specs.declared.message.Pending.{Pending}
-use Rattle.lane_core.specs.declared.refused.PumpRefused.{PumpRefused}
-use Rattle.lane_core.specs.declared.refused.PumpRefused.TheVariants as pump
 use Rattle.station_lanes.specs.LaneCalls.{lane_to}
-use Rattle.station_lanes.specs.LaneReaders.{refusal_at, is_pending_at, queues_abort_at}
 use Rattle.station_lanes.specs.declared.event.Event.{Event}
 use Rattle.station_core.specs.Station.{Station, StationStep, quietly}
 use Rattle.station_core.specs.Sending.{lane_of, sent, pumped, cancelled}
 use Rattle.station_core.specs.Taking.{taken}
-use Rattle.station_core.specs.Timers.{is_due, fired}
+use Rattle.station_core.specs.Timers.{fired}
 use Rattle.station_core.specs.Closing.{closed}
 use Rattle.station_core.specs.Overruns.{overrun}
 use Rattle.segment_law.specs.Told.{Message, sent_by, is_lane}
 use Rattle.segment_law.specs.Segment.{Segment, lane_at, with_station}
-use Rattle.segment_law.specs.Calls.{applied, with_frame, events_of, opens, closes, pauses, resumes, sends, pumps_by, pumps, cancels, transmits_by, takes_by, repeats_by, overruns, fires}
+use Rattle.segment_law.specs.Calls.{applied, with_frame, events_of}
 use Rattle.segment_law.specs.Reached.{IsReached}
 use Rattle.segment_law.specs.declared.call.Call.{Call}
-use Rattle.segment_law.specs.declared.call.Call.TheVariants.{Open, Close, Send, Pump, Transmit, Take, TakeAgain, Overrun, Fire, Cancel, Pause, Resume}
 use Rattle.segment_law.specs.declared.refusal.Refusal.{Refusal}
 use Rattle.segment_law.specs.declared.reply.Reply.{Reply}
 use Rattle.segment_law.specs.declared.reply.Reply.TheVariants.{Refused}
@@ -38,7 +28,7 @@ use Rattle.segment_law.proofs.Reaching.{as_it_is}
 use Rattle.record_lemmas.proofs.EachCall.{OfStation, each_applied}
 use Rattle.record_lemmas.proofs.Segments.{has_address}
 use Rattle.record_lemmas.proofs.Told.{none_refused}
-use Rattle.record_lemmas.proofs.Tests.{on_test, not_fails}
+use Rattle.record_lemmas.proofs.Tests.{on_test}
 use Rattle.outcome_law.proofs.Counting.{times}
 use Rattle.outcome_law.proofs.LaneSteps.{numbers_of}
 use Rattle.outcome_law.proofs.Events.{named_in}

@@ -1,5 +1,5 @@
 -- The steps of the lanes of a station: what each tells of its own messages, and that it tells nothing of another's.
-use Rattle.std.proofs.Common.{◌≡◌, ℕ, zero, suc, ◌+◌, ◌==◌, cond, List, [], ◌++◌, Option, Some, None, refl, sym, ap, ◌∙◌, arith, eqb-true, eq-eqb, ne_eqb}
+use Rattle.std.proofs.Common.{◌≡◌, ℕ, zero, suc, ◌+◌, ◌==◌, cond, List, [], ◌++◌, Option, Some, None, refl, sym, ap, ◌∙◌, arith, eqb-true, ne_eqb}
 use Rattle.std.proofs.lemmas.Bool.{eqb-false}
 use Rattle.std.specs.Cmp.{nat_cmp_total, unsigned_tied}
 use Rattle.std.specs.FinMap as finmap
@@ -13,13 +13,11 @@ use Rattle.station_lanes.specs.Lanes.{Lanes}
 use Rattle.station_lanes.specs.LaneCalls.{stepped_lanes, step_at, outcome_of, lane_to}
 use Rattle.station_lanes.specs.LaneReaders.{overrun_lanes, overrun_events}
 use Rattle.station_lanes.specs.declared.event.Event.{Event}
+use Rattle.record_lemmas.proofs.Maps.{lane_here}
 use Rattle.record_lemmas.proofs.Tests.{on_test}
 use Rattle.outcome_law.proofs.Counting.{times, times-append, times-none}
 use Rattle.outcome_law.proofs.LaneSteps.{numbers_of, ended_number, Ends, ends_overrun}
 use Rattle.outcome_law.proofs.Events.{named_in, named_append, named_own, named_foreign, named_else}
-
-lane_here : (lanes : Lanes) (to : ℕ) (lane : Lane) → finmap.get (finmap.insert lanes to lane) to ≡ Some lane
-lane_here lanes to lane = get-insert nat_cmp_total lanes to lane to ∙ ap (λ b. cond b (Some lane) (finmap.get lanes to)) (unsigned_tied to to ∙ eq-eqb to to refl)
 
 lane_apart : (lanes : Lanes) (to q : ℕ) (lane : Lane) → (q ≡ to → ⊥) → finmap.get (finmap.insert lanes to lane) q ≡ finmap.get lanes q
 lane_apart lanes to q lane n = get-insert nat_cmp_total lanes to lane q ∙ ap (λ b. cond b (Some lane) (finmap.get lanes q)) (unsigned_tied q to ∙ ne_eqb q to n)

@@ -1,7 +1,6 @@
 -- Every record: each number has at most one outcome, after its Send.
-use Rattle.std.proofs.Common.{◌≡◌, inl, inr, ℕ, zero, suc, ◌+◌, ◌<◌, ◌≤◌, true, List, [], ◌∷◌, ◌++◌, map, length, get_or, Option, refl, sym, ap, ◌∙◌, subst, arith, append-nil, append_assoc, length-append}
+use Rattle.std.proofs.Common.{◌≡◌, inl, inr, ℕ, zero, suc, ◌+◌, ◌<◌, ◌≤◌, List, [], ◌∷◌, ◌++◌, map, length, get_or, Option, refl, sym, ap, ◌∙◌, subst, arith, append-nil, append_assoc, length-append}
 use Rattle.std.specs.Prelude.{All, filter_map}
-use Rattle.std.specs.List.{list_all}
 use Rattle.std.proofs.lemmas.List.{map-append, length-map}
 use Rattle.std.proofs.lemmas.List.Elements.{All-cons, All-append}
 use Rattle.std.proofs.lemmas.Option.{slice_get-get_or}
@@ -9,17 +8,13 @@ use Rattle.pgn_ids.specs.declared.address.Address.{Address}
 use Rattle.bus_order.proofs.Lists.{slice_get-left}
 use Rattle.lane_core.specs.Lane.{Lane}
 use Rattle.segment_law.specs.Segment.{Segment, new_segment, lane_at}
-use Rattle.segment_law.specs.Calls.{applied, events_of, is_call}
-use Rattle.segment_law.specs.Record.{Step, Record, StandsAt, after, calls_of, replies_of, replies_from}
+use Rattle.segment_law.specs.Calls.{applied, events_of}
+use Rattle.segment_law.specs.Record.{Step, Record, StandsAt, after, calls_of}
 use Rattle.segment_law.specs.Reached.{IsReached}
 use Rattle.segment_law.specs.Told.{Message, Placed, NumberedOutcome, told_from, places_of, sent_by, outcome_in, outcomes}
 use Rattle.segment_law.specs.Numbering.{item, IsAfter}
 use Rattle.segment_law.specs.Headline.{IsStationOf, HaveOneOutcome}
 use Rattle.segment_law.specs.declared.call.Call.{Call}
-use Rattle.segment_law.specs.declared.reply.Reply.{Reply}
-use Rattle.segment_law.proofs.Booleans.{both_pass}
-use Rattle.segment_law.proofs.Reaching.{reached_call}
-use Rattle.segment_law.proofs.New.{new_reached}
 use Rattle.record_lemmas.proofs.AlongRecords.{along_record}
 use Rattle.outcome_law.proofs.Counting.{times, times-here, apart}
 use Rattle.outcome_law.proofs.LaneSteps.{numbers_of}

@@ -37,11 +37,12 @@ use Rattle.segment_law.specs.Reached.{IsFitMessage, IsFitStation, IsReached}
 use Rattle.segment_law.specs.Drive.{Driven, events_in, goes_on, turn_puts, turn, turns_from}
 use Rattle.segment_law.specs.Quiet.{given_by, broadcast_given}
 use Rattle.segment_law.proofs.Booleans.{both_pass}
+use Rattle.record_lemmas.proofs.Readings.{GivesBack, ReadsBack}
 use Rattle.quiet_law.proofs.Sweeps.{under_way, Swept, after, told_by}
 use Rattle.quiet_law.proofs.Receivers.{GoesOn, Ends, all, hears, heard, place, join_of, bam_heard, packet_heard, last_heard, whole_message}
 use Rattle.quiet_law.proofs.Senders.{ready, going, over_with, sends, begins_now, goes_now, ends_now, ready_pumps, going_pumps, going_waits, going_misses}
 use Rattle.quiet_law.proofs.Turns.{Rests, offers_rests, HasPut, turn_first, turn_later, turn_takes}
-use Rattle.quiet_law.proofs.Meanings.{GivesBack, ReadsBack, IsSaid, bam_said, packet_said, taken_own, taken_other}
+use Rattle.quiet_law.proofs.Meanings.{IsSaid, bam_said, packet_said, taken_own, taken_other}
 use Rattle.quiet_law.proofs.Lists.{map_both, flat_both, flat_none, set_where}
 
 -- The setting

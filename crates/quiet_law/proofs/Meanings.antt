@@ -3,29 +3,20 @@ use Rattle.std.proofs.Common.{◌≡◌, ℕ, ◌<◌, ◌^◌, ◌==◌, Bool, 
 use Rattle.std.proofs.lemmas.Bool.{eqb-true, eq-eqb, ltb-true}
 use Rattle.bus_frame.specs.Frames.{CanFrame}
 use Rattle.pgn_ids.specs.Address.{is_one}
-use Rattle.pgn_ids.specs.Pgn.{is_pgn, is_pdu1}
 use Rattle.pgn_ids.specs.Identifier.{id_of, meaning_of}
 use Rattle.pgn_ids.specs.declared.address.Address.{Address}
 use Rattle.pgn_ids.specs.declared.identifier.IdMeaning.{IdMeaning}
 use Rattle.tp_wire.specs.Groups.{tp_cm, tp_dt}
 use Rattle.tp_wire.specs.Reading.{reading}
-use Rattle.tp_wire.specs.Rows.{IsRow, written}
+use Rattle.tp_wire.specs.Rows.{written}
 use Rattle.tp_wire.specs.declared.wire.Kind.TheVariants.{Tp}
 use Rattle.tp_wire.specs.declared.wire.CmFrame.TheVariants.{Bam}
 use Rattle.tp_wire.specs.declared.wire.Wire.{Wire}
 use Rattle.tp_wire.specs.declared.wire.Wire.TheVariants.{Cm, Packet}
 use Rattle.station_core.specs.Station.{Station, StationStep, quietly}
 use Rattle.station_core.specs.Taking.{meaning_taken, taken, wire_taken}
+use Rattle.record_lemmas.proofs.Readings.{GivesBack, ReadsBack}
 use Rattle.quiet_law.proofs.Receivers.{all}
-
--- identifiers give their parts back
-abbrev pub GivesBack : Type 0
-GivesBack = (priority pgn to from : ℕ) → priority < 8 → is_pgn pgn ≡ true → to < 256 → from < 256 → (is_pdu1 pgn ≡ false → to ≡ 255)
-    → meaning_of (id_of priority pgn to from) ≡ record { priority = priority; pgn = pgn; to = record { 0 = to }; from = record { 0 = from } }
-
--- what is written is read
-abbrev pub ReadsBack : Type 0
-ReadsBack = (wire : Wire) (from to : Address) → IsRow wire from.0 to.0 → reading (written wire from.0 to.0) ≡ Some (wire, from, to)
 
 -- a frame from one node to all, with its meaning
 pub record IsSaid (s : Address) (wire : Wire) (f : CanFrame) : Type 0 where

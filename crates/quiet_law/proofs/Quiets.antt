@@ -34,11 +34,11 @@ use Rattle.segment_law.specs.Drive.{driven, turns_from, not_driven}
 use Rattle.segment_law.specs.Quiet.{quiet, quiet_broadcast, is_at_rest, IsSettled, IsQuiet, IsUndisturbed, IsQuietExchange}
 use Rattle.segment_law.proofs.Booleans.{both_pass, both}
 use Rattle.segment_law.proofs.Records.{stands_reached}
+use Rattle.record_lemmas.proofs.Readings.{GivesBack, ReadsBack}
 use Rattle.quiet_law.proofs.Sweeps.{under_way, waiting_is}
 use Rattle.quiet_law.proofs.Receivers.{GoesOn, Ends, all, heard}
 use Rattle.quiet_law.proofs.Senders.{ready, over_with, sends}
 use Rattle.quiet_law.proofs.Turns.{Rests}
-use Rattle.quiet_law.proofs.Meanings.{GivesBack, ReadsBack}
 use Rattle.quiet_law.proofs.Broadcasts.{Setting, After, Whole, whole_drive, frames, frames_are, done}
 
 quiet_is : (m : Pending) (s : Address) → quiet m s all ≡ quiet_broadcast m s all
