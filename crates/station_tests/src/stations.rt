@@ -119,10 +119,66 @@ fn is_silent(rt: &impl Abort, station: &mut Station, id: u32, bytes: [u8; 8]) ->
     Ok(())
 }
 
-fn with_port(alloc: Global) -> Result<Station, Fail> {
-    let mut station = Station::new(alloc, B)?;
-    station.open(Pgn::new(FECA)?, 4000)?;
+fn new_station(rt: &impl Abort, alloc: Global, address: Address) -> Result<Station, Fail> {
+    assert!(rt; address.is_one());
+    Ok(Station::new(alloc, address)?)
+}
+
+fn open(station: &mut Station, pgn: Pgn) -> Result<(), Fail> {
+    station.open(pgn, 4000)?;
+    Ok(())
+}
+
+fn with_port(rt: &impl Abort, alloc: Global) -> Result<Station, Fail> {
+    let mut station = new_station(rt, alloc, B)?;
+    open(&mut station, Pgn::new(FECA)?)?;
     Ok(station)
+}
+
+// Calls of which a test only looks at the answer: their contracts are not carried through it.
+fn overrun(station: &mut Station) -> Result<Events, AllocError> {
+    station.overrun()
+}
+
+fn is_closed(station: &mut Station, number: u64) -> bool {
+    station.close(number).is_ok()
+}
+
+fn is_paused(station: &mut Station, number: u64) -> bool {
+    station.pause(number).is_ok()
+}
+
+fn is_resumed(station: &mut Station, number: u64) -> bool {
+    station.resume(number).is_ok()
+}
+
+fn is_due(station: &Station, now: u64) -> bool {
+    station.is_due(now)
+}
+
+fn fire(rt: &impl Abort, station: &mut Station, now: u64) -> Result<Events, AllocError> {
+    assert!(rt; station.free() > 0);
+    station.fire(now)
+}
+
+fn pump(rt: &impl Abort, station: &mut Station, to: Address, now: u64) -> Events {
+    assert!(rt; station.free() >= 8);
+    assert!(rt; station.pump_refusal(to, now).is_none());
+    station.pump(to, now)
+}
+
+fn cancel(rt: &impl Abort, station: &mut Station, to: Address, number: u64) -> Events {
+    assert!(rt; station.queues_abort(to, number));
+    assert!(rt; station.is_pending(to, number));
+    assert!(rt; station.free() > 0);
+    station.cancel(to, number)
+}
+
+// The frame in front leaves, and is this one.
+fn pops(rt: &impl Abort, station: &mut Station, shown: (u32, [u8; 8])) -> Result<(), Fail> {
+    let frame = Frame::full(CanId::new(shown.0)?, shown.1);
+    assert!(rt; station.pop() == Some(frame));
+    Ok(())
 }
 
 const RTS_OF_80: u32 = 0x1CEC_3580;
@@ -143,7 +199,7 @@ const NO_RESOURCES: (u32, [u8; 8]) = (
 
 #[test]
 fn a_message_is_given(rt: HostRuntime) -> Result<(), Fail> {
-    let mut station = with_port(rt.alloc())?;
+    let mut station = with_port(&rt, rt.alloc())?;
     answers(&rt, &mut station, RTS_OF_80, RTS, CTS)?;
     is_silent(&rt, &mut station, PACKET_OF_80, [1, 1, 2, 3, 4, 5, 6, 7])?;
     let last = Frame::full(
@@ -167,7 +223,7 @@ fn a_message_is_given(rt: HostRuntime) -> Result<(), Fail> {
 
 #[test]
 fn a_refused_session_replaces_the_older(rt: HostRuntime) -> Result<(), Fail> {
-    let mut station = with_port(rt.alloc())?;
+    let mut station = with_port(&rt, rt.alloc())?;
     answers(&rt, &mut station, RTS_OF_80, RTS, CTS)?;
     // 20 bytes are no two packets.
     let wrong = [0x10, 0x14, 0x00, 0x02, 0xFF, 0xCA, 0xFE, 0x00];
@@ -182,27 +238,35 @@ fn a_refused_session_replaces_the_older(rt: HostRuntime) -> Result<(), Fail> {
 
 #[test]
 fn an_overrun_ends_sessions(rt: HostRuntime) -> Result<(), Fail> {
-    let mut station = with_port(rt.alloc())?;
+    let mut station = with_port(&rt, rt.alloc())?;
     answers(&rt, &mut station, RTS_OF_80, RTS, CTS)?;
-    assert!(rt; station.overrun()?.is_empty());
+    assert!(rt; overrun(&mut station)?.is_empty());
     is_silent(&rt, &mut station, PACKET_OF_80, [0x03; 8])
 }
 
 #[test]
 fn a_closed_port_ends_its_session(rt: HostRuntime) -> Result<(), Fail> {
-    let mut station = with_port(rt.alloc())?;
+    let mut station = with_port(&rt, rt.alloc())?;
     answers(&rt, &mut station, RTS_OF_80, RTS, CTS)?;
-    assert!(rt; station.close(1).is_ok());
-    let abort = Frame::full(CanId::new(NO_RESOURCES.0)?, NO_RESOURCES.1);
-    assert!(rt; station.pop() == Some(abort));
-    assert!(rt; station.close(1).is_err());
+    assert!(rt; is_closed(&mut station, 1));
+    pops(&rt, &mut station, NO_RESOURCES)?;
+    assert!(rt; !is_closed(&mut station, 1));
     is_silent(&rt, &mut station, PACKET_OF_80, [0x03; 8])?;
     answers(&rt, &mut station, RTS_OF_80, RTS, NO_RESOURCES)
 }
 
+// A frame that has no meaning changes nothing.
+fn is_malformed(rt: &impl Abort, station: &mut Station, frame: &Frame) -> Result<(), Fail> {
+    assert!(rt; station.free() > 0);
+    let taken = station.take(frame, true, 0)?;
+    assert!(rt; taken.is_malformed);
+    assert!(rt; taken.events.is_empty());
+    Ok(())
+}
+
 #[test]
 fn requests_are_answered(rt: HostRuntime) -> Result<(), Fail> {
-    let mut station = with_port(rt.alloc())?;
+    let mut station = with_port(&rt, rt.alloc())?;
     let request = [0x00, 0xEC, 0x00, 0xFF, 0xFF, 0xFF, 0xFF, 0xFF];
     let acknowledgement = (
         0x18E8_FF35,
@@ -211,43 +275,31 @@ fn requests_are_answered(rt: HostRuntime) -> Result<(), Fail> {
     answers(&rt, &mut station, 0x18EA_3521, request, acknowledgement)?;
     is_silent(&rt, &mut station, 0x18EA_FF21, request)?;
     let malformed = Frame::full(CanId::new(0x1CEB_FF80)?, [0; 8]);
-    assert!(rt; station.free() > 0);
-    let taken = station.take(&malformed, true, 0)?;
-    assert!(rt; taken.is_malformed);
-    assert!(rt; taken.events.is_empty());
-    Ok(())
+    is_malformed(&rt, &mut station, &malformed)
 }
 
 #[test]
 fn a_paused_port_holds_its_session(rt: HostRuntime) -> Result<(), Fail> {
-    let mut station = with_port(rt.alloc())?;
-    assert!(rt; station.pause(1).is_ok());
+    let mut station = with_port(&rt, rt.alloc())?;
+    assert!(rt; is_paused(&mut station, 1));
     let hold = (
         0x1CEC_8035,
         [0x11, 0x00, 0x01, 0xFF, 0xFF, 0xCA, 0xFE, 0x00],
     );
     answers(&rt, &mut station, RTS_OF_80, RTS, hold)?;
-    assert!(rt; station.resume(1).is_ok());
-    assert!(rt; !station.is_due(499));
-    assert!(rt; station.is_due(500));
-    assert!(rt; station.free() > 0);
-    assert!(rt; station.fire(500)?.is_empty());
-    let cts = Frame::full(CanId::new(CTS.0)?, CTS.1);
-    assert!(rt; station.pop() == Some(cts));
-    Ok(())
+    assert!(rt; is_resumed(&mut station, 1));
+    assert!(rt; !is_due(&station, 499));
+    assert!(rt; is_due(&station, 500));
+    assert!(rt; fire(&rt, &mut station, 500)?.is_empty());
+    pops(&rt, &mut station, CTS)
 }
 
 #[test]
 fn a_message_is_cancelled(rt: HostRuntime) -> Result<(), Fail> {
-    let mut station = Station::new(rt.alloc(), A)?;
+    let mut station = new_station(&rt, rt.alloc(), A)?;
     let number = send(&rt, rt.alloc(), &mut station, B, &M9)?;
-    assert!(rt; station.free() >= 8);
-    assert!(rt; station.pump_refusal(B, 0).is_none());
-    assert!(rt; station.pump(B, 0).is_empty());
-    assert!(rt; station.queues_abort(B, number));
-    assert!(rt; station.is_pending(B, number));
-    assert!(rt; station.free() > 0);
-    let (event, _) = station.cancel(B, number).into_parts();
+    assert!(rt; pump(&rt, &mut station, B, 0).is_empty());
+    let (event, _) = cancel(&rt, &mut station, B, number).into_parts();
     let mut seen = nothing_seen(rt.alloc());
     if let Some(event) = event {
         see(&mut seen, event)?;
