@@ -157,7 +157,7 @@ fn is_due(station: &Station, now: u64) -> bool {
 }
 
 fn fire(rt: &impl Abort, station: &mut Station, now: u64) -> Result<Events, AllocError> {
-    assert!(rt; station.free() > 0);
+    assert!(rt; station.is_due(now) && station.free() > 0);
     station.fire(now)
 }
 
