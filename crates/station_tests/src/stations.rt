@@ -93,9 +93,9 @@ fn answer(
     rt: &impl Abort,
     station: &mut Station,
     id: u32,
-    bytes: [u8; 8],
+    bytes: &[u8; 8],
 ) -> Result<Option<Frame>, Fail> {
-    let events = take(rt, station, &Frame::full(CanId::new(id)?, bytes), true)?;
+    let events = take(rt, station, &Frame::full(CanId::new(id)?, *bytes), true)?;
     assert!(rt; events.is_empty());
     Ok(station.pop())
 }
@@ -105,8 +105,8 @@ fn answers(
     rt: &impl Abort,
     station: &mut Station,
     id: u32,
-    bytes: [u8; 8],
-    expected: (u32, [u8; 8]),
+    bytes: &[u8; 8],
+    expected: &(u32, [u8; 8]),
 ) -> Result<(), Fail> {
     let frame = Frame::full(CanId::new(expected.0)?, expected.1);
     assert!(rt; answer(rt, station, id, bytes)? == Some(frame));
@@ -114,7 +114,7 @@ fn answers(
 }
 
 // It doesn't answer.
-fn is_silent(rt: &impl Abort, station: &mut Station, id: u32, bytes: [u8; 8]) -> Result<(), Fail> {
+fn is_silent(rt: &impl Abort, station: &mut Station, id: u32, bytes: &[u8; 8]) -> Result<(), Fail> {
     assert!(rt; answer(rt, station, id, bytes)?.is_none());
     Ok(())
 }
@@ -136,8 +136,9 @@ fn with_port(rt: &impl Abort, alloc: Global) -> Result<Station, Fail> {
 }
 
 // Calls of which a test only looks at the answer: their contracts are not carried through it.
-fn overrun(station: &mut Station) -> Result<Events, AllocError> {
-    station.overrun()
+fn overruns(rt: &impl Abort, station: &mut Station) -> Result<(), Fail> {
+    assert!(rt; station.overrun()?.is_empty());
+    Ok(())
 }
 
 fn is_closed(station: &mut Station, number: u64) -> bool {
@@ -152,13 +153,34 @@ fn is_resumed(station: &mut Station, number: u64) -> bool {
     station.resume(number).is_ok()
 }
 
-fn is_due(station: &Station, now: u64) -> bool {
-    station.is_due(now)
+/// Whether it is due at this tick, and not at the one before.
+fn falls_due(station: &Station, now: u64) -> bool {
+    !station.is_due(now.saturating_sub(1)) && station.is_due(now)
 }
 
-fn fire(rt: &impl Abort, station: &mut Station, now: u64) -> Result<Events, AllocError> {
+fn fires(rt: &impl Abort, station: &mut Station, now: u64) -> Result<(), Fail> {
     assert!(rt; station.is_due(now) && station.free() > 0);
-    station.fire(now)
+    assert!(rt; station.fire(now)?.is_empty());
+    Ok(())
+}
+
+/// A frame that has no meaning changes nothing.
+fn is_malformed(
+    rt: &impl Abort,
+    station: &mut Station,
+    id: u32,
+    bytes: &[u8; 8],
+) -> Result<(), Fail> {
+    assert!(rt; station.free() > 0);
+    let taken = station.take(&Frame::full(CanId::new(id)?, *bytes), true, 0)?;
+    assert!(rt; taken.is_malformed);
+    assert!(rt; taken.events.is_empty());
+    Ok(())
+}
+
+fn is_as_said(rt: &impl Abort, told: bool) -> Result<(), Fail> {
+    assert!(rt; told);
+    Ok(())
 }
 
 fn pump(rt: &impl Abort, station: &mut Station, to: Address, now: u64) -> Events {
@@ -175,7 +197,7 @@ fn cancel(rt: &impl Abort, station: &mut Station, to: Address, number: u64) -> E
 }
 
 // The frame in front leaves, and is this one.
-fn pops(rt: &impl Abort, station: &mut Station, shown: (u32, [u8; 8])) -> Result<(), Fail> {
+fn pops(rt: &impl Abort, station: &mut Station, shown: &(u32, [u8; 8])) -> Result<(), Fail> {
     let frame = Frame::full(CanId::new(shown.0)?, shown.1);
     assert!(rt; station.pop() == Some(frame));
     Ok(())
@@ -200,8 +222,8 @@ const NO_RESOURCES: (u32, [u8; 8]) = (
 #[test]
 fn a_message_is_given(rt: HostRuntime) -> Result<(), Fail> {
     let mut station = with_port(&rt, rt.alloc())?;
-    answers(&rt, &mut station, RTS_OF_80, RTS, CTS)?;
-    is_silent(&rt, &mut station, PACKET_OF_80, [1, 1, 2, 3, 4, 5, 6, 7])?;
+    answers(&rt, &mut station, RTS_OF_80, &RTS, &CTS)?;
+    is_silent(&rt, &mut station, PACKET_OF_80, &[1, 1, 2, 3, 4, 5, 6, 7])?;
     let last = Frame::full(
         CanId::new(PACKET_OF_80)?,
         [0x02, 0x08, 0x09, 0xFF, 0xFF, 0xFF, 0xFF, 0xFF],
@@ -221,77 +243,112 @@ fn a_message_is_given(rt: HostRuntime) -> Result<(), Fail> {
     Ok(())
 }
 
+/// What comes to station 35, or is done there, and what is to be seen of it: frames by identifier and bytes, a port by its number.
+#[derive(Clone, Copy)]
+enum Turn {
+    Answers(u32, [u8; 8], (u32, [u8; 8])),
+    IsSilent(u32, [u8; 8]),
+    TakesMalformed(u32, [u8; 8]),
+    Overruns,
+    Closes(u64),
+    HasNo(u64),
+    Pauses(u64),
+    Resumes(u64),
+    IsDueAt(u64),
+    Fires(u64),
+    Pops((u32, [u8; 8])),
+}
+
+fn play(rt: &impl Abort, station: &mut Station, turn: &Turn) -> Result<(), Fail> {
+    match turn {
+        Turn::Answers(id, bytes, expected) => answers(rt, station, *id, bytes, expected),
+        Turn::IsSilent(id, bytes) => is_silent(rt, station, *id, bytes),
+        Turn::TakesMalformed(id, bytes) => is_malformed(rt, station, *id, bytes),
+        Turn::Overruns => overruns(rt, station),
+        Turn::Closes(number) => is_as_said(rt, is_closed(station, *number)),
+        Turn::HasNo(number) => is_as_said(rt, !is_closed(station, *number)),
+        Turn::Pauses(number) => is_as_said(rt, is_paused(station, *number)),
+        Turn::Resumes(number) => is_as_said(rt, is_resumed(station, *number)),
+        Turn::IsDueAt(now) => is_as_said(rt, falls_due(station, *now)),
+        Turn::Fires(now) => fires(rt, station, *now),
+        Turn::Pops(shown) => pops(rt, station, shown),
+    }
+}
+
+/// Plays the turns at station 35 with one port.
+fn play_all(rt: &impl Abort, alloc: Global, turns: &[Turn]) -> Result<(), Fail> {
+    let mut station = with_port(rt, alloc)?;
+    for turn in turns {
+        play(rt, &mut station, turn)?;
+    }
+    Ok(())
+}
+
+const IS_TAKEN: Turn = Turn::Answers(RTS_OF_80, RTS, CTS);
+
+/// A packet out of order, which would abort a session.
+const NO_SESSION: Turn = Turn::IsSilent(PACKET_OF_80, [0x03; 8]);
+
 #[test]
 fn a_refused_session_replaces_the_older(rt: HostRuntime) -> Result<(), Fail> {
-    let mut station = with_port(&rt, rt.alloc())?;
-    answers(&rt, &mut station, RTS_OF_80, RTS, CTS)?;
     // 20 bytes are no two packets.
     let wrong = [0x10, 0x14, 0x00, 0x02, 0xFF, 0xCA, 0xFE, 0x00];
     let other = (
         0x1CEC_8035,
         [0xFF, 0xFA, 0xFF, 0xFF, 0xFF, 0xCA, 0xFE, 0x00],
     );
-    answers(&rt, &mut station, RTS_OF_80, wrong, other)?;
-    // A packet out of order would abort the older session.
-    is_silent(&rt, &mut station, PACKET_OF_80, [0x03; 8])
+    let refused = Turn::Answers(RTS_OF_80, wrong, other);
+    play_all(&rt, rt.alloc(), &[IS_TAKEN, refused, NO_SESSION])
 }
 
 #[test]
 fn an_overrun_ends_sessions(rt: HostRuntime) -> Result<(), Fail> {
-    let mut station = with_port(&rt, rt.alloc())?;
-    answers(&rt, &mut station, RTS_OF_80, RTS, CTS)?;
-    assert!(rt; overrun(&mut station)?.is_empty());
-    is_silent(&rt, &mut station, PACKET_OF_80, [0x03; 8])
+    play_all(&rt, rt.alloc(), &[IS_TAKEN, Turn::Overruns, NO_SESSION])
 }
 
 #[test]
 fn a_closed_port_ends_its_session(rt: HostRuntime) -> Result<(), Fail> {
-    let mut station = with_port(&rt, rt.alloc())?;
-    answers(&rt, &mut station, RTS_OF_80, RTS, CTS)?;
-    assert!(rt; is_closed(&mut station, 1));
-    pops(&rt, &mut station, NO_RESOURCES)?;
-    assert!(rt; !is_closed(&mut station, 1));
-    is_silent(&rt, &mut station, PACKET_OF_80, [0x03; 8])?;
-    answers(&rt, &mut station, RTS_OF_80, RTS, NO_RESOURCES)
-}
-
-// A frame that has no meaning changes nothing.
-fn is_malformed(rt: &impl Abort, station: &mut Station, frame: &Frame) -> Result<(), Fail> {
-    assert!(rt; station.free() > 0);
-    let taken = station.take(frame, true, 0)?;
-    assert!(rt; taken.is_malformed);
-    assert!(rt; taken.events.is_empty());
-    Ok(())
+    let turns = [
+        IS_TAKEN,
+        Turn::Closes(1),
+        Turn::Pops(NO_RESOURCES),
+        Turn::HasNo(1),
+        NO_SESSION,
+        Turn::Answers(RTS_OF_80, RTS, NO_RESOURCES),
+    ];
+    play_all(&rt, rt.alloc(), &turns)
 }
 
 #[test]
 fn requests_are_answered(rt: HostRuntime) -> Result<(), Fail> {
-    let mut station = with_port(&rt, rt.alloc())?;
     let request = [0x00, 0xEC, 0x00, 0xFF, 0xFF, 0xFF, 0xFF, 0xFF];
     let acknowledgement = (
         0x18E8_FF35,
         [0x01, 0xFF, 0xFF, 0xFF, 0x21, 0x00, 0xEC, 0x00],
     );
-    answers(&rt, &mut station, 0x18EA_3521, request, acknowledgement)?;
-    is_silent(&rt, &mut station, 0x18EA_FF21, request)?;
-    let malformed = Frame::full(CanId::new(0x1CEB_FF80)?, [0; 8]);
-    is_malformed(&rt, &mut station, &malformed)
+    let turns = [
+        Turn::Answers(0x18EA_3521, request, acknowledgement),
+        Turn::IsSilent(0x18EA_FF21, request),
+        Turn::TakesMalformed(0x1CEB_FF80, [0; 8]),
+    ];
+    play_all(&rt, rt.alloc(), &turns)
 }
 
 #[test]
 fn a_paused_port_holds_its_session(rt: HostRuntime) -> Result<(), Fail> {
-    let mut station = with_port(&rt, rt.alloc())?;
-    assert!(rt; is_paused(&mut station, 1));
     let hold = (
         0x1CEC_8035,
         [0x11, 0x00, 0x01, 0xFF, 0xFF, 0xCA, 0xFE, 0x00],
     );
-    answers(&rt, &mut station, RTS_OF_80, RTS, hold)?;
-    assert!(rt; is_resumed(&mut station, 1));
-    assert!(rt; !is_due(&station, 499));
-    assert!(rt; is_due(&station, 500));
-    assert!(rt; fire(&rt, &mut station, 500)?.is_empty());
-    pops(&rt, &mut station, CTS)
+    let turns = [
+        Turn::Pauses(1),
+        Turn::Answers(RTS_OF_80, RTS, hold),
+        Turn::Resumes(1),
+        Turn::IsDueAt(500),
+        Turn::Fires(500),
+        Turn::Pops(CTS),
+    ];
+    play_all(&rt, rt.alloc(), &turns)
 }
 
 #[test]
