@@ -7,8 +7,7 @@
 
 mod incoming;
 mod outgoing;
-#[cfg(test)]
-mod tests;
+mod spending;
 
 pub use incoming::{BamIn, BamStepped};
 pub use outgoing::{BamOut, BamPumped};

@@ -11,8 +11,7 @@ mod in_state;
 mod laws;
 mod opening;
 mod received;
-#[cfg(test)]
-mod tests;
+mod spending;
 mod window;
 
 pub use await_packet::AwaitPacket;

@@ -11,6 +11,19 @@ fn new_queue(alloc: Global) -> Result<TxQueue, AllocError> {
     }
 }
 
+// Calls of which a test only looks at the answer: their contracts are not carried through it.
+fn push(queue: &mut TxQueue, frame: Frame) -> Result<(), TxFull> {
+    queue.push(frame)
+}
+
+fn pop(queue: &mut TxQueue) -> Option<Frame> {
+    queue.pop()
+}
+
+fn front(queue: &TxQueue) -> Option<Frame> {
+    queue.front()
+}
+
 fn frame_of(number: u8) -> Result<Frame, Fail> {
     let id = CanId::new(0x1CEB_2335)?;
     Ok(Frame::new(id, &[number])?)
@@ -21,18 +34,18 @@ fn sixty_four_frames_leave_in_order(rt: HostRuntime) -> Result<(), Fail> {
     let mut queue = new_queue(rt.alloc())?;
     assert!(rt; queue.is_empty());
     assert_eq!(rt; queue.free(), 64);
-    assert_eq!(rt; queue.pop(), None);
+    assert_eq!(rt; pop(&mut queue), None);
     for number in 0..64u8 {
-        assert!(rt; queue.push(frame_of(number)?).is_ok());
+        assert!(rt; push(&mut queue, frame_of(number)?).is_ok());
     }
     assert_eq!(rt; queue.len(), 64);
     assert_eq!(rt; queue.free(), 0);
-    assert_eq!(rt; queue.push(frame_of(64)?), Err(TxFull));
+    assert_eq!(rt; push(&mut queue, frame_of(64)?), Err(TxFull));
     for number in 0..64u8 {
-        assert_eq!(rt; queue.front(), Some(frame_of(number)?));
-        assert_eq!(rt; queue.pop(), Some(frame_of(number)?));
+        assert_eq!(rt; front(&queue), Some(frame_of(number)?));
+        assert_eq!(rt; pop(&mut queue), Some(frame_of(number)?));
     }
-    assert_eq!(rt; queue.front(), None);
+    assert_eq!(rt; front(&queue), None);
     assert!(rt; queue.is_empty());
     Ok(())
 }

@@ -10,6 +10,17 @@ fn frame_of(id: u32, bytes: &[u8]) -> Result<Frame, Fail> {
     Ok(Frame::new(CanId::new(id)?, bytes)?)
 }
 
+// Whether a frame has this meaning, source and destination, and is what is written for them.
+fn means(frame: &Frame, wire: &Wire, from: Address, to: Address) -> bool {
+    let Some((read_wire, source, destination)) = read(frame) else {
+        return false;
+    };
+    read_wire == *wire
+        && source == from
+        && destination == to
+        && write(read_wire, source, destination) == *frame
+}
+
 #[test]
 fn rows_are_read_and_written(rt: HostRuntime) -> Result<(), Fail> {
     let pgn = WirePgn::new(DM1)?;
@@ -156,16 +167,8 @@ fn rows_are_read_and_written(rt: HostRuntime) -> Result<(), Fail> {
     ] {
         let frame = frame_of(id, &bytes)?;
         assert!(rt; is_transport(&frame), "at {id:08X}");
-        let Some((read_wire, source, destination)) = read(&frame) else {
-            return Err(Fail::new("no meaning"));
-        };
-        assert!(rt; read_wire == wire, "at {id:08X}");
         assert!(rt;
-            source == Address(from) && destination == Address(to),
-            "at {id:08X}"
-        );
-        assert!(rt;
-            write(read_wire, source, destination) == frame,
+            means(&frame, &wire, Address(from), Address(to)),
             "at {id:08X}"
         );
     }

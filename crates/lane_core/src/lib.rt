@@ -13,9 +13,8 @@ mod place;
 mod probe;
 mod pump;
 mod refused;
+mod spending;
 mod step;
-#[cfg(test)]
-mod tests;
 
 pub use bytes::Bytes;
 pub use lane::Lane;

@@ -1,10 +1,8 @@
 //! What no clause says: the frames of whole exchanges, byte by byte, and that each call can succeed.
-ghost use Rattle.std.specs.Prelude.{◌≡◌, true};
-ghost use Rattle.pgn_ids.specs.Address.{is_one};
-
 use super::*;
 use bus_frame::Frame;
 use pgn_ids::{Address, Pgn};
+use std::alloc::{AllocError, Global};
 use std::process::Abort;
 use std::test::Fail;
 use tp_wire::{CmFrame, Kind, Outcome, Wire};
@@ -56,12 +54,32 @@ fn etp_end(size: u32, pgn: Pgn) -> Wire {
     Wire::Cm(CmFrame::EtpEoma { size, pgn })
 }
 
+/// A message from 21 begins at tick 0, with its request to send.
+fn begun(rt: &impl Abort, kind: Kind, to: Address, pgn: Pgn, len: u32) -> (OutState, Frame) {
+    let (least, most) = match kind {
+        Kind::Tp => (9, 1785),
+        Kind::Etp => (1786, 117_440_505),
+    };
+    assert!(rt; to.is_one() && len >= least && len <= most);
+    let (state, rts) = begin(kind, OWN, to, pgn, len, 0);
+    (OutState::AwaitCts(state), rts)
+}
+
 /// The message of nine bytes from 21 on TP, its request to send queued at tick 0.
-fn nine_bytes_to(to: Address, pgn: Pgn) -> OutState
-    requires { is_one to.0 ≡ true }
-{
-    let (state, _rts) = begin(Kind::Tp, OWN, to, pgn, 9, 0);
-    OutState::AwaitCts(state)
+fn nine_bytes_to(rt: &impl Abort, to: Address, pgn: Pgn) -> OutState {
+    let (state, _rts) = begun(rt, Kind::Tp, to, pgn, 9);
+    state
+}
+
+/// The bytes 01, 02 and so on, from 00 again after FF.
+fn fill(alloc: Global, len: usize) -> Result<Vec<u8>, AllocError> {
+    let mut bytes = Vec::with_capacity(alloc, len)?;
+    let mut byte = 0u8;
+    for _ in 0..len {
+        byte = byte.wrapping_add(1);
+        bytes.push(byte)?;
+    }
+    Ok(bytes)
 }
 
 /// What goes on after this frame.
@@ -111,9 +129,8 @@ fn is_over(over: OutOver, outcome: Outcome, id: u32, reason: u8) -> bool {
 #[test]
 fn nine_bytes_are_acknowledged(rt: HostRuntime) -> Result<(), Fail> {
     let pgn = Pgn::new(0xFECA)?;
-    let (state, rts) = begin(Kind::Tp, OWN, PEER, pgn, 9, 0);
+    let (state, rts) = begun(&rt, Kind::Tp, PEER, pgn, 9);
     assert!(rt; is_frame(&rts, 0x1CEC_3521, [0x10, 9, 0, 2, 0xFF, 0xCA, 0xFE, 0]));
-    let state = OutState::AwaitCts(state);
     assert!(rt; state.is_of(Kind::Tp, pgn.field()) && !state.is_of(Kind::Etp, pgn.field()));
     let state = goes_on(&rt, state, end(9, 2, pgn));
     let state = goes_on(&rt, state, cts(2, 1, pgn));
@@ -131,7 +148,7 @@ fn nine_bytes_are_acknowledged(rt: HostRuntime) -> Result<(), Fail> {
 #[test]
 fn third_resend_is_refused(rt: HostRuntime) -> Result<(), Fail> {
     let pgn = Pgn::new(0xFECA)?;
-    let mut state = nine_bytes_to(FOREIGN, pgn);
+    let mut state = nine_bytes_to(&rt, FOREIGN, pgn);
     for _ in 0..3 {
         let (next, burst) = pumped(&rt, goes_on(&rt, state, cts(2, 1, pgn)), &NINE, 0);
         assert!(rt; are_both_packets(burst.frames(), 0x1CEB_8021));
@@ -139,7 +156,7 @@ fn third_resend_is_refused(rt: HostRuntime) -> Result<(), Fail> {
     }
     let over = ends(&rt, state, cts(2, 1, pgn));
     assert!(rt; is_over(over, Outcome::Aborted(5), 0x1CEC_8021, 5));
-    let over = ends(&rt, nine_bytes_to(FOREIGN, pgn), cts(2, 2, pgn));
+    let over = ends(&rt, nine_bytes_to(&rt, FOREIGN, pgn), cts(2, 2, pgn));
     assert!(rt; is_over(over, Outcome::Aborted(250), 0x1CEC_8021, 250));
     Ok(())
 }
@@ -147,7 +164,7 @@ fn third_resend_is_refused(rt: HostRuntime) -> Result<(), Fail> {
 #[test]
 fn cts_during_a_transfer(rt: HostRuntime) -> Result<(), Fail> {
     let pgn = Pgn::new(0xFECA)?;
-    let state = goes_on(&rt, nine_bytes_to(FOREIGN, pgn), cts(2, 1, pgn));
+    let state = goes_on(&rt, nine_bytes_to(&rt, FOREIGN, pgn), cts(2, 1, pgn));
     assert!(rt; !state.is_due(u64::MAX));
     let state = goes_on(&rt, state, cts(2, 1, pgn));
     let over = ends(&rt, state, cts(1, 1, pgn));
@@ -161,11 +178,11 @@ fn timers(rt: HostRuntime) -> Result<(), Fail> {
     let (state, _rts) = begin(Kind::Tp, OWN, FOREIGN, pgn, 9, 0);
     assert!(rt; !state.is_due(1249) && state.is_due(1250));
     assert!(rt; is_over(state.expire(), Outcome::TimedOut, 0x1CEC_8021, 3));
-    let held = goes_on(&rt, nine_bytes_to(FOREIGN, pgn), cts(0, 1, pgn));
+    let held = goes_on(&rt, nine_bytes_to(&rt, FOREIGN, pgn), cts(0, 1, pgn));
     assert!(rt; !held.is_due(1049));
     assert!(rt; held.is_due(1050));
     assert!(rt; is_over(held.expire(), Outcome::TimedOut, 0x1CEC_8021, 3));
-    let state = goes_on(&rt, nine_bytes_to(FOREIGN, pgn), cts(2, 1, pgn));
+    let state = goes_on(&rt, nine_bytes_to(&rt, FOREIGN, pgn), cts(2, 1, pgn));
     let (state, _burst) = pumped(&rt, state, &NINE, 7);
     match state {
         OutState::AwaitEnd(state) => {
@@ -183,11 +200,11 @@ fn timers(rt: HostRuntime) -> Result<(), Fail> {
 #[test]
 fn ends_from_outside(rt: HostRuntime) -> Result<(), Fail> {
     let pgn = Pgn::new(0xFECA)?;
-    let over = nine_bytes_to(FOREIGN, pgn).cancel();
+    let over = nine_bytes_to(&rt, FOREIGN, pgn).cancel();
     assert!(rt; is_over(over, Outcome::Cancelled, 0x1CEC_8021, 250));
-    let over = nine_bytes_to(FOREIGN, pgn).abort(2);
+    let over = nine_bytes_to(&rt, FOREIGN, pgn).abort(2);
     assert!(rt; over.outcome == Outcome::Aborted(2) && over.frame.is_none());
-    let over = nine_bytes_to(FOREIGN, pgn).overrun();
+    let over = nine_bytes_to(&rt, FOREIGN, pgn).overrun();
     assert!(rt; over.outcome == Outcome::Overrun && over.frame.is_none());
     Ok(())
 }
@@ -241,15 +258,9 @@ fn whole_window(
 #[test]
 fn extended_windows(rt: HostRuntime) -> Result<(), Fail> {
     let pgn = Pgn::new(0xFECA)?;
-    let mut message = [0; 1786];
-    let mut fill = 0u8;
-    for byte in message.iter_mut() {
-        fill = fill.wrapping_add(1);
-        *byte = fill;
-    }
-    let (state, rts) = begin(Kind::Etp, OWN, PEER, pgn, 1786, 0);
+    let message = fill(rt.alloc(), 1786)?;
+    let (mut state, rts) = begun(&rt, Kind::Etp, PEER, pgn, 1786);
     assert!(rt; is_frame(&rts, 0x1CC8_3521, [0x14, 0xFA, 6, 0, 0, 0xCA, 0xFE, 0]));
-    let mut state = OutState::AwaitCts(state);
     for next in [1, 65, 129] {
         let (after, window) = whole_window(&rt, state, etp_cts(64, next, pgn), &message);
         assert_eq!(rt; window.frames, 65);
@@ -274,13 +285,8 @@ fn extended_windows(rt: HostRuntime) -> Result<(), Fail> {
 #[test]
 fn sixteen_windows(rt: HostRuntime) -> Result<(), Fail> {
     let pgn = Pgn::new(0xFECA)?;
-    let mut message = [0; 1785];
-    let mut fill = 0u8;
-    for byte in message.iter_mut() {
-        fill = fill.wrapping_add(1);
-        *byte = fill;
-    }
-    let (state, rts) = begin(Kind::Tp, OWN, PEER, pgn, 1785, 0);
+    let message = fill(rt.alloc(), 1785)?;
+    let (mut state, rts) = begun(&rt, Kind::Tp, PEER, pgn, 1785);
     assert!(rt;
         is_frame(
             &rts,
@@ -288,7 +294,6 @@ fn sixteen_windows(rt: HostRuntime) -> Result<(), Fail> {
             [0x10, 0xF9, 6, 0xFF, 0xFF, 0xCA, 0xFE, 0]
         )
     );
-    let mut state = OutState::AwaitCts(state);
     for window in 0..15u8 {
         let (after, queued) = whole_window(&rt, state, cts(16, window * 16 + 1, pgn), &message);
         assert_eq!(rt; queued.frames, 16);

@@ -5,8 +5,7 @@
 mod finished;
 mod flow;
 mod peer;
-#[cfg(test)]
-mod tests;
+mod spending;
 
 pub use finished::Finished;
 pub use flow::Flow;

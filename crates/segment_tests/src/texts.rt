@@ -5,6 +5,7 @@ use pgn_ids::{Address, Pgn};
 use port_table::PortId;
 use script_text::*;
 use segment_core::{Call, Event, Events, Refusal, Reply, Segment};
+use std::alloc::AllocError;
 use std::test::Fail;
 use tp_wire::Outcome;
 
@@ -85,26 +86,46 @@ fn frames_and_events_have_their_lines(rt: HostRuntime) -> Result<(), Fail> {
     Ok(())
 }
 
+// Calls of which the test only looks at what is printed: their contracts are not carried through it.
+fn apply(segment: &mut Segment, call: Call) -> Result<Reply, AllocError> {
+    segment.apply(call)
+}
+
+fn prints_drive(
+    out: &mut Vec<u8>,
+    segment: &mut Segment,
+    from: Address,
+    turns: u64,
+) -> Result<(), AllocError> {
+    print_driven(out, segment.drive(from, B, turns))
+}
+
 #[test]
 fn drives_and_counts_have_their_lines(rt: HostRuntime) -> Result<(), Fail> {
     let alloc = rt.alloc();
     let mut out = Vec::new(alloc);
     let mut segment = Segment::new(alloc, &[A, B])?;
     let pgn = Pgn::new(0xFECA)?;
-    segment.apply(Call::Open {
-        station: B,
-        pgn,
-        max_len: 1785,
-    })?;
-    segment.apply(Call::Send {
-        from: A,
-        to: B,
-        pgn,
-        bytes: Bytes::new(Vec::from_slice(alloc, &[1, 2, 3, 4, 5, 6, 7, 8, 9])?),
-    })?;
-    print_driven(&mut out, segment.drive(A, B, 4))?;
-    print_driven(&mut out, segment.drive(A, B, 9))?;
-    print_driven(&mut out, segment.drive(Address(0x99), B, 1))?;
+    apply(
+        &mut segment,
+        Call::Open {
+            station: B,
+            pgn,
+            max_len: 1785,
+        },
+    )?;
+    apply(
+        &mut segment,
+        Call::Send {
+            from: A,
+            to: B,
+            pgn,
+            bytes: Bytes::new(Vec::from_slice(alloc, &[1, 2, 3, 4, 5, 6, 7, 8, 9])?),
+        },
+    )?;
+    prints_drive(&mut out, &mut segment, A, 4)?;
+    prints_drive(&mut out, &mut segment, A, 9)?;
+    prints_drive(&mut out, &mut segment, Address(0x99), 1)?;
     print_counts(&mut out, segment.counts())?;
     let text = "drove 4 turns\n\
         \x20 put 1CEC3521 10 09 00 02 FF CA FE 00\n\

@@ -1,7 +1,8 @@
 //! Messages to all from 21, received at the ports 35.1 and 35.2. Where memory is refused, a test ends by it.
 use bam_session::BamIn;
+use bus_frame::Frame;
 use pgn_ids::{Address, Pgn, WirePgn};
-use port_table::PortTable;
+use port_table::{PortSet, PortTable};
 use seg_cut::{Join, packets};
 use session_table::{Incoming, Key, MAX_SESSIONS, SessionKind};
 use station_lanes::{Event, Events};
@@ -69,19 +70,45 @@ fn given(alloc: Global, events: Events) -> Result<Vec<u64>, AllocError> {
     Ok(numbers)
 }
 
+// Calls of which a test only looks at the answer: their contracts are not carried through it.
+fn receive(sessions: &mut Receivers, ports: &PortTable, wire: &Wire) -> Result<Told, AllocError> {
+    sessions.receive(ports, KEY, wire, true, 0)
+}
+
+fn wants(sessions: &Receivers, wire: &Wire) -> (PortSet, u32) {
+    sessions.wants(KEY, wire)
+}
+
+fn unbind(sessions: &mut Receivers, number: u64) -> Option<Frame> {
+    sessions.unbind(KEY, number)
+}
+
+fn next_due(sessions: &Receivers, now: u64) -> Option<Key> {
+    sessions.next_due(now)
+}
+
+fn fire(sessions: &mut Receivers, ports: &PortTable, now: u64) -> Result<Told, AllocError> {
+    sessions.fire(ports, KEY, now)
+}
+
+fn abort(sessions: &mut Receivers, pgn: u32) -> Result<(), Fail> {
+    sessions.abort(KEY, WirePgn::new(pgn)?);
+    Ok(())
+}
+
 #[test]
 fn given_at_both_ports_once(rt: HostRuntime) -> Result<(), Fail> {
     let ports = two_ports(rt.alloc())?;
     let mut sessions = announce(&rt, rt.alloc(), &ports)?;
     assert_eq!(rt; sessions.others(KEY), 0);
-    let told = sessions.receive(&ports, KEY, &FIRST, true, 0)?;
+    let told = receive(&mut sessions, &ports, &FIRST)?;
     assert!(rt; told.frame.is_none() && told.events.is_empty());
-    let (set, size) = sessions.wants(KEY, &LAST);
+    let (set, size) = wants(&sessions, &LAST);
     assert!(rt; set.len() == 2 && size == 9);
-    let told = sessions.receive(&ports, KEY, &LAST, true, 0)?;
+    let told = receive(&mut sessions, &ports, &LAST)?;
     assert!(rt; told.frame.is_none());
     assert!(rt; given(rt.alloc(), told.events)?.as_slice() == [1, 2].as_slice());
-    let repeated = sessions.receive(&ports, KEY, &LAST, true, 0)?;
+    let repeated = receive(&mut sessions, &ports, &LAST)?;
     assert!(rt; repeated.events.is_empty());
     Ok(())
 }
@@ -90,14 +117,14 @@ fn given_at_both_ports_once(rt: HostRuntime) -> Result<(), Fail> {
 fn its_ports_close(rt: HostRuntime) -> Result<(), Fail> {
     let ports = two_ports(rt.alloc())?;
     let mut sessions = announce(&rt, rt.alloc(), &ports)?;
-    assert!(rt; sessions.unbind(KEY, 1).is_none());
-    let told = sessions.receive(&ports, KEY, &FIRST, true, 0)?;
+    assert!(rt; unbind(&mut sessions, 1).is_none());
+    let told = receive(&mut sessions, &ports, &FIRST)?;
     assert!(rt; told.events.is_empty());
-    let told = sessions.receive(&ports, KEY, &LAST, true, 0)?;
+    let told = receive(&mut sessions, &ports, &LAST)?;
     assert!(rt; given(rt.alloc(), told.events)?.as_slice() == [2].as_slice());
     let mut sessions = announce(&rt, rt.alloc(), &ports)?;
-    assert!(rt; sessions.unbind(KEY, 1).is_none() && sessions.unbind(KEY, 2).is_none());
-    assert!(rt; sessions.next_due(u64::MAX).is_none());
+    assert!(rt; unbind(&mut sessions, 1).is_none() && unbind(&mut sessions, 2).is_none());
+    assert!(rt; next_due(&sessions, u64::MAX).is_none());
     Ok(())
 }
 
@@ -105,20 +132,20 @@ fn its_ports_close(rt: HostRuntime) -> Result<(), Fail> {
 fn sessions_end(rt: HostRuntime) -> Result<(), Fail> {
     let ports = two_ports(rt.alloc())?;
     let mut sessions = announce(&rt, rt.alloc(), &ports)?;
-    assert!(rt; sessions.next_due(749).is_none());
-    assert!(rt; sessions.next_due(750) == Some(KEY));
-    sessions.abort(KEY, WirePgn::new(0xFEC9)?);
-    assert!(rt; sessions.next_due(750) == Some(KEY));
-    assert!(rt; sessions.fire(&ports, KEY, 750)?.frame.is_none());
-    assert!(rt; sessions.next_due(750).is_none());
+    assert!(rt; next_due(&sessions, 749).is_none());
+    assert!(rt; next_due(&sessions, 750) == Some(KEY));
+    abort(&mut sessions, 0xFEC9)?;
+    assert!(rt; next_due(&sessions, 750) == Some(KEY));
+    assert!(rt; fire(&mut sessions, &ports, 750)?.frame.is_none());
+    assert!(rt; next_due(&sessions, 750).is_none());
     let mut sessions = announce(&rt, rt.alloc(), &ports)?;
-    sessions.abort(KEY, WirePgn::new(FECA)?);
-    assert!(rt; sessions.next_due(750).is_none());
+    abort(&mut sessions, FECA)?;
+    assert!(rt; next_due(&sessions, 750).is_none());
     let mut sessions = announce(&rt, rt.alloc(), &ports)?;
     sessions.end(KEY);
-    assert!(rt; sessions.next_due(750).is_none());
+    assert!(rt; next_due(&sessions, 750).is_none());
     let mut sessions = announce(&rt, rt.alloc(), &ports)?;
     sessions.overrun();
-    assert!(rt; sessions.next_due(750).is_none());
+    assert!(rt; next_due(&sessions, 750).is_none());
     Ok(())
 }

@@ -87,6 +87,40 @@ fn open(
     }
 }
 
+// Calls of which a test only looks at the answer: their contracts are not carried through it.
+fn new_table(alloc: Global) -> SessionTable<u8> {
+    SessionTable::new(alloc)
+}
+
+fn next_key(table: &SessionTable<u8>, low: Option<Key>) -> Option<Key> {
+    table.next_key(low)
+}
+
+fn next_due(table: &SessionTable<u8>, now: u64) -> Option<Key> {
+    table.next_due(now)
+}
+
+fn go_on(table: &mut SessionTable<u8>, key: Key, wire: &Wire, now: u64) -> InPlace {
+    table.go_on(key, wire, now)
+}
+
+// What a packet leads to while the session of its key is taken out; the session ends.
+fn goes_on_without(
+    rt: &impl Abort,
+    table: &mut SessionTable<u8>,
+    key: Key,
+    wire: &Wire,
+    now: u64,
+) -> InPlace {
+    let Some((held, _bound, state)) = table.take_out(key) else {
+        panic!(rt; "nothing at the key")
+    };
+    state.overrun();
+    let out = table.go_on(key, wire, now);
+    table.end(held);
+    out
+}
+
 fn end_next(table: &mut SessionTable<u8>, now: u64) -> Option<Key> {
     let key = table.next_due(now)?;
     let (held, _bound, state) = table.take_out(key)?;
@@ -97,7 +131,7 @@ fn end_next(table: &mut SessionTable<u8>, now: u64) -> Option<Key> {
 
 #[test]
 fn due_keys_rise(rt: HostRuntime) -> Result<(), Fail> {
-    let mut table = SessionTable::new(rt.alloc());
+    let mut table = new_table(rt.alloc());
     let keys = [
         key(0x80, SessionKind::Broadcast),
         key(0x80, SessionKind::Etp),
@@ -109,30 +143,30 @@ fn due_keys_rise(rt: HostRuntime) -> Result<(), Fail> {
     }
     let mut low = None;
     for next in keys {
-        low = table.next_key(low);
+        low = next_key(&table, low);
         assert_eq!(rt; low, Some(next));
     }
-    assert_eq!(rt; table.next_key(low), None);
-    assert_eq!(rt; table.next_due(749), None);
-    assert_eq!(rt; table.next_due(750), Some(keys[0]));
+    assert_eq!(rt; next_key(&table, low), None);
+    assert_eq!(rt; next_due(&table, 749), None);
+    assert_eq!(rt; next_due(&table, 750), Some(keys[0]));
     for next in keys {
         assert_eq!(rt; end_next(&mut table, 1250), Some(next));
     }
-    assert_eq!(rt; table.next_due(1250), None);
+    assert_eq!(rt; next_due(&table, 1250), None);
     assert!(rt; table.is_empty());
     Ok(())
 }
 
-#[test]
-fn the_33rd_is_refused(rt: HostRuntime) -> Result<(), Fail> {
-    let mut table = SessionTable::new(rt.alloc());
-    for source in 0..32 {
-        open(&rt, rt.alloc(), &mut table, key(source, SessionKind::Tp))?;
-    }
-    let past = key(32, SessionKind::Tp);
-    let state = begun(rt.alloc(), past.kind, FECA)?;
-    assert!(rt; !table.contains(past));
-    let back = match table.open(past, 7, state) {
+// What comes back with a session that a full table refuses: what it was bound to, and its PGN.
+fn refused(
+    rt: &impl Abort,
+    table: &mut SessionTable<u8>,
+    key: Key,
+    bound: u8,
+    state: Incoming,
+) -> Option<(u8, u32)> {
+    assert!(rt; !table.contains(key));
+    match table.open(key, bound, state) {
         Err(OpenRefused::TableFull(bound, state)) => {
             let pgn = state.pgn();
             state.overrun();
@@ -143,7 +177,18 @@ fn the_33rd_is_refused(rt: HostRuntime) -> Result<(), Fail> {
             None
         }
         Ok(()) => None,
-    };
+    }
+}
+
+#[test]
+fn the_33rd_is_refused(rt: HostRuntime) -> Result<(), Fail> {
+    let mut table = new_table(rt.alloc());
+    for source in 0..32 {
+        open(&rt, rt.alloc(), &mut table, key(source, SessionKind::Tp))?;
+    }
+    let past = key(32, SessionKind::Tp);
+    let state = begun(rt.alloc(), past.kind, FECA)?;
+    let back = refused(&rt, &mut table, past, 7, state);
     assert_eq!(rt; back, Some((7, FECA)));
     assert_eq!(rt; table.len(), 32);
     Ok(())
@@ -151,24 +196,19 @@ fn the_33rd_is_refused(rt: HostRuntime) -> Result<(), Fail> {
 
 #[test]
 fn a_packet_is_taken_in_place(rt: HostRuntime) -> Result<(), Fail> {
-    let mut table = SessionTable::new(rt.alloc());
+    let mut table = new_table(rt.alloc());
     let key = key(0x80, SessionKind::Broadcast);
     let packet = |sequence: u8| Wire::Packet {
         kind: Kind::Tp,
         sequence,
         bytes: [1, 2, 3, 4, 5, 6, 7],
     };
-    let absent = table.go_on(key, &packet(1), 100);
+    let absent = go_on(&mut table, key, &packet(1), 100);
     open(&rt, rt.alloc(), &mut table, key)?;
-    let first = table.go_on(key, &packet(1), 100);
-    let last = table.go_on(key, &packet(2), 200);
-    let due = (table.next_due(849), table.next_due(850));
-    let Some((held, _bound, state)) = table.take_out(key) else {
-        panic!(rt; "nothing at the key")
-    };
-    state.overrun();
-    let out = table.go_on(key, &packet(2), 300);
-    table.end(held);
+    let first = go_on(&mut table, key, &packet(1), 100);
+    let last = go_on(&mut table, key, &packet(2), 200);
+    let due = (next_due(&table, 849), next_due(&table, 850));
+    let out = goes_on_without(&rt, &mut table, key, &packet(2), 300);
     assert_eq!(rt; (absent, first), (InPlace::NoSession, InPlace::GoneOn));
     assert_eq!(rt; (last, out), (InPlace::StepWanted, InPlace::NoSession));
     assert_eq!(rt; due, (None, Some(key)));
@@ -177,7 +217,7 @@ fn a_packet_is_taken_in_place(rt: HostRuntime) -> Result<(), Fail> {
 
 #[test]
 fn a_new_session_takes_the_place(rt: HostRuntime) -> Result<(), Fail> {
-    let mut table = SessionTable::new(rt.alloc());
+    let mut table = new_table(rt.alloc());
     let key = key(0x80, SessionKind::Tp);
     open(&rt, rt.alloc(), &mut table, key)?;
     let next = begun(rt.alloc(), key.kind, 0xEF00)?;
@@ -188,7 +228,10 @@ fn a_new_session_takes_the_place(rt: HostRuntime) -> Result<(), Fail> {
     state.overrun();
     assert_eq!(rt; (bound, held.key()), (0x80, key));
     assert_eq!(rt; (table.len(), table.get(key).is_some()), (1, false));
-    assert_eq!(rt; (table.next_due(1250), table.next_key(None)), (None, None));
+    assert_eq!(rt;
+        (next_due(&table, 1250), table.next_key(None)),
+        (None, None)
+    );
     table.put_back(held, 9, next);
     let there = table
         .get(key)

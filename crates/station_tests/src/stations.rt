@@ -64,8 +64,14 @@ fn take(station: &mut Station, frame: &Frame, room: bool) -> Result<Events, Fail
     }
 }
 
-fn message(alloc: Global, bytes: &[u8]) -> Result<Bytes, AllocError> {
-    Ok(Bytes::new(Vec::from_slice(alloc, bytes)?))
+fn send(
+    alloc: Global,
+    station: &mut Station,
+    to: Address,
+    message: &[u8],
+) -> Result<Result<u64, SendingRefused>, Fail> {
+    let bytes = Bytes::new(Vec::from_slice(alloc, message)?);
+    Ok(station.send(to, Pgn::new(FECA)?, bytes))
 }
 
 // What a station answers to a frame at once.
@@ -73,9 +79,9 @@ fn answer(
     rt: &impl Abort,
     station: &mut Station,
     id: u32,
-    bytes: [u8; 8],
+    bytes: &[u8; 8],
 ) -> Result<Option<Frame>, Fail> {
-    let events = take(station, &Frame::full(CanId::new(id)?, bytes), true)?;
+    let events = take(station, &Frame::full(CanId::new(id)?, *bytes), true)?;
     assert!(rt; events.is_empty());
     Ok(station.pop())
 }
@@ -85,8 +91,8 @@ fn answers(
     rt: &impl Abort,
     station: &mut Station,
     id: u32,
-    bytes: [u8; 8],
-    expected: (u32, [u8; 8]),
+    bytes: &[u8; 8],
+    expected: &(u32, [u8; 8]),
 ) -> Result<(), Fail> {
     let frame = Frame::full(CanId::new(expected.0)?, expected.1);
     assert!(rt; answer(rt, station, id, bytes)? == Some(frame));
@@ -94,15 +100,91 @@ fn answers(
 }
 
 // It doesn't answer.
-fn is_silent(rt: &impl Abort, station: &mut Station, id: u32, bytes: [u8; 8]) -> Result<(), Fail> {
+fn is_silent(rt: &impl Abort, station: &mut Station, id: u32, bytes: &[u8; 8]) -> Result<(), Fail> {
     assert!(rt; answer(rt, station, id, bytes)?.is_none());
     Ok(())
 }
 
-fn with_port(alloc: Global) -> Result<Station, Fail> {
-    let mut station = Station::new(alloc, B)?;
-    station.open(Pgn::new(FECA)?, 4000)?;
+fn new_station(rt: &impl Abort, alloc: Global, address: Address) -> Result<Station, Fail> {
+    assert!(rt; address.is_one());
+    Ok(Station::new(alloc, address)?)
+}
+
+fn open(station: &mut Station, pgn: Pgn) -> Result<(), Fail> {
+    station.open(pgn, 4000)?;
+    Ok(())
+}
+
+fn with_port(rt: &impl Abort, alloc: Global) -> Result<Station, Fail> {
+    let mut station = new_station(rt, alloc, B)?;
+    open(&mut station, Pgn::new(FECA)?)?;
     Ok(station)
+}
+
+// Calls of which a test only looks at the answer: their contracts are not carried through it.
+fn overruns(rt: &impl Abort, station: &mut Station) -> Result<(), Fail> {
+    assert!(rt; station.overrun()?.is_empty());
+    Ok(())
+}
+
+fn is_closed(station: &mut Station, number: u64) -> bool {
+    station.close(number).is_ok()
+}
+
+fn is_paused(station: &mut Station, number: u64) -> bool {
+    station.pause(number).is_ok()
+}
+
+fn is_resumed(station: &mut Station, number: u64) -> bool {
+    station.resume(number).is_ok()
+}
+
+/// Whether it is due at this tick, and not at the one before, when it refuses to fire.
+fn falls_due(station: &mut Station, now: u64) -> bool {
+    let before = now.saturating_sub(1);
+    !station.is_due(before) && station.fire(before).is_err() && station.is_due(now)
+}
+
+fn fires(rt: &impl Abort, station: &mut Station, now: u64) -> Result<(), Fail> {
+    assert!(rt; station.fire(now)?.is_empty());
+    Ok(())
+}
+
+/// A frame that has no meaning changes nothing.
+fn is_malformed(
+    rt: &impl Abort,
+    station: &mut Station,
+    id: u32,
+    bytes: &[u8; 8],
+) -> Result<(), Fail> {
+    let taken = station.take(&Frame::full(CanId::new(id)?, *bytes), true, 0)?;
+    assert!(rt; taken.is_malformed);
+    assert!(rt; taken.events.is_empty());
+    Ok(())
+}
+
+fn is_as_said(rt: &impl Abort, told: bool) -> Result<(), Fail> {
+    assert!(rt; told);
+    Ok(())
+}
+
+fn pump(station: &mut Station, to: Address, now: u64) -> Result<Events, PumpingRefused> {
+    station.pump(to, now)
+}
+
+fn cancel(station: &mut Station, to: Address, number: u64) -> Result<Events, CancellingRefused> {
+    station.cancel(to, number)
+}
+
+fn queues_abort(station: &Station, to: Address, number: u64) -> bool {
+    station.queues_abort(to, number) && station.is_pending(to, number)
+}
+
+// The frame in front leaves, and is this one.
+fn pops(rt: &impl Abort, station: &mut Station, shown: &(u32, [u8; 8])) -> Result<(), Fail> {
+    let frame = Frame::full(CanId::new(shown.0)?, shown.1);
+    assert!(rt; station.pop() == Some(frame));
+    Ok(())
 }
 
 const RTS_OF_80: u32 = 0x1CEC_3580;
@@ -123,9 +205,9 @@ const NO_RESOURCES: (u32, [u8; 8]) = (
 
 #[test]
 fn a_message_is_given(rt: HostRuntime) -> Result<(), Fail> {
-    let mut station = with_port(rt.alloc())?;
-    answers(&rt, &mut station, RTS_OF_80, RTS, CTS)?;
-    is_silent(&rt, &mut station, PACKET_OF_80, [1, 1, 2, 3, 4, 5, 6, 7])?;
+    let mut station = with_port(&rt, rt.alloc())?;
+    answers(&rt, &mut station, RTS_OF_80, &RTS, &CTS)?;
+    is_silent(&rt, &mut station, PACKET_OF_80, &[1, 1, 2, 3, 4, 5, 6, 7])?;
     let last = Frame::full(
         CanId::new(PACKET_OF_80)?,
         [0x02, 0x08, 0x09, 0xFF, 0xFF, 0xFF, 0xFF, 0xFF],
@@ -145,94 +227,125 @@ fn a_message_is_given(rt: HostRuntime) -> Result<(), Fail> {
     Ok(())
 }
 
+/// What comes to station 35, or is done there, and what is to be seen of it: frames by identifier and bytes, a port by its number.
+#[derive(Clone, Copy)]
+enum Turn {
+    Answers(u32, [u8; 8], (u32, [u8; 8])),
+    IsSilent(u32, [u8; 8]),
+    TakesMalformed(u32, [u8; 8]),
+    Overruns,
+    Closes(u64),
+    HasNo(u64),
+    Pauses(u64),
+    Resumes(u64),
+    IsDueAt(u64),
+    Fires(u64),
+    Pops((u32, [u8; 8])),
+}
+
+fn play(rt: &impl Abort, station: &mut Station, turn: &Turn) -> Result<(), Fail> {
+    match turn {
+        Turn::Answers(id, bytes, expected) => answers(rt, station, *id, bytes, expected),
+        Turn::IsSilent(id, bytes) => is_silent(rt, station, *id, bytes),
+        Turn::TakesMalformed(id, bytes) => is_malformed(rt, station, *id, bytes),
+        Turn::Overruns => overruns(rt, station),
+        Turn::Closes(number) => is_as_said(rt, is_closed(station, *number)),
+        Turn::HasNo(number) => is_as_said(rt, !is_closed(station, *number)),
+        Turn::Pauses(number) => is_as_said(rt, is_paused(station, *number)),
+        Turn::Resumes(number) => is_as_said(rt, is_resumed(station, *number)),
+        Turn::IsDueAt(now) => is_as_said(rt, falls_due(station, *now)),
+        Turn::Fires(now) => fires(rt, station, *now),
+        Turn::Pops(shown) => pops(rt, station, shown),
+    }
+}
+
+/// Plays the turns at station 35 with one port.
+fn play_all(rt: &impl Abort, alloc: Global, turns: &[Turn]) -> Result<(), Fail> {
+    let mut station = with_port(rt, alloc)?;
+    for turn in turns {
+        play(rt, &mut station, turn)?;
+    }
+    Ok(())
+}
+
+const IS_TAKEN: Turn = Turn::Answers(RTS_OF_80, RTS, CTS);
+
+/// A packet out of order, which would abort a session.
+const NO_SESSION: Turn = Turn::IsSilent(PACKET_OF_80, [0x03; 8]);
+
 #[test]
 fn a_refused_session_replaces_the_older(rt: HostRuntime) -> Result<(), Fail> {
-    let mut station = with_port(rt.alloc())?;
-    answers(&rt, &mut station, RTS_OF_80, RTS, CTS)?;
     // 20 bytes are no two packets.
     let wrong = [0x10, 0x14, 0x00, 0x02, 0xFF, 0xCA, 0xFE, 0x00];
     let other = (
         0x1CEC_8035,
         [0xFF, 0xFA, 0xFF, 0xFF, 0xFF, 0xCA, 0xFE, 0x00],
     );
-    answers(&rt, &mut station, RTS_OF_80, wrong, other)?;
-    // A packet out of order would abort the older session.
-    is_silent(&rt, &mut station, PACKET_OF_80, [0x03; 8])
+    let refused = Turn::Answers(RTS_OF_80, wrong, other);
+    play_all(&rt, rt.alloc(), &[IS_TAKEN, refused, NO_SESSION])
 }
 
 #[test]
 fn an_overrun_ends_sessions(rt: HostRuntime) -> Result<(), Fail> {
-    let mut station = with_port(rt.alloc())?;
-    answers(&rt, &mut station, RTS_OF_80, RTS, CTS)?;
-    assert!(rt; station.overrun()?.is_empty());
-    is_silent(&rt, &mut station, PACKET_OF_80, [0x03; 8])
+    play_all(&rt, rt.alloc(), &[IS_TAKEN, Turn::Overruns, NO_SESSION])
 }
 
 #[test]
 fn a_closed_port_ends_its_session(rt: HostRuntime) -> Result<(), Fail> {
-    let mut station = with_port(rt.alloc())?;
-    answers(&rt, &mut station, RTS_OF_80, RTS, CTS)?;
-    assert!(rt; station.close(1).is_ok());
-    let abort = Frame::full(CanId::new(NO_RESOURCES.0)?, NO_RESOURCES.1);
-    assert!(rt; station.pop() == Some(abort));
-    assert!(rt; station.close(1).is_err());
-    is_silent(&rt, &mut station, PACKET_OF_80, [0x03; 8])?;
-    answers(&rt, &mut station, RTS_OF_80, RTS, NO_RESOURCES)
+    let turns = [
+        IS_TAKEN,
+        Turn::Closes(1),
+        Turn::Pops(NO_RESOURCES),
+        Turn::HasNo(1),
+        NO_SESSION,
+        Turn::Answers(RTS_OF_80, RTS, NO_RESOURCES),
+    ];
+    play_all(&rt, rt.alloc(), &turns)
 }
 
 #[test]
 fn requests_are_answered(rt: HostRuntime) -> Result<(), Fail> {
-    let mut station = with_port(rt.alloc())?;
     let request = [0x00, 0xEC, 0x00, 0xFF, 0xFF, 0xFF, 0xFF, 0xFF];
     let acknowledgement = (
         0x18E8_FF35,
         [0x01, 0xFF, 0xFF, 0xFF, 0x21, 0x00, 0xEC, 0x00],
     );
-    answers(&rt, &mut station, 0x18EA_3521, request, acknowledgement)?;
-    is_silent(&rt, &mut station, 0x18EA_FF21, request)?;
-    let malformed = Frame::full(CanId::new(0x1CEB_FF80)?, [0; 8]);
-    let taken = station.take(&malformed, true, 0)?;
-    assert!(rt; taken.is_malformed);
-    assert!(rt; taken.events.is_empty());
-    Ok(())
+    let turns = [
+        Turn::Answers(0x18EA_3521, request, acknowledgement),
+        Turn::IsSilent(0x18EA_FF21, request),
+        Turn::TakesMalformed(0x1CEB_FF80, [0; 8]),
+    ];
+    play_all(&rt, rt.alloc(), &turns)
 }
 
 #[test]
 fn a_paused_port_holds_its_session(rt: HostRuntime) -> Result<(), Fail> {
-    let mut station = with_port(rt.alloc())?;
-    assert!(rt; station.pause(1).is_ok());
     let hold = (
         0x1CEC_8035,
         [0x11, 0x00, 0x01, 0xFF, 0xFF, 0xCA, 0xFE, 0x00],
     );
-    answers(&rt, &mut station, RTS_OF_80, RTS, hold)?;
-    assert!(rt; station.resume(1).is_ok());
-    assert!(rt; !station.is_due(499));
-    assert!(rt; station.fire(499).is_err());
-    assert!(rt; station.is_due(500));
-    assert!(rt; station.fire(500)?.is_empty());
-    let cts = Frame::full(CanId::new(CTS.0)?, CTS.1);
-    assert!(rt; station.pop() == Some(cts));
-    Ok(())
+    let turns = [
+        Turn::Pauses(1),
+        Turn::Answers(RTS_OF_80, RTS, hold),
+        Turn::Resumes(1),
+        Turn::IsDueAt(500),
+        Turn::Fires(500),
+        Turn::Pops(CTS),
+    ];
+    play_all(&rt, rt.alloc(), &turns)
 }
 
 #[test]
 fn a_message_is_cancelled(rt: HostRuntime) -> Result<(), Fail> {
-    let mut station = Station::new(rt.alloc(), A)?;
-    let pgn = Pgn::new(FECA)?;
-    assert!(rt; station.send(A, pgn, message(rt.alloc(), &M9)?).is_err());
-    assert!(rt;
-        station
-            .send(B, pgn, message(rt.alloc(), &M9[1..])?)
-            .is_err()
-    );
-    assert!(rt; station.pump(B, 0).is_err());
-    let number = station.send(B, pgn, message(rt.alloc(), &M9)?)?;
-    assert!(rt; station.pump(B, 0)?.is_empty());
-    assert!(rt; station.queues_abort(B, number));
-    assert!(rt; station.is_pending(B, number));
-    let (event, _) = station.cancel(B, number)?.into_parts();
-    assert!(rt; station.cancel(B, number).is_err());
+    let mut station = new_station(&rt, rt.alloc(), A)?;
+    assert!(rt; send(rt.alloc(), &mut station, A, &M9)?.is_err());
+    assert!(rt; send(rt.alloc(), &mut station, B, &M9[1..])?.is_err());
+    assert!(rt; pump(&mut station, B, 0).is_err());
+    let number = send(rt.alloc(), &mut station, B, &M9)??;
+    assert!(rt; pump(&mut station, B, 0)?.is_empty());
+    assert!(rt; queues_abort(&station, B, number));
+    let (event, _) = cancel(&mut station, B, number)?.into_parts();
+    assert!(rt; cancel(&mut station, B, number).is_err());
     let mut seen = nothing_seen(rt.alloc());
     if let Some(event) = event {
         see(&mut seen, event)?;

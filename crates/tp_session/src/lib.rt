@@ -12,8 +12,7 @@ mod in_state;
 mod incoming;
 mod opening;
 mod received;
-#[cfg(test)]
-mod tests;
+mod spending;
 mod window;
 
 pub use await_packet::AwaitPacket;

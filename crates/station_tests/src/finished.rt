@@ -1,17 +1,10 @@
-use super::*;
 use bus_frame::{CanId, Frame};
 use pgn_ids::{Address, WirePgn};
+use responder::*;
 use seg_cut::Join;
 use std::process::Abort;
 use std::test::Fail;
 use tp_wire::{AbortReason, Kind};
-
-trait IsSpentOrDropped {}
-
-impl<T: Drop> IsSpentOrDropped for T {}
-
-// A whole message must be given or refused: this would not compile where it could be dropped.
-impl IsSpentOrDropped for Finished {}
 
 fn diagnostics() -> Result<Peer, Fail> {
     Ok(Peer::new(Address(0x21), Address(0x35), WirePgn::new(0xFECA)?))

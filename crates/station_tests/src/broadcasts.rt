@@ -1,7 +1,7 @@
 ghost use Rattle.std.specs.Prelude.{◌≡◌};
 ghost use Rattle.bam_session.specs.declared.outgoing.BamPumped.TheVariants as BamPumped;
 
-use super::*;
+use bam_session::*;
 use bus_frame::{CanId, Frame};
 use pgn_ids::{Address, Pgn, WirePgn};
 use seg_cut::Join;
@@ -10,15 +10,6 @@ use std::process::Abort;
 use std::test::Fail;
 use tick_timers::T1;
 use tp_wire::{Kind, Wire};
-
-trait IsSpentOrDropped {}
-
-impl<T: Drop> IsSpentOrDropped for T {}
-
-// The states must be spent: these would not compile where one could be dropped.
-impl IsSpentOrDropped for BamOut {}
-
-impl IsSpentOrDropped for BamIn {}
 
 const SOURCE: Address = Address(0x21);
 

@@ -1,10 +1,6 @@
-//! Exact frames, that calls succeed, and that nothing but a call lets a state go.
-ghost use Rattle.std.specs.Prelude.{length};
-ghost use Rattle.tp_wire.specs.declared.wire.Kind.TheVariants.{Etp};
-ghost use Rattle.tp_wire.specs.Sizes.{IsSizeOf};
-
-use super::*;
+//! Exact frames of extended exchanges, that calls succeed, and that nothing but a call lets a state go.
 use bus_frame::{CanId, Frame};
+use etp_session::{AwaitPacket, InState, OutState, Received, begin};
 use pgn_ids::{Address, Pgn, WirePgn};
 use responder::{Flow, Peer};
 use seg_cut::{Join, packet, packets};
@@ -13,19 +9,6 @@ use std::process::Abort;
 use std::test::Fail;
 use tp_wire::constants::{CONN_ABORT, ETP_CTS, ETP_EOMA, ETP_MAX_SIZE, ETP_MAX_WINDOW, ETP_RTS};
 use tp_wire::{CmFrame, Kind, Wire};
-
-// A type that is `Drop` would have two impls here.
-trait IsSpentOrDropped {}
-
-impl<T: Drop> IsSpentOrDropped for T {}
-
-impl IsSpentOrDropped for AwaitPacket {}
-
-impl IsSpentOrDropped for Holding {}
-
-impl IsSpentOrDropped for InState {}
-
-impl IsSpentOrDropped for Received {}
 
 const FECA: u32 = 0xFECA;
 
@@ -61,9 +44,8 @@ fn begun(
     alloc: Global,
     size: u32,
     flow: Flow,
-) -> Result<(InState, Frame), AllocError>
-    requires { IsSizeOf Etp size }
-{
+) -> Result<(InState, Frame), AllocError> {
+    assert!(rt; size >= 1786 && size <= ETP_MAX_SIZE);
     let mut join = Join::new(alloc, size);
     join.make_room(u32::from(ETP_MAX_WINDOW))?;
     let peer = Peer::new(Address(0x21), Address(0x35), pgn(rt, FECA));
@@ -93,6 +75,19 @@ fn goes_on(rt: &impl Abort, received: Received) -> InState {
     }
 }
 
+fn go_on(state: &mut InState, wire: &Wire, now: u64) -> bool {
+    state.go_on(wire, now)
+}
+
+// Whether it is due at this tick, and not at the one before.
+fn falls_due(state: &InState, now: u64) -> bool {
+    !state.is_due(now.saturating_sub(1)) && state.is_due(now)
+}
+
+fn has_memory(state: &InState, memory: usize) -> bool {
+    state.memory() == memory
+}
+
 // The whole exchange of a message: the last CTS, DPO and packet, and what was given.
 #[derive(Drop)]
 struct Done {
@@ -103,9 +98,8 @@ struct Done {
     end: Frame,
 }
 
-fn exchange(rt: &impl Abort, alloc: Global, message: &[u8]) -> Result<Done, AllocError>
-    requires { IsSizeOf Etp (length message.now) }
-{
+fn exchange(rt: &impl Abort, alloc: Global, message: &[u8]) -> Result<Done, AllocError> {
+    assert!(rt; message.len() <= ETP_MAX_SIZE as usize);
     let count = packets(message.len() as u32);
     let (mut state, mut cts) = begun(rt, alloc, message.len() as u32, Flow::Open)?;
     let mut last_dpo = dpo(rt, 0, 0);
@@ -146,7 +140,6 @@ fn fill(alloc: Global, size: u32) -> Result<Vec<u8>, AllocError> {
 #[test]
 fn four_windows(rt: HostRuntime) -> Result<(), Fail> {
     let message = fill(rt.alloc(), 1786)?;
-    assert_eq!(rt; message.len(), 1786);
     let done = exchange(&rt, rt.alloc(), &message)?;
     let last = [0xFA, 0xFF, 0xFF, 0xFF, 0xFF, 0xFF, 0xFF];
     assert_eq!(rt; done.cts, from_35(&rt, ETP_CTS, [0x40, 0xC1, 0, 0]));
@@ -160,7 +153,6 @@ fn four_windows(rt: HostRuntime) -> Result<(), Fail> {
 #[test]
 fn long_message(rt: HostRuntime) -> Result<(), Fail> {
     let message = fill(rt.alloc(), 100_000)?;
-    assert_eq!(rt; message.len(), 100_000);
     let done = exchange(&rt, rt.alloc(), &message)?;
     let last = [0x9C, 0x9D, 0x9E, 0x9F, 0xA0, 0xFF, 0xFF];
     assert_eq!(rt; done.cts, from_35(&rt, ETP_CTS, [0x0E, 0xC1, 0x37, 0]));
@@ -220,18 +212,19 @@ fn first_window(rt: &impl Abort, state: InState, flow: Flow) -> Received {
 #[test]
 fn packets_in_a_window_are_taken_in_place(rt: HostRuntime) -> Result<(), Fail> {
     let (mut state, _) = begun(&rt, rt.alloc(), 1786, Flow::Open)?;
-    let unannounced = state.go_on(&data(1, [0; 7]), 50);
+    let unannounced = go_on(&mut state, &data(1, [0; 7]), 50);
     let mut state = goes_on(&rt, take(&rt, state, &dpo(&rt, 3, 0), Flow::Open));
-    let went_on = state.go_on(&data(1, [0; 7]), 100) && state.go_on(&data(2, [0; 7]), 200);
+    let went_on = go_on(&mut state, &data(1, [0; 7]), 100)
+        && go_on(&mut state, &data(2, [0; 7]), 200);
     // A packet that has come, the last that is announced and one that is skipped change nothing.
-    let others = state.go_on(&data(2, [0; 7]), 300)
-        || state.go_on(&data(3, [0; 7]), 300)
-        || state.go_on(&data(4, [0; 7]), 300);
-    let due = (state.is_due(949), state.is_due(950));
+    let others = go_on(&mut state, &data(2, [0; 7]), 300)
+        || go_on(&mut state, &data(3, [0; 7]), 300)
+        || go_on(&mut state, &data(4, [0; 7]), 300);
+    let is_due = falls_due(&state, 950);
     let (state, cts) = goes_out(&rt, take(&rt, state, &data(3, [0; 7]), Flow::Open));
     state.overrun();
     assert!(rt; !unannounced && went_on && !others);
-    assert_eq!(rt; due, (false, true));
+    assert!(rt; is_due);
     assert_eq!(rt; cts, from_35(&rt, ETP_CTS, [0x40, 4, 0, 0]));
     Ok(())
 }
@@ -249,10 +242,10 @@ fn old_offset(rt: HostRuntime) -> Result<(), Fail> {
     let (state, _) = begun(&rt, rt.alloc(), 1786, Flow::Open)?;
     let (state, cts) = goes_out(&rt, first_window(&rt, state, Flow::Open));
     let state = goes_on(&rt, take(&rt, state, &data(64, [0; 7]), Flow::Open));
-    let memory = state.memory();
+    let has_memory = has_memory(&state, 2 * 64 * 7);
     let ended = ends(&rt, take(&rt, state, &data(65, [0; 7]), Flow::Open));
     assert_eq!(rt; cts, from_35(&rt, ETP_CTS, [0x40, 0x41, 0, 0]));
-    assert_eq!(rt; memory, 2 * 64 * 7);
+    assert!(rt; has_memory);
     assert_eq!(rt;
         ended,
         Some(from_35(&rt, CONN_ABORT, [250, 0xFF, 0xFF, 0xFF]))
@@ -275,15 +268,15 @@ fn hold(rt: HostRuntime) -> Result<(), Fail> {
     let (state, _) = begun(&rt, rt.alloc(), 1786, Flow::Open)?;
     let (state, first) = goes_out(&rt, first_window(&rt, state, Flow::Held));
     let (state, second) = goes_out(&rt, fire(&rt, state, Flow::Held, 500));
-    let due = (state.is_due(999), state.is_due(1000));
-    let memory = state.memory();
+    let is_due = falls_due(&state, 1000);
+    let has_memory = has_memory(&state, 64 * 7);
     let (state, cts) = goes_out(&rt, fire(&rt, state, Flow::Open, 1000));
     let peer = state.peer();
     let closed = state.close();
     assert_eq!(rt; first, from_35(&rt, ETP_CTS, [0, 0x41, 0, 0]));
     assert_eq!(rt; second, first);
-    assert_eq!(rt; due, (false, true));
-    assert_eq!(rt; memory, 64 * 7);
+    assert!(rt; is_due);
+    assert!(rt; has_memory);
     assert_eq!(rt; cts, from_35(&rt, ETP_CTS, [0x40, 0x41, 0, 0]));
     assert_eq!(rt; peer.from(), Address(0x21));
     assert_eq!(rt; closed, from_35(&rt, CONN_ABORT, [2, 0xFF, 0xFF, 0xFF]));
@@ -293,13 +286,12 @@ fn hold(rt: HostRuntime) -> Result<(), Fail> {
 #[test]
 fn times_out(rt: HostRuntime) -> Result<(), Fail> {
     let (state, _) = begun(&rt, rt.alloc(), 1786, Flow::Open)?;
-    let granted = (state.is_due(1249), state.is_due(1250));
+    let granted = falls_due(&state, 1250);
     let state = goes_on(&rt, take(&rt, state, &dpo(&rt, 64, 0), Flow::Open));
     let state = goes_on(&rt, take(&rt, state, &data(1, [0; 7]), Flow::Open));
-    let accepted = (state.is_due(749), state.is_due(750));
+    let accepted = falls_due(&state, 750);
     let ended = ends(&rt, fire(&rt, state, Flow::Open, 750));
-    assert_eq!(rt; granted, (false, true));
-    assert_eq!(rt; accepted, (false, true));
+    assert!(rt; granted && accepted);
     assert_eq!(rt;
         ended,
         Some(from_35(&rt, CONN_ABORT, [3, 0xFF, 0xFF, 0xFF]))

@@ -1,0 +1,8 @@
+//! What is under way must be spent: beside the first `impl`, the other compiles only for a type that isn't `Drop`.
+use crate::place::UnderWay;
+
+trait IsSpentOrDropped {}
+
+impl<T: Drop> IsSpentOrDropped for T {}
+
+impl IsSpentOrDropped for UnderWay {}

@@ -1,0 +1,420 @@
+//! Lanes of node 21, frame by frame.
+use bus_frame::{CanId, Frame};
+use lane_core::*;
+use pgn_ids::{Address, Pgn, WirePgn};
+use std::alloc::Global;
+use std::process::Abort;
+use std::test::Fail;
+use tp_wire::{CmFrame, Outcome, Wire};
+
+const FROM: Address = Address(0x21);
+
+const M9: [u8; 9] = [1, 2, 3, 4, 5, 6, 7, 8, 9];
+
+// What 21 sends to 35 and to 80 in TP.CM.
+const CM_TO_35: u32 = 0x1CEC_3521;
+
+const CM_TO_80: u32 = 0x1CEC_8021;
+
+// The Request of 21 to 35 and to 80.
+const REQUEST_TO_35: u32 = 0x18EA_3521;
+
+const REQUEST_TO_80: u32 = 0x18EA_8021;
+
+const RTS: [u8; 8] = [0x10, 9, 0, 2, 0xFF, 0xCA, 0xFE, 0];
+
+const FIRST: [u8; 8] = [1, 1, 2, 3, 4, 5, 6, 7];
+
+const LAST: [u8; 8] = [2, 8, 9, 0xFF, 0xFF, 0xFF, 0xFF, 0xFF];
+
+// A TP abort with this reason.
+const fn abort(reason: u8) -> [u8; 8] {
+    [0xFF, reason, 0xFF, 0xFF, 0xFF, 0xCA, 0xFE, 0]
+}
+
+fn frame(id: u32, bytes: &[u8]) -> Result<Frame, Fail> {
+    Ok(Frame::new(CanId::new(id)?, bytes)?)
+}
+
+fn pgn() -> Result<WirePgn, Fail> {
+    Ok(WirePgn::new(0xFECA)?)
+}
+
+fn cts(granted: u8, next: u8) -> Result<CmFrame, Fail> {
+    let pgn = pgn()?;
+    Ok(CmFrame::Cts { granted, next, pgn })
+}
+
+fn end_acknowledgement() -> Result<CmFrame, Fail> {
+    let pgn = pgn()?;
+    Ok(CmFrame::EndOfMsgAck {
+        size: 9,
+        packets: 2,
+        pgn,
+    })
+}
+
+fn m9(alloc: Global) -> Result<Bytes, Fail> {
+    Ok(Bytes::new(M9.to_vec(alloc)?))
+}
+
+fn lane_to(rt: &impl Abort, alloc: Global, to: Address) -> Lane {
+    assert!(rt; to.is_one() || to == Address::GLOBAL);
+    Lane::new(alloc, FROM, to)
+}
+
+fn push_bytes(
+    rt: &impl Abort,
+    lane: &mut Lane,
+    pgn: Pgn,
+    bytes: Bytes,
+) -> Result<u64, PushRefused> {
+    let most = if lane.to() == Address::GLOBAL {
+        1785
+    } else {
+        117_440_505
+    };
+    assert!(rt; bytes.len() >= 9 && bytes.len() <= most);
+    lane.push(pgn, bytes)
+}
+
+// One more message of nine bytes in a lane has this number.
+fn push(rt: &impl Abort, alloc: Global, lane: &mut Lane, number: u64) -> Result<(), Fail> {
+    let pushed = push_bytes(rt, lane, Pgn::new(0xFECA)?, m9(alloc)?)?;
+    assert!(rt; pushed == number);
+    Ok(())
+}
+
+fn overrun(lane: &mut Lane) -> LaneStep {
+    lane.overrun()
+}
+
+fn answer(lane: &mut Lane, token: WirePgn) {
+    lane.answer(token)
+}
+
+// Whether a pump is refused so.
+fn is_refused(lane: &Lane, now: u64, cause: PumpRefused) -> bool {
+    lane.pump_refusal(now) == Some(cause)
+}
+
+fn misses(lane: &Lane, now: u64, ticks: u64) -> bool {
+    lane.missing(now) == ticks
+}
+
+fn is_due(lane: &Lane, now: u64) -> bool {
+    lane.is_due(now)
+}
+
+fn is_pending(lane: &Lane, number: u64) -> bool {
+    lane.is_pending(number)
+}
+
+fn queues_abort(lane: &Lane, number: u64) -> bool {
+    lane.queues_abort(number)
+}
+
+fn pump(rt: &impl Abort, lane: &mut Lane, now: u64) -> LaneStep {
+    assert!(rt; lane.pump_refusal(now).is_none());
+    lane.pump(now)
+}
+
+fn fire(rt: &impl Abort, lane: &mut Lane, now: u64) -> LaneStep {
+    assert!(rt; lane.is_due(now));
+    lane.fire(now)
+}
+
+fn hear(lane: &mut Lane, frame: CmFrame, now: u64) -> LaneStep {
+    lane.hear(&Wire::Cm(frame), now)
+}
+
+fn cancel(rt: &impl Abort, lane: &mut Lane, number: u64) -> LaneStep {
+    match lane.cancel(number) {
+        Some(step) => step,
+        None => panic!(rt; "no such message"),
+    }
+}
+
+// Whether a step queues just these frames.
+fn queues(step: &LaneStep, frames: &[Frame]) -> bool {
+    step.frames.frames() == frames
+}
+
+fn is_end(step: &LaneStep, number: u64, outcome: Outcome) -> bool {
+    step.ended == Some(Ended { number, outcome })
+}
+
+// A step ends a message, and queues nothing.
+fn ends(rt: &impl Abort, step: LaneStep, number: u64, outcome: Outcome) {
+    assert!(rt; queues(&step, &[]) && is_end(&step, number, outcome));
+}
+
+// A step ends a message, and queues its abort.
+fn ends_by_abort(
+    rt: &impl Abort,
+    step: LaneStep,
+    id: u32,
+    bytes: [u8; 8],
+    number: u64,
+    outcome: Outcome,
+) -> Result<(), Fail> {
+    assert!(rt; queues(&step, &[frame(id, &bytes)?]) && is_end(&step, number, outcome));
+    Ok(())
+}
+
+// A pump only queues this frame.
+fn pumps(rt: &impl Abort, lane: &mut Lane, now: u64, id: u32, bytes: &[u8]) -> Result<(), Fail> {
+    let step = pump(rt, lane, now);
+    assert!(rt; queues(&step, &[frame(id, bytes)?]) && step.ended.is_none());
+    Ok(())
+}
+
+// What is due only queues this frame.
+fn fires(rt: &impl Abort, lane: &mut Lane, now: u64, id: u32, bytes: &[u8]) -> Result<(), Fail> {
+    let step = fire(rt, lane, now);
+    assert!(rt; queues(&step, &[frame(id, bytes)?]) && step.ended.is_none());
+    Ok(())
+}
+
+fn is_still(step: LaneStep) -> bool {
+    step.frames.len() == 0 && step.ended.is_none()
+}
+
+#[test]
+fn messages_are_numbered(rt: HostRuntime) -> Result<(), Fail> {
+    let mut lane = lane_to(&rt, rt.alloc(), Address(0x35));
+    for number in 1..=32 {
+        assert!(rt; !lane.is_full());
+        push(&rt, rt.alloc(), &mut lane, number)?;
+    }
+    assert!(rt; lane.is_full() && lane.pending_len() == 32 && lane.sent() == 32);
+    assert!(rt; is_pending(&lane, 32) && !is_pending(&lane, 33) && !is_pending(&lane, 0));
+    match push_bytes(&rt, &mut lane, Pgn::new(0xFECA)?, m9(rt.alloc())?) {
+        Err(PushRefused::LaneFull(bytes)) => {
+            assert!(rt; bytes.into_vec().as_slice() == M9.as_slice())
+        }
+        _ => panic!(rt; "a lane of 32 messages takes one more"),
+    }
+    Ok(())
+}
+
+#[test]
+fn broadcast_waits_for_its_gaps(rt: HostRuntime) -> Result<(), Fail> {
+    let announcement = [0x20, 9, 0, 2, 0xFF, 0xCA, 0xFE, 0];
+    let mut lane = lane_to(&rt, rt.alloc(), Address::GLOBAL);
+    assert!(rt; is_refused(&lane, 0, PumpRefused::NothingToSend));
+    for number in 1..=3 {
+        push(&rt, rt.alloc(), &mut lane, number)?;
+    }
+    pumps(&rt, &mut lane, 0, 0x1CEC_FF21, &announcement)?;
+    assert!(rt; is_refused(&lane, 49, PumpRefused::NotYet));
+    assert!(rt; misses(&lane, 0, 50) && misses(&lane, 49, 1) && misses(&lane, 50, 0));
+    pumps(&rt, &mut lane, 50, 0x1CEB_FF21, &FIRST)?;
+    assert!(rt; is_still(overrun(&mut lane)));
+    assert!(rt; is_refused(&lane, 99, PumpRefused::NotYet));
+    let step = pump(&rt, &mut lane, 100);
+    assert!(rt; queues(&step, &[frame(0x1CEB_FF21, &LAST)?]));
+    assert!(rt; is_end(&step, 1, Outcome::Broadcast));
+    assert!(rt; misses(&lane, 100, 0));
+    // The lane to all settles at once, whatever the outcome.
+    pumps(&rt, &mut lane, 100, 0x1CEC_FF21, &announcement)?;
+    assert!(rt; !queues_abort(&lane, 2));
+    ends(&rt, cancel(&rt, &mut lane, 2), 2, Outcome::Cancelled);
+    pumps(&rt, &mut lane, 101, 0x1CEC_FF21, &announcement)?;
+    Ok(())
+}
+
+// Takes a message that was begun to its last packet, from 21 to 35, and leaves the end acknowledgement to come.
+fn sends_packets(rt: &impl Abort, lane: &mut Lane, now: u64) -> Result<(), Fail> {
+    assert!(rt; is_refused(lane, now, PumpRefused::NothingToSend));
+    assert!(rt; is_still(hear(lane, cts(2, 1)?, now)));
+    let step = pump(rt, lane, now);
+    assert!(rt;
+        queues(
+            &step,
+            &[frame(0x1CEB_3521, &FIRST)?, frame(0x1CEB_3521, &LAST)?]
+        )
+    );
+    assert!(rt; step.ended.is_none());
+    Ok(())
+}
+
+#[test]
+fn lane_settles_after_a_timeout(rt: HostRuntime) -> Result<(), Fail> {
+    let cm_token = WirePgn::new(0xEC00)?;
+    let dt_token = WirePgn::new(0xEB00)?;
+    let mut lane = lane_to(&rt, rt.alloc(), Address(0x35));
+    for number in 1..=3 {
+        push(&rt, rt.alloc(), &mut lane, number)?;
+    }
+    pumps(&rt, &mut lane, 0, CM_TO_35, &RTS)?;
+    sends_packets(&rt, &mut lane, 0)?;
+    assert!(rt; !is_due(&lane, 1249));
+    ends_by_abort(
+        &rt,
+        fire(&rt, &mut lane, 1250),
+        CM_TO_35,
+        abort(3),
+        1,
+        Outcome::TimedOut,
+    )?;
+    // The second message waits for the Acknowledgement; the late end of message acknowledgement is not of it.
+    pumps(&rt, &mut lane, 1250, REQUEST_TO_35, &[0, 0xEC, 0])?;
+    assert!(rt; is_still(hear(&mut lane, end_acknowledgement()?, 1250)));
+    assert!(rt; is_refused(&lane, 1250, PumpRefused::NothingToSend));
+    fires(&rt, &mut lane, 2500, REQUEST_TO_35, &[0, 0xEC, 0])?;
+    assert!(rt; is_still(overrun(&mut lane)));
+    answer(&mut lane, cm_token);
+    pumps(&rt, &mut lane, 2500, CM_TO_35, &RTS)?;
+    assert!(rt; queues_abort(&lane, 2) && !queues_abort(&lane, 3));
+    ends_by_abort(
+        &rt,
+        cancel(&rt, &mut lane, 2),
+        CM_TO_35,
+        abort(250),
+        2,
+        Outcome::Cancelled,
+    )?;
+    // The answer to the second Request of the first round comes in the second one.
+    pumps(&rt, &mut lane, 2500, REQUEST_TO_35, &[0, 0xEB, 0])?;
+    answer(&mut lane, cm_token);
+    assert!(rt; is_refused(&lane, 2500, PumpRefused::NothingToSend));
+    answer(&mut lane, dt_token);
+    pumps(&rt, &mut lane, 2500, CM_TO_35, &RTS)?;
+    sends_packets(&rt, &mut lane, 2500)?;
+    ends(
+        &rt,
+        hear(&mut lane, end_acknowledgement()?, 2600),
+        3,
+        Outcome::Acknowledged,
+    );
+    // It stays settled.
+    push(&rt, rt.alloc(), &mut lane, 4)?;
+    pumps(&rt, &mut lane, 2600, CM_TO_35, &RTS)?;
+    Ok(())
+}
+
+#[test]
+fn silent_node_is_unreachable(rt: HostRuntime) -> Result<(), Fail> {
+    let mut lane = lane_to(&rt, rt.alloc(), Address(0x80));
+    push(&rt, rt.alloc(), &mut lane, 1)?;
+    push(&rt, rt.alloc(), &mut lane, 2)?;
+    pumps(&rt, &mut lane, 0, CM_TO_80, &RTS)?;
+    ends_by_abort(
+        &rt,
+        fire(&rt, &mut lane, 1250),
+        CM_TO_80,
+        abort(3),
+        1,
+        Outcome::TimedOut,
+    )?;
+    pumps(&rt, &mut lane, 1250, REQUEST_TO_80, &[0, 0xEC, 0])?;
+    assert!(rt; !is_due(&lane, 2499));
+    fires(&rt, &mut lane, 2500, REQUEST_TO_80, &[0, 0xEC, 0])?;
+    fires(&rt, &mut lane, 3750, REQUEST_TO_80, &[0, 0xEC, 0])?;
+    ends(&rt, fire(&rt, &mut lane, 5000), 2, Outcome::Unreachable);
+    assert!(rt; !is_due(&lane, u64::MAX) && lane.pending_len() == 0);
+    // A round whose message was cancelled ends without an outcome, and the next one asks anew.
+    push(&rt, rt.alloc(), &mut lane, 3)?;
+    pumps(&rt, &mut lane, 5000, REQUEST_TO_80, &[0, 0xEC, 0])?;
+    ends(&rt, cancel(&rt, &mut lane, 3), 3, Outcome::Cancelled);
+    fires(&rt, &mut lane, 6250, REQUEST_TO_80, &[0, 0xEC, 0])?;
+    fires(&rt, &mut lane, 7500, REQUEST_TO_80, &[0, 0xEC, 0])?;
+    assert!(rt; is_still(fire(&rt, &mut lane, 8750)));
+    push(&rt, rt.alloc(), &mut lane, 4)?;
+    pumps(&rt, &mut lane, 8750, REQUEST_TO_80, &[0, 0xEC, 0])?;
+    Ok(())
+}
+
+#[test]
+fn packets_are_sent_again_twice(rt: HostRuntime) -> Result<(), Fail> {
+    let packets = [frame(0x1CEB_8021, &FIRST)?, frame(0x1CEB_8021, &LAST)?];
+    let mut lane = lane_to(&rt, rt.alloc(), Address(0x80));
+    push(&rt, rt.alloc(), &mut lane, 1)?;
+    push(&rt, rt.alloc(), &mut lane, 2)?;
+    pumps(&rt, &mut lane, 0, CM_TO_80, &RTS)?;
+    for _ in 0..3 {
+        assert!(rt; is_still(hear(&mut lane, cts(2, 1)?, 0)));
+        assert!(rt; queues(&pump(&rt, &mut lane, 0), &packets));
+    }
+    ends_by_abort(
+        &rt,
+        hear(&mut lane, cts(2, 1)?, 0),
+        CM_TO_80,
+        abort(5),
+        1,
+        Outcome::Aborted(5),
+    )?;
+    pumps(&rt, &mut lane, 0, REQUEST_TO_80, &[0, 0xEC, 0])?;
+
+    let mut lane = lane_to(&rt, rt.alloc(), Address(0x80));
+    push(&rt, rt.alloc(), &mut lane, 1)?;
+    pumps(&rt, &mut lane, 0, CM_TO_80, &RTS)?;
+    ends_by_abort(
+        &rt,
+        hear(&mut lane, cts(1, 2)?, 0),
+        CM_TO_80,
+        abort(250),
+        1,
+        Outcome::Aborted(250),
+    )?;
+    Ok(())
+}
+
+// A message of 1,786 bytes, the first of its lane.
+fn push_long(rt: &impl Abort, alloc: Global, lane: &mut Lane) -> Result<(), Fail> {
+    let mut bytes = Vec::with_capacity(alloc, 1786)?;
+    for place in 1..=1786u32 {
+        bytes.push((place % 256) as u8)?;
+    }
+    assert!(rt; bytes.len() == 1786);
+    let number = push_bytes(rt, lane, Pgn::new(0xFECA)?, Bytes::new(bytes))?;
+    assert!(rt; number == 1);
+    Ok(())
+}
+
+#[test]
+fn abort_and_overrun_leave_doubt(rt: HostRuntime) -> Result<(), Fail> {
+    let other = WirePgn::new(0xFECB)?;
+    let mut lane = lane_to(&rt, rt.alloc(), Address(0x35));
+    assert!(rt; lane.from() == FROM && lane.to() == Address(0x35));
+    push(&rt, rt.alloc(), &mut lane, 1)?;
+    pumps(&rt, &mut lane, 0, CM_TO_35, &RTS)?;
+    for frame in [
+        CmFrame::Abort {
+            reason: 2,
+            pgn: other,
+        },
+        CmFrame::EtpAbort {
+            reason: 2,
+            pgn: pgn()?,
+        },
+    ] {
+        assert!(rt; is_still(hear(&mut lane, frame, 0)));
+    }
+    let abort = CmFrame::Abort {
+        reason: 2,
+        pgn: pgn()?,
+    };
+    ends(&rt, hear(&mut lane, abort, 0), 1, Outcome::Aborted(2));
+
+    let mut lane = lane_to(&rt, rt.alloc(), Address(0x35));
+    push_long(&rt, rt.alloc(), &mut lane)?;
+    push(&rt, rt.alloc(), &mut lane, 2)?;
+    let request = [0x14, 0xFA, 6, 0, 0, 0xCA, 0xFE, 0];
+    pumps(&rt, &mut lane, 0, 0x1CC8_3521, &request)?;
+    let cts = CmFrame::EtpCts {
+        granted: 64,
+        next: 1,
+        pgn: pgn()?,
+    };
+    assert!(rt; is_still(hear(&mut lane, cts, 0)));
+    let step = pump(&rt, &mut lane, 0);
+    let dpo = frame(0x1CC8_3521, &[0x16, 0x40, 0, 0, 0, 0xCA, 0xFE, 0])?;
+    assert!(rt; step.frames.len() == 8 && step.frames.frames().first() == Some(&dpo));
+    ends(&rt, overrun(&mut lane), 1, Outcome::Overrun);
+    pumps(&rt, &mut lane, 0, REQUEST_TO_35, &[0, 0xEC, 0])?;
+    let copy = m9(rt.alloc())?.copy(rt.alloc())?;
+    assert!(rt; copy.as_slice() == M9.as_slice() && copy.len() == 9);
+    Ok(())
+}
