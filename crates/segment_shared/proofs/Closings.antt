@@ -1,6 +1,6 @@
 -- A port was closed: its door keeps what the record gives to it, so that what follows what was received is the rest.
-use Rattle.std.proofs.Common.{◌≡◌, ℕ, ◌<◌, List, [], ◌∷◌, ◌++◌, length, map, get_or, None, refl, sym, ◌∙◌, ap, subst}
-use Rattle.std.proofs.lemmas.List.{length-map, get_or-map}
+use Rattle.std.proofs.Common.{◌≡◌, ℕ, ◌<◌, List, ◌++◌, length, map, get_or, None, refl, sym, ◌∙◌, ap}
+use Rattle.std.proofs.lemmas.List.{get_or-map}
 use mathlib.Core.List.{IsPrefix}
 use Rattle.pgn_ids.specs.declared.address.Address.{Address}
 use Rattle.port_table.specs.declared.port.PortId.{PortId}
@@ -12,7 +12,7 @@ use Rattle.segment_rings.specs.Views.{SeatView, DoorView}
 use Rattle.segment_shared.specs.declared.call.Stored.{Stored}
 use Rattle.segment_shared.specs.declared.call.Owed.{Owed}
 use Rattle.segment_shared.specs.declared.closing.Closed.{Closed}
-use Rattle.segment_shared.specs.Record.{given, Trail, trail}
+use Rattle.segment_shared.specs.Record.{given, trail}
 use Rattle.segment_shared.specs.Facts.{Holds}
 use Rattle.segment_shared.specs.LiveView.{PortView, live_view, client_of, port_of, stored, calls_after, told_clients}
 use Rattle.segment_shared.specs.Reports.{HasPort, InboxAgrees, ClosedFor, closing}

@@ -1,5 +1,5 @@
 -- What is found at a client's seat is what the segment shows of this client: its lists are those of the seats, place by place.
-use Rattle.std.proofs.Common.{◌≡◌, ℕ, ◌<◌, ◌≤◌, List, [], length, map, get_or, true, false, Option, None, sym, ◌∙◌, ap, subst, inl, inr, arith}
+use Rattle.std.proofs.Common.{◌≡◌, ℕ, ◌<◌, ◌≤◌, List, [], length, map, get_or, false, Option, None, sym, ◌∙◌, ap, subst, inl, inr, arith}
 use Rattle.std.proofs.lemmas.List.{length-map, get_or-map}
 use Rattle.std.specs.Prelude.{slice_index, ◌⊎◌}
 use Rattle.pgn_ids.specs.declared.address.Address.{Address}

@@ -5,7 +5,6 @@ use Rattle.segment_law.specs.Segment.{Segment}
 use Rattle.segment_law.specs.Calls.{Answer, called, replied}
 use Rattle.segment_law.specs.declared.call.Call.{Call}
 use Rattle.segment_law.specs.declared.refusal.Refusal.{Refusal}
-use Rattle.segment_law.specs.declared.reply.Reply.{Reply}
 use Rattle.segment_law.specs.declared.reply.Reply.TheVariants.{Refused}
 use Rattle.segment_core.specs.Answers.{refusal_of}
 use Rattle.reply_law.specs.Replies.{reply_of}

@@ -1,5 +1,5 @@
 -- Why a call would be refused doesn't hang on whether there is room for what it gives.
-use Rattle.std.proofs.Common.{◌≡◌, ℕ, ◌<◌, Bool, true, false, List, length, Option, Some, None, Ok, Err, IsOk, refl, sym, ap, ◌∙◌, subst}
+use Rattle.std.proofs.Common.{◌≡◌, ℕ, ◌<◌, Bool, true, false, List, length, Option, Some, None, Ok, Err, IsOk, refl, sym, ◌∙◌, subst}
 use Rattle.std.specs.Prelude.{slice_get}
 use Rattle.bus_frame.specs.Frames.{CanFrame}
 use Rattle.pgn_ids.specs.declared.address.Address.{Address}
@@ -13,7 +13,7 @@ use Rattle.segment_shared.specs.declared.call.WorkerCall.TheVariants.{Pump, Tran
 use Rattle.segment_shared.specs.declared.call.Stored.{Stored}
 use Rattle.segment_rings.specs.Views.{SeatView, DoorView}
 use Rattle.segment_shared.specs.Words.{call_of}
-use Rattle.segment_shared.specs.Record.{Trail, trail}
+use Rattle.segment_shared.specs.Record.{trail}
 use Rattle.segment_shared.specs.LiveView.{live_view, LacksMemory}
 
 at_same : (st : Segment) (a : Address) (f g : ℕ → Station → Answer) → ((i : ℕ) (s : Station) → refusal_of (f i s) ≡ refusal_of (g i s)) → refusal_of (at_address st a f) ≡ refusal_of (at_address st a g)

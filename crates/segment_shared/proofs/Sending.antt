@@ -1,35 +1,32 @@
 -- A client's message was stored.
-use Rattle.std.proofs.Common.{◌≡◌, ◌≢◌, ℕ, zero, suc, ◌+◌, ◌-◌, ◌<◌, ◌≤◌, ◌==◌, Bool, true, false, cond, List, [], ◌∷◌, ◌++◌, length, map, set, get_or, Option, Some, None, refl, sym, ◌∙◌, ap, subst, inl, inr, arith, append-nil, append_assoc, length-append, length-set, zero-add}
-use Rattle.std.proofs.lemmas.List.{length_push, length-map, get_or-map, map-set, get_or-set_same}
-use Rattle.std.proofs.lemmas.Bool.Decides.{nat_tests}
-use Rattle.std.specs.Prelude.{slice_index_or, slice_index}
+use Rattle.std.proofs.Common.{◌≡◌, ◌≢◌, ℕ, zero, suc, ◌+◌, ◌<◌, ◌==◌, true, false, cond, List, [], ◌∷◌, ◌++◌, length, map, set, get_or, Some, None, refl, sym, ◌∙◌, ap, subst, arith, append-nil, length-set, zero-add}
+use Rattle.std.proofs.lemmas.List.{length_push, length-map, get_or-map, map-set}
+use Rattle.std.specs.Prelude.{slice_index}
 use mathlib.Core.List.{IsPrefix}
 use Rattle.pgn_ids.specs.declared.address.Address.{Address}
-use Rattle.port_table.specs.declared.port.PortId.{PortId}
 use Rattle.station_lanes.specs.declared.event.Event.{Event}
 use Rattle.segment_law.specs.Segment.{Segment}
 use Rattle.segment_law.specs.Calls.{called, events_of}
 use Rattle.segment_core.specs.Answers.{refusal_of}
 use Rattle.segment_law.specs.Record.{StandsAt}
 use Rattle.segment_law.specs.declared.call.Call.{Call}
-use Rattle.segment_law.specs.declared.call.Call.TheVariants.{Send}
 use Rattle.segment_law.specs.declared.reply.Reply.{Reply}
-use Rattle.segment_law.specs.declared.reply.Reply.TheVariants.{Opened, Sent, Refused, Done}
+use Rattle.segment_law.specs.declared.reply.Reply.TheVariants.{Sent}
 use Rattle.reply_law.specs.Replies.{reply_of, left_by, Follows, EachKnown, IsAnsweredBy}
 use Rattle.segment_rings.specs.declared.words.Submission.{Submission}
 use Rattle.segment_rings.specs.declared.words.Note.{Note}
 use Rattle.segment_rings.specs.Views.{SeatView, DoorView, popped_one}
 use Rattle.segment_shared.specs.declared.call.Stored.{Stored}
 use Rattle.segment_shared.specs.declared.call.Owed.{Owed}
-use Rattle.segment_shared.specs.Record.{sent_in, is_by, accepted, given, notes_of, owed_by, settle_notes, settle_owed, newly_owed, owe, Trail, trail, start, step}
-use Rattle.segment_shared.specs.Facts.{IdsFrom, HaveRoom, OwedWithin, PopsAccepted, PushesNotes, PushesGiven, PortsApart, Holds, NotedWithin}
-use Rattle.segment_shared.specs.LiveView.{LiveView, ClientView, live_view, stored, client_of, port_of, seat_seen, seat_free}
+use Rattle.segment_shared.specs.Record.{accepted, owed_by, settle_notes, settle_owed, owe, Trail, trail, step}
+use Rattle.segment_shared.specs.Facts.{IdsFrom, HaveRoom, OwedWithin, PopsAccepted, PushesNotes, PushesGiven, Holds, NotedWithin}
+use Rattle.segment_shared.specs.LiveView.{ClientView, live_view, stored, client_of, port_of, seat_seen, seat_free}
 use Rattle.segment_shared.specs.Offers.{send_call, owed_for, popped_client, SentFor, RefusedSend, IsCauseFor, LacksRoomToSend, LacksMemoryFor}
 use Rattle.segment_shared.proofs.Doors.{known-more, each-more}
 use Rattle.segment_shared.proofs.Fronts.{waits_at, free_is}
 use Rattle.segment_shared.proofs.Holding.{stands-more, state-more}
-use Rattle.segment_shared.proofs.Seats.{id_at, apart, together}
-use Rattle.segment_shared.proofs.Trails.{trail-nil, trail-snoc, made-trail, accepted-append, senders-append}
+use Rattle.segment_shared.proofs.Seats.{apart, together}
+use Rattle.segment_shared.proofs.Trails.{trail-snoc, made-trail, accepted-append, senders-append}
 
 pub owed_by-append : (c : ℕ) (ws : List Owed) (w : Owed) → owed_by c (ws ++ w ∷ []) ≡ owed_by c ws + cond (w.client == c) 1 0
 owed_by-append c [] w = omega arith

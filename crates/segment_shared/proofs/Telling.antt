@@ -1,5 +1,5 @@
 -- What a call tells goes to the clients and ports as they are shown: their lists grow, and nothing else of them changes.
-use Rattle.std.proofs.Common.{◌≡◌, ℕ, zero, suc, ◌+◌, ◌<◌, Bool, true, false, cond, List, [], ◌∷◌, ◌++◌, length, map, set, get_or, refl, sym, ap, ◌∙◌, subst, arith, append-nil}
+use Rattle.std.proofs.Common.{◌≡◌, ℕ, zero, suc, ◌+◌, ◌<◌, true, false, List, [], ◌∷◌, ◌++◌, length, map, set, get_or, refl, ap, ◌∙◌, subst, arith, append-nil}
 use Rattle.port_table.specs.declared.port.PortId.{PortId}
 use Rattle.station_lanes.specs.declared.event.Event.{Event}
 use Rattle.segment_law.specs.Told.{same_port}
@@ -7,7 +7,7 @@ use Rattle.segment_rings.specs.declared.words.Note.{Note}
 use Rattle.segment_rings.specs.declared.words.Delivery.{Delivery}
 use Rattle.segment_rings.specs.Views.{SeatView, DoorView, closed_seat, closed_door}
 use Rattle.segment_rings.specs.Ends.{ClientEnd, InboxEnd}
-use Rattle.segment_shared.specs.Record.{given, notes_of}
+use Rattle.segment_shared.specs.Record.{notes_of}
 use Rattle.segment_shared.specs.Facts.{IdsFrom, NoneAt, PortsApart, note_all, give_all}
 use Rattle.segment_shared.specs.LiveView.{ClientView, PortView, client_of, port_of, port_after, clients_after}
 use Rattle.segment_shared.specs.Reports.{closing, gone, gone_clients, gone_ports}

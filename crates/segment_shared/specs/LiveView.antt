@@ -1,5 +1,5 @@
 -- What a contract sees of a shared segment.
-use Rattle.std.specs.Prelude.{◌≡◌, ℕ, ◌+◌, ◌≤◌, ◌<◌, ◌==◌, Bool, true, false, cond, List, [], ◌∷◌, ◌++◌, length, map, Option, Some, None, slice_index_or, slice_index, ◌⊎◌}
+use Rattle.std.specs.Prelude.{◌≡◌, ℕ, ◌+◌, ◌≤◌, ◌<◌, ◌==◌, Bool, true, false, cond, List, [], ◌∷◌, ◌++◌, length, map, Option, None, slice_index_or, slice_index, ◌⊎◌}
 use Rattle.std.specs.List.{list_any}
 use Rattle.pgn_ids.specs.declared.address.Address.{Address}
 use Rattle.port_table.specs.declared.port.PortId.{PortId}
@@ -7,7 +7,7 @@ use Rattle.segment_law.specs.Record.{StandsAt}
 use Rattle.station_lanes.specs.declared.event.Event.{Event}
 use Rattle.segment_law.specs.Calls.{called, events_of}
 use Rattle.segment_law.specs.declared.call.Call.{Call}
-use Rattle.segment_law.specs.declared.call.Call.TheVariants.{Open, Close}
+use Rattle.segment_law.specs.declared.call.Call.TheVariants.{Open}
 use Rattle.segment_law.specs.declared.reply.Reply.{Reply}
 use Rattle.segment_law.specs.declared.reply.Reply.TheVariants.{Opened, Sent, Refused, Done}
 use Rattle.segment_law.specs.declared.refusal.Refusal.TheVariants.{TraceFull}
@@ -24,7 +24,7 @@ use Rattle.segment_shared.specs.declared.refused.OpenRefused.{OpenRefused}
 use Rattle.segment_shared.specs.declared.refused.OpenRefused.TheVariants as open_refused
 use Rattle.segment_shared.specs.Words.{call_of, wanted_by}
 use Rattle.segment_shared.specs.Places.{times}
-use Rattle.segment_shared.specs.Record.{accepted, given, notes_of, settle_notes, Trail, trail}
+use Rattle.segment_shared.specs.Record.{accepted, given, notes_of, settle_notes, trail}
 
 -- popped, noted: what went out of the client's submissions and into its notes
 pub record ClientView : Type 0 where

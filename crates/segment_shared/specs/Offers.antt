@@ -22,7 +22,7 @@ use Rattle.segment_shared.specs.declared.offer.Front.{Front}
 use Rattle.segment_shared.specs.declared.offer.Front.TheVariants as front
 use Rattle.segment_shared.specs.declared.offer.Ready.{Ready}
 use Rattle.segment_shared.specs.declared.offer.Ready.TheVariants as ready
-use Rattle.segment_shared.specs.Record.{owed_by, Trail, trail}
+use Rattle.segment_shared.specs.Record.{owed_by, trail}
 use Rattle.segment_shared.specs.LiveView.{ClientView, LiveView, SameLive, stored}
 
 -- a submission of the seat is seen in front, and is taken

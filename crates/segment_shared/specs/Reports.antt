@@ -12,7 +12,7 @@ use Rattle.segment_shared.specs.declared.closing.CloseRefused.{CloseRefused}
 use Rattle.segment_shared.specs.declared.closing.CloseRefused.TheVariants as close_refused
 use Rattle.segment_shared.specs.declared.report.ClientReport.{ClientReport}
 use Rattle.segment_shared.specs.declared.report.InboxReport.{InboxReport}
-use Rattle.segment_shared.specs.Record.{accepted, given, notes_of, Trail, trail}
+use Rattle.segment_shared.specs.Record.{accepted, given, notes_of, trail}
 use Rattle.segment_shared.specs.LiveView.{LiveView, ClientView, PortView, stored, calls_after, told_clients}
 
 -- the client is of this segment, and its lists begin and are begun as they are to

@@ -1,4 +1,4 @@
-use Rattle.std.proofs.Common.{◌≡◌, ◌<◌, length, get_or, sym, ap, ◌∙◌, arith, subst}
+use Rattle.std.proofs.Common.{subst}
 use Rattle.segment_rings.specs.Views.{SeatView, SameSeat}
 use Rattle.segment_shared.proofs.Holding.{same_seats-set}
 use Rattle.segment_shared.proofs.offer.look.Goals as goal

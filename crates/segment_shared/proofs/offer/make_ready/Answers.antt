@@ -1,4 +1,4 @@
-use Rattle.std.proofs.Common.{◌≡◌, ℕ, ◌+◌, ◌<◌, ◌≤◌, List, Option, Some, None, length, get_or, refl, sym, ap, ◌∙◌, arith, subst}
+use Rattle.std.proofs.Common.{◌≡◌, ◌+◌, ◌<◌, ◌≤◌, List, Some, None, length, get_or, ap, ◌∙◌, arith, subst}
 use Rattle.segment_rings.specs.Views.{SeatView}
 use Rattle.segment_shared.specs.Record.{owed_by}
 use Rattle.segment_shared.specs.declared.offer.Front.{Front}

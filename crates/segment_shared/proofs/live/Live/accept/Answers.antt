@@ -1,25 +1,20 @@
-use Rattle.std.proofs.Common.{◌≡◌, ℕ, ◌+◌, ◌<◌, ◌≤◌, List, [], ◌∷◌, ◌++◌, length, map, get_or, refl, sym, ap, ◌∙◌, arith, subst, inl, inr, ◌⊎◌, zero-add, true, false, Some, None, IsOk}
-use Rattle.std.proofs.lemmas.List.{get_or_default, get_or-map, length-map}
-use Rattle.pgn_ids.specs.declared.address.Address.{Address}
-use Rattle.segment_law.specs.Segment.{Segment}
+use Rattle.std.proofs.Common.{◌≡◌, ◌+◌, ◌<◌, [], ◌∷◌, ◌++◌, length, map, get_or, refl, sym, ap, ◌∙◌, arith, subst, inl, inr, true, false, Some, None, IsOk}
+use Rattle.std.proofs.lemmas.List.{get_or_default}
 use Rattle.segment_law.specs.Record.{StandsAt}
 use Rattle.segment_law.specs.Calls.{called}
 use Rattle.segment_law.specs.declared.call.Call.{Call}
 use Rattle.segment_law.specs.declared.reply.Reply.{Reply}
 use Rattle.segment_law.specs.declared.reply.Reply.TheVariants.{Opened, Sent, Refused, Done}
 use Rattle.reply_law.specs.Replies.{reply_of, left_by, IsRefusal, IsAnsweredBy, Follows}
-use Rattle.segment_rings.specs.declared.words.Submission.{Submission}
-use Rattle.segment_rings.specs.Views.{SeatView, DoorView, new_seat}
-use Rattle.segment_shared.specs.declared.call.Stored.{Stored}
-use Rattle.segment_shared.specs.declared.call.Owed.{Owed}
+use Rattle.segment_rings.specs.Views.{SeatView, new_seat}
 use Rattle.segment_shared.specs.declared.offer.Ready.{Ready}
-use Rattle.segment_shared.specs.Record.{owed_by, Trail, trail}
+use Rattle.segment_shared.specs.Record.{owed_by, trail}
 use Rattle.segment_shared.specs.Facts.{Holds}
-use Rattle.segment_shared.specs.LiveView.{live_view, client_of, seat_free}
-use Rattle.segment_shared.specs.Offers.{IsReadyToSend, IsSendOf, IsCauseFor, LacksRoomToSend, send_call, owed_for}
+use Rattle.segment_shared.specs.LiveView.{seat_free}
+use Rattle.segment_shared.specs.Offers.{IsReadyToSend, IsCauseFor, LacksRoomToSend, send_call}
 use Rattle.segment_shared.proofs.Trails.{accepted_le}
 use Rattle.segment_shared.proofs.Doors.{same_doors-refl}
-use Rattle.segment_shared.proofs.Fronts.{empty_at, none_at, waits_at, free_is}
+use Rattle.segment_shared.proofs.Fronts.{empty_at, waits_at, free_is}
 use Rattle.segment_shared.proofs.Holding.{holds-same, same_live, on_err, clients-same}
 use Rattle.segment_shared.proofs.Sending.{holds-send, sent_for, refused_send, popped_at, same_front, lacks_memory_for}
 use Rattle.segment_shared.proofs.Openings.{refused_reply}
