@@ -17,19 +17,15 @@ const RECEIVED: [(u64, u32, [u8; 8]); 4] = [
 
 /// One turn of the program's loop at tick `now`: with the frame that was received, where there is one.
 fn turn(rt: &impl Print, station: &mut Station, frame: Option<Frame>, now: u64) -> Result<()> {
-    if let Some(frame) = frame
-        && station.free() > 0
-    {
+    if let Some(frame) = frame {
         show(rt, now, "in ", &frame)?;
         tell(rt, now, &station.take(&frame, true, now)?.events)?;
     }
-    if station.is_due(now) && station.free() > 0 {
+    if station.is_due(now) {
         tell(rt, now, &station.fire(now)?)?;
     }
-    if let Some(to) = station.next_pump(now)
-        && station.pump_refusal(to, now).is_none()
-    {
-        tell(rt, now, &station.pump(to, now))?;
+    if let Some(to) = station.next_pump(now) {
+        tell(rt, now, &station.pump(to, now)?)?;
     }
     for _ in 0..station.queue_len() {
         if let Some(frame) = station.pop() {

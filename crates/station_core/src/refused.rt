@@ -5,6 +5,7 @@ ghost use Rattle.station_core.specs.declared.refused.FiringRefused.TheVariants a
 
 use lane_core::Bytes;
 use std::alloc::AllocError;
+use thiserror::Error;
 
 /// Why a message isn't sent.
 #[derive(Clone, Copy, Debug, PartialEq, Eq)]
@@ -33,42 +34,52 @@ pub struct SendingRefused {
 }
 
 /// Why a frame isn't taken.
-#[derive(Clone, Copy, Debug, PartialEq, Eq)]
+#[derive(Clone, Copy, Debug, PartialEq, Eq, Error)]
 pub enum TakingRefused {
     /// No place of the queue is free for an answer.
+    #[error("no place of the queue is free")]
     TxFull,
     /// There is no memory.
+    #[error("out of memory")]
     OutOfMemory,
 }
 
 /// Why no timer fires.
-#[derive(Clone, Copy, Debug, PartialEq, Eq)]
+#[derive(Clone, Copy, Debug, PartialEq, Eq, Error)]
 pub enum FiringRefused {
     /// None is due.
+    #[error("no timer is due")]
     NothingDue,
     /// No place of the queue is free for the frame that it queues.
+    #[error("no place of the queue is free")]
     TxFull,
     /// There is no memory.
+    #[error("out of memory")]
     OutOfMemory,
 }
 
 /// Why nothing is queued to a destination.
-#[derive(Clone, Copy, Debug, PartialEq, Eq)]
+#[derive(Clone, Copy, Debug, PartialEq, Eq, Error)]
 pub enum PumpingRefused {
     /// No message is pending, or it awaits a frame of its destination.
+    #[error("nothing is to be sent to the destination")]
     NothingToSend,
     /// The lane waits only for the 50 ticks between the frames of a broadcast message.
+    #[error("the next frame of the broadcast message comes too soon")]
     NotYet,
     /// Less than eight places of the queue are free.
+    #[error("less than eight places of the queue are free")]
     TxFull,
 }
 
 /// Why a message isn't cancelled.
-#[derive(Clone, Copy, Debug, PartialEq, Eq)]
+#[derive(Clone, Copy, Debug, PartialEq, Eq, Error)]
 pub enum CancellingRefused {
     /// No message with this number is without an outcome.
+    #[error("no such message is without an outcome")]
     NothingToSend,
     /// Its connection is under way, and no place of the queue is free for the abort.
+    #[error("no place of the queue is free")]
     TxFull,
 }
 
