@@ -107,46 +107,46 @@ module _ (laws : Laws) (choose : machine.OnEachLane (λ lane. IsChoice lane.stre
 
     pub transmits_good : (station : Address) (f : CanFrame) → front st.queue ≡ Some f → GoodBy laws s d pair seg (Transmit station) (with_frame (with_station seg i (record st { queue = behind st.queue })) f, Done [])
     transmits_good station f e = good_step laws s d pair seg r i st at seg.now (bus.put seg.bus f) (counted_frame seg.counts) (quietly new) [] none_opened [] (tells_none s d st.address) (turns_none laws s d pair seg r i st at new refl) (λ x y g l at_x at_y h. record {
-          sends = λ q.
-              let mine : st.address.0 ≡ s.0 = is_of laws s d pair seg r i st at x s at_x q in
-              let lx : x < length seg.bus.cursors = cursor_of seg r x s at_x in
-              let ly : y < length seg.bus.cursors = cursor_of seg r y d at_y in
-              let st_is : in_place x ≡ st = at_it laws s d pair seg r i st at x q in
-              let none : returns s d f ≡ None = returns_foreign s d f (λ z. pair.apart (sym mine ∙ sym from ∙ z)) in
-              let forward : filter_map (goes s d) (ahead_of (bus.put seg.bus f) y ++ drop 1 st.queue) ≡ filter_map (goes s d) (ahead_of seg.bus y ++ (in_place x).queue) =
-              ap (λ fs. filter_map (goes s d) (fs ++ drop 1 st.queue)) (put_ahead seg.bus y f sound ly) ∙ ap (filter_map (goes s d)) (append_assoc (ahead_of seg.bus y) (f ∷ []) (drop 1 st.queue)) ∙ ap (λ fs. filter_map (goes s d) (ahead_of seg.bus y ++ fs)) (sym (queue_front st.queue f e) ∙ sym (ap (λ (z : Station). z.queue) st_is)) in
-              let answers : filter_map (returns s d) (ahead_of (bus.put seg.bus f) x ++ (in_place y).queue) ≡ filter_map (returns s d) (ahead_of seg.bus x ++ (in_place y).queue) =
-              ap (λ fs. filter_map (returns s d) (fs ++ (in_place y).queue)) (put_ahead seg.bus x f sound lx) ∙ none_between (returns s d) (ahead_of seg.bus x) (in_place y).queue f none in
-              goes_quietly laws s d pair new (in_place y) (bus.put seg.bus f) x y g l
-              (subst (Still s d l) (sym (λ k. (let w : View = record (view laws s d pair x y seg g) {
-                lane = Rattle.station_lanes.specs.LaneCalls.lane_to s (sym st_is k).lanes d.0;
-                forward = forward k;
-                again = filter_map (goes s d) (option_to_list (put_again seg.bus y f sound ly k));
-                answers = answers k;
-                heard = filter_map (returns s d) (option_to_list (put_again seg.bus x f sound lx k));
-              } in w))) (still_same s d l _ h));
-          receives = λ q.
-              let mine : st.address.0 ≡ d.0 = is_of laws s d pair seg r i st at y d at_y q in
-              let lx : x < length seg.bus.cursors = cursor_of seg r x s at_x in
-              let ly : y < length seg.bus.cursors = cursor_of seg r y d at_y in
-              let st_is : in_place y ≡ st = at_it laws s d pair seg r i st at y q in
-              let none : goes s d f ≡ None = goes_foreign s d f (λ z. pair.apart (sym z ∙ from ∙ mine)) in
-              let forward : filter_map (goes s d) (ahead_of (bus.put seg.bus f) y ++ (in_place x).queue) ≡ filter_map (goes s d) (ahead_of seg.bus y ++ (in_place x).queue) =
-              ap (λ fs. filter_map (goes s d) (fs ++ (in_place x).queue)) (put_ahead seg.bus y f sound ly) ∙ none_between (goes s d) (ahead_of seg.bus y) (in_place x).queue f none in
-              let answers : filter_map (returns s d) (ahead_of (bus.put seg.bus f) x ++ drop 1 st.queue) ≡ filter_map (returns s d) (ahead_of seg.bus x ++ (in_place y).queue) =
-              ap (λ fs. filter_map (returns s d) (fs ++ drop 1 st.queue)) (put_ahead seg.bus x f sound lx) ∙ ap (filter_map (returns s d)) (append_assoc (ahead_of seg.bus x) (f ∷ []) (drop 1 st.queue)) ∙ ap (λ fs. filter_map (returns s d) (ahead_of seg.bus x ++ fs)) (sym (queue_front st.queue f e) ∙ sym (ap (λ (z : Station). z.queue) st_is)) in
-              goes_quietly laws s d pair (in_place x) new (bus.put seg.bus f) x y g l
-              (subst (Still s d l) (sym (λ k. (let w : View = record (view laws s d pair x y seg g) {
-                forward = forward k;
-                again = filter_map (goes s d) (option_to_list (put_again seg.bus y f sound ly k));
-                answers = answers k;
-                heard = filter_map (returns s d) (option_to_list (put_again seg.bus x f sound lx k));
-                tp = real_at laws s d pair (sym st_is k).sessions Tp;
-                etp = real_at laws s d pair (sym st_is k).sessions Etp;
-              } in w))) (still_same s d l _ h));
-          other = λ n m. goes_quietly laws s d pair (in_place x) (in_place y) (bus.put seg.bus f) x y g l
-              (subst (Still s d l) (sym (put_is seg r f (in_place x) (in_place y) x y g at_x at_y (goes_foreign s d f (λ z. n (is_here laws s d pair seg r i st at x s at_x (sym from ∙ z)))) (returns_foreign s d f (λ z. m (is_here laws s d pair seg r i st at y d at_y (sym from ∙ z)))))) (still_same s d l _ h));
-        })
+      sends = λ q.
+          let mine : st.address.0 ≡ s.0 = is_of laws s d pair seg r i st at x s at_x q in
+          let lx : x < length seg.bus.cursors = cursor_of seg r x s at_x in
+          let ly : y < length seg.bus.cursors = cursor_of seg r y d at_y in
+          let st_is : in_place x ≡ st = at_it laws s d pair seg r i st at x q in
+          let none : returns s d f ≡ None = returns_foreign s d f (λ z. pair.apart (sym mine ∙ sym from ∙ z)) in
+          let forward : filter_map (goes s d) (ahead_of (bus.put seg.bus f) y ++ drop 1 st.queue) ≡ filter_map (goes s d) (ahead_of seg.bus y ++ (in_place x).queue) =
+          ap (λ fs. filter_map (goes s d) (fs ++ drop 1 st.queue)) (put_ahead seg.bus y f sound ly) ∙ ap (filter_map (goes s d)) (append_assoc (ahead_of seg.bus y) (f ∷ []) (drop 1 st.queue)) ∙ ap (λ fs. filter_map (goes s d) (ahead_of seg.bus y ++ fs)) (sym (queue_front st.queue f e) ∙ sym (ap (λ (z : Station). z.queue) st_is)) in
+          let answers : filter_map (returns s d) (ahead_of (bus.put seg.bus f) x ++ (in_place y).queue) ≡ filter_map (returns s d) (ahead_of seg.bus x ++ (in_place y).queue) =
+          ap (λ fs. filter_map (returns s d) (fs ++ (in_place y).queue)) (put_ahead seg.bus x f sound lx) ∙ none_between (returns s d) (ahead_of seg.bus x) (in_place y).queue f none in
+          goes_quietly laws s d pair new (in_place y) (bus.put seg.bus f) x y g l
+          (subst (Still s d l) (sym (λ k. (let w : View = record (view laws s d pair x y seg g) {
+            lane = Rattle.station_lanes.specs.LaneCalls.lane_to s (sym st_is k).lanes d.0;
+            forward = forward k;
+            again = filter_map (goes s d) (option_to_list (put_again seg.bus y f sound ly k));
+            answers = answers k;
+            heard = filter_map (returns s d) (option_to_list (put_again seg.bus x f sound lx k));
+          } in w))) (still_same s d l _ h));
+      receives = λ q.
+          let mine : st.address.0 ≡ d.0 = is_of laws s d pair seg r i st at y d at_y q in
+          let lx : x < length seg.bus.cursors = cursor_of seg r x s at_x in
+          let ly : y < length seg.bus.cursors = cursor_of seg r y d at_y in
+          let st_is : in_place y ≡ st = at_it laws s d pair seg r i st at y q in
+          let none : goes s d f ≡ None = goes_foreign s d f (λ z. pair.apart (sym z ∙ from ∙ mine)) in
+          let forward : filter_map (goes s d) (ahead_of (bus.put seg.bus f) y ++ (in_place x).queue) ≡ filter_map (goes s d) (ahead_of seg.bus y ++ (in_place x).queue) =
+          ap (λ fs. filter_map (goes s d) (fs ++ (in_place x).queue)) (put_ahead seg.bus y f sound ly) ∙ none_between (goes s d) (ahead_of seg.bus y) (in_place x).queue f none in
+          let answers : filter_map (returns s d) (ahead_of (bus.put seg.bus f) x ++ drop 1 st.queue) ≡ filter_map (returns s d) (ahead_of seg.bus x ++ (in_place y).queue) =
+          ap (λ fs. filter_map (returns s d) (fs ++ drop 1 st.queue)) (put_ahead seg.bus x f sound lx) ∙ ap (filter_map (returns s d)) (append_assoc (ahead_of seg.bus x) (f ∷ []) (drop 1 st.queue)) ∙ ap (λ fs. filter_map (returns s d) (ahead_of seg.bus x ++ fs)) (sym (queue_front st.queue f e) ∙ sym (ap (λ (z : Station). z.queue) st_is)) in
+          goes_quietly laws s d pair (in_place x) new (bus.put seg.bus f) x y g l
+          (subst (Still s d l) (sym (λ k. (let w : View = record (view laws s d pair x y seg g) {
+            forward = forward k;
+            again = filter_map (goes s d) (option_to_list (put_again seg.bus y f sound ly k));
+            answers = answers k;
+            heard = filter_map (returns s d) (option_to_list (put_again seg.bus x f sound lx k));
+            tp = real_at laws s d pair (sym st_is k).sessions Tp;
+            etp = real_at laws s d pair (sym st_is k).sessions Etp;
+          } in w))) (still_same s d l _ h));
+      other = λ n m. goes_quietly laws s d pair (in_place x) (in_place y) (bus.put seg.bus f) x y g l
+          (subst (Still s d l) (sym (put_is seg r f (in_place x) (in_place y) x y g at_x at_y (goes_foreign s d f (λ z. n (is_here laws s d pair seg r i st at x s at_x (sym from ∙ z)))) (returns_foreign s d f (λ z. m (is_here laws s d pair seg r i st at y d at_y (sym from ∙ z)))))) (still_same s d l _ h));
+    })
       where
         new : Station
         new = record st { queue = behind st.queue }

@@ -147,9 +147,9 @@ module _ (laws : Laws) (choose : machine.OnEachLane (λ lane. IsChoice lane.stre
 
   pub fires_good : (station : Address) → GoodBy laws s d pair seg (Fire station) (stepped seg i (fired st seg.now))
   fires_good station = good_plain (counted seg.counts (fired st seg.now).events) (fired st seg.now) none_opened (turns_none laws s d pair seg r i st at (fired st seg.now).station (fired_ports st seg.now)) (tells_fire s d st.address st own seg.now) (record {
-        out = λ k v l ahead is h. sender_fires laws s d pair v ahead l st k is h seg.now;
-        in_it = λ k v l behind is h. receiver_fires laws choose s d pair v behind l st k is h seg.now;
-      })
+    out = λ k v l ahead is h. sender_fires laws s d pair v ahead l st k is h seg.now;
+    in_it = λ k v l behind is h. receiver_fires laws choose s d pair v behind l st k is h seg.now;
+  })
 
   pub pumps_good : (station to : Address) → GoodBy laws s d pair seg (Pump station to) (stepped seg i (pumped st to seg.now))
   pumps_good station to = good_plain (counted seg.counts (pumped st to seg.now).events) (pumped st to seg.now) none_opened (turns_none laws s d pair seg r i st at (pumped st to seg.now).station refl) (tells_lane s d st.address st own to (λ l. Rattle.lane_core.specs.Pump.pumped l seg.now)) (record {
