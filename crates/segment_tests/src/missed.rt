@@ -2,7 +2,7 @@
 use crate::memory::*;
 use pgn_ids::Pgn;
 use segment_core::*;
-use std::alloc::Global;
+use std::alloc::{AllocError, Global};
 use std::process::Abort;
 use std::test::Fail;
 
@@ -61,6 +61,20 @@ fn with_missed_frame(rt: &impl Abort, alloc: Global, missed: u32) -> Result<Segm
     Ok(segment)
 }
 
+// So many frames are put, unless memory is refused.
+fn driven(rt: &impl Abort, segment: &mut Segment, turns: u64) -> Result<(), Fail> {
+    let driven = drive(segment, turns);
+    if driven.end == DriveEnd::OutOfMemory {
+        no_memory()?;
+    }
+    assert_eq!(rt; driven.turns, turns);
+    Ok(())
+}
+
+fn no_memory() -> Result<(), AllocError> {
+    Err(AllocError)
+}
+
 #[test]
 fn one_missed_frame_ends_the_message_and_no_other(rt: HostRuntime) -> Result<(), Fail> {
     let alloc = rt.alloc();
@@ -74,7 +88,7 @@ fn one_missed_frame_ends_the_message_and_no_other(rt: HostRuntime) -> Result<(),
         assert_eq!(rt; counts(&segment).timed_out, 1);
         sent(&rt, alloc, &mut segment, 9)?;
         // The abort, the Request and its answer, and five frames of the message.
-        assert_eq!(rt; drive(&mut segment, 8).turns, 8);
+        driven(&rt, &mut segment, 8)?;
         assert_eq!(rt; counts(&segment).acknowledged, 1);
         assert_eq!(rt; counts(&segment).given, 1);
     }
@@ -87,7 +101,7 @@ fn missed_end_acknowledgement_of_its_own_is_none(rt: HostRuntime) -> Result<(), 
     let mut segment = with_missed_frame(&rt, alloc, 273)?;
     assert_eq!(rt; counts(&segment).acknowledged, 1);
     sent(&rt, alloc, &mut segment, 9)?;
-    assert_eq!(rt; drive(&mut segment, 5).turns, 5);
+    driven(&rt, &mut segment, 5)?;
     assert_eq!(rt; counts(&segment).acknowledged, 2);
     Ok(())
 }
