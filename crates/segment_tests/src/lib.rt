@@ -2,11 +2,15 @@
 #![tactic(auto)]
 
 #[cfg(test)]
+mod calls;
+#[cfg(test)]
 mod commands;
 #[cfg(test)]
 mod memory;
 #[cfg(test)]
 mod missed;
+#[cfg(test)]
+mod pairs;
 #[cfg(test)]
 mod refusals;
 #[cfg(test)]

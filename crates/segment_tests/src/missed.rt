@@ -1,8 +1,8 @@
 //! A message of 255 packets of which the receiver misses one frame, whichever it is.
-use crate::memory::*;
+use crate::calls::*;
 use pgn_ids::Pgn;
 use segment_core::*;
-use std::alloc::{AllocError, Global};
+use std::alloc::Global;
 use std::process::Abort;
 use std::test::Fail;
 
@@ -62,17 +62,9 @@ fn with_missed_frame(rt: &impl Abort, alloc: Global, missed: u32) -> Result<Segm
 }
 
 // So many frames are put, unless memory is refused.
-fn driven(rt: &impl Abort, segment: &mut Segment, turns: u64) -> Result<(), Fail> {
-    let driven = drive(segment, turns);
-    if driven.end == DriveEnd::OutOfMemory {
-        no_memory()?;
-    }
-    assert_eq!(rt; driven.turns, turns);
+fn puts_frames(rt: &impl Abort, segment: &mut Segment, count: u64) -> Result<(), Fail> {
+    assert_eq!(rt; driven(segment, A, B, count)?.turns, count);
     Ok(())
-}
-
-fn no_memory() -> Result<(), AllocError> {
-    Err(AllocError)
 }
 
 #[test]
@@ -88,7 +80,7 @@ fn one_missed_frame_ends_the_message_and_no_other(rt: HostRuntime) -> Result<(),
         assert_eq!(rt; counts(&segment).timed_out, 1);
         sent(&rt, alloc, &mut segment, 9)?;
         // The abort, the Request and its answer, and five frames of the message.
-        driven(&rt, &mut segment, 8)?;
+        puts_frames(&rt, &mut segment, 8)?;
         assert_eq!(rt; counts(&segment).acknowledged, 1);
         assert_eq!(rt; counts(&segment).given, 1);
     }
@@ -101,7 +93,7 @@ fn missed_end_acknowledgement_of_its_own_is_none(rt: HostRuntime) -> Result<(), 
     let mut segment = with_missed_frame(&rt, alloc, 273)?;
     assert_eq!(rt; counts(&segment).acknowledged, 1);
     sent(&rt, alloc, &mut segment, 9)?;
-    driven(&rt, &mut segment, 5)?;
+    puts_frames(&rt, &mut segment, 5)?;
     assert_eq!(rt; counts(&segment).acknowledged, 2);
     Ok(())
 }

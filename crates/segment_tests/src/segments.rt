@@ -1,17 +1,14 @@
 //! Exchanges between stations 21 and 35. A test ends where a call finds no memory.
+use crate::calls::*;
 use bus_frame::{CanId, Frame};
 use pgn_ids::{Address, Pgn};
 use segment_core::*;
-use std::alloc::{AllocError, Global};
+use std::alloc::Global;
 use std::process::Abort;
 use std::test::Fail;
 use tp_wire::Outcome;
 
 const M9: [u8; 9] = [1, 2, 3, 4, 5, 6, 7, 8, 9];
-
-const A: Address = Address(0x21);
-
-const B: Address = Address(0x35);
 
 const PORT: PortId = PortId {
     station: B,
@@ -40,19 +37,7 @@ fn frame_of(shown: (u32, [u8; 8])) -> Result<Frame, Fail> {
     Ok(Frame::full(CanId::new(shown.0)?, shown.1))
 }
 
-// Calls of which a test only looks at the answer: their contracts are not carried through it.
-fn drive(segment: &mut Segment, to: Address, turns: u64) -> Driven {
-    segment.drive(A, to, turns)
-}
-
-fn run(segment: &mut Segment, calls: Vec<Call>) -> Ran {
-    segment.run(calls)
-}
-
-fn is_idle(segment: &Segment) -> bool {
-    segment.is_idle()
-}
-
+// Readers of which a test only looks at the answer.
 fn open_refusal(segment: &Segment, station: Address) -> Option<Refusal> {
     segment.open_refusal(station)
 }
@@ -152,13 +137,6 @@ const PUMP: Call = Call::Pump {
     to: Address::GLOBAL,
 };
 
-const TRANSMIT: Call = Call::Transmit { station: A };
-
-const TAKE: Call = Call::Take {
-    station: B,
-    room: true,
-};
-
 // A frame of the broadcast is queued, put and taken, and 50 ticks go by.
 fn one_frame(
     rt: &impl Abort,
@@ -168,8 +146,8 @@ fn one_frame(
     given: &str,
 ) -> Result<(), Fail> {
     tells(rt, alloc, segment, PUMP, told)?;
-    tells(rt, alloc, segment, TRANSMIT, "")?;
-    tells(rt, alloc, segment, TAKE, given)?;
+    tells(rt, alloc, segment, TRANSMIT_A, "")?;
+    tells(rt, alloc, segment, TAKE_B, given)?;
     tells(rt, alloc, segment, Call::Tick { n: 50 }, "")
 }
 
@@ -230,7 +208,7 @@ fn drove(
 fn driven_broadcast(rt: HostRuntime) -> Result<(), Fail> {
     let alloc = rt.alloc();
     let mut segment = with_message(&rt, alloc, Address::GLOBAL)?;
-    let driven = drive(&mut segment, Address::GLOBAL, 3);
+    let driven = driven(&mut segment, A, Address::GLOBAL, 3)?;
     assert_eq!(rt; driven.end, DriveEnd::Turns);
     let told = "outcome 255 1 Broadcast;given 1 33 255 [1, 2, 3, 4, 5, 6, 7, 8, 9];";
     drove(&rt, alloc, driven, &BROADCAST, told)?;
@@ -242,7 +220,7 @@ fn driven_broadcast(rt: HostRuntime) -> Result<(), Fail> {
 fn driven_connection(rt: HostRuntime) -> Result<(), Fail> {
     let alloc = rt.alloc();
     let mut segment = with_message(&rt, alloc, B)?;
-    let driven = drive(&mut segment, B, 9);
+    let driven = driven(&mut segment, A, B, 9)?;
     assert_eq!(rt; driven.end, DriveEnd::Idle);
     let told = "given 1 33 53 [1, 2, 3, 4, 5, 6, 7, 8, 9];outcome 53 1 Acknowledged;";
     drove(&rt, alloc, driven, &CONNECTION, told)?;
@@ -265,8 +243,8 @@ fn refusals(rt: HostRuntime) -> Result<(), Fail> {
     assert!(rt; Segment::new(alloc, &[A, A]).is_err());
     let mut segment = with_port(&rt, alloc)?;
     refuses(&rt, &mut segment, PUMP, Refusal::NothingToSend)?;
-    refuses(&rt, &mut segment, TRANSMIT, Refusal::NothingToSend)?;
-    refuses(&rt, &mut segment, TAKE, Refusal::NothingToTake)?;
+    refuses(&rt, &mut segment, TRANSMIT_A, Refusal::NothingToSend)?;
+    refuses(&rt, &mut segment, TAKE_B, Refusal::NothingToTake)?;
     let again = Call::TakeAgain {
         station: B,
         room: true,
@@ -296,8 +274,8 @@ fn readers(rt: HostRuntime) -> Result<(), Fail> {
     );
     assert!(rt; !is_idle(&segment));
     assert_eq!(rt; segment.next_pump(A), Some(B));
-    assert_eq!(rt; drive(&mut segment, B, 3).turns, 3);
-    tells(&rt, alloc, &mut segment, TRANSMIT, "")?;
+    assert_eq!(rt; driven(&mut segment, A, B, 3)?.turns, 3);
+    tells(&rt, alloc, &mut segment, TRANSMIT_A, "")?;
     // The last packet waits for 35.
     assert_eq!(rt; segment.queue_len(A), 0);
     assert!(rt; segment.front(A).is_none());
@@ -315,9 +293,9 @@ fn calls_as_one_list(rt: HostRuntime) -> Result<(), Fail> {
     let mut segment = with_message(&rt, alloc, Address::GLOBAL)?;
     let mut calls = Vec::new(alloc);
     calls.push(PUMP)?;
-    calls.push(TRANSMIT)?;
-    calls.push(TAKE)?;
-    let ran = run(&mut segment, calls);
+    calls.push(TRANSMIT_A)?;
+    calls.push(TAKE_B)?;
+    let ran = ran(&mut segment, calls)?;
     assert_eq!(rt; ran.replies.len(), 3);
     assert_eq!(rt; ran.end, RunEnd::All);
     Ok(())

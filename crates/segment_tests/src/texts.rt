@@ -1,4 +1,5 @@
 //! Each line with its exact text. A test ends where memory is refused.
+use crate::calls::*;
 use bus_frame::{CanId, Frame};
 use lane_core::Bytes;
 use pgn_ids::{Address, Pgn};
@@ -8,10 +9,6 @@ use segment_core::{Call, Event, Events, Refusal, Reply, Segment};
 use std::alloc::AllocError;
 use std::test::Fail;
 use tp_wire::Outcome;
-
-const A: Address = Address(0x21);
-
-const B: Address = Address(0x35);
 
 const PORT: PortId = PortId {
     station: B,
@@ -86,18 +83,13 @@ fn frames_and_events_have_their_lines(rt: HostRuntime) -> Result<(), Fail> {
     Ok(())
 }
 
-// Calls of which the test only looks at what is printed: their contracts are not carried through it.
-fn apply(segment: &mut Segment, call: Call) -> Result<Reply, AllocError> {
-    segment.apply(call)
-}
-
 fn prints_drive(
     out: &mut Vec<u8>,
     segment: &mut Segment,
     from: Address,
     turns: u64,
 ) -> Result<(), AllocError> {
-    print_driven(out, segment.drive(from, B, turns))
+    print_driven(out, driven(segment, from, B, turns)?)
 }
 
 #[test]
