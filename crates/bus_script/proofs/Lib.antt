@@ -1,3 +1,1 @@
-pub mod Known
-pub mod LineFronts
 pub mod RunSteps

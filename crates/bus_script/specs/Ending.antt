@@ -1,13 +1,14 @@
 -- How a run of a script ended.
 use Rattle.std.specs.Prelude.{◌≡◌, ℕ, List, ◌++◌, false, Option, Some, None, codes}
 use Rattle.std.specs.Fmt.{decimal}
-use Rattle.std.specs.Io.KnownBytes.{Appends, append_known}
+use Rattle.std.specs.Io.KnownBytes.{Appends}
 use Rattle.script_commands.specs.Faults.{fault_text}
 use Rattle.bus_script.specs.Script.{Outcome}
 use Rattle.script_commands.specs.declared.fault.LineError.{LineError}
 use Rattle.script_commands.specs.declared.fault.LineError.TheVariants as errors
-use Rattle.bus_script.specs.declared.lines.ReadError.{ReadError}
-use Rattle.bus_script.specs.declared.lines.ReadError.TheVariants as reads
+use Rattle.script_lines.specs.Known.{IsFront}
+use Rattle.script_lines.specs.declared.lines.ReadError.{ReadError}
+use Rattle.script_lines.specs.declared.lines.ReadError.TheVariants as reads
 use Rattle.bus_script.specs.declared.running.Cause.{Cause}
 use Rattle.bus_script.specs.declared.running.Cause.TheVariants as causes
 use Rattle.bus_script.specs.declared.running.ScriptFault.{ScriptFault}
@@ -22,10 +23,6 @@ cause_of (errors.Fault f) = causes.Fault f
 abbrev pub read_cause : ReadError → Cause
 read_cause reads.Failed = causes.ReadFailed
 read_cause reads.OutOfMemory = causes.OutOfMemory
-
--- a front of the text was written
-abbrev pub IsFront : Option (List ℕ) → Option (List ℕ) → List ℕ → Type 0
-IsFront a b text = (more : List ℕ) × Appends a (append_known b more) text
 
 abbrev pub EndedByCause : ℕ → Cause → Option (List ℕ) → Option (List ℕ) → Outcome → Type 0
 EndedByCause n (causes.Fault f) a b o = Appends a b o.text × (o.fault ≡ Some (n, f))

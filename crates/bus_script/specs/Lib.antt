@@ -1,4 +1,2 @@
-pub mod Lines
-pub mod Known
 pub mod Script
 pub mod Ending

@@ -1,5 +1,5 @@
 -- What a script prints, line by line, up to its fault.
-use Rattle.std.specs.Prelude.{◌≡◌, ℕ, ◌+◌, List, [], ◌∷◌, ◌++◌, length, Bool, true, ◌&&◌, ◌||◌, Option, Some, None, Result, Ok, Err, nat_lt, if◌then◌else◌, codes}
+use Rattle.std.specs.Prelude.{◌≡◌, ℕ, ◌+◌, List, [], ◌∷◌, ◌++◌, length, Bool, true, ◌||◌, Option, Some, None, Result, Ok, Err, nat_lt, if◌then◌else◌, codes}
 use Rattle.bus_frame.specs.Frames.{CanFrame}
 use Rattle.pgn_ids.specs.declared.address.Address.{Address}
 use Rattle.segment_law.specs.Segment.{Segment, are_addresses, new_segment}
@@ -14,8 +14,9 @@ use Rattle.segment_law.specs.declared.reply.Reply.TheVariants.{Done}
 use Rattle.script_commands.specs.Words.{words_of}
 use Rattle.script_commands.specs.Values.{◌>>=◌}
 use Rattle.script_commands.specs.Commands.{command_of}
+use Rattle.script_commands.specs.Faults.{limit_fault}
 use Rattle.script_commands.specs.declared.fault.Fault.{Fault}
-use Rattle.script_commands.specs.declared.fault.Fault.TheVariants.{TooManyLines, LineTooLong, NotAscii, NoStations, StationsTwice}
+use Rattle.script_commands.specs.declared.fault.Fault.TheVariants.{NotAscii, NoStations, StationsTwice}
 use Rattle.script_commands.specs.declared.command.Command.{Command}
 use Rattle.script_commands.specs.declared.command.Command.TheVariants as commands
 use Rattle.script_commands.specs.declared.fault.LineError.{LineError}
@@ -23,13 +24,9 @@ use Rattle.script_commands.specs.declared.fault.LineError.TheVariants as errors
 use Rattle.script_text.specs.Parts.{line}
 use Rattle.script_text.specs.Replies.{refusal_text, reply_line, put_line, event_lines, drive_lines}
 use Rattle.script_text.specs.Counts.{counts_line}
-use Rattle.bus_script.specs.Lines.{lines_of}
+use Rattle.script_lines.specs.Lines.{lines_of, is_ascii}
 use Rattle.bus_script.specs.declared.obeying.Told.{Told}
 use Rattle.bus_script.specs.declared.obeying.Told.TheVariants.{Answered, NoMemory}
-
-abbrev pub is_ascii : List ℕ → Bool
-is_ascii [] = true
-is_ascii (b ∷ bs) = nat_lt b 128 && is_ascii bs
 
 -- the segment afterwards, where there is one, and what is printed
 abbrev pub Step : Type 0
@@ -88,9 +85,6 @@ obey_words s (name ∷ words) = do
 
 unfoldable pub obey_line : Option Segment → List ℕ → Step
 obey_line s text = if is_ascii text then obey_words s (words_of text) else Err NotAscii
-
-abbrev pub limit_fault : ℕ → Fault
-limit_fault n = if nat_lt 1000000 n then TooManyLines else LineTooLong
 
 -- line n of a script, within the limits
 unfoldable pub numbered_line : Option Segment → ℕ → List ℕ → Step

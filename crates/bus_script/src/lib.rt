@@ -2,10 +2,8 @@
 //! before the next line is read.
 #![tactic(auto)]
 
-mod lines;
 mod obeying;
 mod running;
-mod writing;
 
 pub use running::{Cause, Ran, ScriptFault, run_script};
 pub use script_commands::Fault;

@@ -1,11 +1,12 @@
 //! What a line does, and what is printed for it.
 ghost use Rattle.std.specs.Prelude.{◌≡◌, ◌++◌, OnOk};
 ghost use Rattle.script_commands.specs.Words.{texts};
-ghost use Rattle.bus_script.specs.Script.{Obeyed, is_ascii, frame_put, optional_put, made, called, drove, on_segment, perform, obey_words, obey_line};
+ghost use Rattle.bus_script.specs.Script.{Obeyed, frame_put, optional_put, made, called, drove, on_segment, perform, obey_words, obey_line};
 
 use bus_frame::Frame;
 use pgn_ids::Address;
 use script_commands::{Addresses, Command, Fault, LineError, read_command, split_words};
+use script_lines::is_ascii;
 use script_text::{
     print_counts, print_driven, print_events, print_put, print_refused, print_reply, print_text,
 };
@@ -19,17 +20,6 @@ pub(crate) enum Told {
     Answered,
     /// Its call found no memory, and `no memory` is printed.
     NoMemory,
-}
-
-fn is_ascii(line: &[u8]) -> bool
-    ensures { result ≡ is_ascii line.now }
-{
-    for byte in line {
-        if *byte >= 128 {
-            return false;
-        }
-    }
-    true
 }
 
 /// The frame that a call puts on the bus where it is done.

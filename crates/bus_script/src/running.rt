@@ -1,13 +1,11 @@
 //! A script, read and obeyed line by line.
-ghost use Rattle.std.specs.Prelude.{◌≡◌, ℕ, ◌≤◌, ◌<◌, IfSome, Some, None, ◌↔◌, MatchResult, Option};
-ghost use Rattle.std.specs.Io.KnownBytes.{Appends};
-ghost use Rattle.bus_script.specs.Script.{or_refused, limit_fault, outcome};
-ghost use Rattle.bus_script.specs.Ending.{cause_of, read_cause, Ended, IsFront, fault_line, status_of};
+ghost use Rattle.std.specs.Prelude.{◌≡◌, ℕ, ◌≤◌, ◌<◌, IfSome, Some, None, ◌↔◌, Option};
+ghost use Rattle.bus_script.specs.Script.{or_refused, outcome};
+ghost use Rattle.bus_script.specs.Ending.{cause_of, read_cause, Ended, fault_line, status_of};
 
-use crate::lines::{LineRead, ReadError, read_line};
 use crate::obeying::{Told, obey_line};
-use crate::writing::put_all;
-use script_commands::{Fault, LineError};
+use script_commands::{Fault, LineError, MAX_LINES, limit_fault};
+use script_lines::{LineRead, ReadError, read_line, tell};
 use std::alloc::Global;
 use std::fmt;
 use std::io::{Read, Write};
@@ -41,9 +39,6 @@ pub struct Ran {
     pub memory_refused: bool,
 }
 
-/// The most lines that a script may have.
-const MAX_LINES: u64 = 1_000_000;
-
 impl Told {
     /// Whether this or an earlier call was refused memory.
     fn or_refused(self, earlier: bool) -> bool
@@ -53,17 +48,6 @@ impl Told {
             Told::Answered => earlier,
             Told::NoMemory => true,
         }
-    }
-}
-
-/// The fault of a line that is too long.
-fn limit_fault(line: u64) -> Fault
-    ensures { result ≡ limit_fault line }
-{
-    if line > MAX_LINES {
-        Fault::TooManyLines
-    } else {
-        Fault::LineTooLong
     }
 }
 
@@ -92,24 +76,6 @@ fn failed(line: u64, cause: Cause, memory_refused: bool) -> Ran
         fault: Some(ScriptFault { line, cause }),
         memory_refused,
     }
-}
-
-/// Writes a text at once and flushes it, so that who reads it has it before the next line is read.
-#[tactic(auto, using(crate::proofs::Known::front_of_part, crate::proofs::Known::front_of_all, crate::proofs::Known::appends_keeps))]
-fn tell<W: Write>(writer: &mut W, text: &[u8]) -> Result<(), ()>
-    ensures { MatchResult result (λ _. Appends (W.contents writer.old) (W.contents writer.new) text.now)
-        (λ _. IsFront (W.contents writer.old) (W.contents writer.new) text.now) }
-{
-    if text.is_empty() {
-        return Ok(());
-    }
-    let Ok(()) = put_all(writer, text) else {
-        return Err(());
-    };
-    let Ok(()) = writer.flush() else {
-        return Err(());
-    };
-    Ok(())
 }
 
 /// Runs a script: reads its lines to the end of the input, obeys each, and writes and flushes what is printed for it before

@@ -1,16 +1,83 @@
 //! The command line of the program, read by `clap`.
 #![tactic(auto)]
 
-use clap::{Command, Error};
+use clap::{Arg, ArgAction, Command, Error, value_parser};
 use std::alloc::Global;
 
-/// Reads the words of a command line, of which the first names the program.
-///
-/// There is nothing to choose yet: whatever else is asked for is refused, and so are help and the version, whose text is the error.
-pub fn read_command_line(alloc: Global, words: &[String]) -> Result<(), Error> {
-    let _matches = Command::new(alloc, "j1939bus")
+/// What a command line asks for.
+#[derive(Clone, Copy, Debug, PartialEq, Eq)]
+pub enum Asked {
+    /// The script of standard input is run line by line.
+    Script,
+    /// It is run by threads, each worker with at most so many turns.
+    Live { turns: u64 },
+}
+
+/// The turns of a worker where the command line names none.
+const TURNS: u64 = 1_000_000;
+
+/// What is read and written, an example, and the statuses, which stand at the end of the program's help.
+const PROGRAM_HELP: &str =
+    "The script is read from standard input. The reply to each line is written to
+standard output before the next line is read. What ends the run before the
+script's end, such as a wrong line, is told on standard error.
+
+Example:
+  printf '%s\\n' 'stations 21 35' 'open 35 FECA 1785' \\
+    'send 21 FF FECA 010203040506070809' 'drive 21 FF 3' | j1939bus
+
+Status:
+  0  the script ran to its end, refused calls included
+  1  a line is wrong, or standard input or output failed
+  2  the command line is refused, or asks for help
+  3  the turns of live ran out
+
+docs/SCRIPTS.md describes the language.";
+
+/// The same at the end of the help of `live`.
+const LIVE_HELP: &str =
+    "The script is read from standard input to its end: one line of 1 to 8 stations,
+lines that open ports, and at most 64 lines that send. A thread for each station
+submits its messages, one for each port receives, and a worker for each station
+and one for the bus move the frames. The refusals of lines are written to
+standard output first, and at the end each port with what it was given, and the
+outcome of each message. A wrong line is told on standard error, and no thread
+runs.
+
+Example:
+  printf '%s\\n' 'stations 21 35' 'open 35 FECA 1785' \\
+    'send 21 35 FECA 010203040506070809' | j1939bus live
+
+Status:
+  0  each message has its outcome
+  1  a line is wrong, or standard input or output failed
+  2  the command line is refused, or asks for help
+  3  the turns ran out
+
+docs/SCRIPTS.md describes the language, and this in its last part.";
+
+/// Reads the words of a command line, of which the first names the program. What it doesn't take is refused, and so is help, whose
+/// text is the error.
+pub fn read_command_line(alloc: Global, words: &[String]) -> Result<Asked, Error> {
+    let turns = Arg::new(alloc, "turns")
+        .long("turns")
+        .action(ArgAction::Set)
+        .value_parser(value_parser!(u64).range(1..=1_000_000_000))
+        .help("Most turns of a worker, 1 to 1000000000 [default: 1000000]");
+    let live = Command::new(alloc, "live")
+        .about("Runs the script of standard input by threads, and prints what came of it")
+        .after_help(LIVE_HELP)
+        .arg(turns)?;
+    let matches = Command::new(alloc, "j1939bus")
         .version("0.1.0")
         .about("Runs the script of standard input, and prints the reply to each line")
+        .after_help(PROGRAM_HELP)
+        .subcommand(live)?
         .try_get_matches_from(words)?;
-    Ok(())
+    let Some(live) = matches.subcommand_matches("live") else {
+        return Ok(Asked::Script);
+    };
+    Ok(Asked::Live {
+        turns: live.get_one::<u64>("turns").unwrap_or(TURNS),
+    })
 }

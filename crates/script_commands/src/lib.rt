@@ -11,5 +11,5 @@ mod words;
 
 pub use addresses::Addresses;
 pub use command::{Command, read_command};
-pub use fault::{Fault, LineError};
+pub use fault::{Fault, LineError, MAX_LINES, limit_fault};
 pub use words::split_words;

@@ -1,24 +1,125 @@
-//! The command line: its name alone runs a script; whatever else is asked for is answered by a text.
-use command_line::read_command_line;
+//! The command line: its name alone runs a script, `live` runs it by threads; whatever else is asked for is answered by a text.
+use command_line::{Asked, read_command_line};
+use std::alloc::Global;
 use std::test::Fail;
 
-#[test]
-fn only_the_name_runs_a_script(rt: HostRuntime) -> Result<(), Fail> {
-    let alloc = rt.alloc();
+fn words_of(alloc: Global, all: &[&str]) -> Result<Vec<String>, Fail> {
     let mut words = Vec::new(alloc);
-    words.push(format!(in alloc; "j1939bus")?)?;
-    assert!(rt; read_command_line(alloc, words.as_slice()).is_ok());
-    for (word, told) in [
-        ("--help", "Usage: j1939bus"),
-        ("--version", "j1939bus 0.1.0"),
-        ("live", "unexpected argument 'live'"),
-        ("--turns", "unexpected argument '--turns'"),
-    ] {
+    for word in all {
         words.push(format!(in alloc; "{word}")?)?;
+    }
+    Ok(words)
+}
+
+#[test]
+fn a_script_is_run_alone_or_by_threads(rt: HostRuntime) -> Result<(), Fail> {
+    let alloc = rt.alloc();
+    let words = words_of(alloc, &["j1939bus"])?;
+    let asked = read_command_line(alloc, words.as_slice())?;
+    assert!(rt; asked == Asked::Script);
+    let words = words_of(alloc, &["j1939bus", "live"])?;
+    let asked = read_command_line(alloc, words.as_slice())?;
+    assert!(rt; asked == Asked::Live { turns: 1_000_000 });
+    let words = words_of(alloc, &["j1939bus", "live", "--turns", "1"])?;
+    let asked = read_command_line(alloc, words.as_slice())?;
+    assert!(rt; asked == Asked::Live { turns: 1 });
+    Ok(())
+}
+
+#[test]
+fn whatever_else_is_asked_for_is_answered_by_a_text(rt: HostRuntime) -> Result<(), Fail> {
+    let alloc = rt.alloc();
+    for (first, second, third, told) in [
+        ("--version", "", "", "j1939bus 0.1.0"),
+        ("lives", "", "", "'lives'"),
+        ("live", "--turns", "0", "invalid value '0'"),
+        (
+            "live",
+            "--turns",
+            "1000000001",
+            "invalid value '1000000001'",
+        ),
+    ] {
+        let mut words = words_of(alloc, &["j1939bus", first])?;
+        if !second.is_empty() {
+            words.push(format!(in alloc; "{second}")?)?;
+            words.push(format!(in alloc; "{third}")?)?;
+        }
         let error = read_command_line(alloc, words.as_slice()).expect_err(&rt, "a refusal");
         let text = format!(in alloc; "{error}")?;
         assert!(rt; text.as_str().contains(told));
-        let _word = words.pop();
     }
+    Ok(())
+}
+
+const PROGRAM_HELP: &str = "Runs the script of standard input, and prints the reply to each line
+
+Usage: j1939bus [COMMAND]
+
+Commands:
+  live  Runs the script of standard input by threads, and prints what came of it
+  help  Print this message or the help of the given subcommand(s)
+
+Options:
+  -h, --help     Print help
+  -V, --version  Print version
+
+The script is read from standard input. The reply to each line is written to
+standard output before the next line is read. What ends the run before the
+script's end, such as a wrong line, is told on standard error.
+
+Example:
+  printf '%s\\n' 'stations 21 35' 'open 35 FECA 1785' \\
+    'send 21 FF FECA 010203040506070809' 'drive 21 FF 3' | j1939bus
+
+Status:
+  0  the script ran to its end, refused calls included
+  1  a line is wrong, or standard input or output failed
+  2  the command line is refused, or asks for help
+  3  the turns of live ran out
+
+docs/SCRIPTS.md describes the language.
+";
+
+const LIVE_HELP: &str = "Runs the script of standard input by threads, and prints what came of it
+
+Usage: j1939bus live [OPTIONS]
+
+Options:
+      --turns <turns>  Most turns of a worker, 1 to 1000000000 [default: 1000000]
+  -h, --help           Print help
+
+The script is read from standard input to its end: one line of 1 to 8 stations,
+lines that open ports, and at most 64 lines that send. A thread for each station
+submits its messages, one for each port receives, and a worker for each station
+and one for the bus move the frames. The refusals of lines are written to
+standard output first, and at the end each port with what it was given, and the
+outcome of each message. A wrong line is told on standard error, and no thread
+runs.
+
+Example:
+  printf '%s\\n' 'stations 21 35' 'open 35 FECA 1785' \\
+    'send 21 35 FECA 010203040506070809' | j1939bus live
+
+Status:
+  0  each message has its outcome
+  1  a line is wrong, or standard input or output failed
+  2  the command line is refused, or asks for help
+  3  the turns ran out
+
+docs/SCRIPTS.md describes the language, and this in its last part.
+";
+
+#[test]
+fn help_says_what_is_read_and_written(rt: HostRuntime) -> Result<(), Fail> {
+    let alloc = rt.alloc();
+    let words = words_of(alloc, &["j1939bus", "--help"])?;
+    let error = read_command_line(alloc, words.as_slice()).expect_err(&rt, "help");
+    let text = format!(in alloc; "{error}")?;
+    assert_eq!(rt; text.as_str(), PROGRAM_HELP);
+    let words = words_of(alloc, &["j1939bus", "live", "--help"])?;
+    let error = read_command_line(alloc, words.as_slice()).expect_err(&rt, "help");
+    let text = format!(in alloc; "{error}")?;
+    assert_eq!(rt; text.as_str(), LIVE_HELP);
     Ok(())
 }

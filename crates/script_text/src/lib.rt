@@ -9,4 +9,7 @@ mod parts;
 mod replies;
 
 pub use counts::print_counts;
-pub use replies::{print_driven, print_events, print_put, print_refused, print_reply, print_text};
+pub use replies::{
+    print_driven, print_events, print_given, print_outcome, print_port, print_put, print_refused,
+    print_reply, print_text,
+};

@@ -1,6 +1,6 @@
 //! Replies, and the frames and events that stand below them.
-ghost use Rattle.std.specs.Prelude.{◌≡◌, ◌++◌, OnOk};
-ghost use Rattle.script_text.specs.Parts.{line};
+ghost use Rattle.std.specs.Prelude.{◌≡◌, ◌++◌, OnOk, codes};
+ghost use Rattle.script_text.specs.Parts.{line, port_text};
 ghost use Rattle.script_text.specs.Replies.{message_text, frame_text, given_text, ended_text, outcome_text, refusal_text, end_text, reply_line, put_line, event_line, put_lines, event_lines, drive_lines};
 
 use crate::parts::{
@@ -96,6 +96,15 @@ fn put_message(out: &mut Vec<u8>, pgn: Pgn, bytes: &Bytes) -> Result<(), AllocEr
     put_unspaced(out, bytes.as_slice())
 }
 
+/// The line of a port.
+pub fn print_port(out: &mut Vec<u8>, port: PortId) -> Result<(), AllocError>
+    ensures { OnOk result (out.new.items ≡ out.old.items ++ line (codes "port " ++ port_text port)) }
+{
+    put_text(out, "port ")?;
+    put_port(out, port)?;
+    put_text(out, "\n")
+}
+
 #[tactic(auto, unfolding(crate::specs::Replies::given_text))]
 fn put_given(
     out: &mut Vec<u8>,
@@ -146,6 +155,37 @@ fn put_ended(
     put_outcome(out, outcome)
 }
 
+/// The line of a message that a port was given, begun by two spaces.
+pub fn print_given(
+    out: &mut Vec<u8>,
+    port: PortId,
+    from: Address,
+    to: Address,
+    pgn: Pgn,
+    bytes: &Bytes,
+) -> Result<(), AllocError>
+    ensures { OnOk result (out.new.items ≡ out.old.items ++ line (codes "  given " ++ given_text port from to pgn bytes.now)) }
+{
+    put_text(out, "  given ")?;
+    put_given(out, port, from, to, pgn, bytes)?;
+    put_text(out, "\n")
+}
+
+/// The line of a message's outcome, with no spaces before it. The number is the message's in its lane.
+pub fn print_outcome(
+    out: &mut Vec<u8>,
+    from: Address,
+    to: Address,
+    number: u64,
+    outcome: Outcome,
+) -> Result<(), AllocError>
+    ensures { OnOk result (out.new.items ≡ out.old.items ++ line (codes "outcome " ++ ended_text from to number outcome)) }
+{
+    put_text(out, "outcome ")?;
+    put_ended(out, from, to, number, outcome)?;
+    put_text(out, "\n")
+}
+
 /// The line of an event.
 #[tactic(auto, unfolding(crate::specs::Replies::event_line))]
 fn print_event(out: &mut Vec<u8>, event: &Event) -> Result<(), AllocError>
@@ -158,20 +198,15 @@ fn print_event(out: &mut Vec<u8>, event: &Event) -> Result<(), AllocError>
             to,
             pgn,
             bytes,
-        } => {
-            put_text(out, "  given ")?;
-            put_given(out, *port, *from, *to, *pgn, bytes)?;
-            put_text(out, "\n")
-        }
+        } => print_given(out, *port, *from, *to, *pgn, bytes),
         Event::Outcome {
             from,
             to,
             number,
             outcome,
         } => {
-            put_text(out, "  outcome ")?;
-            put_ended(out, *from, *to, *number, *outcome)?;
-            put_text(out, "\n")
+            put_text(out, "  ")?;
+            print_outcome(out, *from, *to, *number, *outcome)
         }
     }
 }

@@ -1,0 +1,67 @@
+//! A script, read to its end.
+ghost use Rattle.std.specs.Prelude.{◌≡◌, IfSome};
+ghost use Rattle.bus_live.specs.Plan.{plan_of, first_plan, planned};
+ghost use Rattle.bus_live.specs.Ending.{cause_of, read_cause, IsRead};
+
+use crate::obeying::obey_line;
+use crate::running::{Cause, LiveFault};
+use crate::setup::Setup;
+use script_commands::{Fault, LineError, MAX_LINES, limit_fault};
+use script_lines::{LineRead, ReadError, read_line};
+use std::alloc::Global;
+use std::io::Read;
+
+fn cause_of(error: LineError) -> Cause
+    ensures { result ≡ cause_of error }
+{
+    match error {
+        LineError::OutOfMemory => Cause::OutOfMemory,
+        LineError::Fault(fault) => Cause::Fault(fault),
+    }
+}
+
+fn read_cause(error: ReadError) -> Cause
+    ensures { result ≡ read_cause error }
+{
+    match error {
+        ReadError::Failed => Cause::ReadFailed,
+        ReadError::OutOfMemory => Cause::OutOfMemory,
+    }
+}
+
+/// Reads a script to its end, or to its first fault, and does what its lines ask for.
+pub(crate) fn read_script<R: Read>(
+    alloc: Global,
+    reader: &mut R,
+    setup: &mut Setup,
+) -> Result<(), LiveFault>
+    requires { plan_of setup.old ≡ first_plan }
+    ensures { IfSome (R.remaining reader.old) (λ script. IsRead result (plan_of setup.new) (planned script)) }
+{
+    let mut line = Vec::new(alloc);
+    let mut number = 1;
+    'lines: loop {
+        match read_line(reader, &mut line) {
+            Ok(LineRead::End) => return Ok(()),
+            Ok(LineRead::TooLong) => {
+                return Err(fault_at(number, Cause::Fault(limit_fault(number))));
+            }
+            Ok(LineRead::Line) => {}
+            Err(error) => return Err(fault_at(number, read_cause(error))),
+        }
+        if number > MAX_LINES {
+            return Err(fault_at(number, Cause::Fault(Fault::TooManyLines)));
+        }
+        match obey_line(alloc, setup, line.as_slice()) {
+            Ok(()) => {}
+            Err(error) => return Err(fault_at(number, cause_of(error))),
+        }
+        number += 1;
+    }
+}
+
+fn fault_at(line: u64, cause: Cause) -> LiveFault
+    ensures { result ≡ record { line = line; cause = cause } }
+{
+    LiveFault { line, cause }
+}

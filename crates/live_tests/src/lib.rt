@@ -1,0 +1,5 @@
+//! Tests of scripts run by threads.
+#![tactic(auto)]
+
+#[cfg(test)]
+mod runs;

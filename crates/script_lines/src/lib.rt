@@ -1,0 +1,9 @@
+//! Lines of a reader and text for a writer, as every script is read and answered: one line is held at a time, and a text is written
+//! and flushed at once.
+#![tactic(auto)]
+
+mod lines;
+mod writing;
+
+pub use lines::{LineRead, ReadError, is_ascii, read_line};
+pub use writing::{put_all, tell};
