@@ -1,6 +1,7 @@
 //! The command line: its name alone runs a script, `live` runs it by threads; whatever else is asked for is answered by a text.
 use command_line::{Asked, read_command_line};
-use std::alloc::Global;
+use std::alloc::{AllocError, Global};
+use std::process::Abort;
 use std::test::Fail;
 
 fn words_of(alloc: Global, all: &[&str]) -> Result<Vec<String>, Fail> {
@@ -9,6 +10,20 @@ fn words_of(alloc: Global, all: &[&str]) -> Result<Vec<String>, Fail> {
         words.push(format!(in alloc; "{word}")?)?;
     }
     Ok(words)
+}
+
+// The text that answers these words; a test ends where it is that memory was refused.
+fn answer(rt: &impl Abort, alloc: Global, words: &[String]) -> Result<String, Fail> {
+    let error = read_command_line(alloc, words).expect_err(rt, "a text");
+    let text = format!(in alloc; "{error}")?;
+    if text.as_str() == "error: out of memory\n" {
+        out_of_memory()?;
+    }
+    Ok(text)
+}
+
+fn out_of_memory() -> Result<(), AllocError> {
+    Err(AllocError)
 }
 
 #[test]
@@ -45,8 +60,7 @@ fn whatever_else_is_asked_for_is_answered_by_a_text(rt: HostRuntime) -> Result<(
             words.push(format!(in alloc; "{second}")?)?;
             words.push(format!(in alloc; "{third}")?)?;
         }
-        let error = read_command_line(alloc, words.as_slice()).expect_err(&rt, "a refusal");
-        let text = format!(in alloc; "{error}")?;
+        let text = answer(&rt, alloc, words.as_slice())?;
         assert!(rt; text.as_str().contains(told));
     }
     Ok(())
@@ -114,12 +128,10 @@ docs/SCRIPTS.md describes the language, and this in its last part.
 fn help_says_what_is_read_and_written(rt: HostRuntime) -> Result<(), Fail> {
     let alloc = rt.alloc();
     let words = words_of(alloc, &["j1939bus", "--help"])?;
-    let error = read_command_line(alloc, words.as_slice()).expect_err(&rt, "help");
-    let text = format!(in alloc; "{error}")?;
+    let text = answer(&rt, alloc, words.as_slice())?;
     assert_eq!(rt; text.as_str(), PROGRAM_HELP);
     let words = words_of(alloc, &["j1939bus", "live", "--help"])?;
-    let error = read_command_line(alloc, words.as_slice()).expect_err(&rt, "help");
-    let text = format!(in alloc; "{error}")?;
+    let text = answer(&rt, alloc, words.as_slice())?;
     assert_eq!(rt; text.as_str(), LIVE_HELP);
     Ok(())
 }

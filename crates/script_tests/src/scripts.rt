@@ -354,7 +354,7 @@ fn a_failed_read_ends_the_script(rt: HostRuntime) -> Result<(), Fail> {
     Ok(())
 }
 
-/// Takes so many writes, and fails then; it holds what it took.
+/// Takes so many writes, and fails then; it holds what it took, for which it has the room beforehand.
 #[derive(Drop)]
 struct Failing {
     writes: u64,
@@ -380,7 +380,7 @@ fn a_failed_write_ends_the_script(rt: HostRuntime) -> Result<(), Fail> {
     let alloc = rt.alloc();
     let mut writer = Failing {
         writes: 1,
-        taken: Vec::new(alloc),
+        taken: Vec::with_capacity(alloc, 5)?,
     };
     let script = b"stations 21\n\ntick 5\ntick 6";
     let ran = run_script(alloc, &mut script.as_slice(), &mut writer);
