@@ -5,7 +5,14 @@ use Rattle.bus_frame.specs.Frames.{CanFrame}
 use Rattle.pgn_ids.specs.declared.address.Address.{Address}
 use Rattle.tp_wire.specs.Reading.{reading}
 use Rattle.tp_wire.specs.Rows.{goes_to}
+use Rattle.tp_wire.specs.declared.constants.TheConstants.{ETP_MAX_WINDOW}
+use Rattle.tp_wire.specs.declared.wire.Kind.{Kind}
 use Rattle.tp_wire.specs.declared.wire.Kind.TheVariants.{Tp, Etp}
+use Rattle.responder.specs.Unfinished.{Unfinished, begun}
+use Rattle.responder.specs.Window.{most_of}
+use Rattle.responder.specs.Asking.{asking, asked}
+use Rattle.responder.specs.Room.{first_join}
+use Rattle.session_table.specs.Key.{session_for}
 use Rattle.tp_wire.specs.declared.wire.CmFrame.{CmFrame}
 use Rattle.tp_wire.specs.declared.wire.CmFrame.TheVariants.{Rts, Cts, EndOfMsgAck, Bam, Abort, EtpRts, EtpCts, EtpDpo, EtpEoma, EtpAbort}
 use Rattle.tp_wire.specs.declared.wire.Wire.{Wire}
@@ -18,19 +25,16 @@ use Rattle.session_table.specs.declared.incoming.Incoming.TheVariants as incomin
 use Rattle.tp_wire.specs.Reason.{reason_byte}
 use Rattle.responder.specs.Answers.{abort_frame}
 use Rattle.bam_session.specs.States as bam
-use Rattle.tp_session.specs.Asking as tp
-use Rattle.etp_session.specs.Asking as etp
-use Rattle.etp_session.specs.Room.{first_join}
 use Rattle.station_sessions.specs.Receiving.{received, flow_at}
 use Rattle.station_core.specs.Station.{Station, StationStep, quietly, queues}
-use Rattle.station_core.specs.Opening.{key_of, refusal, is_tp_size, is_etp_size, set_for, others_than, whole_join, peer_of, opened, not_opened}
+use Rattle.station_core.specs.Opening.{key_of, refusal, is_tp_size, is_etp_size, set_for, others_than, whole_join, peer_of, opened, not_opened, rts_taken}
 use Rattle.station_core.specs.Taking.{packet_kind, in_session, in_lane, abort_taken, cm_taken, answer, wire_taken, looks_at, meaning_taken, taken}
 use Rattle.record_lemmas.proofs.Lists.{Each}
 use Rattle.record_lemmas.proofs.Maps.{StaysOrEnds, session_at, put_stays, dropped_stays}
 use Rattle.record_lemmas.proofs.Tests.{on_test, either, by_option}
 use Rattle.broadcast_law.proofs.Carried.{carried_foreign, of_lane, of_meaning, carried, Meaning, reading_tells}
 use Rattle.broadcast_law.proofs.Ports.{IsUntold}
-use Rattle.broadcast_law.proofs.Receptions.{Settles, settles_received, aborted_stays, key_all}
+use Rattle.broadcast_law.proofs.Receptions.{Settles, settles_received, aborted_stays, key_all, no_broadcast}
 use Rattle.broadcast_law.proofs.Stations.{IsOwn, outcome_untold}
 use Rattle.broadcast_law.proofs.Takes.{other_node}
 
@@ -42,11 +46,8 @@ module _ (a : Address) (small : a.0 < 254) (s : Address) where
   calm_none : (st : Station) → Calm st (quietly st)
   calm_none st = record { untold = tt; session = inr refl }
 
-  not_tp : (from : Address) → key_all s ≡ key_of from session.Tp → ⊥
-  not_tp from e = let k : session.Broadcast ≡ session.Tp = ap (λ (x : Key). x.kind) e in cc
-
-  not_etp : (from : Address) → key_all s ≡ key_of from session.Etp → ⊥
-  not_etp from e = let k : session.Broadcast ≡ session.Etp = ap (λ (x : Key). x.kind) e in cc
+  not_connection : (from : Address) (kind : Kind) → key_all s ≡ key_of from (session_for kind) → ⊥
+  not_connection from kind e = no_broadcast kind (ap (λ (x : Key). x.kind) e)
 
   not_from : (from : Address) (kind : SessionKind) → (from.0 ≡ s.0 → ⊥) → key_all s ≡ key_of from kind → ⊥
   not_from from kind n e = n (sym (ap (λ (x : Key). x.source.0) e))
@@ -73,13 +74,16 @@ module _ (a : Address) (small : a.0 < 254) (s : Address) where
   of_other : (from to : Address) (w : Wire) → to.0 ≡ 255 → cond (from.0 == s.0 && to.0 == 255) (Some w) None ≡ None → from.0 ≡ s.0 → ⊥
   of_other from to w t h e = none-some w (sym h ∙ (λ i. cond (eq-eqb from.0 s.0 e i && eq-eqb to.0 255 t i) (Some w) None))
 
+  calm_rts : (st : Station) (kind : Kind) (is_size : Bool) (from : Address) (size most pgn : ℕ) (room : Bool) (now : ℕ) → Calm st (quietly (rts_taken st kind is_size from size most pgn room now))
+  calm_rts st kind is_size from size most pgn room now =
+      let m : Unfinished = begun kind (peer_of st from pgn) most (first_join kind size (flow_at st.ports (set_for st pgn size))) in
+      by_option (λ x. Calm st (quietly x)) (refusal is_size room (set_for st pgn size) (others_than st (key_of from (session_for kind)))) _ _
+      (calm_opened st (key_of from (session_for kind)) (not_connection from kind) (set_for st pgn size) (incoming.Connection (asking m (flow_at st.ports (set_for st pgn size)) now)) (Some (asked m (flow_at st.ports (set_for st pgn size)))))
+      (λ reason. calm_not_opened st (key_of from (session_for kind)) (not_connection from kind) (Some (abort_frame kind (peer_of st from pgn) (reason_byte reason))))
+
   calm_cm : (st : Station) → IsOwn a st → (frame : CmFrame) (from to : Address) (room : Bool) (now : ℕ) → goes_to (Cm frame) to.0 ≡ true → of_lane s (Cm frame) from to ≡ None → Calm st (cm_taken st frame from room now)
-  calm_cm st h (Rts size packets most pgn) from to room now g o =
-      by_option (λ x. Calm st (quietly x)) (refusal (is_tp_size size packets) room (set_for st pgn size) (others_than st (key_of from session.Tp))) _ _ (calm_opened st (key_of from session.Tp) (not_tp from) (set_for st pgn size) (incoming.Tp (tp.asking (peer_of st from pgn) (whole_join size) most (flow_at st.ports (set_for st pgn size)) now)) (Some (tp.asked (peer_of st from pgn) (whole_join size) most (flow_at st.ports (set_for st pgn size)))))
-      (λ reason. calm_not_opened st (key_of from session.Tp) (not_tp from) (Some (abort_frame Tp (peer_of st from pgn) (reason_byte reason))))
-  calm_cm st h (EtpRts size pgn) from to room now g o =
-      by_option (λ x. Calm st (quietly x)) (refusal (is_etp_size size) room (set_for st pgn size) (others_than st (key_of from session.Etp))) _ _ (calm_opened st (key_of from session.Etp) (not_etp from) (set_for st pgn size) (incoming.Etp (etp.asking (peer_of st from pgn) (first_join size (flow_at st.ports (set_for st pgn size))) 0 (flow_at st.ports (set_for st pgn size)) now)) (Some (etp.asked (peer_of st from pgn) (first_join size (flow_at st.ports (set_for st pgn size))) (flow_at st.ports (set_for st pgn size)))))
-      (λ reason. calm_not_opened st (key_of from session.Etp) (not_etp from) (Some (abort_frame Etp (peer_of st from pgn) (reason_byte reason))))
+  calm_cm st h (Rts size packets most pgn) from to room now g o = calm_rts st Tp (is_tp_size size packets) from size (most_of Tp most) pgn room now
+  calm_cm st h (EtpRts size pgn) from to room now g o = calm_rts st Etp (is_etp_size size) from size ETP_MAX_WINDOW pgn room now
   calm_cm st h (Bam size packets pgn) from to room now g o =
       let n : key_all s ≡ key_of from session.Broadcast → ⊥ = not_from from session.Broadcast (of_other from to (Cm (Bam size packets pgn)) (eqb-true to.0 255 g) o) in
       by_option (λ x. Calm st (quietly x)) (refusal (is_tp_size size packets) room (set_for st pgn size) (others_than st (key_of from session.Broadcast))) _ _ (calm_opened st (key_of from session.Broadcast) n (set_for st pgn size) (incoming.Broadcast (bam.announced from.0 pgn (whole_join size) now)) None)
@@ -88,19 +92,19 @@ module _ (a : Address) (small : a.0 < 254) (s : Address) where
   calm_cm st h (EndOfMsgAck size packets pgn) from to room now g o = calm_lane st from (Cm (EndOfMsgAck size packets pgn)) now
   calm_cm st h (Abort reason pgn) from to room now g o = calm_abort st h from session.Tp pgn (Cm (Abort reason pgn)) now
   calm_cm st h (EtpCts granted next pgn) from to room now g o = calm_lane st from (Cm (EtpCts granted next pgn)) now
-  calm_cm st h (EtpDpo packets offset pgn) from to room now g o = calm_session st (key_of from session.Etp) (not_etp from) h (Cm (EtpDpo packets offset pgn)) room now
+  calm_cm st h (EtpDpo packets offset pgn) from to room now g o = calm_session st (key_of from session.Etp) (not_connection from Etp) h (Cm (EtpDpo packets offset pgn)) room now
   calm_cm st h (EtpEoma size pgn) from to room now g o = calm_lane st from (Cm (EtpEoma size pgn)) now
   calm_cm st h (EtpAbort reason pgn) from to room now g o = calm_abort st h from session.Etp pgn (Cm (EtpAbort reason pgn)) now
 
   packet_other : (from to : Address) (k : ℕ) (bytes : List ℕ) → of_lane s (Packet Tp k bytes) from to ≡ None → key_all s ≡ key_of from (packet_kind Tp to) → ⊥
   packet_other from to k bytes o = on_test (λ b. (to.0 == 255) ≡ b → key_all s ≡ key_of from (cond b session.Broadcast session.Tp) → ⊥) (to.0 == 255)
       (λ _ e. not_from from session.Broadcast (of_other from to (Packet Tp k bytes) (eqb-true to.0 255 e) o))
-      (λ _ e. not_tp from) refl
+      (λ _ e. not_connection from Tp) refl
 
   calm_wire : (st : Station) → IsOwn a st → (wire : Wire) (from to : Address) (room : Bool) (now : ℕ) → goes_to wire to.0 ≡ true → of_lane s wire from to ≡ None → Calm st (wire_taken st wire from to room now)
   calm_wire st h (Cm frame) from to room now g o = calm_cm st h frame from to room now g o
   calm_wire st h (Packet Tp k bytes) from to room now g o = calm_session st (key_of from (packet_kind Tp to)) (packet_other from to k bytes o) h (Packet Tp k bytes) room now
-  calm_wire st h (Packet Etp k bytes) from to room now g o = calm_session st (key_of from session.Etp) (not_etp from) h (Packet Etp k bytes) room now
+  calm_wire st h (Packet Etp k bytes) from to room now g o = calm_session st (key_of from session.Etp) (not_connection from Etp) h (Packet Etp k bytes) room now
   calm_wire st h (Request pgn) from to room now g o = either (λ x. Calm st (quietly x)) (to.0 == st.address.0) (queues st (answer st from pgn ∷ [])) st (record { untold = tt; session = inr refl }) (calm_none st)
   calm_wire st h (Ack control address pgn) from to room now g o = either (λ x. Calm st (quietly x)) (address.0 == st.address.0 || to.0 == st.address.0) _ _ (record { untold = tt; session = inr refl }) (calm_none st)
 

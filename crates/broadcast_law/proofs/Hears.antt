@@ -14,13 +14,13 @@ use Rattle.tp_wire.specs.declared.wire.Wire.{Wire}
 use Rattle.tp_wire.specs.declared.wire.Wire.TheVariants.{Cm, Packet, Request, Ack}
 use Rattle.bam_session.specs.States as bam
 use Rattle.bam_session.specs.Receiving as bam-steps
+use Rattle.responder.specs.Readers.{unfinished_of}
 use Rattle.session_table.specs.declared.key.Key.{Key}
 use Rattle.session_table.specs.declared.key.SessionKind.TheVariants as session
 use Rattle.session_table.specs.declared.incoming.Incoming.{Incoming}
 use Rattle.session_table.specs.declared.incoming.Incoming.TheVariants as incoming
 use Rattle.session_table.specs.Sessions.{state_at}
-use Rattle.station_sessions.specs.Progress.{after_broadcast}
-use Rattle.station_sessions.specs.Receiving.{settled, received_by}
+use Rattle.station_sessions.specs.Receiving.{broadcast_settled, received_by}
 use Rattle.station_core.specs.Station.{Station, StationStep, quietly, by_session}
 use Rattle.station_core.specs.Opening.{refusal, is_tp_size, set_for, others_than, whole_join, bam_taken}
 use Rattle.station_core.specs.Taking.{in_session, looks_at, meaning_taken, wire_taken, taken}
@@ -32,7 +32,7 @@ use Rattle.lane_law.specs.Session.{Session}
 use Rattle.broadcast_law.proofs.Carried.{all, of_lane, of_meaning, carried, is_to_all, Meaning, IsRead, reading_tells}
 use Rattle.broadcast_law.proofs.Ports.{gives_to, told_to, told_once}
 use Rattle.broadcast_law.proofs.Receive.{left_of, MayTell, Taken, ends, packet_heard, bam_opens, packet_shown, bam_shown, ShowsBam}
-use Rattle.broadcast_law.proofs.Receptions.{key_all}
+use Rattle.broadcast_law.proofs.Receptions.{key_all, no_broadcast}
 use Rattle.broadcast_law.proofs.Stations.{IsOwn}
 use Rattle.broadcast_law.proofs.View.{View, IsHeard, Stands, GoesOn}
 
@@ -76,7 +76,7 @@ module _ (s listener : Address) (goes : GoesOn) (a : Address) where
 
   -- what a packet leaves
   concludes : (v : View) (st : Station) (set : List ℕ) (b : bam.Incoming) (room : Bool) (r : bam-steps.Received) → ((told : List told.Message) → MayTell b.pgn r told → Stands s (record v { session = left_of r; given = v.given ++ told }))
-      → Stands s (heard_view v (by_session st (settled st.ports.station key set room st.sessions (after_broadcast b r))))
+      → Stands s (heard_view v (by_session st (broadcast_settled st.ports.station key set room st.sessions b r)))
   concludes v st set b room (bam-steps.Awaits t) h = subst (λ o. Stands s (record v { session = o; given = v.given ++ [] })) (sym (ap bare (state_put st.sessions key (set, incoming.Broadcast t)))) (h [] refl)
   concludes v st set b room bam-steps.Drops h = subst (λ o. Stands s (record v { session = o; given = v.given ++ [] })) (sym (ap bare (state_dropped st.sessions key))) (h [] refl)
   concludes v st set b true (bam-steps.Completes bytes) h =
@@ -95,7 +95,7 @@ module _ (s listener : Address) (goes : GoesOn) (a : Address) where
       heard : IsHeard s.0 v.session t.stream.session
       heard = t.session k bytes frame_is
 
-      with_same : (set : List ℕ) (b : bam.Incoming) → state_at st.sessions key ≡ Some (set, incoming.Broadcast b) → (o : Option Session) → t.stream.session ≡ o → IsHeard s.0 (Some (incoming.Broadcast b)) o → Stands s (heard_view v (by_session st (settled st.ports.station key set room st.sessions (after_broadcast b (bam-steps.received b k bytes now)))))
+      with_same : (set : List ℕ) (b : bam.Incoming) → state_at st.sessions key ≡ Some (set, incoming.Broadcast b) → (o : Option Session) → t.stream.session ≡ o → IsHeard s.0 (Some (incoming.Broadcast b)) o → Stands s (heard_view v (by_session st (broadcast_settled st.ports.station key set room st.sessions b (bam-steps.received b k bytes now))))
       with_same set b e None is same = absurd same
       with_same set b e (Some x) is same = concludes v st set b room (bam-steps.received b k bytes now)
           (λ ts m. packet_heard s goes v t.stream b x k now bytes ts t.carries is (t.again ∙ ap (λ (f : Frame). f ∷ []) frame_is) same m)
@@ -105,8 +105,7 @@ module _ (s listener : Address) (goes : GoesOn) (a : Address) where
       by (Some (set, incoming.Broadcast b)) e =
           let is : v.session ≡ Some (incoming.Broadcast b) = q ∙ ap bare e in
           with_same set b e t.stream.session refl (subst (λ o. IsHeard s.0 o t.stream.session) is heard)
-      by (Some (set, incoming.Tp u)) e = absurd (let k : session.Broadcast ≡ session.Tp = (h.sessions key (set, incoming.Tp u) e).state.1 in cc)
-      by (Some (set, incoming.Etp u)) e = absurd (let k : session.Broadcast ≡ session.Etp = (h.sessions key (set, incoming.Etp u) e).state.1 in cc)
+      by (Some (set, incoming.Connection u)) e = absurd (no_broadcast (unfinished_of u).kind (h.sessions key (set, incoming.Connection u) e).state.1)
 
   hears_wire : (v : View) (st : Station) (wire w : Wire) (from to : Address) (room : Bool) (now : ℕ) → IsOwn a st → v.session ≡ session_at st.sessions key → of_lane s wire from to ≡ Some w → Taken s goes v w → Stands s (heard_view v (wire_taken st wire from to room now))
   hears_wire v st (Cm (Bam size packets pgn)) w from to room now h q c t =

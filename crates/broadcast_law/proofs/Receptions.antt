@@ -7,37 +7,39 @@ use Rattle.std.specs.FinMap as finmap
 use Rattle.bus_frame.specs.Frames.{CanFrame}
 use Rattle.pgn_ids.specs.Pgn.{clean}
 use Rattle.pgn_ids.specs.declared.address.Address.{Address}
+use Rattle.tp_wire.specs.declared.wire.Kind.{Kind}
 use Rattle.tp_wire.specs.declared.wire.Kind.TheVariants.{Tp, Etp}
 use Rattle.tp_wire.specs.declared.wire.Wire.{Wire}
 use Rattle.tp_wire.specs.declared.wire.Wire.TheVariants.{Cm, Packet, Request, Ack}
 use Rattle.seg_cut.specs.Join.{wants_last}
+use Rattle.responder.specs.Readers.{unfinished_of}
+use Rattle.responder.specs.Steps.{stepped, expired}
+use Rattle.responder.specs.Room.{prepared, prepared_to_expire}
 use Rattle.responder.specs.declared.flow.Flow.{Flow}
+use Rattle.responder.specs.declared.in_state.InState.{InState}
+use Rattle.responder.specs.declared.received.Received.{Received}
+use Rattle.responder.specs.declared.received.Received.TheVariants.{On, Complete, Ended}
 use Rattle.bam_session.specs.States as bam
 use Rattle.bam_session.specs.Receiving as bam-steps
-use Rattle.tp_session.specs.Steps as tp-steps
-use Rattle.tp_session.specs.declared.received.Received as tp
-use Rattle.tp_session.specs.declared.received.Received.TheVariants as tp-received
-use Rattle.etp_session.specs.Steps as etp-steps
-use Rattle.etp_session.specs.Room as etp-room
-use Rattle.etp_session.specs.declared.received.Received as etp
-use Rattle.etp_session.specs.declared.received.Received.TheVariants as etp-received
 use Rattle.port_table.specs.Ports.{Ports}
 use Rattle.port_table.specs.PortSet.{without_number}
 use Rattle.session_table.specs.declared.key.Key.{Key}
 use Rattle.session_table.specs.declared.key.SessionKind.TheVariants as session
+use Rattle.session_table.specs.Key.{session_for}
 use Rattle.session_table.specs.declared.incoming.Incoming.{Incoming}
 use Rattle.session_table.specs.declared.incoming.Incoming.TheVariants as incoming
 use Rattle.session_table.specs.Incoming.{pgn_of}
 use Rattle.session_table.specs.Sessions.{state_at}
-use Rattle.station_sessions.specs.Progress.{after_broadcast, after_tp, after_etp, progress, fired, prepared, prepared_to_fire, closing_frame}
-use Rattle.station_sessions.specs.Receiving.{Inbound, Reception, unheard, settled, flow_at, received_by, received, fired_by, fired_at, aborted_at, unbound_by, unbound_at}
+use Rattle.station_sessions.specs.Steps.{closing_frame}
+use Rattle.station_sessions.specs.Receiving.{Inbound, Reception, unheard, broadcast_settled, connection_settled, session_stepped, session_fired, flow_at, received_by, received, fired_by, fired_at, aborted_at, unbound_by, unbound_at}
 use Rattle.segment_law.specs.Told.{is_lane}
 use Rattle.record_lemmas.proofs.Lists.{Each}
 use Rattle.record_lemmas.proofs.Maps.{OfEach, StaysOrEnds, session_at, key_cases, state_put, put_stays, dropped_stays, of_each_put, of_each_dropped}
+use Rattle.responder.proofs.Rows.{StaysOf, step_stays, expired_stays, prepared_stays, prepared_fire_stays}
 use Rattle.record_lemmas.proofs.Tests.{either}
 use Rattle.broadcast_law.proofs.Carried.{all}
 use Rattle.broadcast_law.proofs.Ports.{Distinct, distinct_without, IsOfPort, IsUntold, gives_to, given_of_port, given_untold, IsOneGiving, station_told, one_of_none, given_one}
-use Rattle.broadcast_law.proofs.SessionSteps.{FitsPeer, SaidBack, said_peer, said_end, FitsTp, FitsEtp, tp_step, tp_expired, etp_step, etp_expired, etp_prepared, etp_prepared_fire}
+use Rattle.broadcast_law.proofs.SessionSteps.{FitsPeer, SaidBack, said_peer, said_end, Fits, connection_step, connection_expired, peer_prepared, peer_prepared_fire}
 
 -- the key of the broadcasts of s
 abbrev pub key_all : Address → Key
@@ -46,8 +48,7 @@ key_all s = record { source = s; kind = session.Broadcast }
 -- a state is that of its key
 abbrev pub IsStateOf : ℕ → Key → Incoming → Type 0
 IsStateOf a key (incoming.Broadcast b) = (b.from ≡ key.source.0) × (key.kind ≡ session.Broadcast)
-IsStateOf a key (incoming.Tp t) = FitsPeer a key.source.0 (tp-steps.peer_of t) × (key.kind ≡ session.Tp)
-IsStateOf a key (incoming.Etp t) = FitsPeer a key.source.0 (etp-steps.peer_of t) × (key.kind ≡ session.Etp)
+IsStateOf a key (incoming.Connection t) = FitsPeer a key.source.0 (unfinished_of t).peer × (key.kind ≡ session_for (unfinished_of t).kind)
 
 -- a session of station a: of another node, for ports that are told apart
 pub record IsSessionOf (a : ℕ) (key : Key) (v : List ℕ × Incoming) : Type 0 where
@@ -111,15 +112,10 @@ module _ (a : Address) (key : Key) (set : List ℕ) (m : Inbound) (each : OfEach
     to_one : (s from to : Address) → to.0 ≡ a.0 → is_lane s all from to ≡ false
     to_one s from to e = and_right (from.0 == s.0) (to.0 == 255) (ne_eqb to.0 255 (λ q. omega (arith, e, q, small)))
 
-    settles_tp : (r : tp.Received) → key.kind ≡ session.Tp → FitsTp a.0 key.source.0 r → Settles a key m (settled station key set room m (after_tp r))
-    settles_tp (tp-received.On s frame) k h = settles_on (incoming.Tp s) frame (of_it (incoming.Tp s) (h.0, k)) h.1
-    settles_tp (tp-received.Complete w) k h = settles_whole distinct station room _ _ (record { 0 = w.peer.from }) (record { 0 = w.peer.to }) (clean w.peer.pgn) w.bytes is (said_end a.0 key.source.0 w.kind w.peer w.size h) (said_peer a.0 key.source.0 w.peer _ h) (λ s n. to_one s _ (record { 0 = w.peer.to }) h.0)
-    settles_tp (tp-received.Ended frame) k h = settles_ended frame h
-
-    settles_etp : (r : etp.Received) → key.kind ≡ session.Etp → FitsEtp a.0 key.source.0 r → Settles a key m (settled station key set room m (after_etp r))
-    settles_etp (etp-received.On s frame) k h = settles_on (incoming.Etp s) frame (of_it (incoming.Etp s) (h.0, k)) h.1
-    settles_etp (etp-received.Complete w) k h = settles_whole distinct station room _ _ (record { 0 = w.peer.from }) (record { 0 = w.peer.to }) (clean w.peer.pgn) w.bytes is (said_end a.0 key.source.0 w.kind w.peer w.size h) (said_peer a.0 key.source.0 w.peer _ h) (λ s n. to_one s _ (record { 0 = w.peer.to }) h.0)
-    settles_etp (etp-received.Ended frame) k h = settles_ended frame h
+    settles_connection : (r : Received) (kind : Kind) → key.kind ≡ session_for kind → StaysOf kind r → Fits a.0 key.source.0 r → Settles a key m (connection_settled station key set room m r)
+    settles_connection (On s frame) kind k stays h = settles_on (incoming.Connection s) frame (of_it (incoming.Connection s) (h.0, k ∙ ap session_for (sym stays))) h.1
+    settles_connection (Complete w) kind k stays h = settles_whole distinct station room _ _ (record { 0 = w.peer.from }) (record { 0 = w.peer.to }) (clean w.peer.pgn) w.bytes is (said_end a.0 key.source.0 w.kind w.peer w.size h) (said_peer a.0 key.source.0 w.peer _ h) (λ s n. to_one s _ (record { 0 = w.peer.to }) h.0)
+    settles_connection (Ended frame) kind k stays h = settles_ended frame h
 
     abbrev IsFrom : ℕ → bam-steps.Received → Type 0
     IsFrom n (bam-steps.Awaits t) = t.from ≡ n
@@ -142,28 +138,36 @@ module _ (a : Address) (key : Key) (set : List ℕ) (m : Inbound) (each : OfEach
     not_of : (s : Address) (n : ℕ) → n ≡ key.source.0 → key.kind ≡ session.Broadcast → (key_all s ≡ key → ⊥) → is_lane s all (record { 0 = n }) all ≡ false
     not_of s n e k d = and_left (n == s.0) true (ne_eqb n s.0 (λ q. let t : s.0 ≡ key.source.0 = sym q ∙ e in d (λ i. record { source = record { 0 = t i }; kind = sym k i })))
 
-    settles_broadcast : (s : bam.Incoming) (r : bam-steps.Received) → IsStateOf a.0 key (incoming.Broadcast s) → IsFrom s.from r → Settles a key m (settled station key set room m (after_broadcast s r))
+    settles_broadcast : (s : bam.Incoming) (r : bam-steps.Received) → IsStateOf a.0 key (incoming.Broadcast s) → IsFrom s.from r → Settles a key m (broadcast_settled station key set room m s r)
     settles_broadcast s (bam-steps.Awaits t) h k = settles_on (incoming.Broadcast t) None (of_it (incoming.Broadcast t) (k ∙ h.0, h.1)) tt
     settles_broadcast s (bam-steps.Completes bytes) h k = settles_whole distinct station room None None (record { 0 = s.from }) all (clean s.pgn) bytes is tt tt (λ x n. not_of x s.from h.0 h.1 n)
     settles_broadcast s bam-steps.Drops h k = settles_ended None tt
 
-    pub settles_step : (s : Incoming) (wire : Wire) (flow : Flow) (now : ℕ) → IsStateOf a.0 key s → Settles a key m (settled station key set room m (progress (prepared s wire room flow) wire room flow now))
+    pub settles_step : (s : Incoming) (wire : Wire) (flow : Flow) (now : ℕ) → IsStateOf a.0 key s → Settles a key m (session_stepped station key set room m flow s wire now)
     settles_step (incoming.Broadcast s) wire flow now h = settles_broadcast s (bam-steps.stepped s wire now) h (from_step s wire now)
-    settles_step (incoming.Tp s) wire flow now h = settles_tp (tp-steps.stepped s wire room flow now) h.1 (tp_step a.0 key.source.0 s wire room flow now h.0)
-    settles_step (incoming.Etp s) wire flow now h = settles_etp (etp-steps.stepped (etp-room.prepared_state s wire room flow) wire room flow now) h.1 (etp_step a.0 key.source.0 (etp-room.prepared_state s wire room flow) wire room flow now (etp_prepared a.0 key.source.0 s wire room flow h.0))
+    settles_step (incoming.Connection s) wire flow now h =
+        let p : InState = prepared s wire room flow in
+        settles_connection (stepped p wire room flow now) (unfinished_of p).kind (h.1 ∙ ap session_for (sym (prepared_stays s wire room flow))) (step_stays p wire room flow now)
+        (connection_step a.0 key.source.0 p wire room flow now (peer_prepared a.0 key.source.0 s wire room flow h.0))
 
-    pub settles_fire : (s : Incoming) (flow : Flow) (now : ℕ) → IsStateOf a.0 key s → Settles a key m (settled station key set room m (fired (prepared_to_fire s flow) flow now))
+  module _ (station : Address) (is : station ≡ a) (small : a.0 < 254) (foreign : key.source.0 ≡ a.0 → ⊥) (distinct : Distinct set) where
+    pub settles_fire : (s : Incoming) (flow : Flow) (now : ℕ) → IsStateOf a.0 key s → Settles a key m (session_fired station key set m flow s now)
     settles_fire (incoming.Broadcast s) flow now h = settles_ended None tt
-    settles_fire (incoming.Tp s) flow now h = settles_tp (tp-steps.expired s flow now) h.1 (tp_expired a.0 key.source.0 s flow now h.0)
-    settles_fire (incoming.Etp s) flow now h = settles_etp (etp-steps.expired (etp-room.prepared_to_expire s flow) flow now) h.1 (etp_expired a.0 key.source.0 (etp-room.prepared_to_expire s flow) flow now (etp_prepared_fire a.0 key.source.0 s flow h.0))
+    settles_fire (incoming.Connection s) flow now h =
+        let p : InState = prepared_to_expire s flow in
+        settles_connection station is small foreign distinct true (expired p flow now) (unfinished_of p).kind (h.1 ∙ ap session_for (sym (prepared_fire_stays s flow))) (expired_stays p flow now)
+        (connection_expired a.0 key.source.0 p flow now (peer_prepared_fire a.0 key.source.0 s flow h.0))
 
-    closing_said : (s : Incoming) → IsStateOf a.0 key s → SaidBack a.0 key.source.0 (closing_frame s)
-    closing_said (incoming.Broadcast s) h = tt
-    closing_said (incoming.Tp s) h = said_peer a.0 key.source.0 (tp-steps.peer_of s) _ h.0
-    closing_said (incoming.Etp s) h = said_peer a.0 key.source.0 (etp-steps.peer_of s) _ h.0
+  closing_said : (s : Incoming) → IsStateOf a.0 key s → SaidBack a.0 key.source.0 (closing_frame s)
+  closing_said (incoming.Broadcast s) h = tt
+  closing_said (incoming.Connection s) h = said_peer a.0 key.source.0 (unfinished_of s).peer _ h.0
 
-    pub settles_closed : (s : Incoming) → IsStateOf a.0 key s → Settles a key m (record { sessions = finmap.remove m key; frame = closing_frame s; events = [] })
-    settles_closed s h = settles_ended (closing_frame s) (closing_said s h)
+  pub settles_closed : (s : Incoming) → IsStateOf a.0 key s → Settles a key m (record { sessions = finmap.remove m key; frame = closing_frame s; events = [] })
+  settles_closed s h = settles_ended (closing_frame s) (closing_said s h)
+
+pub no_broadcast : (kind : Kind) → session.Broadcast ≡ session_for kind → ⊥
+no_broadcast Tp e = cc
+no_broadcast Etp e = cc
 
 -- Calls
 
@@ -182,7 +186,7 @@ module _ (a : Address) (ports : Ports) (is : ports.station ≡ a) (small : a.0 <
       by : (o : Option (List ℕ × Incoming)) → state_at m key ≡ o → Settles a key m (fired_by o ports key now m)
       by None e = settles_none a key m each
       by (Some v) e = let h : IsSessionOf a.0 key v = each key v e in
-          settles_fire a key v.0 m each h.small ports.station is small h.foreign h.distinct true v.1 (flow_at ports v.0) now h.state
+          settles_fire a key v.0 m each h.small ports.station is small h.foreign h.distinct v.1 (flow_at ports v.0) now h.state
 
   -- a timer gives nothing of the broadcasts of s, and their session is as it was or ends
   pub fired_calmly : (s : Address) (now : ℕ) → Each (IsUntold s) (fired_at ports key now m).events × StaysOrEnds (session_at (fired_at ports key now m).sessions (key_all s)) (session_at m (key_all s))
@@ -194,8 +198,7 @@ module _ (a : Address) (ports : Ports) (is : ports.station ≡ a) (small : a.0 <
       by : (o : Option (List ℕ × Incoming)) → state_at m key ≡ o → Settles a key m (fired_by o ports key now m) → Each (IsUntold s) (fired_by o ports key now m).events × StaysOrEnds (session_at (fired_by o ports key now m).sessions (key_all s)) (session_at m (key_all s))
       by None e h = (tt, inr refl)
       by (Some (set, incoming.Broadcast b)) e h = (tt, dropped_stays m key (key_all s))
-      by (Some (set, incoming.Tp t)) e h = other (Some (set, incoming.Tp t)) h (λ q. let k : session.Broadcast ≡ session.Tp = ap (λ (x : Key). x.kind) q ∙ (each key (set, incoming.Tp t) e).state.1 in cc)
-      by (Some (set, incoming.Etp t)) e h = other (Some (set, incoming.Etp t)) h (λ q. let k : session.Broadcast ≡ session.Etp = ap (λ (x : Key). x.kind) q ∙ (each key (set, incoming.Etp t) e).state.1 in cc)
+      by (Some (set, incoming.Connection t)) e h = other (Some (set, incoming.Connection t)) h (λ q. no_broadcast (unfinished_of t).kind (ap (λ (x : Key). x.kind) q ∙ (each key (set, incoming.Connection t) e).state.1))
 
   -- an abort
   pub each_aborted : (pgn : ℕ) → OfEach (IsSessionOf a.0) (aborted_at key pgn m)
@@ -220,7 +223,7 @@ module _ (a : Address) (ports : Ports) (is : ports.station ≡ a) (small : a.0 <
       by None e = settles_none a key m each
       by (Some v) e = let h : IsSessionOf a.0 key v = each key v e in
           either (Settles a key m) (length (without_number v.0 number) == 0) _ _
-          (settles_closed a key v.0 m each h.small a refl small h.foreign h.distinct true v.1 h.state)
+          (settles_closed a key v.0 m each h.small v.1 h.state)
           (settles_on a key (without_number v.0 number) m each h.small v.1 None (record { small = h.small; foreign = h.foreign; distinct = distinct_without number v.0 h.distinct; state = h.state }) tt)
 
   pub unbound_stays : (number : ℕ) (q : Key) → StaysOrEnds (session_at (unbound_at key number m).sessions q) (session_at m q)

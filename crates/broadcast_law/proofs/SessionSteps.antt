@@ -11,30 +11,21 @@ use Rattle.tp_wire.specs.declared.wire.Wire.{Wire}
 use Rattle.tp_wire.specs.declared.wire.Wire.TheVariants.{Cm, Packet, Request, Ack}
 use Rattle.seg_cut.specs.Join.{Join, joined, wants_last}
 use Rattle.responder.specs.Peer.{Peer}
-use Rattle.responder.specs.Answers.{end_frame}
+use Rattle.responder.specs.Answers.{abort_frame, end_frame}
+use Rattle.responder.specs.Unfinished.{Unfinished, with_packet}
+use Rattle.responder.specs.Window.{cts_frame}
+use Rattle.responder.specs.Readers.{unfinished_of}
+use Rattle.responder.specs.Asking.{asking, asked, asks, grant}
+use Rattle.responder.specs.Steps.{stepped, expired}
+use Rattle.responder.specs.Room.{prepared, prepared_to_expire}
 use Rattle.responder.specs.declared.flow.Flow.{Flow}
 use Rattle.responder.specs.declared.flow.Flow.TheVariants.{Open, Held}
-use Rattle.tp_session.specs.States as tp-states
-use Rattle.tp_session.specs.Asking as tp-asking
-use Rattle.tp_session.specs.PacketRows as tp-rows
-use Rattle.tp_session.specs.Steps as tp-steps
-use Rattle.tp_session.specs.declared.in_state.InState.{InState as TpState}
-use Rattle.tp_session.specs.declared.in_state.InState.TheVariants as tp-state
-use Rattle.tp_session.specs.declared.received.Received as tp
-use Rattle.tp_session.specs.declared.received.Received.TheVariants as tp-received
-use Rattle.etp_session.specs.States as etp-states
-use Rattle.etp_session.specs.Asking as etp-asking
-use Rattle.etp_session.specs.DpoRows as etp-dpo
-use Rattle.etp_session.specs.PacketRows as etp-rows
-use Rattle.etp_session.specs.Steps as etp-steps
-use Rattle.etp_session.specs.Room as etp-room
-use Rattle.etp_session.specs.declared.in_state.InState.{InState as EtpState}
-use Rattle.etp_session.specs.declared.in_state.InState.TheVariants as etp-state
-use Rattle.etp_session.specs.declared.received.Received as etp
-use Rattle.etp_session.specs.declared.received.Received.TheVariants as etp-received
+use Rattle.responder.specs.declared.in_state.InState.{InState}
+use Rattle.responder.specs.declared.received.Received.{Received}
+use Rattle.responder.specs.declared.received.Received.TheVariants.{On, Complete, Ended}
 use Rattle.lane_core.specs.Steps.{option_frames}
 use Rattle.record_lemmas.proofs.Lists.{Each}
-use Rattle.record_lemmas.proofs.Tests.{either}
+use Rattle.responder.proofs.Rows.{by_rows, by_timer, by_room, by_room_at_timer}
 use Rattle.broadcast_law.proofs.Carried.{IsSaid}
 
 module _ (a from : ℕ) where
@@ -51,123 +42,35 @@ module _ (a from : ℕ) where
   said_end Tp peer size h = said_peer peer _ h
   said_end Etp peer size h = said_peer peer _ h
 
-  -- TP
+  -- Steps of a connection
 
-  abbrev pub FitsTp : tp.Received → Type 0
-  FitsTp (tp-received.On s frame) = FitsPeer (tp-steps.peer_of s) × SaidBack frame
-  FitsTp (tp-received.Complete m) = FitsPeer m.peer
-  FitsTp (tp-received.Ended frame) = SaidBack frame
+  abbrev pub Fits : Received → Type 0
+  Fits (On s frame) = FitsPeer (unfinished_of s).peer × SaidBack frame
+  Fits (Complete m) = FitsPeer m.peer
+  Fits (Ended frame) = SaidBack frame
 
-  pub tp_asking : (peer : Peer) (join : Join) (most : ℕ) (flow : Flow) (now : ℕ) → FitsPeer peer → FitsPeer (tp-steps.peer_of (tp-asking.asking peer join most flow now)) × SaidBack (Some (tp-asking.asked peer join most flow))
-  tp_asking peer join most Open now h = (h, said_peer peer _ h)
-  tp_asking peer join most Held now h = (h, said_peer peer _ h)
+  pub asking_fits : (m : Unfinished) (flow : Flow) (now : ℕ) → FitsPeer m.peer → FitsPeer (unfinished_of (asking m flow now)).peer × SaidBack (Some (asked m flow))
+  asking_fits m Open now h = (h, said_peer m.peer _ h)
+  asking_fits m Held now h = (h, said_peer m.peer _ h)
 
-  tp_asks : (peer : Peer) (join : Join) (most : ℕ) (flow : Flow) (now : ℕ) → FitsPeer peer → FitsTp (tp-rows.asks peer join most flow now)
-  tp_asks peer join most flow now h = tp_asking peer join most flow now h
+  pub connection_step : (s : InState) (wire : Wire) (room : Bool) (flow : Flow) (now : ℕ) → FitsPeer (unfinished_of s).peer → Fits (stepped s wire room flow now)
+  connection_step s wire room flow now h =
+      by_rows Fits flow now s wire room (record {
+        same = λ _. (h, tt);
+        aborts = λ _ reason. said_peer (unfinished_of s).peer _ h;
+        announces = λ granted until packets offset pgn timer _ _. (h, tt);
+        announces_held = λ packets offset pgn timer _ _. (h, tt);
+        accepts = λ bytes granted until timer _ _. (h, tt);
+        asks_next = λ bytes _ _. asking_fits (with_packet (unfinished_of s) bytes) flow now h;
+        ends = λ bytes _ _ _. h;
+      })
 
-  tp_packet : (s : tp-states.AwaitPacket) (number : ℕ) (bytes : List ℕ) (room : Bool) (flow : Flow) (now : ℕ) → FitsPeer s.peer → FitsTp (tp-rows.on_packet s number bytes room flow now)
-  tp_packet s number bytes room flow now h =
-      either FitsTp (nat_lt number s.join.next) _ _ (h, tt)
-      (either FitsTp (nat_lt s.join.next number) _ _ (said_peer s.peer _ h)
-      (either FitsTp (not (wants_last s.join) && nat_lt number s.granted) _ _ (h, tt)
-      (either FitsTp (not (wants_last s.join) && room) _ _ (tp_asks s.peer (joined s.join bytes) s.most flow now h)
-      (either FitsTp (not (wants_last s.join)) _ _ (said_peer s.peer _ h) h))))
-
-  pub tp_step : (s : TpState) (wire : Wire) (room : Bool) (flow : Flow) (now : ℕ) → FitsPeer (tp-steps.peer_of s) → FitsTp (tp-steps.stepped s wire room flow now)
-  tp_step (tp-state.AwaitPacket s) (Packet Tp k bytes) room flow now h = tp_packet s k bytes room flow now h
-  tp_step (tp-state.AwaitPacket s) (Packet Etp k bytes) room flow now h = (h, tt)
-  tp_step (tp-state.AwaitPacket s) (Cm frame) room flow now h = (h, tt)
-  tp_step (tp-state.AwaitPacket s) (Request pgn) room flow now h = (h, tt)
-  tp_step (tp-state.AwaitPacket s) (Ack control address pgn) room flow now h = (h, tt)
-  tp_step (tp-state.Holding s) (Packet Tp k bytes) room flow now h = either FitsTp (nat_lt k s.join.next) _ _ (h, tt) (said_peer s.peer _ h)
-  tp_step (tp-state.Holding s) (Packet Etp k bytes) room flow now h = (h, tt)
-  tp_step (tp-state.Holding s) (Cm frame) room flow now h = (h, tt)
-  tp_step (tp-state.Holding s) (Request pgn) room flow now h = (h, tt)
-  tp_step (tp-state.Holding s) (Ack control address pgn) room flow now h = (h, tt)
-
-  pub tp_expired : (s : TpState) (flow : Flow) (now : ℕ) → FitsPeer (tp-steps.peer_of s) → FitsTp (tp-steps.expired s flow now)
-  tp_expired (tp-state.AwaitPacket s) flow now h = said_peer s.peer _ h
-  tp_expired (tp-state.Holding s) flow now h = tp_asks s.peer s.join s.most flow now h
-
-  -- ETP
-
-  abbrev pub FitsEtp : etp.Received → Type 0
-  FitsEtp (etp-received.On s frame) = FitsPeer (etp-steps.peer_of s) × SaidBack frame
-  FitsEtp (etp-received.Complete m) = FitsPeer m.peer
-  FitsEtp (etp-received.Ended frame) = SaidBack frame
-
-  pub etp_asking : (peer : Peer) (join : Join) (offset : ℕ) (flow : Flow) (now : ℕ) → FitsPeer peer → FitsPeer (etp-steps.peer_of (etp-asking.asking peer join offset flow now)) × SaidBack (Some (etp-asking.asked peer join flow))
-  etp_asking peer join offset Open now h = (h, said_peer peer _ h)
-  etp_asking peer join offset Held now h = (h, said_peer peer _ h)
-
-  etp_asks : (peer : Peer) (join : Join) (offset : ℕ) (flow : Flow) (now : ℕ) → FitsPeer peer → FitsEtp (etp-rows.asks peer join offset flow now)
-  etp_asks peer join offset flow now h = etp_asking peer join offset flow now h
-
-  etp_packet : (s : etp-states.AwaitPacket) (number : ℕ) (bytes : List ℕ) (room : Bool) (flow : Flow) (now : ℕ) → FitsPeer s.peer → FitsEtp (etp-rows.on_packet s number bytes room flow now)
-  etp_packet s number bytes room flow now h =
-      either FitsEtp (nat_lt number s.join.next) _ _ (h, tt)
-      (either FitsEtp (nat_lt s.join.next number || nat_lt s.until s.join.next) _ _ (said_peer s.peer _ h)
-      (either FitsEtp (not (wants_last s.join) && nat_lt number s.until) _ _ (h, tt)
-      (either FitsEtp (not (wants_last s.join) && room) _ _ (etp_asks s.peer (joined s.join bytes) s.offset flow now h)
-      (either FitsEtp (not (wants_last s.join)) _ _ (said_peer s.peer _ h) h))))
-
-  etp_dpo : (s : etp-states.AwaitPacket) (packets offset pgn : ℕ) → FitsPeer s.peer → FitsEtp (etp-dpo.on_dpo s packets offset pgn)
-  etp_dpo s packets offset pgn h =
-      either FitsEtp (etp-dpo.is_of_another s.peer pgn) _ _ (h, tt)
-      (either FitsEtp (etp-dpo.is_wrong_dpo s.join.next s.granted packets offset) _ _ (said_peer s.peer _ h)
-      (either (λ (x : etp-states.AwaitPacket). FitsPeer x.peer) (nat_le s.join.next (offset + packets)) _ _ h h, tt))
-
-  etp_dpo_held : (s : etp-states.Holding) (packets offset pgn : ℕ) → FitsPeer s.peer → FitsEtp (etp-dpo.on_dpo_in_hold s packets offset pgn)
-  etp_dpo_held s packets offset pgn h =
-      either FitsEtp (etp-dpo.is_of_another s.peer pgn) _ _ (h, tt)
-      (either FitsEtp (etp-dpo.is_wrong_dpo s.join.next (s.join.next - 1) packets offset) _ _ (said_peer s.peer _ h) (h, tt))
-
-  etp_wait_cm : (s : etp-states.AwaitPacket) (frame : CmFrame) (room : Bool) (flow : Flow) (now : ℕ) → FitsPeer s.peer → FitsEtp (etp-steps.awaiting_stepped s (Cm frame) room flow now)
-  etp_wait_cm s (EtpDpo packets offset pgn) room flow now h = etp_dpo s packets offset pgn h
-  etp_wait_cm s (Rts size packets most pgn) room flow now h = (h, tt)
-  etp_wait_cm s (Cts granted next pgn) room flow now h = (h, tt)
-  etp_wait_cm s (EndOfMsgAck size packets pgn) room flow now h = (h, tt)
-  etp_wait_cm s (Bam size packets pgn) room flow now h = (h, tt)
-  etp_wait_cm s (Abort reason pgn) room flow now h = (h, tt)
-  etp_wait_cm s (EtpRts size pgn) room flow now h = (h, tt)
-  etp_wait_cm s (EtpCts granted next pgn) room flow now h = (h, tt)
-  etp_wait_cm s (EtpEoma size pgn) room flow now h = (h, tt)
-  etp_wait_cm s (EtpAbort reason pgn) room flow now h = (h, tt)
-
-  etp_hold_cm : (s : etp-states.Holding) (frame : CmFrame) → FitsPeer s.peer → FitsEtp (etp-steps.holding_stepped s (Cm frame))
-  etp_hold_cm s (EtpDpo packets offset pgn) h = etp_dpo_held s packets offset pgn h
-  etp_hold_cm s (Rts size packets most pgn) h = (h, tt)
-  etp_hold_cm s (Cts granted next pgn) h = (h, tt)
-  etp_hold_cm s (EndOfMsgAck size packets pgn) h = (h, tt)
-  etp_hold_cm s (Bam size packets pgn) h = (h, tt)
-  etp_hold_cm s (Abort reason pgn) h = (h, tt)
-  etp_hold_cm s (EtpRts size pgn) h = (h, tt)
-  etp_hold_cm s (EtpCts granted next pgn) h = (h, tt)
-  etp_hold_cm s (EtpEoma size pgn) h = (h, tt)
-  etp_hold_cm s (EtpAbort reason pgn) h = (h, tt)
-
-  pub etp_step : (s : EtpState) (wire : Wire) (room : Bool) (flow : Flow) (now : ℕ) → FitsPeer (etp-steps.peer_of s) → FitsEtp (etp-steps.stepped s wire room flow now)
-  etp_step (etp-state.AwaitPacket s) (Packet Etp k bytes) room flow now h = etp_packet s (s.offset + k) bytes room flow now h
-  etp_step (etp-state.AwaitPacket s) (Packet Tp k bytes) room flow now h = (h, tt)
-  etp_step (etp-state.AwaitPacket s) (Cm frame) room flow now h = etp_wait_cm s frame room flow now h
-  etp_step (etp-state.AwaitPacket s) (Request pgn) room flow now h = (h, tt)
-  etp_step (etp-state.AwaitPacket s) (Ack control address pgn) room flow now h = (h, tt)
-  etp_step (etp-state.Holding s) (Packet Etp k bytes) room flow now h = either FitsEtp (nat_lt (s.offset + k) s.join.next) _ _ (h, tt) (said_peer s.peer _ h)
-  etp_step (etp-state.Holding s) (Packet Tp k bytes) room flow now h = (h, tt)
-  etp_step (etp-state.Holding s) (Cm frame) room flow now h = etp_hold_cm s frame h
-  etp_step (etp-state.Holding s) (Request pgn) room flow now h = (h, tt)
-  etp_step (etp-state.Holding s) (Ack control address pgn) room flow now h = (h, tt)
-
-  pub etp_expired : (s : EtpState) (flow : Flow) (now : ℕ) → FitsPeer (etp-steps.peer_of s) → FitsEtp (etp-steps.expired s flow now)
-  etp_expired (etp-state.AwaitPacket s) flow now h = said_peer s.peer _ h
-  etp_expired (etp-state.Holding s) flow now h = etp_asks s.peer s.join s.offset flow now h
+  pub connection_expired : (s : InState) (flow : Flow) (now : ℕ) → FitsPeer (unfinished_of s).peer → Fits (expired s flow now)
+  connection_expired s flow now h = by_timer Fits flow now s (said_peer (unfinished_of s).peer _ h) (asking_fits (unfinished_of s) flow now h)
 
   -- room changes no peer
-  pub etp_prepared : (s : EtpState) (wire : Wire) (room : Bool) (flow : Flow) → FitsPeer (etp-steps.peer_of s) → FitsPeer (etp-steps.peer_of (etp-room.prepared_state s wire room flow))
-  etp_prepared (etp-state.AwaitPacket s) wire room flow h = either (λ (x : etp-states.AwaitPacket). FitsPeer x.peer) (etp-room.grants_next s wire room flow) _ _ h h
-  etp_prepared (etp-state.Holding s) wire room flow h = h
+  pub peer_prepared : (s : InState) (wire : Wire) (room : Bool) (flow : Flow) → FitsPeer (unfinished_of s).peer → FitsPeer (unfinished_of (prepared s wire room flow)).peer
+  peer_prepared s wire room flow h = by_room (λ x. FitsPeer (unfinished_of x).peer) s wire room flow h (λ packets granted until timer. h)
 
-  pub etp_prepared_fire : (s : EtpState) (flow : Flow) → FitsPeer (etp-steps.peer_of s) → FitsPeer (etp-steps.peer_of (etp-room.prepared_to_expire s flow))
-  etp_prepared_fire (etp-state.AwaitPacket s) flow h = h
-  etp_prepared_fire (etp-state.Holding s) Open h = h
-  etp_prepared_fire (etp-state.Holding s) Held h = h
+  pub peer_prepared_fire : (s : InState) (flow : Flow) → FitsPeer (unfinished_of s).peer → FitsPeer (unfinished_of (prepared_to_expire s flow)).peer
+  peer_prepared_fire s flow h = by_room_at_timer (λ x. FitsPeer (unfinished_of x).peer) s flow h (λ packets timer. h)

@@ -8,16 +8,20 @@ use Rattle.pgn_ids.specs.declared.address.Address.{Address}
 use Rattle.tp_wire.specs.Reading.{reading}
 use Rattle.tp_wire.specs.Rows.{goes_to, comes_from}
 use Rattle.tp_wire.specs.Reason.{reason_byte}
+use Rattle.tp_wire.specs.declared.constants.TheConstants.{ETP_MAX_WINDOW}
+use Rattle.tp_wire.specs.declared.wire.Kind.{Kind}
 use Rattle.tp_wire.specs.declared.wire.Kind.TheVariants.{Tp, Etp}
+use Rattle.responder.specs.Unfinished.{Unfinished, begun}
+use Rattle.responder.specs.Window.{most_of}
+use Rattle.responder.specs.Asking.{asking, asked}
+use Rattle.responder.specs.Room.{first_join}
+use Rattle.session_table.specs.Key.{session_for}
 use Rattle.tp_wire.specs.declared.wire.CmFrame.{CmFrame}
 use Rattle.tp_wire.specs.declared.wire.CmFrame.TheVariants.{Rts, Cts, EndOfMsgAck, Bam, Abort, EtpRts, EtpCts, EtpDpo, EtpEoma, EtpAbort}
 use Rattle.tp_wire.specs.declared.wire.Wire.{Wire}
 use Rattle.tp_wire.specs.declared.wire.Wire.TheVariants.{Cm, Packet, Request, Ack}
 use Rattle.responder.specs.Answers.{abort_frame}
 use Rattle.bam_session.specs.States as bam
-use Rattle.tp_session.specs.Asking as tp
-use Rattle.etp_session.specs.Asking as etp
-use Rattle.etp_session.specs.Room.{first_join}
 use Rattle.session_table.specs.declared.key.Key.{Key}
 use Rattle.session_table.specs.declared.key.SessionKind.{SessionKind}
 use Rattle.session_table.specs.declared.key.SessionKind.TheVariants as session
@@ -32,16 +36,17 @@ use Rattle.station_lanes.specs.LaneCalls.{outcome_of}
 use Rattle.station_lanes.specs.declared.event.Event.{Event}
 use Rattle.station_sessions.specs.Receiving.{received, flow_at, aborted_at}
 use Rattle.station_core.specs.Station.{Station, StationStep, quietly, queues}
-use Rattle.station_core.specs.Opening.{key_of, refusal, is_tp_size, is_etp_size, set_for, others_than, whole_join, peer_of, opened, not_opened, rts_taken, etp_rts_taken, bam_taken}
+use Rattle.station_core.specs.Opening.{key_of, refusal, is_tp_size, is_etp_size, set_for, others_than, whole_join, peer_of, opened, not_opened, rts_taken, bam_taken}
 use Rattle.station_core.specs.Taking.{packet_kind, in_session, in_lane, abort_taken, cm_taken, answer, request_taken, ack_taken, wire_taken, looks_at, meaning_taken, taken}
 use Rattle.record_lemmas.proofs.Lists.{Each, each_append}
 use Rattle.record_lemmas.proofs.Maps.{of_each_put, of_each_dropped}
 use Rattle.record_lemmas.proofs.Readings.{GivesBack}
+use Rattle.responder.proofs.Rows.{asking_stays}
 use Rattle.record_lemmas.proofs.Tests.{on_test, either, by_option}
 use Rattle.broadcast_law.proofs.Carried.{IsQuiet, quiet_ack, Meaning, IsRead, reading_tells}
 use Rattle.broadcast_law.proofs.Ports.{set_distinct, IsOfPort, IsOneGiving, station_told, one_of_none, none_told}
 use Rattle.broadcast_law.proofs.LaneSteps.{fits_heard, fits_answered}
-use Rattle.broadcast_law.proofs.SessionSteps.{FitsPeer, SaidBack, said_peer, tp_asking, etp_asking}
+use Rattle.broadcast_law.proofs.SessionSteps.{FitsPeer, SaidBack, said_peer, asking_fits}
 use Rattle.broadcast_law.proofs.Receptions.{IsSessionOf, IsStateOf, settles_received, each_aborted}
 use Rattle.broadcast_law.proofs.Stations.{IsOwn, Does, does_none, does_then, does_sessions, does_reception, does_lane, lanes_stepped, lanes_else, outcome_ports, outcome_untold}
 
@@ -66,19 +71,13 @@ module _ (gives : GivesBack) (a : Address) (small : a.0 < 254) where
     peer_fits : (pgn : ℕ) → FitsPeer a.0 from.0 (peer_of st from pgn)
     peer_fits pgn = (ap (λ (x : Address). x.0) h.address, refl)
 
-    does_rts : (size packets most pgn : ℕ) (room : Bool) (now : ℕ) → Does a st (rts_taken st from size packets most pgn room now)
-    does_rts size packets most pgn room now =
-        let q = tp_asking a.0 from.0 (peer_of st from pgn) (whole_join size) most (flow_at st.ports (set_for st pgn size)) now (peer_fits pgn) in
-        by_option (Does a st) (refusal (is_tp_size size packets) room (set_for st pgn size) (others_than st (key_of from session.Tp))) _ _
-        (does_opened st h (key_of from session.Tp) one foreign pgn size (incoming.Tp (tp.asking (peer_of st from pgn) (whole_join size) most (flow_at st.ports (set_for st pgn size)) now)) (Some (tp.asked (peer_of st from pgn) (whole_join size) most (flow_at st.ports (set_for st pgn size)))) (q.0, refl) q.1)
-        (λ reason. does_not_opened st h (key_of from session.Tp) one foreign (Some (abort_frame Tp (peer_of st from pgn) (reason_byte reason))) (said_peer a.0 from.0 (peer_of st from pgn) _ (peer_fits pgn)))
-
-    does_etp_rts : (size pgn : ℕ) (room : Bool) (now : ℕ) → Does a st (etp_rts_taken st from size pgn room now)
-    does_etp_rts size pgn room now =
-        let q = etp_asking a.0 from.0 (peer_of st from pgn) (first_join size (flow_at st.ports (set_for st pgn size))) 0 (flow_at st.ports (set_for st pgn size)) now (peer_fits pgn) in
-        by_option (Does a st) (refusal (is_etp_size size) room (set_for st pgn size) (others_than st (key_of from session.Etp))) _ _
-        (does_opened st h (key_of from session.Etp) one foreign pgn size (incoming.Etp (etp.asking (peer_of st from pgn) (first_join size (flow_at st.ports (set_for st pgn size))) 0 (flow_at st.ports (set_for st pgn size)) now)) (Some (etp.asked (peer_of st from pgn) (first_join size (flow_at st.ports (set_for st pgn size))) (flow_at st.ports (set_for st pgn size)))) (q.0, refl) q.1)
-        (λ reason. does_not_opened st h (key_of from session.Etp) one foreign (Some (abort_frame Etp (peer_of st from pgn) (reason_byte reason))) (said_peer a.0 from.0 (peer_of st from pgn) _ (peer_fits pgn)))
+    does_rts : (kind : Kind) (is_size : Bool) (size most pgn : ℕ) (room : Bool) (now : ℕ) → Does a st (rts_taken st kind is_size from size most pgn room now)
+    does_rts kind is_size size most pgn room now =
+        let m : Unfinished = begun kind (peer_of st from pgn) most (first_join kind size (flow_at st.ports (set_for st pgn size))) in
+        let q = asking_fits a.0 from.0 m (flow_at st.ports (set_for st pgn size)) now (peer_fits pgn) in
+        by_option (Does a st) (refusal is_size room (set_for st pgn size) (others_than st (key_of from (session_for kind)))) _ _
+        (does_opened st h (key_of from (session_for kind)) one foreign pgn size (incoming.Connection (asking m (flow_at st.ports (set_for st pgn size)) now)) (Some (asked m (flow_at st.ports (set_for st pgn size)))) (q.0, ap session_for (sym (asking_stays m (flow_at st.ports (set_for st pgn size)) now))) q.1)
+        (λ reason. does_not_opened st h (key_of from (session_for kind)) one foreign (Some (abort_frame kind (peer_of st from pgn) (reason_byte reason))) (said_peer a.0 from.0 (peer_of st from pgn) _ (peer_fits pgn)))
 
     does_bam : (size packets pgn : ℕ) (room : Bool) (now : ℕ) → Does a st (bam_taken st from size packets pgn room now)
     does_bam size packets pgn room now =
@@ -100,12 +99,12 @@ module _ (gives : GivesBack) (a : Address) (small : a.0 < 254) where
     does_in_session kind wire room now = does_reception gives a small st (key_of from kind) (received st.ports (key_of from kind) wire room now st.sessions) h (settles_received a st.ports h.ports.station small (key_of from kind) st.sessions h.sessions wire room now)
 
     does_cm : (frame : CmFrame) (room : Bool) (now : ℕ) → Does a st (cm_taken st frame from room now).station
-    does_cm (Rts size packets most pgn) room now = does_rts size packets most pgn room now
+    does_cm (Rts size packets most pgn) room now = does_rts Tp (is_tp_size size packets) size (most_of Tp most) pgn room now
     does_cm (Cts granted next pgn) room now = does_in_lane st h (Cm (Cts granted next pgn)) now
     does_cm (EndOfMsgAck size packets pgn) room now = does_in_lane st h (Cm (EndOfMsgAck size packets pgn)) now
     does_cm (Bam size packets pgn) room now = does_bam size packets pgn room now
     does_cm (Abort reason pgn) room now = does_abort session.Tp pgn (Cm (Abort reason pgn)) now
-    does_cm (EtpRts size pgn) room now = does_etp_rts size pgn room now
+    does_cm (EtpRts size pgn) room now = does_rts Etp (is_etp_size size) size ETP_MAX_WINDOW pgn room now
     does_cm (EtpCts granted next pgn) room now = does_in_lane st h (Cm (EtpCts granted next pgn)) now
     does_cm (EtpDpo packets offset pgn) room now = does_in_session session.Etp (Cm (EtpDpo packets offset pgn)) room now
     does_cm (EtpEoma size pgn) room now = does_in_lane st h (Cm (EtpEoma size pgn)) now

@@ -103,8 +103,7 @@ IsHeard s None None = Unit {0}
 IsHeard s None (Some x) = ⊥
 IsHeard s (Some (incoming.Broadcast b)) None = ⊥
 IsHeard s (Some (incoming.Broadcast b)) (Some x) = IsSame s b x
-IsHeard s (Some (incoming.Tp t)) o = ⊥
-IsHeard s (Some (incoming.Etp t)) o = ⊥
+IsHeard s (Some (incoming.Connection t)) o = ⊥
 
 abbrev pub IsClean : Message → Type 0
 IsClean m = clean m.pgn ≡ m.pgn

@@ -29,8 +29,9 @@ use Rattle.lane_law.specs.Lane as machine
 use Rattle.broadcast_law.proofs.Buses.{ahead_of, passed_ahead, passed_again, passed_ahead_else, passed_again_else, put_ahead, put_again}
 use Rattle.broadcast_law.proofs.Places.{IsAt, AllOwn, cursor_of, apart_places}
 use Rattle.broadcast_law.proofs.Stations.{IsOwn}
+use Rattle.session_table.specs.Key.{session_for}
 use Rattle.connection_law.proofs.Frames.{goes, returns, goes_foreign, returns_foreign}
-use Rattle.connection_law.proofs.Roles.{session_for, real_at, told_to}
+use Rattle.connection_law.proofs.Roles.{real_at, told_to}
 use Rattle.connection_law.proofs.View.{Laws, IsPair, View, Still, next_still, still_same, still_then}
 use Rattle.connection_law.proofs.Moves.{skips, misses}
 use Rattle.connection_law.proofs.Events.{Tells, tells_none, tells_taken, tells_overrun}

@@ -10,12 +10,13 @@ use Rattle.tx_queue.specs.Queue.{queue_limit}
 use Rattle.port_table.specs.Ports.{Ports, without_port}
 use Rattle.port_table.specs.PortSet.{without_number}
 use Rattle.lane_core.specs.Steps.{option_frames}
+use Rattle.session_table.specs.Key.{session_for}
 use Rattle.session_table.specs.declared.key.Key.{Key}
 use Rattle.session_table.specs.declared.key.SessionKind.{SessionKind}
 use Rattle.session_table.specs.declared.key.SessionKind.TheVariants as session
 use Rattle.session_table.specs.declared.incoming.Incoming.{Incoming}
 use Rattle.session_table.specs.Sessions.{state_at}
-use Rattle.station_sessions.specs.Progress.{closing_frame}
+use Rattle.station_sessions.specs.Steps.{closing_frame}
 use Rattle.station_sessions.specs.Receiving.{Inbound, Reception, unbound_at, unbound_by}
 use Rattle.station_core.specs.Station.{Station, quietly}
 use Rattle.station_core.specs.Opening.{key_of}
@@ -31,7 +32,7 @@ use Rattle.connection_law.proofs.Sides.{asked_none}
 use Rattle.connection_law.proofs.Replies.{closing_asks}
 use Rattle.connection_law.proofs.Marks.{Lessens, less_mark, heard_without}
 use Rattle.connection_law.proofs.Others.{unbound_lessens}
-use Rattle.connection_law.proofs.Roles.{session_for, real_at, receiver_view, IsReceiverOf, StandsOn, stands_on, answers_more}
+use Rattle.connection_law.proofs.Roles.{real_at, receiver_view, IsReceiverOf, StandsOn, stands_on, answers_more}
 use Rattle.connection_law.proofs.View.{Laws, IsPair, Has, View, IsSame, of_kind, Sim, Still}
 use Rattle.connection_law.proofs.Sender.{small_d}
 use Rattle.connection_law.proofs.Receiver.{Real}
@@ -86,7 +87,7 @@ module _ (laws : Laws) (choose : machine.OnEachLane (λ lane. IsChoice lane.stre
       by : (o : Option (List ℕ × Incoming)) → state_at st.sessions key ≡ o → filter_map (returns s d) (option_frames (unbound_by o key number st.sessions).frame) ≡ []
       by None e = refl
       by (Some x) e = either (λ (r : Reception). filter_map (returns s d) (option_frames r.frame) ≡ []) (length (without_number x.0 number) == 0) _ _
-          (asked_none laws.gives s d d.0 key.source.0 (closing_frame x.1) low_d l (closing_asks d key st.sessions x.0 d true x.1 (k key x e).state)) refl
+          (asked_none laws.gives s d d.0 key.source.0 (closing_frame x.1) low_d l (closing_asks d key st.sessions x.1 (k key x e).state)) refl
 
   closes_one : (st : Station) (source : Address) (kind : SessionKind) (number : ℕ) → source.0 < 256 → AreOf st → Closes number st (unbound_session st source kind number)
   closes_one st source kind number l k = frees number st (unbound_at (key_of source kind) number st.sessions).sessions (unbound_at (key_of source kind) number st.sessions).frame

@@ -26,9 +26,9 @@ use Rattle.segment_law.specs.Headline.{port_of}
 use Rattle.port_law.proofs.Calls.{IsSound, HasLife, Good}
 use Rattle.port_law.proofs.Lives.{lives_first}
 use Rattle.port_law.proofs.Receptions.{IsBound}
+use Rattle.session_table.specs.Key.{session_for}
 use Rattle.connection_law.proofs.Openings.{no_mark, marked_none}
 use Rattle.connection_law.proofs.Frames.{goes, returns}
-use Rattle.connection_law.proofs.Roles.{session_for}
 use Rattle.connection_law.proofs.View.{Mark, Laws, IsPair, View, Sim}
 use Rattle.connection_law.proofs.Segments.{Ghost, parts, station_in, view}
 use Rattle.connection_law.proofs.Stood.{Stood}

@@ -32,7 +32,7 @@ use Rattle.connection_law.proofs.Sender.{small_d}
 use Rattle.connection_law.proofs.Moves.{Taken}
 use Rattle.connection_law.proofs.Receiver.{replies}
 use Rattle.connection_law.proofs.HearsIn.{opens_by, answers_are}
-use Rattle.connection_law.proofs.HearsRows.{tp_packet, etp_packet, dpo, rts, etp_rts}
+use Rattle.connection_law.proofs.HearsRows.{packet, dpo, rts, etp_rts}
 
 -- where a session is asked for nothing is told
 abbrev pub IsQuiet : Wire → List AtPort → Type 0
@@ -87,8 +87,8 @@ module _ (laws : Laws) (choose : machine.OnEachLane (λ lane. IsChoice lane.stre
   of_pair (Cm (Rts size packets most pgn)) room now c t = (rts laws choose s d pair v behind l st h is size packets most pgn room now t, refl)
   of_pair (Cm (EtpRts size pgn)) room now c t = (etp_rts laws choose s d pair v behind l st h is size pgn room now t, refl)
   of_pair (Cm (EtpDpo packets offset pgn)) room now c t = (dpo laws choose s d pair v behind l st h is packets offset pgn room now t, tt)
-  of_pair (Packet Tp k bytes) room now c t = subst (λ b. Goal (Packet Tp k bytes) (in_session st (key_of s (cond b session.Broadcast session.Tp)) (Packet Tp k bytes) room now)) (sym not_global) (tp_packet laws choose s d pair v behind l st h is k bytes room now t, tt)
-  of_pair (Packet Etp k bytes) room now c t = (etp_packet laws choose s d pair v behind l st h is k bytes room now t, tt)
+  of_pair (Packet Tp k bytes) room now c t = subst (λ b. Goal (Packet Tp k bytes) (in_session st (key_of s (cond b session.Broadcast session.Tp)) (Packet Tp k bytes) room now)) (sym not_global) (packet laws choose s d pair v behind l st h is Tp k bytes room now t, tt)
+  of_pair (Packet Etp k bytes) room now c t = (packet laws choose s d pair v behind l st h is Etp k bytes room now t, tt)
   of_pair (Request pgn) room now c t = subst (λ b. Goal (Request pgn) (quietly (cond b (queues st (answer st s pgn ∷ [])) st))) (sym (eq-eqb d.0 st.address.0 (sym own))) (request pgn t)
   of_pair (Cm (Cts count next pgn)) room now c t = absurd (none-some _ c)
   of_pair (Cm (EndOfMsgAck size packets pgn)) room now c t = absurd (none-some _ c)

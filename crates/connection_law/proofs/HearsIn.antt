@@ -17,18 +17,16 @@ use Rattle.seg_cut.specs.Packets.{packet_count}
 use Rattle.port_table.specs.Ports.{Ports, ports_for}
 use Rattle.responder.specs.Finished.{Finished}
 use Rattle.responder.specs.Answers.{abort_frame, end_frame}
-use Rattle.tp_session.specs.declared.received.Received as tp
-use Rattle.tp_session.specs.declared.received.Received.TheVariants as tp-received
-use Rattle.etp_session.specs.declared.received.Received as etp
-use Rattle.etp_session.specs.declared.received.Received.TheVariants as etp-received
+use Rattle.responder.specs.declared.received.Received.{Received}
+use Rattle.responder.specs.declared.received.Received.TheVariants.{On, Complete, Ended}
 use Rattle.lane_core.specs.Steps.{option_frames}
 use Rattle.session_table.specs.declared.key.Key.{Key}
 use Rattle.session_table.specs.declared.key.SessionKind.TheVariants as session
 use Rattle.session_table.specs.declared.incoming.Incoming.{Incoming}
 use Rattle.session_table.specs.declared.incoming.Incoming.TheVariants as incoming
+use Rattle.session_table.specs.Key.{session_for}
 use Rattle.station_lanes.specs.declared.event.Event.{Event}
-use Rattle.station_sessions.specs.Progress.{after_tp, after_etp}
-use Rattle.station_sessions.specs.Receiving.{Inbound, settled}
+use Rattle.station_sessions.specs.Receiving.{Inbound, connection_settled}
 use Rattle.station_core.specs.Station.{Station, StationStep, quietly, by_session}
 use Rattle.station_core.specs.Opening.{key_of}
 use Rattle.segment_law.specs.Told.{Message}
@@ -40,13 +38,13 @@ use Rattle.broadcast_law.proofs.SessionSteps.{FitsPeer}
 use Rattle.broadcast_law.proofs.Stations.{IsOwn}
 use Rattle.connection_law.proofs.Frames.{Back, BackEnd, returns}
 use Rattle.connection_law.proofs.Rows.{returns_end, returns_eoma}
-use Rattle.connection_law.proofs.SessionWires.{AsksIn, said_peer, RepliesTp, RepliesEtp}
+use Rattle.connection_law.proofs.SessionWires.{AsksIn, said_peer, Replies}
 use Rattle.connection_law.proofs.Sides.{asked_none}
 use Rattle.connection_law.proofs.Tellings.{told_here}
-use Rattle.connection_law.proofs.Roles.{session_for, station_told, numbers_at, told_to, receiver_view, IsReceiverOf, real_at, answers_more}
+use Rattle.connection_law.proofs.Roles.{station_told, numbers_at, told_to, receiver_view, IsReceiverOf, real_at, answers_more}
 use Rattle.connection_law.proofs.View.{Laws, IsPair, Mark, View}
 use Rattle.connection_law.proofs.Sender.{small_s, small_d}
-use Rattle.connection_law.proofs.Follows.{Left, Goes, Whole, Gone, left_tp, left_etp}
+use Rattle.connection_law.proofs.Follows.{Left, Goes, Whole, Gone, left_by}
 use Rattle.connection_law.proofs.Receiver.{tp_with, etp_with, with_kind, marked, mark_of, ports_of, settled_view}
 
 -- an RTS marks what had been sent, and the ports that it finds
@@ -150,29 +148,17 @@ module _ (laws : Laws) (choose : machine.OnEachLane (λ lane. IsChoice lane.stre
         first [] l = absurd (omega (arith, l))
         first (x ∷ xs) l = refl
 
-    pub tp_shows : (kind : Kind) (set : List ℕ) (room : Bool) → 0 < length set → (r : tp.Received) → RepliesTp d.0 s.0 r → IsFine (left_tp r) → shown (by_session st (settled st.ports.station (own_key kind) set room st.sessions (after_tp r))) ≡ settled_view v kind set room (left_tp r)
-    tp_shows kind set room some (tp-received.On t frame) a f = shows_put kind (set, incoming.Tp t) frame a.1
-    tp_shows kind set true some (tp-received.Complete w) a f = shows_drop kind (Some (end_frame w.kind w.peer w.size)) (gives_to st.ports.station set (record { 0 = w.peer.from }) (record { 0 = w.peer.to }) (clean w.peer.pgn) w.bytes) (BackEnd ∷ []) ((clean w.peer.pgn, w.bytes) ∷ []) (end_is w.kind w a f) (told_is set w some a)
-    tp_shows kind set false some (tp-received.Complete w) a f = shows_drop kind (Some (abort_frame w.kind w.peer (reason_byte Resources))) [] [] [] (abort_is w.kind w (reason_byte Resources) a) refl
-    tp_shows kind set room some (tp-received.Ended frame) a f = shows_drop kind frame [] [] [] (asked_none laws.gives s d d.0 s.0 frame low_d low_s a) refl
-
-    pub etp_shows : (kind : Kind) (set : List ℕ) (room : Bool) → 0 < length set → (r : etp.Received) → RepliesEtp d.0 s.0 r → IsFine (left_etp r) → shown (by_session st (settled st.ports.station (own_key kind) set room st.sessions (after_etp r))) ≡ settled_view v kind set room (left_etp r)
-    etp_shows kind set room some (etp-received.On t frame) a f = shows_put kind (set, incoming.Etp t) frame a.1
-    etp_shows kind set true some (etp-received.Complete w) a f = shows_drop kind (Some (end_frame w.kind w.peer w.size)) (gives_to st.ports.station set (record { 0 = w.peer.from }) (record { 0 = w.peer.to }) (clean w.peer.pgn) w.bytes) (BackEnd ∷ []) ((clean w.peer.pgn, w.bytes) ∷ []) (end_is w.kind w a f) (told_is set w some a)
-    etp_shows kind set false some (etp-received.Complete w) a f = shows_drop kind (Some (abort_frame w.kind w.peer (reason_byte Resources))) [] [] [] (abort_is w.kind w (reason_byte Resources) a) refl
-    etp_shows kind set room some (etp-received.Ended frame) a f = shows_drop kind frame [] [] [] (asked_none laws.gives s d d.0 s.0 frame low_d low_s a) refl
+    pub shows_step : (kind : Kind) (set : List ℕ) (room : Bool) → 0 < length set → (r : Received) → Replies d.0 s.0 r → IsFine (left_by r) → shown (by_session st (connection_settled st.ports.station (own_key kind) set room st.sessions r)) ≡ settled_view v kind set room (left_by r)
+    shows_step kind set room some (On t frame) a f = shows_put kind (set, incoming.Connection t) frame a.1
+    shows_step kind set true some (Complete w) a f = shows_drop kind (Some (end_frame w.kind w.peer w.size)) (gives_to st.ports.station set (record { 0 = w.peer.from }) (record { 0 = w.peer.to }) (clean w.peer.pgn) w.bytes) (BackEnd ∷ []) ((clean w.peer.pgn, w.bytes) ∷ []) (end_is w.kind w a f) (told_is set w some a)
+    shows_step kind set false some (Complete w) a f = shows_drop kind (Some (abort_frame w.kind w.peer (reason_byte Resources))) [] [] [] (abort_is w.kind w (reason_byte Resources) a) refl
+    shows_step kind set room some (Ended frame) a f = shows_drop kind frame [] [] [] (asked_none laws.gives s d d.0 s.0 frame low_d low_s a) refl
 
     abbrev numbers_told : StationStep → List ℕ
     numbers_told step = numbers_at (station_told d s d step.events)
 
-    pub tp_tells : (kind : Kind) (set : List ℕ) (room : Bool) → (r : tp.Received) → RepliesTp d.0 s.0 r → numbers_told (by_session st (settled st.ports.station (own_key kind) set room st.sessions (after_tp r))) ≡ ports_of set room (left_tp r)
-    tp_tells kind set room (tp-received.On t frame) a = refl
-    tp_tells kind set true (tp-received.Complete w) a = ap numbers_at (told_all set w a) ∙ at_all (clean w.peer.pgn, w.bytes) set
-    tp_tells kind set false (tp-received.Complete w) a = refl
-    tp_tells kind set room (tp-received.Ended frame) a = refl
-
-    pub etp_tells : (kind : Kind) (set : List ℕ) (room : Bool) → (r : etp.Received) → RepliesEtp d.0 s.0 r → numbers_told (by_session st (settled st.ports.station (own_key kind) set room st.sessions (after_etp r))) ≡ ports_of set room (left_etp r)
-    etp_tells kind set room (etp-received.On t frame) a = refl
-    etp_tells kind set true (etp-received.Complete w) a = ap numbers_at (told_all set w a) ∙ at_all (clean w.peer.pgn, w.bytes) set
-    etp_tells kind set false (etp-received.Complete w) a = refl
-    etp_tells kind set room (etp-received.Ended frame) a = refl
+    pub tells_step : (kind : Kind) (set : List ℕ) (room : Bool) → (r : Received) → Replies d.0 s.0 r → numbers_told (by_session st (connection_settled st.ports.station (own_key kind) set room st.sessions r)) ≡ ports_of set room (left_by r)
+    tells_step kind set room (On t frame) a = refl
+    tells_step kind set true (Complete w) a = ap numbers_at (told_all set w a) ∙ at_all (clean w.peer.pgn, w.bytes) set
+    tells_step kind set false (Complete w) a = refl
+    tells_step kind set room (Ended frame) a = refl

@@ -8,50 +8,53 @@ use Rattle.pgn_ids.specs.declared.address.Address.{Address}
 use Rattle.tp_wire.specs.Reason.{reason_byte}
 use Rattle.tp_wire.specs.declared.reason.AbortReason.{AbortReason}
 use Rattle.tp_wire.specs.declared.reason.AbortReason.TheVariants.{NoFurtherSession, Resources, Other}
+use Rattle.tp_wire.specs.declared.constants.TheConstants.{ETP_MAX_WINDOW}
 use Rattle.tp_wire.specs.declared.wire.Kind.{Kind}
 use Rattle.tp_wire.specs.declared.wire.Kind.TheVariants.{Tp, Etp}
 use Rattle.tp_wire.specs.declared.wire.CmFrame.TheVariants.{Rts, EtpRts, EtpDpo}
 use Rattle.tp_wire.specs.declared.wire.Wire.TheVariants.{Cm, Packet}
 use Rattle.responder.specs.Answers.{abort_frame}
+use Rattle.responder.specs.Unfinished.{Unfinished, begun}
+use Rattle.responder.specs.Window.{most_of}
+use Rattle.responder.specs.Readers.{unfinished_of}
+use Rattle.responder.specs.Asking.{asking, asked}
+use Rattle.responder.specs.Steps.{stepped}
+use Rattle.responder.specs.Room.{first_join, prepared}
 use Rattle.responder.specs.declared.flow.Flow.{Flow}
 use Rattle.responder.specs.declared.flow.Flow.TheVariants.{Open, Held}
-use Rattle.tp_session.specs.Asking as tp-asking
-use Rattle.tp_session.specs.Steps as tp-steps
-use Rattle.tp_session.specs.declared.received.Received as tp
-use Rattle.etp_session.specs.Asking as etp-asking
-use Rattle.etp_session.specs.Room.{first_join, prepared_state}
-use Rattle.etp_session.specs.Steps as etp-steps
-use Rattle.etp_session.specs.declared.in_state.InState.{InState as EtpState}
-use Rattle.etp_session.specs.declared.received.Received as etp
+use Rattle.responder.specs.declared.in_state.InState.{InState}
+use Rattle.responder.specs.declared.received.Received.{Received}
 use Rattle.session_table.specs.declared.TheConstants.{MAX_SESSIONS}
 use Rattle.session_table.specs.declared.key.Key.{Key}
 use Rattle.session_table.specs.declared.key.SessionKind.TheVariants as session
 use Rattle.session_table.specs.declared.incoming.Incoming.{Incoming}
 use Rattle.session_table.specs.declared.incoming.Incoming.TheVariants as incoming
 use Rattle.session_table.specs.Sessions.{state_at}
-use Rattle.station_sessions.specs.Progress.{after_tp, after_etp}
-use Rattle.station_sessions.specs.Receiving.{settled, received_by, flow_at}
+use Rattle.session_table.specs.Key.{session_for}
+use Rattle.station_sessions.specs.Receiving.{connection_settled, received_by, flow_at}
 use Rattle.station_core.specs.Station.{Station, StationStep, quietly, by_session}
-use Rattle.station_core.specs.Opening.{key_of, refusal, is_tp_size, is_etp_size, set_for, others_than, whole_join, peer_of, opened, not_opened, rts_taken, etp_rts_taken}
+use Rattle.station_core.specs.Opening.{key_of, refusal, is_tp_size, is_etp_size, set_for, others_than, peer_of, opened, not_opened, rts_taken}
 use Rattle.station_core.specs.Taking.{in_session}
 use Rattle.record_lemmas.proofs.Lists.{each_get}
+use Rattle.responder.proofs.Rows.{prepared_stays}
 use Rattle.record_lemmas.proofs.Tests.{on_test}
 use Rattle.lane_law.specs.Choice.{IsChoice}
 use Rattle.lane_law.specs.Session.{Session}
 use Rattle.lane_law.specs.Stream.{IsOfReached}
 use Rattle.lane_law.specs.Lane as machine
-use Rattle.broadcast_law.proofs.SessionSteps.{FitsPeer, etp_prepared}
+use Rattle.broadcast_law.proofs.Receptions.{no_broadcast}
+use Rattle.broadcast_law.proofs.SessionSteps.{FitsPeer, peer_prepared}
 use Rattle.broadcast_law.proofs.Stations.{IsOwn}
-use Rattle.connection_law.proofs.SessionWires.{AsksIn, said_peer, RepliesTp, RepliesEtp, tp_step, etp_step, tp_asking, etp_asking}
+use Rattle.connection_law.proofs.SessionWires.{AsksIn, aborted_asks, Replies, connection_step, asked_of}
 use Rattle.connection_law.proofs.Sides.{asked_none}
-use Rattle.connection_law.proofs.Roles.{session_for, station_told, numbers_at, receiver_view, IsReceiverOf}
+use Rattle.connection_law.proofs.Roles.{station_told, numbers_at, receiver_view, IsReceiverOf}
 use Rattle.connection_law.proofs.View.{Laws, IsPair, Mark, IsMarked, View, kind_of, IsHeardAs, IsHeard, IsSame, IsAlmost, IsGood, of_kind, Carries, Sim, Still, Next, next_still}
 use Rattle.connection_law.proofs.Sender.{small_s, small_d}
 use Rattle.connection_law.proofs.Moves.{IsPlain, Taken, carries_else}
-use Rattle.connection_law.proofs.Follows.{Left, Goes, Whole, Gone, left_tp, left_etp, Follows, Keeps, tp_follows, etp_follows, dpo_keeps, same_prepared, almost_prepared}
+use Rattle.connection_law.proofs.Follows.{Left, Goes, Whole, Gone, left_by, Follows, Keeps, packet_follows, dpo_keeps, same_prepared, almost_prepared}
 use Rattle.connection_law.proofs.Receiver.{Real, tp_with, etp_with, with_kind, marked, mark_of, left_of, ports_of, settled_view, opens_tp, opens_etp, refuses_tp, refuses_etp, replies, ShowsPacket, packet_shown, ShowsDpo}
 use Rattle.connection_law.proofs.Packets.{packet_heard, packet_unheard, dpo_heard, dpo_unheard}
-use Rattle.connection_law.proofs.HearsIn.{answers_are, shows_put, shows_drop, IsFine, tp_shows, etp_shows, tp_tells, etp_tells}
+use Rattle.connection_law.proofs.HearsIn.{answers_are, shows_put, shows_drop, IsFine, shows_step, tells_step}
 
 -- where a session opens there are ports for it
 refusal_some : (is_size room : Bool) (set : List ℕ) (others : ℕ) → refusal is_size room set others ≡ None → 0 < length set
@@ -87,13 +90,9 @@ module _ (laws : Laws) (choose : machine.OnEachLane (λ lane. IsChoice lane.stre
     goal_is : (step : StationStep) (ports : List ℕ) (w : View) → numbers_at (station_told d s d step.events) ≡ ports → shown step ≡ w → Next s d ports l w → Goal step
     goal_is step ports w e q h = subst (λ ts. Next s d ts l (shown step)) (sym e) (subst (Next s d ports l) (sym q) h)
 
-    tp_goal : (set : List ℕ) (room : Bool) → 0 < length set → (r : tp.Received) → RepliesTp d.0 s.0 r → IsFine laws choose s d pair v behind l st h is (left_tp r) → Next s d (ports_of set room (left_tp r)) l (settled_view v Tp set room (left_tp r)) → Goal (by_session st (settled st.ports.station (own_key Tp) set room st.sessions (after_tp r)))
-    tp_goal set room some r a f h' = goal_is (by_session st (settled st.ports.station (own_key Tp) set room st.sessions (after_tp r))) (ports_of set room (left_tp r)) (settled_view v Tp set room (left_tp r))
-        (tp_tells laws choose s d pair v behind l st h is Tp set room r a) (tp_shows laws choose s d pair v behind l st h is Tp set room some r a f) h'
-
-    etp_goal : (set : List ℕ) (room : Bool) → 0 < length set → (r : etp.Received) → RepliesEtp d.0 s.0 r → IsFine laws choose s d pair v behind l st h is (left_etp r) → Next s d (ports_of set room (left_etp r)) l (settled_view v Etp set room (left_etp r)) → Goal (by_session st (settled st.ports.station (own_key Etp) set room st.sessions (after_etp r)))
-    etp_goal set room some r a f h' = goal_is (by_session st (settled st.ports.station (own_key Etp) set room st.sessions (after_etp r))) (ports_of set room (left_etp r)) (settled_view v Etp set room (left_etp r))
-        (etp_tells laws choose s d pair v behind l st h is Etp set room r a) (etp_shows laws choose s d pair v behind l st h is Etp set room some r a f) h'
+    step_goal : (kind : Kind) (set : List ℕ) (room : Bool) → 0 < length set → (r : Received) → Replies d.0 s.0 r → IsFine laws choose s d pair v behind l st h is (left_by r) → Next s d (ports_of set room (left_by r)) l (settled_view v kind set room (left_by r)) → Goal (by_session st (connection_settled st.ports.station (own_key kind) set room st.sessions r))
+    step_goal kind set room some r a f h' = goal_is (by_session st (connection_settled st.ports.station (own_key kind) set room st.sessions r)) (ports_of set room (left_by r)) (settled_view v kind set room (left_by r))
+        (tells_step laws choose s d pair v behind l st h is kind set room r a) (shows_step laws choose s d pair v behind l st h is kind set room some r a f) h'
 
     pgn_small : (lane : machine.Lane) (x : Session) → Carries s d v lane → lane.stream.session ≡ Some x → x.pgn < 2 ^ 18
     pgn_small lane x c e =
@@ -121,80 +120,60 @@ module _ (laws : Laws) (choose : machine.OnEachLane (λ lane. IsChoice lane.stre
         some_ports (IsSame s d) (v.opened kind) set i t.lane.stream.session
         (subst (λ o. IsHeardAs (IsSame s d) (v.opened kind) o t.lane.stream.session) e (subst (λ q. IsHeardAs (IsSame s d) (v.opened q) (of_kind q v.tp v.etp) t.lane.stream.session) p.kind_is (t.heard (subst IsPlain (sym p.frame) tt))))
 
+    abbrev none : StationStep
+    none = record { station = record st { queue = st.queue ++ [] }; events = [] }
+
+    same : shown none ≡ v
+    same = λ i. (let w : View = record v { tp = sym is.tp i; etp = sym is.etp i; answers = (answers_are laws choose s d pair v behind l st h is None [] refl ∙ append-nil v.answers) i; given = append-nil v.given i } in w)
+
+    real : (kind : Kind) → of_kind kind v.tp v.etp ≡ state_at st.sessions (own_key kind)
+    real Tp = is.tp
+    real Etp = is.etp
+
     -- A packet
 
-    pub tp_packet : (k : ℕ) (bytes : List ℕ) (room : Bool) (now : ℕ) → Taken laws s d l v (Packet Tp k bytes) → Goal (in_session st (own_key Tp) (Packet Tp k bytes) room now)
-    tp_packet k bytes room now t = by (state_at st.sessions (own_key Tp)) refl
+    pub packet : (kind : Kind) (k : ℕ) (bytes : List ℕ) (room : Bool) (now : ℕ) → Taken laws s d l v (Packet kind k bytes) → Goal (in_session st (own_key kind) (Packet kind k bytes) room now)
+    packet kind k bytes room now t = by (state_at st.sessions (own_key kind)) refl
       where
-        none : StationStep
-        none = record { station = record st { queue = st.queue ++ [] }; events = [] }
-
-        same : shown none ≡ v
-        same = λ i. (let w : View = record v { tp = sym is.tp i; etp = sym is.etp i; answers = (answers_are laws choose s d pair v behind l st h is None [] refl ∙ append-nil v.answers) i; given = append-nil v.given i } in w)
-
-        by : (o : Option (List ℕ × Incoming)) → state_at st.sessions (own_key Tp) ≡ o → Goal (by_session st (received_by o st.ports (own_key Tp) (Packet Tp k bytes) room now st.sessions))
-        by None e = subst (Next s d [] l) (sym same) (next_still s d l v (packet_unheard laws choose s d v l Tp k bytes t))
-        by (Some (set, incoming.Broadcast b)) e = absurd (let z : session.Tp ≡ session.Broadcast = (h.sessions (own_key Tp) (set, incoming.Broadcast b) e).state.1 in cc)
-        by (Some (set, incoming.Etp u)) e = absurd (let z : session.Tp ≡ session.Etp = (h.sessions (own_key Tp) (set, incoming.Etp u) e).state.1 in cc)
-        by (Some (set, incoming.Tp u)) e =
+        by : (o : Option (List ℕ × Incoming)) → state_at st.sessions (own_key kind) ≡ o → Goal (by_session st (received_by o st.ports (own_key kind) (Packet kind k bytes) room now st.sessions))
+        by None e = subst (Next s d [] l) (sym same) (next_still s d l v (packet_unheard laws choose s d v l kind k bytes t))
+        by (Some (set, incoming.Broadcast b)) e = absurd (no_broadcast kind (sym (h.sessions (own_key kind) (set, incoming.Broadcast b) e).state.1))
+        by (Some (set, incoming.Connection u)) e =
             let flow : Flow = flow_at st.ports set in
-            let r : tp.Received = tp-steps.stepped u (Packet Tp k bytes) room flow now in
-            let q : (x : Session) × (t.lane.stream.session ≡ Some x) × (0 < length set) × IsSame s d (incoming.Tp u) x = packet_open Tp k bytes t set (incoming.Tp u) (is.tp ∙ e) in
-            let f : Follows s d q.0 k bytes (left_tp r) = tp_follows s d q.0 k bytes u room flow now q.3 in
-            let a : RepliesTp d.0 s.0 r = tp_step d.0 s.0 u (Packet Tp k bytes) room flow now (h.sessions (own_key Tp) (set, incoming.Tp u) e).state.0 in
-            tp_goal set room q.2 r a (fine_whole q.0 k bytes (left_tp r) (pgn_small t.lane q.0 t.carries q.1) f)
-            (packet_heard laws choose s d v l Tp k bytes t set (incoming.Tp u) (is.tp ∙ e) (left_tp r) room (λ x z. tp_follows s d x k bytes u room flow now z))
-
-    pub etp_packet : (k : ℕ) (bytes : List ℕ) (room : Bool) (now : ℕ) → Taken laws s d l v (Packet Etp k bytes) → Goal (in_session st (own_key Etp) (Packet Etp k bytes) room now)
-    etp_packet k bytes room now t = by (state_at st.sessions (own_key Etp)) refl
-      where
-        none : StationStep
-        none = record { station = record st { queue = st.queue ++ [] }; events = [] }
-
-        same : shown none ≡ v
-        same = λ i. (let w : View = record v { tp = sym is.tp i; etp = sym is.etp i; answers = (answers_are laws choose s d pair v behind l st h is None [] refl ∙ append-nil v.answers) i; given = append-nil v.given i } in w)
-
-        by : (o : Option (List ℕ × Incoming)) → state_at st.sessions (own_key Etp) ≡ o → Goal (by_session st (received_by o st.ports (own_key Etp) (Packet Etp k bytes) room now st.sessions))
-        by None e = subst (Next s d [] l) (sym same) (next_still s d l v (packet_unheard laws choose s d v l Etp k bytes t))
-        by (Some (set, incoming.Broadcast b)) e = absurd (let z : session.Etp ≡ session.Broadcast = (h.sessions (own_key Etp) (set, incoming.Broadcast b) e).state.1 in cc)
-        by (Some (set, incoming.Tp u)) e = absurd (let z : session.Etp ≡ session.Tp = (h.sessions (own_key Etp) (set, incoming.Tp u) e).state.1 in cc)
-        by (Some (set, incoming.Etp u)) e =
-            let flow : Flow = flow_at st.ports set in
-            let p : EtpState = prepared_state u (Packet Etp k bytes) room flow in
-            let r : etp.Received = etp-steps.stepped p (Packet Etp k bytes) room flow now in
-            let q : (x : Session) × (t.lane.stream.session ≡ Some x) × (0 < length set) × IsSame s d (incoming.Etp u) x = packet_open Etp k bytes t set (incoming.Etp u) (is.etp ∙ e) in
-            let f : Follows s d q.0 k bytes (left_etp r) = etp_follows s d q.0 k bytes p room flow now (same_prepared s d u (Packet Etp k bytes) room flow q.0 q.3) in
-            let a : RepliesEtp d.0 s.0 r = etp_step d.0 s.0 p (Packet Etp k bytes) room flow now (etp_prepared d.0 s.0 u (Packet Etp k bytes) room flow (h.sessions (own_key Etp) (set, incoming.Etp u) e).state.0) in
-            etp_goal set room q.2 r a (fine_whole q.0 k bytes (left_etp r) (pgn_small t.lane q.0 t.carries q.1) f)
-            (packet_heard laws choose s d v l Etp k bytes t set (incoming.Etp u) (is.etp ∙ e) (left_etp r) room (λ x z. etp_follows s d x k bytes p room flow now (same_prepared s d u (Packet Etp k bytes) room flow x z)))
+            let p : InState = prepared u (Packet kind k bytes) room flow in
+            let r : Received = stepped p (Packet kind k bytes) room flow now in
+            let q : (x : Session) × (t.lane.stream.session ≡ Some x) × (0 < length set) × IsSame s d (incoming.Connection u) x = packet_open kind k bytes t set (incoming.Connection u) (real kind ∙ e) in
+            let f : Follows s d q.0 k bytes (left_by r) = packet_follows s d q.0 k bytes p kind room flow now (same_prepared s d u (Packet kind k bytes) room flow q.0 q.3) in
+            let a : Replies d.0 s.0 r = connection_step d.0 s.0 p (Packet kind k bytes) room flow now (peer_prepared d.0 s.0 u (Packet kind k bytes) room flow (h.sessions (own_key kind) (set, incoming.Connection u) e).state.0) in
+            step_goal kind set room q.2 r a (fine_whole q.0 k bytes (left_by r) (pgn_small t.lane q.0 t.carries q.1) f)
+            (packet_heard laws choose s d v l kind k bytes t set (incoming.Connection u) (real kind ∙ e) (left_by r) room (λ x z. packet_follows s d x k bytes p kind room flow now (same_prepared s d u (Packet kind k bytes) room flow x z)))
 
     -- A DPO
+
+    etp_session : (kind : Kind) → session.Etp ≡ session_for kind → kind ≡ Etp
+    etp_session Tp e = absurd (cc)
+    etp_session Etp e = refl
 
     pub dpo : (packets offset pgn : ℕ) (room : Bool) (now : ℕ) → Taken laws s d l v (Cm (EtpDpo packets offset pgn)) → Goal (in_session st (own_key Etp) (Cm (EtpDpo packets offset pgn)) room now)
     dpo packets offset pgn room now t = by (state_at st.sessions (own_key Etp)) refl
       where
-        none : StationStep
-        none = record { station = record st { queue = st.queue ++ [] }; events = [] }
-
-        same : shown none ≡ v
-        same = λ i. (let w : View = record v { tp = sym is.tp i; etp = sym is.etp i; answers = (answers_are laws choose s d pair v behind l st h is None [] refl ∙ append-nil v.answers) i; given = append-nil v.given i } in w)
-
         by : (o : Option (List ℕ × Incoming)) → state_at st.sessions (own_key Etp) ≡ o → Goal (by_session st (received_by o st.ports (own_key Etp) (Cm (EtpDpo packets offset pgn)) room now st.sessions))
         by None e = subst (Next s d [] l) (sym same) (next_still s d l v (dpo_unheard laws choose s d v l packets offset pgn t (is.etp ∙ e)))
-        by (Some (set, incoming.Broadcast b)) e = absurd (let z : session.Etp ≡ session.Broadcast = (h.sessions (own_key Etp) (set, incoming.Broadcast b) e).state.1 in cc)
-        by (Some (set, incoming.Tp u)) e = absurd (let z : session.Etp ≡ session.Tp = (h.sessions (own_key Etp) (set, incoming.Tp u) e).state.1 in cc)
-        by (Some (set, incoming.Etp u)) e =
+        by (Some (set, incoming.Broadcast b)) e = absurd (no_broadcast Etp (sym (h.sessions (own_key Etp) (set, incoming.Broadcast b) e).state.1))
+        by (Some (set, incoming.Connection u)) e =
             let flow : Flow = flow_at st.ports set in
-            let p : EtpState = prepared_state u (Cm (EtpDpo packets offset pgn)) room flow in
-            let r : etp.Received = etp-steps.stepped p (Cm (EtpDpo packets offset pgn)) room flow now in
+            let p : InState = prepared u (Cm (EtpDpo packets offset pgn)) room flow in
+            let r : Received = stepped p (Cm (EtpDpo packets offset pgn)) room flow now in
             let sh : ShowsDpo t.lane.stream.reached t.frame offset pgn = Rattle.connection_law.proofs.Receiver.dpo_shown t.lane.stream.reached t.frame packets offset pgn t.shows in
-            let q : (x : Session) × (t.lane.stream.session ≡ Some x) × (0 < length set) × IsAlmost s d (incoming.Etp u) x = some_ports (IsAlmost s d) (v.opened Etp) set (incoming.Etp u) t.lane.stream.session
+            let q : (x : Session) × (t.lane.stream.session ≡ Some x) × (0 < length set) × IsAlmost s d (incoming.Connection u) x = some_ports (IsAlmost s d) (v.opened Etp) set (incoming.Connection u) t.lane.stream.session
             (subst (λ o. IsHeardAs (IsAlmost s d) (v.opened Etp) o t.lane.stream.session) (is.etp ∙ e) (subst (λ k. IsHeardAs (IsAlmost s d) (v.opened k) (of_kind k v.tp v.etp) t.lane.stream.session) sh.kind_is (t.offset offset sh.frame))) in
             let of_it : IsOfReached t.lane.stream q.0 = laws.session true t.lane t.carries.reached q.0 q.1 in
-            let f : Keeps s d q.0 (left_etp r) = dpo_keeps s d q.0 p packets offset pgn room flow now (almost_prepared s d u (Cm (EtpDpo packets offset pgn)) room flow q.0 q.3) (sym sh.offset_is ∙ sym of_it.offset) (sh.pgn_is ∙ sym of_it.pgn) in
-            let a : RepliesEtp d.0 s.0 r = etp_step d.0 s.0 p (Cm (EtpDpo packets offset pgn)) room flow now (etp_prepared d.0 s.0 u (Cm (EtpDpo packets offset pgn)) room flow (h.sessions (own_key Etp) (set, incoming.Etp u) e).state.0) in
-            etp_goal set room q.2 r a (fine_kept q.0 (left_etp r) f)
-            (dpo_heard laws choose s d v l packets offset pgn t set (incoming.Etp u) (is.etp ∙ e) (left_etp r) room (λ x z o g. dpo_keeps s d x p packets offset pgn room flow now (almost_prepared s d u (Cm (EtpDpo packets offset pgn)) room flow x z) o g))
+            let state = (h.sessions (own_key Etp) (set, incoming.Connection u) e).state in
+            let etp : (unfinished_of p).kind ≡ Etp = prepared_stays u (Cm (EtpDpo packets offset pgn)) room flow ∙ etp_session (unfinished_of u).kind state.1 in
+            let f : Keeps s d q.0 (left_by r) = dpo_keeps s d q.0 p packets offset pgn room flow now etp (almost_prepared s d u (Cm (EtpDpo packets offset pgn)) room flow q.0 q.3) (sym sh.offset_is ∙ sym of_it.offset) (sh.pgn_is ∙ sym of_it.pgn) in
+            let a : Replies d.0 s.0 r = connection_step d.0 s.0 p (Cm (EtpDpo packets offset pgn)) room flow now (peer_prepared d.0 s.0 u (Cm (EtpDpo packets offset pgn)) room flow state.0) in
+            step_goal Etp set room q.2 r a (fine_kept q.0 (left_by r) f)
+            (dpo_heard laws choose s d v l packets offset pgn t set (incoming.Connection u) (is.etp ∙ e) (left_by r) room (λ x z o g. dpo_keeps s d x p packets offset pgn room flow now etp (almost_prepared s d u (Cm (EtpDpo packets offset pgn)) room flow x z) o g))
 
     -- An RTS
 
@@ -242,44 +221,41 @@ module _ (laws : Laws) (choose : machine.OnEachLane (λ lane. IsChoice lane.stre
     refusing kind pgn size frame a q = next_still s d l _ (subst (λ (w : View). Still s d l (record w { opened = marked kind (mark pgn size) v.opened })) (sym (shows_drop laws choose s d pair v behind l st h is kind frame [] [] [] (asked_none laws.gives s d d.0 s.0 frame low_d low_s a) refl ∙ none_more kind None))
         (record { lane = q.lane; sim = opened_else (with_kind kind None v) kind (mark pgn size) q.lane (Rattle.connection_law.proofs.Receiver.of_kind_with kind None v.tp v.etp) q.sim; given = q.given }))
 
-    tp_join : (pgn size most : ℕ) (flow : Flow) (now : ℕ) → (tp-steps.peer_of (tp-asking.asking (peer_of st s pgn) (whole_join size) most flow now) ≡ peer_of st s pgn) × (tp-steps.join_of (tp-asking.asking (peer_of st s pgn) (whole_join size) most flow now) ≡ whole_join size)
-    tp_join pgn size most Open now = (refl, refl)
-    tp_join pgn size most Held now = (refl, refl)
+    -- what a session begins with
+    record Begins (u : InState) (pgn size : ℕ) : Type 0 where
+      peer : (unfinished_of u).peer ≡ record { from = s.0; to = d.0; pgn = pgn }
+      size_is : (unfinished_of u).join.size ≡ size
+      next : (unfinished_of u).join.next ≡ 1
+      bytes : (unfinished_of u).join.bytes ≡ []
+      offset : (unfinished_of u).offset ≡ 0
 
-    etp_join : (pgn size : ℕ) (flow : Flow) (now : ℕ) → (etp-steps.peer_of (etp-asking.asking (peer_of st s pgn) (first_join size flow) 0 flow now) ≡ peer_of st s pgn) × (etp-steps.join_of (etp-asking.asking (peer_of st s pgn) (first_join size flow) 0 flow now) ≡ first_join size flow) × (Rattle.connection_law.proofs.View.offset_of (etp-asking.asking (peer_of st s pgn) (first_join size flow) 0 flow now) ≡ 0)
-    etp_join pgn size Open now = (refl, refl, refl)
-    etp_join pgn size Held now = (refl, refl, refl)
+    begins : (kind : Kind) (pgn size most : ℕ) (join_flow flow : Flow) (now : ℕ) → Begins (asking (begun kind (peer_of st s pgn) most (first_join kind size join_flow)) flow now) pgn size
+    begins kind pgn size most join_flow Open now = record { peer = peer_is pgn; size_is = refl; next = refl; bytes = refl; offset = refl }
+    begins kind pgn size most join_flow Held now = record { peer = peer_is pgn; size_is = refl; next = refl; bytes = refl; offset = refl }
 
-    pub rts : (size packets most pgn : ℕ) (room : Bool) (now : ℕ) → Taken laws s d l v (Cm (Rts size packets most pgn)) → Opens Tp pgn size (quietly (rts_taken st s size packets most pgn room now))
-    rts size packets most pgn room now t = by (refusal (is_tp_size size packets) room (set_for st pgn size) (others_than st (own_key Tp))) refl
+    asked_for : (kind : Kind) (is_size : Bool) (size most pgn : ℕ) (room : Bool) (now : ℕ)
+        → ((u : InState) → Begins u pgn size → 0 < length (set_for st pgn size) → Still s d l (record (with_kind kind (Some (set_for st pgn size, incoming.Connection u)) v) { opened = marked kind (mark pgn size) v.opened }))
+        → Still s d l (with_kind kind None v) → Opens kind pgn size (quietly (rts_taken st kind is_size s size most pgn room now))
+    asked_for kind is_size size most pgn room now opens refuses = by (refusal is_size room (set_for st pgn size) (others_than st (own_key kind))) refl
       where
         flow : Flow
         flow = flow_at st.ports (set_for st pgn size)
 
-        after : Option AbortReason → StationStep
-        after o = quietly (elim o as (λ (_ : Option AbortReason). Station) [ None ↦ opened st (own_key Tp) (set_for st pgn size) (incoming.Tp (tp-asking.asking (peer_of st s pgn) (whole_join size) most flow now)) (Some (tp-asking.asked (peer_of st s pgn) (whole_join size) most flow)) | Some reason ↦ not_opened st (own_key Tp) (Some (abort_frame Tp (peer_of st s pgn) (reason_byte reason))) ])
-
-        by : (o : Option AbortReason) → refusal (is_tp_size size packets) room (set_for st pgn size) (others_than st (own_key Tp)) ≡ o → Opens Tp pgn size (after o)
-        by None e =
-            let j = tp_join pgn size most flow now in
-            opening Tp pgn size (set_for st pgn size) _ (Some (tp-asking.asked (peer_of st s pgn) (whole_join size) most flow)) (tp_asking d.0 s.0 (peer_of st s pgn) (whole_join size) most flow now (fits pgn)).1
-            (opens_tp laws choose s d v l size packets most pgn (set_for st pgn size) (tp-asking.asking (peer_of st s pgn) (whole_join size) most flow now) t (refusal_some (is_tp_size size packets) room (set_for st pgn size) (others_than st (own_key Tp)) e)
-            (j.0 ∙ peer_is pgn) (ap (λ (x : Rattle.seg_cut.specs.Join.Join). x.size) j.1) (ap (λ (x : Rattle.seg_cut.specs.Join.Join). x.next) j.1) (ap (λ (x : Rattle.seg_cut.specs.Join.Join). x.bytes) j.1))
-        by (Some reason) e = refusing Tp pgn size (Some (abort_frame Tp (peer_of st s pgn) (reason_byte reason))) (said_peer d.0 s.0 (peer_of st s pgn) _ (tt, tt) (fits pgn)) (refuses_tp laws choose s d v l size packets most pgn t)
-
-    pub etp_rts : (size pgn : ℕ) (room : Bool) (now : ℕ) → Taken laws s d l v (Cm (EtpRts size pgn)) → Opens Etp pgn size (quietly (etp_rts_taken st s size pgn room now))
-    etp_rts size pgn room now t = by (refusal (is_etp_size size) room (set_for st pgn size) (others_than st (own_key Etp))) refl
-      where
-        flow : Flow
-        flow = flow_at st.ports (set_for st pgn size)
+        m : Unfinished
+        m = begun kind (peer_of st s pgn) most (first_join kind size flow)
 
         after : Option AbortReason → StationStep
-        after o = quietly (elim o as (λ (_ : Option AbortReason). Station) [ None ↦ opened st (own_key Etp) (set_for st pgn size) (incoming.Etp (etp-asking.asking (peer_of st s pgn) (first_join size flow) 0 flow now)) (Some (etp-asking.asked (peer_of st s pgn) (first_join size flow) flow)) | Some reason ↦ not_opened st (own_key Etp) (Some (abort_frame Etp (peer_of st s pgn) (reason_byte reason))) ])
+        after o = quietly (elim o as (λ (_ : Option AbortReason). Station) [ None ↦ opened st (own_key kind) (set_for st pgn size) (incoming.Connection (asking m flow now)) (Some (asked m flow)) | Some reason ↦ not_opened st (own_key kind) (Some (abort_frame kind (peer_of st s pgn) (reason_byte reason))) ])
 
-        by : (o : Option AbortReason) → refusal (is_etp_size size) room (set_for st pgn size) (others_than st (own_key Etp)) ≡ o → Opens Etp pgn size (after o)
-        by None e =
-            let j = etp_join pgn size flow now in
-            opening Etp pgn size (set_for st pgn size) _ (Some (etp-asking.asked (peer_of st s pgn) (first_join size flow) flow)) (etp_asking d.0 s.0 (peer_of st s pgn) (first_join size flow) 0 flow now (fits pgn)).1
-            (opens_etp laws choose s d v l size pgn (set_for st pgn size) (etp-asking.asking (peer_of st s pgn) (first_join size flow) 0 flow now) t (refusal_some (is_etp_size size) room (set_for st pgn size) (others_than st (own_key Etp)) e)
-            (j.0 ∙ peer_is pgn) (ap (λ (x : Rattle.seg_cut.specs.Join.Join). x.size) j.1) (ap (λ (x : Rattle.seg_cut.specs.Join.Join). x.next) j.1) (ap (λ (x : Rattle.seg_cut.specs.Join.Join). x.bytes) j.1) j.2)
-        by (Some reason) e = refusing Etp pgn size (Some (abort_frame Etp (peer_of st s pgn) (reason_byte reason))) (said_peer d.0 s.0 (peer_of st s pgn) _ (tt, tt) (fits pgn)) (refuses_etp laws choose s d v l size pgn t)
+        by : (o : Option AbortReason) → refusal is_size room (set_for st pgn size) (others_than st (own_key kind)) ≡ o → Opens kind pgn size (after o)
+        by None e = opening kind pgn size (set_for st pgn size) _ (Some (asked m flow)) (asked_of d.0 s.0 m flow (fits pgn))
+            (opens (asking m flow now) (begins kind pgn size most flow flow now) (refusal_some is_size room (set_for st pgn size) (others_than st (own_key kind)) e))
+        by (Some reason) e = refusing kind pgn size (Some (abort_frame kind (peer_of st s pgn) (reason_byte reason))) (aborted_asks d.0 s.0 kind (peer_of st s pgn) _ (fits pgn)) refuses
+
+    pub rts : (size packets most pgn : ℕ) (room : Bool) (now : ℕ) → Taken laws s d l v (Cm (Rts size packets most pgn)) → Opens Tp pgn size (quietly (rts_taken st Tp (is_tp_size size packets) s size (most_of Tp most) pgn room now))
+    rts size packets most pgn room now t = asked_for Tp (is_tp_size size packets) size (most_of Tp most) pgn room now
+        (λ u b some. opens_tp laws choose s d v l size packets most pgn (set_for st pgn size) u t some b.peer b.size_is b.next b.bytes b.offset) (refuses_tp laws choose s d v l size packets most pgn t)
+
+    pub etp_rts : (size pgn : ℕ) (room : Bool) (now : ℕ) → Taken laws s d l v (Cm (EtpRts size pgn)) → Opens Etp pgn size (quietly (rts_taken st Etp (is_etp_size size) s size ETP_MAX_WINDOW pgn room now))
+    etp_rts size pgn room now t = asked_for Etp (is_etp_size size) size ETP_MAX_WINDOW pgn room now
+        (λ u b some. opens_etp laws choose s d v l size pgn (set_for st pgn size) u t some b.peer b.size_is b.next b.bytes b.offset) (refuses_etp laws choose s d v l size pgn t)

@@ -54,13 +54,11 @@ module _ (laws : Laws) (s d : Address) where
 
   almost_same : (i : Incoming) (x : Session) → IsSame s d i x → IsAlmost s d i x
   almost_same (incoming.Broadcast b) x h = h
-  almost_same (incoming.Tp t) x h = (h.0, h.1)
-  almost_same (incoming.Etp t) x h = (h.0, h.1)
+  almost_same (incoming.Connection t) x h = (h.0, h.1)
 
   almost_at : (i : Incoming) (x : Session) (o : ℕ) → IsSame s d i x → IsAlmost s d i (record x { offset = o })
   almost_at (incoming.Broadcast b) x o h = h
-  almost_at (incoming.Tp t) x o h = (record { from = h.0.from; to = h.0.to; pgn = h.0.pgn }, record { size = h.1.size; next = h.1.next; bytes = h.1.bytes })
-  almost_at (incoming.Etp t) x o h = (record { from = h.0.from; to = h.0.to; pgn = h.0.pgn }, record { size = h.1.size; next = h.1.next; bytes = h.1.bytes })
+  almost_at (incoming.Connection t) x o h = (record { from = h.0.from; to = h.0.to; pgn = h.0.pgn }, record { size = h.1.size; next = h.1.next; bytes = h.1.bytes })
 
   heard_offset : (o : ℕ) (opened : Mark) (real : Option (List ℕ × Incoming)) (x : Option Session) → IsHeardAs (IsSame s d) opened real x → IsHeardAs (IsAlmost s d) opened real (with_offset o x)
   heard_offset o opened None None h = tt

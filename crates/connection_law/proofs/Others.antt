@@ -5,16 +5,13 @@ use Rattle.std.proofs.lemmas.Bool.{eqb-false}
 use Rattle.pgn_ids.specs.Pgn.{clean}
 use Rattle.pgn_ids.specs.declared.address.Address.{Address}
 use Rattle.tp_wire.specs.declared.wire.Wire.{Wire}
+use Rattle.responder.specs.Steps.{stepped, expired}
+use Rattle.responder.specs.Room.{prepared, prepared_to_expire}
 use Rattle.responder.specs.declared.flow.Flow.{Flow}
+use Rattle.responder.specs.declared.received.Received.{Received}
+use Rattle.responder.specs.declared.received.Received.TheVariants.{On, Complete, Ended}
 use Rattle.bam_session.specs.States as bam
 use Rattle.bam_session.specs.Receiving as bam-steps
-use Rattle.tp_session.specs.Steps as tp-steps
-use Rattle.tp_session.specs.declared.received.Received as tp
-use Rattle.tp_session.specs.declared.received.Received.TheVariants as tp-received
-use Rattle.etp_session.specs.Steps as etp-steps
-use Rattle.etp_session.specs.Room as etp-room
-use Rattle.etp_session.specs.declared.received.Received as etp
-use Rattle.etp_session.specs.declared.received.Received.TheVariants as etp-received
 use Rattle.port_table.specs.Ports.{Ports}
 use Rattle.port_table.specs.PortSet.{without_number}
 use Rattle.session_table.specs.declared.key.Key.{Key}
@@ -22,8 +19,8 @@ use Rattle.session_table.specs.declared.incoming.Incoming.{Incoming}
 use Rattle.session_table.specs.declared.incoming.Incoming.TheVariants as incoming
 use Rattle.session_table.specs.Incoming.{pgn_of}
 use Rattle.session_table.specs.Sessions.{state_at}
-use Rattle.station_sessions.specs.Progress.{after_broadcast, after_tp, after_etp, progress, fired, prepared, prepared_to_fire}
-use Rattle.station_sessions.specs.Receiving.{Inbound, Reception, settled, flow_at, received_by, received, fired_by, fired_at, aborted_at, unbound_by, unbound_at}
+use Rattle.station_sessions.specs.Steps.{closing_frame}
+use Rattle.station_sessions.specs.Receiving.{Inbound, Reception, broadcast_settled, connection_settled, session_stepped, session_fired, goes_on_at, ended_at, flow_at, received_by, received, fired_by, fired_at, aborted_at, unbound_by, unbound_at}
 use Rattle.record_lemmas.proofs.Maps.{key_cases, state_put, state_dropped, state_put_else, state_dropped_else}
 use Rattle.record_lemmas.proofs.Tests.{on_test, either}
 use Rattle.connection_law.proofs.Marks.{HasOthers, Lessens, has_without}
@@ -41,30 +38,23 @@ module _ (key q : Key) (n : q ≡ key → ⊥) (m : Inbound) where
     dropped_if true x y e f = ap (λ z. state_at z q) e ∙ state_dropped_else m key q n
     dropped_if false x y e f = ap (λ z. state_at z q) f ∙ state_dropped_else m key q n
 
-    tp_same : (r : tp.Received) → Same (settled station key set room m (after_tp r))
-    tp_same (tp-received.On s frame) = state_put_else m key (set, incoming.Tp s) q n
-    tp_same (tp-received.Complete w) = dropped_if room _ _ refl refl
-    tp_same (tp-received.Ended frame) = state_dropped_else m key q n
+    connection_same : (r : Received) → Same (connection_settled station key set room m r)
+    connection_same (On s frame) = state_put_else m key (set, incoming.Connection s) q n
+    connection_same (Complete w) = dropped_if room _ _ refl refl
+    connection_same (Ended frame) = state_dropped_else m key q n
 
-    etp_same : (r : etp.Received) → Same (settled station key set room m (after_etp r))
-    etp_same (etp-received.On s frame) = state_put_else m key (set, incoming.Etp s) q n
-    etp_same (etp-received.Complete w) = dropped_if room _ _ refl refl
-    etp_same (etp-received.Ended frame) = state_dropped_else m key q n
-
-    broadcast_same : (s : bam.Incoming) (r : bam-steps.Received) → Same (settled station key set room m (after_broadcast s r))
+    broadcast_same : (s : bam.Incoming) (r : bam-steps.Received) → Same (broadcast_settled station key set room m s r)
     broadcast_same s (bam-steps.Awaits t) = state_put_else m key (set, incoming.Broadcast t) q n
     broadcast_same s (bam-steps.Completes bytes) = dropped_if room _ _ refl refl
     broadcast_same s bam-steps.Drops = state_dropped_else m key q n
 
-    step_same : (i : Incoming) (wire : Wire) (flow : Flow) (now : ℕ) → Same (settled station key set room m (progress (prepared i wire room flow) wire room flow now))
+    step_same : (i : Incoming) (wire : Wire) (flow : Flow) (now : ℕ) → Same (session_stepped station key set room m flow i wire now)
     step_same (incoming.Broadcast s) wire flow now = broadcast_same s (bam-steps.stepped s wire now)
-    step_same (incoming.Tp s) wire flow now = tp_same (tp-steps.stepped s wire room flow now)
-    step_same (incoming.Etp s) wire flow now = etp_same (etp-steps.stepped (etp-room.prepared_state s wire room flow) wire room flow now)
+    step_same (incoming.Connection s) wire flow now = connection_same (stepped (prepared s wire room flow) wire room flow now)
 
-    fire_same : (i : Incoming) (flow : Flow) (now : ℕ) → Same (settled station key set room m (fired (prepared_to_fire i flow) flow now))
-    fire_same (incoming.Broadcast s) flow now = state_dropped_else m key q n
-    fire_same (incoming.Tp s) flow now = tp_same (tp-steps.expired s flow now)
-    fire_same (incoming.Etp s) flow now = etp_same (etp-steps.expired (etp-room.prepared_to_expire s flow) flow now)
+  fire_same : (set : List ℕ) (station : Address) (i : Incoming) (flow : Flow) (now : ℕ) → Same (session_fired station key set m flow i now)
+  fire_same set station (incoming.Broadcast s) flow now = state_dropped_else m key q n
+  fire_same set station (incoming.Connection s) flow now = connection_same set station true (expired (prepared_to_expire s flow) flow now)
 
   pub received_same : (ports : Ports) (wire : Wire) (room : Bool) (now : ℕ) → Same (received ports key wire room now m)
   received_same ports wire room now = by (state_at m key)
@@ -78,7 +68,7 @@ module _ (key q : Key) (n : q ≡ key → ⊥) (m : Inbound) where
     where
       by : (o : Option (List ℕ × Incoming)) → Same (fired_by o ports key now m)
       by None = refl
-      by (Some v) = fire_same v.0 ports.station true v.1 (flow_at ports v.0) now
+      by (Some v) = fire_same v.0 ports.station v.1 (flow_at ports v.0) now
 
 module _ (m : Inbound) (key q : Key) where
   -- an abort ends the session, or doesn't
@@ -110,5 +100,5 @@ module _ (m : Inbound) (key q : Key) where
 
       by : (o : Option (List ℕ × Incoming)) → state_at m key ≡ o → Lessens number (state_at (unbound_by o key number m).sessions q) (state_at m q)
       by None e = inr (inl refl)
-      by (Some v) e = on_test (λ b. (length (without_number v.0 number) == 0) ≡ b → Lessens number (state_at (cond {A = Reception} b (record { sessions = finmap.remove m key; frame = Rattle.station_sessions.specs.Progress.closing_frame v.1; events = [] }) (record { sessions = finmap.insert m key (Some (without_number v.0 number, v.1)); frame = None; events = [] })).sessions q) (state_at m q)) (length (without_number v.0 number) == 0)
+      by (Some v) e = on_test (λ b. (length (without_number v.0 number) == 0) ≡ b → Lessens number (state_at (cond {A = Reception} b (ended_at key m (closing_frame v.1)) (goes_on_at key (without_number v.0 number) m v.1 None)).sessions q) (state_at m q)) (length (without_number v.0 number) == 0)
           (λ _ _. gone (key_cases q key)) (λ _ f. fewer v (without_number v.0 number) e (some_left (without_number v.0 number) f) (has_without number v.0) (key_cases q key)) refl

@@ -10,10 +10,9 @@ use Rattle.tp_wire.specs.declared.wire.Kind.TheVariants.{Tp, Etp}
 use Rattle.tp_wire.specs.declared.wire.CmFrame.TheVariants.{Rts, EtpRts, EtpDpo}
 use Rattle.tp_wire.specs.declared.wire.Wire.{Wire}
 use Rattle.tp_wire.specs.declared.wire.Wire.TheVariants.{Cm, Packet, Request}
-use Rattle.tp_session.specs.Steps as tp-steps
-use Rattle.tp_session.specs.declared.in_state.InState.{InState as TpState}
-use Rattle.etp_session.specs.Steps as etp-steps
-use Rattle.etp_session.specs.declared.in_state.InState.{InState as EtpState}
+use Rattle.responder.specs.Peer.{Peer}
+use Rattle.responder.specs.Readers.{unfinished_of}
+use Rattle.responder.specs.declared.in_state.InState.{InState}
 use Rattle.session_table.specs.declared.incoming.Incoming.{Incoming}
 use Rattle.session_table.specs.declared.incoming.Incoming.TheVariants as incoming
 use Rattle.segment_law.specs.Told as told
@@ -210,25 +209,25 @@ module _ (laws : Laws) (choose : machine.OnEachLane (λ lane. IsChoice lane.stre
   nothing zero = refl
   nothing (suc n) = refl
 
-  pub opens_tp : (v : View) (l : machine.Lane) (size packets most pgn : ℕ) (set : List ℕ) (u : TpState) → Taken laws s d l v (Cm (Rts size packets most pgn)) → 0 < length set
-      → tp-steps.peer_of u ≡ record { from = s.0; to = d.0; pgn = pgn } → (tp-steps.join_of u).size ≡ size → (tp-steps.join_of u).next ≡ 1 → (tp-steps.join_of u).bytes ≡ []
-      → Still s d l (record v { tp = Some (set, incoming.Tp u); opened = marked Tp (mark_of (length v.sent) pgn size set) v.opened })
-  opens_tp v l size packets most pgn set u t some peer is_size next bytes = opens_session v l (Cm (Rts size packets most pgn)) Tp size pgn set (incoming.Tp u) t (rts_shown t.lane.stream.reached t.frame size packets most pgn t.shows) some
+  opens_with : (v : View) (l : machine.Lane) (w : Wire) (kind : Kind) (size pgn : ℕ) (set : List ℕ) (u : InState) (t : Taken laws s d l v w) → ShowsRts t.lane.stream.reached t.frame kind size pgn → 0 < length set
+      → (unfinished_of u).peer ≡ record { from = s.0; to = d.0; pgn = pgn } → (unfinished_of u).join.size ≡ size → (unfinished_of u).join.next ≡ 1 → (unfinished_of u).join.bytes ≡ [] → (unfinished_of u).offset ≡ 0
+      → Still s d l (record (with_kind kind (Some (set, incoming.Connection u)) v) { opened = marked kind (mark_of (length v.sent) pgn size set) v.opened })
+  opens_with v l w kind size pgn set u t r some peer is_size next bytes offset = opens_session v l w kind size pgn set (incoming.Connection u) t r some
       (λ x p z a o c. (
-        record { from = ap (λ (q : Rattle.responder.specs.Peer.Peer). q.from) peer; to = ap (λ (q : Rattle.responder.specs.Peer.Peer). q.to) peer; pgn = ap (λ (q : Rattle.responder.specs.Peer.Peer). q.pgn) peer ∙ sym p },
-        record { size = is_size ∙ sym z; next = next ∙ ap (λ n. n + 1) (sym a); bytes = bytes ∙ nothing x.size ∙ ap (take x.size) (sym c) },
-        o,
-      ))
-
-  pub opens_etp : (v : View) (l : machine.Lane) (size pgn : ℕ) (set : List ℕ) (u : EtpState) → Taken laws s d l v (Cm (EtpRts size pgn)) → 0 < length set
-      → etp-steps.peer_of u ≡ record { from = s.0; to = d.0; pgn = pgn } → (etp-steps.join_of u).size ≡ size → (etp-steps.join_of u).next ≡ 1 → (etp-steps.join_of u).bytes ≡ [] → Rattle.connection_law.proofs.View.offset_of u ≡ 0
-      → Still s d l (record v { etp = Some (set, incoming.Etp u); opened = marked Etp (mark_of (length v.sent) pgn size set) v.opened })
-  opens_etp v l size pgn set u t some peer is_size next bytes offset = opens_session v l (Cm (EtpRts size pgn)) Etp size pgn set (incoming.Etp u) t (etp_rts_shown t.lane.stream.reached t.frame size pgn t.shows) some
-      (λ x p z a o c. (
-        record { from = ap (λ (q : Rattle.responder.specs.Peer.Peer). q.from) peer; to = ap (λ (q : Rattle.responder.specs.Peer.Peer). q.to) peer; pgn = ap (λ (q : Rattle.responder.specs.Peer.Peer). q.pgn) peer ∙ sym p },
+        record { from = ap (λ (q : Peer). q.from) peer; to = ap (λ (q : Peer). q.to) peer; pgn = ap (λ (q : Peer). q.pgn) peer ∙ sym p },
         record { size = is_size ∙ sym z; next = next ∙ ap (λ n. n + 1) (sym a); bytes = bytes ∙ nothing x.size ∙ ap (take x.size) (sym c) },
         offset ∙ sym o,
       ))
+
+  pub opens_tp : (v : View) (l : machine.Lane) (size packets most pgn : ℕ) (set : List ℕ) (u : InState) → Taken laws s d l v (Cm (Rts size packets most pgn)) → 0 < length set
+      → (unfinished_of u).peer ≡ record { from = s.0; to = d.0; pgn = pgn } → (unfinished_of u).join.size ≡ size → (unfinished_of u).join.next ≡ 1 → (unfinished_of u).join.bytes ≡ [] → (unfinished_of u).offset ≡ 0
+      → Still s d l (record v { tp = Some (set, incoming.Connection u); opened = marked Tp (mark_of (length v.sent) pgn size set) v.opened })
+  opens_tp v l size packets most pgn set u t = opens_with v l (Cm (Rts size packets most pgn)) Tp size pgn set u t (rts_shown t.lane.stream.reached t.frame size packets most pgn t.shows)
+
+  pub opens_etp : (v : View) (l : machine.Lane) (size pgn : ℕ) (set : List ℕ) (u : InState) → Taken laws s d l v (Cm (EtpRts size pgn)) → 0 < length set
+      → (unfinished_of u).peer ≡ record { from = s.0; to = d.0; pgn = pgn } → (unfinished_of u).join.size ≡ size → (unfinished_of u).join.next ≡ 1 → (unfinished_of u).join.bytes ≡ [] → (unfinished_of u).offset ≡ 0
+      → Still s d l (record v { etp = Some (set, incoming.Connection u); opened = marked Etp (mark_of (length v.sent) pgn size set) v.opened })
+  opens_etp v l size pgn set u t = opens_with v l (Cm (EtpRts size pgn)) Etp size pgn set u t (etp_rts_shown t.lane.stream.reached t.frame size pgn t.shows)
 
   -- where it doesn't open
   pub refuses_tp : (v : View) (l : machine.Lane) (size packets most pgn : ℕ) → Taken laws s d l v (Cm (Rts size packets most pgn)) → Still s d l (record v { tp = None })

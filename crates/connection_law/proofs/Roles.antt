@@ -14,8 +14,7 @@ use Rattle.lane_core.specs.declared.step.LaneStep.{LaneStep}
 use Rattle.station_lanes.specs.Lanes.{Lanes}
 use Rattle.station_lanes.specs.LaneCalls.{lane_to, outcome_of}
 use Rattle.station_lanes.specs.declared.event.Event.{Event}
-use Rattle.session_table.specs.declared.key.SessionKind.{SessionKind}
-use Rattle.session_table.specs.declared.key.SessionKind.TheVariants as session
+use Rattle.session_table.specs.Key.{session_for}
 use Rattle.session_table.specs.Sessions.{state_at}
 use Rattle.station_sessions.specs.Receiving.{Inbound}
 use Rattle.station_core.specs.Opening.{key_of}
@@ -31,10 +30,6 @@ use Rattle.connection_law.proofs.View.{Laws, IsPair, Mark, View, kind_of, IsHear
 use Rattle.connection_law.proofs.Receiver.{Real}
 use Rattle.connection_law.proofs.Moves.{carries_else, ends}
 use Rattle.connection_law.proofs.Sender.{stepped_view, ended_told}
-
-abbrev pub session_for : Kind → SessionKind
-session_for Tp = session.Tp
-session_for Etp = session.Etp
 
 -- what station r is told of the messages from s to d, and the outcomes of them
 abbrev pub station_told : (r s d : Address) → List Event → List AtPort

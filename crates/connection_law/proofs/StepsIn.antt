@@ -4,18 +4,13 @@ use Rattle.bus_frame.specs.Frames.{CanFrame}
 use Rattle.pgn_ids.specs.declared.address.Address.{Address}
 use Rattle.tp_wire.specs.declared.wire.Kind.{Kind}
 use Rattle.tp_wire.specs.declared.wire.Kind.TheVariants.{Tp, Etp}
+use Rattle.responder.specs.Readers.{unfinished_of}
+use Rattle.responder.specs.Steps.{expired}
+use Rattle.responder.specs.Room.{prepared_to_expire}
+use Rattle.responder.specs.declared.in_state.InState.{InState}
+use Rattle.responder.specs.declared.received.Received.{Received}
+use Rattle.responder.specs.declared.received.Received.TheVariants.{On, Complete, Ended}
 use Rattle.responder.specs.declared.flow.Flow.{Flow}
-use Rattle.tp_session.specs.Steps as tp-steps
-use Rattle.tp_session.specs.declared.in_state.InState.{InState as TpState}
-use Rattle.tp_session.specs.declared.in_state.InState.TheVariants as tp-state
-use Rattle.tp_session.specs.declared.received.Received as tp
-use Rattle.tp_session.specs.declared.received.Received.TheVariants as tp-received
-use Rattle.etp_session.specs.Steps as etp-steps
-use Rattle.etp_session.specs.Room as etp-room
-use Rattle.etp_session.specs.declared.in_state.InState.{InState as EtpState}
-use Rattle.etp_session.specs.declared.in_state.InState.TheVariants as etp-state
-use Rattle.etp_session.specs.declared.received.Received as etp
-use Rattle.etp_session.specs.declared.received.Received.TheVariants as etp-received
 use Rattle.port_table.specs.Ports.{Ports}
 use Rattle.lane_core.specs.Pump as lane
 use Rattle.lane_core.specs.Endings as endings
@@ -27,32 +22,34 @@ use Rattle.session_table.specs.declared.incoming.Incoming.{Incoming}
 use Rattle.session_table.specs.declared.incoming.Incoming.TheVariants as incoming
 use Rattle.session_table.specs.Sessions.{state_at}
 use Rattle.session_table.specs.DueOrder.{first_due}
+use Rattle.session_table.specs.Key.{session_for}
 use Rattle.station_lanes.specs.LaneReaders.{due_lane}
-use Rattle.station_sessions.specs.Progress.{after_tp, after_etp}
-use Rattle.station_sessions.specs.Receiving.{settled, flow_at, fired_at, fired_by}
+use Rattle.station_sessions.specs.Receiving.{connection_settled, flow_at, fired_at, fired_by}
 use Rattle.station_core.specs.Station.{Station, StationStep, quietly, by_session}
 use Rattle.station_core.specs.Opening.{key_of}
 use Rattle.station_core.specs.Sending.{pumped, cancelled, sent}
 use Rattle.station_core.specs.Timers.{lane_fired, fired}
 use Rattle.record_lemmas.proofs.Maps.{key_cases}
+use Rattle.responder.proofs.Rows.{by_timer}
 use Rattle.record_lemmas.proofs.Tests.{on_test}
 use Rattle.lane_law.specs.Choice.{IsChoice}
 use Rattle.lane_law.specs.Session.{Session}
 use Rattle.lane_law.specs.Lane as machine
-use Rattle.broadcast_law.proofs.SessionSteps.{etp_prepared_fire}
+use Rattle.broadcast_law.proofs.Receptions.{no_broadcast}
+use Rattle.broadcast_law.proofs.SessionSteps.{peer_prepared_fire}
 use Rattle.broadcast_law.proofs.Stations.{IsOwn}
 use Rattle.connection_law.proofs.Frames.{returns}
 use Rattle.connection_law.proofs.LaneWires.{out_pumped, out_cancelled, out_fired}
-use Rattle.connection_law.proofs.SessionWires.{RepliesIn, RepliesTp, RepliesEtp, tp_expired, etp_expired}
+use Rattle.connection_law.proofs.SessionWires.{RepliesIn, Replies, connection_expired}
 use Rattle.connection_law.proofs.Sides.{asked_none, replied_elsewhere}
 use Rattle.connection_law.proofs.Replies.{replies_fired}
 use Rattle.connection_law.proofs.Others.{fired_same}
 use Rattle.connection_law.proofs.Tellings.{tells_fired, telling_foreign, telling_broadcast}
-use Rattle.connection_law.proofs.Roles.{session_for, station_told, receiver_view, IsReceiverOf, AsideIn, receiver_aside}
+use Rattle.connection_law.proofs.Roles.{station_told, receiver_view, IsReceiverOf, AsideIn, receiver_aside}
 use Rattle.connection_law.proofs.View.{Laws, IsPair, Mark, View, kind_of, IsHeardAs, IsSame, of_kind, Sim, Still, still_same}
 use Rattle.connection_law.proofs.Sender.{small_s, small_d}
 use Rattle.connection_law.proofs.Moves.{carries_else, ends}
-use Rattle.connection_law.proofs.Follows.{Left, Goes, Whole, Gone, left_tp, left_etp, Keeps, tp_fired, etp_fired}
+use Rattle.connection_law.proofs.Follows.{Left, Goes, Whole, Gone, left_by, Keeps, connection_fired}
 use Rattle.connection_law.proofs.Receiver.{tp_with, etp_with, with_kind, of_kind_with, left_of}
 use Rattle.connection_law.proofs.HearsIn.{shows_put, shows_drop}
 use Rattle.connection_law.proofs.HearsRows.{none_more}
@@ -147,23 +144,13 @@ module _ (laws : Laws) (choose : machine.OnEachLane (λ lane. IsChoice lane.stre
     IsNotWhole (Whole m) = ⊥
     IsNotWhole Gone = Unit {0}
 
-    tp_kept : (set : List ℕ) (r : tp.Received) → RepliesTp d.0 s.0 r → IsNotWhole (left_tp r) → receiver_view laws s d pair v behind (by_session st (settled st.ports.station (own_key Tp) set true st.sessions (after_tp r))) ≡ with_kind Tp (left_of set (left_tp r)) v
-    tp_kept set (tp-received.On t frame) a w = shows_put laws choose s d pair v behind l st h is Tp (set, incoming.Tp t) frame a.1 ∙ none_more laws choose s d pair v behind l st h is Tp (Some (set, incoming.Tp t))
-    tp_kept set (tp-received.Complete m) a w = absurd w
-    tp_kept set (tp-received.Ended frame) a w = shows_drop laws choose s d pair v behind l st h is Tp frame [] [] [] (asked_none laws.gives s d d.0 s.0 frame low_d low_s a) refl ∙ none_more laws choose s d pair v behind l st h is Tp None
+    kept : (kind : Kind) (set : List ℕ) (r : Received) → Replies d.0 s.0 r → IsNotWhole (left_by r) → receiver_view laws s d pair v behind (by_session st (connection_settled st.ports.station (own_key kind) set true st.sessions r)) ≡ with_kind kind (left_of set (left_by r)) v
+    kept kind set (On t frame) a w = shows_put laws choose s d pair v behind l st h is kind (set, incoming.Connection t) frame a.1 ∙ none_more laws choose s d pair v behind l st h is kind (Some (set, incoming.Connection t))
+    kept kind set (Complete m) a w = absurd w
+    kept kind set (Ended frame) a w = shows_drop laws choose s d pair v behind l st h is kind frame [] [] [] (asked_none laws.gives s d d.0 s.0 frame low_d low_s a) refl ∙ none_more laws choose s d pair v behind l st h is kind None
 
-    etp_kept : (set : List ℕ) (r : etp.Received) → RepliesEtp d.0 s.0 r → IsNotWhole (left_etp r) → receiver_view laws s d pair v behind (by_session st (settled st.ports.station (own_key Etp) set true st.sessions (after_etp r))) ≡ with_kind Etp (left_of set (left_etp r)) v
-    etp_kept set (etp-received.On t frame) a w = shows_put laws choose s d pair v behind l st h is Etp (set, incoming.Etp t) frame a.1 ∙ none_more laws choose s d pair v behind l st h is Etp (Some (set, incoming.Etp t))
-    etp_kept set (etp-received.Complete m) a w = absurd w
-    etp_kept set (etp-received.Ended frame) a w = shows_drop laws choose s d pair v behind l st h is Etp frame [] [] [] (asked_none laws.gives s d d.0 s.0 frame low_d low_s a) refl ∙ none_more laws choose s d pair v behind l st h is Etp None
-
-    tp_not_whole : (u : TpState) (flow : Flow) (now : ℕ) → IsNotWhole (left_tp (tp-steps.expired u flow now))
-    tp_not_whole (tp-state.AwaitPacket u) flow now = tt
-    tp_not_whole (tp-state.Holding u) flow now = tt
-
-    etp_not_whole : (u : EtpState) (flow : Flow) (now : ℕ) → IsNotWhole (left_etp (etp-steps.expired u flow now))
-    etp_not_whole (etp-state.AwaitPacket u) flow now = tt
-    etp_not_whole (etp-state.Holding u) flow now = tt
+    not_whole : (u : InState) (flow : Flow) (now : ℕ) → IsNotWhole (left_by (expired u flow now))
+    not_whole u flow now = by_timer (λ r. IsNotWhole (left_by r)) flow now u tt tt
 
     abbrev fires_by : Kind → Option (List ℕ × Incoming) → ℕ → StationStep
     fires_by kind o now = by_session st (fired_by o st.ports (own_key kind) now st.sessions)
@@ -175,32 +162,22 @@ module _ (laws : Laws) (choose : machine.OnEachLane (λ lane. IsChoice lane.stre
     unfolding nothing
     nothing_fired = aside nothing (record { sessions = λ k. inr refl; frames = []; queue = refl; none = refl; untold = refl })
 
-    fires_tp : (now : ℕ) → Goal (by_session st (fired_at st.ports (own_key Tp) now st.sessions))
-    fires_tp now = by (state_at st.sessions (own_key Tp)) refl
+    fires_own : (kind : Kind) (now : ℕ) → Goal (by_session st (fired_at st.ports (own_key kind) now st.sessions))
+    fires_own kind now = by (state_at st.sessions (own_key kind)) refl
       where
-        by : (o : Option (List ℕ × Incoming)) → state_at st.sessions (own_key Tp) ≡ o → Goal (fires_by Tp o now)
-        by None e = nothing_fired
-        by (Some (set, incoming.Broadcast b)) e = absurd (let z : session.Tp ≡ session.Broadcast = (h.sessions (own_key Tp) (set, incoming.Broadcast b) e).state.1 in cc)
-        by (Some (set, incoming.Etp u)) e = absurd (let z : session.Tp ≡ session.Etp = (h.sessions (own_key Tp) (set, incoming.Etp u) e).state.1 in cc)
-        by (Some (set, incoming.Tp u)) e =
-            let flow : Flow = flow_at st.ports set in
-            let r : tp.Received = tp-steps.expired u flow now in
-            subst (Still s d l) (sym (tp_kept set r (tp_expired d.0 s.0 u flow now (h.sessions (own_key Tp) (set, incoming.Tp u) e).state.0) (tp_not_whole u flow now)))
-            (renews v l Tp set (incoming.Tp u) (left_tp r) g (is.tp ∙ e) (λ x z. tp_fired s d x u flow now z))
+        real : (kind : Kind) → of_kind kind v.tp v.etp ≡ state_at st.sessions (own_key kind)
+        real Tp = is.tp
+        real Etp = is.etp
 
-    fires_etp : (now : ℕ) → Goal (by_session st (fired_at st.ports (own_key Etp) now st.sessions))
-    fires_etp now = by (state_at st.sessions (own_key Etp)) refl
-      where
-        by : (o : Option (List ℕ × Incoming)) → state_at st.sessions (own_key Etp) ≡ o → Goal (fires_by Etp o now)
+        by : (o : Option (List ℕ × Incoming)) → state_at st.sessions (own_key kind) ≡ o → Goal (fires_by kind o now)
         by None e = nothing_fired
-        by (Some (set, incoming.Broadcast b)) e = absurd (let z : session.Etp ≡ session.Broadcast = (h.sessions (own_key Etp) (set, incoming.Broadcast b) e).state.1 in cc)
-        by (Some (set, incoming.Tp u)) e = absurd (let z : session.Etp ≡ session.Tp = (h.sessions (own_key Etp) (set, incoming.Tp u) e).state.1 in cc)
-        by (Some (set, incoming.Etp u)) e =
+        by (Some (set, incoming.Broadcast b)) e = absurd (no_broadcast kind (sym (h.sessions (own_key kind) (set, incoming.Broadcast b) e).state.1))
+        by (Some (set, incoming.Connection u)) e =
             let flow : Flow = flow_at st.ports set in
-            let p : EtpState = etp-room.prepared_to_expire u flow in
-            let r : etp.Received = etp-steps.expired p flow now in
-            subst (Still s d l) (sym (etp_kept set r (etp_expired d.0 s.0 p flow now (etp_prepared_fire d.0 s.0 u flow (h.sessions (own_key Etp) (set, incoming.Etp u) e).state.0)) (etp_not_whole p flow now)))
-            (renews v l Etp set (incoming.Etp u) (left_etp r) g (is.etp ∙ e) (λ x z. etp_fired s d x u flow now z))
+            let p : InState = prepared_to_expire u flow in
+            let r : Received = expired p flow now in
+            subst (Still s d l) (sym (kept kind set r (connection_expired d.0 s.0 p flow now (peer_prepared_fire d.0 s.0 u flow (h.sessions (own_key kind) (set, incoming.Connection u) e).state.0)) (not_whole p flow now)))
+            (renews v l kind set (incoming.Connection u) (left_by r) g (real kind ∙ e) (λ x z. connection_fired s d x u flow now z))
 
     -- of another session
     fires_else : (key : Key) (now : ℕ) → ((k : Kind) → own_key k ≡ key → ⊥) → Goal (by_session st (fired_at st.ports key now st.sessions))
@@ -215,8 +192,7 @@ module _ (laws : Laws) (choose : machine.OnEachLane (λ lane. IsChoice lane.stre
         broadcast_quiet : (o : Option (List ℕ × Incoming)) → key.kind ≡ session.Broadcast → state_at st.sessions key ≡ o → filter_map (returns s d) (option_frames (fired_by o st.ports key now st.sessions).frame) ≡ []
         broadcast_quiet None b e = refl
         broadcast_quiet (Some (set, incoming.Broadcast x)) b e = refl
-        broadcast_quiet (Some (set, incoming.Tp u)) b e = absurd (let z : session.Broadcast ≡ session.Tp = sym b ∙ (h.sessions key (set, incoming.Tp u) e).state.1 in cc)
-        broadcast_quiet (Some (set, incoming.Etp u)) b e = absurd (let z : session.Broadcast ≡ session.Etp = sym b ∙ (h.sessions key (set, incoming.Etp u) e).state.1 in cc)
+        broadcast_quiet (Some (set, incoming.Connection u)) b e = absurd (no_broadcast (unfinished_of u).kind (sym b ∙ (h.sessions key (set, incoming.Connection u) e).state.1))
 
         own_source : key.source.0 ≡ s.0 → (k : SessionKind) → key.kind ≡ k → key.kind ≡ session.Broadcast
         own_source e session.Broadcast q = q
@@ -235,8 +211,8 @@ module _ (laws : Laws) (choose : machine.OnEachLane (λ lane. IsChoice lane.stre
         told (inr m) = telling_foreign s d d d key _ (λ e. m (λ i. record { source = record { 0 = e i }; kind = own_source e key.kind refl i })) (tells_fired d key st.sessions st.ports h.ports.station h.sessions now)
 
     fires_key : (key : Key) (now : ℕ) → (key ≡ own_key Tp) ⊎ (key ≡ own_key Tp → ⊥) → (key ≡ own_key Etp) ⊎ (key ≡ own_key Etp → ⊥) → Goal (by_session st (fired_at st.ports key now st.sessions))
-    fires_key key now (inl e) q = subst (λ k. Goal (by_session st (fired_at st.ports k now st.sessions))) (sym e) (fires_tp now)
-    fires_key key now (inr n) (inl e) = subst (λ k. Goal (by_session st (fired_at st.ports k now st.sessions))) (sym e) (fires_etp now)
+    fires_key key now (inl e) q = subst (λ k. Goal (by_session st (fired_at st.ports k now st.sessions))) (sym e) (fires_own Tp now)
+    fires_key key now (inr n) (inl e) = subst (λ k. Goal (by_session st (fired_at st.ports k now st.sessions))) (sym e) (fires_own Etp now)
     fires_key key now (inr n) (inr m) = fires_else key now apart
       where
         apart : (k : Kind) → own_key k ≡ key → ⊥

@@ -11,6 +11,7 @@ use Rattle.pgn_ids.specs.declared.address.Address.{Address}
 use Rattle.tp_wire.specs.Reading.{reading}
 use Rattle.tp_wire.specs.Reason.{reason_byte}
 use Rattle.tp_wire.specs.Rows.{goes_to, comes_from}
+use Rattle.tp_wire.specs.declared.constants.TheConstants.{ETP_MAX_WINDOW}
 use Rattle.tp_wire.specs.declared.wire.Kind.{Kind}
 use Rattle.tp_wire.specs.declared.wire.Kind.TheVariants.{Tp, Etp}
 use Rattle.tp_wire.specs.declared.wire.CmFrame.{CmFrame}
@@ -18,11 +19,13 @@ use Rattle.tp_wire.specs.declared.wire.CmFrame.TheVariants.{Rts, Cts, EndOfMsgAc
 use Rattle.tp_wire.specs.declared.wire.Wire.{Wire}
 use Rattle.tp_wire.specs.declared.wire.Wire.TheVariants.{Cm, Packet, Request, Ack}
 use Rattle.responder.specs.Answers.{abort_frame}
+use Rattle.responder.specs.Unfinished.{Unfinished, begun}
+use Rattle.responder.specs.Window.{most_of}
+use Rattle.responder.specs.Readers.{unfinished_of}
+use Rattle.responder.specs.Asking.{asked}
+use Rattle.responder.specs.Room.{first_join}
 use Rattle.bam_session.specs.States as bam-states
 use Rattle.bam_session.specs.Receiving as bam-steps
-use Rattle.tp_session.specs.Asking as tp
-use Rattle.etp_session.specs.Asking as etp
-use Rattle.etp_session.specs.Room.{first_join}
 use Rattle.lane_core.specs.Lane.{Lane}
 use Rattle.lane_core.specs.Steps.{nothing_to_do, option_frames}
 use Rattle.lane_core.specs.Heard.{heard}
@@ -33,28 +36,28 @@ use Rattle.session_table.specs.declared.key.SessionKind.TheVariants as session
 use Rattle.session_table.specs.declared.incoming.Incoming.{Incoming}
 use Rattle.session_table.specs.declared.incoming.Incoming.TheVariants as incoming
 use Rattle.session_table.specs.Sessions.{state_at}
+use Rattle.session_table.specs.Key.{session_for}
 use Rattle.station_lanes.specs.Lanes.{Lanes}
 use Rattle.station_lanes.specs.LaneCalls.{outcome_of}
 use Rattle.station_lanes.specs.declared.event.Event.{Event}
-use Rattle.station_sessions.specs.Progress.{after_broadcast}
-use Rattle.station_sessions.specs.Receiving.{Inbound, received, received_by, settled, flow_at, aborted_at}
+use Rattle.station_sessions.specs.Receiving.{Inbound, received, received_by, broadcast_settled, flow_at, aborted_at}
 use Rattle.station_core.specs.Station.{Station, StationStep, quietly, queues, by_lane}
-use Rattle.station_core.specs.Opening.{key_of, refusal, is_tp_size, is_etp_size, set_for, others_than, whole_join, peer_of, rts_taken, etp_rts_taken, bam_taken}
+use Rattle.station_core.specs.Opening.{key_of, refusal, is_tp_size, is_etp_size, set_for, others_than, whole_join, peer_of, rts_taken, bam_taken}
 use Rattle.station_core.specs.Taking.{packet_kind, in_session, in_lane, abort_taken, cm_taken, answer, wire_taken, looks_at, meaning_taken, taken}
 use Rattle.record_lemmas.proofs.Maps.{state_put_else, state_dropped_else}
 use Rattle.record_lemmas.proofs.Tests.{on_test, either, by_option}
 use Rattle.broadcast_law.proofs.Carried.{Meaning, IsRead, reading_tells}
 use Rattle.broadcast_law.proofs.LaneSteps.{IsLaneOf}
-use Rattle.broadcast_law.proofs.Receptions.{IsSessionOf}
+use Rattle.broadcast_law.proofs.Receptions.{IsSessionOf, no_broadcast}
 use Rattle.broadcast_law.proofs.Stations.{IsOwn}
 use Rattle.connection_law.proofs.Frames.{goes, returns, forward_of, of_forward, is_way, returns_ack_else}
 use Rattle.connection_law.proofs.LaneWires.{FitsOut, out_heard}
-use Rattle.connection_law.proofs.SessionWires.{RepliesIn, aborted_in, tp_asked_in, etp_asked_in}
+use Rattle.connection_law.proofs.SessionWires.{RepliesIn, aborted_in, asked_in}
 use Rattle.connection_law.proofs.Sides.{said_out, replied_elsewhere}
 use Rattle.connection_law.proofs.Replies.{replies_received}
 use Rattle.connection_law.proofs.Others.{received_same, aborted_recedes}
 use Rattle.connection_law.proofs.Tellings.{tells_received, telling_foreign, telling_broadcast, outcome_untold}
-use Rattle.connection_law.proofs.Roles.{session_for, station_told, AsideIn}
+use Rattle.connection_law.proofs.Roles.{station_told, AsideIn}
 use Rattle.connection_law.proofs.View.{Laws, IsPair}
 use Rattle.connection_law.proofs.Sender.{small_s, small_d}
 
@@ -103,8 +106,7 @@ module _ (laws : Laws) (s d : Address) (pair : IsPair s d) where
     apart_key kind n k e = n (sym (ap (λ (x : Key). x.source.0) e))
 
     broadcast_key : (k : Kind) → own_key k ≡ key_of from session.Broadcast → ⊥
-    broadcast_key Tp e = let z : session.Tp ≡ session.Broadcast = ap (λ (x : Key). x.kind) e in cc
-    broadcast_key Etp e = let z : session.Etp ≡ session.Broadcast = ap (λ (x : Key). x.kind) e in cc
+    broadcast_key k e = no_broadcast k (sym (ap (λ (x : Key). x.kind) e))
 
     fits : (pgn : ℕ) → Rattle.broadcast_law.proofs.SessionSteps.FitsPeer d.0 from.0 (peer_of st from pgn)
     fits pgn = (ap (λ (x : Address). x.0) h.address, refl)
@@ -119,15 +121,12 @@ module _ (laws : Laws) (s d : Address) (pair : IsPair s d) where
       else_to : (sessions : Inbound) (frame : Option CanFrame) → ((k : Kind) → state_at sessions (own_key k) ≡ state_at st.sessions (own_key k)) → RepliesIn d.0 from.0 frame → Aside st (record { station = record st { queue = st.queue ++ option_frames frame; sessions = sessions }; events = [] })
       else_to sessions frame same e = in_session_else st sessions frame [] same (elsewhere frame e) refl
 
-      rts : (size packets most pgn : ℕ) (room : Bool) (now : ℕ) → Aside st (quietly (rts_taken st from size packets most pgn room now))
-      rts size packets most pgn room now = by_option (λ x. Aside st (quietly x)) (refusal (is_tp_size size packets) room (set_for st pgn size) (others_than st (key_of from session.Tp))) _ _
-          (else_to _ (Some (tp.asked (peer_of st from pgn) (whole_join size) most (flow_at st.ports (set_for st pgn size)))) (λ k. state_put_else st.sessions (key_of from session.Tp) _ (own_key k) (apart_key session.Tp n k)) (tp_asked_in d.0 from.0 (peer_of st from pgn) (whole_join size) most (flow_at st.ports (set_for st pgn size)) now (fits pgn)))
-          (λ reason. else_to _ (Some (abort_frame Tp (peer_of st from pgn) (reason_byte reason))) (λ k. state_dropped_else st.sessions (key_of from session.Tp) (own_key k) (apart_key session.Tp n k)) (aborted_in d.0 from.0 Tp (peer_of st from pgn) (reason_byte reason) (fits pgn)))
-
-      etp_rts : (size pgn : ℕ) (room : Bool) (now : ℕ) → Aside st (quietly (etp_rts_taken st from size pgn room now))
-      etp_rts size pgn room now = by_option (λ x. Aside st (quietly x)) (refusal (is_etp_size size) room (set_for st pgn size) (others_than st (key_of from session.Etp))) _ _
-          (else_to _ (Some (etp.asked (peer_of st from pgn) (first_join size (flow_at st.ports (set_for st pgn size))) (flow_at st.ports (set_for st pgn size)))) (λ k. state_put_else st.sessions (key_of from session.Etp) _ (own_key k) (apart_key session.Etp n k)) (etp_asked_in d.0 from.0 (peer_of st from pgn) (first_join size (flow_at st.ports (set_for st pgn size))) 0 (flow_at st.ports (set_for st pgn size)) now (fits pgn)))
-          (λ reason. else_to _ (Some (abort_frame Etp (peer_of st from pgn) (reason_byte reason))) (λ k. state_dropped_else st.sessions (key_of from session.Etp) (own_key k) (apart_key session.Etp n k)) (aborted_in d.0 from.0 Etp (peer_of st from pgn) (reason_byte reason) (fits pgn)))
+      rts : (kind : Kind) (is_size : Bool) (size most pgn : ℕ) (room : Bool) (now : ℕ) → Aside st (quietly (rts_taken st kind is_size from size most pgn room now))
+      rts kind is_size size most pgn room now =
+          let m : Unfinished = begun kind (peer_of st from pgn) most (first_join kind size (flow_at st.ports (set_for st pgn size))) in
+          by_option (λ x. Aside st (quietly x)) (refusal is_size room (set_for st pgn size) (others_than st (key_of from (session_for kind)))) _ _
+          (else_to _ (Some (asked m (flow_at st.ports (set_for st pgn size)))) (λ k. state_put_else st.sessions (key_of from (session_for kind)) _ (own_key k) (apart_key (session_for kind) n k)) (asked_in d.0 from.0 m (flow_at st.ports (set_for st pgn size)) (fits pgn)))
+          (λ reason. else_to _ (Some (abort_frame kind (peer_of st from pgn) (reason_byte reason))) (λ k. state_dropped_else st.sessions (key_of from (session_for kind)) (own_key k) (apart_key (session_for kind) n k)) (aborted_in d.0 from.0 kind (peer_of st from pgn) (reason_byte reason) (fits pgn)))
 
       its_session : (kind : SessionKind) (wire : Wire) (room : Bool) (now : ℕ) → Aside st (in_session st (key_of from kind) wire room now)
       its_session kind wire room now = in_session_else st _ (received st.ports (key_of from kind) wire room now st.sessions).frame (received st.ports (key_of from kind) wire room now st.sessions).events
@@ -141,7 +140,7 @@ module _ (laws : Laws) (s d : Address) (pair : IsPair s d) where
         (λ reason. in_session_else st _ None [] (λ k. state_dropped_else st.sessions (key_of from session.Broadcast) (own_key k) (broadcast_key k)) refl refl)
 
     -- a broadcast queues nothing
-    silent : (set : List ℕ) (b : bam-states.Incoming) (room : Bool) (r : bam-steps.Received) → (settled st.ports.station (key_of from session.Broadcast) set room st.sessions (after_broadcast b r)).frame ≡ None
+    silent : (set : List ℕ) (b : bam-states.Incoming) (room : Bool) (r : bam-steps.Received) → (broadcast_settled st.ports.station (key_of from session.Broadcast) set room st.sessions b r).frame ≡ None
     silent set b room (bam-steps.Awaits t) = refl
     silent set b true (bam-steps.Completes bytes) = refl
     silent set b false (bam-steps.Completes bytes) = refl
@@ -153,8 +152,7 @@ module _ (laws : Laws) (s d : Address) (pair : IsPair s d) where
         by : (o : Option (List ℕ × Incoming)) → state_at st.sessions (key_of from session.Broadcast) ≡ o → (received_by o st.ports (key_of from session.Broadcast) wire room now st.sessions).frame ≡ None
         by None e = refl
         by (Some (set, incoming.Broadcast b)) e = silent set b room (bam-steps.stepped b wire now)
-        by (Some (set, incoming.Tp u)) e = absurd (let k : session.Broadcast ≡ session.Tp = (h.sessions (key_of from session.Broadcast) (set, incoming.Tp u) e).state.1 in cc)
-        by (Some (set, incoming.Etp u)) e = absurd (let k : session.Broadcast ≡ session.Etp = (h.sessions (key_of from session.Broadcast) (set, incoming.Etp u) e).state.1 in cc)
+        by (Some (set, incoming.Connection u)) e = absurd (no_broadcast (unfinished_of u).kind (h.sessions (key_of from session.Broadcast) (set, incoming.Connection u) e).state.1)
 
     its_broadcast : (wire : Wire) (room : Bool) (now : ℕ) → Aside st (in_session st (key_of from session.Broadcast) wire room now)
     its_broadcast wire room now = in_session_else st _ (received st.ports (key_of from session.Broadcast) wire room now st.sessions).frame (received st.ports (key_of from session.Broadcast) wire room now st.sessions).events
@@ -181,12 +179,12 @@ module _ (laws : Laws) (s d : Address) (pair : IsPair s d) where
     one_of to (inr e) g = absurd (let l : to.0 < 254 = ltb-true to.0 254 g in omega (arith, l, e))
 
     aside_cm : (frame : CmFrame) (to : Address) (room : Bool) (now : ℕ) → from.0 < 254 → (to.0 ≡ d.0) ⊎ (to.0 ≡ 255) → goes_to (Cm frame) to.0 ≡ true → of_forward s d (Cm frame) from to ≡ None → Aside st (cm_taken st frame from room now)
-    aside_cm (Rts size packets most pgn) to room now c t g o = rts c (of_other to _ (one_of to t g) o) size packets most pgn room now
+    aside_cm (Rts size packets most pgn) to room now c t g o = rts c (of_other to _ (one_of to t g) o) Tp (is_tp_size size packets) size (most_of Tp most) pgn room now
     aside_cm (Cts count next pgn) to room now c t g o = its_lane (Cm (Cts count next pgn)) now
     aside_cm (EndOfMsgAck size packets pgn) to room now c t g o = its_lane (Cm (EndOfMsgAck size packets pgn)) now
     aside_cm (Bam size packets pgn) to room now c t g o = bam size packets pgn room now
     aside_cm (Abort reason pgn) to room now c t g o = its_abort session.Tp pgn (Cm (Abort reason pgn)) now
-    aside_cm (EtpRts size pgn) to room now c t g o = etp_rts c (of_other to _ (one_of to t g) o) size pgn room now
+    aside_cm (EtpRts size pgn) to room now c t g o = rts c (of_other to _ (one_of to t g) o) Etp (is_etp_size size) size ETP_MAX_WINDOW pgn room now
     aside_cm (EtpCts count next pgn) to room now c t g o = its_lane (Cm (EtpCts count next pgn)) now
     aside_cm (EtpDpo packets offset pgn) to room now c t g o = its_session c (of_other to _ (one_of to t g) o) session.Etp (Cm (EtpDpo packets offset pgn)) room now
     aside_cm (EtpEoma size pgn) to room now c t g o = its_lane (Cm (EtpEoma size pgn)) now

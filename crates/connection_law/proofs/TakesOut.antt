@@ -9,15 +9,19 @@ use Rattle.pgn_ids.specs.declared.address.Address.{Address}
 use Rattle.tp_wire.specs.Reading.{reading}
 use Rattle.tp_wire.specs.Reason.{reason_byte}
 use Rattle.tp_wire.specs.Rows.{goes_to, comes_from}
+use Rattle.tp_wire.specs.declared.constants.TheConstants.{ETP_MAX_WINDOW}
+use Rattle.tp_wire.specs.declared.wire.Kind.{Kind}
 use Rattle.tp_wire.specs.declared.wire.Kind.TheVariants.{Tp, Etp}
 use Rattle.tp_wire.specs.declared.wire.CmFrame.{CmFrame}
 use Rattle.tp_wire.specs.declared.wire.CmFrame.TheVariants.{Rts, Cts, EndOfMsgAck, Bam, Abort, EtpRts, EtpCts, EtpDpo, EtpEoma, EtpAbort}
 use Rattle.tp_wire.specs.declared.wire.Wire.{Wire}
 use Rattle.tp_wire.specs.declared.wire.Wire.TheVariants.{Cm, Packet, Request, Ack}
 use Rattle.responder.specs.Answers.{abort_frame}
-use Rattle.tp_session.specs.Asking as tp
-use Rattle.etp_session.specs.Asking as etp
-use Rattle.etp_session.specs.Room.{first_join}
+use Rattle.responder.specs.Unfinished.{Unfinished, begun}
+use Rattle.responder.specs.Window.{most_of}
+use Rattle.responder.specs.Asking.{asked}
+use Rattle.responder.specs.Room.{first_join}
+use Rattle.session_table.specs.Key.{session_for}
 use Rattle.lane_core.specs.Lane.{Lane, new_lane}
 use Rattle.lane_core.specs.Steps.{nothing_to_do, option_frames}
 use Rattle.lane_core.specs.Heard.{heard, answered}
@@ -28,7 +32,7 @@ use Rattle.station_lanes.specs.Lanes.{Lanes}
 use Rattle.station_lanes.specs.LaneCalls.{lane_to, stepped_lanes, step_at}
 use Rattle.station_sessions.specs.Receiving.{received, flow_at, aborted_at}
 use Rattle.station_core.specs.Station.{Station, StationStep, quietly, by_lane}
-use Rattle.station_core.specs.Opening.{key_of, refusal, is_tp_size, is_etp_size, set_for, others_than, whole_join, peer_of, rts_taken, etp_rts_taken, bam_taken}
+use Rattle.station_core.specs.Opening.{key_of, refusal, is_tp_size, is_etp_size, set_for, others_than, whole_join, peer_of, rts_taken, bam_taken}
 use Rattle.station_core.specs.Taking.{packet_kind, in_session, in_lane, abort_taken, cm_taken, answer, wire_taken, looks_at, meaning_taken, taken}
 use Rattle.record_lemmas.proofs.Maps.{lane_else, lane_here}
 use Rattle.record_lemmas.proofs.Segments.{same_address}
@@ -39,7 +43,7 @@ use Rattle.broadcast_law.proofs.LaneSteps.{IsLaneOf}
 use Rattle.broadcast_law.proofs.Stations.{IsOwn}
 use Rattle.connection_law.proofs.Frames.{BackEnd, BackAck, returns, return_of, of_return, goes_ack}
 use Rattle.connection_law.proofs.LaneWires.{FitsOut, out_heard}
-use Rattle.connection_law.proofs.SessionWires.{RepliesIn, aborted_in, tp_asked_in, etp_asked_in}
+use Rattle.connection_law.proofs.SessionWires.{RepliesIn, aborted_in, asked_in}
 use Rattle.connection_law.proofs.Sides.{said_elsewhere, replied_none}
 use Rattle.connection_law.proofs.Replies.{replies_received}
 use Rattle.connection_law.proofs.Tellings.{tells_received, telling_ended, outcome_elsewhere}
@@ -120,15 +124,12 @@ module _ (laws : Laws) (s d : Address) (pair : IsPair s d) where
       fits : (pgn : ℕ) → Rattle.broadcast_law.proofs.SessionSteps.FitsPeer s.0 from.0 (peer_of st from pgn)
       fits pgn = (ap (λ (x : Address). x.0) k.address, refl)
 
-      rts : (size packets most pgn : ℕ) (room : Bool) (now : ℕ) → Aside st (quietly (rts_taken st from size packets most pgn room now))
-      rts size packets most pgn room now = by_option (λ x. Aside st (quietly x)) (refusal (is_tp_size size packets) room (set_for st pgn size) (others_than st (key_of from session.Tp))) _ _
-          (out_session st _ from.0 (Some (tp.asked (peer_of st from pgn) (whole_join size) most (flow_at st.ports (set_for st pgn size)))) [] low (tp_asked_in s.0 from.0 (peer_of st from pgn) (whole_join size) most (flow_at st.ports (set_for st pgn size)) now (fits pgn)) refl)
-          (λ reason. out_session st _ from.0 (Some (abort_frame Tp (peer_of st from pgn) (reason_byte reason))) [] low (aborted_in s.0 from.0 Tp (peer_of st from pgn) (reason_byte reason) (fits pgn)) refl)
-
-      etp_rts : (size pgn : ℕ) (room : Bool) (now : ℕ) → Aside st (quietly (etp_rts_taken st from size pgn room now))
-      etp_rts size pgn room now = by_option (λ x. Aside st (quietly x)) (refusal (is_etp_size size) room (set_for st pgn size) (others_than st (key_of from session.Etp))) _ _
-          (out_session st _ from.0 (Some (etp.asked (peer_of st from pgn) (first_join size (flow_at st.ports (set_for st pgn size))) (flow_at st.ports (set_for st pgn size)))) [] low (etp_asked_in s.0 from.0 (peer_of st from pgn) (first_join size (flow_at st.ports (set_for st pgn size))) 0 (flow_at st.ports (set_for st pgn size)) now (fits pgn)) refl)
-          (λ reason. out_session st _ from.0 (Some (abort_frame Etp (peer_of st from pgn) (reason_byte reason))) [] low (aborted_in s.0 from.0 Etp (peer_of st from pgn) (reason_byte reason) (fits pgn)) refl)
+      rts : (kind : Kind) (is_size : Bool) (size most pgn : ℕ) (room : Bool) (now : ℕ) → Aside st (quietly (rts_taken st kind is_size from size most pgn room now))
+      rts kind is_size size most pgn room now =
+          let m : Unfinished = begun kind (peer_of st from pgn) most (first_join kind size (flow_at st.ports (set_for st pgn size))) in
+          by_option (λ x. Aside st (quietly x)) (refusal is_size room (set_for st pgn size) (others_than st (key_of from (session_for kind)))) _ _
+          (out_session st _ from.0 (Some (asked m (flow_at st.ports (set_for st pgn size)))) [] low (asked_in s.0 from.0 m (flow_at st.ports (set_for st pgn size)) (fits pgn)) refl)
+          (λ reason. out_session st _ from.0 (Some (abort_frame kind (peer_of st from pgn) (reason_byte reason))) [] low (aborted_in s.0 from.0 kind (peer_of st from pgn) (reason_byte reason) (fits pgn)) refl)
 
       bam : (size packets pgn : ℕ) (room : Bool) (now : ℕ) → Aside st (quietly (bam_taken st from size packets pgn room now))
       bam size packets pgn room now = by_option (λ x. Aside st (quietly x)) (refusal (is_tp_size size packets) room (set_for st pgn size) (others_than st (key_of from session.Broadcast))) _ _
@@ -140,12 +141,12 @@ module _ (laws : Laws) (s d : Address) (pair : IsPair s d) where
           (telling_ended s d s (key_of from kind) _ (tells_received s (key_of from kind) st.sessions st.ports k.ports.station k.sessions wire room now))
 
       hears_cm : (frame : CmFrame) (room : Bool) (now : ℕ) → (from.0 ≡ d.0 → IsBack (Cm frame) v.heard) → Goal (cm_taken st frame from room now)
-      hears_cm (Rts size packets most pgn) room now back = aside st _ is h (rts size packets most pgn room now)
+      hears_cm (Rts size packets most pgn) room now back = aside st _ is h (rts Tp (is_tp_size size packets) size (most_of Tp most) pgn room now)
       hears_cm (Cts count next pgn) room now back = lane_hears st k is h from small (Cm (Cts count next pgn)) now back
       hears_cm (EndOfMsgAck size packets pgn) room now back = lane_hears st k is h from small (Cm (EndOfMsgAck size packets pgn)) now back
       hears_cm (Bam size packets pgn) room now back = aside st _ is h (bam size packets pgn room now)
       hears_cm (Abort reason pgn) room now back = abort_hears st k is h from small session.Tp pgn (Cm (Abort reason pgn)) now back
-      hears_cm (EtpRts size pgn) room now back = aside st _ is h (etp_rts size pgn room now)
+      hears_cm (EtpRts size pgn) room now back = aside st _ is h (rts Etp (is_etp_size size) size ETP_MAX_WINDOW pgn room now)
       hears_cm (EtpCts count next pgn) room now back = lane_hears st k is h from small (Cm (EtpCts count next pgn)) now back
       hears_cm (EtpDpo packets offset pgn) room now back = aside st _ is h (in_its_session session.Etp (Cm (EtpDpo packets offset pgn)) room now)
       hears_cm (EtpEoma size pgn) room now back = lane_hears st k is h from small (Cm (EtpEoma size pgn)) now back

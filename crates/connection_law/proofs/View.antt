@@ -14,10 +14,7 @@ use Rattle.tp_wire.specs.declared.wire.Wire.TheVariants.{Cm, Packet, Request}
 use Rattle.seg_cut.specs.Packets.{packet_count}
 use Rattle.seg_cut.specs.Join.{Join}
 use Rattle.responder.specs.Peer.{Peer}
-use Rattle.tp_session.specs.Steps as tp-steps
-use Rattle.etp_session.specs.Steps as etp-steps
-use Rattle.etp_session.specs.declared.in_state.InState.{InState as EtpState}
-use Rattle.etp_session.specs.declared.in_state.InState.TheVariants as etp-state
+use Rattle.responder.specs.Readers.{unfinished_of}
 use Rattle.originator.specs.Link.{Link}
 use Rattle.originator.specs.States.{Sending as Window}
 use Rattle.originator.specs.declared.states.OutState.{OutState}
@@ -175,20 +172,14 @@ pub record IsCollected (join : Join) (x : Session) : Type 0 where
   pub next : join.next ≡ x.accepted + 1
   pub bytes : join.bytes ≡ take x.size x.collected
 
-abbrev pub offset_of : EtpState → ℕ
-offset_of (etp-state.AwaitPacket t) = t.offset
-offset_of (etp-state.Holding t) = t.offset
-
 -- but for the offset of a DPO
 abbrev pub IsAlmost : (s d : Address) → Incoming → Session → Type 0
 IsAlmost s d (incoming.Broadcast b) x = ⊥
-IsAlmost s d (incoming.Tp t) x = IsPeer s d (tp-steps.peer_of t) x × IsCollected (tp-steps.join_of t) x
-IsAlmost s d (incoming.Etp t) x = IsPeer s d (etp-steps.peer_of t) x × IsCollected (etp-steps.join_of t) x
+IsAlmost s d (incoming.Connection t) x = IsPeer s d (unfinished_of t).peer x × IsCollected (unfinished_of t).join x
 
 abbrev pub IsSame : (s d : Address) → Incoming → Session → Type 0
 IsSame s d (incoming.Broadcast b) x = ⊥
-IsSame s d (incoming.Tp t) x = IsPeer s d (tp-steps.peer_of t) x × IsCollected (tp-steps.join_of t) x × (x.offset ≡ 0)
-IsSame s d (incoming.Etp t) x = IsPeer s d (etp-steps.peer_of t) x × IsCollected (etp-steps.join_of t) x × (offset_of t ≡ x.offset)
+IsSame s d (incoming.Connection t) x = IsPeer s d (unfinished_of t).peer x × IsCollected (unfinished_of t).join x × ((unfinished_of t).offset ≡ x.offset)
 
 abbrev pub Has : {A : Type 0} → List A → A → Type 0
 Has [] x = ⊥

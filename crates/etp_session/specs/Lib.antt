@@ -1,9 +1,2 @@
-pub mod Window
-pub mod States
-pub mod Asking
-pub mod DpoRows
-pub mod PacketRows
-pub mod Steps
-pub mod Room
+pub mod Rows
 pub mod Memory
-pub mod Shape

@@ -1,33 +1,37 @@
--- The memory of a receiver: it grows by the window.
+-- The memory of a receiver of ETP: it grows by the window.
 use Rattle.std.specs.Prelude.{◌≡◌, ◌+◌, ◌-◌, ◌≤◌, ⊤}
 use Rattle.tp_wire.specs.declared.constants.TheConstants.{ETP_MAX_WINDOW}
+use Rattle.tp_wire.specs.declared.wire.Kind.TheVariants.{Etp}
 use Rattle.seg_cut.specs.Join.{Join}
-use Rattle.etp_session.specs.Window.{window}
-use Rattle.etp_session.specs.States.{AwaitPacket, Holding}
-use Rattle.etp_session.specs.declared.in_state.InState.{InState}
-use Rattle.etp_session.specs.declared.received.Received.{Received}
-use Rattle.etp_session.specs.declared.received.Received.TheVariants.{On, Complete, Ended}
+use Rattle.responder.specs.Unfinished.{Unfinished}
+use Rattle.responder.specs.Window.{window}
+use Rattle.responder.specs.States.{AwaitPacket, Holding}
+use Rattle.responder.specs.declared.in_state.InState.{InState}
+use Rattle.responder.specs.declared.in_state.InState.TheVariants as InState
+use Rattle.responder.specs.declared.received.Received.{Received}
+use Rattle.responder.specs.declared.received.Received.TheVariants.{On, Complete, Ended}
 
 -- beside what came there is room for one window at most
 abbrev pub IsWithinWindow : Join → Type 0
 IsWithinWindow join = join.room ≤ ETP_MAX_WINDOW
 
--- there is room for just the packets that are granted, one window at most
-pub record HasGrantedRoom (s : AwaitPacket) : Type 0 where
-  pub from_first : 1 ≤ s.join.next
-  pub announced : s.until ≤ s.granted
-  pub granted : s.join.next - 1 + s.join.room ≡ s.granted
-  pub within_window : s.join.room ≤ window s.join.size s.join.next
+-- of a message of ETP there is room for no more than the next window
+pub record HasSpareRoom (m : Unfinished) : Type 0 where
+  pub etp : m.kind ≡ Etp
+  pub most : m.most ≤ ETP_MAX_WINDOW
+  pub from_first : 1 ≤ m.join.next
+  pub within_window : m.join.room ≤ window m.most m.join.size m.join.next
 
--- on hold there is room for no more than the next window
-pub record HasSpareRoom (s : Holding) : Type 0 where
-  pub from_first : 1 ≤ s.join.next
-  pub within_window : s.join.room ≤ window s.join.size s.join.next
+-- and where packets are awaited, for just those that are granted
+pub record HasGrantedRoom (s : AwaitPacket) : Type 0 where
+  pub spare : HasSpareRoom s.message
+  pub announced : s.until ≤ s.granted
+  pub granted : s.message.join.next - 1 + s.message.join.room ≡ s.granted
 
 -- either state has no more room than that
 abbrev pub HasLeastRoom : InState → Type 0
 HasLeastRoom (InState.AwaitPacket s) = HasGrantedRoom s
-HasLeastRoom (InState.Holding s) = HasSpareRoom s
+HasLeastRoom (InState.Holding s) = HasSpareRoom s.message
 
 -- and so has the one that goes on
 abbrev pub GoesOnWithLeastRoom : Received → Type 0

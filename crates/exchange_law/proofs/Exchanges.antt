@@ -17,6 +17,7 @@ use Rattle.originator.specs.Pump as out
 use Rattle.originator.specs.Readers.{without_window}
 use Rattle.originator.specs.declared.states.OutState.{OutState}
 use Rattle.originator.specs.declared.states.OutState.TheVariants.{Sending}
+use Rattle.responder.specs.Window.{clear_to_send}
 use Rattle.session_table.specs.declared.incoming.Incoming.{Incoming}
 use Rattle.station_lanes.specs.declared.event.Event.{Event}
 use Rattle.station_lanes.specs.declared.event.Event.TheVariants as event
@@ -24,11 +25,10 @@ use Rattle.station_sessions.specs.Receiving.{Inbound}
 use Rattle.segment_law.specs.Drive.{Driven, goes_on, turn, turns_from}
 use Rattle.segment_law.specs.Quiet.{given_by}
 use Rattle.exchange_law.proofs.Nodes.{IsBetween}
-use Rattle.exchange_law.proofs.Senders.{Sent, s, d, last, len, link, awaits, awaits_end, window, since, ready, going, over_with, rts, refusal_is, begins, lanes_with, sends, cts_of, end_of, cts_taken, end_taken}
+use Rattle.exchange_law.proofs.Senders.{Sent, s, d, last, len, link, awaits, awaits_end, window, since, ready, going, over_with, rts, refusal_is, begins, lanes_with, sends, end_of, cts_taken, end_taken}
 use Rattle.exchange_law.proofs.Receivers.{Welcome, hears, sessions_with}
 use Rattle.exchange_law.proofs.Rows.{Laws, rts_between, cts_between, end_between, dpo_between, packet_wire, packet_between}
-use Rattle.exchange_law.proofs.EtpSessions.{GoesEtp, etp_announces}
-use Rattle.exchange_law.proofs.Sessions.{most, grant, cts, ending, IsAt, Goes, Gives, opens, mid, asks, ends}
+use Rattle.exchange_law.proofs.Sessions.{widest, grant, cts, ending, IsAt, tp_announced, Goes, Gives, opens, announces as announces_window, mid, next_window, ends}
 use Rattle.exchange_law.proofs.Turns.{Stands, turn_back, turn_pump}
 use Rattle.exchange_law.proofs.Windows.{IsOwing, Moved, sender_turn, owed_at, state_at}
 
@@ -152,13 +152,10 @@ module _ (laws : Laws) (e : Sent) (h : Welcome e) (L now : ℕ) where
       abbrev said : IsBetween (s e) (d e) (packet_wire laws e e.kind k p) (frame p)
       said = packet_between laws e e.kind k p from_first from_window (omega (arith, granted, within))
 
-      first : 1 ≤ p
-      first = omega (arith, from_first, from_window)
-
       -- the last packet of the window
       ends_window : (n : ℕ) → p ≡ u → Tiles n (u + 1) → Owing q o (frame p ∷ []) → Pending n (u + 1) (t + 1) (fs ++ frame p ∷ []) (turned dr)
       ends_window zero end tiles w =
-          let step : Gives e e.kind _ = ends e laws h k u p from_first from_window granted within first e.kind refl x at now end (omega (arith, tiles)) in
+          let step : Gives e e.kind _ = ends e laws h k u p from_first from_window granted within e.kind refl x at now end (omega (arith, tiles)) in
           let moved : Moved e L now k g u q o (frame p) [] (ending e e.kind ∷ []) step.sessions t fs given dr = sender_turn e L now k g u q o (packet_wire laws e e.kind k p) (frame p) [] w said (ending e e.kind ∷ []) (sessions_with e e.kind x) step.sessions given step.is t fs [] dr stands room in
           let spent_now : IsSpent moved.q' moved.o' = spent moved.q' moved.o' moved.owing in
           let all : nat_le (u + 1) (last e) ≡ false = lt-leb (u + 1) (last e) (omega (arith, tiles)) in
@@ -170,7 +167,7 @@ module _ (laws : Laws) (e : Sent) (h : Welcome e) (L now : ℕ) where
           }
       ends_window (suc n) end tiles w =
           let more : u < last e = (let y : u + 1 ≤ last e = tiles.0 in omega (arith, y)) in
-          let step : Goes e e.kind (cts e e.kind (p + 1) ∷ []) false (p + 1) (p + 1 - 1 + grant e e.kind (p + 1)) (p + 1) _ = asks e laws h k u p from_first from_window granted within first e.kind refl x at now end more in
+          let step : Goes e e.kind (cts e e.kind (p + 1) ∷ []) false (p + 1) (p + 1 - 1 + grant e e.kind (p + 1)) (p + 1) _ = next_window e laws h k u p from_first from_window granted within e.kind refl x at now end more in
           let moved : Moved e L now k g u q o (frame p) [] (cts e e.kind (p + 1) ∷ []) (sessions_with e e.kind step.state) t fs [] dr =
           sender_turn e L now k g u q o (packet_wire laws e e.kind k p) (frame p) [] w said (cts e e.kind (p + 1) ∷ []) (sessions_with e e.kind x) (sessions_with e e.kind step.state) [] step.is t fs [] dr stands room in
           let spent_now : IsSpent moved.q' moved.o' = spent moved.q' moved.o' moved.owing in
@@ -194,8 +191,7 @@ module _ (laws : Laws) (e : Sent) (h : Welcome e) (L now : ℕ) where
         one_turn (frame p) more t fs dr (next (t + 1) (fs ++ frame p ∷ []) (turned dr) (omega (arith, room)) (ends_window p from_window granted q o x at t fs dr stands (omega (arith, room)) n end tiles w))
     loop n (suc count) p from_window sum tiles q o w x at more t fs dr stands room next =
         let granted : p ≤ u = omega (arith, sum) in
-        let first_p : 1 ≤ p = omega (arith, from_first, from_window) in
-        let step : Goes e e.kind [] true k u (p + 1) _ = mid e laws h k u p from_first from_window granted within first_p e.kind refl x at now (omega (arith, sum)) in
+        let step : Goes e e.kind [] true k u (p + 1) _ = mid e laws h k u p from_first from_window granted within e.kind refl x at now (omega (arith, sum)) in
         let moved : Moved e L now k g u q o (frame p) (packets k (p + 1) (suc count)) [] (sessions_with e e.kind step.state) t fs [] dr =
         sender_turn e L now k g u q o (packet_wire laws e e.kind k p) (frame p) (packets k (p + 1) (suc count)) w (packet_between laws e e.kind k p from_first from_window (omega (arith, granted, within))) [] (sessions_with e e.kind x) (sessions_with e e.kind step.state) [] step.is t fs [] dr stands (omega (arith, room)) in
         one_turn (frame p) (packets k (p + 1) (suc count) ++ more) t fs dr
@@ -208,12 +204,12 @@ module _ (laws : Laws) (e : Sent) (h : Welcome e) (L now : ℕ) where
         → HasRoom t ((out.announcement kind (opened k) ++ packets k k (suc count)) ++ more) → ((t' : ℕ) (fs' : List CanFrame) (dr' : Driven) → HasRoom t' more → Pending n (u + 1) t' fs' dr' → RunsOut more t' fs' dr')
         → RunsOut ((out.announcement kind (opened k) ++ packets k k (suc count)) ++ more) t fs dr
     announces Tp is n count sum tiles x at w more t fs dr stands room next =
-        loop n count k (omega arith) sum tiles [] (Sending (opened k)) w x (subst (λ (kind : Kind). IsAt e kind true k u k x) (sym is) at) more t fs dr
+        loop n count k (omega arith) sum tiles [] (Sending (opened k)) w x (subst (λ (kind : Kind). IsAt e kind true k u k x) (sym is) (tp_announced e k u k x at)) more t fs dr
         (subst (λ (kind : Kind). Stands e.pair L now (sends e [] (lanes_with e (going e (Sending (opened k))))) (hears e [] (sessions_with e kind x)) t fs [] dr) (sym is) stands) room next
     announces Etp is n count sum tiles x at w more t fs dr stands room next =
         let granted : k ≤ u = omega (arith, sum) in
         let dpo : CanFrame = out.dpo_frame (opened k) in
-        let step : GoesEtp e [] true k u k _ = etp_announces e h is k u x at now from_first granted in
+        let step : Goes e Etp [] true k u k _ = announces_window e laws h k u x at now from_first granted in
         let moved : Moved e L now k g u [] (Sending (opened k)) dpo (packets k k (suc count)) [] (sessions_with e Etp step.state) t fs [] dr =
         sender_turn e L now k g u [] (Sending (opened k)) (Cm (EtpDpo (u + 1 - k) (k - 1) e.m.pgn)) dpo (packets k k (suc count)) w (dpo_between laws e (u + 1 - k) (k - 1) (omega (arith, granted, within))) [] (sessions_with e Etp x) (sessions_with e Etp step.state) [] step.is t fs [] dr stands (omega (arith, room)) in
         one_turn dpo (packets k k (suc count) ++ more) t fs dr
@@ -229,7 +225,7 @@ module _ (laws : Laws) (e : Sent) (h : Welcome e) (L now : ℕ) where
         let sum : k + suc count ≡ u + 1 = omega (arith, some, from_first) in
         let f : CanFrame = cts e e.kind k in
         let taken : Stands e.pair L now (sends e [] (lanes_with e (going e (Sending (opened k))))) (hears e [] (sessions_with e e.kind p.state)) (t + 1) (fs ++ f ∷ []) [] (turned dr) =
-        turn_back e.pair L now (Cm (cts_of e.kind g k e.m.pgn)) f (cts_between laws e e.kind g k in_message) [] [] (lanes_with e (going e (awaits e k p.timer))) (lanes_with e (going e (Sending (opened k)))) (sessions_with e e.kind p.state) []
+        turn_back e.pair L now (Cm (clear_to_send e.kind g k e.m.pgn)) f (cts_between laws e e.kind g k in_message) [] [] (lanes_with e (going e (awaits e k p.timer))) (lanes_with e (going e (Sending (opened k)))) (sessions_with e e.kind p.state) []
         (omega arith) (cts_taken e k g u p.timer now one from_first in_message refl within) t fs [] dr p.stands (omega (arith, room)) in
         let owing : Owing [] (Sending (opened k)) (out.announcement e.kind (opened k) ++ packets k k (suc count)) = record { a = k; left = suc count; announced = false; state = refl; sum = sum; short = omega arith; is = refl } in
         let room_next : HasRoom (t + 1) ((out.announcement e.kind (opened k) ++ packets k k (suc count)) ++ more) =
@@ -240,7 +236,7 @@ module _ (laws : Laws) (e : Sent) (h : Welcome e) (L now : ℕ) where
 
   -- ---- all windows
 
-  most_some : (kind : Kind) → 1 ≤ most e kind
+  most_some : (kind : Kind) → 1 ≤ widest kind
   most_some Tp = omega arith
   most_some Etp = omega arith
 

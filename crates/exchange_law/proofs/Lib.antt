@@ -5,8 +5,6 @@ pub mod Turns
 pub mod Senders
 pub mod Windows
 pub mod Receivers
-pub mod TpSessions
-pub mod EtpSessions
 pub mod Rows
 pub mod Sessions
 pub mod Exchanges

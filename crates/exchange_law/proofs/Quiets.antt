@@ -30,7 +30,8 @@ use Rattle.segment_law.specs.Segment.{Segment, place_of, has_station, station_at
 use Rattle.segment_law.specs.Record.{Record, StandsAt}
 use Rattle.segment_law.specs.Reached.{IsFitMessage, IsFitLane, IsFitStation, IsReached}
 use Rattle.segment_law.specs.Drive.{driven, turns_from, not_driven}
-use Rattle.segment_law.specs.Quiet.{quiet, quiet_broadcast, quiet_connection, given_by, broadcast_given, session_for, takers, has_place, is_to_all, is_at_rest, IsSettled, IsQuiet, quiet_events, IsUndisturbed, IsQuietExchange, may_broadcast, may_receive}
+use Rattle.session_table.specs.Key.{session_for}
+use Rattle.segment_law.specs.Quiet.{quiet, quiet_broadcast, quiet_connection, given_by, broadcast_given, takers, has_place, is_to_all, is_at_rest, IsSettled, IsQuiet, quiet_events, IsUndisturbed, IsQuietExchange, may_broadcast, may_receive}
 use Rattle.segment_law.proofs.Booleans.{both_pass, both as both_are, not_passes}
 use Rattle.segment_law.proofs.Records.{stands_reached}
 use Rattle.quiet_law.proofs.Receivers.{all}

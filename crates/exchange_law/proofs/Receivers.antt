@@ -10,21 +10,26 @@ use Rattle.tp_wire.specs.declared.wire.Kind.TheVariants.{Tp, Etp}
 use Rattle.tp_wire.specs.declared.wire.Wire.{Wire}
 use Rattle.port_table.specs.Ports.{is_any_paused, ports_for}
 use Rattle.responder.specs.Peer.{Peer}
+use Rattle.responder.specs.Steps.{stepped}
+use Rattle.responder.specs.Room.{prepared}
 use Rattle.responder.specs.declared.flow.Flow.{Flow}
+use Rattle.responder.specs.declared.in_state.InState.{InState}
 use Rattle.responder.specs.declared.flow.Flow.TheVariants.{Open}
 use Rattle.session_table.specs.declared.TheConstants.{MAX_SESSIONS}
 use Rattle.session_table.specs.declared.key.Key.{Key}
 use Rattle.session_table.specs.declared.key.SessionKind.TheVariants as session
 use Rattle.session_table.specs.declared.incoming.Incoming.{Incoming}
+use Rattle.session_table.specs.declared.incoming.Incoming.TheVariants.{Connection}
+use Rattle.session_table.specs.Key.{session_for}
 use Rattle.session_table.specs.Sessions.{state_at}
 use Rattle.session_table.proofs.Keys.{key_total}
 use Rattle.session_table.proofs.Tables.{key_eq-refl}
-use Rattle.station_sessions.specs.Progress.{flow_of, prepared, progress}
-use Rattle.station_sessions.specs.Receiving.{Inbound, flow_at, settled, received_by}
+use Rattle.station_sessions.specs.Steps.{flow_of}
+use Rattle.station_sessions.specs.Receiving.{Inbound, flow_at, connection_settled, received_by}
 use Rattle.station_core.specs.Opening.{key_of, others_than, set_for, refusal}
 use Rattle.station_core.specs.Station.{Station, by_session}
 use Rattle.station_core.specs.Taking.{packet_kind, in_session}
-use Rattle.segment_law.specs.Quiet.{session_for, takers, has_place}
+use Rattle.segment_law.specs.Quiet.{takers, has_place}
 use Rattle.record_lemmas.proofs.Told.{clean_is}
 use Rattle.exchange_law.proofs.Senders.{Sent, s, d, len, not_to_all}
 
@@ -75,11 +80,17 @@ module _ (e : Sent) where
         rw (some, few) refl
 
     -- a step of the session is the station's
-    pub stepped_as : (kind : Kind) (x : Incoming) (w : Wire) (now : ℕ) → in_session (hears [] (sessions_with kind x)) (key kind) w true now
-        ≡ by_session (hears [] (sessions_with kind x)) (settled e.pair.ys.ports.station (key kind) set true (sessions_with kind x) (progress (prepared x w true Open) w true Open now))
+    pub stepped_as : (kind : Kind) (x : InState) (w : Wire) (now : ℕ) → in_session (hears [] (sessions_with kind (Connection x))) (key kind) w true now
+        ≡ by_session (hears [] (sessions_with kind (Connection x))) (connection_settled e.pair.ys.ports.station (key kind) set true (sessions_with kind (Connection x)) (stepped (prepared x w true Open) w true Open now))
     stepped_as kind x w now =
-        ap (λ (o : Option (List ℕ × Incoming)). by_session (hears [] (sessions_with kind x)) (received_by o e.pair.ys.ports (key kind) w true now (sessions_with kind x))) there
-        ∙ ap (λ (flow : Flow). by_session (hears [] (sessions_with kind x)) (settled e.pair.ys.ports.station (key kind) set true (sessions_with kind x) (progress (prepared x w true flow) w true flow now))) flow_is
+        ap (λ (o : Option (List ℕ × Incoming)). by_session here (received_by o e.pair.ys.ports (key kind) w true now sessions)) there
+        ∙ ap (λ (flow : Flow). by_session here (connection_settled e.pair.ys.ports.station (key kind) set true sessions (stepped (prepared x w true flow) w true flow now))) flow_is
       where
-        there : state_at (sessions_with kind x) (key kind) ≡ Some (set, x)
-        there = ap option_flatten (get-insert key_total e.pair.ys.sessions (key kind) (Some (set, x)) (key kind) ∙ ap (λ b. cond b (Some (Some (set, x))) (finmap.get e.pair.ys.sessions (key kind))) (key_eq-refl (key kind)))
+        sessions : Inbound
+        sessions = sessions_with kind (Connection x)
+
+        here : Station
+        here = hears [] sessions
+
+        there : state_at (sessions_with kind (Connection x)) (key kind) ≡ Some (set, Connection x)
+        there = ap option_flatten (get-insert key_total e.pair.ys.sessions (key kind) (Some (set, Connection x)) (key kind) ∙ ap (λ b. cond b (Some (Some (set, Connection x))) (finmap.get e.pair.ys.sessions (key kind))) (key_eq-refl (key kind)))

@@ -11,10 +11,11 @@ use Rattle.tp_wire.specs.declared.wire.Wire.TheVariants.{Cm, Packet}
 use Rattle.seg_cut.specs.Packets.{packet_count, packet}
 use Rattle.originator.specs.Link.{request_to_send}
 use Rattle.originator.specs.Pump as out
+use Rattle.responder.specs.Window.{clear_to_send}
 use Rattle.record_lemmas.proofs.Readings.{GivesBack, ReadsBack}
 use Rattle.quiet_law.proofs.Receivers.{GoesOn, Ends}
 use Rattle.exchange_law.proofs.Nodes.{IsBetween, between}
-use Rattle.exchange_law.proofs.Senders.{Sent, s, d, len, last, cts_of, end_of}
+use Rattle.exchange_law.proofs.Senders.{Sent, s, d, len, last, end_of}
 
 -- the laws of the layers below
 pub record Laws : Type 0 where
@@ -35,7 +36,7 @@ module _ (laws : Laws) (e : Sent) where
   rts_between Tp = between laws.gives laws.reads (s e) (d e) e.pair.own_s e.pair.own_d (Cm (Rts (len e) (last e) 255 e.m.pgn)) (record { numbers = tt; widths = pgn_fits; source = e.pair.own_s; destination = e.pair.own_d }) refl refl (omega arith)
   rts_between Etp = between laws.gives laws.reads (s e) (d e) e.pair.own_s e.pair.own_d (Cm (EtpRts (len e) e.m.pgn)) (record { numbers = tt; widths = pgn_fits; source = e.pair.own_s; destination = e.pair.own_d }) refl refl (omega arith)
 
-  pub cts_between : (kind : Kind) (g k : ℕ) → k ≤ last e → IsBetween (d e) (s e) (Cm (cts_of kind g k e.m.pgn)) (written (Cm (cts_of kind g k e.m.pgn)) (d e).0 (s e).0)
+  pub cts_between : (kind : Kind) (g k : ℕ) → k ≤ last e → IsBetween (d e) (s e) (Cm (clear_to_send kind g k e.m.pgn)) (written (Cm (clear_to_send kind g k e.m.pgn)) (d e).0 (s e).0)
   cts_between Tp g k within = between laws.gives laws.reads (d e) (s e) e.pair.own_d e.pair.own_s (Cm (Cts g k e.m.pgn)) (record { numbers = tt; widths = pgn_fits; source = e.pair.own_d; destination = e.pair.own_s }) refl refl (omega arith)
   cts_between Etp g k within = between laws.gives laws.reads (d e) (s e) e.pair.own_d e.pair.own_s (Cm (EtpCts g k e.m.pgn)) (record { numbers = number_fits k within; widths = pgn_fits; source = e.pair.own_d; destination = e.pair.own_s }) refl refl (omega arith)
 

@@ -20,7 +20,9 @@ use Rattle.tp_wire.specs.declared.wire.Wire.TheVariants.{Cm}
 use Rattle.seg_cut.specs.Packets.{packet_count}
 use Rattle.tick_timers.specs.Timers.{Timer}
 use Rattle.tick_timers.specs.declared.durations.TheConstants.{T3}
-use Rattle.originator.specs.Link.{Link, is_same_kind, is_of_link, request_to_send}
+use Rattle.tp_wire.specs.Kinds.{is_same_kind}
+use Rattle.responder.specs.Window.{clear_to_send}
+use Rattle.originator.specs.Link.{Link, is_of_link, request_to_send}
 use Rattle.originator.specs.Cts.{on_cts}
 use Rattle.originator.specs.Step.{on_end}
 use Rattle.originator.specs.States as states
@@ -66,10 +68,6 @@ pub record Sent : Type 0 where
   pub most : length m.bytes ≤ ETP_MAX_SIZE
 
 -- the frames of either transport
-abbrev pub cts_of : Kind → (granted next pgn : ℕ) → CmFrame
-cts_of Tp granted next pgn = Cts granted next pgn
-cts_of Etp granted next pgn = EtpCts granted next pgn
-
 abbrev pub end_of : Kind → (len pgn : ℕ) → CmFrame
 end_of Tp len pgn = EndOfMsgAck len (packet_count len) pgn
 end_of Etp len pgn = EtpEoma len pgn
@@ -190,13 +188,13 @@ module _ (e : Sent) where
   of_it Etp is = (λ i. is_same_kind (is i) Etp && is_its_own i)
 
   pub cts_taken : (k g u : ℕ) (timer : Timer) (now : ℕ) → 1 ≤ g → 1 ≤ k → k ≤ last → k - 1 + g ≡ u → u ≤ last
-      → wire_taken (sends [] (lanes_with (going (awaits k timer)))) (Cm (cts_of e.kind g k e.m.pgn)) d s true now ≡ record { station = sends [] (lanes_with (going (Sending (window k g u k false)))); events = [] }
+      → wire_taken (sends [] (lanes_with (going (awaits k timer)))) (Cm (clear_to_send e.kind g k e.m.pgn)) d s true now ≡ record { station = sends [] (lanes_with (going (Sending (window k g u k false)))); events = [] }
   cts_taken k g u timer now some from_first in_message end within = by e.kind refl
     where
       opened : Stepped
       opened = On (Sending (window k g u k false))
 
-      by : (kind : Kind) → e.kind ≡ kind → wire_taken (sends [] (lanes_with (going (awaits k timer)))) (Cm (cts_of kind g k e.m.pgn)) d s true now ≡ record { station = sends [] (lanes_with (going (Sending (window k g u k false)))); events = [] }
+      by : (kind : Kind) → e.kind ≡ kind → wire_taken (sends [] (lanes_with (going (awaits k timer)))) (Cm (clear_to_send kind g k e.m.pgn)) d s true now ≡ record { station = sends [] (lanes_with (going (Sending (window k g u k false)))); events = [] }
       by Tp is = by_lane_is [] (going (awaits k timer)) (going (Sending (window k g u k false))) (λ l. heard l (Cm (Cts g k e.m.pgn)) now) (record { frames = []; ended = None })
           (ap (λ (b : Bool). after_step (going (awaits k timer)) (cond b (on_cts (awaits k timer) g k now) (On (awaits k timer)))) (of_it Tp is)
           ∙ ap (after_step (going (awaits k timer))) (opens k g u timer now some from_first in_message end within))

@@ -13,11 +13,12 @@ use Rattle.tp_wire.specs.declared.wire.Wire.TheVariants.{Cm, Packet}
 use Rattle.seg_cut.specs.Packets.{packet}
 use Rattle.originator.specs.Link.{request_to_send}
 use Rattle.originator.specs.Pump as out
+use Rattle.responder.specs.Window.{clear_to_send}
 use Rattle.segment_law.specs.Quiet.{tp_window, etp_window, quiet_connection}
-use Rattle.exchange_law.proofs.Senders.{Sent, s, d, len, last, rts, cts_of}
+use Rattle.exchange_law.proofs.Senders.{Sent, s, d, len, last, rts}
 use Rattle.exchange_law.proofs.Receivers.{Welcome}
 use Rattle.exchange_law.proofs.Rows.{Laws, packet_wire}
-use Rattle.exchange_law.proofs.Sessions.{most, grant, ending}
+use Rattle.exchange_law.proofs.Sessions.{widest, grant, ending}
 use Rattle.exchange_law.proofs.Exchanges.{left, Tiles, reach, opened}
 
 -- the same frames, numbered from the window's first packet
@@ -34,13 +35,13 @@ shifted f g a b same (suc n) = (λ j. first j ∷ shifted f g (a + 1) (b + 1) la
 module _ (laws : Laws) (e : Sent) (h : Welcome e) (L now : ℕ) where
   -- a CTS, and the frames that it grants
   abbrev asked : Kind → (k : ℕ) → List CanFrame
-  asked kind k = written (Cm (cts_of kind (grant e kind k) k e.m.pgn)) (d e).0 (s e).0 ∷ (out.announcement kind (opened laws e h L now k) ++ map (λ p. written (packet_wire laws e kind k p) (s e).0 (d e).0) (range_with_len k (grant e kind k)))
+  asked kind k = written (Cm (clear_to_send kind (grant e kind k) k e.m.pgn)) (d e).0 (s e).0 ∷ (out.announcement kind (opened laws e h L now k) ++ map (λ p. written (packet_wire laws e kind k p) (s e).0 (d e).0) (range_with_len k (grant e kind k)))
 
   -- ---- TP
 
   module _ (is : e.kind ≡ Tp) where
-    tp_most : most e e.kind ≡ 16
-    tp_most = ap (most e) is
+    tp_most : widest e.kind ≡ 16
+    tp_most = ap widest is
 
     abbrev tp_group : ℕ → ℕ × ℕ
     tp_group j = (16 * j + 1, min 16 (last e - 16 * j))
@@ -79,8 +80,8 @@ module _ (laws : Laws) (e : Sent) (h : Welcome e) (L now : ℕ) where
   -- ---- ETP
 
   module _ (is : e.kind ≡ Etp) where
-    etp_most : most e e.kind ≡ 64
-    etp_most = ap (most e) is
+    etp_most : widest e.kind ≡ 64
+    etp_most = ap widest is
 
     abbrev etp_group : ℕ → ℕ × ℕ
     etp_group j = (64 * j + 1, min 64 (last e - 64 * j))

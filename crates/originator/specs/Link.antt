@@ -1,9 +1,10 @@
 -- The message that a connection carries, and its sender's frames (SAE J1939-21, connection mode data transfer; ISO 11783-3).
-use Rattle.std.specs.Prelude.{ℕ, Bool, true, false, ◌&&◌, ◌==◌}
+use Rattle.std.specs.Prelude.{ℕ, Bool, ◌&&◌, ◌==◌}
 use Rattle.bus_frame.specs.Frames.{CanFrame}
 use Rattle.pgn_ids.specs.Pgn.{clean}
 use Rattle.tp_wire.specs.Reason.{reason_byte}
 use Rattle.tp_wire.specs.Aborts.{connection_abort}
+use Rattle.tp_wire.specs.Kinds.{is_same_kind}
 use Rattle.tp_wire.specs.Rows.{written}
 use Rattle.tp_wire.specs.declared.constants.TheConstants.{ANY_WINDOW}
 use Rattle.tp_wire.specs.declared.reason.AbortReason.{AbortReason}
@@ -26,12 +27,6 @@ pub record Link : Type 0 where
 -- how many packets the message has
 abbrev pub packets_of : Link → ℕ
 packets_of link = packet_count link.len
-
--- the same transport
-abbrev pub is_same_kind : Kind → Kind → Bool
-is_same_kind Tp Tp = true
-is_same_kind Etp Etp = true
-is_same_kind _ _ = false
 
 -- a frame of this transport with this PGN field belongs to the message: in PDU1 the field's low byte isn't looked at
 abbrev pub is_of_link : Link → Kind → ℕ → Bool

@@ -5,22 +5,18 @@ use Rattle.pgn_ids.specs.Pgn.{clean}
 use Rattle.pgn_ids.specs.Address.{global_address}
 use Rattle.pgn_ids.specs.declared.address.Address.{Address}
 use Rattle.tp_wire.specs.declared.wire.Wire.{Wire}
+use Rattle.responder.specs.Steps.{stepped, expired}
+use Rattle.responder.specs.Room.{prepared, prepared_to_expire}
 use Rattle.responder.specs.declared.flow.Flow.{Flow}
+use Rattle.responder.specs.declared.received.Received.{Received}
+use Rattle.responder.specs.declared.received.Received.TheVariants.{On, Complete, Ended}
 use Rattle.bam_session.specs.States as bam
 use Rattle.bam_session.specs.Receiving as bam-steps
-use Rattle.tp_session.specs.Steps as tp-steps
-use Rattle.tp_session.specs.declared.received.Received as tp
-use Rattle.tp_session.specs.declared.received.Received.TheVariants as tp-received
-use Rattle.etp_session.specs.Steps as etp-steps
-use Rattle.etp_session.specs.Room as etp-room
-use Rattle.etp_session.specs.declared.received.Received as etp
-use Rattle.etp_session.specs.declared.received.Received.TheVariants as etp-received
 use Rattle.port_table.specs.Ports.{Ports}
 use Rattle.session_table.specs.declared.key.Key.{Key}
 use Rattle.session_table.specs.declared.incoming.Incoming.{Incoming}
 use Rattle.session_table.specs.declared.incoming.Incoming.TheVariants as incoming
-use Rattle.station_sessions.specs.Progress.{after_broadcast, after_tp, after_etp, progress, prepared, prepared_to_fire, fired as session_fired}
-use Rattle.station_sessions.specs.Receiving.{Inbound, Reception, settled, flow_at, received_by, fired_by}
+use Rattle.station_sessions.specs.Receiving.{Inbound, Reception, broadcast_settled, connection_settled, session_stepped, session_fired, flow_at, received_by, fired_by}
 use Rattle.outcome_law.proofs.Events.{named_in, gives, named_given}
 
 module _ (s d : Address) where
@@ -33,30 +29,23 @@ module _ (s d : Address) where
     whole_untold true sessions given refused from to pgn bytes = named_given s d station ports from to pgn bytes
     whole_untold false sessions given refused from to pgn bytes = refl
 
-    untold_tp : (room : Bool) (r : tp.Received) → Untold (settled station key ports room m (after_tp r))
-    untold_tp room (tp-received.On state frame) = refl
-    untold_tp room (tp-received.Complete w) = whole_untold room _ _ _ (record { 0 = w.peer.from }) (record { 0 = w.peer.to }) (clean w.peer.pgn) w.bytes
-    untold_tp room (tp-received.Ended frame) = refl
+    untold_connection : (room : Bool) (r : Received) → Untold (connection_settled station key ports room m r)
+    untold_connection room (On state frame) = refl
+    untold_connection room (Complete w) = whole_untold room _ _ _ (record { 0 = w.peer.from }) (record { 0 = w.peer.to }) (clean w.peer.pgn) w.bytes
+    untold_connection room (Ended frame) = refl
 
-    untold_etp : (room : Bool) (r : etp.Received) → Untold (settled station key ports room m (after_etp r))
-    untold_etp room (etp-received.On state frame) = refl
-    untold_etp room (etp-received.Complete w) = whole_untold room _ _ _ (record { 0 = w.peer.from }) (record { 0 = w.peer.to }) (clean w.peer.pgn) w.bytes
-    untold_etp room (etp-received.Ended frame) = refl
-
-    untold_broadcast : (room : Bool) (b : bam.Incoming) (r : bam-steps.Received) → Untold (settled station key ports room m (after_broadcast b r))
+    untold_broadcast : (room : Bool) (b : bam.Incoming) (r : bam-steps.Received) → Untold (broadcast_settled station key ports room m b r)
     untold_broadcast room b (bam-steps.Awaits t) = refl
     untold_broadcast room b (bam-steps.Completes bytes) = whole_untold room _ None None (record { 0 = b.from }) (record { 0 = global_address }) (clean b.pgn) bytes
     untold_broadcast room b bam-steps.Drops = refl
 
-    untold_step : (v : Incoming) (wire : Wire) (room : Bool) (flow : Flow) (now : ℕ) → Untold (settled station key ports room m (progress (prepared v wire room flow) wire room flow now))
+    untold_step : (v : Incoming) (wire : Wire) (room : Bool) (flow : Flow) (now : ℕ) → Untold (session_stepped station key ports room m flow v wire now)
     untold_step (incoming.Broadcast b) wire room flow now = untold_broadcast room b (bam-steps.stepped b wire now)
-    untold_step (incoming.Tp t) wire room flow now = untold_tp room (tp-steps.stepped t wire room flow now)
-    untold_step (incoming.Etp t) wire room flow now = untold_etp room (etp-steps.stepped (etp-room.prepared_state t wire room flow) wire room flow now)
+    untold_step (incoming.Connection t) wire room flow now = untold_connection room (stepped (prepared t wire room flow) wire room flow now)
 
-    untold_fire : (v : Incoming) (flow : Flow) (now : ℕ) → Untold (settled station key ports true m (session_fired (prepared_to_fire v flow) flow now))
+    untold_fire : (v : Incoming) (flow : Flow) (now : ℕ) → Untold (session_fired station key ports m flow v now)
     untold_fire (incoming.Broadcast b) flow now = refl
-    untold_fire (incoming.Tp t) flow now = untold_tp true (tp-steps.expired t flow now)
-    untold_fire (incoming.Etp t) flow now = untold_etp true (etp-steps.expired (etp-room.prepared_to_expire t flow) flow now)
+    untold_fire (incoming.Connection t) flow now = untold_connection true (expired (prepared_to_expire t flow) flow now)
 
   pub received_untold : (o : Option (List ℕ × Incoming)) (ports : Ports) (key : Key) (wire : Wire) (room : Bool) (now : ℕ) (m : Inbound) → named_in s d (received_by o ports key wire room now m).events ≡ []
   received_untold None ports key wire room now m = refl

@@ -25,7 +25,12 @@ use Rattle.station_lanes.specs.LaneReaders.{due_lane, is_pending_at}
 use Rattle.station_lanes.specs.Lanes.{Lanes}
 use Rattle.station_sessions.specs.Receiving.{received, fired_at}
 use Rattle.station_core.specs.Station.{Station, StationStep, quietly, queues, by_session, by_lane}
-use Rattle.station_core.specs.Opening.{key_of, refusal, is_tp_size, is_etp_size, set_for, others_than, rts_taken, etp_rts_taken, bam_taken}
+use Rattle.tp_wire.specs.declared.constants.TheConstants.{ETP_MAX_WINDOW}
+use Rattle.tp_wire.specs.declared.wire.Kind.{Kind}
+use Rattle.tp_wire.specs.declared.wire.Kind.TheVariants.{Tp, Etp}
+use Rattle.responder.specs.Window.{most_of}
+use Rattle.session_table.specs.Key.{session_for}
+use Rattle.station_core.specs.Opening.{key_of, refusal, is_tp_size, is_etp_size, set_for, others_than, rts_taken, bam_taken}
 use Rattle.station_core.specs.Sending.{pumped, cancelled}
 use Rattle.station_core.specs.Taking.{packet_kind, answer, request_taken, ack_taken, cm_taken, wire_taken, meaning_taken, looks_at, taken}
 use Rattle.station_core.specs.Timers.{lane_fired, fired}
@@ -55,11 +60,8 @@ module _ (st : Station) where
   either_tells None x y h k = h
   either_tells (Some reason) x y h k = k reason
 
-  rts_tells : (from : Address) (size packets most pgn : ℕ) (room : Bool) (now : ℕ) → StepTells st (quietly (rts_taken st from size packets most pgn room now))
-  rts_tells from size packets most pgn room now = either_tells (refusal (is_tp_size size packets) room (set_for st pgn size) (others_than st (key_of from session.Tp))) _ _ same (λ reason. same)
-
-  etp_rts_tells : (from : Address) (size pgn : ℕ) (room : Bool) (now : ℕ) → StepTells st (quietly (etp_rts_taken st from size pgn room now))
-  etp_rts_tells from size pgn room now = either_tells (refusal (is_etp_size size) room (set_for st pgn size) (others_than st (key_of from session.Etp))) _ _ same (λ reason. same)
+  rts_tells : (kind : Kind) (is_size : Bool) (from : Address) (size most pgn : ℕ) (room : Bool) (now : ℕ) → StepTells st (quietly (rts_taken st kind is_size from size most pgn room now))
+  rts_tells kind is_size from size most pgn room now = either_tells (refusal is_size room (set_for st pgn size) (others_than st (key_of from (session_for kind)))) _ _ same (λ reason. same)
 
   bam_tells : (from : Address) (size packets pgn : ℕ) (room : Bool) (now : ℕ) → StepTells st (quietly (bam_taken st from size packets pgn room now))
   bam_tells from size packets pgn room now = either_tells (refusal (is_tp_size size packets) room (set_for st pgn size) (others_than st (key_of from session.Broadcast))) _ _ same (λ reason. same)
@@ -71,12 +73,12 @@ module _ (st : Station) where
   in_session_tells key wire room now = tells_none st.address st.lanes _ (λ s d. received_untold s d (state_at st.sessions key) st.ports key wire room now st.sessions)
 
   cm_tells : (frame : CmFrame) (from : Address) (room : Bool) (now : ℕ) → StepTells st (cm_taken st frame from room now)
-  cm_tells (Rts size packets most pgn) from room now = rts_tells from size packets most pgn room now
+  cm_tells (Rts size packets most pgn) from room now = rts_tells Tp (is_tp_size size packets) from size (most_of Tp most) pgn room now
   cm_tells (Cts granted next pgn) from room now = in_lane_tells from (Cm (Cts granted next pgn)) now
   cm_tells (EndOfMsgAck size packets pgn) from room now = in_lane_tells from (Cm (EndOfMsgAck size packets pgn)) now
   cm_tells (Bam size packets pgn) from room now = bam_tells from size packets pgn room now
   cm_tells (Abort reason pgn) from room now = in_lane_tells from (Cm (Abort reason pgn)) now
-  cm_tells (EtpRts size pgn) from room now = etp_rts_tells from size pgn room now
+  cm_tells (EtpRts size pgn) from room now = rts_tells Etp (is_etp_size size) from size ETP_MAX_WINDOW pgn room now
   cm_tells (EtpCts granted next pgn) from room now = in_lane_tells from (Cm (EtpCts granted next pgn)) now
   cm_tells (EtpDpo packets offset pgn) from room now = in_session_tells (key_of from session.Etp) (Cm (EtpDpo packets offset pgn)) room now
   cm_tells (EtpEoma size pgn) from room now = in_lane_tells from (Cm (EtpEoma size pgn)) now

@@ -5,16 +5,13 @@ use Rattle.bus_frame.specs.Frames.{CanFrame}
 use Rattle.pgn_ids.specs.Pgn.{clean}
 use Rattle.pgn_ids.specs.declared.address.Address.{Address}
 use Rattle.tp_wire.specs.declared.wire.Wire.{Wire}
+use Rattle.responder.specs.Steps.{stepped, expired}
+use Rattle.responder.specs.Room.{prepared, prepared_to_expire}
 use Rattle.responder.specs.declared.flow.Flow.{Flow}
+use Rattle.responder.specs.declared.received.Received.{Received}
+use Rattle.responder.specs.declared.received.Received.TheVariants.{On, Complete, Ended}
 use Rattle.bam_session.specs.States as bam
 use Rattle.bam_session.specs.Receiving as bam-steps
-use Rattle.tp_session.specs.Steps as tp-steps
-use Rattle.tp_session.specs.declared.received.Received as tp
-use Rattle.tp_session.specs.declared.received.Received.TheVariants as tp-received
-use Rattle.etp_session.specs.Steps as etp-steps
-use Rattle.etp_session.specs.Room as etp-room
-use Rattle.etp_session.specs.declared.received.Received as etp
-use Rattle.etp_session.specs.declared.received.Received.TheVariants as etp-received
 use Rattle.port_table.specs.Ports.{Ports}
 use Rattle.port_table.specs.PortSet.{without_number}
 use Rattle.session_table.specs.declared.key.Key.{Key}
@@ -22,14 +19,13 @@ use Rattle.session_table.specs.declared.incoming.Incoming.{Incoming}
 use Rattle.session_table.specs.declared.incoming.Incoming.TheVariants as incoming
 use Rattle.session_table.specs.Incoming.{pgn_of}
 use Rattle.session_table.specs.Sessions.{state_at}
-use Rattle.station_sessions.specs.Progress.{after_broadcast, after_tp, after_etp, progress, fired, prepared, prepared_to_fire}
-use Rattle.station_sessions.specs.Receiving.{Inbound, Reception, unheard, settled, flow_at, received_by, received, fired_by, fired_at, aborted_at, unbound_by, unbound_at}
+use Rattle.station_sessions.specs.Receiving.{Inbound, Reception, unheard, broadcast_settled, connection_settled, session_stepped, session_fired, flow_at, received_by, received, fired_by, fired_at, aborted_at, unbound_by, unbound_at}
 use Rattle.record_lemmas.proofs.Lists.{Each, each_filter}
 use Rattle.record_lemmas.proofs.Maps.{State, OfEach, put_of_each, dropped_of_each, of_each_put, of_each_dropped}
 use Rattle.record_lemmas.proofs.Segments.{same_address}
 use Rattle.record_lemmas.proofs.Tests.{either}
 use Rattle.port_law.proofs.Ports.{AllReceive, Lacks, without_lacks, IsToStationOrAll, IsAllowed, gives_to, given_allowed}
-use Rattle.port_law.proofs.Sessions.{IsOf, GoesTp, GoesEtp, GoesBroadcast, tp_step, tp_expired, etp_step, etp_expired, etp_prepared, etp_prepared_fire, broadcast_step}
+use Rattle.port_law.proofs.Sessions.{IsOf, Goes, GoesBroadcast, connection_step, connection_expired, connection_prepared, connection_prepared_fire, broadcast_step}
 
 -- a session with one node, to the own address or to all, gives to ports that are open on its PGN and for its size
 pub record IsBound (ports : Ports) (key : Key) (v : State) : Type 0 where
@@ -66,30 +62,23 @@ module _ (ports : Ports) (key : Key) (m : Inbound) (each : AreBound ports m) whe
     settles_whole true given refused from to field bytes t e l = record { sessions = of_each_dropped (IsBound ports) m key each; events = given_allowed ports from to field (clean pgn) size bytes set t e l all }
     settles_whole false given refused from to field bytes t e l = settles_ended refused
 
-    settles_tp : (r : tp.Received) → GoesTp own pgn size r → Settles ports (settled ports.station key set room m (after_tp r))
-    settles_tp (tp-received.On s frame) h = settles_on (incoming.Tp s) frame h
-    settles_tp (tp-received.Complete w) h = settles_whole room _ _ (record { 0 = w.peer.from }) (record { 0 = w.peer.to }) (clean w.peer.pgn) w.bytes (inl (same_address (record { 0 = w.peer.to }) ports.station h.0)) h.1 h.2
-    settles_tp (tp-received.Ended frame) h = settles_ended frame
+    settles_connection : (r : Received) → Goes own pgn size r → Settles ports (connection_settled ports.station key set room m r)
+    settles_connection (On s frame) h = settles_on (incoming.Connection s) frame h
+    settles_connection (Complete w) h = settles_whole room _ _ (record { 0 = w.peer.from }) (record { 0 = w.peer.to }) (clean w.peer.pgn) w.bytes (inl (same_address (record { 0 = w.peer.to }) ports.station h.0)) h.1 h.2
+    settles_connection (Ended frame) h = settles_ended frame
 
-    settles_etp : (r : etp.Received) → GoesEtp own pgn size r → Settles ports (settled ports.station key set room m (after_etp r))
-    settles_etp (etp-received.On s frame) h = settles_on (incoming.Etp s) frame h
-    settles_etp (etp-received.Complete w) h = settles_whole room _ _ (record { 0 = w.peer.from }) (record { 0 = w.peer.to }) (clean w.peer.pgn) w.bytes (inl (same_address (record { 0 = w.peer.to }) ports.station h.0)) h.1 h.2
-    settles_etp (etp-received.Ended frame) h = settles_ended frame
-
-    settles_broadcast : (s : bam.Incoming) (r : bam-steps.Received) → s.pgn ≡ pgn → GoesBroadcast own pgn size r → Settles ports (settled ports.station key set room m (after_broadcast s r))
+    settles_broadcast : (s : bam.Incoming) (r : bam-steps.Received) → s.pgn ≡ pgn → GoesBroadcast own pgn size r → Settles ports (broadcast_settled ports.station key set room m s r)
     settles_broadcast s (bam-steps.Awaits t) e h = settles_on (incoming.Broadcast t) None h
     settles_broadcast s (bam-steps.Completes bytes) e h = settles_whole room _ _ (record { 0 = s.from }) (record { 0 = 255 }) (clean s.pgn) bytes (inr refl) (ap clean e) h
     settles_broadcast s bam-steps.Drops e h = settles_ended None
 
-    settles_step : (s : Incoming) (wire : Wire) (flow : Flow) (now : ℕ) → IsOf own pgn size s → Settles ports (settled ports.station key set room m (progress (prepared s wire room flow) wire room flow now))
+    settles_step : (s : Incoming) (wire : Wire) (flow : Flow) (now : ℕ) → IsOf own pgn size s → Settles ports (session_stepped ports.station key set room m flow s wire now)
     settles_step (incoming.Broadcast s) wire flow now h = settles_broadcast s (bam-steps.stepped s wire now) h.0 (broadcast_step own pgn size s wire now h)
-    settles_step (incoming.Tp s) wire flow now h = settles_tp (tp-steps.stepped s wire room flow now) (tp_step own pgn size s wire room flow now h)
-    settles_step (incoming.Etp s) wire flow now h = settles_etp (etp-steps.stepped (etp-room.prepared_state s wire room flow) wire room flow now) (etp_step own pgn size (etp-room.prepared_state s wire room flow) wire room flow now (etp_prepared own pgn size s wire room flow h))
+    settles_step (incoming.Connection s) wire flow now h = settles_connection (stepped (prepared s wire room flow) wire room flow now) (connection_step own pgn size (prepared s wire room flow) wire room flow now (connection_prepared own pgn size s wire room flow h))
 
-    settles_expired : (s : Incoming) (flow : Flow) (now : ℕ) → IsOf own pgn size s → Settles ports (settled ports.station key set room m (fired (prepared_to_fire s flow) flow now))
-    settles_expired (incoming.Broadcast s) flow now h = settles_ended None
-    settles_expired (incoming.Tp s) flow now h = settles_tp (tp-steps.expired s flow now) (tp_expired own pgn size s flow now h)
-    settles_expired (incoming.Etp s) flow now h = settles_etp (etp-steps.expired (etp-room.prepared_to_expire s flow) flow now) (etp_expired own pgn size (etp-room.prepared_to_expire s flow) flow now (etp_prepared_fire own pgn size s flow h))
+  settles_expired : (set : List ℕ) (source : key.source.0 < 254) (pgn size : ℕ) (all : AllReceive ports.open_ports (clean pgn) size set) (s : Incoming) (flow : Flow) (now : ℕ) → IsOf own pgn size s → Settles ports (session_fired ports.station key set m flow s now)
+  settles_expired set source pgn size all (incoming.Broadcast s) flow now h = settles_ended None
+  settles_expired set source pgn size all (incoming.Connection s) flow now h = settles_connection set source pgn size all true (expired (prepared_to_expire s flow) flow now) (connection_expired own pgn size (prepared_to_expire s flow) flow now (connection_prepared_fire own pgn size s flow h))
 
   -- Calls
 
@@ -107,7 +96,7 @@ module _ (ports : Ports) (key : Key) (m : Inbound) (each : AreBound ports m) whe
       by : (o : Option State) → state_at m key ≡ o → Settles ports (fired_by o ports key now m)
       by None e = settles_none
       by (Some v) e = let h : IsBound ports key v = each key v e in
-          settles_expired v.0 h.source h.pgn h.size h.set true v.1 (flow_at ports v.0) now h.state
+          settles_expired v.0 h.source h.pgn h.size h.set v.1 (flow_at ports v.0) now h.state
 
   pub bound_aborted : (pgn : ℕ) → AreBound ports (aborted_at key pgn m)
   bound_aborted pgn = by (state_at m key)

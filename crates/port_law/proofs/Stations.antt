@@ -10,16 +10,20 @@ use Rattle.pgn_ids.specs.declared.address.Address.{Address}
 use Rattle.tp_wire.specs.Reading.{reading, between, body_of}
 use Rattle.tp_wire.specs.Rows.{goes_to, comes_from}
 use Rattle.tp_wire.specs.Reason.{reason_byte}
+use Rattle.tp_wire.specs.declared.constants.TheConstants.{ETP_MAX_WINDOW}
+use Rattle.tp_wire.specs.declared.wire.Kind.{Kind}
 use Rattle.tp_wire.specs.declared.wire.Kind.TheVariants.{Tp, Etp}
+use Rattle.responder.specs.Unfinished.{Unfinished, begun}
+use Rattle.responder.specs.Window.{most_of}
+use Rattle.responder.specs.Asking.{asking, asked}
+use Rattle.responder.specs.Room.{first_join}
+use Rattle.session_table.specs.Key.{session_for}
 use Rattle.tp_wire.specs.declared.wire.CmFrame.{CmFrame}
 use Rattle.tp_wire.specs.declared.wire.CmFrame.TheVariants.{Rts, Cts, EndOfMsgAck, Bam, Abort, EtpRts, EtpCts, EtpDpo, EtpEoma, EtpAbort}
 use Rattle.tp_wire.specs.declared.wire.Wire.{Wire}
 use Rattle.tp_wire.specs.declared.wire.Wire.TheVariants.{Cm, Packet, Request, Ack}
 use Rattle.responder.specs.Answers.{abort_frame}
 use Rattle.bam_session.specs.States as bam
-use Rattle.tp_session.specs.Asking as tp
-use Rattle.etp_session.specs.Asking as etp
-use Rattle.etp_session.specs.Room.{first_join}
 use Rattle.port_table.specs.Ports.{Ports}
 use Rattle.session_table.specs.DueOrder.{first_due}
 use Rattle.session_table.specs.declared.key.SessionKind.{SessionKind}
@@ -37,7 +41,7 @@ use Rattle.station_lanes.specs.LaneCalls.{step_at, outcome_of}
 use Rattle.station_lanes.specs.LaneReaders.{overrun_lanes, overrun_events, due_lane}
 use Rattle.station_sessions.specs.Receiving.{Reception, flow_at, received, fired_at}
 use Rattle.station_core.specs.Station.{Station, StationStep, quietly, by_session, by_lane}
-use Rattle.station_core.specs.Opening.{key_of, refusal, is_tp_size, is_etp_size, set_for, others_than, whole_join, peer_of, opened, not_opened, rts_taken, etp_rts_taken, bam_taken}
+use Rattle.station_core.specs.Opening.{key_of, refusal, is_tp_size, is_etp_size, set_for, others_than, whole_join, peer_of, opened, not_opened, rts_taken, bam_taken}
 use Rattle.station_core.specs.Overruns.{overrun}
 use Rattle.station_core.specs.Taking.{packet_kind, in_session, abort_taken, cm_taken, request_taken, ack_taken, wire_taken, looks_at, meaning_taken, taken}
 use Rattle.station_core.specs.Timers.{lane_fired, fired}
@@ -46,7 +50,7 @@ use Rattle.record_lemmas.proofs.Maps.{of_each_none, of_each_put, of_each_dropped
 use Rattle.record_lemmas.proofs.Tests.{on_test, either, by_option}
 use Rattle.port_law.proofs.Ports.{IsAllowed, found_receive}
 use Rattle.port_law.proofs.Receptions.{IsBound, AreBound, Settles, settles_received, settles_fired, bound_aborted}
-use Rattle.port_law.proofs.Sessions.{IsOf, tp_asking, etp_asking}
+use Rattle.port_law.proofs.Sessions.{IsOf, asking_is}
 
 -- what is promised of a step that leaves the ports as they are
 pub record Acts (st : Station) (step : StationStep) : Type 0 where
@@ -109,17 +113,13 @@ module _ (st : Station) (own : st.ports.station ≡ st.address) (each : AreBound
     abbrev Quietly : Station → Type 0
     Quietly x = Acts st (quietly x)
 
-    acts_rts : (size packets most pgn : ℕ) (room : Bool) (now : ℕ) → Quietly (rts_taken st from size packets most pgn room now)
-    acts_rts size packets most pgn room now = by_option Quietly (refusal (is_tp_size size packets) room (set_for st pgn size) (others_than st (key_of from session.Tp))) _ _
-        (acts_opened session.Tp pgn size (incoming.Tp (tp.asking (peer_of st from pgn) (whole_join size) most (flow_at st.ports (set_for st pgn size)) now)) (Some (tp.asked (peer_of st from pgn) (whole_join size) most (flow_at st.ports (set_for st pgn size))))
-        (tp_asking st.ports.station.0 pgn size (peer_of st from pgn) (whole_join size) most (flow_at st.ports (set_for st pgn size)) now (own_address, (refl, (refl, omega arith)))))
-        (λ reason. acts_not_opened session.Tp (Some (abort_frame Tp (peer_of st from pgn) (reason_byte reason))))
-
-    acts_etp_rts : (size pgn : ℕ) (room : Bool) (now : ℕ) → Quietly (etp_rts_taken st from size pgn room now)
-    acts_etp_rts size pgn room now = by_option Quietly (refusal (is_etp_size size) room (set_for st pgn size) (others_than st (key_of from session.Etp))) _ _
-        (acts_opened session.Etp pgn size (incoming.Etp (etp.asking (peer_of st from pgn) (first_join size (flow_at st.ports (set_for st pgn size))) 0 (flow_at st.ports (set_for st pgn size)) now)) (Some (etp.asked (peer_of st from pgn) (first_join size (flow_at st.ports (set_for st pgn size))) (flow_at st.ports (set_for st pgn size))))
-        (etp_asking st.ports.station.0 pgn size (peer_of st from pgn) (first_join size (flow_at st.ports (set_for st pgn size))) 0 (flow_at st.ports (set_for st pgn size)) now (own_address, (refl, (refl, omega arith)))))
-        (λ reason. acts_not_opened session.Etp (Some (abort_frame Etp (peer_of st from pgn) (reason_byte reason))))
+    acts_rts : (kind : Kind) (is_size : Bool) (size most pgn : ℕ) (room : Bool) (now : ℕ) → Quietly (rts_taken st kind is_size from size most pgn room now)
+    acts_rts kind is_size size most pgn room now =
+        let m : Unfinished = begun kind (peer_of st from pgn) most (first_join kind size (flow_at st.ports (set_for st pgn size))) in
+        by_option Quietly (refusal is_size room (set_for st pgn size) (others_than st (key_of from (session_for kind)))) _ _
+        (acts_opened (session_for kind) pgn size (incoming.Connection (asking m (flow_at st.ports (set_for st pgn size)) now)) (Some (asked m (flow_at st.ports (set_for st pgn size))))
+        (asking_is st.ports.station.0 pgn size m (flow_at st.ports (set_for st pgn size)) now (own_address, (refl, (refl, omega arith)))))
+        (λ reason. acts_not_opened (session_for kind) (Some (abort_frame kind (peer_of st from pgn) (reason_byte reason))))
 
     acts_bam : (size packets pgn : ℕ) (room : Bool) (now : ℕ) → Quietly (bam_taken st from size packets pgn room now)
     acts_bam size packets pgn room now = by_option Quietly (refusal (is_tp_size size packets) room (set_for st pgn size) (others_than st (key_of from session.Broadcast))) _ _
@@ -138,12 +138,12 @@ module _ (st : Station) (own : st.ports.station ≡ st.address) (each : AreBound
     acts_in_session kind wire room now = acts_session (received st.ports (key_of from kind) wire room now st.sessions) (settles_received st.ports (key_of from kind) st.sessions each wire room now)
 
     acts_cm : (frame : CmFrame) (room : Bool) (now : ℕ) → Acts st (cm_taken st frame from room now)
-    acts_cm (Rts size packets most pgn) room now = acts_rts size packets most pgn room now
+    acts_cm (Rts size packets most pgn) room now = acts_rts Tp (is_tp_size size packets) size (most_of Tp most) pgn room now
     acts_cm (Cts granted next pgn) room now = acts_lane from (λ lane. heard lane (Cm (Cts granted next pgn)) now)
     acts_cm (EndOfMsgAck size packets pgn) room now = acts_lane from (λ lane. heard lane (Cm (EndOfMsgAck size packets pgn)) now)
     acts_cm (Bam size packets pgn) room now = acts_bam size packets pgn room now
     acts_cm (Abort reason pgn) room now = acts_abort session.Tp pgn (Cm (Abort reason pgn)) now
-    acts_cm (EtpRts size pgn) room now = acts_etp_rts size pgn room now
+    acts_cm (EtpRts size pgn) room now = acts_rts Etp (is_etp_size size) size ETP_MAX_WINDOW pgn room now
     acts_cm (EtpCts granted next pgn) room now = acts_lane from (λ lane. heard lane (Cm (EtpCts granted next pgn)) now)
     acts_cm (EtpDpo packets offset pgn) room now = acts_in_session session.Etp (Cm (EtpDpo packets offset pgn)) room now
     acts_cm (EtpEoma size pgn) room now = acts_lane from (λ lane. heard lane (Cm (EtpEoma size pgn)) now)

@@ -29,8 +29,7 @@ use Rattle.session_table.specs.Sessions.{Sessions, state_at}
 use Rattle.session_table.proofs.Keys.{key_total}
 use Rattle.session_table.proofs.Tables.{key_eq-refl}
 use Rattle.station_sessions.specs.Given.{given_to}
-use Rattle.station_sessions.specs.Progress.{after_broadcast}
-use Rattle.station_sessions.specs.Receiving.{Inbound, Reception, settled, received, received_by}
+use Rattle.station_sessions.specs.Receiving.{Inbound, Reception, broadcast_settled, received, received_by}
 use Rattle.station_core.specs.Opening.{key_of, others_than, set_for, is_tp_size, refusal, whole_join, bam_taken}
 use Rattle.station_core.specs.Station.{Station, StationStep, quietly, by_session}
 use Rattle.station_core.specs.Taking.{in_session}
@@ -169,10 +168,10 @@ module _ (s : Address) (m : Pending) where
 
     -- a session is there, and settled by what its step answers
     stepped_by : (r : receiving.Received) → receiving.received (broadcast k t) (suc k) (packet m.bytes (suc k)) now ≡ r
-        → received st.ports key (packet_of k) true now (at true k t) ≡ settled st.ports.station key (takers st m) true (at true k t) (after_broadcast (broadcast k t) r)
+        → received st.ports key (packet_of k) true now (at true k t) ≡ broadcast_settled st.ports.station key (takers st m) true (at true k t) (broadcast k t) r
     stepped_by r is =
         ap (λ (o : Option (List ℕ × Incoming)). received_by o st.ports key (packet_of k) true now (at true k t)) (state_inserted st.sessions key (takers st m, incoming.Broadcast (broadcast k t)))
-        ∙ ap (λ (x : receiving.Received). settled st.ports.station key (takers st m) true (at true k t) (after_broadcast (broadcast k t) x)) is
+        ∙ ap (λ (x : receiving.Received). broadcast_settled st.ports.station key (takers st m) true (at true k t) (broadcast k t) x) is
 
     nothing_there : received st.ports key (packet_of k) true now (at false k t) ≡ record { sessions = at false k t; frame = None; events = [] }
     nothing_there = ap (λ (o : Option (List ℕ × Incoming)). received_by o st.ports key (packet_of k) true now (at false k t)) (state_removed st.sessions key)

@@ -1,6 +1,6 @@
 -- The steps of an incoming session: each packet before the next one is there whole, and a message that is complete has the size
 -- that was announced.
-use Rattle.std.proofs.Common.{◌≡◌, ◌⊎◌, inl, inr, ℕ, ◌+◌, ◌-◌, ◌*◌, ◌<◌, ◌≤◌, nat_lt, Bool, true, false, cond, not, ◌&&◌, ◌||◌, List, length, take, None, ap, ◌∙◌, arith, ⊎_elim}
+use Rattle.std.proofs.Common.{◌≡◌, ◌⊎◌, inl, inr, ℕ, ◌+◌, ◌-◌, ◌*◌, ◌<◌, ◌≤◌, nat_lt, Bool, true, false, cond, not, ◌&&◌, ◌||◌, List, length, take, None, ap, ◌∙◌, arith, ⊎_elim, subst}
 use Rattle.std.specs.Prelude.{nat_le}
 use Rattle.std.proofs.lemmas.Bool.{cases_lt, eqb-true}
 use Rattle.std.proofs.lemmas.List.{length-append, length-take-le, take_all}
@@ -12,29 +12,20 @@ use Rattle.tp_wire.specs.declared.wire.Wire.TheVariants.{Cm, Packet, Request, Ac
 use Rattle.tp_wire.specs.declared.reason.AbortReason.TheVariants.{Resources}
 use Rattle.seg_cut.specs.Join.{Join, joined, with_room, wants_last}
 use Rattle.seg_cut.specs.Packets.{packet_count}
-use Rattle.responder.specs.Peer.{Peer}
+use Rattle.responder.specs.Unfinished.{Unfinished, with_packet}
+use Rattle.responder.specs.Readers.{unfinished_of}
+use Rattle.responder.specs.Asking.{asking}
+use Rattle.responder.specs.Steps.{stepped, expired}
+use Rattle.responder.specs.Room.{with_room_for, prepared, prepared_to_expire}
 use Rattle.responder.specs.declared.flow.Flow.{Flow}
 use Rattle.responder.specs.declared.flow.Flow.TheVariants.{Open, Held}
+use Rattle.responder.specs.declared.in_state.InState.{InState}
+use Rattle.responder.specs.declared.in_state.InState.TheVariants.{AwaitPacket}
+use Rattle.responder.specs.declared.received.Received.{Received}
+use Rattle.responder.specs.declared.received.Received.TheVariants.{On, Complete, Ended}
 use Rattle.bam_session.specs.States as bam
 use Rattle.bam_session.specs.Receiving as bam-steps
-use Rattle.tp_session.specs.States as tp-states
-use Rattle.tp_session.specs.Asking as tp-asking
-use Rattle.tp_session.specs.PacketRows as tp-rows
-use Rattle.tp_session.specs.Steps as tp-steps
-use Rattle.tp_session.specs.declared.in_state.InState.{InState as TpState}
-use Rattle.tp_session.specs.declared.in_state.InState.TheVariants as tp-state
-use Rattle.tp_session.specs.declared.received.Received as tp
-use Rattle.tp_session.specs.declared.received.Received.TheVariants as tp-received
-use Rattle.etp_session.specs.States as etp-states
-use Rattle.etp_session.specs.Asking as etp-asking
-use Rattle.etp_session.specs.DpoRows as etp-dpo
-use Rattle.etp_session.specs.PacketRows as etp-rows
-use Rattle.etp_session.specs.Steps as etp-steps
-use Rattle.etp_session.specs.Room as etp-room
-use Rattle.etp_session.specs.declared.in_state.InState.{InState as EtpState}
-use Rattle.etp_session.specs.declared.in_state.InState.TheVariants as etp-state
-use Rattle.etp_session.specs.declared.received.Received as etp
-use Rattle.etp_session.specs.declared.received.Received.TheVariants as etp-received
+use Rattle.responder.proofs.Rows.{IsNextPacket, by_rows, by_timer, by_room, by_room_at_timer}
 use Rattle.record_lemmas.proofs.Tests.{on_test, either}
 
 -- Joins
@@ -80,133 +71,47 @@ module _ (j : Join) (packet : List ℕ) (seven : length packet ≡ 7) where
       let last : j.next ≡ packet_count j.size = eqb-true j.next (packet_count j.size) e in
       short (omega (arith, last, h.0, h.1, h.2)) (omega (arith, h.1, h.2))
 
--- TP
+-- Connections
 
 -- it goes on, or its message is complete
-abbrev pub GoesTp : ℕ → tp.Received → Type 0
-GoesTp size (tp-received.On s frame) = IsFilled (tp-steps.join_of s)
-GoesTp size (tp-received.Complete m) = length m.bytes ≡ size
-GoesTp size (tp-received.Ended frame) = Unit {0}
+abbrev pub Goes : ℕ → Received → Type 0
+Goes size (On s frame) = IsFilled (unfinished_of s).join
+Goes size (Complete m) = length m.bytes ≡ size
+Goes size (Ended frame) = Unit {0}
 
-pub tp_asking : (peer : Peer) (join : Join) (most : ℕ) (flow : Flow) (now : ℕ) → IsFilled join → IsFilled (tp-steps.join_of (tp-asking.asking peer join most flow now))
-tp_asking peer join most Open now h = h
-tp_asking peer join most Held now h = h
+pub asking_filled : (m : Unfinished) (flow : Flow) (now : ℕ) → IsFilled m.join → IsFilled (unfinished_of (asking m flow now)).join
+asking_filled m Open now h = h
+asking_filled m Held now h = h
 
-tp_packet : (s : tp-states.AwaitPacket) (number : ℕ) (bytes : List ℕ) (room : Bool) (flow : Flow) (now : ℕ) → length bytes ≡ 7 → IsFilled s.join → GoesTp s.join.size (tp-rows.on_packet s number bytes room flow now)
-tp_packet s number bytes room flow now seven h =
-    let j : IsFilled (joined s.join bytes) = fills s.join bytes seven h in
-    let on : tp.Received = tp-received.On (tp-state.AwaitPacket (tp-rows.accepted s bytes now)) None in
-    let asks : tp.Received = tp-rows.asks s.peer (joined s.join bytes) s.most flow now in
-    let ends : tp.Received = tp-rows.aborted s.peer Resources in
-    let done : tp.Received = tp-received.Complete (tp-rows.finished s.peer (joined s.join bytes)) in
-    either (GoesTp s.join.size) (nat_lt number s.join.next) _ _ h
-    (either (GoesTp s.join.size) (nat_lt s.join.next number) _ _ tt
-    (on_test (λ w. GoesTp s.join.size (cond (not w && nat_lt number s.granted) on (cond (not w && room) asks (cond (not w) ends done)))) (wants_last s.join)
-    (λ e. whole s.join bytes seven h e)
-    (λ e. either (GoesTp s.join.size) (nat_lt number s.granted) on (cond room asks ends) j (either (GoesTp s.join.size) room asks ends (tp_asking s.peer (joined s.join bytes) s.most flow now j) tt))))
+-- a packet that is the next one has seven bytes
+seven_of : (m : Unfinished) (wire : Wire) (bytes : List ℕ) → IsSeven wire → IsNextPacket m wire bytes → length bytes ≡ 7
+seven_of m wire bytes seven n = subst IsSeven n.is seven
 
-pub tp_step : (s : TpState) (wire : Wire) (room : Bool) (flow : Flow) (now : ℕ) → IsSeven wire → IsFilled (tp-steps.join_of s) → GoesTp (tp-steps.join_of s).size (tp-steps.stepped s wire room flow now)
-tp_step (tp-state.AwaitPacket s) (Packet Tp k bytes) room flow now seven h = tp_packet s k bytes room flow now seven h
-tp_step (tp-state.AwaitPacket s) (Packet Etp k bytes) room flow now seven h = h
-tp_step (tp-state.AwaitPacket s) (Cm frame) room flow now seven h = h
-tp_step (tp-state.AwaitPacket s) (Request field) room flow now seven h = h
-tp_step (tp-state.AwaitPacket s) (Ack control address field) room flow now seven h = h
-tp_step (tp-state.Holding s) (Packet Tp k bytes) room flow now seven h = either (GoesTp s.join.size) (nat_lt k s.join.next) _ _ h tt
-tp_step (tp-state.Holding s) (Packet Etp k bytes) room flow now seven h = h
-tp_step (tp-state.Holding s) (Cm frame) room flow now seven h = h
-tp_step (tp-state.Holding s) (Request field) room flow now seven h = h
-tp_step (tp-state.Holding s) (Ack control address field) room flow now seven h = h
-
-pub tp_expired : (s : TpState) (flow : Flow) (now : ℕ) → IsFilled (tp-steps.join_of s) → GoesTp (tp-steps.join_of s).size (tp-steps.expired s flow now)
-tp_expired (tp-state.AwaitPacket s) flow now h = tt
-tp_expired (tp-state.Holding s) flow now h = tp_asking s.peer s.join s.most flow now h
-
--- ETP
-
-abbrev pub GoesEtp : ℕ → etp.Received → Type 0
-GoesEtp size (etp-received.On s frame) = IsFilled (etp-steps.join_of s)
-GoesEtp size (etp-received.Complete m) = length m.bytes ≡ size
-GoesEtp size (etp-received.Ended frame) = Unit {0}
-
-pub etp_asking : (peer : Peer) (join : Join) (offset : ℕ) (flow : Flow) (now : ℕ) → IsFilled join → IsFilled (etp-steps.join_of (etp-asking.asking peer join offset flow now))
-etp_asking peer join offset Open now h = h
-etp_asking peer join offset Held now h = h
-
-etp_packet : (s : etp-states.AwaitPacket) (number : ℕ) (bytes : List ℕ) (room : Bool) (flow : Flow) (now : ℕ) → length bytes ≡ 7 → IsFilled s.join → GoesEtp s.join.size (etp-rows.on_packet s number bytes room flow now)
-etp_packet s number bytes room flow now seven h =
-    let j : IsFilled (joined s.join bytes) = fills s.join bytes seven h in
-    let on : etp.Received = etp-received.On (etp-state.AwaitPacket (etp-rows.accepted s bytes now)) None in
-    let asks : etp.Received = etp-rows.asks s.peer (joined s.join bytes) s.offset flow now in
-    let ends : etp.Received = etp-dpo.aborted s.peer Resources in
-    let done : etp.Received = etp-received.Complete (etp-rows.finished s.peer (joined s.join bytes)) in
-    either (GoesEtp s.join.size) (nat_lt number s.join.next) _ _ h
-    (either (GoesEtp s.join.size) (nat_lt s.join.next number || nat_lt s.until s.join.next) _ _ tt
-    (on_test (λ w. GoesEtp s.join.size (cond (not w && nat_lt number s.until) on (cond (not w && room) asks (cond (not w) ends done)))) (wants_last s.join)
-    (λ e. whole s.join bytes seven h e)
-    (λ e. either (GoesEtp s.join.size) (nat_lt number s.until) on (cond room asks ends) j (either (GoesEtp s.join.size) room asks ends (etp_asking s.peer (joined s.join bytes) s.offset flow now j) tt))))
-
-etp_dpo : (s : etp-states.AwaitPacket) (packets offset field : ℕ) → IsFilled s.join → GoesEtp s.join.size (etp-dpo.on_dpo s packets offset field)
-etp_dpo s packets offset field h =
-    either (GoesEtp s.join.size) (etp-dpo.is_of_another s.peer field) _ _ h
-    (either (GoesEtp s.join.size) (etp-dpo.is_wrong_dpo s.join.next s.granted packets offset) _ _ tt
-    (either (λ (x : etp-states.AwaitPacket). IsFilled x.join) (nat_le s.join.next (offset + packets)) _ _ h h))
-
-etp_wait_cm : (s : etp-states.AwaitPacket) (frame : CmFrame) (room : Bool) (flow : Flow) (now : ℕ) → IsFilled s.join → GoesEtp s.join.size (etp-steps.awaiting_stepped s (Cm frame) room flow now)
-etp_wait_cm s (EtpDpo packets offset field) room flow now h = etp_dpo s packets offset field h
-etp_wait_cm s (Rts n packets most field) room flow now h = h
-etp_wait_cm s (Cts granted next field) room flow now h = h
-etp_wait_cm s (EndOfMsgAck n packets field) room flow now h = h
-etp_wait_cm s (Bam n packets field) room flow now h = h
-etp_wait_cm s (Abort reason field) room flow now h = h
-etp_wait_cm s (EtpRts n field) room flow now h = h
-etp_wait_cm s (EtpCts granted next field) room flow now h = h
-etp_wait_cm s (EtpEoma n field) room flow now h = h
-etp_wait_cm s (EtpAbort reason field) room flow now h = h
-
-etp_dpo_held : (s : etp-states.Holding) (packets offset field : ℕ) → IsFilled s.join → GoesEtp s.join.size (etp-dpo.on_dpo_in_hold s packets offset field)
-etp_dpo_held s packets offset field h =
-    either (GoesEtp s.join.size) (etp-dpo.is_of_another s.peer field) _ _ h
-    (either (GoesEtp s.join.size) (etp-dpo.is_wrong_dpo s.join.next (s.join.next - 1) packets offset) _ _ tt h)
-
-etp_hold_cm : (s : etp-states.Holding) (frame : CmFrame) → IsFilled s.join → GoesEtp s.join.size (etp-steps.holding_stepped s (Cm frame))
-etp_hold_cm s (EtpDpo packets offset field) h = etp_dpo_held s packets offset field h
-etp_hold_cm s (Rts n packets most field) h = h
-etp_hold_cm s (Cts granted next field) h = h
-etp_hold_cm s (EndOfMsgAck n packets field) h = h
-etp_hold_cm s (Bam n packets field) h = h
-etp_hold_cm s (Abort reason field) h = h
-etp_hold_cm s (EtpRts n field) h = h
-etp_hold_cm s (EtpCts granted next field) h = h
-etp_hold_cm s (EtpEoma n field) h = h
-etp_hold_cm s (EtpAbort reason field) h = h
-
-etp_waits : (s : etp-states.AwaitPacket) (wire : Wire) (room : Bool) (flow : Flow) (now : ℕ) → IsSeven wire → IsFilled s.join → GoesEtp s.join.size (etp-steps.awaiting_stepped s wire room flow now)
-etp_waits s (Packet Etp k bytes) room flow now seven h = etp_packet s (s.offset + k) bytes room flow now seven h
-etp_waits s (Packet Tp k bytes) room flow now seven h = h
-etp_waits s (Cm frame) room flow now seven h = etp_wait_cm s frame room flow now h
-etp_waits s (Request field) room flow now seven h = h
-etp_waits s (Ack control address field) room flow now seven h = h
-
-etp_holds : (s : etp-states.Holding) (wire : Wire) → IsFilled s.join → GoesEtp s.join.size (etp-steps.holding_stepped s wire)
-etp_holds s (Packet Etp k bytes) h = either (GoesEtp s.join.size) (nat_lt (s.offset + k) s.join.next) _ _ h tt
-etp_holds s (Packet Tp k bytes) h = h
-etp_holds s (Cm frame) h = etp_hold_cm s frame h
-etp_holds s (Request field) h = h
-etp_holds s (Ack control address field) h = h
+pub step_fills : (s : InState) (wire : Wire) (room : Bool) (flow : Flow) (now : ℕ) → IsSeven wire → IsFilled (unfinished_of s).join → Goes (unfinished_of s).join.size (stepped s wire room flow now)
+step_fills s wire room flow now seven h =
+    let m : Unfinished = unfinished_of s in
+    by_rows (Goes m.join.size) flow now s wire room (record {
+      same = λ _. h;
+      aborts = λ _ reason. tt;
+      announces = λ granted until packets offset pgn timer _ _. h;
+      announces_held = λ packets offset pgn timer _ _. h;
+      accepts = λ bytes granted until timer n _. fills m.join bytes (seven_of m wire bytes seven n) h;
+      asks_next = λ bytes n _. asking_filled (with_packet m bytes) flow now (fills m.join bytes (seven_of m wire bytes seven n) h);
+      ends = λ bytes n l _. whole m.join bytes (seven_of m wire bytes seven n) h l;
+    })
 
 -- room changes no more than the room
-pub etp_step : (s : EtpState) (wire : Wire) (room : Bool) (flow : Flow) (now : ℕ) → IsSeven wire → IsFilled (etp-steps.join_of s) → GoesEtp (etp-steps.join_of s).size (etp-steps.stepped (etp-room.prepared_state s wire room flow) wire room flow now)
-etp_step (etp-state.AwaitPacket s) wire room flow now seven h = by (etp-room.grants_next s wire room flow)
-  where
-    by : (b : Bool) → GoesEtp s.join.size (etp-steps.awaiting_stepped (cond b (record s { join = with_room s.join (etp-room.needed s wire room flow) }) s) wire room flow now)
-    by true = etp_waits (record s { join = with_room s.join (etp-room.needed s wire room flow) }) wire room flow now seven h
-    by false = etp_waits s wire room flow now seven h
-etp_step (etp-state.Holding s) wire room flow now seven h = etp_holds s wire h
+pub connection_step : (s : InState) (wire : Wire) (room : Bool) (flow : Flow) (now : ℕ) → IsSeven wire → IsFilled (unfinished_of s).join → Goes (unfinished_of s).join.size (stepped (prepared s wire room flow) wire room flow now)
+connection_step s wire room flow now seven h =
+    by_room (λ p. Goes (unfinished_of s).join.size (stepped p wire room flow now)) s wire room flow
+    (step_fills s wire room flow now seven h)
+    (λ packets granted until timer. step_fills (AwaitPacket (record { message = with_room_for (unfinished_of s) packets; granted = granted; until = until; timer = timer })) wire room flow now seven h)
 
-pub etp_expired : (s : EtpState) (flow : Flow) (now : ℕ) → IsFilled (etp-steps.join_of s) → GoesEtp (etp-steps.join_of s).size (etp-steps.expired (etp-room.prepared_to_expire s flow) flow now)
-etp_expired (etp-state.AwaitPacket s) flow now h = tt
-etp_expired (etp-state.Holding s) Open now h = h
-etp_expired (etp-state.Holding s) Held now h = h
+pub connection_expired : (s : InState) (flow : Flow) (now : ℕ) → IsFilled (unfinished_of s).join → Goes (unfinished_of s).join.size (expired (prepared_to_expire s flow) flow now)
+connection_expired s flow now h =
+    by_room_at_timer (λ p. Goes (unfinished_of s).join.size (expired p flow now)) s flow
+    (by_timer (Goes (unfinished_of s).join.size) flow now s tt (asking_filled (unfinished_of s) flow now h))
+    (λ packets timer. asking_filled (with_room_for (unfinished_of s) packets) flow now h)
 
 -- Broadcasts
 

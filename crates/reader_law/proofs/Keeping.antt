@@ -11,14 +11,12 @@ use Rattle.tp_wire.specs.declared.wire.Wire.{Wire}
 use Rattle.seg_cut.specs.Join.{Join}
 use Rattle.bam_session.specs.States as bam
 use Rattle.bam_session.specs.Receiving as bam-steps
-use Rattle.tp_session.specs.Steps as tp-steps
-use Rattle.tp_session.specs.declared.received.Received as tp
-use Rattle.tp_session.specs.declared.received.Received.TheVariants as tp-received
-use Rattle.etp_session.specs.Steps as etp-steps
-use Rattle.etp_session.specs.Room as etp-room
-use Rattle.etp_session.specs.declared.received.Received as etp
-use Rattle.etp_session.specs.declared.received.Received.TheVariants as etp-received
+use Rattle.responder.specs.Readers.{unfinished_of}
+use Rattle.responder.specs.Steps.{stepped, expired}
+use Rattle.responder.specs.Room.{prepared, prepared_to_expire}
 use Rattle.responder.specs.declared.flow.Flow.{Flow}
+use Rattle.responder.specs.declared.received.Received.{Received}
+use Rattle.responder.specs.declared.received.Received.TheVariants.{On, Complete, Ended}
 use Rattle.port_table.specs.Ports.{Ports}
 use Rattle.port_table.specs.PortSet.{without_number}
 use Rattle.session_table.specs.Key.{key_cmp, key_eq}
@@ -28,10 +26,9 @@ use Rattle.session_table.specs.declared.incoming.Incoming.TheVariants as incomin
 use Rattle.session_table.specs.Incoming.{pgn_of}
 use Rattle.session_table.specs.Sessions.{state_at}
 use Rattle.session_table.proofs.Keys.{key_total}
-use Rattle.station_sessions.specs.Progress.{after_broadcast, after_tp, after_etp, progress, fired, prepared, prepared_to_fire}
-use Rattle.station_sessions.specs.Receiving.{Inbound, Reception, settled, flow_at, received_by, received, fired_by, fired_at, aborted_at, unbound_by, unbound_at}
+use Rattle.station_sessions.specs.Receiving.{Inbound, Reception, broadcast_settled, connection_settled, session_stepped, session_fired, flow_at, received_by, received, fired_by, fired_at, aborted_at, unbound_by, unbound_at}
 use Rattle.record_lemmas.proofs.Tests.{either}
-use Rattle.reader_law.proofs.Filled.{IsFilled, IsSeven, GoesTp, GoesEtp, GoesBroadcast, tp_step, tp_expired, etp_step, etp_expired, broadcast_step}
+use Rattle.reader_law.proofs.Filled.{IsFilled, IsSeven, Goes, GoesBroadcast, connection_step, connection_expired, broadcast_step}
 
 -- a session with the ports that it gives to
 abbrev pub State : Type 0
@@ -40,8 +37,7 @@ State = List ℕ × Incoming
 -- what has come of its message
 abbrev pub join_of : Incoming → Join
 join_of (incoming.Broadcast s) = s.join
-join_of (incoming.Tp s) = tp-steps.join_of s
-join_of (incoming.Etp s) = etp-steps.join_of s
+join_of (incoming.Connection s) = (unfinished_of s).join
 
 pub record IsKept (v : State) : Type 0 where
   pub some : length v.0 ≡ 0 → ⊥
@@ -82,28 +78,22 @@ module _ (m : Inbound) (k : Key) (each : AreKept m) where
     kept_on : (s : Incoming) → IsFilled (join_of s) → AreKept (finmap.insert m k (Some (set, s)))
     kept_on s h = kept_put (set, s) (record { some = some; filled = h })
 
-    kept_tp : (r : tp.Received) → GoesTp size r → AreKept (settled station k set room m (after_tp r)).sessions
-    kept_tp (tp-received.On s frame) h = kept_on (incoming.Tp s) h
-    kept_tp (tp-received.Complete w) h = either (λ (r : Reception). AreKept r.sessions) room _ _ kept_dropped kept_dropped
-    kept_tp (tp-received.Ended frame) h = kept_dropped
+    kept_connection : (r : Received) → Goes size r → AreKept (connection_settled station k set room m r).sessions
+    kept_connection (On s frame) h = kept_on (incoming.Connection s) h
+    kept_connection (Complete w) h = either (λ (r : Reception). AreKept r.sessions) room _ _ kept_dropped kept_dropped
+    kept_connection (Ended frame) h = kept_dropped
 
-    kept_etp : (r : etp.Received) → GoesEtp size r → AreKept (settled station k set room m (after_etp r)).sessions
-    kept_etp (etp-received.On s frame) h = kept_on (incoming.Etp s) h
-    kept_etp (etp-received.Complete w) h = either (λ (r : Reception). AreKept r.sessions) room _ _ kept_dropped kept_dropped
-    kept_etp (etp-received.Ended frame) h = kept_dropped
-
-    kept_broadcast : (s : bam.Incoming) (r : bam-steps.Received) → GoesBroadcast size r → AreKept (settled station k set room m (after_broadcast s r)).sessions
+    kept_broadcast : (s : bam.Incoming) (r : bam-steps.Received) → GoesBroadcast size r → AreKept (broadcast_settled station k set room m s r).sessions
     kept_broadcast s (bam-steps.Awaits t) h = kept_on (incoming.Broadcast t) h
     kept_broadcast s (bam-steps.Completes bytes) h = either (λ (r : Reception). AreKept r.sessions) room _ _ kept_dropped kept_dropped
     kept_broadcast s bam-steps.Drops h = kept_dropped
 
-  kept_progress : (station : Address) (v : State) → IsKept v → (wire : Wire) (room : Bool) (flow : Flow) (now : ℕ) → IsSeven wire → AreKept (settled station k v.0 room m (progress (prepared v.1 wire room flow) wire room flow now)).sessions
+  kept_progress : (station : Address) (v : State) → IsKept v → (wire : Wire) (room : Bool) (flow : Flow) (now : ℕ) → IsSeven wire → AreKept (session_stepped station k v.0 room m flow v.1 wire now).sessions
   kept_progress station v h wire room flow now seven = by v.1 h.filled
     where
-      by : (s : Incoming) → IsFilled (join_of s) → AreKept (settled station k v.0 room m (progress (prepared s wire room flow) wire room flow now)).sessions
+      by : (s : Incoming) → IsFilled (join_of s) → AreKept (session_stepped station k v.0 room m flow s wire now).sessions
       by (incoming.Broadcast s) f = kept_broadcast station v.0 h.some room s.join.size s (bam-steps.stepped s wire now) (broadcast_step s wire now seven f)
-      by (incoming.Tp s) f = kept_tp station v.0 h.some room (tp-steps.join_of s).size (tp-steps.stepped s wire room flow now) (tp_step s wire room flow now seven f)
-      by (incoming.Etp s) f = kept_etp station v.0 h.some room (etp-steps.join_of s).size (etp-steps.stepped (etp-room.prepared_state s wire room flow) wire room flow now) (etp_step s wire room flow now seven f)
+      by (incoming.Connection s) f = kept_connection station v.0 h.some room (unfinished_of s).join.size (stepped (prepared s wire room flow) wire room flow now) (connection_step s wire room flow now seven f)
 
   pub kept_received : (ports : Ports) (wire : Wire) (room : Bool) (now : ℕ) → IsSeven wire → AreKept (received ports k wire room now m).sessions
   kept_received ports wire room now seven = by (state_at m k) refl
@@ -112,13 +102,12 @@ module _ (m : Inbound) (k : Key) (each : AreKept m) where
       by None e = each
       by (Some v) e = kept_progress ports.station v (each k v e) wire room (flow_at ports v.0) now seven
 
-  kept_expired : (station : Address) (v : State) → IsKept v → (flow : Flow) (now : ℕ) → AreKept (settled station k v.0 true m (fired (prepared_to_fire v.1 flow) flow now)).sessions
+  kept_expired : (station : Address) (v : State) → IsKept v → (flow : Flow) (now : ℕ) → AreKept (session_fired station k v.0 m flow v.1 now).sessions
   kept_expired station v h flow now = by v.1 h.filled
     where
-      by : (s : Incoming) → IsFilled (join_of s) → AreKept (settled station k v.0 true m (fired (prepared_to_fire s flow) flow now)).sessions
+      by : (s : Incoming) → IsFilled (join_of s) → AreKept (session_fired station k v.0 m flow s now).sessions
       by (incoming.Broadcast s) f = kept_dropped
-      by (incoming.Tp s) f = kept_tp station v.0 h.some true (tp-steps.join_of s).size (tp-steps.expired s flow now) (tp_expired s flow now f)
-      by (incoming.Etp s) f = kept_etp station v.0 h.some true (etp-steps.join_of s).size (etp-steps.expired (etp-room.prepared_to_expire s flow) flow now) (etp_expired s flow now f)
+      by (incoming.Connection s) f = kept_connection station v.0 h.some true (unfinished_of s).join.size (expired (prepared_to_expire s flow) flow now) (connection_expired s flow now f)
 
   pub kept_fired : (ports : Ports) (now : ℕ) → AreKept (fired_at ports k now m).sessions
   kept_fired ports now = by (state_at m k) refl

@@ -9,16 +9,14 @@ use Rattle.tp_wire.specs.Reading.{reading}
 use Rattle.tp_wire.specs.declared.wire.Kind.{Kind}
 use Rattle.tp_wire.specs.declared.wire.Wire.{Wire}
 use Rattle.tp_wire.specs.declared.wire.Wire.TheVariants.{Cm, Packet, Request, Ack}
+use Rattle.responder.specs.Readers.{unfinished_of}
+use Rattle.responder.specs.Steps.{stepped}
+use Rattle.responder.specs.Room.{prepared}
 use Rattle.responder.specs.declared.flow.Flow.{Flow}
+use Rattle.responder.specs.declared.received.Received.{Received}
+use Rattle.responder.specs.declared.received.Received.TheVariants.{On, Complete, Ended}
 use Rattle.bam_session.specs.States as bam
 use Rattle.bam_session.specs.Receiving as bam-steps
-use Rattle.tp_session.specs.Steps as tp-steps
-use Rattle.tp_session.specs.declared.received.Received as tp
-use Rattle.tp_session.specs.declared.received.Received.TheVariants as tp-received
-use Rattle.etp_session.specs.Steps as etp-steps
-use Rattle.etp_session.specs.Room as etp-room
-use Rattle.etp_session.specs.declared.received.Received as etp
-use Rattle.etp_session.specs.declared.received.Received.TheVariants as etp-received
 use Rattle.bus_order.specs.Bus as bus
 use Rattle.port_table.specs.Ports.{Ports}
 use Rattle.session_table.specs.declared.key.Key.{Key}
@@ -27,8 +25,8 @@ use Rattle.session_table.specs.declared.incoming.Incoming.TheVariants as incomin
 use Rattle.session_table.specs.Sessions.{state_at}
 use Rattle.station_lanes.specs.declared.event.Event.{Event}
 use Rattle.station_lanes.specs.declared.event.Event.TheVariants as event
-use Rattle.station_sessions.specs.Progress.{after_broadcast, after_tp, after_etp, progress, prepared, completes, size_of}
-use Rattle.station_sessions.specs.Receiving.{Inbound, flow_at, settled, received_by, wanted_by}
+use Rattle.station_sessions.specs.Steps.{completes, size_of}
+use Rattle.station_sessions.specs.Receiving.{Inbound, flow_at, broadcast_settled, connection_settled, session_stepped, received_by, wanted_by}
 use Rattle.station_core.specs.Opening.{key_of}
 use Rattle.station_core.specs.Station.{Station, quietly}
 use Rattle.station_core.specs.Taking as taking
@@ -40,7 +38,7 @@ use Rattle.segment_law.specs.Record.{Record, StandsAt}
 use Rattle.segment_law.specs.declared.refusal.Refusal.TheVariants as refusal
 use Rattle.reader_law.proofs.Wanted.{packet_ports}
 use Rattle.reader_law.proofs.Takes.{wire_ports, wanted_is_given}
-use Rattle.reader_law.proofs.Filled.{IsFilled, IsSeven, GoesTp, GoesEtp, GoesBroadcast, tp_step, etp_step, broadcast_step}
+use Rattle.reader_law.proofs.Filled.{IsFilled, IsSeven, Goes, GoesBroadcast, connection_step, broadcast_step}
 use Rattle.reader_law.proofs.Keeping.{State, join_of, IsKept, AreKept}
 use Rattle.reader_law.proofs.Sessions.{Meaning, MeansSeven, reading_seven}
 use Rattle.reader_law.proofs.Walk.{AllKept, kept_at, record_kept}
@@ -60,29 +58,23 @@ module _ (station : Address) (key : Key) (m : Inbound) (set : List ℕ) (some : 
   none_here : (ports : List ℕ) → length ports ≡ 0 → ports ≡ set → ⊥
   none_here ports none e = some (ap length (sym e) ∙ none)
 
-  tp_length : (r : tp.Received) → GoesTp size r → ports_given (settled station key set true m (after_tp r)).events ≡ set → length_given (settled station key set true m (after_tp r)).events ≡ size
-  tp_length (tp-received.On s frame) h e = absurd (none_here [] refl e)
-  tp_length (tp-received.Complete w) h e = some_given station (record { 0 = w.peer.from }) (record { 0 = w.peer.to }) (clean w.peer.pgn) w.bytes set some ∙ h
-  tp_length (tp-received.Ended frame) h e = absurd (none_here [] refl e)
+  connection_length : (r : Received) → Goes size r → ports_given (connection_settled station key set true m r).events ≡ set → length_given (connection_settled station key set true m r).events ≡ size
+  connection_length (On s frame) h e = absurd (none_here [] refl e)
+  connection_length (Complete w) h e = some_given station (record { 0 = w.peer.from }) (record { 0 = w.peer.to }) (clean w.peer.pgn) w.bytes set some ∙ h
+  connection_length (Ended frame) h e = absurd (none_here [] refl e)
 
-  etp_length : (r : etp.Received) → GoesEtp size r → ports_given (settled station key set true m (after_etp r)).events ≡ set → length_given (settled station key set true m (after_etp r)).events ≡ size
-  etp_length (etp-received.On s frame) h e = absurd (none_here [] refl e)
-  etp_length (etp-received.Complete w) h e = some_given station (record { 0 = w.peer.from }) (record { 0 = w.peer.to }) (clean w.peer.pgn) w.bytes set some ∙ h
-  etp_length (etp-received.Ended frame) h e = absurd (none_here [] refl e)
-
-  broadcast_length : (s : bam.Incoming) (r : bam-steps.Received) → GoesBroadcast size r → ports_given (settled station key set true m (after_broadcast s r)).events ≡ set → length_given (settled station key set true m (after_broadcast s r)).events ≡ size
+  broadcast_length : (s : bam.Incoming) (r : bam-steps.Received) → GoesBroadcast size r → ports_given (broadcast_settled station key set true m s r).events ≡ set → length_given (broadcast_settled station key set true m s r).events ≡ size
   broadcast_length s (bam-steps.Awaits t) h e = absurd (none_here [] refl e)
   broadcast_length s (bam-steps.Completes bytes) h e = some_given station (record { 0 = s.from }) (record { 0 = global_address }) (clean s.pgn) bytes set some ∙ h
   broadcast_length s bam-steps.Drops h e = absurd (none_here [] refl e)
 
 module _ (station : Address) (key : Key) (m : Inbound) (set : List ℕ) (some : length set ≡ 0 → ⊥) (wire : Wire) (flow : Flow) (now : ℕ) where
   abbrev told : Incoming → List Event
-  told s = (settled station key set true m (progress (prepared s wire true flow) wire true flow now)).events
+  told s = (session_stepped station key set true m flow s wire now).events
 
   completed_length : (s : Incoming) → IsSeven wire → IsFilled (join_of s) → ports_given (told s) ≡ set → length_given (told s) ≡ size_of s
   completed_length (incoming.Broadcast s) seven f e = broadcast_length station key m set some s.join.size s (bam-steps.stepped s wire now) (broadcast_step s wire now seven f) e
-  completed_length (incoming.Tp s) seven f e = tp_length station key m set some (tp-steps.join_of s).size (tp-steps.stepped s wire true flow now) (tp_step s wire true flow now seven f) e
-  completed_length (incoming.Etp s) seven f e = etp_length station key m set some (etp-steps.join_of s).size (etp-steps.stepped (etp-room.prepared_state s wire true flow) wire true flow now) (etp_step s wire true flow now seven f) e
+  completed_length (incoming.Connection s) seven f e = connection_length station key m set some (unfinished_of s).join.size (stepped (prepared s wire true flow) wire true flow now) (connection_step s wire true flow now seven f) e
 
 module _ (ports : Ports) (key : Key) (now : ℕ) (m : Inbound) (k : Kind) (sequence : ℕ) (bytes : List ℕ) (seven : length bytes ≡ 7) where
   abbrev packet : Wire
@@ -93,7 +85,7 @@ module _ (ports : Ports) (key : Key) (now : ℕ) (m : Inbound) (k : Kind) (seque
   in_session_length (Some v) h = by (completes v.1 packet) (packet_ports ports.station key v.0 m v.1 k sequence bytes (flow_at ports v.0) now)
     where
       events : List Event
-      events = (settled ports.station key v.0 true m (progress (prepared v.1 packet true (flow_at ports v.0)) packet true (flow_at ports v.0) now)).events
+      events = (session_stepped ports.station key v.0 true m (flow_at ports v.0) v.1 packet now).events
 
       by : (c : Bool) → ports_given events ≡ cond c v.0 [] → length_given events ≡ (cond {A = List ℕ × ℕ} c (v.0, size_of v.1) ([], 0)).1
       by true e = completed_length ports.station key m v.0 (h v refl).some packet (flow_at ports v.0) now v.1 seven (h v refl).filled e

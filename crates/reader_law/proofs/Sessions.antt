@@ -9,6 +9,7 @@ use Rattle.pgn_ids.specs.declared.address.Address.{Address}
 use Rattle.tp_wire.specs.Groups.{tp_cm, tp_dt, etp_cm, etp_dt, request, acknowledgement}
 use Rattle.tp_wire.specs.Reading.{field_of, of_five, tp_cm_of, etp_cm_of, packet_of, request_of, ack_of, body_of, between, reading}
 use Rattle.tp_wire.specs.Rows.{goes_to, comes_from}
+use Rattle.tp_wire.specs.declared.constants.TheConstants.{ETP_MAX_WINDOW}
 use Rattle.tp_wire.specs.declared.wire.Kind.{Kind}
 use Rattle.tp_wire.specs.declared.wire.Kind.TheVariants.{Tp, Etp}
 use Rattle.tp_wire.specs.declared.wire.CmFrame.{CmFrame}
@@ -17,11 +18,13 @@ use Rattle.tp_wire.specs.declared.wire.Wire.{Wire}
 use Rattle.tp_wire.specs.declared.wire.Wire.TheVariants.{Cm, Packet, Request, Ack}
 use Rattle.tp_wire.specs.declared.reason.AbortReason.{AbortReason}
 use Rattle.tp_wire.specs.declared.reason.AbortReason.TheVariants.{NoFurtherSession, Resources, Other}
+use Rattle.responder.specs.Unfinished.{Unfinished, begun}
+use Rattle.responder.specs.Window.{most_of}
+use Rattle.responder.specs.Asking.{asking}
+use Rattle.responder.specs.Room.{first_join}
 use Rattle.responder.specs.declared.flow.Flow.{Flow}
+use Rattle.session_table.specs.Key.{session_for}
 use Rattle.bam_session.specs.States as bam
-use Rattle.tp_session.specs.Asking as tp
-use Rattle.etp_session.specs.Asking as etp
-use Rattle.etp_session.specs.Room.{first_join}
 use Rattle.session_table.specs.DueOrder.{first_due}
 use Rattle.session_table.specs.declared.TheConstants.{MAX_SESSIONS}
 use Rattle.session_table.specs.declared.key.Key.{Key}
@@ -31,13 +34,13 @@ use Rattle.session_table.specs.declared.incoming.Incoming.TheVariants as incomin
 use Rattle.station_sessions.specs.Receiving.{Inbound, flow_at, fired_at}
 use Rattle.station_lanes.specs.LaneReaders.{due_lane}
 use Rattle.station_core.specs.Station.{Station, StationStep, by_session}
-use Rattle.station_core.specs.Opening.{key_of, refusal, is_tp_size, is_etp_size, set_for, others_than, whole_join, peer_of, rts_taken, etp_rts_taken, bam_taken}
+use Rattle.station_core.specs.Opening.{key_of, refusal, is_tp_size, is_etp_size, set_for, others_than, whole_join, peer_of, rts_taken, bam_taken}
 use Rattle.station_core.specs.Taking.{packet_kind, cm_taken, wire_taken, meaning_taken, looks_at, taken}
 use Rattle.station_core.specs.Timers.{lane_fired, fired}
 use Rattle.station_core.specs.Closing.{closed_below, closed}
 use Rattle.port_table.specs.Ports.{without_port}
 use Rattle.record_lemmas.proofs.Tests.{either}
-use Rattle.reader_law.proofs.Filled.{IsFilled, IsSeven, tp_asking, etp_asking}
+use Rattle.reader_law.proofs.Filled.{IsFilled, IsSeven, asking_filled}
 use Rattle.reader_law.proofs.Keeping.{join_of, AreKept, kept_put, kept_dropped, kept_received, kept_fired, kept_aborted, kept_unbound}
 
 -- What a frame means has packets of seven bytes
@@ -130,22 +133,14 @@ module _ (st : Station) (each : Kept st) where
   kept_opened key set state some filled = kept_put st.sessions key each (set, state) (record { some = some; filled = filled })
 
   module _ (from : Address) (room : Bool) (now : ℕ) where
-    kept_rts : (size packets most pgn : ℕ) → Kept (rts_taken st from size packets most pgn room now)
-    kept_rts size packets most pgn =
-        let key : Key = key_of from session.Tp in
+    kept_rts : (kind : Kind) (is_size : Bool) (size most pgn : ℕ) → Kept (rts_taken st kind is_size from size most pgn room now)
+    kept_rts kind is_size size most pgn =
+        let key : Key = key_of from (session_for kind) in
         let flow : Flow = flow_at st.ports (set_for st pgn size) in
-        by_refusal (refusal (is_tp_size size packets) room (set_for st pgn size) (others_than st key)) _ _
-        (λ e. kept_opened key (set_for st pgn size) (incoming.Tp (tp.asking (peer_of st from pgn) (whole_join size) most flow now)) (has_port (is_tp_size size packets) room (set_for st pgn size) (others_than st key) e)
-        (tp_asking (peer_of st from pgn) (whole_join size) most flow now (inr (omega arith, omega arith, omega arith))))
-        (λ reason. kept_dropped st.sessions key each)
-
-    kept_etp_rts : (size pgn : ℕ) → Kept (etp_rts_taken st from size pgn room now)
-    kept_etp_rts size pgn =
-        let key : Key = key_of from session.Etp in
-        let flow : Flow = flow_at st.ports (set_for st pgn size) in
-        by_refusal (refusal (is_etp_size size) room (set_for st pgn size) (others_than st key)) _ _
-        (λ e. kept_opened key (set_for st pgn size) (incoming.Etp (etp.asking (peer_of st from pgn) (first_join size flow) 0 flow now)) (has_port (is_etp_size size) room (set_for st pgn size) (others_than st key) e)
-        (etp_asking (peer_of st from pgn) (first_join size flow) 0 flow now (inr (omega arith, omega arith, omega arith))))
+        let m : Unfinished = begun kind (peer_of st from pgn) most (first_join kind size flow) in
+        by_refusal (refusal is_size room (set_for st pgn size) (others_than st key)) _ _
+        (λ e. kept_opened key (set_for st pgn size) (incoming.Connection (asking m flow now)) (has_port is_size room (set_for st pgn size) (others_than st key) e)
+        (asking_filled m flow now (inr (omega arith, omega arith, omega arith))))
         (λ reason. kept_dropped st.sessions key each)
 
     kept_bam : (size packets pgn : ℕ) → Kept (bam_taken st from size packets pgn room now)
@@ -156,12 +151,12 @@ module _ (st : Station) (each : Kept st) where
         (λ reason. kept_dropped st.sessions key each)
 
     kept_cm : (frame : CmFrame) → Kept (cm_taken st frame from room now).station
-    kept_cm (Rts size packets most pgn) = kept_rts size packets most pgn
+    kept_cm (Rts size packets most pgn) = kept_rts Tp (is_tp_size size packets) size (most_of Tp most) pgn
     kept_cm (Cts granted next pgn) = each
     kept_cm (EndOfMsgAck size packets pgn) = each
     kept_cm (Bam size packets pgn) = kept_bam size packets pgn
     kept_cm (Abort reason pgn) = kept_aborted st.sessions (key_of from session.Tp) each pgn
-    kept_cm (EtpRts size pgn) = kept_etp_rts size pgn
+    kept_cm (EtpRts size pgn) = kept_rts Etp (is_etp_size size) size ETP_MAX_WINDOW pgn
     kept_cm (EtpCts granted next pgn) = each
     kept_cm (EtpDpo packets offset pgn) = kept_received st.sessions (key_of from session.Etp) each st.ports (Cm (EtpDpo packets offset pgn)) room now tt
     kept_cm (EtpEoma size pgn) = each

@@ -18,7 +18,7 @@ use Rattle.session_table.specs.declared.key.SessionKind.TheVariants as session
 use Rattle.session_table.specs.declared.incoming.Incoming.{Incoming}
 use Rattle.session_table.specs.Sessions.{state_at}
 use Rattle.station_lanes.specs.LaneCalls.{step_at, outcome_of}
-use Rattle.station_sessions.specs.Progress.{completes, size_of}
+use Rattle.station_sessions.specs.Steps.{completes, size_of}
 use Rattle.station_sessions.specs.Receiving.{Inbound, flow_at, received_by, wanted_by}
 use Rattle.station_core.specs.Opening.{key_of}
 use Rattle.station_core.specs.Station.{Station, quietly}

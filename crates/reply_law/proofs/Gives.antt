@@ -10,19 +10,13 @@ use Rattle.tp_wire.specs.declared.wire.CmFrame.{CmFrame}
 use Rattle.tp_wire.specs.declared.wire.CmFrame.TheVariants.{Rts, Cts, EndOfMsgAck, Bam, Abort, EtpRts, EtpCts, EtpDpo, EtpEoma, EtpAbort}
 use Rattle.tp_wire.specs.declared.wire.Wire.{Wire}
 use Rattle.tp_wire.specs.declared.wire.Wire.TheVariants.{Cm, Packet, Request, Ack}
+use Rattle.responder.specs.Steps.{stepped, expired}
+use Rattle.responder.specs.Room.{prepared, prepared_to_expire}
 use Rattle.responder.specs.declared.flow.Flow.{Flow}
-use Rattle.responder.specs.declared.flow.Flow.TheVariants.{Open, Held}
+use Rattle.responder.specs.declared.received.Received.{Received}
+use Rattle.responder.specs.declared.received.Received.TheVariants.{On, Complete, Ended}
 use Rattle.bam_session.specs.States as bam
 use Rattle.bam_session.specs.Receiving as bam-steps
-use Rattle.tp_session.specs.Steps as tp-steps
-use Rattle.tp_session.specs.declared.in_state.InState.TheVariants as tp
-use Rattle.tp_session.specs.declared.received.Received as tp-of
-use Rattle.tp_session.specs.declared.received.Received.TheVariants as tp-received
-use Rattle.etp_session.specs.Steps as etp-steps
-use Rattle.etp_session.specs.Room as etp-room
-use Rattle.etp_session.specs.declared.in_state.InState.TheVariants as etp
-use Rattle.etp_session.specs.declared.received.Received as etp-of
-use Rattle.etp_session.specs.declared.received.Received.TheVariants as etp-received
 use Rattle.port_table.specs.Ports.{Ports}
 use Rattle.lane_core.specs.Heard.{heard}
 use Rattle.lane_core.specs.Lane.{Lane}
@@ -41,17 +35,18 @@ use Rattle.station_lanes.specs.LaneCalls.{step_at, outcome_of}
 use Rattle.station_lanes.specs.LaneReaders.{due_lane, overrun_lanes, overrun_events}
 use Rattle.station_lanes.specs.declared.event.Event.{Event}
 use Rattle.station_lanes.specs.declared.event.Event.TheVariants as event
-use Rattle.station_sessions.specs.Progress.{after_broadcast, after_tp, after_etp, progress, fired as expires, prepared, prepared_to_fire, completes, size_of}
-use Rattle.station_sessions.specs.Receiving.{Inbound, flow_at, settled, received_by, fired_by, wanted_by}
+use Rattle.station_sessions.specs.Steps.{completes, size_of}
+use Rattle.station_sessions.specs.Receiving.{Inbound, flow_at, broadcast_settled, connection_settled, session_stepped, session_fired, received_by, fired_by, wanted_by}
 use Rattle.station_core.specs.Opening.{key_of}
 use Rattle.station_core.specs.Station.{Station, StationStep, quietly, by_lane, by_session}
 use Rattle.station_core.specs.Overruns.{overrun}
 use Rattle.station_core.specs.Taking.{packet_kind, cm_taken, wire_taken, meaning_taken, looks_at, taken, wire_wanted, meaning_wanted, wanted}
 use Rattle.station_core.specs.Timers.{lane_fired, fired}
 use Rattle.segment_law.specs.Readers.{ports_given}
+use Rattle.responder.proofs.Rows.{by_timer}
 use Rattle.reader_law.proofs.Wanted.{packet_ports, dpo_ports}
 use Rattle.port_law.proofs.Receptions.{IsBound, AreBound}
-use Rattle.port_law.proofs.Sessions.{IsOf, GoesTp, GoesEtp, GoesBroadcast, tp_step, etp_step, etp_prepared, broadcast_step}
+use Rattle.port_law.proofs.Sessions.{IsOf, Goes, GoesBroadcast, connection_step, connection_prepared, broadcast_step}
 
 -- no message has more than n bytes
 abbrev pub EventShort : ℕ → Event → Type 0
@@ -95,62 +90,45 @@ given_short n station from to pgn bytes [] l = tt
 given_short n station from to pgn bytes (k ∷ set) l = (l, given_short n station from to pgn bytes set l)
 
 module _ (station : Address) (key : Key) (set : List ℕ) (m : Inbound) where
-  roomless_broadcast : (s : bam.Incoming) (r : bam-steps.Received) → ports_given (settled station key set false m (after_broadcast s r)).events ≡ []
+  roomless_broadcast : (s : bam.Incoming) (r : bam-steps.Received) → ports_given (broadcast_settled station key set false m s r).events ≡ []
   roomless_broadcast s (bam-steps.Awaits t) = refl
   roomless_broadcast s (bam-steps.Completes bytes) = refl
   roomless_broadcast s bam-steps.Drops = refl
 
-  roomless_tp : (r : tp-of.Received) → ports_given (settled station key set false m (after_tp r)).events ≡ []
-  roomless_tp (tp-received.On s frame) = refl
-  roomless_tp (tp-received.Complete w) = refl
-  roomless_tp (tp-received.Ended frame) = refl
+  roomless_connection : (r : Received) → ports_given (connection_settled station key set false m r).events ≡ []
+  roomless_connection (On s frame) = refl
+  roomless_connection (Complete w) = refl
+  roomless_connection (Ended frame) = refl
 
-  roomless_etp : (r : etp-of.Received) → ports_given (settled station key set false m (after_etp r)).events ≡ []
-  roomless_etp (etp-received.On s frame) = refl
-  roomless_etp (etp-received.Complete w) = refl
-  roomless_etp (etp-received.Ended frame) = refl
-
-  no_room : (s : Incoming) (wire : Wire) (flow : Flow) (now : ℕ) → ports_given (settled station key set false m (progress (prepared s wire false flow) wire false flow now)).events ≡ []
+  no_room : (s : Incoming) (wire : Wire) (flow : Flow) (now : ℕ) → ports_given (session_stepped station key set false m flow s wire now).events ≡ []
   no_room (incoming.Broadcast s) wire flow now = roomless_broadcast s (bam-steps.stepped s wire now)
-  no_room (incoming.Tp s) wire flow now = roomless_tp (tp-steps.stepped s wire false flow now)
-  no_room (incoming.Etp s) wire flow now = roomless_etp (etp-steps.stepped (etp-room.prepared_state s wire false flow) wire false flow now)
+  no_room (incoming.Connection s) wire flow now = roomless_connection (stepped (prepared s wire false flow) wire false flow now)
 
   module _ (own pgn size : ℕ) where
-    broadcast_short : (s : bam.Incoming) (r : bam-steps.Received) → GoesBroadcast own pgn size r → EachShort size (settled station key set true m (after_broadcast s r)).events
+    broadcast_short : (s : bam.Incoming) (r : bam-steps.Received) → GoesBroadcast own pgn size r → EachShort size (broadcast_settled station key set true m s r).events
     broadcast_short s (bam-steps.Awaits t) h = tt
     broadcast_short s (bam-steps.Completes bytes) h = given_short size station (record { 0 = s.from }) (record { 0 = 255 }) (clean s.pgn) bytes set h
     broadcast_short s bam-steps.Drops h = tt
 
-    tp_short : (r : tp-of.Received) → GoesTp own pgn size r → EachShort size (settled station key set true m (after_tp r)).events
-    tp_short (tp-received.On s frame) h = tt
-    tp_short (tp-received.Complete w) h = given_short size station (record { 0 = w.peer.from }) (record { 0 = w.peer.to }) (clean w.peer.pgn) w.bytes set h.2
-    tp_short (tp-received.Ended frame) h = tt
+    connection_short : (r : Received) → Goes own pgn size r → EachShort size (connection_settled station key set true m r).events
+    connection_short (On s frame) h = tt
+    connection_short (Complete w) h = given_short size station (record { 0 = w.peer.from }) (record { 0 = w.peer.to }) (clean w.peer.pgn) w.bytes set h.2
+    connection_short (Ended frame) h = tt
 
-    etp_short : (r : etp-of.Received) → GoesEtp own pgn size r → EachShort size (settled station key set true m (after_etp r)).events
-    etp_short (etp-received.On s frame) h = tt
-    etp_short (etp-received.Complete w) h = given_short size station (record { 0 = w.peer.from }) (record { 0 = w.peer.to }) (clean w.peer.pgn) w.bytes set h.2
-    etp_short (etp-received.Ended frame) h = tt
-
-    progress_short : (s : Incoming) (wire : Wire) (flow : Flow) (now : ℕ) → IsOf own pgn size s → EachShort size (settled station key set true m (progress (prepared s wire true flow) wire true flow now)).events
-    progress_short (incoming.Broadcast s) wire flow now h = broadcast_short s (bam-steps.stepped s wire now) (broadcast_step own pgn size s wire now h)
-    progress_short (incoming.Tp s) wire flow now h = tp_short (tp-steps.stepped s wire true flow now) (tp_step own pgn size s wire true flow now h)
-    progress_short (incoming.Etp s) wire flow now h = etp_short (etp-steps.stepped (etp-room.prepared_state s wire true flow) wire true flow now)
-        (etp_step own pgn size (etp-room.prepared_state s wire true flow) wire true flow now (etp_prepared own pgn size s wire true flow h))
+    step_short : (s : Incoming) (wire : Wire) (flow : Flow) (now : ℕ) → IsOf own pgn size s → EachShort size (session_stepped station key set true m flow s wire now).events
+    step_short (incoming.Broadcast s) wire flow now h = broadcast_short s (bam-steps.stepped s wire now) (broadcast_step own pgn size s wire now h)
+    step_short (incoming.Connection s) wire flow now h = connection_short (stepped (prepared s wire true flow) wire true flow now)
+        (connection_step own pgn size (prepared s wire true flow) wire true flow now (connection_prepared own pgn size s wire true flow h))
 
 module _ (own pgn size : ℕ) where
   size_is : (s : Incoming) → IsOf own pgn size s → size_of s ≡ size
   size_is (incoming.Broadcast s) h = h.1.0
-  size_is (incoming.Tp s) h = h.1.1.0
-  size_is (incoming.Etp s) h = h.1.1.0
+  size_is (incoming.Connection s) h = h.1.1.0
 
 -- its timer completes nothing
-expired_none : (station : Address) (key : Key) (set : List ℕ) (m : Inbound) (s : Incoming) (flow : Flow) (now : ℕ) → ports_given (settled station key set true m (expires (prepared_to_fire s flow) flow now)).events ≡ []
+expired_none : (station : Address) (key : Key) (set : List ℕ) (m : Inbound) (s : Incoming) (flow : Flow) (now : ℕ) → ports_given (session_fired station key set m flow s now).events ≡ []
 expired_none station key set m (incoming.Broadcast s) flow now = refl
-expired_none station key set m (incoming.Tp (tp.AwaitPacket s)) flow now = refl
-expired_none station key set m (incoming.Tp (tp.Holding s)) flow now = refl
-expired_none station key set m (incoming.Etp (etp.AwaitPacket s)) flow now = refl
-expired_none station key set m (incoming.Etp (etp.Holding s)) Open now = refl
-expired_none station key set m (incoming.Etp (etp.Holding s)) Held now = refl
+expired_none station key set m (incoming.Connection s) flow now = by_timer (λ r. ports_given (connection_settled station key set true m r).events ≡ []) flow now (prepared_to_expire s flow) refl refl
 
 fired_by_none : (o : Option (List ℕ × Incoming)) (ports : Ports) (key : Key) (now : ℕ) (m : Inbound) → ports_given (fired_by o ports key now m).events ≡ []
 fired_by_none None ports key now m = refl
@@ -175,14 +153,14 @@ module _ (ports : Ports) (key : Key) (now : ℕ) (m : Inbound) where
       wire = Packet k sequence bytes
 
       events : List Event
-      events = (settled ports.station key v.0 true m (progress (prepared v.1 wire true (flow_at ports v.0)) wire true (flow_at ports v.0) now)).events
+      events = (session_stepped ports.station key v.0 true m (flow_at ports v.0) v.1 wire now).events
 
       b : IsBound ports key v
       b = h v refl
 
       by : (c : Bool) → completes v.1 wire ≡ c → EachShort (cond {A = List ℕ × ℕ} c (v.0, size_of v.1) ([], 0)).1 events
       by true e = subst (λ (n : ℕ). EachShort n events) (sym (size_is ports.station.0 b.pgn b.size v.1 b.state))
-          (progress_short ports.station key v.0 m ports.station.0 b.pgn b.size v.1 wire (flow_at ports v.0) now b.state)
+          (step_short ports.station key v.0 m ports.station.0 b.pgn b.size v.1 wire (flow_at ports v.0) now b.state)
       by false e = none_short 0 events (packet_ports ports.station key v.0 m v.1 k sequence bytes (flow_at ports v.0) now ∙ ap (λ (c : Bool). cond c v.0 []) e)
 
 -- Stations

@@ -3,3 +3,14 @@ pub mod PeerFields
 pub mod Answers
 pub mod Finished
 pub mod FinishedFields
+pub mod Unfinished
+pub mod UnfinishedFields
+pub mod Window
+pub mod States
+pub mod StateFields
+pub mod Readers
+pub mod Asking
+pub mod PacketRows
+pub mod DpoRows
+pub mod Steps
+pub mod Room

@@ -24,7 +24,12 @@ use Rattle.station_lanes.specs.LaneCalls.{stepped_lanes}
 use Rattle.station_lanes.specs.LaneReaders.{due_lane}
 use Rattle.station_sessions.specs.Receiving.{aborted_at, fired_at}
 use Rattle.station_core.specs.Station.{Station, StationStep, new_station, quietly, queues, by_session, by_lane}
-use Rattle.station_core.specs.Opening.{key_of, refusal, is_tp_size, is_etp_size, set_for, others_than, rts_taken, etp_rts_taken, bam_taken}
+use Rattle.tp_wire.specs.declared.constants.TheConstants.{ETP_MAX_WINDOW}
+use Rattle.tp_wire.specs.declared.wire.Kind.{Kind}
+use Rattle.tp_wire.specs.declared.wire.Kind.TheVariants.{Tp, Etp}
+use Rattle.responder.specs.Window.{most_of}
+use Rattle.session_table.specs.Key.{session_for}
+use Rattle.station_core.specs.Opening.{key_of, refusal, is_tp_size, is_etp_size, set_for, others_than, rts_taken, bam_taken}
 use Rattle.station_core.specs.Sending.{lane_of, sent, pumped, cancelled}
 use Rattle.station_core.specs.Taking.{answer, request_taken, ack_taken, cm_taken, wire_taken, meaning_taken, looks_at, taken}
 use Rattle.station_core.specs.Timers.{lane_fired, fired}
@@ -62,11 +67,8 @@ module _ (a : Address) where
   either_stays None x y h k = h
   either_stays (Some reason) x y h k = k reason
 
-  rts_stays : (st : Station) (from : Address) (size packets most pgn : ℕ) (room : Bool) (now : ℕ) → Stays a st → Stays a (rts_taken st from size packets most pgn room now)
-  rts_stays st from size packets most pgn room now h = either_stays (refusal (is_tp_size size packets) room (set_for st pgn size) (others_than st (key_of from session.Tp))) _ _ (same st _ _ h) (λ reason. same st _ _ h)
-
-  etp_rts_stays : (st : Station) (from : Address) (size pgn : ℕ) (room : Bool) (now : ℕ) → Stays a st → Stays a (etp_rts_taken st from size pgn room now)
-  etp_rts_stays st from size pgn room now h = either_stays (refusal (is_etp_size size) room (set_for st pgn size) (others_than st (key_of from session.Etp))) _ _ (same st _ _ h) (λ reason. same st _ _ h)
+  rts_stays : (st : Station) (kind : Kind) (is_size : Bool) (from : Address) (size most pgn : ℕ) (room : Bool) (now : ℕ) → Stays a st → Stays a (rts_taken st kind is_size from size most pgn room now)
+  rts_stays st kind is_size from size most pgn room now h = either_stays (refusal is_size room (set_for st pgn size) (others_than st (key_of from (session_for kind)))) _ _ (same st _ _ h) (λ reason. same st _ _ h)
 
   bam_stays : (st : Station) (from : Address) (size packets pgn : ℕ) (room : Bool) (now : ℕ) → Stays a st → Stays a (bam_taken st from size packets pgn room now)
   bam_stays st from size packets pgn room now h = either_stays (refusal (is_tp_size size packets) room (set_for st pgn size) (others_than st (key_of from session.Broadcast))) _ _ (same st _ _ h) (λ reason. same st _ _ h)
@@ -75,12 +77,12 @@ module _ (a : Address) where
   in_lane_stays st from wire now h = by_lane_stays st from (λ l. heard l wire now) h (λ l. fit_heard st.address from.0 l wire now)
 
   cm_stays : (st : Station) (frame : CmFrame) (from : Address) (room : Bool) (now : ℕ) → Stays a st → Stays a (cm_taken st frame from room now).station
-  cm_stays st (Rts size packets most pgn) from room now h = rts_stays st from size packets most pgn room now h
+  cm_stays st (Rts size packets most pgn) from room now h = rts_stays st Tp (is_tp_size size packets) from size (most_of Tp most) pgn room now h
   cm_stays st (Cts granted next pgn) from room now h = in_lane_stays st from (Cm (Cts granted next pgn)) now h
   cm_stays st (EndOfMsgAck size packets pgn) from room now h = in_lane_stays st from (Cm (EndOfMsgAck size packets pgn)) now h
   cm_stays st (Bam size packets pgn) from room now h = bam_stays st from size packets pgn room now h
   cm_stays st (Abort reason pgn) from room now h = in_lane_stays (record st { sessions = aborted_at (key_of from session.Tp) pgn st.sessions }) from (Cm (Abort reason pgn)) now (same st st.queue _ h)
-  cm_stays st (EtpRts size pgn) from room now h = etp_rts_stays st from size pgn room now h
+  cm_stays st (EtpRts size pgn) from room now h = rts_stays st Etp (is_etp_size size) from size ETP_MAX_WINDOW pgn room now h
   cm_stays st (EtpCts granted next pgn) from room now h = in_lane_stays st from (Cm (EtpCts granted next pgn)) now h
   cm_stays st (EtpDpo packets offset pgn) from room now h = same st _ _ h
   cm_stays st (EtpEoma size pgn) from room now h = in_lane_stays st from (Cm (EtpEoma size pgn)) now h

@@ -18,6 +18,7 @@ use Rattle.lane_core.specs.Lane.{Lane, kind_for}
 use Rattle.lane_core.specs.declared.message.Pending.{Pending}
 use Rattle.lane_core.specs.declared.place.UnderWay.TheVariants.{Nothing}
 use Rattle.lane_core.specs.declared.probe.Standing.TheVariants.{Settled}
+use Rattle.session_table.specs.Key.{session_for}
 use Rattle.session_table.specs.declared.TheConstants.{MAX_SESSIONS}
 use Rattle.session_table.specs.declared.key.SessionKind.{SessionKind}
 use Rattle.session_table.specs.declared.key.SessionKind.TheVariants as session
@@ -88,10 +89,6 @@ unfoldable pub quiet : Pending → (s d : Address) → List CanFrame
 quiet m s d = if is_to_all d then quiet_broadcast m s d else quiet_connection (kind_for (length m.bytes)) m s d
 
 -- Who receives it
-
-abbrev pub session_for : Kind → SessionKind
-session_for Tp = session.Tp
-session_for Etp = session.Etp
 
 -- the open ports that take the message
 abbrev pub takers : Station → Pending → List ℕ

@@ -2,9 +2,16 @@
 use Rattle.std.specs.Prelude.{ℕ, Bool, true, if◌then◌else◌, Option, Some, None}
 use Rattle.std.specs.Ordering.{nat_cmp, then_cmp, eq_by_cmp, is_lt}
 use Rattle.std.specs.declared.cmp.Ordering.{Ordering}
+use Rattle.tp_wire.specs.declared.wire.Kind.{Kind}
+use Rattle.tp_wire.specs.declared.wire.Kind.TheVariants as kind
 use Rattle.session_table.specs.declared.key.Key.{Key}
 use Rattle.session_table.specs.declared.key.SessionKind.{SessionKind}
 use Rattle.session_table.specs.declared.key.SessionKind.TheVariants.{Broadcast, Tp, Etp}
+
+-- the kind of the session by which a connection of a transport comes
+abbrev pub session_for : Kind → SessionKind
+session_for kind.Tp = Tp
+session_for kind.Etp = Etp
 
 -- broadcasts first, then connections, then extended connections
 abbrev pub kind_number : SessionKind → ℕ

@@ -7,6 +7,7 @@ ghost use Rattle.session_table.specs.Incoming.{goes_on, gone_on, kind_of, pgn_of
 use crate::key::SessionKind;
 use bam_session::BamIn;
 use pgn_ids::WirePgn;
+use responder::InState;
 use tick_timers::Timer;
 use tp_wire::Wire;
 
@@ -14,10 +15,8 @@ use tp_wire::Wire;
 pub enum Incoming {
     /// A broadcast message.
     Broadcast(BamIn),
-    /// A connection.
-    Tp(tp_session::InState),
-    /// An extended connection.
-    Etp(etp_session::InState),
+    /// A connection of either transport.
+    Connection(InState),
 }
 
 impl Incoming {
@@ -27,8 +26,7 @@ impl Incoming {
     {
         match self {
             Incoming::Broadcast(_) => SessionKind::Broadcast,
-            Incoming::Tp(_) => SessionKind::Tp,
-            Incoming::Etp(_) => SessionKind::Etp,
+            Incoming::Connection(state) => SessionKind::of(state.kind()),
         }
     }
 
@@ -38,8 +36,7 @@ impl Incoming {
     {
         match self {
             Incoming::Broadcast(state) => state.pgn(),
-            Incoming::Tp(state) => state.peer().pgn(),
-            Incoming::Etp(state) => state.peer().pgn(),
+            Incoming::Connection(state) => state.peer().pgn(),
         }
     }
 
@@ -49,8 +46,7 @@ impl Incoming {
     {
         match self {
             Incoming::Broadcast(state) => state.timer(),
-            Incoming::Tp(state) => state.timer(),
-            Incoming::Etp(state) => state.timer(),
+            Incoming::Connection(state) => state.timer(),
         }
     }
 
@@ -60,8 +56,7 @@ impl Incoming {
     {
         match self {
             Incoming::Broadcast(state) => state.is_due(now),
-            Incoming::Tp(state) => state.is_due(now),
-            Incoming::Etp(state) => state.is_due(now),
+            Incoming::Connection(state) => state.is_due(now),
         }
     }
 
@@ -76,8 +71,7 @@ impl Incoming {
     {
         match self {
             Incoming::Broadcast(state) => state.go_on(wire, now),
-            Incoming::Tp(state) => state.go_on(wire, now),
-            Incoming::Etp(state) => state.go_on(wire, now),
+            Incoming::Connection(state) => state.go_on(wire, now),
         }
     }
 
@@ -85,8 +79,7 @@ impl Incoming {
     pub fn overrun(self) {
         match self {
             Incoming::Broadcast(state) => state.overrun(),
-            Incoming::Tp(state) => state.overrun(),
-            Incoming::Etp(state) => state.overrun(),
+            Incoming::Connection(state) => state.overrun(),
         }
     }
 }

@@ -1,9 +1,10 @@
 //! Keys of sessions.
 ghost use Rattle.std.specs.Prelude.{◌≡◌};
 ghost use Rattle.std.specs.Ordering.{is_lt};
-ghost use Rattle.session_table.specs.Key.{is_above_key, key_cmp};
+ghost use Rattle.session_table.specs.Key.{is_above_key, key_cmp, session_for};
 
 use pgn_ids::Address;
+use tp_wire::Kind;
 
 /// The kinds of incoming session: a broadcast (BAM), a connection (TP), and an extended connection (ETP).
 #[derive(Clone, Copy, Debug, PartialEq, Eq, PartialOrd, Ord, Hash)]
@@ -14,6 +15,18 @@ pub enum SessionKind {
     Tp,
     /// A connection of the extended transport protocol.
     Etp,
+}
+
+impl SessionKind {
+    /// That of the session by which a connection of a transport comes.
+    pub fn of(kind: Kind) -> SessionKind
+        ensures { result ≡ session_for kind }
+    {
+        match kind {
+            Kind::Tp => SessionKind::Tp,
+            Kind::Etp => SessionKind::Etp,
+        }
+    }
 }
 
 /// What tells the sessions of a station apart: a source sends at most one message of each kind at a time. Keys are

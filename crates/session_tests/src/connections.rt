@@ -6,7 +6,7 @@ use seg_cut::{Join, packets};
 use std::alloc::{AllocError, Global};
 use std::process::Abort;
 use std::test::Fail;
-use tp_session::{AwaitPacket, InState, OutState, Received, begin};
+use tp_session::{InState, OutState, Received, accept, begin};
 use tp_wire::{Kind, Outcome, Wire};
 
 // What 35 sends to 21 in TP.CM.
@@ -29,10 +29,19 @@ fn begun(
     assert!(rt; size >= 9 && size <= 1785);
     let mut join = Join::new(alloc, size);
     join.make_room(packets(size))?;
-    Ok(AwaitPacket::begin(peer, most, join, flow, 0))
+    Ok(accept(peer, most, join, flow, 0))
 }
 
-fn step(state: InState, wire: &Wire, room: bool, flow: Flow, now: u64) -> Received {
+// Takes a frame. Nothing is made for it, so that no memory can be refused.
+fn step(
+    rt: &impl Abort,
+    mut state: InState,
+    wire: &Wire,
+    room: bool,
+    flow: Flow,
+    now: u64,
+) -> Received {
+    assert!(rt; state.prepare(wire, room, flow).is_ok());
     state.step(wire, room, flow, now)
 }
 
@@ -40,7 +49,8 @@ fn go_on(state: &mut InState, wire: &Wire, now: u64) -> bool {
     state.go_on(wire, now)
 }
 
-fn expire(state: InState, flow: Flow, now: u64) -> Received {
+fn expire(rt: &impl Abort, mut state: InState, flow: Flow, now: u64) -> Received {
+    assert!(rt; state.prepare_expire(flow).is_ok());
     state.expire(flow, now)
 }
 
@@ -112,9 +122,9 @@ fn nine_bytes_are_given_or_refused(rt: HostRuntime) -> Result<(), Fail> {
     for given in [true, false] {
         let (state, cts) = begun(&rt, rt.alloc(), diagnostics()?, 255, 9, Flow::Open)?;
         assert!(rt; shows(cts, CM_TO_21, [0x11, 2, 1, 0xFF, 0xFF, 0xCA, 0xFE, 0]));
-        let (state, frame) = on(&rt, step(state, &packet(1), true, Flow::Open, 1));
+        let (state, frame) = on(&rt, step(&rt, state, &packet(1), true, Flow::Open, 1));
         assert_eq!(rt; frame, None);
-        let (state, frame) = on(&rt, step(state, &packet(1), false, Flow::Open, 2));
+        let (state, frame) = on(&rt, step(&rt, state, &packet(1), false, Flow::Open, 2));
         assert_eq!(rt; frame, None);
         let last = Wire::Packet {
             kind: Kind::Tp,
@@ -123,7 +133,7 @@ fn nine_bytes_are_given_or_refused(rt: HostRuntime) -> Result<(), Fail> {
         };
         assert_eq!(rt; state.size(), 9);
         assert!(rt; state.completes(&last) && !state.completes(&packet(1)));
-        let message = complete(&rt, step(state, &last, given, Flow::Held, 3));
+        let message = complete(&rt, step(&rt, state, &last, given, Flow::Held, 3));
         if given {
             let (bytes, end) = message.given();
             assert_eq!(rt; bytes.as_slice(), [1, 2, 3, 4, 5, 6, 7, 8, 9].as_slice());
@@ -140,13 +150,13 @@ fn nine_bytes_are_given_or_refused(rt: HostRuntime) -> Result<(), Fail> {
 fn the_longest_message_has_sixteen_windows(rt: HostRuntime) -> Result<(), Fail> {
     let (mut state, mut cts) = begun(&rt, rt.alloc(), diagnostics()?, 255, 1785, Flow::Open)?;
     for k in 1..255 {
-        let (next, frame) = on(&rt, step(state, &packet(k), true, Flow::Open, 0));
+        let (next, frame) = on(&rt, step(&rt, state, &packet(k), true, Flow::Open, 0));
         state = next;
         assert_eq!(rt; frame.is_some(), k % 16 == 0, "at packet {k}");
         cts = frame.unwrap_or(cts);
     }
     assert!(rt; shows(cts, CM_TO_21, [0x11, 0x0F, 0xF1, 0xFF, 0xFF, 0xCA, 0xFE, 0]));
-    let (bytes, end) = complete(&rt, step(state, &packet(255), true, Flow::Open, 0)).given();
+    let (bytes, end) = complete(&rt, step(&rt, state, &packet(255), true, Flow::Open, 0)).given();
     assert!(rt; shows(end, CM_TO_21, [0x13, 0xF9, 6, 0xFF, 0xFF, 0xCA, 0xFE, 0]));
     assert_eq!(rt; bytes.len(), 1785);
     for (i, byte) in bytes.iter().enumerate() {
@@ -161,10 +171,10 @@ fn a_window_is_what_the_rts_allows(rt: HostRuntime) -> Result<(), Fail> {
     let (state, cts) = begun(&rt, rt.alloc(), peer, 1, 9, Flow::Open)?;
     assert!(rt; state.peer() == peer);
     assert!(rt; shows(cts, 0x1CEC_8035, [0x11, 1, 1, 0xFF, 0xFF, 0x35, 0xEF, 0]));
-    let (state, frame) = on(&rt, step(state, &packet(1), true, Flow::Open, 0));
+    let (state, frame) = on(&rt, step(&rt, state, &packet(1), true, Flow::Open, 0));
     let cts = frame.unwrap_or(cts);
     assert!(rt; shows(cts, 0x1CEC_8035, [0x11, 1, 2, 0xFF, 0xFF, 0x35, 0xEF, 0]));
-    let (_, end) = complete(&rt, step(state, &packet(2), true, Flow::Open, 0)).given();
+    let (_, end) = complete(&rt, step(&rt, state, &packet(2), true, Flow::Open, 0)).given();
     assert!(rt; shows(end, 0x1CEC_8035, [0x13, 9, 0, 2, 0xFF, 0x35, 0xEF, 0]));
     Ok(())
 }
@@ -174,25 +184,25 @@ fn a_hold_is_repeated_until_the_session_is_open(rt: HostRuntime) -> Result<(), F
     let (state, hold) = begun(&rt, rt.alloc(), diagnostics()?, 255, 200, Flow::Held)?;
     assert!(rt; shows(hold, CM_TO_21, [0x11, 0, 1, 0xFF, 0xFF, 0xCA, 0xFE, 0]));
     assert!(rt; falls_due(&state, 500));
-    let (state, again) = on(&rt, expire(state, Flow::Held, 500));
+    let (state, again) = on(&rt, expire(&rt, state, Flow::Held, 500));
     assert_eq!(rt; again, Some(hold));
     assert!(rt; falls_due(&state, 1000));
-    let (mut state, frame) = on(&rt, expire(state, Flow::Open, 1000));
+    let (mut state, frame) = on(&rt, expire(&rt, state, Flow::Open, 1000));
     let cts = frame.unwrap_or(hold);
     assert!(rt; shows(cts, CM_TO_21, [0x11, 0x10, 1, 0xFF, 0xFF, 0xCA, 0xFE, 0]));
     let mut last = None;
     for k in 1..17 {
         let flow = if k > 3 { Flow::Held } else { Flow::Open };
-        let (next, frame) = on(&rt, step(state, &packet(k), true, flow, 1000));
+        let (next, frame) = on(&rt, step(&rt, state, &packet(k), true, flow, 1000));
         state = next;
         assert_eq!(rt; frame.is_some(), k == 16, "at packet {k}");
         last = frame;
     }
     let hold = last.unwrap_or(cts);
     assert!(rt; shows(hold, CM_TO_21, [0x11, 0, 0x11, 0xFF, 0xFF, 0xCA, 0xFE, 0]));
-    let (state, frame) = on(&rt, step(state, &packet(16), true, Flow::Open, 1001));
+    let (state, frame) = on(&rt, step(&rt, state, &packet(16), true, Flow::Open, 1001));
     assert_eq!(rt; frame, None);
-    let abort = ended(&rt, step(state, &packet(17), true, Flow::Open, 1001)).unwrap_or(hold);
+    let abort = ended(&rt, step(&rt, state, &packet(17), true, Flow::Open, 1001)).unwrap_or(hold);
     assert!(rt;
         shows(
             abort,
@@ -213,9 +223,9 @@ fn a_packet_in_a_window_is_taken_in_place(rt: HostRuntime) -> Result<(), Fail> {
         || go_on(&mut state, &packet(3), 300)
         || go_on(&mut state, &packet(4), 300);
     let is_due = falls_due(&state, 950);
-    let (mut state, cts) = on(&rt, step(state, &packet(3), true, Flow::Open, 400));
+    let (mut state, cts) = on(&rt, step(&rt, state, &packet(3), true, Flow::Open, 400));
     let last = go_on(&mut state, &packet(4), 500);
-    let (bytes, _) = complete(&rt, step(state, &packet(4), true, Flow::Open, 500)).given();
+    let (bytes, _) = complete(&rt, step(&rt, state, &packet(4), true, Flow::Open, 500)).given();
     assert!(rt; went_on && !others && !last);
     assert!(rt; is_due);
     assert!(rt;
@@ -229,8 +239,8 @@ fn a_packet_in_a_window_is_taken_in_place(rt: HostRuntime) -> Result<(), Fail> {
 // What packet `last` leads to at tick 200, after packet 1 of three at tick 100, in windows of two.
 fn third_step(rt: &(impl Abort + AllocGlobal), last: u8, room: bool) -> Result<Received, Fail> {
     let (state, _) = begun(rt, rt.alloc(), diagnostics()?, 2, 21, Flow::Open)?;
-    let (state, _) = on(rt, step(state, &packet(1), true, Flow::Open, 100));
-    Ok(step(state, &packet(last), room, Flow::Open, 200))
+    let (state, _) = on(rt, step(rt, state, &packet(1), true, Flow::Open, 100));
+    Ok(step(rt, state, &packet(last), room, Flow::Open, 200))
 }
 
 #[test]
@@ -257,7 +267,7 @@ fn a_session_waits_for_packets(rt: HostRuntime) -> Result<(), Fail> {
     for (last, due) in [(2, 1450), (1, 850)] {
         let (state, _) = on(&rt, third_step(&rt, last, true)?);
         assert!(rt; falls_due(&state, due), "after packet {last}");
-        let Some(abort) = ended(&rt, expire(state, Flow::Open, due)) else {
+        let Some(abort) = ended(&rt, expire(&rt, state, Flow::Open, due)) else {
             panic!(rt; "no abort after packet {last}");
         };
         assert!(rt; shows(abort, CM_TO_21, [0xFF, 3, 0xFF, 0xFF, 0xFF, 0xCA, 0xFE, 0]));

@@ -1,6 +1,6 @@
 //! Exact frames of extended exchanges, that calls succeed, and that nothing but a call lets a state go.
 use bus_frame::{CanId, Frame};
-use etp_session::{AwaitPacket, InState, OutState, Received, begin};
+use etp_session::{InState, OutState, Received, accept, begin};
 use pgn_ids::{Address, Pgn, WirePgn};
 use responder::{Flow, Peer};
 use seg_cut::{Join, packet, packets};
@@ -49,7 +49,7 @@ fn begun(
     let mut join = Join::new(alloc, size);
     join.make_room(u32::from(ETP_MAX_WINDOW))?;
     let peer = Peer::new(Address(0x21), Address(0x35), pgn(rt, FECA));
-    Ok(AwaitPacket::begin(peer, join, flow, 0))
+    Ok(accept(peer, join, flow, 0))
 }
 
 // Prepares and takes. Where memory is refused nothing has changed, and the same call succeeds when it is made again.

@@ -33,14 +33,14 @@ fn session(alloc: Global, kind: SessionKind, pgn: WirePgn) -> Result<Incoming, A
         SessionKind::Tp => {
             let mut join = Join::new(alloc, 9);
             join.make_room(2)?;
-            let (state, _cts) = tp_session::AwaitPacket::begin(peer, 0, join, Flow::Open, 0);
-            Ok(Incoming::Tp(state))
+            let (state, _cts) = tp_session::accept(peer, 0, join, Flow::Open, 0);
+            Ok(Incoming::Connection(state))
         }
         SessionKind::Etp => {
             let mut join = Join::new(alloc, 1786);
             join.make_room(u32::from(ETP_MAX_WINDOW))?;
-            let (state, _cts) = etp_session::AwaitPacket::begin(peer, join, Flow::Open, 0);
-            Ok(Incoming::Etp(state))
+            let (state, _cts) = etp_session::accept(peer, join, Flow::Open, 0);
+            Ok(Incoming::Connection(state))
         }
     }
 }

@@ -8,7 +8,9 @@ use Rattle.pgn_ids.specs.Pgn.{clean}
 use Rattle.tp_wire.specs.Sizes.{is_size_of}
 use Rattle.tp_wire.specs.declared.wire.CmFrame.{CmFrame}
 use Rattle.tp_wire.specs.declared.wire.CmFrame.TheVariants.{Rts, Bam, EtpRts}
-use Rattle.tp_wire.specs.declared.wire.Kind.TheVariants as kind
+use Rattle.tp_wire.specs.declared.wire.Kind.{Kind}
+use Rattle.tp_wire.specs.declared.wire.Kind.TheVariants.{Tp, Etp}
+use Rattle.tp_wire.specs.declared.constants.TheConstants.{ETP_MAX_WINDOW}
 use Rattle.tp_wire.specs.declared.reason.AbortReason.{AbortReason}
 use Rattle.tp_wire.specs.declared.reason.AbortReason.TheVariants.{NoFurtherSession, Resources, Other}
 use Rattle.tp_wire.specs.Reason.{reason_byte}
@@ -17,9 +19,11 @@ use Rattle.seg_cut.specs.Join.{Join, empty_join, with_room}
 use Rattle.responder.specs.Peer.{Peer}
 use Rattle.responder.specs.Answers.{abort_frame}
 use Rattle.bam_session.specs.States as bam
-use Rattle.tp_session.specs.Asking as tp
-use Rattle.etp_session.specs.Asking as etp
-use Rattle.etp_session.specs.Room.{first_join}
+use Rattle.responder.specs.Unfinished.{begun}
+use Rattle.responder.specs.Window.{most_of}
+use Rattle.responder.specs.Asking.{asking, asked}
+use Rattle.responder.specs.Room.{first_join}
+use Rattle.session_table.specs.Key.{session_for}
 use Rattle.port_table.specs.Ports.{ports_for}
 use Rattle.session_table.specs.declared.TheConstants.{MAX_SESSIONS}
 use Rattle.session_table.specs.declared.key.Key.{Key}
@@ -33,11 +37,11 @@ use Rattle.station_core.specs.Station.{Station}
 
 -- the sizes that TP carries, with the packets of the size
 abbrev pub is_tp_size : (size packets : ℕ) → Bool
-is_tp_size size packets = is_size_of kind.Tp size && packets == packet_count size
+is_tp_size size packets = is_size_of Tp size && packets == packet_count size
 
 -- the sizes that ETP carries
 abbrev pub is_etp_size : ℕ → Bool
-is_etp_size size = is_size_of kind.Etp size
+is_etp_size size = is_size_of Etp size
 
 -- why a session doesn't open, with so many others: the first that holds
 abbrev pub refusal : (is_size room : Bool) → (set : List ℕ) → (others : ℕ) → Option AbortReason
@@ -75,28 +79,17 @@ opened st key set state frame = record st { queue = st.queue ++ option_frames fr
 abbrev pub not_opened : Station → Key → Option CanFrame → Station
 not_opened st key frame = record st { queue = st.queue ++ option_frames frame; sessions = map.remove st.sessions key }
 
--- an RTS of TP
-abbrev pub tp_opened : Station → Key → (set : List ℕ) → Peer → (size most now : ℕ) → Station
-tp_opened st key set peer size most now =
+-- an RTS of a kind, of which a CTS may grant so many packets
+abbrev pub connection_opened : Station → Key → (set : List ℕ) → Kind → Peer → (size most now : ℕ) → Station
+connection_opened st key set kind peer size most now =
     let flow = flow_at st.ports set in
-    opened st key set (incoming.Tp (tp.asking peer (whole_join size) most flow now)) (Some (tp.asked peer (whole_join size) most flow))
+    let message = begun kind peer most (first_join kind size flow) in
+    opened st key set (incoming.Connection (asking message flow now)) (Some (asked message flow))
 
-abbrev pub rts_taken : Station → (from : Address) → (size packets most pgn : ℕ) → (room : Bool) → (now : ℕ) → Station
-rts_taken st from size packets most pgn room now = elim (refusal (is_tp_size size packets) room (set_for st pgn size) (others_than st (key_of from session.Tp))) [
-  | None ↦ tp_opened st (key_of from session.Tp) (set_for st pgn size) (peer_of st from pgn) size most now
-  | Some reason ↦ not_opened st (key_of from session.Tp) (Some (abort_frame kind.Tp (peer_of st from pgn) (reason_byte reason)))
-]
-
--- an RTS of ETP
-abbrev pub etp_opened : Station → Key → (set : List ℕ) → Peer → (size now : ℕ) → Station
-etp_opened st key set peer size now =
-    let flow = flow_at st.ports set in
-    opened st key set (incoming.Etp (etp.asking peer (first_join size flow) 0 flow now)) (Some (etp.asked peer (first_join size flow) flow))
-
-abbrev pub etp_rts_taken : Station → (from : Address) → (size pgn : ℕ) → (room : Bool) → (now : ℕ) → Station
-etp_rts_taken st from size pgn room now = elim (refusal (is_etp_size size) room (set_for st pgn size) (others_than st (key_of from session.Etp))) [
-  | None ↦ etp_opened st (key_of from session.Etp) (set_for st pgn size) (peer_of st from pgn) size now
-  | Some reason ↦ not_opened st (key_of from session.Etp) (Some (abort_frame kind.Etp (peer_of st from pgn) (reason_byte reason)))
+abbrev pub rts_taken : Station → Kind → (is_size : Bool) → (from : Address) → (size most pgn : ℕ) → (room : Bool) → (now : ℕ) → Station
+rts_taken st kind is_size from size most pgn room now = elim (refusal is_size room (set_for st pgn size) (others_than st (key_of from (session_for kind)))) [
+  | None ↦ connection_opened st (key_of from (session_for kind)) (set_for st pgn size) kind (peer_of st from pgn) size most now
+  | Some reason ↦ not_opened st (key_of from (session_for kind)) (Some (abort_frame kind (peer_of st from pgn) (reason_byte reason)))
 ]
 
 -- a BAM: where the session doesn't open, nothing is queued
@@ -108,7 +101,7 @@ bam_taken st from size packets pgn room now = elim (refusal (is_tp_size size pac
 
 -- a frame that opens a session, of whatever transport
 abbrev pub opening_taken : Station → CmFrame → (from : Address) → (room : Bool) → (now : ℕ) → Station
-opening_taken st (Rts size packets most pgn) from room now = rts_taken st from size packets most pgn room now
+opening_taken st (Rts size packets most pgn) from room now = rts_taken st Tp (is_tp_size size packets) from size (most_of Tp most) pgn room now
 opening_taken st (Bam size packets pgn) from room now = bam_taken st from size packets pgn room now
-opening_taken st (EtpRts size pgn) from room now = etp_rts_taken st from size pgn room now
+opening_taken st (EtpRts size pgn) from room now = rts_taken st Etp (is_etp_size size) from size ETP_MAX_WINDOW pgn room now
 opening_taken st _ from room now = st

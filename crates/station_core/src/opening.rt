@@ -4,10 +4,12 @@ ghost use Rattle.pgn_ids.specs.Address.{is_one};
 ghost use Rattle.tx_queue.specs.Queue.{queue_limit};
 ghost use Rattle.session_table.specs.declared.TheConstants.{MAX_SESSIONS};
 ghost use Rattle.station_core.specs.Station.{quietly};
-ghost use Rattle.station_core.specs.Opening.{is_tp_size as is_tp_size_of, is_etp_size as is_etp_size_of, refusal as refusal_of, whole_join as whole_join_of, others_than, opened, not_opened, rts_taken, etp_rts_taken, bam_taken, opening_taken};
+ghost use Rattle.station_core.specs.Opening.{is_tp_size as is_tp_size_of, is_etp_size as is_etp_size_of, refusal as refusal_of, whole_join as whole_join_of, others_than, opened, not_opened, rts_taken, bam_taken, opening_taken};
 ghost use Rattle.seg_cut.specs.Join.{held};
-ghost use Rattle.responder.specs.declared.flow.Flow.TheVariants.{Held};
-ghost use Rattle.etp_session.specs.Room.{first_join as first_join_of};
+ghost use Rattle.seg_cut.specs.Packets.{packet_count};
+ghost use Rattle.responder.specs.Room.{first_join as first_join_of};
+ghost use Rattle.responder.specs.declared.flow.Flow.TheVariants.{Open, Held};
+ghost use Rattle.tp_wire.specs.declared.constants.TheConstants.{ETP_MAX_WINDOW};
 ghost use Rattle.tp_wire.specs.Sizes.{IsSizeOf};
 ghost use Rattle.tp_wire.specs.declared.wire.Kind.TheVariants.{Tp, Etp};
 
@@ -16,7 +18,7 @@ use bam_session::BamIn;
 use bus_frame::Frame;
 use pgn_ids::{Address, WirePgn};
 use port_table::PortSet;
-use responder::{Flow, Peer};
+use responder::{Flow, Peer, begin, most_packets};
 use seg_cut::{Join, packets};
 use session_table::{Incoming, Key, MAX_SESSIONS, SessionKind};
 use station_lanes::Events;
@@ -72,18 +74,25 @@ fn whole_join(alloc: Global, size: u32) -> Result<Join, AllocError>
     Ok(join)
 }
 
-// Room for the packets that are granted as a session begins: the first window, and on hold none, which takes no memory.
-fn first_join(alloc: Global, size: u32, flow: Flow) -> Result<Join, AllocError>
-    ensures join { IfOk result (λ join. join ≡ first_join_of size flow) }
-    ensures memory { IfOk result (λ join. flow ≡ Held → held join ≡ 0) }
-    ensures on_hold { flow ≡ Held → IsOk result }
+// Room for the packets of a connection as it begins: in TP for all, in ETP for the first window, and on hold for none, which takes
+// no memory.
+fn first_join(alloc: Global, kind: Kind, size: u32, flow: Flow) -> Result<Join, AllocError>
+    ensures join { IfOk result (λ join. join ≡ first_join_of kind size flow) }
+    ensures whole { IfOk result (λ join. kind ≡ Tp → packet_count size ≤ join.room) }
+    ensures first_window { IfOk result (λ join. kind ≡ Etp → flow ≡ Open → ETP_MAX_WINDOW ≤ join.room) }
+    ensures within_window { IfOk result (λ join. kind ≡ Etp → join.room ≤ ETP_MAX_WINDOW) }
+    ensures memory { IfOk result (λ join. kind ≡ Etp → flow ≡ Held → held join ≡ 0) }
+    ensures on_hold { kind ≡ Etp → flow ≡ Held → IsOk result }
 {
-    let mut join = Join::new(alloc, size);
-    match flow {
-        Flow::Open => join.make_room(u32::from(ETP_MAX_WINDOW))?,
-        Flow::Held => {}
+    match (kind, flow) {
+        (Kind::Tp, _) => whole_join(alloc, size),
+        (Kind::Etp, Flow::Open) => {
+            let mut join = Join::new(alloc, size);
+            join.make_room(u32::from(ETP_MAX_WINDOW))?;
+            Ok(join)
+        }
+        (Kind::Etp, Flow::Held) => Ok(Join::new(alloc, size)),
     }
-    Ok(join)
 }
 
 impl Station {
@@ -115,68 +124,41 @@ impl Station {
         Events::none(self.alloc)
     }
 
-    /// Takes an RTS of TP: its session opens with a CTS or a hold, or it is answered by an abort.
+    /// Takes an RTS of a kind, of which a CTS may grant `most` packets: its session opens with a CTS or a hold, or it is answered
+    /// by an abort.
     fn take_rts(
         &mut self,
+        kind: Kind,
+        is_size: bool,
         from: Address,
-        size: u16,
-        packet_count: u8,
+        size: u32,
         most: u8,
         pgn: WirePgn,
         room: bool,
         now: u64,
     ) -> Result<Events, AllocError>
         requires source { is_one from.0 ≡ true }
+        requires size { is_size ≡ true → IsSizeOf kind size }
+        requires some { 0 < most }
+        requires narrow { most ≤ ETP_MAX_WINDOW }
         requires place { length self.old.queue < queue_limit }
-        ensures ok { IfOk result (λ events. quietly (rts_taken self.old from size packet_count most pgn room now) ≡ record { station = self.new; events = events }) }
+        ensures ok { IfOk result (λ events. quietly (rts_taken self.old kind is_size from size most pgn room now) ≡ record { station = self.new; events = events }) }
         ensures err { OnErr result (self.new ≡ self.old) }
     {
         let key = Key {
             source: from,
-            kind: SessionKind::Tp,
-        };
-        let set = self.ports.find(pgn.clean(), u32::from(size));
-        let peer = Peer::new(from, self.address, pgn);
-        let others = self.sessions.others(key);
-        match refusal(is_tp_size(size, packet_count), room, &set, others) {
-            Some(reason) => Ok(self.refuse_session(key, Some(peer.abort(Kind::Tp, reason)))),
-            None => {
-                let join = whole_join(self.alloc, u32::from(size))?;
-                let flow = flow(&self.ports, &set);
-                let (state, frame) = tp_session::AwaitPacket::begin(peer, most, join, flow, now);
-                self.open_session(key, set, Incoming::Tp(state), Some(frame))
-            }
-        }
-    }
-
-    /// Takes an RTS of ETP: its session opens with a CTS or a hold, or it is answered by an abort.
-    fn take_etp_rts(
-        &mut self,
-        from: Address,
-        size: u32,
-        pgn: WirePgn,
-        room: bool,
-        now: u64,
-    ) -> Result<Events, AllocError>
-        requires source { is_one from.0 ≡ true }
-        requires place { length self.old.queue < queue_limit }
-        ensures ok { IfOk result (λ events. quietly (etp_rts_taken self.old from size pgn room now) ≡ record { station = self.new; events = events }) }
-        ensures err { OnErr result (self.new ≡ self.old) }
-    {
-        let key = Key {
-            source: from,
-            kind: SessionKind::Etp,
+            kind: SessionKind::of(kind),
         };
         let set = self.ports.find(pgn.clean(), size);
         let peer = Peer::new(from, self.address, pgn);
         let others = self.sessions.others(key);
-        match refusal(is_etp_size(size), room, &set, others) {
-            Some(reason) => Ok(self.refuse_session(key, Some(peer.abort(Kind::Etp, reason)))),
+        match refusal(is_size, room, &set, others) {
+            Some(reason) => Ok(self.refuse_session(key, Some(peer.abort(kind, reason)))),
             None => {
                 let flow = flow(&self.ports, &set);
-                let join = first_join(self.alloc, size, flow)?;
-                let (state, frame) = etp_session::AwaitPacket::begin(peer, join, flow, now);
-                self.open_session(key, set, Incoming::Etp(state), Some(frame))
+                let join = first_join(self.alloc, kind, size, flow)?;
+                let (state, frame) = begin(kind, peer, most, join, flow, now);
+                self.open_session(key, set, Incoming::Connection(state), Some(frame))
             }
         }
     }
@@ -230,11 +212,36 @@ impl Station {
                 packets,
                 most,
                 pgn,
-            } => self.take_rts(from, *size, *packets, *most, *pgn, room, now),
+            } => {
+                let is_size = is_tp_size(*size, *packets);
+                let most = most_packets(Kind::Tp, *most);
+                self.take_rts(
+                    Kind::Tp,
+                    is_size,
+                    from,
+                    u32::from(*size),
+                    most,
+                    *pgn,
+                    room,
+                    now,
+                )
+            }
             CmFrame::Bam { size, packets, pgn } => {
                 self.take_bam(from, *size, *packets, *pgn, room, now)
             }
-            CmFrame::EtpRts { size, pgn } => self.take_etp_rts(from, *size, *pgn, room, now),
+            CmFrame::EtpRts { size, pgn } => {
+                let is_size = is_etp_size(*size);
+                self.take_rts(
+                    Kind::Etp,
+                    is_size,
+                    from,
+                    *size,
+                    ETP_MAX_WINDOW,
+                    *pgn,
+                    room,
+                    now,
+                )
+            }
             _ => Ok(Events::none(self.alloc)),
         }
     }

@@ -1,3 +1,4 @@
 pub mod SessionMaps
 pub mod Settling
 pub mod GoingOn
+pub mod Whole

@@ -1,43 +1,84 @@
 -- The session of a key that was taken out, and is settled.
-use Rattle.std.proofs.Common.{◌≡◌, ℕ, Bool, true, false, cond, ◌==◌, List, [], length, Option, Some, None, refl, sym, ap, subst, ◌∙◌}
+use Rattle.std.proofs.Common.{◌≡◌, ℕ, Bool, true, false, cond, ◌==◌, List, [], length, Option, Some, None, refl, sym, ap, ◌∙◌}
 use Rattle.std.specs.Option.{option_map, unwrap_or}
-use Rattle.bus_frame.specs.Frames.{CanFrame}
-use Rattle.responder.specs.declared.flow.Flow.{Flow}
-use Rattle.port_table.specs.PortSet.{without_number}
 use Rattle.std.specs.FinMap as map
+use Rattle.bus_frame.specs.Frames.{CanFrame}
 use Rattle.pgn_ids.specs.declared.address.Address.{Address}
 use Rattle.tp_wire.specs.declared.wire.Wire.{Wire}
+use Rattle.responder.specs.Room.{prepared, prepared_to_expire}
+use Rattle.responder.specs.Steps.{stepped, expired}
+use Rattle.responder.specs.declared.flow.Flow.{Flow}
+use Rattle.responder.specs.declared.received.Received.{Received}
+use Rattle.responder.specs.declared.received.Received.TheVariants.{On, Complete, Ended}
+use Rattle.bam_session.specs.States as bam
+use Rattle.bam_session.specs.Receiving as bam-steps
+use Rattle.port_table.specs.PortSet.{without_number}
 use Rattle.port_table.specs.Ports.{Ports}
 use Rattle.session_table.specs.declared.key.Key.{Key}
 use Rattle.session_table.specs.declared.incoming.Incoming.{Incoming}
+use Rattle.session_table.specs.declared.incoming.Incoming.TheVariants.{Broadcast, Connection}
 use Rattle.session_table.specs.Sessions.{state_at}
-use Rattle.station_sessions.specs.declared.progress.Progress.{Progress}
-use Rattle.station_sessions.specs.declared.progress.Progress.TheVariants.{On, Complete, Ended}
-use Rattle.station_sessions.specs.declared.progress.Whole.{Whole}
-use Rattle.station_sessions.specs.Progress.{progress, prepared, fired, prepared_to_fire, closing_frame}
-use Rattle.station_sessions.specs.Receiving.{Inbound, NoneHeld, Reception, flow_at, concluded, settled, received, received_by, fired_at, fired_by, unbound_at, unbound_by}
+use Rattle.station_sessions.specs.declared.copies.Message.{Message}
+use Rattle.station_sessions.specs.Steps.{broadcast_message, connection_message, given_answer, refused_answer, closing_frame}
+use Rattle.station_sessions.specs.Receiving.{Inbound, NoneHeld, Reception, flow_at, concluded, goes_on_at, ended_at, broadcast_settled, connection_settled, session_stepped, session_fired, received, received_by, fired_at, fired_by, unbound_at, unbound_by}
 use Rattle.station_sessions.proofs.SessionMaps.{insert_again, remove_inserted, none_held_inserted, none_held_removed}
 
-module _ (station : Address) (key : Key) (set : List ℕ) (room : Bool) (m : Inbound) where
-  -- that its key was held makes no difference
-  pub settled_again : (p : Progress) → settled station key set room (map.insert m key None) p ≡ settled station key set room m p
-  settled_again (On s frame) = ap (λ (x : Inbound). let r : Reception = record { sessions = x; frame = frame; events = [] } in r) (insert_again m key None (Some (set, s)))
-  settled_again (Complete w) = ap (λ (x : Inbound). concluded station set room x w) (remove_inserted m key None)
-  settled_again (Ended frame) = ap (λ (x : Inbound). let r : Reception = record { sessions = x; frame = frame; events = [] } in r) (remove_inserted m key None)
+module _ (station : Address) (key : Key) (set : List ℕ) (m : Inbound) where
+  abbrev held : Inbound
+  held = map.insert m key None
 
-  concluded-sessions : (x : Inbound) (w : Whole) → (concluded station set room x w).sessions ≡ x
-  concluded-sessions x w = elim room as (λ b. (concluded station set b x w).sessions ≡ x) [ true ↦ refl | false ↦ refl ]
+  goes_again : (s : Incoming) (frame : Option CanFrame) → goes_on_at key set held s frame ≡ goes_on_at key set m s frame
+  goes_again s frame = ap (λ (x : Inbound). let r : Reception = record { sessions = x; frame = frame; events = [] } in r) (insert_again m key None (Some (set, s)))
+
+  ends_again : (frame : Option CanFrame) → ended_at key held frame ≡ ended_at key m frame
+  ends_again frame = ap (λ (x : Inbound). let r : Reception = record { sessions = x; frame = frame; events = [] } in r) (remove_inserted m key None)
+
+  module _ (room : Bool) where
+    gives_again : (given refused : Option CanFrame) (w : Message) → concluded station set room (map.remove held key) given refused w ≡ concluded station set room (map.remove m key) given refused w
+    gives_again given refused w = ap (λ (x : Inbound). concluded station set room x given refused w) (remove_inserted m key None)
+
+    broadcast_again : (s : bam.Incoming) (r : bam-steps.Received) → broadcast_settled station key set room held s r ≡ broadcast_settled station key set room m s r
+    broadcast_again s (bam-steps.Awaits t) = goes_again (Broadcast t) None
+    broadcast_again s (bam-steps.Completes bytes) = gives_again None None (broadcast_message s bytes)
+    broadcast_again s bam-steps.Drops = ends_again None
+
+    connection_again : (r : Received) → connection_settled station key set room held r ≡ connection_settled station key set room m r
+    connection_again (On s frame) = goes_again (Connection s) frame
+    connection_again (Complete w) = gives_again (Some (given_answer w)) (Some (refused_answer w)) (connection_message w)
+    connection_again (Ended frame) = ends_again frame
+
+  -- that its key was held makes no difference
+  stepped_again : (room : Bool) (flow : Flow) (s : Incoming) (wire : Wire) (now : ℕ) → session_stepped station key set room held flow s wire now ≡ session_stepped station key set room m flow s wire now
+  stepped_again room flow (Broadcast s) wire now = broadcast_again room s (bam-steps.stepped s wire now)
+  stepped_again room flow (Connection s) wire now = connection_again room (stepped (prepared s wire room flow) wire room flow now)
+
+  fired_again : (flow : Flow) (s : Incoming) (now : ℕ) → session_fired station key set held flow s now ≡ session_fired station key set m flow s now
+  fired_again flow (Broadcast s) now = ends_again None
+  fired_again flow (Connection s) now = connection_again true (expired (prepared_to_expire s flow) flow now)
 
   -- and no key is held afterwards
-  pub settled_none_held : NoneHeld m → (p : Progress) → NoneHeld (settled station key set room m p).sessions
-  settled_none_held none (On s frame) = none_held_inserted m key none (set, s)
-  settled_none_held none (Complete w) = subst NoneHeld (sym (concluded-sessions (map.remove m key) w)) (none_held_removed m key none)
-  settled_none_held none (Ended frame) = none_held_removed m key none
+  module _ (none : NoneHeld m) where
+    given_none_held : (room : Bool) (given refused : Option CanFrame) (w : Message) → NoneHeld (concluded station set room (map.remove m key) given refused w).sessions
+    given_none_held true given refused w = none_held_removed m key none
+    given_none_held false given refused w = none_held_removed m key none
 
-module _ (station mine : Address) (key held : Key) (set : List ℕ) (room : Bool) (m after : Inbound) (p q : Progress) (told : Reception) where
-  -- the session is settled as if its key had not been held
-  settled_is : mine ≡ station → held ≡ key → after ≡ map.insert m key None → q ≡ p → settled mine held set room after q ≡ told → settled station key set room m p ≡ told
-  settled_is a b c d e = sym (settled_again station key set room m p) ∙ (λ i. settled (sym a i) (sym b i) set room (sym c i) (sym d i)) ∙ e
+    connection_none_held : (room : Bool) (r : Received) → NoneHeld (connection_settled station key set room m r).sessions
+    connection_none_held room (On s frame) = none_held_inserted m key none (set, Connection s)
+    connection_none_held room (Complete w) = given_none_held room (Some (given_answer w)) (Some (refused_answer w)) (connection_message w)
+    connection_none_held room (Ended frame) = none_held_removed m key none
+
+    broadcast_none_held : (room : Bool) (s : bam.Incoming) (r : bam-steps.Received) → NoneHeld (broadcast_settled station key set room m s r).sessions
+    broadcast_none_held room s (bam-steps.Awaits t) = none_held_inserted m key none (set, Broadcast t)
+    broadcast_none_held room s (bam-steps.Completes bytes) = given_none_held room None None (broadcast_message s bytes)
+    broadcast_none_held room s bam-steps.Drops = none_held_removed m key none
+
+    stepped_none_held : (room : Bool) (flow : Flow) (s : Incoming) (wire : Wire) (now : ℕ) → NoneHeld (session_stepped station key set room m flow s wire now).sessions
+    stepped_none_held room flow (Broadcast s) wire now = broadcast_none_held room s (bam-steps.stepped s wire now)
+    stepped_none_held room flow (Connection s) wire now = connection_none_held room (stepped (prepared s wire room flow) wire room flow now)
+
+    fired_none_held_by : (flow : Flow) (s : Incoming) (now : ℕ) → NoneHeld (session_fired station key set m flow s now).sessions
+    fired_none_held_by flow (Broadcast s) now = none_held_removed m key none
+    fired_none_held_by flow (Connection s) now = connection_none_held true (expired (prepared_to_expire s flow) flow now)
 
 -- what stood at a key was taken out
 abbrev IsTaken : (key held : Key) → List ℕ → Incoming → Option (List ℕ × Incoming) → Type 0
@@ -52,20 +93,24 @@ taken_by key held set s (Some v) e =
     let inner : ◌≡◌ {A = Key × List ℕ × Incoming} (held, set, s) (key, v.0, v.1) = ap (λ (o : Option (Key × List ℕ × Incoming)). unwrap_or o (held, set, s)) e in
     (λ i. Some ((sym inner i).1, (sym inner i).2), λ i. (inner i).0)
 
-module _ (ports : Ports) (mine : Address) (key held : Key) (set : List ℕ) (s ready : Incoming) (flow : Flow) (now : ℕ) (m after : Inbound) (p : Progress) (told : Reception)
-    (taken : IsTaken key held set s (state_at m key)) (out : after ≡ map.insert m key None) (own : mine ≡ ports.station) (at : flow ≡ flow_at ports set) where
+module _ (ports : Ports) (key held : Key) (set : List ℕ) (s : Incoming) (now : ℕ) (m after : Inbound) (told : Reception)
+    (taken : IsTaken key held set s (state_at m key)) (out : after ≡ map.insert m key None) where
   stood : Stood key held set s (state_at m key)
   stood = taken_by key held set s (state_at m key) taken
 
-  pub received_is : (wire : Wire) (room : Bool) → ready ≡ prepared s wire room flow → p ≡ progress ready wire room flow now → settled mine held set room after p ≡ told → received ports key wire room now m ≡ told
-  received_is wire room is_ready step ends =
+  pub received_is : (wire : Wire) (room : Bool) → session_stepped ports.station held set room after (flow_at ports set) s wire now ≡ told → received ports key wire room now m ≡ told
+  received_is wire room ends =
       ap (λ o. received_by o ports key wire room now m) stood.0
-      ∙ settled_is ports.station mine key held set room m after (progress (prepared s wire room (flow_at ports set)) wire room (flow_at ports set) now) p told own stood.1 out (step ∙ ap (λ x. progress x wire room flow now) is_ready ∙ ap (λ f. progress (prepared s wire room f) wire room f now) at) ends
+      ∙ sym (stepped_again ports.station key set m room (flow_at ports set) s wire now)
+      ∙ (λ i. session_stepped ports.station (sym stood.1 i) set room (sym out i) (flow_at ports set) s wire now)
+      ∙ ends
 
-  pub fired_is : ready ≡ prepared_to_fire s flow → p ≡ fired ready flow now → settled mine held set true after p ≡ told → fired_at ports key now m ≡ told
-  fired_is is_ready step ends =
+  pub fired_is : session_fired ports.station held set after (flow_at ports set) s now ≡ told → fired_at ports key now m ≡ told
+  fired_is ends =
       ap (λ o. fired_by o ports key now m) stood.0
-      ∙ settled_is ports.station mine key held set true m after (fired (prepared_to_fire s (flow_at ports set)) (flow_at ports set) now) p told own stood.1 out (step ∙ ap (λ x. fired x flow now) is_ready ∙ ap (λ f. fired (prepared_to_fire s f) f now) at) ends
+      ∙ sym (fired_again ports.station key set m (flow_at ports set) s now)
+      ∙ (λ i. session_fired ports.station (sym stood.1 i) set (sym out i) (flow_at ports set) s now)
+      ∙ ends
 
 -- no key is held after a step
 pub received_none_held : (ports : Ports) (key : Key) (wire : Wire) (room : Bool) (now : ℕ) (m : Inbound) → NoneHeld m → NoneHeld (received ports key wire room now m).sessions
@@ -73,14 +118,14 @@ received_none_held ports key wire room now m none = by (state_at m key)
   where
     by : (o : Option (List ℕ × Incoming)) → NoneHeld (received_by o ports key wire room now m).sessions
     by None = none
-    by (Some v) = settled_none_held ports.station key v.0 room m none _
+    by (Some v) = stepped_none_held ports.station key v.0 m none room (flow_at ports v.0) v.1 wire now
 
 pub fired_none_held : (ports : Ports) (key : Key) (now : ℕ) (m : Inbound) → NoneHeld m → NoneHeld (fired_at ports key now m).sessions
 fired_none_held ports key now m none = by (state_at m key)
   where
     by : (o : Option (List ℕ × Incoming)) → NoneHeld (fired_by o ports key now m).sessions
     by None = none
-    by (Some v) = settled_none_held ports.station key v.0 true m none _
+    by (Some v) = fired_none_held_by ports.station key v.0 m none (flow_at ports v.0) v.1 now
 
 -- the last port of a session is closed
 pub unbound_is : (key held : Key) (number : ℕ) (set : List ℕ) (s : Incoming) (m after ended : Inbound) (frame : Option CanFrame)

@@ -1,5 +1,5 @@
 pub mod Given
 pub mod CopyFields
-pub mod Progress
+pub mod Steps
 pub mod Receiving
 pub mod CopyRoom

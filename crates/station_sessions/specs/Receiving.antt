@@ -5,19 +5,24 @@ use Rattle.bus_frame.specs.Frames.{CanFrame}
 use Rattle.pgn_ids.specs.declared.address.Address.{Address}
 use Rattle.pgn_ids.specs.Pgn.{clean}
 use Rattle.tp_wire.specs.declared.wire.Wire.{Wire}
+use Rattle.responder.specs.Room.{prepared, prepared_to_expire}
+use Rattle.responder.specs.Steps.{stepped, expired}
 use Rattle.responder.specs.declared.flow.Flow.{Flow}
+use Rattle.responder.specs.declared.received.Received.{Received}
+use Rattle.responder.specs.declared.received.Received.TheVariants.{On, Complete, Ended}
+use Rattle.bam_session.specs.States as bam
+use Rattle.bam_session.specs.Receiving as bam-steps
 use Rattle.port_table.specs.Ports.{Ports, is_any_paused}
 use Rattle.port_table.specs.PortSet.{without_number}
 use Rattle.session_table.specs.declared.key.Key.{Key}
 use Rattle.session_table.specs.declared.incoming.Incoming.{Incoming}
+use Rattle.session_table.specs.declared.incoming.Incoming.TheVariants.{Broadcast, Connection}
 use Rattle.session_table.specs.Incoming.{pgn_of}
 use Rattle.session_table.specs.Sessions.{Sessions, state_at, IsHeld}
 use Rattle.station_lanes.specs.declared.event.Event.{Event}
-use Rattle.station_sessions.specs.declared.progress.Progress.{Progress}
-use Rattle.station_sessions.specs.declared.progress.Progress.TheVariants.{On, Complete, Ended}
-use Rattle.station_sessions.specs.declared.progress.Whole.{Whole}
+use Rattle.station_sessions.specs.declared.copies.Message.{Message}
 use Rattle.station_sessions.specs.Given.{given_to}
-use Rattle.station_sessions.specs.Progress.{flow_of, message_of, given_answer, refused_answer, progress, fired, prepared, prepared_to_fire, closing_frame, completes, size_of}
+use Rattle.station_sessions.specs.Steps.{flow_of, broadcast_message, connection_message, given_answer, refused_answer, completes, size_of, closing_frame}
 
 -- the incoming sessions by source and kind, each with the ports that it gives to: those that its opening found, less
 -- those that were closed since
@@ -38,18 +43,45 @@ pub record Reception : Type 0 where
 abbrev pub unheard : Inbound → Reception
 unheard sessions = record { sessions = sessions; frame = None; events = [] }
 
--- a message that is complete is given at each port of the set, or at none: with the end of message acknowledgement of a
--- connection, or without room with its abort
-abbrev pub concluded : Address → (set : List ℕ) → (room : Bool) → Inbound → Whole → Reception
-concluded station set room sessions w =
-    if room then record { sessions = sessions; frame = given_answer w; events = given_to station set (message_of w) }
-    else record { sessions = sessions; frame = refused_answer w; events = [] }
+-- a message that is complete is given at each port of the set with the one answer, or without room at none with the other
+abbrev pub concluded : Address → (set : List ℕ) → (room : Bool) → Inbound → (given refused : Option CanFrame) → Message → Reception
+concluded station set room sessions given refused message =
+    if room then record { sessions = sessions; frame = given; events = given_to station set message }
+    else record { sessions = sessions; frame = refused; events = [] }
 
--- the session of a key goes on, has ended, or its message is complete
-abbrev pub settled : Address → Key → (set : List ℕ) → (room : Bool) → Inbound → Progress → Reception
-settled station key set room sessions (On s frame) = record { sessions = map.insert sessions key (Some (set, s)); frame = frame; events = [] }
-settled station key set room sessions (Complete w) = concluded station set room (map.remove sessions key) w
-settled station key set room sessions (Ended frame) = record { sessions = map.remove sessions key; frame = frame; events = [] }
+-- the session of a key goes on, and a frame is queued
+abbrev pub goes_on_at : Key → (set : List ℕ) → Inbound → Incoming → Option CanFrame → Reception
+goes_on_at key set sessions state frame = record { sessions = map.insert sessions key (Some (set, state)); frame = frame; events = [] }
+
+-- it has ended, and a frame is queued
+abbrev pub ended_at : Key → Inbound → Option CanFrame → Reception
+ended_at key sessions frame = record { sessions = map.remove sessions key; frame = frame; events = [] }
+
+-- what a step of the broadcast session of a key leaves
+abbrev pub broadcast_settled : Address → Key → (set : List ℕ) → (room : Bool) → Inbound → bam.Incoming → bam-steps.Received → Reception
+broadcast_settled station key set room sessions s (bam-steps.Awaits t) = goes_on_at key set sessions (Broadcast t) None
+broadcast_settled station key set room sessions s (bam-steps.Completes bytes) = concluded station set room (map.remove sessions key) None None (broadcast_message s bytes)
+broadcast_settled station key set room sessions s bam-steps.Drops = ended_at key sessions None
+
+-- and of a connection, whose message is given with the end of message acknowledgement, or without room refused by an abort
+abbrev pub connection_settled : Address → Key → (set : List ℕ) → (room : Bool) → Inbound → Received → Reception
+connection_settled station key set room sessions (On s frame) = goes_on_at key set sessions (Connection s) frame
+connection_settled station key set room sessions (Complete m) =
+    concluded station set room (map.remove sessions key) (Some (given_answer m)) (Some (refused_answer m)) (connection_message m)
+connection_settled station key set room sessions (Ended frame) = ended_at key sessions frame
+
+-- the step of the session of a key with a frame of its source
+abbrev pub session_stepped : Address → Key → (set : List ℕ) → (room : Bool) → Inbound → Flow → Incoming → Wire → (now : ℕ) → Reception
+session_stepped station key set room sessions flow (Broadcast s) wire now =
+    broadcast_settled station key set room sessions s (bam-steps.stepped s wire now)
+session_stepped station key set room sessions flow (Connection s) wire now =
+    connection_settled station key set room sessions (stepped (prepared s wire room flow) wire room flow now)
+
+-- its timer fires: a connection on hold asks again, any other session ends
+abbrev pub session_fired : Address → Key → (set : List ℕ) → Inbound → Flow → Incoming → (now : ℕ) → Reception
+session_fired station key set sessions flow (Broadcast s) now = ended_at key sessions None
+session_fired station key set sessions flow (Connection s) now =
+    connection_settled station key set true sessions (expired (prepared_to_expire s flow) flow now)
 
 -- whether the session may grant packets
 abbrev pub flow_at : Ports → (set : List ℕ) → Flow
@@ -59,8 +91,7 @@ flow_at ports set = flow_of (is_any_paused ports set)
 abbrev pub received_by : Option (List ℕ × Incoming) → Ports → Key → Wire → (room : Bool) → (now : ℕ) → Inbound → Reception
 received_by None ports key wire room now sessions = unheard sessions
 received_by (Some v) ports key wire room now sessions =
-    let flow = flow_at ports v.0 in
-    settled ports.station key v.0 room sessions (progress (prepared v.1 wire room flow) wire room flow now)
+    session_stepped ports.station key v.0 room sessions (flow_at ports v.0) v.1 wire now
 
 abbrev pub received : Ports → Key → Wire → (room : Bool) → (now : ℕ) → Inbound → Reception
 received ports key wire room now sessions = received_by (state_at sessions key) ports key wire room now sessions
@@ -68,9 +99,7 @@ received ports key wire room now sessions = received_by (state_at sessions key) 
 -- the timer of the session of a key fires
 abbrev pub fired_by : Option (List ℕ × Incoming) → Ports → Key → (now : ℕ) → Inbound → Reception
 fired_by None ports key now sessions = unheard sessions
-fired_by (Some v) ports key now sessions =
-    let flow = flow_at ports v.0 in
-    settled ports.station key v.0 true sessions (fired (prepared_to_fire v.1 flow) flow now)
+fired_by (Some v) ports key now sessions = session_fired ports.station key v.0 sessions (flow_at ports v.0) v.1 now
 
 abbrev pub fired_at : Ports → Key → (now : ℕ) → Inbound → Reception
 fired_at ports key now sessions = fired_by (state_at sessions key) ports key now sessions
@@ -86,8 +115,8 @@ aborted_at key pgn sessions = elim (state_at sessions key) [
 abbrev pub unbound_by : Option (List ℕ × Incoming) → Key → (number : ℕ) → Inbound → Reception
 unbound_by None key number sessions = unheard sessions
 unbound_by (Some v) key number sessions =
-    if length (without_number v.0 number) == 0 then record { sessions = map.remove sessions key; frame = closing_frame v.1; events = [] }
-    else record { sessions = map.insert sessions key (Some (without_number v.0 number, v.1)); frame = None; events = [] }
+    if length (without_number v.0 number) == 0 then ended_at key sessions (closing_frame v.1)
+    else goes_on_at key (without_number v.0 number) sessions v.1 None
 
 abbrev pub unbound_at : Key → (number : ℕ) → Inbound → Reception
 unbound_at key number sessions = unbound_by (state_at sessions key) key number sessions

@@ -3,7 +3,7 @@
 #![tactic(auto)]
 
 mod copies;
-mod progress;
 mod receivers;
+mod steps;
 
 pub use receivers::{Receivers, Told, flow};

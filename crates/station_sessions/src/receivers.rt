@@ -6,19 +6,17 @@ ghost use Rattle.port_table.specs.Ports.{Ports};
 ghost use Rattle.session_table.specs.Sessions.{IsHeld, state_at};
 ghost use Rattle.session_table.specs.DueOrder.{first_due};
 ghost use Rattle.session_table.specs.declared.TheConstants.{MAX_SESSIONS};
-ghost use Rattle.station_sessions.specs.Progress.{completes as completes_at, size_of, prepared, IsPrepared, whole_size};
-ghost use Rattle.station_sessions.specs.Receiving.{Inbound, flow_at, concluded, settled, received, fired_at, aborted_at, unbound_at, unheard, wanted_by};
-ghost use Rattle.station_sessions.specs.CopyRoom.{IsCovered};
+ghost use Rattle.station_sessions.specs.Steps.{completes as completes_at, size_of, closing_frame};
+ghost use Rattle.station_sessions.specs.Receiving.{flow_at, received, fired_at, aborted_at, unbound_at, unheard, wanted_by};
 
 mod due;
 
-use crate::copies::{Copies, give};
-use crate::progress::{self, Progress, Whole};
+use crate::steps::{self, Table, quiet};
 use bus_frame::Frame;
-use pgn_ids::{Address, WirePgn};
+use pgn_ids::WirePgn;
 use port_table::{PortSet, PortTable};
 use responder::Flow;
-use session_table::{Held, InPlace, Incoming, Key, OpenRefused, SessionTable};
+use session_table::{InPlace, Incoming, Key, OpenRefused, SessionTable};
 use station_lanes::Events;
 use std::alloc::{AllocError, Global};
 use std::marker::Model;
@@ -38,7 +36,7 @@ pub struct Told {
 #[derive(Drop)]
 pub struct Receivers {
     alloc: Global,
-    table: SessionTable<PortSet>,
+    table: Table,
 }
 
 impl Model for Receivers {
@@ -169,9 +167,7 @@ impl Receivers {
         ensures { result ≡ wanted_by (state_at self.now key) wire.now }
     {
         match self.table.get(key) {
-            Some((set, state)) if progress::completes(state, wire) => {
-                (*set, progress::size(state))
-            }
+            Some((set, state)) if completes(state, wire) => (*set, size(state)),
             _ => (PortSet::empty(), 0),
         }
     }
@@ -228,29 +224,21 @@ impl Receivers {
         ensures err { OnErr result (self.new ≡ self.old) }
     {
         let alloc = self.alloc;
-        let Some((held, set, mut state)) = self.table.take_out(key) else {
+        let Some((held, set, state)) = self.table.take_out(key) else {
             return Ok(quiet(alloc, None));
         };
-        let flow = flow(ports, &set);
-        let copies = match make_room(alloc, &set, &mut state, wire, room, flow) {
-            Ok(copies) => copies,
-            Err(error) => {
-                self.table.put_back(held, set, state);
-                return Err(error);
-            }
-        };
-        let progress = progress::step(state, wire, room, flow, now);
-        let station = ports.station();
-        Ok(settle(
+        let told = steps::step(
             alloc,
             &mut self.table,
-            station,
+            ports,
             held,
             set,
+            state,
+            wire,
             room,
-            progress,
-            copies,
-        ))
+            now,
+        )?;
+        Ok(told)
     }
 
     /// The timer of the session of a key fires at tick `now`; without one nothing is done. A session on hold asks again or
@@ -263,29 +251,11 @@ impl Receivers {
         ensures err { OnErr result (self.new ≡ self.old) }
     {
         let alloc = self.alloc;
-        let Some((held, set, mut state)) = self.table.take_out(key) else {
+        let Some((held, set, state)) = self.table.take_out(key) else {
             return Ok(quiet(alloc, None));
         };
-        let flow = flow(ports, &set);
-        match progress::prepare_fire(&mut state, flow) {
-            Ok(()) => {}
-            Err(error) => {
-                self.table.put_back(held, set, state);
-                return Err(error);
-            }
-        }
-        let progress = progress::fire(state, flow, now);
-        let (station, copies) = (ports.station(), Copies::none(alloc));
-        Ok(settle(
-            alloc,
-            &mut self.table,
-            station,
-            held,
-            set,
-            true,
-            progress,
-            copies,
-        ))
+        let told = steps::fire(alloc, &mut self.table, ports, held, set, state, now)?;
+        Ok(told)
     }
 
     /// Takes a port out of the set of the session of a key. A session whose set is then empty ends: the abort of a
@@ -298,7 +268,7 @@ impl Receivers {
         let rest = set.without(number);
         if rest.is_empty() {
             self.table.end(held);
-            progress::close(state)
+            close(state)
         } else {
             self.table.put_back(held, rest, state);
             None
@@ -306,92 +276,35 @@ impl Receivers {
     }
 }
 
-// A frame to be queued and nothing to tell.
-#[inline]
-fn quiet(alloc: Global, frame: Option<Frame>) -> Told
-    ensures frame { result.frame ≡ frame }
-    ensures events { result.events ≡ [] }
+// Whether the step with this frame completes the message of a session.
+fn completes(state: &Incoming, wire: &Wire) -> bool
+    ensures { result ≡ completes_at state.now wire.now }
 {
-    Told {
-        frame,
-        events: Events::none(alloc),
+    match state {
+        Incoming::Broadcast(state) => state.completes(wire),
+        Incoming::Connection(state) => state.completes(wire),
     }
 }
 
-// Puts the session whose key is held back, or ends it.
-fn settle(
-    alloc: Global,
-    table: &mut SessionTable<PortSet>,
-    station: Address,
-    held: Held,
-    set: PortSet,
-    room: bool,
-    progress: Progress,
-    copies: Copies,
-) -> Told
-    requires held { IsHeld table.old held }
-    requires covered { IsCovered progress room set copies }
-    ensures { settled station held set room table.old progress ≡ record { sessions = table.new; frame = result.frame; events = result.events } }
+// The size of the message of a session in bytes.
+fn size(state: &Incoming) -> u32
+    ensures { result ≡ size_of state.now }
 {
-    match progress {
-        Progress::On(state, frame) => {
-            table.put_back(held, set, state);
-            quiet(alloc, frame)
-        }
-        Progress::Complete(whole) => {
-            table.end(held);
-            conclude(alloc, station, &set, room, whole, copies)
-        }
-        Progress::Ended(frame) => {
-            table.end(held);
-            quiet(alloc, frame)
-        }
+    match state {
+        Incoming::Broadcast(state) => state.size(),
+        Incoming::Connection(state) => state.size(),
     }
 }
 
-// Makes all the room that a step needs: for the copies of a message that it completes and gives, or for the next window.
-// An error changes nothing.
-fn make_room(
-    alloc: Global,
-    set: &PortSet,
-    state: &mut Incoming,
-    wire: &Wire,
-    room: bool,
-    flow: Flow,
-) -> Result<Copies, AllocError>
-    ensures ok { OnOk result (state.new ≡ prepared state.old wire.now room flow) }
-    ensures ready { OnOk result (IsPrepared state.new wire.now room flow) }
-    ensures count { IfOk result (λ copies. room ≡ true → completes_at state.new wire.now ≡ true → length copies ≡ length set.now - 1) }
-    ensures enough { IfOk result (λ copies. All (λ size. size ≡ size_of state.new) copies) }
-    ensures err { OnErr result (state.new ≡ state.old) }
+// Nobody takes the message of a session any more: it ends, a connection by an abort.
+fn close(state: Incoming) -> Option<Frame>
+    ensures { result ≡ closing_frame state }
 {
-    if room && progress::completes(state, wire) {
-        let copies = set.len().saturating_sub(1);
-        return Copies::make(alloc, copies, progress::size(state) as usize);
-    }
-    progress::prepare(state, wire, room, flow)?;
-    Ok(Copies::none(alloc))
-}
-
-// Gives a message that is complete, or refuses it where there is no room.
-fn conclude(
-    alloc: Global,
-    station: Address,
-    set: &PortSet,
-    room: bool,
-    whole: Whole,
-    copies: Copies,
-) -> Told
-    requires count { room ≡ true → length copies ≡ length set.now - 1 }
-    requires enough { All (λ size. whole_size whole ≤ size) copies }
-    ensures { (sessions : Inbound) → concluded station set.now room sessions whole ≡ record { sessions = sessions; frame = result.frame; events = result.events } }
-{
-    if !room {
-        return quiet(alloc, whole.refused());
-    }
-    let (message, frame) = whole.given();
-    Told {
-        frame,
-        events: give(alloc, station, set, message, copies),
+    match state {
+        Incoming::Broadcast(state) => {
+            state.close();
+            None
+        }
+        Incoming::Connection(state) => Some(state.close()),
     }
 }

@@ -5,3 +5,4 @@ pub mod Rows
 pub mod Reading
 pub mod Sizes
 pub mod Aborts
+pub mod Kinds

@@ -1,0 +1,365 @@
+//! The step of an incoming session whose key is held: it is put back, or has ended.
+ghost use Rattle.std.specs.Prelude.{◌≡◌, ◌≤◌, ◌-◌, true, length, All, Some, IfOk, OnOk, OnErr, [], None};
+ghost use Rattle.std.specs.FinMap as map;
+ghost use Rattle.bam_session.specs.Receiving.{stepped as bam_stepped, completes as bam_completes};
+ghost use Rattle.responder.specs.Readers.{unfinished_of};
+ghost use Rattle.responder.specs.Room.{IsPrepared, prepared};
+ghost use Rattle.responder.specs.Steps.{completes as completes_at};
+ghost use Rattle.session_table.specs.Sessions.{IsHeld};
+ghost use Rattle.session_table.specs.declared.incoming.Incoming.TheVariants.{Broadcast, Connection};
+ghost use Rattle.bam_session.specs.Shown.{shown};
+ghost use Rattle.bam_session.specs.States.{Incoming as Coming};
+ghost use Rattle.pgn_ids.specs.Pgn.{clean};
+ghost use Rattle.responder.specs.Steps.{stepped};
+ghost use Rattle.station_sessions.specs.CopyRoom.{IsCovered, IsRoomFor, IsBroadcastOf, IsConnectionOf};
+ghost use Rattle.station_sessions.specs.Receiving.{Inbound, flow_at, concluded, broadcast_settled, connection_settled, session_stepped, session_fired};
+ghost use Rattle.station_sessions.specs.Steps.{broadcast_message, connection_message, given_answer, refused_answer};
+
+use crate::copies::{Copies, Message, give};
+use crate::receivers::{Told, flow};
+use bam_session::{BamIn, BamStepped};
+use bus_frame::Frame;
+use lane_core::Bytes;
+use pgn_ids::{Address, Pgn};
+use port_table::{PortSet, PortTable};
+use responder::{Finished, Flow, InState, Received};
+use session_table::{Held, Incoming, SessionTable};
+use station_lanes::Events;
+use std::alloc::{AllocError, Global};
+use tp_wire::Wire;
+
+pub(crate) type Table = SessionTable<PortSet>;
+
+/// The step of a session with a frame of its source at tick `now`. All memory is taken first: where it is refused, the
+/// session is put back as it was.
+pub(crate) fn step(
+    alloc: Global,
+    table: &mut Table,
+    ports: &PortTable,
+    held: Held,
+    set: PortSet,
+    state: Incoming,
+    wire: &Wire,
+    room: bool,
+    now: u64,
+) -> Result<Told, AllocError>
+    requires { IsHeld table.old held }
+    ensures ok { IfOk result (λ told. session_stepped ports.now.station held set room table.old (flow_at ports.now set) state wire.now now ≡ record { sessions = table.new; frame = told.frame; events = told.events }) }
+    ensures err { OnErr result (table.new ≡ map.insert table.old held (Some (set, state))) }
+{
+    match state {
+        Incoming::Broadcast(state) => {
+            step_broadcast(
+                alloc,
+                table,
+                ports.station(),
+                held,
+                set,
+                state,
+                wire,
+                room,
+                now,
+            )
+        }
+        Incoming::Connection(state) => {
+            step_connection(alloc, table, ports, held, set, state, wire, room, now)
+        }
+    }
+}
+
+// The step of a broadcast session.
+fn step_broadcast(
+    alloc: Global,
+    table: &mut Table,
+    station: Address,
+    held: Held,
+    set: PortSet,
+    state: BamIn,
+    wire: &Wire,
+    room: bool,
+    now: u64,
+) -> Result<Told, AllocError>
+    requires { IsHeld table.old held }
+    ensures ok { IfOk result (λ told. broadcast_settled station held set room table.old state (bam_stepped state wire.now now) ≡ record { sessions = table.new; frame = told.frame; events = told.events }) }
+    ensures err { OnErr result (table.new ≡ map.insert table.old held (Some (set, Broadcast state))) }
+{
+    let copies = match make_copies(alloc, &set, room && state.completes(wire), state.size()) {
+        Ok(copies) => copies,
+        Err(error) => {
+            table.put_back(held, set, Incoming::Broadcast(state));
+            return Err(error);
+        }
+    };
+    let (from, pgn) = (state.from(), state.pgn().clean());
+    match take_broadcast(state, wire, now) {
+        BamStepped::On(state) => {
+            table.put_back(held, set, Incoming::Broadcast(state));
+            Ok(quiet(alloc, None))
+        }
+        BamStepped::Complete(bytes) => {
+            table.end(held);
+            Ok(conclude_broadcast(alloc, station, &set, room, from, pgn, bytes, copies))
+        }
+        BamStepped::Dropped => {
+            table.end(held);
+            Ok(quiet(alloc, None))
+        }
+    }
+}
+
+// The step of a connection.
+fn step_connection(
+    alloc: Global,
+    table: &mut Table,
+    ports: &PortTable,
+    held: Held,
+    set: PortSet,
+    mut state: InState,
+    wire: &Wire,
+    room: bool,
+    now: u64,
+) -> Result<Told, AllocError>
+    requires { IsHeld table.old held }
+    ensures ok { IfOk result (λ told. session_stepped ports.now.station held set room table.old (flow_at ports.now set) (Connection state) wire.now now ≡ record { sessions = table.new; frame = told.frame; events = told.events }) }
+    ensures err { OnErr result (table.new ≡ map.insert table.old held (Some (set, Connection state))) }
+{
+    let flow = flow(ports, &set);
+    let copies = match make_room(alloc, &set, &mut state, wire, room, flow) {
+        Ok(copies) => copies,
+        Err(error) => {
+            table.put_back(held, set, Incoming::Connection(state));
+            return Err(error);
+        }
+    };
+    let received = take_packet(state, wire, room, flow, now);
+    Ok(settle(
+        alloc,
+        table,
+        ports.station(),
+        held,
+        set,
+        room,
+        received,
+        copies,
+    ))
+}
+
+/// The timer of a session fires at tick `now`. All memory is taken first: where it is refused, the session is put back as it
+/// was.
+pub(crate) fn fire(
+    alloc: Global,
+    table: &mut Table,
+    ports: &PortTable,
+    held: Held,
+    set: PortSet,
+    state: Incoming,
+    now: u64,
+) -> Result<Told, AllocError>
+    requires { IsHeld table.old held }
+    ensures ok { IfOk result (λ told. session_fired ports.now.station held set table.old (flow_at ports.now set) state now ≡ record { sessions = table.new; frame = told.frame; events = told.events }) }
+    ensures err { OnErr result (table.new ≡ map.insert table.old held (Some (set, state))) }
+{
+    match state {
+        Incoming::Broadcast(state) => {
+            state.expire();
+            table.end(held);
+            Ok(quiet(alloc, None))
+        }
+        Incoming::Connection(state) => fire_connection(alloc, table, ports, held, set, state, now),
+    }
+}
+
+// The timer of a connection fires.
+fn fire_connection(
+    alloc: Global,
+    table: &mut Table,
+    ports: &PortTable,
+    held: Held,
+    set: PortSet,
+    mut state: InState,
+    now: u64,
+) -> Result<Told, AllocError>
+    requires { IsHeld table.old held }
+    ensures ok { IfOk result (λ told. session_fired ports.now.station held set table.old (flow_at ports.now set) (Connection state) now ≡ record { sessions = table.new; frame = told.frame; events = told.events }) }
+    ensures err { OnErr result (table.new ≡ map.insert table.old held (Some (set, Connection state))) }
+{
+    let flow = flow(ports, &set);
+    match state.prepare_expire(flow) {
+        Ok(()) => {}
+        Err(error) => {
+            table.put_back(held, set, Incoming::Connection(state));
+            return Err(error);
+        }
+    }
+    let received = state.expire(flow, now);
+    let copies = Copies::none(alloc);
+    Ok(settle(
+        alloc,
+        table,
+        ports.station(),
+        held,
+        set,
+        true,
+        received,
+        copies,
+    ))
+}
+
+// Puts the connection whose key is held back, or ends it.
+fn settle(
+    alloc: Global,
+    table: &mut Table,
+    station: Address,
+    held: Held,
+    set: PortSet,
+    room: bool,
+    received: Received,
+    copies: Copies,
+) -> Told
+    requires held { IsHeld table.old held }
+    requires covered { IsCovered received room set copies }
+    ensures { connection_settled station held set room table.old received ≡ record { sessions = table.new; frame = result.frame; events = result.events } }
+{
+    match received {
+        Received::On(state, frame) => {
+            table.put_back(held, set, Incoming::Connection(state));
+            quiet(alloc, frame)
+        }
+        Received::Complete(finished) => {
+            table.end(held);
+            conclude_connection(alloc, station, &set, room, finished, copies)
+        }
+        Received::Ended(frame) => {
+            table.end(held);
+            quiet(alloc, frame)
+        }
+    }
+}
+
+// The step of a broadcast session: the message that it completes has no more bytes than were announced.
+fn take_broadcast(state: BamIn, wire: &Wire, now: u64) -> BamStepped
+    ensures value { shown result ≡ bam_stepped state wire.now now }
+    ensures whole { IsBroadcastOf state wire.now result }
+{
+    let _size = state.size();
+    state.step(wire, now)
+}
+
+// The step of a connection: the message that it completes has the size that was announced.
+fn take_packet(state: InState, wire: &Wire, room: bool, flow: Flow, now: u64) -> Received
+    requires { IsPrepared state wire.now room flow }
+    ensures value { result ≡ stepped state wire.now room flow now }
+    ensures whole { IsConnectionOf state wire.now result }
+{
+    state.step(wire, room, flow, now)
+}
+
+// Makes all the room that a step needs: for the copies of a message that it completes and gives, or for the next window.
+// An error changes nothing.
+fn make_room(
+    alloc: Global,
+    set: &PortSet,
+    state: &mut InState,
+    wire: &Wire,
+    room: bool,
+    flow: Flow,
+) -> Result<Copies, AllocError>
+    ensures ok { OnOk result (state.new ≡ prepared state.old wire.now room flow) }
+    ensures ready { OnOk result (IsPrepared state.new wire.now room flow) }
+    ensures count { IfOk result (λ copies. room ≡ true → completes_at state.new wire.now ≡ true → length copies ≡ length set.now - 1) }
+    ensures enough { IfOk result (λ copies. All (λ size. size ≡ (unfinished_of state.new).join.size) copies) }
+    ensures err { OnErr result (state.new ≡ state.old) }
+{
+    if room && state.completes(wire) {
+        return make_copies(alloc, set, true, state.size());
+    }
+    state.prepare(wire, room, flow)?;
+    Ok(Copies::none(alloc))
+}
+
+// Makes the room for the copies of a message of so many bytes, where it is given.
+fn make_copies(
+    alloc: Global,
+    set: &PortSet,
+    is_given: bool,
+    size: u32,
+) -> Result<Copies, AllocError>
+    ensures count { IfOk result (λ copies. is_given ≡ true → length copies ≡ length set.now - 1) }
+    ensures enough { IfOk result (λ copies. All (λ room. room ≡ size) copies) }
+{
+    if !is_given {
+        return Ok(Copies::none(alloc));
+    }
+    Copies::make(alloc, set.len().saturating_sub(1), size as usize)
+}
+
+// Gives a message to all that is complete, or drops it where there is no room.
+fn conclude_broadcast(
+    alloc: Global,
+    station: Address,
+    set: &PortSet,
+    room: bool,
+    from: Address,
+    pgn: Pgn,
+    bytes: Vec<u8>,
+    copies: Copies,
+) -> Told
+    requires { IsRoomFor (length bytes.items) room set.now copies }
+    ensures { (s : Coming) (sessions : Inbound) → from.0 ≡ s.from → pgn ≡ clean s.pgn
+        → concluded station set.now room sessions None None (broadcast_message s bytes.items) ≡ record { sessions = sessions; frame = result.frame; events = result.events } }
+{
+    if !room {
+        return quiet(alloc, None);
+    }
+    let message = Message {
+        from,
+        to: Address::GLOBAL,
+        pgn,
+        bytes: Bytes::new(bytes),
+    };
+    Told {
+        frame: None,
+        events: give(alloc, station, set, message, copies),
+    }
+}
+
+// Gives a message of a connection that is complete, or refuses it where there is no room.
+fn conclude_connection(
+    alloc: Global,
+    station: Address,
+    set: &PortSet,
+    room: bool,
+    finished: Finished,
+    copies: Copies,
+) -> Told
+    requires { IsRoomFor finished.size room set.now copies }
+    ensures { (sessions : Inbound) → concluded station set.now room sessions (Some (given_answer finished)) (Some (refused_answer finished)) (connection_message finished) ≡ record { sessions = sessions; frame = result.frame; events = result.events } }
+{
+    if !room {
+        return quiet(alloc, Some(finished.refused()));
+    }
+    let peer = finished.peer();
+    let (bytes, end) = finished.given();
+    let message = Message {
+        from: peer.from(),
+        to: peer.to(),
+        pgn: peer.pgn().clean(),
+        bytes: Bytes::new(bytes),
+    };
+    Told {
+        frame: Some(end),
+        events: give(alloc, station, set, message, copies),
+    }
+}
+
+// A frame to be queued and nothing to tell.
+#[inline]
+pub(crate) fn quiet(alloc: Global, frame: Option<Frame>) -> Told
+    ensures frame { result.frame ≡ frame }
+    ensures events { result.events ≡ [] }
+{
+    Told {
+        frame,
+        events: Events::none(alloc),
+    }
+}
