@@ -8,14 +8,15 @@ use Rattle.segment_rings.specs.declared.words.Delivery.{Delivery}
 use Rattle.segment_rings.specs.declared.seat.Offer.{Offer}
 use Rattle.segment_rings.specs.declared.seat.Offer.TheVariants as offer
 
--- popped and noted: what went out of and into the client's rings; ahead and free: what is known of them; spare: room for
--- notes that are kept
+-- popped and noted: what went out of and into the client's rings; ahead and free: what is known of them; kept: all its notes;
+-- spare: room for more of them
 pub record SeatView : Type 0 where
   pub id : ℕ
   pub station : Address
   pub active : Bool
   pub popped : List Submission
   pub ahead : List Submission
+  pub kept : List Note
   pub noted : List Note
   pub free : ℕ
   pub spare : ℕ
@@ -30,7 +31,7 @@ pub record DoorView : Type 0 where
   pub spare : ℕ
 
 abbrev pub new_seat : ℕ → Address → ℕ → ℕ → SeatView
-new_seat id station free spare = record { id = id; station = station; active = true; popped = []; ahead = []; noted = []; free = free; spare = spare }
+new_seat id station free spare = record { id = id; station = station; active = true; popped = []; ahead = []; kept = []; noted = []; free = free; spare = spare }
 
 abbrev pub looked : SeatView → List Submission → SeatView
 looked s ahead = record s { ahead = ahead }
@@ -44,8 +45,17 @@ with_spare s spare = record s { spare = spare }
 abbrev pub popped_one : SeatView → Submission → List Submission → SeatView
 popped_one s x ahead = record s { popped = s.popped ++ x ∷ []; ahead = ahead }
 
+-- what is in a client's ring after these notes, and how many places of it are free: none goes into the ring of one that is gone
+abbrev pub noted_after : (active : Bool) → List Note → List Note → List Note
+noted_after true xs ns = xs ++ ns
+noted_after false xs ns = xs
+
+abbrev pub free_after : (active : Bool) → ℕ → ℕ → ℕ
+free_after true free count = free - count
+free_after false free count = free
+
 abbrev pub with_note : SeatView → Note → SeatView
-with_note s n = record s { noted = s.noted ++ n ∷ []; free = s.free - 1; spare = s.spare - 1 }
+with_note s n = record s { kept = s.kept ++ n ∷ []; noted = noted_after s.active s.noted (n ∷ []); free = free_after s.active s.free 1; spare = s.spare - 1 }
 
 abbrev pub closed_seat : SeatView → SeatView
 closed_seat s = record s { active = false }
@@ -56,6 +66,7 @@ pub record SameSeat (a b : SeatView) : Type 0 where
   pub station : b.station ≡ a.station
   pub active : b.active ≡ a.active
   pub popped : b.popped ≡ a.popped
+  pub kept : b.kept ≡ a.kept
   pub noted : b.noted ≡ a.noted
   pub free : a.free ≤ b.free
   pub spare : a.spare ≤ b.spare

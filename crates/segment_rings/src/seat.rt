@@ -36,9 +36,9 @@ impl Model for Seat {
 
     ghost Value = { SeatView };
 
-    ghost view = { λ s. record { id = s.id; station = s.station; active = s.active; popped = received s.submissions; ahead = known_items s.submissions; noted = sent s.notes; free = known_free s.notes; spare = vec_capacity s.kept - vec_len s.kept } };
+    ghost view = { λ s. record { id = s.id; station = s.station; active = s.active; popped = received s.submissions; ahead = known_items s.submissions; kept = s.kept.items; noted = sent s.notes; free = known_free s.notes; spare = vec_capacity s.kept - vec_len s.kept } };
 
-    ghost invariant = { λ s. (s.kept.items ≡ sent s.notes) × (s.taken ≡ length (received s.submissions)) };
+    ghost invariant = { λ s. s.taken ≡ length (received s.submissions) };
 }
 
 impl Seat {
@@ -139,17 +139,19 @@ impl Seat {
         self.kept.reserve(count)
     }
 
-    /// Makes a note, for which there is room.
+    /// Makes a note, for which there is room. It goes into the client's ring while submissions are taken, and is kept.
     pub fn note(&mut self, note: Note)
         requires free { 0 < self.old.free }
         requires spare { 0 < self.old.spare }
         ensures { self.new ≡ with_note self.old note }
     {
-        self.notes.push_reserved(note);
+        if self.active {
+            self.notes.push_reserved(note);
+        }
         self.kept.push_reserved(note);
     }
 
-    /// Takes no more submissions.
+    /// Takes no more submissions, and puts no more notes into the client's ring.
     pub fn close(&mut self)
         ensures { self.new ≡ closed_seat self.old }
     {
@@ -158,7 +160,7 @@ impl Seat {
 
     /// The notes made so far.
     pub fn notes(&self) -> &[Note]
-        ensures { result.now ≡ self.now.noted }
+        ensures { result.now ≡ self.now.kept }
     {
         self.kept.as_slice()
     }

@@ -1,5 +1,5 @@
 -- What is found at a client's seat is what the segment shows of this client: its lists are those of the seats, place by place.
-use Rattle.std.proofs.Common.{◌≡◌, ℕ, ◌<◌, ◌≤◌, List, [], length, map, get_or, false, Option, None, sym, ◌∙◌, ap, subst, inl, inr, arith}
+use Rattle.std.proofs.Common.{◌≡◌, ℕ, ◌<◌, ◌≤◌, List, [], length, map, get_or, false, Option, None, sym, ◌∙◌, ap, subst, inl, inr, arith, Bool}
 use Rattle.std.proofs.lemmas.List.{length-map, get_or-map}
 use Rattle.std.specs.Prelude.{slice_index, ◌⊎◌}
 use Rattle.pgn_ids.specs.declared.address.Address.{Address}
@@ -22,23 +22,24 @@ same_seat-spare a b c h e m =
       station = ap (λ (x : SeatView). x.station) e ∙ h.station;
       active = ap (λ (x : SeatView). x.active) e ∙ h.active;
       popped = ap (λ (x : SeatView). x.popped) e ∙ h.popped;
+      kept = ap (λ (x : SeatView). x.kept) e ∙ h.kept;
       noted = ap (λ (x : SeatView). x.noted) e ∙ h.noted;
       free = omega (arith, f, h.free);
       spare = omega (arith, h.spare, m);
     }
 
-module _ (addresses : List Address) (xs : List Stored) (ts : List SeatView) (ds : List DoorView) (k : ℕ) (s : SeatView) (l : k < length ts) where
+module _ (stopped : Bool) (addresses : List Address) (xs : List Stored) (ts : List SeatView) (ds : List DoorView) (k : ℕ) (s : SeatView) (l : k < length ts) where
   own : (v : ClientView) → get_or (map client_of ts) k v ≡ client_of (get_or ts k s)
   own v = get_or-map client_of ts k s v l
 
   seen : get_or (map seat_seen ts) k [] ≡ (get_or ts k s).ahead
   seen = get_or-map seat_seen ts k s [] l
 
-  pub empty_at : ((get_or ts k s).active ≡ false) ⊎ (length (get_or ts k s).ahead ≡ 0) → IsEmptyAt (live_view addresses xs ts ds) k
+  pub empty_at : ((get_or ts k s).active ≡ false) ⊎ (length (get_or ts k s).ahead ≡ 0) → IsEmptyAt (live_view stopped addresses xs ts ds) k
   empty_at (inl e) = inr (inl (λ v. ap (λ (u : ClientView). u.active) (own v) ∙ e))
   empty_at (inr e) = inr (inr (ap length seen ∙ e))
 
-  pub waits_at : IsWaiting (get_or ts k s) → WaitsAt (live_view addresses xs ts ds) k
+  pub waits_at : IsWaiting (get_or ts k s) → WaitsAt (live_view stopped addresses xs ts ds) k
   waits_at h = record {
     within = rw length-map l;
     active = λ v. ap (λ (u : ClientView). u.active) (own v) ∙ h.0;
@@ -49,8 +50,8 @@ module _ (addresses : List Address) (xs : List Stored) (ts : List SeatView) (ds 
   free_is = get_or-map seat_free ts k s 0 l
 
 -- past the last seat there is no client
-pub none_at : (addresses : List Address) (xs : List Stored) (ts : List SeatView) (ds : List DoorView) (k : ℕ) → length ts ≤ k → IsEmptyAt (live_view addresses xs ts ds) k
-none_at addresses xs ts ds k l = inl (rw length-map l)
+pub none_at : (stopped : Bool) (addresses : List Address) (xs : List Stored) (ts : List SeatView) (ds : List DoorView) (k : ℕ) → length ts ≤ k → IsEmptyAt (live_view stopped addresses xs ts ds) k
+none_at stopped addresses xs ts ds k l = inl (rw length-map l)
 
 -- nothing but memory is lacking for the submission in front
 

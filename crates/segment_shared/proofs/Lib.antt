@@ -1,6 +1,7 @@
 pub mod Seats
 pub mod Trails
 pub mod Prefixes
+pub mod Working
 pub mod Doors
 pub mod Buffers
 pub mod Preparing

@@ -65,9 +65,9 @@ room_no_cause st (Pause q) r t = refl
 room_no_cause st (Resume q) r t = refl
 
 -- where the segment doesn't refuse a call, nothing but memory may be lacking
-pub lacks_memory : (addresses : List Address) (st : Segment) (xs : List Stored) (ss : List SeatView) (ds : List DoorView) (call : WorkerCall) (o : Option Refusal) → st ≡ (trail addresses xs).state → length xs < 1000000
-    → o ≡ None → ((room : Bool) → o ≡ refusal_of (called st (call_of call room))) → LacksMemory (live_view addresses xs ss ds) call
-lacks_memory addresses st xs ss ds call o at few none e = record {
+pub lacks_memory : (stopped : Bool) (addresses : List Address) (st : Segment) (xs : List Stored) (ss : List SeatView) (ds : List DoorView) (call : WorkerCall) (o : Option Refusal) → st ≡ (trail addresses xs).state → length xs < 1000000
+    → o ≡ None → ((room : Bool) → o ≡ refusal_of (called st (call_of call room))) → LacksMemory (live_view stopped addresses xs ss ds) call
+lacks_memory stopped addresses st xs ss ds call o at few none e = record {
   few = few;
   passes = λ room. subst (λ (s : Segment). refusal_of (called s (call_of call room)) ≡ None) at (sym (e room) ∙ none);
 }

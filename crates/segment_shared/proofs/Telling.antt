@@ -5,13 +5,14 @@ use Rattle.station_lanes.specs.declared.event.Event.{Event}
 use Rattle.segment_law.specs.Told.{same_port}
 use Rattle.segment_rings.specs.declared.words.Note.{Note}
 use Rattle.segment_rings.specs.declared.words.Delivery.{Delivery}
-use Rattle.segment_rings.specs.Views.{SeatView, DoorView, closed_seat, closed_door}
+use Rattle.segment_rings.specs.Views.{SeatView, DoorView, closed_seat, closed_door, noted_after}
 use Rattle.segment_rings.specs.Ends.{ClientEnd, InboxEnd}
 use Rattle.segment_shared.specs.Record.{notes_of}
 use Rattle.segment_shared.specs.Facts.{IdsFrom, NoneAt, PortsApart, note_all, give_all}
 use Rattle.segment_shared.specs.LiveView.{ClientView, PortView, client_of, port_of, port_after, clients_after}
 use Rattle.segment_shared.specs.Reports.{closing, gone, gone_clients, gone_ports}
 use Rattle.segment_shared.proofs.Doors.{none_at, same_port-sym, same_port-refl}
+use Rattle.segment_shared.proofs.Seats.{noted_none}
 
 pub ports_told : (es : List Event) (ds : List DoorView) → map port_of (give_all es ds) ≡ map (port_after es) (map port_of ds)
 ports_told es [] = refl
@@ -20,7 +21,7 @@ ports_told es (d ∷ ds) = ap (λ (ps : List PortView). port_after es (port_of d
 pub clients_told : (n : ℕ) (ns : List (ℕ × Note)) (ss : List SeatView) → IdsFrom n ss → map client_of (note_all ns ss) ≡ clients_after n ns (map client_of ss)
 clients_told n ns [] h = refl
 clients_told n ns (s ∷ ss) h =
-    let e : s.noted ++ notes_of s.id ns ≡ s.noted ++ notes_of n ns = ap (λ (k : ℕ). s.noted ++ notes_of k ns) h.0 in
+    let e : noted_after s.active s.noted (notes_of s.id ns) ≡ noted_after s.active s.noted (notes_of n ns) = ap (λ (k : ℕ). noted_after s.active s.noted (notes_of k ns)) h.0 in
     let r = clients_told (n + 1) ns ss h.1 in
     cc
 
@@ -31,7 +32,7 @@ ports_untold (p ∷ ps) = ap (λ (l : List Delivery). record p { pushed = l } �
 
 pub clients_untold : (n : ℕ) (cs : List ClientView) → clients_after n [] cs ≡ cs
 clients_untold n [] = refl
-clients_untold n (c ∷ cs) = ap (λ (l : List Note). record c { noted = l } ∷ clients_after (n + 1) [] cs) (append-nil c.noted) ∙ ap (λ (vs : List ClientView). c ∷ vs) (clients_untold (n + 1) cs)
+clients_untold n (c ∷ cs) = ap (λ (l : List Note). record c { noted = l } ∷ clients_after (n + 1) [] cs) (noted_none c.active c.noted) ∙ ap (λ (vs : List ClientView). c ∷ vs) (clients_untold (n + 1) cs)
 
 -- a client is gone
 pub client_gone : (k : ℕ) (ss : List SeatView) (d : SeatView) → k < length ss → map client_of (set ss k (closed_seat (get_or ss k d))) ≡ gone (map client_of ss) k

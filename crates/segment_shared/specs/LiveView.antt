@@ -17,7 +17,7 @@ use Rattle.segment_rings.specs.declared.words.Submission.{Submission}
 use Rattle.segment_rings.specs.declared.words.Note.{Note}
 use Rattle.segment_rings.specs.declared.words.Delivery.{Delivery}
 use Rattle.segment_rings.specs.Ends.{ClientEnd, new_client_end, InboxEnd, new_inbox_end}
-use Rattle.segment_rings.specs.Views.{SeatView, DoorView}
+use Rattle.segment_rings.specs.Views.{SeatView, DoorView, noted_after}
 use Rattle.segment_shared.specs.declared.call.Stored.{Stored}
 use Rattle.segment_shared.specs.declared.call.WorkerCall.{WorkerCall}
 use Rattle.segment_shared.specs.declared.refused.OpenRefused.{OpenRefused}
@@ -25,6 +25,7 @@ use Rattle.segment_shared.specs.declared.refused.OpenRefused.TheVariants as open
 use Rattle.segment_shared.specs.Words.{call_of, wanted_by}
 use Rattle.segment_shared.specs.Places.{times}
 use Rattle.segment_shared.specs.Record.{accepted, given, notes_of, settle_notes, trail}
+use Rattle.segment_shared.specs.Facts.{HasNotes}
 
 -- popped, noted: what went out of the client's submissions and into its notes
 pub record ClientView : Type 0 where
@@ -39,7 +40,7 @@ pub record PortView : Type 0 where
   pub pushed : List Delivery
 
 -- the stations' addresses, the stored calls, the clients by their ids, the ports in the order of opening; and of the rings:
--- the submissions that are seen, and the places that are known to be free
+-- the submissions that are seen, and the places that are known to be free; stopped: the workers are to end
 pub record LiveView : Type 0 where
   pub addresses : List Address
   pub calls : List Stored
@@ -48,6 +49,7 @@ pub record LiveView : Type 0 where
   pub seen : List (List Submission)
   pub note_free : List ℕ
   pub port_free : List ℕ
+  pub stopped : Bool
 
 abbrev pub client_of : SeatView → ClientView
 client_of s = record { station = s.station; active = s.active; popped = s.popped; noted = s.noted }
@@ -64,8 +66,8 @@ seat_free s = s.free
 abbrev pub door_free : DoorView → ℕ
 door_free d = d.free
 
-abbrev pub live_view : List Address → List Stored → List SeatView → List DoorView → LiveView
-live_view addresses xs ss ds = record {
+abbrev pub live_view : (stopped : Bool) → List Address → List Stored → List SeatView → List DoorView → LiveView
+live_view stopped addresses xs ss ds = record {
   addresses = addresses;
   calls = xs;
   clients = map client_of ss;
@@ -73,11 +75,17 @@ live_view addresses xs ss ds = record {
   seen = map seat_seen ss;
   note_free = map seat_free ss;
   port_free = map door_free ds;
+  stopped = stopped;
 }
+
+-- the same, but its workers are to end
+abbrev pub halted : LiveView → LiveView
+halted v = record v { stopped = true }
 
 -- the same but for what is known of the rings
 pub record SameLive (a b : LiveView) : Type 0 where
   pub addresses : b.addresses ≡ a.addresses
+  pub stopped : b.stopped ≡ a.stopped
   pub calls : b.calls ≡ a.calls
   pub clients : b.clients ≡ a.clients
   pub ports : b.ports ≡ a.ports
@@ -96,10 +104,10 @@ calls_after (Done es) xs x = xs ++ x ∷ []
 abbrev pub port_after : List Event → PortView → PortView
 port_after es p = record p { pushed = p.pushed ++ given p.port es }
 
--- the notes of the clients, of which the first has number n
+-- the notes of the clients, of which the first has number n; those of a client that is gone go nowhere
 abbrev pub clients_after : ℕ → List (ℕ × Note) → List ClientView → List ClientView
 clients_after n ns [] = []
-clients_after n ns (c ∷ cs) = record c { noted = c.noted ++ notes_of n ns } ∷ clients_after (n + 1) ns cs
+clients_after n ns (c ∷ cs) = record c { noted = noted_after c.active c.noted (notes_of n ns) } ∷ clients_after (n + 1) ns cs
 
 -- the clients after a call of nobody that is answered so
 abbrev pub told_clients : LiveView → Reply → List ClientView
@@ -122,6 +130,7 @@ pub record NoPlace (a b : LiveView) (call : WorkerCall) : Type 0 where
 pub record Applied (a b : LiveView) (call : WorkerCall) (r : Reply) (with_room : Bool) : Type 0 where
   pub reply : r ≡ reply_of (trail a.addresses a.calls).state (call_of call with_room)
   pub addresses : b.addresses ≡ a.addresses
+  pub stopped : b.stopped ≡ a.stopped
   pub calls : b.calls ≡ calls_after r a.calls (stored None (call_of call with_room))
   pub clients : b.clients ≡ told_clients a r
   pub ports : b.ports ≡ map (port_after (events_of r)) a.ports
@@ -148,6 +157,7 @@ clients_at a (c ∷ cs) = cond {A = ℕ} (c.station.0 == a.0) 1 0 + clients_at a
 pub record Attached (a b : LiveView) (station : Address) (c : ClientEnd) : Type 0 where
   pub client : c ≡ new_client_end (length a.clients) station
   pub addresses : b.addresses ≡ a.addresses
+  pub stopped : b.stopped ≡ a.stopped
   pub calls : b.calls ≡ a.calls
   pub clients : b.clients ≡ a.clients ++ new_client station ∷ []
   pub ports : b.ports ≡ a.ports
@@ -157,7 +167,7 @@ pub record Laws (v : LiveView) : Type 0 where
   pub few : length v.calls ≤ 1000000
   pub stands : StandsAt v.addresses (trail v.addresses v.calls).steps (trail v.addresses v.calls).state
   pub popped : (c : ℕ) (x : ClientView) → c < length v.clients → (slice_index_or v.clients c x).popped ≡ accepted c v.calls
-  pub noted : (c : ℕ) (x : ClientView) → c < length v.clients → (slice_index_or v.clients c x).noted ≡ notes_of c (trail v.addresses v.calls).noted
+  pub noted : (c : ℕ) (x : ClientView) → c < length v.clients → HasNotes (slice_index_or v.clients c x).active (slice_index_or v.clients c x).noted (notes_of c (trail v.addresses v.calls).noted)
   pub pushed : (k : ℕ) (p : PortView) → k < length v.ports → (slice_index_or v.ports k p).pushed ≡ given (slice_index_or v.ports k p).port (trail v.addresses v.calls).events
 
 abbrev pub new_port_view : PortId → PortView
@@ -175,6 +185,7 @@ pub record OpenedFor (a b : LiveView) (station : Address) (pgn max_len : ℕ) (i
   pub inbox : i ≡ new_inbox_end i.port i.spare
   pub reply : Opened i.port ≡ reply_of (trail a.addresses a.calls).state (Open station pgn max_len)
   pub addresses : b.addresses ≡ a.addresses
+  pub stopped : b.stopped ≡ a.stopped
   pub calls : b.calls ≡ a.calls ++ stored None (Open station pgn max_len) ∷ []
   pub clients : b.clients ≡ a.clients
   pub ports : b.ports ≡ a.ports ++ new_port_view i.port ∷ []

@@ -96,6 +96,7 @@ pub record SentFor (a b : LiveView) (c n : ℕ) (x : Submission) : Type 0 where
   pub within : c < length a.clients
   pub active : (v : ClientView) → (slice_index_or a.clients c v).active ≡ true
   pub addresses : b.addresses ≡ a.addresses
+  pub stopped : b.stopped ≡ a.stopped
   pub clients : (v : ClientView) → b.clients ≡ slice_set a.clients c (popped_client (slice_index_or a.clients c v) x)
   pub calls : (v : ClientView) → b.calls ≡ a.calls ++ stored (Some c) (send_call (slice_index_or a.clients c v).station x) ∷ []
   pub reply : (v : ClientView) → Sent n ≡ reply_of (trail a.addresses a.calls).state (send_call (slice_index_or a.clients c v).station x)

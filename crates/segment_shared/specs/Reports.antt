@@ -71,6 +71,7 @@ pub record ClosedFor (a b : LiveView) (i j : InboxEnd) (r : Closed) : Type 0 whe
   pub rest : i.received ++ r.rest.items ≡ given i.port (trail a.addresses a.calls).events
   pub inbox : j ≡ closes i r.rest.items j.spare
   pub addresses : b.addresses ≡ a.addresses
+  pub stopped : b.stopped ≡ a.stopped
   pub calls : b.calls ≡ calls_after (reply_of (trail a.addresses a.calls).state (Close i.port)) a.calls (stored None (Close i.port))
   pub clients : b.clients ≡ told_clients a (reply_of (trail a.addresses a.calls).state (Close i.port))
   pub ports : b.ports ≡ map (closing i.port) a.ports
@@ -97,9 +98,11 @@ abbrev pub gone_ports : List InboxEnd → List PortView → List PortView
 gone_ports [] ps = ps
 gone_ports (i ∷ is) ps = gone_ports is (map (closing i.port) ps)
 
--- the same record, of which these clients and ports are gone
+-- the same record, of which these clients and ports are gone: no later note goes into a ring of these clients, and no delivery into
+-- one of these ports
 pub record Retired (a b : LiveView) (cs : List ClientEnd) (is : List InboxEnd) : Type 0 where
   pub addresses : b.addresses ≡ a.addresses
+  pub stopped : b.stopped ≡ a.stopped
   pub calls : b.calls ≡ a.calls
   pub clients : b.clients ≡ gone_clients cs a.clients
   pub ports : b.ports ≡ gone_ports is a.ports

@@ -39,7 +39,7 @@ impl Model for Live {
 
     ghost Value = { LiveView };
 
-    ghost view = { λ s. live_view s.addresses.items s.calls.items s.seats.items s.doors.items };
+    ghost view = { λ s. live_view s.stopped s.addresses.items s.calls.items s.seats.items s.doors.items };
 
     ghost invariant = { λ s. Holds s.addresses.items s.segment s.calls.items s.owed.items s.seats.items s.doors.items };
 }
@@ -51,14 +51,14 @@ impl Live {
     ghost use Rattle.segment_law.specs.Record.{StandsAt};
     ghost use Rattle.segment_law.specs.declared.reply.Reply.TheVariants.{Refused};
     ghost use Rattle.segment_law.specs.declared.refusal.Refusal.TheVariants.{TraceFull};
-    ghost use Rattle.segment_shared.specs.Record.{Trail, trail, given, notes_of};
-    ghost use Rattle.segment_shared.specs.LiveView.{ClientView, live_view, SameLive, Applied, LacksMemory, Attached, Laws, OpenedFor, IsOpenCause};
+    ghost use Rattle.segment_shared.specs.Record.{Trail, trail, accepted, given, notes_of};
+    ghost use Rattle.segment_shared.specs.LiveView.{ClientView, live_view, halted, SameLive, Applied, LacksMemory, Attached, Laws, OpenedFor, IsOpenCause};
     ghost use Rattle.segment_shared.specs.Offers.{AcceptedAs, LacksMemoryFor};
     ghost use Rattle.segment_shared.specs.Reports.{HasPort};
 
     /// A new segment with stations of these addresses, no clients and no ports.
     pub fn new(alloc: Global, addresses: &[Address]) -> Result<Live, NewRefused>
-        ensures ok { IfOk result (λ live. live ≡ live_view addresses.now [] [] []) }
+        ensures ok { IfOk result (λ live. live ≡ live_view false addresses.now [] [] []) }
         ensures bad { IsErrOf result NewRefused.BadAddresses ↔ (are_addresses addresses.now ≡ false) }
     {
         let segment = match Segment::new(alloc, addresses) {
@@ -304,6 +304,14 @@ impl Live {
         Some(self.seats[client as usize].notes())
     }
 
+    // How many messages of a client were accepted.
+    pub(crate) fn taken_of(&self, client: u64) -> usize
+        requires { client < length self.now.clients }
+        ensures { result ≡ length (accepted client self.now.calls) }
+    {
+        self.seats[client as usize].taken() as usize
+    }
+
     /// What a port was given, if it was opened here.
     pub fn given_to(&self, port: PortId) -> Option<&[Delivery]>
         ensures { MatchOption result (HasPort self.now.ports port → ⊥) (λ ds. HasPort self.now.ports port × (ds.now ≡ given port (trail self.now.addresses self.now.calls).events)) }
@@ -316,13 +324,15 @@ impl Live {
 
     /// The workers are to end.
     pub fn stop(&mut self)
-        ensures { self.new ≡ self.old }
+        ensures { self.new ≡ halted self.old }
     {
         self.stopped = true;
     }
 
     /// Whether the workers are to end.
-    pub fn is_stopped(&self) -> bool {
+    pub fn is_stopped(&self) -> bool
+        ensures { result ≡ self.now.stopped }
+    {
         self.stopped
     }
 }

@@ -28,7 +28,7 @@ pub invariant_of-self : goal.invariant_of-self
 invariant_of-self c = rw (c.make_ready.ensures.calls, c.make_ready.ensures.owed) (holds-same _ _ _ _ _ _ _ _ c.make_ready.ensures.seats (same_doors-refl _) c.self.invariant)
 
 pub returns-in_err-make_ready-clause-err : goal.returns-in_err-make_ready-clause-err
-returns-in_err-make_ready-clause-err c = rw (← c.self.view_is, c.make_ready.ensures.calls) (on_err _ (same_live _ _ _ _ _ _ c.make_ready.ensures.seats (same_doors-refl _)))
+returns-in_err-make_ready-clause-err c = rw (← c.self.view_is, c.make_ready.ensures.calls) (on_err _ (same_live _ _ _ _ _ _ _ c.make_ready.ensures.seats (same_doors-refl _)))
 
 pub returns-in_err-make_ready-clause-not_refused : goal.returns-in_err-make_ready-clause-not_refused
 returns-in_err-make_ready-clause-not_refused c =
@@ -43,7 +43,7 @@ returns-in_err-make_ready-clause-not_refused c =
     let l : k < length ss = omega (arith, c.self.inside.seats.ok.0, c.len.ensures) in
     let l' : k < length ts = omega (arith, c.make_ready.ensures.count) in
     let lacks : LacksRoomToSend st xs ws ts k = c.in_err-make_ready.ensures.err in
-    rw (← c.self.view_is, c.make_ready.ensures.calls) (on_err _ (lacks_memory_for addrs st xs ws ss ts ds ds k nobody c.self.invariant.at c.self.invariant.owes l' (clients-same ss ts c.make_ready.ensures.seats) lacks))
+    rw (← c.self.view_is, c.make_ready.ensures.calls) (on_err _ (lacks_memory_for c.self.inside.stopped addrs st xs ws ss ts ds ds k nobody c.self.invariant.at c.self.invariant.owes l' (clients-same ss ts c.make_ready.ensures.seats) lacks))
 
 pub returns-in_err-number-in-Send-clause-not_refused : goal.returns-in_err-number-in-Send-clause-not_refused
 returns-in_err-number-in-Send-clause-not_refused c =
@@ -62,7 +62,7 @@ returns-in_err-number-in-Send-clause-not_refused c =
     let passes : IsOk (called st c.in-Send.call) = c.in_err-number-in-Send.ensures.not_refused in
     let cause : (s : SeatView) → IsCauseFor st (get_or ts k s) None = λ s. let q = r.1 s in (q.0, q.1, no_cause (called st (send_call (get_or ts k s).station q.0)) (subst (λ (u : Call). IsOk (called st u)) q.2 passes)) in
     let lacks : LacksRoomToSend st xs ws ts k = ((r.0.0, λ s. ((r.0.1 s).0, (r.0.1 s).1)), cause) in
-    rw (← c.self.view_is, c.make_ready.ensures.calls) (on_err _ (lacks_memory_for addrs st xs ws ss ts ds ds k nobody c.self.invariant.at c.self.invariant.owes l' (clients-same ss ts c.make_ready.ensures.seats) lacks))
+    rw (← c.self.view_is, c.make_ready.ensures.calls) (on_err _ (lacks_memory_for c.self.inside.stopped addrs st xs ws ss ts ds ds k nobody c.self.invariant.at c.self.invariant.owes l' (clients-same ss ts c.make_ready.ensures.seats) lacks))
 
 pub invariant_of-self-in-Empty : goal.invariant_of-self-in-Empty
 invariant_of-self-in-Empty c = rw (c.make_ready.ensures.calls, c.make_ready.ensures.owed) (holds-same _ _ _ _ _ _ _ _ c.make_ready.ensures.seats (same_doors-refl _) c.self.invariant)
@@ -77,7 +77,7 @@ pub invariant_of-self-in_err-number-in-Send : goal.invariant_of-self-in_err-numb
 invariant_of-self-in_err-number-in-Send c = rw (c.in_err-number-in-Send.ensures.err, c.make_ready.ensures.calls, c.make_ready.ensures.owed) (holds-same _ _ _ _ _ _ _ _ c.make_ready.ensures.seats (same_doors-refl _) c.self.invariant)
 
 pub returns-in_err-number-in-Send-clause-err : goal.returns-in_err-number-in-Send-clause-err
-returns-in_err-number-in-Send-clause-err c = rw (← c.self.view_is, c.make_ready.ensures.calls) (on_err _ (same_live _ _ _ _ _ _ c.make_ready.ensures.seats (same_doors-refl _)))
+returns-in_err-number-in-Send-clause-err c = rw (← c.self.view_is, c.make_ready.ensures.calls) (on_err _ (same_live _ _ _ _ _ _ _ c.make_ready.ensures.seats (same_doors-refl _)))
 
 pub invariant_of-self-in-Refused : goal.invariant_of-self-in-Refused
 invariant_of-self-in-Refused c =
@@ -98,7 +98,7 @@ returns-in-Empty-clause-accepted c =
     let l : k < length ss = omega (arith, c.self.inside.seats.ok.0, c.len.ensures) in
     let l' : k < length ts = omega (arith, c.make_ready.ensures.count) in
     let r = subst (λ (u : Ready). IsReadyToSend c.self.inside.segment xs ws ts k u) c.in-Empty.is c.in_ok-make_ready.ensures.ready in
-    rw (← c.self.view_is, c.make_ready.ensures.calls) (same_live _ _ _ _ _ _ c.make_ready.ensures.seats (same_doors-refl _), empty_at addrs xs ts ds k d l' (r d))
+    rw (← c.self.view_is, c.make_ready.ensures.calls) (same_live _ _ _ _ _ _ _ c.make_ready.ensures.seats (same_doors-refl _), empty_at c.self.inside.stopped addrs xs ts ds k d l' (r d))
 
 pub returns-in-Owed-clause-accepted : goal.returns-in-Owed-clause-accepted
 returns-in-Owed-clause-accepted c =
@@ -113,9 +113,9 @@ returns-in-Owed-clause-accepted c =
     let l : k < length ss = omega (arith, c.self.inside.seats.ok.0, c.len.ensures) in
     let l' : k < length ts = omega (arith, c.make_ready.ensures.count) in
     let r = subst (λ (u : Ready). IsReadyToSend c.self.inside.segment xs ws ts k u) c.in-Owed.is c.in_ok-make_ready.ensures.ready in
-    let f : get_or (map seat_free ts) k 0 ≡ (get_or ts k d).free = free_is addrs xs ts ds k d l' in
+    let f : get_or (map seat_free ts) k 0 ≡ (get_or ts k d).free = free_is c.self.inside.stopped addrs xs ts ds k d l' in
     let o : owed_by k ws ≡ owed_by k (trail addrs xs).owed = ap (owed_by k) c.self.invariant.owes in
-    rw (← c.self.view_is, c.make_ready.ensures.calls) (same_live _ _ _ _ _ _ c.make_ready.ensures.seats (same_doors-refl _), waits_at addrs xs ts ds k d l' (r d).0, omega (arith, f, o, (r d).1))
+    rw (← c.self.view_is, c.make_ready.ensures.calls) (same_live _ _ _ _ _ _ _ c.make_ready.ensures.seats (same_doors-refl _), waits_at c.self.inside.stopped addrs xs ts ds k d l' (r d).0, omega (arith, f, o, (r d).1))
 
 pub returns-in-Full-clause-accepted : goal.returns-in-Full-clause-accepted
 returns-in-Full-clause-accepted c =
@@ -130,9 +130,9 @@ returns-in-Full-clause-accepted c =
     let l : k < length ss = omega (arith, c.self.inside.seats.ok.0, c.len.ensures) in
     let l' : k < length ts = omega (arith, c.make_ready.ensures.count) in
     let r = subst (λ (u : Ready). IsReadyToSend c.self.inside.segment xs ws ts k u) c.in-Full.is c.in_ok-make_ready.ensures.ready in
-    let f : get_or (map seat_free ts) k 0 ≡ (get_or ts k d).free = free_is addrs xs ts ds k d l' in
+    let f : get_or (map seat_free ts) k 0 ≡ (get_or ts k d).free = free_is c.self.inside.stopped addrs xs ts ds k d l' in
     let o : owed_by k ws ≡ owed_by k (trail addrs xs).owed = ap (owed_by k) c.self.invariant.owes in
-    rw (← c.self.view_is, c.make_ready.ensures.calls) (same_live _ _ _ _ _ _ c.make_ready.ensures.seats (same_doors-refl _), waits_at addrs xs ts ds k d l' (r.1 d).0, omega (arith, f, o, (r.1 d).1), inl (refl, r.0))
+    rw (← c.self.view_is, c.make_ready.ensures.calls) (same_live _ _ _ _ _ _ _ c.make_ready.ensures.seats (same_doors-refl _), waits_at c.self.inside.stopped addrs xs ts ds k d l' (r.1 d).0, omega (arith, f, o, (r.1 d).1), inl (refl, r.0))
 
 pub returns-in-Refused-clause-accepted : goal.returns-in-Refused-clause-accepted
 returns-in-Refused-clause-accepted c =
@@ -147,7 +147,7 @@ returns-in-Refused-clause-accepted c =
     let l : k < length ss = omega (arith, c.self.inside.seats.ok.0, c.len.ensures) in
     let l' : k < length ts = omega (arith, c.make_ready.ensures.count) in
     let r = subst (λ (u : Ready). IsReadyToSend c.self.inside.segment xs ws ts k u) c.in-Send.is c.in_ok-make_ready.ensures.ready in
-    let f : get_or (map seat_free ts) k 0 ≡ (get_or ts k d).free = free_is addrs xs ts ds k d l' in
+    let f : get_or (map seat_free ts) k 0 ≡ (get_or ts k d).free = free_is c.self.inside.stopped addrs xs ts ds k d l' in
     let o : owed_by k ws ≡ owed_by k (trail addrs xs).owed = ap (owed_by k) c.self.invariant.owes in
     let st = c.self.inside.segment in
     let s = get_or ts k d in
@@ -155,10 +155,10 @@ returns-in-Refused-clause-accepted c =
     let e = sym c.in-Refused.is ∙ c.in_ok-number-in-Send.ensures.reply ∙ ap (reply_of st) q.2 in
     let at : s ≡ get_or ts k s = get_or_default ts k d s l' in
     rw (← c.self.view_is, c.make_ready.ensures.calls) (
-      same_live _ _ _ _ _ _ c.make_ready.ensures.seats (same_doors-refl _),
-      waits_at addrs xs ts ds k d l' (r.0.1 d).0,
+      same_live _ _ _ _ _ _ _ c.make_ready.ensures.seats (same_doors-refl _),
+      waits_at c.self.inside.stopped addrs xs ts ds k d l' (r.0.1 d).0,
       omega (arith, f, o, (r.0.1 d).1),
-      inr (refused_send addrs st xs ss ts ds ds k q.0 s _ c.self.invariant.at l' at (clients-same ss ts c.make_ready.ensures.seats) r.0.0 q.1 e),
+      inr (refused_send c.self.inside.stopped addrs st xs ss ts ds ds k q.0 s _ c.self.invariant.at l' at (clients-same ss ts c.make_ready.ensures.seats) r.0.0 q.1 e),
     )
 
 pub store-requires-clause-few : goal.store-requires-clause-few
@@ -235,7 +235,7 @@ returns-in-Sent-clause-accepted c =
     let call : c.in-Send.call ≡ send_call s.station x = q.2 ∙ ap (send_call s.station) same in
     let rep : reply_of st (send_call s.station x) ≡ Sent c.in-Sent.number = ap (reply_of st) (sym call) ∙ sym c.in_ok-number-in-Send.ensures.reply ∙ c.in-Sent.is in
     let at : s ≡ get_or ts k s = get_or_default ts k d s l' in
-    rw (← c.self.view_is, e.1.calls, e.1.seats, c.make_ready.ensures.calls) (x, sent_for addrs st xs ss ts ds ds k c.in-Sent.number x e.1.rest s c.self.invariant.at l' at (clients-same ss ts c.make_ready.ensures.seats) refl (r.0.1 d).0.0 rep)
+    rw (← c.self.view_is, e.1.calls, e.1.seats, c.make_ready.ensures.calls) (x, sent_for c.self.inside.stopped addrs st xs ss ts ds ds k c.in-Sent.number x e.1.rest s c.self.invariant.at l' at (clients-same ss ts c.make_ready.ensures.seats) refl (r.0.1 d).0.0 rep)
 
 pub unreachable-requires-in-Done : goal.unreachable-requires-in-Done
 unreachable-requires-in-Done c =
@@ -263,15 +263,15 @@ returns-in-NotSent-clause-accepted c =
     let l : k < length ss = omega (arith, c.self.inside.seats.ok.0, c.len.ensures) in
     let l' : k < length ts = omega (arith, c.make_ready.ensures.count) in
     let r = subst (λ (u : Ready). IsReadyToSend st xs ws ts k u) c.in-NotSent.is c.in_ok-make_ready.ensures.ready in
-    let f : get_or (map seat_free ts) k 0 ≡ (get_or ts k d).free = free_is addrs xs ts ds k d l' in
+    let f : get_or (map seat_free ts) k 0 ≡ (get_or ts k d).free = free_is c.self.inside.stopped addrs xs ts ds k d l' in
     let o : owed_by k ws ≡ owed_by k (trail addrs xs).owed = ap (owed_by k) c.self.invariant.owes in
     let s = get_or ts k d in
     let q : IsCauseFor st s (Some c.in-NotSent.refusal) = r.1 d in
     let e : Refused c.in-NotSent.refusal ≡ reply_of st (send_call s.station q.0) = refused_reply st c.in-NotSent.refusal (called st (send_call s.station q.0)) q.2 in
     let at : s ≡ get_or ts k s = get_or_default ts k d s l' in
     rw (← c.self.view_is, c.make_ready.ensures.calls) (
-      same_live _ _ _ _ _ _ c.make_ready.ensures.seats (same_doors-refl _),
-      waits_at addrs xs ts ds k d l' (r.0.1 d).0,
+      same_live _ _ _ _ _ _ _ c.make_ready.ensures.seats (same_doors-refl _),
+      waits_at c.self.inside.stopped addrs xs ts ds k d l' (r.0.1 d).0,
       omega (arith, f, o, (r.0.1 d).1),
-      inr (refused_send addrs st xs ss ts ds ds k q.0 s _ c.self.invariant.at l' at (clients-same ss ts c.make_ready.ensures.seats) r.0.0 q.1 e),
+      inr (refused_send c.self.inside.stopped addrs st xs ss ts ds ds k q.0 s _ c.self.invariant.at l' at (clients-same ss ts c.make_ready.ensures.seats) r.0.0 q.1 e),
     )

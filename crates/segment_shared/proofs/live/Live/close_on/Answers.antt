@@ -54,7 +54,7 @@ returns-then-len-ge-MOST_CALLS-clause-refused c =
     let is : c.deliveries.result.now ≡ given i.port es = c.deliveries.ensures ∙ ap (λ (x : DoorView). x.pushed) c.index.ensures ∙ pushed_at k es ds d here.0 c.self.invariant.gives ∙ ap (λ (q : PortId). given q es) (here.1 d ∙ c.port.ensures) in
     let b : IsPrefix c.received.result.now c.deliveries.result.now = c.begins.ensures.0 c.if-not-begins.false in
     let begun : IsPrefix i.received (given i.port es) = subst (IsPrefix i.received) is (subst (λ (u : List Delivery). IsPrefix u c.deliveries.result.now) c.received.ensures b) in
-    let agrees : InboxAgrees (live_view addrs xs ss ds) i = inbox_agrees addrs xs ss ds k i here.0 (λ e. here.1 e ∙ c.port.ensures) begun in
+    let agrees : InboxAgrees (live_view c.self.inside.stopped addrs xs ss ds) i = inbox_agrees c.self.inside.stopped addrs xs ss ds k i here.0 (λ e. here.1 e ∙ c.port.ensures) begun in
     let full : 1000000 ≤ length xs = omega (arith, c.self.inside.calls.ok.0, c.len.ensures, c.if-len-ge-MOST_CALLS.true) in
     rw (← c.self.view_is) (inr (refl, agrees, full))
 
@@ -72,7 +72,7 @@ returns-in-Err-clause-refused c =
     let is : c.deliveries.result.now ≡ given i.port es = c.deliveries.ensures ∙ ap (λ (x : DoorView). x.pushed) c.index.ensures ∙ pushed_at k es ds d here.0 c.self.invariant.gives ∙ ap (λ (q : PortId). given q es) (here.1 d ∙ c.port.ensures) in
     let b : IsPrefix c.received.result.now c.deliveries.result.now = c.begins.ensures.0 c.if-not-begins.false in
     let begun : IsPrefix i.received (given i.port es) = subst (IsPrefix i.received) is (subst (λ (u : List Delivery). IsPrefix u c.deliveries.result.now) c.received.ensures b) in
-    let agrees : InboxAgrees (live_view addrs xs ss ds) i = inbox_agrees addrs xs ss ds k i here.0 (λ e. here.1 e ∙ c.port.ensures) begun in
+    let agrees : InboxAgrees (live_view c.self.inside.stopped addrs xs ss ds) i = inbox_agrees c.self.inside.stopped addrs xs ss ds k i here.0 (λ e. here.1 e ∙ c.port.ensures) begun in
     let few : length xs < 1000000 = omega (arith, c.self.inside.calls.ok.0, c.len.ensures, c.if-len-ge-MOST_CALLS.false) in
     rw (← c.self.view_is) (agrees, few)
 

@@ -34,7 +34,7 @@ rest_after-requires c =
     let k = c.args.k in
     let i = c.args.inbox.now in
     let steps = (trail addrs xs).steps in
-    let v : LiveView = live_view addrs xs ss ds in
+    let v : LiveView = live_view c.self.inside.stopped addrs xs ss ds in
     let within : k < length ds = rw length-map at (subst (λ (u : LiveView). k < length u.ports) (sym c.self.view_is) c.requires.within) in
     let port_at : (q : PortView) → (get_or (map port_of ds) k q).port ≡ i.port = subst (λ (u : LiveView). (q : PortView) → (get_or u.ports k q).port ≡ i.port) (sym c.self.view_is) c.requires.port in
     let d = c.index.result.now in
@@ -55,7 +55,7 @@ tell-told-requires-clause-takes c =
     let p = c.port-port.result in
     let next = c.make.new.segment in
     let steps = (trail addrs xs).steps in
-    let v : LiveView = live_view addrs xs ss ds in
+    let v : LiveView = live_view c.self.inside.stopped addrs xs ss ds in
     let within : k < length ds = rw length-map at (subst (λ (u : LiveView). k < length u.ports) (sym c.self.view_is) c.requires.within) in
     let port_at : (q : PortView) → (get_or (map port_of ds) k q).port ≡ i.port = subst (λ (u : LiveView). (q : PortView) → (get_or u.ports k q).port ≡ i.port) (sym c.self.view_is) c.requires.port in
     let es = c.in-Done.events in
@@ -77,7 +77,7 @@ tell-told-requires-clause-enough c =
     let p = c.port-port.result in
     let next = c.make.new.segment in
     let steps = (trail addrs xs).steps in
-    let v : LiveView = live_view addrs xs ss ds in
+    let v : LiveView = live_view c.self.inside.stopped addrs xs ss ds in
     let within : k < length ds = rw length-map at (subst (λ (u : LiveView). k < length u.ports) (sym c.self.view_is) c.requires.within) in
     let port_at : (q : PortView) → (get_or (map port_of ds) k q).port ≡ i.port = subst (λ (u : LiveView). (q : PortView) → (get_or u.ports k q).port ≡ i.port) (sym c.self.view_is) c.requires.port in
     let es = c.in-Done.events in
@@ -99,7 +99,7 @@ hand_over-requires-clause-within c =
     let p = c.port-port.result in
     let next = c.make.new.segment in
     let steps = (trail addrs xs).steps in
-    let v : LiveView = live_view addrs xs ss ds in
+    let v : LiveView = live_view c.self.inside.stopped addrs xs ss ds in
     let within : k < length ds = rw length-map at (subst (λ (u : LiveView). k < length u.ports) (sym c.self.view_is) c.requires.within) in
     let port_at : (q : PortView) → (get_or (map port_of ds) k q).port ≡ i.port = subst (λ (u : LiveView). (q : PortView) → (get_or u.ports k q).port ≡ i.port) (sym c.self.view_is) c.requires.port in
     let l : length c.tell-told.new.doors.items ≡ length ds = ap length c.tell-told.ensures.doors ∙ length-give_all c.in-Done.events ds in
@@ -118,7 +118,7 @@ invariant_of-self-in-Done c =
     let p = c.port-port.result in
     let next = c.make.new.segment in
     let steps = (trail addrs xs).steps in
-    let v : LiveView = live_view addrs xs ss ds in
+    let v : LiveView = live_view c.self.inside.stopped addrs xs ss ds in
     let within : k < length ds = rw length-map at (subst (λ (u : LiveView). k < length u.ports) (sym c.self.view_is) c.requires.within) in
     let port_at : (q : PortView) → (get_or (map port_of ds) k q).port ≡ i.port = subst (λ (u : LiveView). (q : PortView) → (get_or u.ports k q).port ≡ i.port) (sym c.self.view_is) c.requires.port in
     let es = c.in-Done.events in
@@ -152,7 +152,7 @@ invariant_of-self-in-Refused c =
     let p = c.port-port.result in
     let next = c.make.new.segment in
     let steps = (trail addrs xs).steps in
-    let v : LiveView = live_view addrs xs ss ds in
+    let v : LiveView = live_view c.self.inside.stopped addrs xs ss ds in
     let within : k < length ds = rw length-map at (subst (λ (u : LiveView). k < length u.ports) (sym c.self.view_is) c.requires.within) in
     let port_at : (q : PortView) → (get_or (map port_of ds) k q).port ≡ i.port = subst (λ (u : LiveView). (q : PortView) → (get_or u.ports k q).port ≡ i.port) (sym c.self.view_is) c.requires.port in
     let f = c.in_ok-events.ensures.follows addrs steps c.self.invariant.stands in
@@ -174,7 +174,7 @@ returns-in-Done-clause-closed c =
     let p = c.port-port.result in
     let next = c.make.new.segment in
     let steps = (trail addrs xs).steps in
-    let v : LiveView = live_view addrs xs ss ds in
+    let v : LiveView = live_view c.self.inside.stopped addrs xs ss ds in
     let within : k < length ds = rw length-map at (subst (λ (u : LiveView). k < length u.ports) (sym c.self.view_is) c.requires.within) in
     let port_at : (q : PortView) → (get_or (map port_of ds) k q).port ≡ i.port = subst (λ (u : LiveView). (q : PortView) → (get_or u.ports k q).port ≡ i.port) (sym c.self.view_is) c.requires.port in
     let es = c.in-Done.events in
@@ -190,7 +190,7 @@ returns-in-Done-clause-closed c =
     let j = c.hand_over.new.inbox in
     let inbox : j ≡ closes i c.in_ok-rest.rest.items j.spare = c.hand_over.ensures.inbox ∙ ap (λ (x : InboxEnd). closes x c.in_ok-kept.kept.items j.spare) c.reserve.ensures.same ∙ ap (λ (u : List Delivery). closes i u j.spare) same in
     let told : map client_of c.tell-told.new.seats.items ≡ told_clients v (reply_of st (Close p)) =
-    told_as addrs xs ws ss c.tell-told.new.seats.items ds es c.self.invariant.ids c.self.invariant.owes c.tell-told.ensures.seats ∙ ap (told_clients v) (sym rep) in
+    told_as c.self.inside.stopped addrs xs ws ss c.tell-told.new.seats.items ds es c.self.invariant.ids c.self.invariant.owes c.tell-told.ensures.seats ∙ ap (told_clients v) (sym rep) in
     let none : give_all es ds ≡ ds = give_all_unplaced es ds f.ports in
     let gs = c.tell-told.new.doors.items in
     let gs_is : gs ≡ ds = c.tell-told.ensures.doors ∙ none in
@@ -198,7 +198,7 @@ returns-in-Done-clause-closed c =
     let at_k : (get_or ds k d0).port ≡ p = sym (ap (λ (x : PortView). x.port) (get_or-map port_of ds k d0 (port_of d0) within)) ∙ port_at (port_of d0) ∙ sym c.port-port.ensures in
     let shown : map port_of c.hand_over.new.doors.items ≡ map (closing p) (map port_of ds) =
     ap (map port_of) (c.hand_over.ensures.doors d0) ∙ ap (λ (u : List DoorView). map port_of (set u k (closed_door (get_or u k d0)))) gs_is ∙ ports_closed p k ds d0 within at_k c.self.invariant.apart in
-    rw (← c.self.view_is) (closed_for addrs st xs _ ss _ ds _ i j p _ c.self.invariant.at few (k, rw length-map within, port_at) c.port-port.ensures refl got inbox (calls ∙ sym (ap (λ (u : Reply). calls_after u xs (stored None (Close p))) rep)) told shown)
+    rw (← c.self.view_is) (closed_for c.self.inside.stopped addrs st xs _ ss _ ds _ i j p _ c.self.invariant.at few (k, rw length-map within, port_at) c.port-port.ensures refl got inbox (calls ∙ sym (ap (λ (u : Reply). calls_after u xs (stored None (Close p))) rep)) told shown)
 
 pub returns-in-Refused-clause-closed : goal.returns-in-Refused-clause-closed
 returns-in-Refused-clause-closed c =
@@ -213,7 +213,7 @@ returns-in-Refused-clause-closed c =
     let p = c.port-port.result in
     let next = c.make.new.segment in
     let steps = (trail addrs xs).steps in
-    let v : LiveView = live_view addrs xs ss ds in
+    let v : LiveView = live_view c.self.inside.stopped addrs xs ss ds in
     let within : k < length ds = rw length-map at (subst (λ (u : LiveView). k < length u.ports) (sym c.self.view_is) c.requires.within) in
     let port_at : (q : PortView) → (get_or (map port_of ds) k q).port ≡ i.port = subst (λ (u : LiveView). (q : PortView) → (get_or u.ports k q).port ≡ i.port) (sym c.self.view_is) c.requires.port in
     let few : length xs < 1000000 = subst (λ (u : LiveView). length u.calls < 1000000) (sym c.self.view_is) c.requires.few in
@@ -228,4 +228,4 @@ returns-in-Refused-clause-closed c =
     let d0 = new_door p 0 0 in
     let at_k : (get_or ds k d0).port ≡ p = sym (ap (λ (x : PortView). x.port) (get_or-map port_of ds k d0 (port_of d0) within)) ∙ port_at (port_of d0) ∙ sym c.port-port.ensures in
     let shown : map port_of c.hand_over-in-Refused.new.doors.items ≡ map (closing p) (map port_of ds) = ap (map port_of) (c.hand_over-in-Refused.ensures.doors d0) ∙ ports_closed p k ds d0 within at_k c.self.invariant.apart in
-    rw (← c.self.view_is) (closed_for addrs st xs _ ss _ ds _ i j p _ c.self.invariant.at few (k, rw length-map within, port_at) c.port-port.ensures refl got inbox (c.reserve-2.ensures.items ∙ sym (ap (λ (u : Reply). calls_after u xs (stored None (Close p))) rep)) told shown)
+    rw (← c.self.view_is) (closed_for c.self.inside.stopped addrs st xs _ ss _ ds _ i j p _ c.self.invariant.at few (k, rw length-map within, port_at) c.port-port.ensures refl got inbox (c.reserve-2.ensures.items ∙ sym (ap (λ (u : Reply). calls_after u xs (stored None (Close p))) rep)) told shown)
