@@ -7,15 +7,16 @@ use Rattle.script_lines.specs.declared.lines.LineRead.{LineRead}
 use Rattle.script_lines.specs.declared.lines.LineRead.TheVariants.{End, Line, TooLong}
 use Rattle.script_lines.specs.declared.lines.ReadError.{ReadError}
 use Rattle.script_lines.specs.declared.lines.ReadError.TheVariants as reads
+use Rattle.script_lines.specs.Faults.{cause_of, read_cause}
+use Rattle.script_lines.specs.declared.fault.Cause.TheVariants as causes
 use Rattle.script_commands.specs.Faults.{limit_fault}
 use Rattle.script_commands.specs.declared.fault.Fault.{Fault}
 use Rattle.script_commands.specs.declared.fault.Fault.TheVariants.{TooManyLines}
 use Rattle.script_commands.specs.declared.fault.LineError.{LineError}
 use Rattle.script_commands.specs.declared.fault.LineError.TheVariants as errors
 use Rattle.bus_live.specs.Plan.{Plan, Planned, Step, planned, planned_from, then_rest, numbered_line, obeyed_line, Done}
-use Rattle.bus_live.specs.Ending.{cause_of, read_cause, Begins, IsRead}
+use Rattle.bus_live.specs.Ending.{Begins, IsRead}
 use Rattle.bus_live.proofs.TextsGrow.{begins_as, begins_all}
-use Rattle.bus_live.specs.declared.running.Cause.TheVariants as causes
 
 not_above : (most n : ℕ) → n ≤ most → nat_lt most n ≡ false
 not_above most n h = grind (arith, nat_tests)

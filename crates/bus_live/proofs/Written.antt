@@ -3,17 +3,18 @@ use Rattle.std.proofs.Common.{◌≡◌, ℕ, List, [], ◌++◌, Bool, false, O
 use Rattle.std.proofs.lemmas.List.{append-nil}
 use Rattle.std.specs.Io.KnownBytes.{Appends}
 use Rattle.script_lines.specs.Known.{IsFront}
+use Rattle.script_lines.specs.declared.fault.Cause.{Cause}
+use Rattle.script_lines.specs.declared.fault.Cause.TheVariants as causes
+use Rattle.script_lines.specs.declared.fault.ScriptFault.{ScriptFault}
 use Rattle.pgn_ids.specs.declared.address.Address.{Address}
 use Rattle.port_table.specs.declared.port.PortId.{PortId}
 use Rattle.segment_shared.specs.LiveView.{LiveView}
 use Rattle.bus_live.specs.Plan.{Plan, Planned, planned, record_of}
-use Rattle.bus_live.specs.Ending.{Begins, IsRead, IsCut, Came, CameFrom, CameTo, Ended, EndedByCause, lost_cause}
+use Rattle.bus_live.specs.Ending.{Begins, IsRead, IsCut, Came, CameFrom, CameTo, Ended, EndedByCause, lost_fault}
 use Rattle.bus_live.specs.declared.setup.Message.{Message}
 use Rattle.bus_live.specs.declared.text.Lost.{Lost}
 use Rattle.bus_live.specs.declared.text.Lost.TheVariants as losts
-use Rattle.bus_live.specs.declared.running.Cause.{Cause}
-use Rattle.bus_live.specs.declared.running.Cause.TheVariants as causes
-use Rattle.bus_live.specs.declared.running.LiveFault.{LiveFault}
+use Rattle.bus_live.specs.declared.running.LiveFault.TheVariants as faults
 use Rattle.bus_live.proofs.TextsGrow.{all_of}
 
 appends_both : (a b c : Option (List ℕ)) (x y : List ℕ) → Appends a b x → Appends b c y → Appends a c (x ++ y)
@@ -45,15 +46,14 @@ cut_begins n (causes.Fault f) p q h = all_of p.text q.plan.text (sym h.0)
 cut_begins n causes.ReadFailed p q h = h
 cut_begins n causes.OutOfMemory p q h = h
 cut_begins n causes.WriteFailed p q h = absurd h
-cut_begins n causes.NotThisSegment p q h = absurd h
 
-read_begins : (r : Result (Unit {0}) LiveFault) (p : Plan) (q : Planned) → IsRead r p q → Begins p.text q.plan.text
+read_begins : (r : Result (Unit {0}) ScriptFault) (p : Plan) (q : Planned) → IsRead r p q → Begins p.text q.plan.text
 read_begins (Ok u) p q h = all_of p.text q.plan.text (sym (ap (λ (x : Plan). x.text) h.0))
 read_begins (Err f) p q h = cut_begins f.line f.cause p q h
 
 -- the text of refused lines couldn't be written
-pub at_first_write : (ra a b : Option (List ℕ)) (r : Result (Unit {0}) LiveFault) (p : Plan) → IfSome ra (λ script. IsRead r p (planned script)) → IsFront a b p.text
-    → IfSome ra (λ script. Ended record { fault = Some record { line = 0; cause = causes.WriteFailed }; ran_out = false } a b (planned script))
+pub at_first_write : (ra a b : Option (List ℕ)) (r : Result (Unit {0}) ScriptFault) (p : Plan) → IfSome ra (λ script. IsRead r p (planned script)) → IsFront a b p.text
+    → IfSome ra (λ script. Ended record { fault = Some (faults.Script record { line = 0; cause = causes.WriteFailed }); ran_out = false } a b (planned script))
 at_first_write None a b r p read x = tt
 at_first_write (Some all) a b r p read x = inl (front_begins a b p.text (planned all).plan.text (read_begins r p (planned all) read) x)
 
@@ -62,11 +62,10 @@ cut n (causes.Fault f) a b p q h x = (subst (λ (t : List ℕ). Appends a b t) h
 cut n causes.ReadFailed a b p q h x = front_begins a b p.text q.plan.text h (front_of_all a b p.text x)
 cut n causes.OutOfMemory a b p q h x = front_begins a b p.text q.plan.text h (front_of_all a b p.text x)
 cut n causes.WriteFailed a b p q h x = absurd h
-cut n causes.NotThisSegment a b p q h x = absurd h
 
 -- the reading ended by a fault
-pub at_cut : (ra a b : Option (List ℕ)) (p : Plan) (f : LiveFault) → IfSome ra (λ script. IsRead (Err f) p (planned script)) → Appends a b p.text
-    → IfSome ra (λ script. Ended record { fault = Some record { line = f.line; cause = f.cause }; ran_out = false } a b (planned script))
+pub at_cut : (ra a b : Option (List ℕ)) (p : Plan) (f : ScriptFault) → IfSome ra (λ script. IsRead (Err f) p (planned script)) → Appends a b p.text
+    → IfSome ra (λ script. Ended record { fault = Some (faults.Script record { line = f.line; cause = f.cause }); ran_out = false } a b (planned script))
 at_cut None a b p f read x = tt
 at_cut (Some all) a b p f read x = cut f.line f.cause a b p (planned all) read x
 
@@ -75,14 +74,14 @@ planned_text a b p q e x = subst (λ (t : List ℕ). Appends a b t) (ap (λ (r :
 
 -- the threads left no text
 pub at_lost : (ra a b : Option (List ℕ)) (p : Plan) (lost : Lost) → IfSome ra (λ script. IsRead (Ok tt) p (planned script)) → Appends a b p.text
-    → IfSome ra (λ script. Ended record { fault = Some record { line = 0; cause = lost_cause lost }; ran_out = false } a b (planned script))
+    → IfSome ra (λ script. Ended record { fault = Some (lost_fault lost); ran_out = false } a b (planned script))
 at_lost None a b p lost read x = tt
 at_lost (Some all) a b p losts.OutOfMemory read x = front_of_all a b (planned all).plan.text (planned_text a b p (planned all) read.0 x)
 at_lost (Some all) a b p losts.NotThisSegment read x = (planned_text a b p (planned all) read.0 x, read.1)
 
 -- their text couldn't be written
 pub at_second_write : (ra a b c : Option (List ℕ)) (p : Plan) (text : List ℕ) (ran_out : Bool) → IfSome ra (λ script. IsRead (Ok tt) p (planned script)) → CameTo p ran_out text → Appends a b p.text → IsFront b c text
-    → IfSome ra (λ script. Ended record { fault = Some record { line = 0; cause = causes.WriteFailed }; ran_out = false } a c (planned script))
+    → IfSome ra (λ script. Ended record { fault = Some (faults.Script record { line = 0; cause = causes.WriteFailed }); ran_out = false } a c (planned script))
 at_second_write None a b c p text ran_out read came x y = tt
 at_second_write (Some all) a b c p text ran_out read came x y =
     inr (ran_out, (planned all).plan.text ++ text, (read.1, (text, subst (λ (q : Plan). CameTo q ran_out text) read.0 came, refl)), front_behind a b c (planned all).plan.text text (planned_text a b p (planned all) read.0 x) y)

@@ -1,13 +1,11 @@
 -- How a run of a script by threads ended.
 use Rattle.std.specs.Prelude.{◌≡◌, ℕ, ◌+◌, ◌==◌, List, [], ◌∷◌, ◌++◌, ◌⊎◌, length, nat_lt, cond, Bool, true, false, Option, Some, None, Result, Ok, Err, if◌then◌else◌, codes}
-use Rattle.std.specs.Fmt.{decimal}
 use Rattle.std.specs.Io.KnownBytes.{Appends}
-use Rattle.script_commands.specs.Faults.{fault_text}
-use Rattle.script_commands.specs.declared.fault.LineError.{LineError}
-use Rattle.script_commands.specs.declared.fault.LineError.TheVariants as errors
 use Rattle.script_lines.specs.Known.{IsFront}
-use Rattle.script_lines.specs.declared.lines.ReadError.{ReadError}
-use Rattle.script_lines.specs.declared.lines.ReadError.TheVariants as reads
+use Rattle.script_lines.specs.Faults.{fault_line}
+use Rattle.script_lines.specs.declared.fault.Cause.{Cause}
+use Rattle.script_lines.specs.declared.fault.Cause.TheVariants as causes
+use Rattle.script_lines.specs.declared.fault.ScriptFault.{ScriptFault}
 use Rattle.pgn_ids.specs.declared.address.Address.{Address}
 use Rattle.port_table.specs.declared.port.PortId.{PortId}
 use Rattle.segment_law.specs.Headline.{Headline}
@@ -19,25 +17,14 @@ use Rattle.bus_live.specs.Texts.{end_text}
 use Rattle.bus_live.specs.declared.setup.Message.{Message}
 use Rattle.bus_live.specs.declared.text.Lost.{Lost}
 use Rattle.bus_live.specs.declared.text.Lost.TheVariants as losts
-use Rattle.bus_live.specs.declared.running.Cause.{Cause}
-use Rattle.bus_live.specs.declared.running.Cause.TheVariants as causes
 use Rattle.bus_live.specs.declared.running.LiveFault.{LiveFault}
+use Rattle.bus_live.specs.declared.running.LiveFault.TheVariants as faults
 use Rattle.bus_live.specs.declared.running.LiveRan.{LiveRan}
 
--- why a line ends the run
-abbrev pub cause_of : LineError → Cause
-cause_of errors.OutOfMemory = causes.OutOfMemory
-cause_of (errors.Fault f) = causes.Fault f
-
--- why no line was read
-abbrev pub read_cause : ReadError → Cause
-read_cause reads.Failed = causes.ReadFailed
-read_cause reads.OutOfMemory = causes.OutOfMemory
-
 -- why a run of threads has no text
-abbrev pub lost_cause : Lost → Cause
-lost_cause losts.OutOfMemory = causes.OutOfMemory
-lost_cause losts.NotThisSegment = causes.NotThisSegment
+abbrev pub lost_fault : Lost → LiveFault
+lost_fault losts.OutOfMemory = faults.Script record { line = 0; cause = causes.OutOfMemory }
+lost_fault losts.NotThisSegment = faults.NotThisSegment
 
 -- the second text is the first, and more
 abbrev pub Begins : List ℕ → List ℕ → Type 0
@@ -49,10 +36,9 @@ IsCut n (causes.Fault f) p planned = (p.text ≡ planned.plan.text) × (planned.
 IsCut n causes.ReadFailed p planned = Begins p.text planned.plan.text
 IsCut n causes.OutOfMemory p planned = Begins p.text planned.plan.text
 IsCut n causes.WriteFailed p planned = ⊥
-IsCut n causes.NotThisSegment p planned = ⊥
 
 -- the script was read to its end, or to its fault
-abbrev pub IsRead : Result (Unit {0}) LiveFault → Plan → Planned → Type 0
+abbrev pub IsRead : Result (Unit {0}) ScriptFault → Plan → Planned → Type 0
 IsRead (Ok u) p planned = (p ≡ planned.plan) × (planned.fault ≡ None)
 IsRead (Err f) p planned = IsCut f.line f.cause p planned
 
@@ -92,15 +78,19 @@ abbrev pub EndedByCause : ℕ → Cause → Option (List ℕ) → Option (List �
 EndedByCause n (causes.Fault f) a b planned = Appends a b planned.plan.text × (planned.fault ≡ Some (n, f))
 EndedByCause n causes.ReadFailed a b planned = IsFront a b planned.plan.text
 EndedByCause n causes.OutOfMemory a b planned = IsFront a b planned.plan.text
-EndedByCause n causes.NotThisSegment a b planned = Appends a b planned.plan.text × (planned.fault ≡ None)
 EndedByCause n causes.WriteFailed a b planned = IsFront a b planned.plan.text ⊎ ((ran_out : Bool) × (whole : List ℕ) × WholeText planned ran_out whole × IsFront a b whole)
+
+-- where the threads left another segment, only the former was written
+abbrev pub EndedByFault : LiveFault → Option (List ℕ) → Option (List ℕ) → Planned → Type 0
+EndedByFault (faults.Script f) a b planned = EndedByCause f.line f.cause a b planned
+EndedByFault faults.NotThisSegment a b planned = Appends a b planned.plan.text × (planned.fault ≡ None)
 
 -- the text of the refused lines was written, and then, where the script has no fault, that of what the threads came to; at a fault
 -- of the script nothing but the former
 abbrev pub Ended : LiveRan → Option (List ℕ) → Option (List ℕ) → Planned → Type 0
 Ended ran a b planned = elim ran.fault [
   | None ↦ (whole : List ℕ) × WholeText planned ran.ran_out whole × Appends a b whole
-  | Some f ↦ EndedByCause f.line f.cause a b planned
+  | Some f ↦ EndedByFault f a b planned
 ]
 
 -- the status of a program
@@ -108,11 +98,6 @@ abbrev pub status_of : LiveRan → ℕ
 status_of ran = elim ran.fault [ None ↦ if ran.ran_out then 3 else 0 | Some f ↦ 1 ]
 
 -- the line that tells of a fault
-abbrev pub fault_line : LiveFault → List ℕ
-fault_line f = elim f.cause [
-  | causes.ReadFailed ↦ codes "line " ++ decimal f.line ++ codes ": read failed"
-  | causes.WriteFailed ↦ codes "write failed"
-  | causes.OutOfMemory ↦ codes "line " ++ decimal f.line ++ codes ": out of memory"
-  | causes.Fault fault ↦ codes "line " ++ decimal f.line ++ codes ": " ++ fault_text fault
-  | causes.NotThisSegment ↦ codes "refused 30 NotThisSegment"
-]
+abbrev pub live_fault_line : LiveFault → List ℕ
+live_fault_line (faults.Script f) = fault_line f
+live_fault_line faults.NotThisSegment = codes "refused 30 NotThisSegment"

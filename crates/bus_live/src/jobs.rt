@@ -1,11 +1,12 @@
 //! What the threads do, one each.
+use crate::pacing::Pace;
 use pgn_ids::Address;
 use segment_shared::{
     Client, Gate, Inbox, Refusal, SharedSegment, Submission, SubmitRefused, bus_worker,
     station_worker,
 };
-use std::sync::Wait;
 use std::sync::atomic::{AtomicU64, Ordering};
+use std::sync::{Mutex, Wait};
 use std::thread;
 
 /// A client, and what it is to submit.
@@ -15,30 +16,12 @@ pub(crate) struct Sender {
     pub(crate) messages: Vec<Submission>,
 }
 
-/// The task of one thread.
-#[derive(Drop)]
-pub(crate) enum Job {
-    Station(Address),
-    Bus,
-    Submit(Sender),
-    Receive(Inbox),
-    Watch { senders: u64, workers: u64 },
-}
-
-/// What a thread hands back.
-#[derive(Drop)]
-pub(crate) enum Done {
-    Worker,
-    Client(Client),
-    Inbox(Inbox),
-    /// Whether the bus was drained at the end.
-    Watched(bool),
-}
-
-/// What the threads tell one another: how many senders have submitted all their messages, and how many have all their outcomes;
-/// how many turns the workers have begun, and how many of them have ended; and whether all are to end.
+/// What the threads tell one another: whether all of them were made, which is locked until that is known; how many senders have
+/// submitted all their messages, and how many have all their outcomes; how many turns the workers have begun, and how many of
+/// them have ended; and whether all are to end.
 #[derive(Drop)]
 pub(crate) struct Board {
+    pub(crate) made: Mutex<bool>,
     pub(crate) sent: AtomicU64,
     pub(crate) done: AtomicU64,
     pub(crate) passed: AtomicU64,
@@ -49,12 +32,19 @@ pub(crate) struct Board {
 impl Board {
     pub(crate) fn new() -> Board {
         Board {
+            made: Mutex::new(false),
             sent: AtomicU64::new(0),
             done: AtomicU64::new(0),
             passed: AtomicU64::new(0),
             ended: AtomicU64::new(0),
             stop: AtomicU64::new(0),
         }
+    }
+
+    // Whether all threads were made. It waits until that is known.
+    fn begins<R: Wait>(&self, rt: &R) -> bool {
+        let made = self.made.lock(rt);
+        *made
     }
 
     fn stops(&self) -> bool {
@@ -86,12 +76,15 @@ fn submit(client: &mut Client, board: &Board, message: Submission) -> bool {
     false
 }
 
-// Submits all messages, and reads as many notes.
-fn send_all(sender: Sender, board: &Board) -> Client {
+/// Submits all messages, and reads as many notes.
+pub(crate) fn send_all<R: Wait>(rt: &R, sender: Sender, board: &Board) -> Client {
     let Sender {
         mut client,
         messages,
     } = sender;
+    if !board.begins(rt) {
+        return client;
+    }
     let mut waits = 0u64;
     for message in messages {
         if submit(&mut client, board, message) {
@@ -117,9 +110,12 @@ fn send_all(sender: Sender, board: &Board) -> Client {
     client
 }
 
-// Receives until all are to end, and nothing is left.
-fn receive_all(inbox: Inbox, board: &Board) -> Inbox {
+/// Receives until all are to end, and nothing is left.
+pub(crate) fn receive_all<R: Wait>(rt: &R, inbox: Inbox, board: &Board) -> Inbox {
     let mut inbox = inbox;
+    if !board.begins(rt) {
+        return inbox;
+    }
     for _ in 0..u64::MAX {
         let last = board.stops();
         match inbox.try_receive() {
@@ -143,18 +139,20 @@ fn is_drained<R: Wait>(rt: &R, shared: &SharedSegment, stations: &[Address]) -> 
         && segment.waiting(*station) == 0)
 }
 
-// Ends all when each message has its outcome and the bus is drained, or when the workers have ended; and whether it is drained.
-fn watch<R: Wait>(
+/// Ends all when each message has its outcome and the bus is drained, or when the workers have ended; and whether it is drained.
+pub(crate) fn watch<R: Wait, G>(
     rt: &R,
     shared: &SharedSegment,
     stations: &[Address],
-    board: &Board,
-    senders: u64,
-    workers: u64,
+    pace: &Pace<'_, G>,
 ) -> bool {
+    let board = pace.board;
+    if !board.begins(rt) {
+        return false;
+    }
     for _ in 0..u64::MAX {
-        let ended = board.ended.load(Ordering::SeqCst) >= workers;
-        let done = board.done.load(Ordering::SeqCst) >= senders;
+        let ended = board.ended.load(Ordering::SeqCst) >= pace.workers;
+        let done = board.done.load(Ordering::SeqCst) >= pace.senders;
         let drained = (ended || done) && is_drained(rt, shared, stations);
         if ended || drained {
             shared.stop(rt);
@@ -166,31 +164,29 @@ fn watch<R: Wait>(
     false
 }
 
-/// Does one job.
-pub(crate) fn work<R: Wait, G: Gate>(
+/// Makes the turns of a station.
+pub(crate) fn work_station<R: Wait, G: Gate>(
     rt: &R,
     shared: &SharedSegment,
-    stations: &[Address],
-    gate: &G,
-    board: &Board,
+    station: Address,
+    pace: &Pace<'_, G>,
     turns: u64,
-    job: Job,
-) -> Done {
-    match job {
-        Job::Station(station) => {
-            let _tally = station_worker(rt, shared, station, gate, turns);
-            board.ended.fetch_add(1, Ordering::SeqCst);
-            Done::Worker
-        }
-        Job::Bus => {
-            let _tally = bus_worker(rt, shared, gate, turns);
-            board.ended.fetch_add(1, Ordering::SeqCst);
-            Done::Worker
-        }
-        Job::Submit(sender) => Done::Client(send_all(sender, board)),
-        Job::Receive(inbox) => Done::Inbox(receive_all(inbox, board)),
-        Job::Watch { senders, workers } => {
-            Done::Watched(watch(rt, shared, stations, board, senders, workers))
-        }
+) {
+    if pace.board.begins(rt) {
+        let _tally = station_worker(rt, shared, station, pace, turns);
+        pace.board.ended.fetch_add(1, Ordering::SeqCst);
+    }
+}
+
+/// Makes the turns of the bus.
+pub(crate) fn work_bus<R: Wait, G: Gate>(
+    rt: &R,
+    shared: &SharedSegment,
+    pace: &Pace<'_, G>,
+    turns: u64,
+) {
+    if pace.board.begins(rt) {
+        let _tally = bus_worker(rt, shared, pace, turns);
+        pace.board.ended.fetch_add(1, Ordering::SeqCst);
     }
 }

@@ -10,5 +10,6 @@ mod running;
 mod setup;
 mod text;
 
-pub use running::{Cause, LiveFault, LiveRan, run_live};
+pub use running::{LiveFault, LiveRan, run_live};
+pub use script_lines::{Cause, ScriptFault};
 pub use segment_shared::Gate;

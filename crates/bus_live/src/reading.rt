@@ -1,40 +1,21 @@
 //! A script, read to its end.
 ghost use Rattle.std.specs.Prelude.{◌≡◌, IfSome};
 ghost use Rattle.bus_live.specs.Plan.{plan_of, first_plan, planned};
-ghost use Rattle.bus_live.specs.Ending.{cause_of, read_cause, IsRead};
+ghost use Rattle.bus_live.specs.Ending.{IsRead};
 
 use crate::obeying::obey_line;
-use crate::running::{Cause, LiveFault};
 use crate::setup::Setup;
-use script_commands::{Fault, LineError, MAX_LINES, limit_fault};
-use script_lines::{LineRead, ReadError, read_line};
+use script_commands::{Fault, MAX_LINES, limit_fault};
+use script_lines::{Cause, LineRead, ScriptFault, cause_of, read_cause, read_line};
 use std::alloc::Global;
 use std::io::Read;
-
-fn cause_of(error: LineError) -> Cause
-    ensures { result ≡ cause_of error }
-{
-    match error {
-        LineError::OutOfMemory => Cause::OutOfMemory,
-        LineError::Fault(fault) => Cause::Fault(fault),
-    }
-}
-
-fn read_cause(error: ReadError) -> Cause
-    ensures { result ≡ read_cause error }
-{
-    match error {
-        ReadError::Failed => Cause::ReadFailed,
-        ReadError::OutOfMemory => Cause::OutOfMemory,
-    }
-}
 
 /// Reads a script to its end, or to its first fault, and does what its lines ask for.
 pub(crate) fn read_script<R: Read>(
     alloc: Global,
     reader: &mut R,
     setup: &mut Setup,
-) -> Result<(), LiveFault>
+) -> Result<(), ScriptFault>
     requires { plan_of setup.old ≡ first_plan }
     ensures { IfSome (R.remaining reader.old) (λ script. IsRead result (plan_of setup.new) (planned script)) }
 {
@@ -60,8 +41,8 @@ pub(crate) fn read_script<R: Read>(
     }
 }
 
-fn fault_at(line: u64, cause: Cause) -> LiveFault
+fn fault_at(line: u64, cause: Cause) -> ScriptFault
     ensures { result ≡ record { line = line; cause = cause } }
 {
-    LiveFault { line, cause }
+    ScriptFault { line, cause }
 }

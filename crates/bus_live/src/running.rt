@@ -2,44 +2,31 @@
 ghost use Rattle.std.specs.Prelude.{◌≡◌, Some, IfSome, IfOk, map, false};
 ghost use Rattle.segment_shared.specs.LiveView.{LiveView};
 ghost use Rattle.bus_live.specs.Plan.{planned, plan_of, port_of};
-ghost use Rattle.bus_live.specs.Ending.{Came, CameTo, Ended, fault_line, lost_cause, status_of};
+ghost use Rattle.bus_live.specs.Ending.{Came, CameTo, Ended, live_fault_line, lost_fault, status_of};
+ghost use Rattle.bus_live.specs.declared.running.LiveFault.TheVariants.{Script};
 
-use crate::jobs::{Board, Done, Job, Sender, work};
+use crate::jobs::{Board, Sender, receive_all, send_all, watch, work_bus, work_station};
 use crate::pacing::Pace;
 use crate::reading::read_script;
 use crate::setup::{Message, Setup};
 use crate::text::{Lost, Told, text_of};
 use pgn_ids::Address;
-use script_commands::Fault;
-use script_lines::tell;
+use script_lines::{Cause, ScriptFault, tell};
 use segment_core::PortId;
 use segment_shared::{AttachRefused, Client, Gate, Inbox, Live, SharedSegment, Submission, finish};
 use std::alloc::{AllocError, Global};
 use std::io::{Read, Write};
 use std::sync::Wait;
-use std::thread::Threads;
+use std::thread::{JoinHandle, Threads};
 use std::{fmt, thread};
 
 /// Why a run ended before its end.
 #[derive(Clone, Copy, Debug, PartialEq, Eq)]
-pub enum Cause {
-    /// The reader failed.
-    ReadFailed,
-    /// The writer failed.
-    WriteFailed,
-    /// Memory was refused.
-    OutOfMemory,
-    /// A line is wrong.
-    Fault(Fault),
+pub enum LiveFault {
+    /// As a script ends; behind its last line, the line is told as 0.
+    Script(ScriptFault),
     /// What the threads hold at the end isn't of the segment that they shared.
     NotThisSegment,
-}
-
-/// Where a run ended before its end, and why. Lines count from 1; behind the last line of the script it is 0.
-#[derive(Clone, Copy, Debug, PartialEq, Eq)]
-pub struct LiveFault {
-    pub line: u64,
-    pub cause: Cause,
 }
 
 /// How a run ended: before its end, by a fault; or else with all messages done, unless the turns ran out.
@@ -65,35 +52,34 @@ impl LiveRan {
 }
 
 impl fmt::Display for LiveFault {
-    ghost output = { λ f. Some (fault_line f) };
+    ghost output = { λ f. Some (live_fault_line f) };
 
     fn fmt<W: fmt::Write>(&self, f: &mut fmt::Formatter<W>) -> fmt::Result {
-        let line = self.line;
-        match self.cause {
-            Cause::ReadFailed => write!(f, "line {line}: read failed"),
-            Cause::WriteFailed => write!(f, "write failed"),
-            Cause::OutOfMemory => write!(f, "line {line}: out of memory"),
-            Cause::Fault(fault) => write!(f, "line {line}: {fault}"),
-            Cause::NotThisSegment => write!(f, "refused 30 NotThisSegment"),
+        match self {
+            LiveFault::Script(fault) => write!(f, "{fault}"),
+            LiveFault::NotThisSegment => write!(f, "refused 30 NotThisSegment"),
         }
     }
 }
 
 fn failed(line: u64, cause: Cause) -> LiveRan
-    ensures { result ≡ record { fault = Some (record { line = line; cause = cause }); ran_out = false } }
+    ensures { result ≡ record { fault = Some (Script (record { line = line; cause = cause })); ran_out = false } }
 {
     LiveRan {
-        fault: Some(LiveFault { line, cause }),
+        fault: Some(LiveFault::Script(ScriptFault { line, cause })),
         ran_out: false,
     }
 }
 
-fn lost_cause(lost: Lost) -> Cause
-    ensures { result ≡ lost_cause lost }
+fn lost_by(lost: Lost) -> LiveRan
+    ensures { result ≡ record { fault = Some (lost_fault lost); ran_out = false } }
 {
     match lost {
-        Lost::OutOfMemory => Cause::OutOfMemory,
-        Lost::NotThisSegment => Cause::NotThisSegment,
+        Lost::OutOfMemory => failed(0, Cause::OutOfMemory),
+        Lost::NotThisSegment => LiveRan {
+            fault: Some(LiveFault::NotThisSegment),
+            ran_out: false,
+        },
     }
 }
 
@@ -137,32 +123,6 @@ fn messages_of(
     Ok(own)
 }
 
-// One job for each station, one for the bus, one that watches, and one for each port and client: each waits only for those before
-// it, so that they end also where no threads can be made.
-fn jobs_of(
-    alloc: Global,
-    stations: &[Address],
-    inboxes: Vec<Inbox>,
-    senders: Vec<Sender>,
-) -> Result<Vec<Job>, AllocError> {
-    let mut jobs = Vec::new(alloc);
-    for station in stations {
-        jobs.push(Job::Station(*station))?;
-    }
-    jobs.push(Job::Bus)?;
-    jobs.push(Job::Watch {
-        senders: senders.len() as u64,
-        workers: (stations.len() as u64).saturating_add(1),
-    })?;
-    for inbox in inboxes {
-        jobs.push(Job::Receive(inbox))?;
-    }
-    for sender in senders {
-        jobs.push(Job::Submit(sender))?;
-    }
-    Ok(jobs)
-}
-
 // What the threads hand back.
 #[derive(Drop)]
 struct Ends {
@@ -171,20 +131,65 @@ struct Ends {
     drained: bool,
 }
 
-fn gather(alloc: Global, done: Vec<Done>) -> Result<Ends, AllocError> {
-    let mut ends = Ends {
-        clients: Vec::new(alloc),
-        inboxes: Vec::new(alloc),
+// A thread for each station, for the bus, for each sender and each inbox, and one that watches. None begins before all are made:
+// where one can't be, the others end at once, so that nobody waits for it.
+fn in_threads<R: Threads + Wait + Sync, G: Gate + Sync>(
+    rt: &R,
+    alloc: Global,
+    shared: &SharedSegment,
+    stations: &[Address],
+    senders: Vec<Sender>,
+    inboxes: Vec<Inbox>,
+    pace: &Pace<'_, G>,
+    turns: u64,
+) -> Result<Ends, AllocError> {
+    let board = pace.board;
+    let room = Ends {
+        clients: Vec::with_capacity(alloc, senders.len())?,
+        inboxes: Vec::with_capacity(alloc, inboxes.len())?,
         drained: false,
     };
-    for part in done {
-        match part {
-            Done::Worker => {}
-            Done::Client(client) => ends.clients.push(client)?,
-            Done::Inbox(inbox) => ends.inboxes.push(inbox)?,
-            Done::Watched(drained) => ends.drained = drained,
-        }
+    thread::scope(
+        thread::scope_env(),
+        rt,
+        move |scope| -> Result<Ends, AllocError> {
+            let mut made = board.made.lock(rt);
+            for station in stations {
+                scope.spawn(move || work_station(rt, shared, *station, pace, turns))?;
+            }
+            scope.spawn(move || work_bus(rt, shared, pace, turns))?;
+            let watching = scope.spawn(move || watch(rt, shared, stations, pace))?;
+            let mut sending = Vec::new(alloc);
+            for sender in senders {
+                sending.push(scope.spawn(move || send_all(rt, sender, board))?)?;
+            }
+            let mut receiving = Vec::new(alloc);
+            for inbox in inboxes {
+                receiving.push(scope.spawn(move || receive_all(rt, inbox, board))?)?;
+            }
+            *made = true;
+            drop(made);
+            gather(rt, room, sending, receiving, watching)
+        },
+    )
+}
+
+// Waits for the threads, and puts what they hand back where there is room for it.
+fn gather<R: Threads>(
+    rt: &R,
+    room: Ends,
+    sending: Vec<JoinHandle<Client>>,
+    receiving: Vec<JoinHandle<Inbox>>,
+    watching: JoinHandle<bool>,
+) -> Result<Ends, AllocError> {
+    let mut ends = room;
+    for thread in sending {
+        ends.clients.push(thread.join(rt))?;
     }
+    for thread in receiving {
+        ends.inboxes.push(thread.join(rt))?;
+    }
+    ends.drained = watching.join(rt);
     Ok(ends)
 }
 
@@ -201,7 +206,6 @@ fn run_threads<R: Threads + Wait + Sync, G: Gate + Sync>(
 ) -> Result<(Live, Ends), Lost> {
     let mut live = live;
     let senders = senders_of(alloc, &mut live, stations, messages)?;
-    let jobs = jobs_of(alloc, stations, inboxes, senders)?;
     let shared = SharedSegment::share(live);
     let board = Board::new();
     let pace = Pace {
@@ -210,12 +214,7 @@ fn run_threads<R: Threads + Wait + Sync, G: Gate + Sync>(
         senders: stations.len() as u64,
         workers: (stations.len() as u64).saturating_add(1),
     };
-    let done = thread::map_vec(
-        rt,
-        jobs,
-        &|job| { work(rt, &shared, stations, &pace, &board, turns, job) },
-    )?;
-    let ends = gather(alloc, done)?;
+    let ends = in_threads(rt, alloc, &shared, stations, senders, inboxes, &pace, turns)?;
     Ok((shared.into_live(), ends))
 }
 
@@ -333,7 +332,7 @@ pub fn run_live<T: Threads + Wait + Sync, R: Read, W: Write, G: Gate + Sync>(
     }
     let told = match run(rt, alloc, setup, gate, turns) {
         Ok(told) => told,
-        Err(lost) => return failed(0, lost_cause(lost)),
+        Err(lost) => return lost_by(lost),
     };
     let Ok(()) = tell(writer, told.text.as_slice()) else {
         return failed(0, Cause::WriteFailed);

@@ -7,10 +7,11 @@ use Rattle.segment_law.specs.Segment.{Segment}
 use Rattle.script_lines.specs.Known.{Known, IsFront}
 use Rattle.script_lines.specs.Lines.{lines_of, ReadsLine}
 use Rattle.bus_script.specs.Script.{or_refused, Step, Outcome, outcome_from, outcome, numbered_line, obey_line, Obeyed}
-use Rattle.bus_script.specs.Ending.{cause_of, read_cause, Ended}
+use Rattle.bus_script.specs.Ending.{Ended}
 use Rattle.bus_script.specs.declared.obeying.Told.{Told}
 use Rattle.bus_script.specs.declared.obeying.Told.TheVariants.{Answered, NoMemory}
-use Rattle.bus_script.specs.declared.running.Cause.TheVariants as causes
+use Rattle.script_lines.specs.Faults.{cause_of, read_cause}
+use Rattle.script_lines.specs.declared.fault.Cause.TheVariants as causes
 use Rattle.script_commands.specs.declared.fault.LineError.{LineError}
 use Rattle.script_commands.specs.declared.fault.LineError.TheVariants as errors
 use Rattle.script_lines.specs.declared.lines.ReadError.{ReadError}

@@ -5,5 +5,6 @@
 mod obeying;
 mod running;
 
-pub use running::{Cause, Ran, ScriptFault, run_script};
+pub use running::{Ran, run_script};
 pub use script_commands::Fault;
+pub use script_lines::{Cause, ScriptFault};

@@ -1,34 +1,13 @@
 //! A script, read and obeyed line by line.
 ghost use Rattle.std.specs.Prelude.{◌≡◌, ℕ, ◌≤◌, ◌<◌, IfSome, Some, None, ◌↔◌, Option};
 ghost use Rattle.bus_script.specs.Script.{or_refused, outcome};
-ghost use Rattle.bus_script.specs.Ending.{cause_of, read_cause, Ended, fault_line, status_of};
+ghost use Rattle.bus_script.specs.Ending.{Ended, status_of};
 
 use crate::obeying::{Told, obey_line};
-use script_commands::{Fault, LineError, MAX_LINES, limit_fault};
-use script_lines::{LineRead, ReadError, read_line, tell};
+use script_commands::{Fault, MAX_LINES, limit_fault};
+use script_lines::{Cause, LineRead, ScriptFault, cause_of, read_cause, read_line, tell};
 use std::alloc::Global;
-use std::fmt;
 use std::io::{Read, Write};
-
-/// Why a script ended before its end.
-#[derive(Clone, Copy, Debug, PartialEq, Eq)]
-pub enum Cause {
-    /// The reader failed.
-    ReadFailed,
-    /// The writer failed.
-    WriteFailed,
-    /// Memory was refused outside a call.
-    OutOfMemory,
-    /// A line is wrong.
-    Fault(Fault),
-}
-
-/// Where a script ended before its end, and why. Lines count from 1.
-#[derive(Clone, Copy, Debug, PartialEq, Eq)]
-pub struct ScriptFault {
-    pub line: u64,
-    pub cause: Cause,
-}
 
 /// How a script ended.
 #[derive(Clone, Copy, Debug, PartialEq, Eq)]
@@ -48,24 +27,6 @@ impl Told {
             Told::Answered => earlier,
             Told::NoMemory => true,
         }
-    }
-}
-
-fn cause_of(error: LineError) -> Cause
-    ensures { result ≡ cause_of error }
-{
-    match error {
-        LineError::OutOfMemory => Cause::OutOfMemory,
-        LineError::Fault(fault) => Cause::Fault(fault),
-    }
-}
-
-fn read_cause(error: ReadError) -> Cause
-    ensures { result ≡ read_cause error }
-{
-    match error {
-        ReadError::Failed => Cause::ReadFailed,
-        ReadError::OutOfMemory => Cause::OutOfMemory,
     }
 }
 
@@ -120,20 +81,6 @@ pub fn run_script<R: Read, W: Write>(alloc: Global, reader: &mut R, writer: &mut
             return failed(number, Cause::WriteFailed, memory_refused);
         };
         number += 1;
-    }
-}
-
-impl fmt::Display for ScriptFault {
-    ghost output = { λ f. Some (fault_line f) };
-
-    fn fmt<W: fmt::Write>(&self, f: &mut fmt::Formatter<W>) -> fmt::Result {
-        let line = self.line;
-        match self.cause {
-            Cause::ReadFailed => write!(f, "line {line}: read failed"),
-            Cause::WriteFailed => write!(f, "write failed"),
-            Cause::OutOfMemory => write!(f, "line {line}: out of memory"),
-            Cause::Fault(fault) => write!(f, "line {line}: {fault}"),
-        }
     }
 }
 

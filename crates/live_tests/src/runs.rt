@@ -51,6 +51,14 @@ fn run_once<T: Threads + Wait + Sync, W: Write, G: Gate + Sync>(
     run_live(rt, alloc, &mut reader, writer, gate, turns)
 }
 
+// Whether this is why a run ended before its end.
+fn ended_by(ran: LiveRan, cause: Cause) -> bool {
+    match ran.fault {
+        Some(LiveFault::Script(fault)) => fault.cause == cause,
+        _ => false,
+    }
+}
+
 // Runs a script, and gives what it wrote; once more where memory was refused, for want of which alone a vector refuses a write.
 fn run_past<T: Threads + Wait + Sync, G: Gate + Sync>(
     rt: &T,
@@ -61,10 +69,7 @@ fn run_past<T: Threads + Wait + Sync, G: Gate + Sync>(
 ) -> (LiveRan, Vec<u8>) {
     let mut writer = Vec::new(alloc);
     let ran = run_once(rt, alloc, script, &mut writer, gate, turns);
-    let is_refused = ran.fault.is_some_and(|fault| {
-        fault.cause == Cause::OutOfMemory || fault.cause == Cause::WriteFailed
-    });
-    if !is_refused {
+    if !ended_by(ran, Cause::OutOfMemory) && !ended_by(ran, Cause::WriteFailed) {
         return (ran, writer);
     }
     writer.clear();
@@ -214,14 +219,10 @@ impl Write for Full {
 fn failed_write_is_told(rt: HostRuntime) -> Result<(), Fail> {
     let alloc = rt.alloc();
     let first = run_once(&rt, alloc, SCRIPT, &mut Full {}, &OpenGate {}, 1);
-    let ran = match first.fault {
-        Some(
-            LiveFault {
-                cause: Cause::OutOfMemory,
-                line: _,
-            },
-        ) => { run_once(&rt, alloc, SCRIPT, &mut Full {}, &OpenGate {}, 1) }
-        _ => first,
+    let ran = if ended_by(first, Cause::OutOfMemory) {
+        run_once(&rt, alloc, SCRIPT, &mut Full {}, &OpenGate {}, 1)
+    } else {
+        first
     };
     assert_eq!(rt; ran.status(), 1);
     let line = line_of(alloc, ran)?;

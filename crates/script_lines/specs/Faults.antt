@@ -1,0 +1,30 @@
+-- Why a script ended before its end.
+use Rattle.std.specs.Prelude.{ℕ, List, ◌++◌, codes}
+use Rattle.std.specs.Fmt.{decimal}
+use Rattle.script_commands.specs.Faults.{fault_text}
+use Rattle.script_commands.specs.declared.fault.LineError.{LineError}
+use Rattle.script_commands.specs.declared.fault.LineError.TheVariants as errors
+use Rattle.script_lines.specs.declared.lines.ReadError.{ReadError}
+use Rattle.script_lines.specs.declared.lines.ReadError.TheVariants as reads
+use Rattle.script_lines.specs.declared.fault.Cause.{Cause}
+use Rattle.script_lines.specs.declared.fault.Cause.TheVariants as causes
+use Rattle.script_lines.specs.declared.fault.ScriptFault.{ScriptFault}
+
+-- why a line ends a script
+abbrev pub cause_of : LineError → Cause
+cause_of errors.OutOfMemory = causes.OutOfMemory
+cause_of (errors.Fault f) = causes.Fault f
+
+-- why no line was read
+abbrev pub read_cause : ReadError → Cause
+read_cause reads.Failed = causes.ReadFailed
+read_cause reads.OutOfMemory = causes.OutOfMemory
+
+-- the line that tells of a fault
+abbrev pub fault_line : ScriptFault → List ℕ
+fault_line f = elim f.cause [
+  | causes.ReadFailed ↦ codes "line " ++ decimal f.line ++ codes ": read failed"
+  | causes.WriteFailed ↦ codes "write failed"
+  | causes.OutOfMemory ↦ codes "line " ++ decimal f.line ++ codes ": out of memory"
+  | causes.Fault fault ↦ codes "line " ++ decimal f.line ++ codes ": " ++ fault_text fault
+]
