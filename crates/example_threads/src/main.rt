@@ -16,15 +16,20 @@ const THERE: Address = Address(0x35);
 
 const PGN: u32 = 0xFECA;
 
-/// The most turns of each worker, and of each wait.
-const TURNS: u64 = 1_000_000;
+/// The most turns of each worker, and of each wait: more than a busy machine uses up before each thread has run.
+const TURNS: u64 = 1_000_000_000;
 
-/// Lets each worker pass at once.
+/// Lets the other threads run before each turn of a worker. One with nothing to do would else take next to no time, and workers would
+/// have filled the record of calls before a thread that has to wait for a processor has submitted its message.
 #[derive(Drop)]
-struct OpenGate {}
+struct Pace {}
 
-impl Gate for OpenGate {
-    fn pass(&self, _worker: u8, _turn: u64) {}
+impl Gate for Pace {
+    fn pass(&self, _worker: u8, _turn: u64) {
+        for _ in 0..32 {
+            thread::yield_now();
+        }
+    }
 }
 
 /// The outcome of a thread's message, and the message that it received.
@@ -46,7 +51,7 @@ fn main(rt: HostRuntime) -> anyhow::Result<()> {
     let ping = Bytes::new(Vec::from_slice(alloc, b"ping from 21")?);
     let pong = Bytes::new(Vec::from_slice(alloc, b"pong from 35")?);
     let shared = SharedSegment::share(live);
-    let gate = OpenGate {};
+    let gate = Pace {};
     let station = |address| { station_worker(&rt, &shared, address, &gate, TURNS) };
     let stations = || { thread::join(&rt, || station(HERE), || station(THERE)) };
     let bus = || bus_worker(&rt, &shared, &gate, TURNS);

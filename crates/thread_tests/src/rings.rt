@@ -1,9 +1,10 @@
 //! Both ends of each ring on one thread: each call on its happy path, full and empty rings, and places that are free again.
+use crate::calls::*;
 use lane_core::Bytes;
-use pgn_ids::{Address, Pgn};
+use pgn_ids::Address;
 use port_table::PortId;
 use segment_law::Refusal;
-use segment_rings::{Buffer, Delivery, Door, Doorway, Note, Offer, Seat, Submission};
+use segment_rings::{Buffer, Client, Delivery, Door, Doorway, Note, Offer, Seat, Submission};
 use std::alloc::{AllocError, Global};
 use std::test::Fail;
 use tp_wire::Outcome;
@@ -11,8 +12,6 @@ use tp_wire::Outcome;
 const SENDER: Address = Address(0x21);
 
 const RECEIVER: Address = Address(0x35);
-
-const FECA: u32 = 0xFECA;
 
 fn nine(alloc: Global) -> Result<Bytes, AllocError> {
     let mut bytes = Vec::new(alloc);
@@ -33,9 +32,14 @@ fn delivery(alloc: Global) -> Result<Delivery, Fail> {
     Ok(Delivery {
         from: SENDER,
         to: RECEIVER,
-        pgn: Pgn::new(FECA)?,
+        pgn: feca()?,
         bytes: nine(alloc)?,
     })
+}
+
+// Submits nine bytes to 35.
+fn submit_nine(alloc: Global, client: &mut Client) -> Result<Submitted, AllocError> {
+    submitted(client, RECEIVER, FECA, nine(alloc)?)
 }
 
 // Gives one delivery, where the ring has a place, and tells whether it had.
@@ -87,7 +91,7 @@ fn a_submission_is_taken_and_its_note_is_read(rt: HostRuntime) -> Result<(), Fai
     assert!(rt; client.id() == 3 && seat.id() == 3);
     assert!(rt; client.station() == SENDER && seat.station() == SENDER);
     assert!(rt; take_one(&mut seat)?.is_none());
-    match client.submit(RECEIVER, FECA, nine(alloc)?) {
+    match submit_nine(alloc, &mut client)? {
         Ok(ticket) => assert_eq!(rt; ticket, 1),
         Err(refused) => panic!(rt; "{refused:?}"),
     }
@@ -112,6 +116,24 @@ fn a_submission_is_taken_and_its_note_is_read(rt: HostRuntime) -> Result<(), Fai
 }
 
 #[test]
+fn a_note_after_the_end_goes_into_no_ring(rt: HostRuntime) -> Result<(), Fail> {
+    let alloc = rt.alloc();
+    let (mut seat, mut client) = Seat::new(alloc, 0, SENDER)?;
+    assert!(rt; submit_nine(alloc, &mut client)?.is_ok());
+    match seat.offer(0) {
+        Offer::Ready => {
+            seat.reserve(1)?;
+            seat.close();
+            seat.note(note_of(1));
+        }
+        Offer::Empty | Offer::Owed => panic!(rt; "nothing waits"),
+    }
+    assert!(rt; client.try_outcome()?.is_none());
+    assert_eq!(rt; seat.notes().len(), 1);
+    Ok(())
+}
+
+#[test]
 fn what_is_not_to_be_sent_comes_back(rt: HostRuntime) -> Result<(), Fail> {
     let alloc = rt.alloc();
     let (_seat, mut client) = Seat::new(alloc, 0, SENDER)?;
@@ -120,7 +142,7 @@ fn what_is_not_to_be_sent_comes_back(rt: HostRuntime) -> Result<(), Fail> {
         (Address::NULL, FECA, Refusal::NoSuchStation),
         (SENDER, FECA, Refusal::SameStation),
     ] {
-        match client.submit(to, pgn, nine(alloc)?) {
+        match submitted(&mut client, to, pgn, nine(alloc)?)? {
             Ok(_) => panic!(rt; "submitted"),
             Err(refused) => {
                 assert!(rt; refused.refusal == Some(cause));
@@ -128,7 +150,7 @@ fn what_is_not_to_be_sent_comes_back(rt: HostRuntime) -> Result<(), Fail> {
             }
         }
     }
-    match client.submit(RECEIVER, FECA, Bytes::new(Vec::new(alloc))) {
+    match submitted(&mut client, RECEIVER, FECA, Bytes::new(Vec::new(alloc)))? {
         Ok(_) => panic!(rt; "submitted"),
         Err(refused) => assert!(rt; refused.refusal == Some(Refusal::TooShort)),
     }
@@ -141,12 +163,12 @@ fn a_full_ring_of_submissions_has_a_place_again(rt: HostRuntime) -> Result<(), F
     let alloc = rt.alloc();
     let (mut seat, mut client) = Seat::new(alloc, 0, SENDER)?;
     for ticket in 1..65u64 {
-        match client.submit(RECEIVER, FECA, nine(alloc)?) {
+        match submit_nine(alloc, &mut client)? {
             Ok(got) => assert_eq!(rt; got, ticket),
             Err(refused) => panic!(rt; "{refused:?}"),
         }
     }
-    match client.submit(RECEIVER, FECA, nine(alloc)?) {
+    match submit_nine(alloc, &mut client)? {
         Ok(_) => panic!(rt; "submitted"),
         Err(refused) => {
             assert!(rt; refused.refusal == Some(Refusal::RingFull));
@@ -154,7 +176,7 @@ fn a_full_ring_of_submissions_has_a_place_again(rt: HostRuntime) -> Result<(), F
         }
     }
     assert!(rt; take_one(&mut seat)?.is_some());
-    assert!(rt; client.submit(RECEIVER, FECA, nine(alloc)?).is_ok());
+    assert!(rt; submit_nine(alloc, &mut client)?.is_ok());
     Ok(())
 }
 
@@ -162,7 +184,7 @@ fn a_full_ring_of_submissions_has_a_place_again(rt: HostRuntime) -> Result<(), F
 fn a_full_ring_of_notes_has_a_place_again(rt: HostRuntime) -> Result<(), Fail> {
     let alloc = rt.alloc();
     let (mut seat, mut client) = Seat::new(alloc, 0, SENDER)?;
-    assert!(rt; client.submit(RECEIVER, FECA, nine(alloc)?).is_ok());
+    assert!(rt; submit_nine(alloc, &mut client)?.is_ok());
     for ticket in 1..65u64 {
         assert!(rt; note_one(&mut seat, ticket)?);
     }

@@ -1,30 +1,30 @@
 //! Full rings, owed places, and the most calls that are stored.
 use super::steps::*;
 use pgn_ids::Address;
-use segment_shared::{Accepted, CloseRefused, Live, MOST_CALLS, OpenRefused, Refusal, WorkerCall};
+use segment_shared::{Accepted, Live, MOST_CALLS, OpenRefused, Refusal, WorkerCall};
 use std::test::Fail;
 
 #[test]
 fn a_port_whose_ring_is_full_is_given_nothing(rt: HostRuntime) -> Result<(), Fail> {
     let alloc = rt.alloc();
-    let mut live = three(&rt, alloc)?;
-    let mut inbox = port(&rt, &mut live)?;
-    let mut sender = client(&rt, &mut live, A);
+    let mut live = three(alloc)?;
+    let mut inbox = port(&mut live)?;
+    let mut sender = client(&mut live, A)?;
     for _ in 0..64 {
         submit(&rt, &mut sender, R, alloc)?;
-        go_on(&mut live, 8);
+        go_on(&mut live);
         assert!(rt; note(&mut sender)?.is_some());
     }
     assert_eq!(rt; live.counts().given, 64);
     submit(&rt, &mut sender, R, alloc)?;
-    go_on(&mut live, 8);
+    go_on(&mut live);
     match note(&mut sender)? {
         Some(note) => assert!(rt; note.outcome == tp_wire::Outcome::Aborted(2)),
         None => panic!(rt; "no note"),
     }
     assert!(rt; receive(&mut inbox)?);
     submit(&rt, &mut sender, R, alloc)?;
-    go_on(&mut live, 12);
+    go_on(&mut live);
     match note(&mut sender)? {
         Some(note) => assert!(rt; note.outcome == tp_wire::Outcome::Acknowledged),
         None => panic!(rt; "no note"),
@@ -36,8 +36,8 @@ fn a_port_whose_ring_is_full_is_given_nothing(rt: HostRuntime) -> Result<(), Fai
 #[test]
 fn messages_without_an_outcome_hold_their_places(rt: HostRuntime) -> Result<(), Fail> {
     let alloc = rt.alloc();
-    let mut live = three(&rt, alloc)?;
-    let mut sender = client(&rt, &mut live, A);
+    let mut live = three(alloc)?;
+    let mut sender = client(&mut live, A)?;
     for number in 1..33u64 {
         submit(&rt, &mut sender, R, alloc)?;
         submit(&rt, &mut sender, Address::GLOBAL, alloc)?;
@@ -60,8 +60,8 @@ fn messages_without_an_outcome_hold_their_places(rt: HostRuntime) -> Result<(), 
 #[test]
 fn a_full_lane_keeps_its_submission(rt: HostRuntime) -> Result<(), Fail> {
     let alloc = rt.alloc();
-    let mut live = three(&rt, alloc)?;
-    let mut sender = client(&rt, &mut live, A);
+    let mut live = three(alloc)?;
+    let mut sender = client(&mut live, A)?;
     for number in 1..33u64 {
         submit(&rt, &mut sender, R, alloc)?;
         assert!(rt; accept(&mut live, &sender)? == Accepted::Sent(number));
@@ -90,9 +90,9 @@ fn unopened(live: &mut Live, station: Address) -> Result<Option<OpenRefused>, Fa
 #[test]
 fn no_more_calls_are_stored(rt: HostRuntime) -> Result<(), Fail> {
     let alloc = rt.alloc();
-    let mut live = three(&rt, alloc)?;
-    let mut inbox = port(&rt, &mut live)?;
-    let mut sender = client(&rt, &mut live, A);
+    let mut live = three(alloc)?;
+    let mut inbox = port(&mut live)?;
+    let mut sender = client(&mut live, A)?;
     submit(&rt, &mut sender, R, alloc)?;
     let tick = WorkerCall::Tick { n: 0 };
     for _ in 1..MOST_CALLS {
@@ -101,7 +101,7 @@ fn no_more_calls_are_stored(rt: HostRuntime) -> Result<(), Fail> {
     let full = Refusal::TraceFull;
     assert!(rt; refused(&mut live, tick)? == Some(full));
     assert!(rt; accept(&mut live, &sender)? == Accepted::Refused(full));
-    assert!(rt; close(&mut live, &mut inbox) == Err(CloseRefused::Refused(full)));
+    assert!(rt; close(&mut live, &mut inbox)? == Err(full));
     assert!(rt; unopened(&mut live, R)? == Some(OpenRefused::Refused(full)));
     let nowhere = OpenRefused::Refused(Refusal::NoSuchStation);
     assert!(rt; unopened(&mut live, Address(0x50))? == Some(nowhere));

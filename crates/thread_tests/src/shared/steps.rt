@@ -1,10 +1,11 @@
 //! Single steps of tests: each ends the test where memory is refused, or where it isn't answered as it is meant to be.
-use pgn_ids::{Address, Pgn};
+pub(super) use crate::calls::*;
+use pgn_ids::Address;
 use segment_shared::{
-    Accepted, Bytes, Client, CloseRefused, Inbox, Live, Note, Refusal, Reply, Report, WorkerCall,
-    finish,
+    Accepted, Bytes, Client, CloseRefused, Closed, Inbox, Live, Note, PortKept, Refusal, Reply,
+    Report, WorkerCall, finish,
 };
-use std::alloc::Global;
+use std::alloc::{AllocError, Global};
 use std::process::Abort;
 use std::test::Fail;
 
@@ -14,11 +15,8 @@ pub(super) const B: Address = Address(0x22);
 
 pub(super) const R: Address = Address(0x35);
 
-pub(super) const FECA: u32 = 0xFECA;
-
-pub(super) fn feca() -> Result<Pgn, Fail> {
-    Ok(Pgn::new(FECA)?)
-}
+// More turns than an exchange takes: a turn that finds no memory leaves what it was to do to the next.
+const MANY: u64 = 24;
 
 pub(super) fn bytes(alloc: Global, first: u8, many: u8) -> Result<Bytes, Fail> {
     let mut all = Vec::new(alloc);
@@ -29,26 +27,17 @@ pub(super) fn bytes(alloc: Global, first: u8, many: u8) -> Result<Bytes, Fail> {
 }
 
 // A segment with the stations 21, 22 and 35.
-pub(super) fn three(rt: &impl Abort, alloc: Global) -> Result<Live, Fail> {
-    match Live::new(alloc, &[A, B, R]) {
-        Ok(live) => Ok(live),
-        Err(_) => panic!(rt; "no segment"),
-    }
+pub(super) fn three(alloc: Global) -> Result<Live, Fail> {
+    Ok(Live::new(alloc, &[A, B, R])?)
 }
 
 // A port of 35.
-pub(super) fn port(rt: &impl Abort, live: &mut Live) -> Result<Inbox, Fail> {
-    match live.open_port(R, feca()?, 1785) {
-        Ok(inbox) => Ok(inbox),
-        Err(_) => panic!(rt; "no port"),
-    }
+pub(super) fn port(live: &mut Live) -> Result<Inbox, Fail> {
+    Ok(live.open_port(R, feca()?, 1785)?)
 }
 
-pub(super) fn client(rt: &impl Abort, live: &mut Live, station: Address) -> Client {
-    match live.attach(station) {
-        Ok(client) => client,
-        Err(_) => panic!(rt; "no client"),
-    }
+pub(super) fn client(live: &mut Live, station: Address) -> Result<Client, Fail> {
+    Ok(live.attach(station)?)
 }
 
 // A client submits nine bytes.
@@ -58,7 +47,7 @@ pub(super) fn submit(
     to: Address,
     alloc: Global,
 ) -> Result<u64, Fail> {
-    match client.submit(to, FECA, bytes(alloc, 1, 9)?) {
+    match submitted(client, to, FECA, bytes(alloc, 1, 9)?)? {
         Ok(ticket) => Ok(ticket),
         Err(refused) => panic!(rt; "{refused:?}"),
     }
@@ -93,11 +82,30 @@ pub(super) fn receive(inbox: &mut Inbox) -> Result<bool, Fail> {
     Ok(inbox.try_receive()?.is_some())
 }
 
-// How many deliveries the closing of a port hands out.
-pub(super) fn close(live: &mut Live, inbox: &mut Inbox) -> Result<usize, CloseRefused> {
-    match live.close_on(inbox) {
-        Ok(closed) => Ok(closed.rest.len()),
-        Err(refused) => Err(refused),
+// How many deliveries a closing hands out, or why it is refused.
+fn handed_out(closed: Result<Closed, CloseRefused>) -> Result<Result<usize, Refusal>, AllocError> {
+    match closed {
+        Ok(closed) => Ok(Ok(closed.rest.len())),
+        Err(CloseRefused::Refused(refusal)) => Ok(Err(refusal)),
+        Err(CloseRefused::OutOfMemory) => Err(AllocError),
+    }
+}
+
+// The same of the closing of a port.
+pub(super) fn close(
+    live: &mut Live,
+    inbox: &mut Inbox,
+) -> Result<Result<usize, Refusal>, AllocError> {
+    handed_out(live.close_on(inbox))
+}
+
+// The same of one that a thread asks for.
+pub(super) fn closed(
+    closed: Result<Closed, PortKept>,
+) -> Result<Result<usize, Refusal>, AllocError> {
+    match closed {
+        Ok(closed) => handed_out(Ok(closed)),
+        Err(kept) => handed_out(Err(kept.refused)),
     }
 }
 
@@ -112,13 +120,16 @@ pub(super) fn report(
     let inboxes = vec![in alloc; inbox]?;
     match finish(live, clients, inboxes) {
         Ok(report) => Ok(report),
-        Err(_) => panic!(rt; "not this segment"),
+        Err(refused) => {
+            assert!(rt; !refused.not_this_segment);
+            Err(Fail::from(AllocError))
+        }
     }
 }
 
-// So many turns of the workers of stations 21 and 35 and of the bus, one after another.
-pub(super) fn go_on(live: &mut Live, turns: u64) {
-    for _ in 0..turns {
+// Turns of the workers of stations 21 and 35 and of the bus, one after another.
+pub(super) fn go_on(live: &mut Live) {
+    for _ in 0..MANY {
         let _sender = live.station_turn(A);
         let _receiver = live.station_turn(R);
         let _bus = live.bus_turn();
