@@ -68,13 +68,14 @@ fn what_is_left_is_reported(rt: HostRuntime) -> Result<(), Fail> {
     assert!(rt; close(&mut live, &mut inbox)? == Ok(0));
     assert!(rt; !receive(&mut inbox)?);
     let clients = vec![in alloc; first]?;
-    let report = report(&rt, &mut live, clients, inbox, alloc)?;
-    for client in &report.clients {
-        assert_eq!(rt; client.left.len(), 63);
-    }
-    for inbox in &report.inboxes {
-        assert!(rt; inbox.rest.is_empty());
-    }
+    let left = Left {
+        clients: 1,
+        submissions: 63,
+        notes: 0,
+        inboxes: 1,
+        deliveries: 0,
+    };
+    assert_eq!(rt; left_of(&rt, &mut live, clients, inbox, alloc)?, left);
     assert!(rt; live.accept(0)? == Accepted::Empty);
     Ok(())
 }
@@ -107,27 +108,34 @@ fn exchange(rt: &impl Abort, live: &mut Live) -> Result<(), Fail> {
     Ok(())
 }
 
-#[test]
-fn the_lowest_identifier_comes_first(rt: HostRuntime) -> Result<(), Fail> {
-    let alloc = rt.alloc();
+// A segment in which a frame of 21 and one of 22 wait.
+fn two_waiting(rt: &impl Abort, alloc: Global) -> Result<Live, Fail> {
     let mut live = three(alloc)?;
     let mut first = client(&mut live, A)?;
     let mut second = client(&mut live, B)?;
-    submit(&rt, &mut first, R, alloc)?;
-    submit(&rt, &mut second, A, alloc)?;
+    submit(rt, &mut first, R, alloc)?;
+    submit(rt, &mut second, A, alloc)?;
     assert!(rt; accept(&mut live, &first)? == Accepted::Sent(1));
     assert!(rt; accept(&mut live, &second)? == Accepted::Sent(1));
-    made(&rt, &mut live, WorkerCall::Pump { station: A, to: R })?;
-    made(&rt, &mut live, WorkerCall::Pump { station: B, to: A })?;
+    made(rt, &mut live, WorkerCall::Pump { station: A, to: R })?;
+    made(rt, &mut live, WorkerCall::Pump { station: B, to: A })?;
+    Ok(live)
+}
+
+// The identifier of the first frame on the bus, if there is one.
+fn first_identifier(live: &Live) -> Option<u32> {
+    live.segment().frame(1).map(|frame| frame.id().raw())
+}
+
+#[test]
+fn the_lowest_identifier_comes_first(rt: HostRuntime) -> Result<(), Fail> {
+    let alloc = rt.alloc();
+    let live = two_waiting(&rt, alloc)?;
     assert!(rt; live.lowest() == Some(B));
     let shared = SharedSegment::share(live);
     assert_eq!(rt; calls_of_bus(&rt, &shared), 1);
     let mut live = shared.into_live();
-    assert!(rt;
-        live.segment()
-            .frame(1)
-            .is_some_and(|frame| frame.id().raw() == 0x1CEC_2122)
-    );
+    assert!(rt; first_identifier(&live) == Some(0x1CEC_2122));
     let again = WorkerCall::Transmit { station: B };
     assert!(rt; refused(&mut live, again)? == Some(Refusal::NothingToSend));
     made(&rt, &mut live, WorkerCall::Transmit { station: A })?;

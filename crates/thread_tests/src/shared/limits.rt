@@ -1,8 +1,26 @@
 //! Full rings, owed places, and the most calls that are stored.
 use super::steps::*;
 use pgn_ids::Address;
-use segment_shared::{Accepted, Live, MOST_CALLS, OpenRefused, Refusal, WorkerCall};
+use segment_shared::{Accepted, Client, Live, MOST_CALLS, OpenRefused, Refusal, WorkerCall};
+use std::alloc::Global;
+use std::process::Abort;
 use std::test::Fail;
+use tp_wire::Outcome;
+
+// The outcome of the next message of a client.
+fn outcome(
+    rt: &impl Abort,
+    live: &mut Live,
+    sender: &mut Client,
+    alloc: Global,
+) -> Result<Outcome, Fail> {
+    submit(rt, sender, R, alloc)?;
+    go_on(live);
+    match note(sender)? {
+        Some(note) => Ok(note.outcome),
+        None => panic!(rt; "no note"),
+    }
+}
 
 #[test]
 fn a_port_whose_ring_is_full_is_given_nothing(rt: HostRuntime) -> Result<(), Fail> {
@@ -11,26 +29,18 @@ fn a_port_whose_ring_is_full_is_given_nothing(rt: HostRuntime) -> Result<(), Fai
     let mut inbox = port(&mut live)?;
     let mut sender = client(&mut live, A)?;
     for _ in 0..64 {
-        submit(&rt, &mut sender, R, alloc)?;
-        go_on(&mut live);
-        assert!(rt; note(&mut sender)?.is_some());
+        assert!(rt; outcome(&rt, &mut live, &mut sender, alloc)? == Outcome::Acknowledged);
     }
-    assert_eq!(rt; live.counts().given, 64);
-    submit(&rt, &mut sender, R, alloc)?;
-    go_on(&mut live);
-    match note(&mut sender)? {
-        Some(note) => assert!(rt; note.outcome == tp_wire::Outcome::Aborted(2)),
-        None => panic!(rt; "no note"),
-    }
+    assert_eq!(rt; given(&live), 64);
+    assert!(rt; outcome(&rt, &mut live, &mut sender, alloc)? == Outcome::Aborted(2));
     assert!(rt; receive(&mut inbox)?);
-    submit(&rt, &mut sender, R, alloc)?;
-    go_on(&mut live);
-    match note(&mut sender)? {
-        Some(note) => assert!(rt; note.outcome == tp_wire::Outcome::Acknowledged),
-        None => panic!(rt; "no note"),
-    }
-    assert_eq!(rt; live.counts().given, 65);
+    assert!(rt; outcome(&rt, &mut live, &mut sender, alloc)? == Outcome::Acknowledged);
+    assert_eq!(rt; given(&live), 65);
     Ok(())
+}
+
+fn given(live: &Live) -> u64 {
+    live.counts().given
 }
 
 #[test]

@@ -15,8 +15,8 @@ pub(super) const B: Address = Address(0x22);
 
 pub(super) const R: Address = Address(0x35);
 
-// More turns than an exchange takes: a turn that finds no memory leaves what it was to do to the next.
-const MANY: u64 = 24;
+// Two turns more than the longest exchange takes: a turn that finds no memory leaves what it was to do to the next.
+const MANY: u64 = 14;
 
 pub(super) fn bytes(alloc: Global, first: u8, many: u8) -> Result<Bytes, Fail> {
     let mut all = Vec::new(alloc);
@@ -109,17 +109,45 @@ pub(super) fn closed(
     }
 }
 
-// The report on these clients and an inbox.
-pub(super) fn report(
+// What a report says of clients and inboxes: how many there are, and how much is left of all of them together.
+#[derive(Clone, Copy, Debug, PartialEq, Eq)]
+pub(super) struct Left {
+    pub(super) clients: usize,
+    pub(super) submissions: usize,
+    pub(super) notes: usize,
+    pub(super) inboxes: usize,
+    pub(super) deliveries: usize,
+}
+
+fn left_by(report: &Report) -> Left {
+    let mut left = Left {
+        clients: report.clients.len(),
+        submissions: 0,
+        notes: 0,
+        inboxes: report.inboxes.len(),
+        deliveries: 0,
+    };
+    for client in &report.clients {
+        left.submissions = left.submissions.saturating_add(client.left.len());
+        left.notes = left.notes.saturating_add(client.unread.len());
+    }
+    for inbox in &report.inboxes {
+        left.deliveries = left.deliveries.saturating_add(inbox.rest.len());
+    }
+    left
+}
+
+// What is left of these clients and an inbox.
+pub(super) fn left_of(
     rt: &impl Abort,
     live: &mut Live,
     clients: Vec<Client>,
     inbox: Inbox,
     alloc: Global,
-) -> Result<Report, Fail> {
+) -> Result<Left, Fail> {
     let inboxes = vec![in alloc; inbox]?;
     match finish(live, clients, inboxes) {
-        Ok(report) => Ok(report),
+        Ok(report) => Ok(left_by(&report)),
         Err(refused) => {
             assert!(rt; !refused.not_this_segment);
             Err(Fail::from(AllocError))

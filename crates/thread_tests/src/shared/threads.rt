@@ -2,16 +2,16 @@
 use super::steps::*;
 use pgn_ids::Address;
 use segment_shared::{
-    Bytes, Client, Gate, Inbox, SharedSegment, Tally, bus_worker, station_worker,
+    Bytes, Client, Gate, Inbox, Live, SharedSegment, Tally, bus_worker, station_worker,
 };
-use std::alloc::AllocError;
+use std::alloc::{AllocError, Global};
 use std::sync::Wait;
 use std::sync::atomic::{AtomicU64, Ordering};
 use std::test::Fail;
 use std::thread;
 use std::thread::Threads;
 
-/// How many workers there are, and the most turns of each. The messages take fewer than a hundred.
+/// How many workers there are, and the most turns of each.
 const WORKERS: u64 = 4;
 
 const TURNS: u64 = 20_000;
@@ -174,22 +174,28 @@ fn talk_by_threads<T: Threads + Wait + Sync>(
     })
 }
 
-#[test]
-fn messages_of_two_threads_come_to_a_third(rt: HostRuntime) -> Result<(), Fail> {
-    let alloc = rt.alloc();
+// A segment with two clients and an inbox for what they submit.
+fn with_ends(alloc: Global) -> Result<(Live, Ends), Fail> {
     let mut live = three(alloc)?;
     let inbox = port(&mut live)?;
     let first = client(&mut live, A)?;
     let second = client(&mut live, B)?;
-    let nine = bytes(alloc, 1, 9)?;
-    let ten = bytes(alloc, 0x11, 10)?;
-    let shared = SharedSegment::share(live);
-    let pace = Pace::new();
     let ends = Ends {
         first,
         second,
         inbox,
     };
+    Ok((live, ends))
+}
+
+#[test]
+fn messages_of_two_threads_come_to_a_third(rt: HostRuntime) -> Result<(), Fail> {
+    let alloc = rt.alloc();
+    let (live, ends) = with_ends(alloc)?;
+    let nine = bytes(alloc, 1, 9)?;
+    let ten = bytes(alloc, 0x11, 10)?;
+    let shared = SharedSegment::share(live);
+    let pace = Pace::new();
     let (ends, came) = talk_by_threads(&rt, &shared, &pace, ends, nine, ten);
     assert!(rt; came? == [true; 4]);
     assert_eq!(rt; pace.missed.load(Ordering::SeqCst), 0);
@@ -203,13 +209,13 @@ fn messages_of_two_threads_come_to_a_third(rt: HostRuntime) -> Result<(), Fail> 
         inbox,
     } = ends;
     let clients = vec![in alloc; first, second]?;
-    let report = report(&rt, &mut live, clients, inbox, alloc)?;
-    assert!(rt; report.clients.len() == 2 && report.inboxes.len() == 1);
-    for client in &report.clients {
-        assert!(rt; client.left.is_empty() && client.unread.is_empty());
-    }
-    for inbox in &report.inboxes {
-        assert!(rt; inbox.rest.is_empty());
-    }
+    let nothing = Left {
+        clients: 2,
+        submissions: 0,
+        notes: 0,
+        inboxes: 1,
+        deliveries: 0,
+    };
+    assert_eq!(rt; left_of(&rt, &mut live, clients, inbox, alloc)?, nothing);
     Ok(())
 }
