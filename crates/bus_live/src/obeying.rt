@@ -10,7 +10,7 @@ use script_commands::{Command, Fault, LineError, read_command, split_words};
 use script_lines::is_ascii;
 use segment_core::{Call, Refusal};
 use segment_rings::submit_refusal;
-use segment_shared::{Live, NewRefused, OpenRefused};
+use segment_shared::{Live, NotMade};
 use std::alloc::Global;
 
 /// The most stations of a script, and the most lines that ask for a message.
@@ -33,8 +33,8 @@ fn make(alloc: Global, setup: &mut Setup, addresses: &[Address]) -> Result<(), L
             setup.live = Some(live);
             Ok(())
         }
-        Err(NewRefused::BadAddresses) => setup.refuse(alloc, Refusal::BadAddresses),
-        Err(NewRefused::OutOfMemory) => Err(LineError::OutOfMemory),
+        Err(NotMade::Refused(cause)) => setup.refuse(alloc, cause),
+        Err(NotMade::OutOfMemory) => Err(LineError::OutOfMemory),
     }
 }
 
@@ -61,8 +61,8 @@ fn open(
             setup.inboxes.push_reserved(inbox);
             Ok(())
         }
-        Err(OpenRefused::Refused(cause)) => setup.refuse(alloc, cause),
-        Err(OpenRefused::OutOfMemory) => Err(LineError::OutOfMemory),
+        Err(NotMade::Refused(cause)) => setup.refuse(alloc, cause),
+        Err(NotMade::OutOfMemory) => Err(LineError::OutOfMemory),
     }
 }
 

@@ -13,7 +13,7 @@ use crate::text::{Lost, Told, text_of};
 use pgn_ids::Address;
 use script_lines::{Cause, ScriptFault, tell};
 use segment_core::PortId;
-use segment_shared::{AttachRefused, Client, Gate, Inbox, Live, SharedSegment, Submission, finish};
+use segment_shared::{Client, Gate, Inbox, Live, NotMade, SharedSegment, Submission, finish};
 use std::alloc::{AllocError, Global};
 use std::io::{Read, Write};
 use std::sync::Wait;
@@ -94,7 +94,7 @@ fn senders_of(
     for station in stations {
         let client = match live.attach(*station) {
             Ok(client) => client,
-            Err(AttachRefused::OutOfMemory) => return Err(Lost::OutOfMemory),
+            Err(NotMade::OutOfMemory) => return Err(Lost::OutOfMemory),
             Err(_) => return Err(Lost::NotThisSegment),
         };
         let messages = messages_of(alloc, *station, messages)?;

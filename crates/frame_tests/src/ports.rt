@@ -26,7 +26,7 @@ fn opens(
     table: &mut PortTable,
     pgn: Pgn,
     max_len: u32,
-    expected: Result<u64, PortsFull>,
+    expected: Result<u64, Refused>,
 ) {
     let opened = table.open(pgn, max_len);
     let expected = match expected {
@@ -34,7 +34,7 @@ fn opens(
             station: STATION,
             number,
         }),
-        Err(PortsFull) => Err(PortsFull),
+        Err(cause) => Err(cause),
     };
     assert!(rt; opened == expected);
 }
@@ -43,15 +43,15 @@ fn find(table: &PortTable, pgn: Pgn, len: u32) -> PortSet {
     table.find(pgn, len)
 }
 
-fn close(table: &mut PortTable, number: u64) -> Result<(), NoSuchPort> {
+fn close(table: &mut PortTable, number: u64) -> Result<(), Refused> {
     table.close(number)
 }
 
-fn pause(table: &mut PortTable, number: u64) -> Result<(), PauseError> {
+fn pause(table: &mut PortTable, number: u64) -> Result<(), Refused> {
     table.pause(number)
 }
 
-fn resume(table: &mut PortTable, number: u64) -> Result<(), ResumeError> {
+fn resume(table: &mut PortTable, number: u64) -> Result<(), Refused> {
     table.resume(number)
 }
 
@@ -71,7 +71,7 @@ fn several_ports_of_one_pgn(rt: HostRuntime) -> Result<(), Fail> {
     shows(&rt, &find(&table, pgn, 4001), &[]);
     shows(&rt, &find(&table, Pgn::new(0xFECB)?, 9), &[]);
     assert_eq!(rt; close(&mut table, 1), Ok(()));
-    assert_eq!(rt; close(&mut table, 1), Err(NoSuchPort));
+    assert_eq!(rt; close(&mut table, 1), Err(Refused::NoSuchPort));
     assert!(rt; !table.is_open(1));
     assert_eq!(rt; table.get(1), None);
     shows(&rt, &both.without(1), &[3]);
@@ -87,9 +87,9 @@ fn a_paused_port_is_found_and_holds(rt: HostRuntime) -> Result<(), Fail> {
     let mut table = new_table(rt.alloc())?;
     opens(&rt, &mut table, pgn, 1785, Ok(1));
     let set = find(&table, pgn, 1785);
-    assert_eq!(rt; resume(&mut table, 1), Err(ResumeError::PortNotPaused));
+    assert_eq!(rt; resume(&mut table, 1), Err(Refused::PortNotPaused));
     assert_eq!(rt; pause(&mut table, 1), Ok(()));
-    assert_eq!(rt; pause(&mut table, 1), Err(PauseError::PortPaused));
+    assert_eq!(rt; pause(&mut table, 1), Err(Refused::PortPaused));
     let port = Port {
         number: 1,
         pgn,
@@ -104,8 +104,8 @@ fn a_paused_port_is_found_and_holds(rt: HostRuntime) -> Result<(), Fail> {
     assert_eq!(rt; resume(&mut table, 1), Ok(()));
     assert!(rt; !table.any_paused(&set));
     assert_eq!(rt; close(&mut table, 1), Ok(()));
-    assert_eq!(rt; pause(&mut table, 1), Err(PauseError::NoSuchPort));
-    assert_eq!(rt; resume(&mut table, 1), Err(ResumeError::NoSuchPort));
+    assert_eq!(rt; pause(&mut table, 1), Err(Refused::NoSuchPort));
+    assert_eq!(rt; resume(&mut table, 1), Err(Refused::NoSuchPort));
     Ok(())
 }
 
@@ -116,10 +116,10 @@ fn sixteen_ports(rt: HostRuntime) -> Result<(), Fail> {
     for number in 1..=16 {
         opens(&rt, &mut table, pgn, 9, Ok(number));
     }
-    opens(&rt, &mut table, pgn, 9, Err(PortsFull));
+    opens(&rt, &mut table, pgn, 9, Err(Refused::PortsFull));
     assert_eq!(rt; find(&table, pgn, 9).len(), 16);
     assert_eq!(rt; close(&mut table, 7), Ok(()));
     opens(&rt, &mut table, pgn, 9, Ok(17));
-    opens(&rt, &mut table, pgn, 9, Err(PortsFull));
+    opens(&rt, &mut table, pgn, 9, Err(Refused::PortsFull));
     Ok(())
 }

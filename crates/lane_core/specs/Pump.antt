@@ -1,5 +1,5 @@
 -- What a lane queues when it is pumped (SAE J1939-21; ISO 11783-3), and how it settles.
-use Rattle.std.specs.Prelude.{ℕ, ◌+◌, Bool, false, nat_lt, ◌==◌, if◌then◌else◌, List, [], ◌∷◌, length, Option, Some, None}
+use Rattle.std.specs.Prelude.{ℕ, ◌+◌, Bool, true, false, nat_lt, ◌==◌, if◌then◌else◌, List, [], ◌∷◌, length, Option, Some, None, is_none}
 use Rattle.bus_frame.specs.Frames.{CanFrame}
 use Rattle.pgn_ids.specs.Address.{global_address}
 use Rattle.tick_timers.specs.Timers.{is_due}
@@ -12,7 +12,7 @@ use Rattle.bam_session.specs.declared.outgoing.BamPumped.{BamPumped}
 use Rattle.bam_session.specs.declared.outgoing.BamPumped.TheVariants as pumping
 use Rattle.originator.specs.Opening.{begun}
 use Rattle.originator.specs.Pump as out
-use Rattle.originator.specs.Readers.{is_state_due, link_of, started}
+use Rattle.originator.specs.Readers.{is_state_due, has_timer, link_of, started}
 use Rattle.originator.specs.Endings.{expired}
 use Rattle.originator.specs.declared.states.OutState.{OutState}
 use Rattle.originator.specs.declared.states.OutState.TheVariants.{AwaitCts, Sending}
@@ -45,6 +45,16 @@ refusal_by (Connection _) lane now = Some NothingToSend
 
 abbrev pub pump_refusal : Lane → (now : ℕ) → Option PumpRefused
 pump_refusal lane now = refusal_by lane.under_way lane now
+
+-- it has a frame to queue, now or once the gap of its broadcast has passed
+abbrev pub ready_by : UnderWay → Lane → Bool
+ready_by Nothing lane = is_none (idle_refusal lane.standing lane.pending)
+ready_by (Broadcast s) lane = true
+ready_by (Connection (Sending s)) lane = true
+ready_by (Connection _) lane = false
+
+abbrev pub is_ready : Lane → Bool
+is_ready lane = ready_by lane.under_way lane
 
 -- how many ticks a broadcast still has to wait for its next frame
 abbrev pub missing_by : UnderWay → (now : ℕ) → ℕ
@@ -110,6 +120,19 @@ due_by (Broadcast s) standing now = false
 
 abbrev pub is_lane_due : Lane → (now : ℕ) → Bool
 is_lane_due lane now = due_by lane.under_way lane.standing now
+
+-- a timer runs: that of the connection under way, else that of the Request
+abbrev pub is_probing : Standing → Bool
+is_probing (Probing count timer) = true
+is_probing _ = false
+
+abbrev pub timed_by : UnderWay → Standing → Bool
+timed_by (Connection s) standing = has_timer s
+timed_by Nothing standing = is_probing standing
+timed_by (Broadcast s) standing = false
+
+abbrev pub is_timed : Lane → Bool
+is_timed lane = timed_by lane.under_way lane.standing
 
 -- how often a lane asks in one round
 abbrev pub most_requests : ℕ

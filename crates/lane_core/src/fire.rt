@@ -1,7 +1,7 @@
 //! When the timer of a lane fires.
 ghost use Rattle.std.specs.Prelude.{◌≡◌};
 ghost use Rattle.lane_core.specs.declared.place.UnderWay.TheVariants.{Nothing};
-ghost use Rattle.lane_core.specs.Pump.{is_lane_due, is_probe_due as is_probe_due_at, probe_fired, fired as fired_lane};
+ghost use Rattle.lane_core.specs.Pump.{is_lane_due, is_timed, is_probe_due as is_probe_due_at, probe_fired, fired as fired_lane};
 
 use crate::lane::Lane;
 use crate::place::UnderWay;
@@ -20,6 +20,17 @@ impl Lane {
         match self.place.content() {
             UnderWay::Connection(state) => state.is_due(now),
             UnderWay::Nothing => self.is_probe_due(now),
+            UnderWay::Broadcast(_) => false,
+        }
+    }
+
+    /// Whether a timer of it runs, that of its connection or of its Request.
+    pub fn is_timed(&self) -> bool
+        ensures { result ≡ is_timed self.now }
+    {
+        match self.place.content() {
+            UnderWay::Connection(state) => state.timer().is_some(),
+            UnderWay::Nothing => matches!(self.standing, Standing::Probing { .. }),
             UnderWay::Broadcast(_) => false,
         }
     }

@@ -75,9 +75,10 @@ impl Lane {
         self.from
     }
 
-    /// Its destination.
+    /// Its destination: a node, or all.
     pub fn to(&self) -> Address
-        ensures { result.0 ≡ self.now.to }
+        ensures value { result.0 ≡ self.now.to }
+        ensures node { (is_one self.now.to || self.now.to == global_address) ≡ true }
     {
         self.to
     }

@@ -6,7 +6,7 @@ ghost use Rattle.lane_core.specs.Lane.{kind_for as kind_for_len};
 ghost use Rattle.lane_core.specs.declared.refused.PumpRefused.{PumpRefused};
 ghost use Rattle.lane_core.specs.Shape.{CarriesFront};
 ghost use Rattle.lane_core.specs.Endings.{still};
-ghost use Rattle.lane_core.specs.Pump.{idle_refusal, pump_refusal as refusal_of, missing as missing_of, front_bytes as bytes_of_front, most_requests, request_frame as request_frame_of, probes, idle_pumped, pumped as pumped_lane, pumped_by};
+ghost use Rattle.lane_core.specs.Pump.{idle_refusal, is_ready, pump_refusal as refusal_of, missing as missing_of, front_bytes as bytes_of_front, most_requests, request_frame as request_frame_of, probes, idle_pumped, pumped as pumped_lane, pumped_by};
 
 use crate::lane::Lane;
 use crate::place::UnderWay;
@@ -50,6 +50,18 @@ impl Lane {
         match self.standing {
             Standing::Settled | Standing::InDoubt => None,
             Standing::Probing { .. } => Some(PumpRefused::NothingToSend),
+        }
+    }
+
+    /// Whether it has a frame to queue, now or once the gap of its broadcast has passed.
+    pub fn is_ready(&self) -> bool
+        ensures { result ≡ is_ready self.now }
+    {
+        match self.place.content() {
+            UnderWay::Nothing => self.idle_refusal().is_none(),
+            UnderWay::Broadcast(_) => true,
+            UnderWay::Connection(OutState::Sending(_)) => true,
+            UnderWay::Connection(_) => false,
         }
     }
 

@@ -1,16 +1,10 @@
 -- The open ports of a station, several of them perhaps on one PGN, and which of them are paused.
-use Rattle.std.specs.Prelude.{ℕ, ◌+◌, ◌^◌, ◌<◌, ◌≤◌, Bool, true, false, ◌&&◌, ◌||◌, not, nat_lt, nat_le, ◌==◌, if◌then◌else◌, List, [], ◌∷◌, ◌++◌, map, length, filter, find, All, AllPairs, Option, is_some, Result, Ok, Err}
+use Rattle.std.specs.Prelude.{ℕ, ◌+◌, ◌^◌, ◌<◌, ◌≤◌, Bool, false, ◌&&◌, ◌||◌, not, nat_lt, nat_le, ◌==◌, if◌then◌else◌, List, [], ◌∷◌, ◌++◌, map, length, filter, find, All, AllPairs, Option, is_some}
 use Rattle.std.specs.List.{list_any}
 use Rattle.std.specs.Option.{option_map_or}
 use Rattle.pgn_ids.specs.declared.address.Address.{Address}
 use Rattle.port_table.specs.declared.port.Port.{Port}
 use Rattle.port_table.specs.declared.port.PortId.{PortId}
-use Rattle.port_table.specs.declared.port.PortsFull.{PortsFull}
-use Rattle.port_table.specs.declared.port.NoSuchPort.{NoSuchPort}
-use Rattle.port_table.specs.declared.port.PauseError.{PauseError}
-use Rattle.port_table.specs.declared.port.PauseError.TheVariants as pause
-use Rattle.port_table.specs.declared.port.ResumeError.{ResumeError}
-use Rattle.port_table.specs.declared.port.ResumeError.TheVariants as resume
 use Rattle.port_table.specs.PortSet.{port_limit, has_number}
 
 -- the station, its open ports by rising number, and how many it ever opened, which is the last number that was used
@@ -45,9 +39,6 @@ with_port ports pgn max_len = record {
   opened = ports.opened + 1;
 }
 
-abbrev pub opening : Ports → (pgn max_len : ℕ) → Result Ports PortsFull
-opening ports pgn max_len = if are_full ports then Err (record {}) else Ok (with_port ports pgn max_len)
-
 -- the open port with this number
 abbrev pub port_at : Ports → ℕ → Option Port
 port_at ports number = find (λ p. p.number == number) ports.open_ports
@@ -69,27 +60,12 @@ less_port number ports = filter (λ p. not (p.number == number)) ports
 abbrev pub without_port : Ports → ℕ → Ports
 without_port ports number = record ports { open_ports = less_port number ports.open_ports }
 
-abbrev pub closing : Ports → ℕ → Result Ports NoSuchPort
-closing ports number = if is_open ports number then Ok (without_port ports number) else Err (record {})
-
 -- the port is paused, or no longer paused
 abbrev pub marked : (number : ℕ) → (paused : Bool) → Port → Port
 marked number paused p = if p.number == number then record p { paused = paused } else p
 
 abbrev pub with_paused : Ports → (number : ℕ) → (paused : Bool) → Ports
 with_paused ports number paused = record ports { open_ports = map (marked number paused) ports.open_ports }
-
-abbrev pub pausing : Ports → ℕ → Result Ports PauseError
-pausing ports number =
-    if not (is_open ports number) then Err pause.NoSuchPort
-    else if is_paused ports number then Err pause.PortPaused
-    else Ok (with_paused ports number true)
-
-abbrev pub resuming : Ports → ℕ → Result Ports ResumeError
-resuming ports number =
-    if not (is_open ports number) then Err resume.NoSuchPort
-    else if is_paused ports number then Ok (with_paused ports number false)
-    else Err resume.PortNotPaused
 
 -- the port receives a message of this PGN and length
 abbrev pub receives : (pgn len : ℕ) → Port → Bool

@@ -5,11 +5,13 @@
 
 mod laws;
 mod port;
+mod refused;
 mod set;
 mod table;
 
 pub use laws::numbers_are_never_used_again;
-pub use port::{NoSuchPort, PauseError, Port, PortId, PortsFull, ResumeError};
+pub use port::{Port, PortId};
+pub use refused::Refused;
 pub use set::PortSet;
 pub use table::PortTable;
 

@@ -1,10 +1,13 @@
 //! The open ports of a station.
-ghost use Rattle.std.specs.Prelude.{◌≡◌, ℕ, ◌+◌, ◌<◌, ◌≤◌, ◌==◌, [], map, length, OnOk, OnErr, IfOk, IfErr, Ok, Err, vec_capacity, AllPairs};
-ghost use Rattle.port_table.specs.Ports.{no_ports, next_id, are_full, opening, closing, pausing, resuming, port_at, ports_for, less_port, marked, ArePorts};
+ghost use Rattle.std.specs.Prelude.{◌≡◌, true, false, ℕ, ◌+◌, ◌<◌, ◌≤◌, ◌==◌, [], map, length, OnOk, OnErr, IfOk, vec_capacity, AllPairs};
+ghost use Rattle.std.specs.Result.{result_err};
+ghost use Rattle.port_table.specs.Ports.{no_ports, next_id, with_port, without_port, with_paused, port_at, ports_for, less_port, marked, ArePorts};
 ghost use Rattle.port_table.specs.Ports.{is_open as is_open_at, is_paused as is_paused_at, is_any_paused};
+ghost use Rattle.port_table.specs.Refusals.{opening_refusal, closing_refusal, pausing_refusal, resuming_refusal};
 
 use crate::MAX_PORTS;
-use crate::port::{NoSuchPort, PauseError, Port, PortId, PortsFull, ResumeError};
+use crate::port::{Port, PortId};
+use crate::refused::Refused;
 use crate::set::PortSet;
 use pgn_ids::{Address, Pgn};
 use std::alloc::{AllocError, Global};
@@ -64,25 +67,29 @@ impl PortTable {
         self.ports.is_empty()
     }
 
-    /// Whether no port can be opened: 16 are open, or the next number would pass the end of `u64`.
-    pub fn is_full(&self) -> bool
-        ensures { result ≡ are_full self.now }
+    /// Why `open` would be refused, if it would.
+    pub fn open_refusal(&self) -> Option<Refused>
+        ensures { result ≡ opening_refusal self.now }
     {
-        self.ports.len() >= MAX_PORTS || self.opened == u64::MAX
+        if self.ports.len() >= MAX_PORTS || self.opened == u64::MAX {
+            return Some(Refused::PortsFull);
+        }
+        None
     }
 
     /// Opens a port for messages of a PGN, of at most `max_len` bytes. Its number is the next one, from 1.
     ///
-    /// Refused exactly where 16 ports are open, or the next number would pass the end of `u64`; then nothing changes.
-    pub fn open(&mut self, pgn: Pgn, max_len: u32) -> Result<PortId, PortsFull>
+    /// Refused as `PortsFull` exactly where 16 ports are open, or the next number would pass the end of `u64`; then
+    /// nothing changes.
+    pub fn open(&mut self, pgn: Pgn, max_len: u32) -> Result<PortId, Refused>
         ensures id { IfOk result (λ id. id ≡ next_id self.old) }
-        ensures ok { OnOk result (opening self.old pgn max_len ≡ Ok self.new) }
-        ensures refused { IfErr result (λ cause. opening self.old pgn max_len ≡ Err cause) }
+        ensures ok { OnOk result (self.new ≡ with_port self.old pgn max_len) }
+        ensures refused { result_err result ≡ opening_refusal self.old }
         ensures err { OnErr result (self.new ≡ self.old) }
         ensures valid { ArePorts self.new }
     {
-        if self.ports.len() >= MAX_PORTS || self.opened == u64::MAX {
-            return Err(PortsFull);
+        if let Some(cause) = self.open_refusal() {
+            return Err(cause);
         }
         self.opened += 1;
         let number = self.opened;
@@ -98,49 +105,85 @@ impl PortTable {
         })
     }
 
-    /// Closes a port. Refused exactly where no open port has this number; then nothing changes.
-    pub fn close(&mut self, number: u64) -> Result<(), NoSuchPort>
-        ensures ok { OnOk result (closing self.old number ≡ Ok self.new) }
-        ensures refused { IfErr result (λ cause. closing self.old number ≡ Err cause) }
+    /// Why `close` of a port would be refused, if it would.
+    pub fn close_refusal(&self, number: u64) -> Option<Refused>
+        ensures { result ≡ closing_refusal self.now number }
+    {
+        if !self.is_open(number) {
+            return Some(Refused::NoSuchPort);
+        }
+        None
+    }
+
+    /// Closes a port. Refused as `NoSuchPort` exactly where no open port has this number; then nothing changes.
+    pub fn close(&mut self, number: u64) -> Result<(), Refused>
+        ensures ok { OnOk result (self.new ≡ without_port self.old number) }
+        ensures refused { result_err result ≡ closing_refusal self.old number }
         ensures err { OnErr result (self.new ≡ self.old) }
         ensures valid { ArePorts self.new }
     {
-        if !self.is_open(number) {
-            return Err(NoSuchPort);
+        if let Some(cause) = self.close_refusal(number) {
+            return Err(cause);
         }
         remove(&mut self.ports, number);
         Ok(())
     }
 
+    /// Why `pause` of a port would be refused, if it would: the first cause.
+    pub fn pause_refusal(&self, number: u64) -> Option<Refused>
+        ensures { result ≡ pausing_refusal self.now number }
+    {
+        if !self.is_open(number) {
+            return Some(Refused::NoSuchPort);
+        }
+        if self.is_paused(number) {
+            return Some(Refused::PortPaused);
+        }
+        None
+    }
+
     /// Pauses a port: it is found as before, and sessions that give to it are held.
     ///
-    /// Refused exactly where no open port has this number, else where it is paused; then nothing changes.
-    pub fn pause(&mut self, number: u64) -> Result<(), PauseError>
-        ensures ok { OnOk result (pausing self.old number ≡ Ok self.new) }
-        ensures refused { IfErr result (λ cause. pausing self.old number ≡ Err cause) }
+    /// Refused as `NoSuchPort` exactly where no open port has this number, else as `PortPaused` where it is paused; then
+    /// nothing changes.
+    pub fn pause(&mut self, number: u64) -> Result<(), Refused>
+        ensures ok { OnOk result (self.new ≡ with_paused self.old number true) }
+        ensures refused { result_err result ≡ pausing_refusal self.old number }
         ensures err { OnErr result (self.new ≡ self.old) }
         ensures valid { ArePorts self.new }
     {
-        let port = self.get(number).ok_or(PauseError::NoSuchPort)?;
-        if port.paused {
-            return Err(PauseError::PortPaused);
+        if let Some(cause) = self.pause_refusal(number) {
+            return Err(cause);
         }
         mark(&mut self.ports, number, true);
         Ok(())
     }
 
+    /// Why `resume` of a port would be refused, if it would: the first cause.
+    pub fn resume_refusal(&self, number: u64) -> Option<Refused>
+        ensures { result ≡ resuming_refusal self.now number }
+    {
+        if !self.is_open(number) {
+            return Some(Refused::NoSuchPort);
+        }
+        if !self.is_paused(number) {
+            return Some(Refused::PortNotPaused);
+        }
+        None
+    }
+
     /// Ends the pause of a port.
     ///
-    /// Refused exactly where no open port has this number, else where it isn't paused; then nothing changes.
-    pub fn resume(&mut self, number: u64) -> Result<(), ResumeError>
-        ensures ok { OnOk result (resuming self.old number ≡ Ok self.new) }
-        ensures refused { IfErr result (λ cause. resuming self.old number ≡ Err cause) }
+    /// Refused as `NoSuchPort` exactly where no open port has this number, else as `PortNotPaused` where it isn't paused;
+    /// then nothing changes.
+    pub fn resume(&mut self, number: u64) -> Result<(), Refused>
+        ensures ok { OnOk result (self.new ≡ with_paused self.old number false) }
+        ensures refused { result_err result ≡ resuming_refusal self.old number }
         ensures err { OnErr result (self.new ≡ self.old) }
         ensures valid { ArePorts self.new }
     {
-        let port = self.get(number).ok_or(ResumeError::NoSuchPort)?;
-        if !port.paused {
-            return Err(ResumeError::PortNotPaused);
+        if let Some(cause) = self.resume_refusal(number) {
+            return Err(cause);
         }
         mark(&mut self.ports, number, false);
         Ok(())

@@ -10,29 +10,25 @@ use Rattle.tx_queue.specs.Queue.{free_places}
 use Rattle.std.proofs.lemmas.Bool.{eqb-true, le-ltb}
 use Rattle.segment_law.specs.declared.counts.Counts.{Counts}
 use Rattle.pgn_ids.specs.declared.address.Address.{Address}
-use Rattle.port_table.specs.Ports.{Ports, is_open, are_full, opening, with_port, next_id}
-use Rattle.port_table.specs.declared.port.PortsFull.{PortsFull}
 use Rattle.station_lanes.specs.declared.event.Event.{Event}
 use Rattle.station_core.specs.Station.{Station, StationStep}
 use Rattle.station_core.specs.Taking.{is_malformed_for, taken}
-use Rattle.station_core.specs.Closing.{closed}
 use Rattle.station_core.specs.Overruns.{overrun}
-use Rattle.station_core.specs.Timers.{is_due, fired}
+use Rattle.station_core.specs.Refusals.{taking_refusal}
 use Rattle.station_core.specs.Taking as taking
 use Rattle.segment_law.specs.Readers.{frame_for, wanted_with}
 use Rattle.segment_core.specs.Answers.{IsAnswer}
-use Rattle.segment_core.specs.Looks.{firing_refusal}
 use Rattle.segment_core.specs.declared.stop.Stop.{Stop}
 use Rattle.segment_core.specs.declared.stop.Stop.TheVariants.{OutOfMemory}
 use Rattle.segment_law.specs.Segment.{Segment, place_of, with_station, counted, counted_look, counted_repeat}
-use Rattle.segment_law.specs.Calls.{Answer, at_address, stepped, no_place, looks, opens, closes, fires, takes_by, takes, repeats_by, repeats, overruns}
+use Rattle.segment_law.specs.Calls.{Answer, at_address, stepped, no_place, takes, repeats, overruns}
 use Rattle.segment_law.specs.declared.reply.Reply.{Reply}
-use Rattle.segment_law.specs.declared.reply.Reply.TheVariants.{Done, Opened}
-use Rattle.segment_law.specs.declared.refusal.Refusal.{Refusal}
-use Rattle.segment_law.specs.declared.refusal.Refusal.TheVariants.{NoSuchPort, NothingToTake, TxFull, NothingDue, PortsFull as PortsFullCause}
+use Rattle.segment_law.specs.declared.reply.Reply.TheVariants.{Done}
+use Rattle.segment_law.specs.declared.refusal.Refusal.TheVariants.{NothingToTake}
 use Rattle.segment_core.specs.SegmentFields.{segment_value, IsSegmentInside}
 use Rattle.segment_core.specs.declared.segment.Segment.TheInside.{Inside}
 use Rattle.segment_core.proofs.Stations.{at_is, places_kept}
+use Rattle.segment_core.proofs.Refusals.{takes_are, repeats_are, goes_on}
 
 -- a station that keeps its address leaves all as it is to be
 pub inside_kept : (s : Inside) (i : ℕ) (st old : Station) → IsSegmentInside s → old ≡ get_or s.stations.items i old → st.address ≡ old.address → IsSegmentInside (record s { stations = with_item s.stations i st })
@@ -70,16 +66,6 @@ no_memory answer before after r e h = subst (λ (x : Result Reply Stop). IsAnswe
 abbrev pub said : Segment → Reply → Answer
 said seg reply = Ok (seg, reply)
 
-abbrev pub refused : Refusal → Answer
-refused cause = Err cause
-
-pub closes_open : (seg : Segment) (number i : ℕ) (st : Station) → is_open st.ports number ≡ true → closes seg number i st ≡ said (with_station seg i (closed st number)) (Done [])
-closes_open seg number i st isopen = by (is_open st.ports number) isopen
-  where
-    by : (b : Bool) → b ≡ true → cond (not b) (refused NoSuchPort) (said (with_station seg i (closed st number)) (Done [])) ≡ said (with_station seg i (closed st number)) (Done [])
-    by true e = refl
-    by false e = absurd cc
-
 -- a step of it, with a reply
 pub stepped_view : (s : Inside) (seg : Segment) (i : ℕ) (st new : Station) (reply told : Reply) → segment_value s ≡ seg → new ≡ st → told ≡ reply → said (with_station seg i st) reply ≡ said (segment_value (record s { stations = with_item s.stations i new })) told
 stepped_view s seg i st new reply told view same says = λ k. said (with_station (sym view k) i (sym same k)) (sym says k)
@@ -91,34 +77,18 @@ unchanged_view s seg i st old view same is =
     (λ k. record (segment_value s) { stations = put_back k }) ∙ view
 
 -- a Take
-pub takes_is : (seg : Segment) (room : Bool) (i : ℕ) (st : Station) (frame : CanFrame) (step : StationStep) → Some frame ≡ bus.next_frame seg.bus i → no_place st ≡ false → taken st frame room seg.now ≡ step
+pub takes_is : (seg : Segment) (room : Bool) (i : ℕ) (st : Station) (frame : CanFrame) (step : StationStep) → Some frame ≡ bus.next_frame seg.bus i → taking_refusal st ≡ None → taken st frame room seg.now ≡ step
     → takes seg room i st ≡ Ok (record { now = seg.now; stations = set seg.stations i step.station; bus = bus.released (bus.taken seg.bus i); counts = counted (counted_look seg.counts (is_malformed_for st frame)) step.events }, Done step.events)
-takes_is seg room i st frame step next place is =
-    ap (takes_by seg room i st) (sym next)
-    ∙ ap (λ b. cond b (Err TxFull) (looks (record seg { bus = bus.released (bus.taken seg.bus i) }) room i st frame)) place
+takes_is seg room i st frame step next free is =
+    goes_on _ _ _ (takes_are seg i st room frame next) free
     ∙ ap (stepped (record seg { bus = bus.released (bus.taken seg.bus i); counts = counted_look seg.counts (is_malformed_for st frame) }) i) is
 
-pub takes_full : (seg : Segment) (room : Bool) (i : ℕ) (st : Station) (frame : CanFrame) → Some frame ≡ bus.next_frame seg.bus i → no_place st ≡ true → takes seg room i st ≡ Err TxFull
-takes_full seg room i st frame next full =
-    ap (takes_by seg room i st) (sym next) ∙ ap (λ b. cond b (Err TxFull) (looks (record seg { bus = bus.released (bus.taken seg.bus i) }) room i st frame)) full
-
-pub takes_pass : (seg : Segment) (room : Bool) (i : ℕ) (st : Station) (frame : CanFrame) → Some frame ≡ bus.next_frame seg.bus i → no_place st ≡ false → IsOk (takes seg room i st)
-takes_pass seg room i st frame next place = subst (λ (x : Answer). IsOk x) (sym (takes_is seg room i st frame (taken st frame room seg.now) next place refl)) refl
-
 -- a TakeAgain
-pub repeats_is : (seg : Segment) (room : Bool) (i : ℕ) (st : Station) (frame : CanFrame) (step : StationStep) → Some frame ≡ bus.frame_again seg.bus i → no_place st ≡ false → taken st frame room seg.now ≡ step
+pub repeats_is : (seg : Segment) (room : Bool) (i : ℕ) (st : Station) (frame : CanFrame) (step : StationStep) → Some frame ≡ bus.frame_again seg.bus i → taking_refusal st ≡ None → taken st frame room seg.now ≡ step
     → repeats seg room i st ≡ Ok (record { now = seg.now; stations = set seg.stations i step.station; bus = seg.bus; counts = counted (counted_look (counted_repeat seg.counts) (is_malformed_for st frame)) step.events }, Done step.events)
-repeats_is seg room i st frame step again place is =
-    ap (repeats_by seg room i st) (sym again)
-    ∙ ap (λ b. cond b (Err TxFull) (looks (record seg { counts = counted_repeat seg.counts }) room i st frame)) place
+repeats_is seg room i st frame step again free is =
+    goes_on _ _ _ (repeats_are seg i st room frame again) free
     ∙ ap (stepped (record seg { counts = counted_look (counted_repeat seg.counts) (is_malformed_for st frame) }) i) is
-
-pub repeats_full : (seg : Segment) (room : Bool) (i : ℕ) (st : Station) (frame : CanFrame) → Some frame ≡ bus.frame_again seg.bus i → no_place st ≡ true → repeats seg room i st ≡ Err TxFull
-repeats_full seg room i st frame again full =
-    ap (repeats_by seg room i st) (sym again) ∙ ap (λ b. cond b (Err TxFull) (looks (record seg { counts = counted_repeat seg.counts }) room i st frame)) full
-
-pub repeats_pass : (seg : Segment) (room : Bool) (i : ℕ) (st : Station) (frame : CanFrame) → Some frame ≡ bus.frame_again seg.bus i → no_place st ≡ false → IsOk (repeats seg room i st)
-repeats_pass seg room i st frame again place = subst (λ (x : Answer). IsOk x) (sym (repeats_is seg room i st frame (taken st frame room seg.now) again place refl)) refl
 
 -- an Overrun
 pub overruns_pass : (seg : Segment) (n i : ℕ) (st : Station) → n ≤ bus.waiting seg.bus i → IsOk (overruns seg n i st)
@@ -128,48 +98,11 @@ overruns_pass seg n i st le = by (nat_lt (bus.waiting seg.bus i) n) (le-ltb (bus
     by true e = absurd cc
     by false e = refl
 
--- a firing
-pub fires_is : (seg : Segment) (i : ℕ) (st : Station) (step : StationStep) → firing_refusal st seg.now ≡ None → fired st seg.now ≡ step → fires seg i st ≡ stepped seg i step
-fires_is seg i st step due is = by (is_due st seg.now) (no_place st) due ∙ ap (stepped seg i) is
-  where
-    by : (d p : Bool) → cond (not d) (Some NothingDue) (cond p (Some TxFull) None) ≡ None → cond (not d) (Err NothingDue) (cond p (Err TxFull) (stepped seg i (fired st seg.now))) ≡ stepped seg i (fired st seg.now)
-    by true false e = refl
-    by true true e = absurd cc
-    by false p e = absurd cc
-
-pub fires_pass : (seg : Segment) (i : ℕ) (st : Station) → firing_refusal st seg.now ≡ None → IsOk (fires seg i st)
-fires_pass seg i st due = subst (λ (x : Answer). IsOk x) (sym (fires_is seg i st (fired st seg.now) due refl)) refl
-
-pub fires_refused : (seg : Segment) (i : ℕ) (st : Station) (cause : Refusal) → firing_refusal st seg.now ≡ Some cause → fires seg i st ≡ Err cause
-fires_refused seg i st cause due = by (is_due st seg.now) (no_place st) due
-  where
-    by : (d p : Bool) → cond (not d) (Some NothingDue) (cond p (Some TxFull) None) ≡ Some cause → cond (not d) (Err NothingDue) (cond p (Err TxFull) (stepped seg i (fired st seg.now))) ≡ Err cause
-    by true false e = absurd cc
-    by true true e = ap Err (search (rules, e))
-    by false p e = ap Err (search (rules, e))
-
 -- a step that is told and counted
 pub told_view : (s : Inside) (seg : Segment) (i : ℕ) (new : Station) (events : List Event) (after : Segment) (told : Reply) → segment_value s ≡ seg → after ≡ record (segment_value (record s { stations = with_item s.stations i new })) { counts = counted s.counts events } → told ≡ Done events
     → stepped seg i (record { station = new; events = events }) ≡ Ok (after, told)
 told_view s seg i new events after told view is says =
     ap (λ (x : Segment). stepped x i (record { station = new; events = events })) (sym view) ∙ (λ k. said (sym is k) (sym says k))
-
--- an opening
-pub opens_is : (seg : Segment) (pgn max_len i : ℕ) (st : Station) (ports : Ports) → opening st.ports pgn max_len ≡ Ok ports → opens seg pgn max_len i st ≡ Ok (with_station seg i (record st { ports = with_port st.ports pgn max_len }), Opened (next_id st.ports))
-opens_is seg pgn max_len i st ports e = by (are_full st.ports) e
-  where
-    done : Answer
-    done = said (with_station seg i (record st { ports = with_port st.ports pgn max_len })) (Opened (next_id st.ports))
-
-    full : Answer
-    full = Err PortsFullCause
-
-    tried : Bool → Result Ports PortsFull
-    tried b = cond b (Err (record {})) (Ok (with_port st.ports pgn max_len))
-
-    by : (b : Bool) → tried b ≡ Ok ports → cond b full done ≡ done
-    by true x = absurd cc
-    by false x = refl
 
 -- the stations at one place
 pub same_item : (xs : List Station) (i : ℕ) (a b : Station) → i < length xs → a ≡ get_or xs i a → b ≡ get_or xs i b → a ≡ b

@@ -10,7 +10,6 @@ use Rattle.segment_law.specs.Calls.{Answer, at_station, at_place, at_address}
 use Rattle.segment_law.specs.declared.refusal.Refusal.TheVariants.{NoSuchStation}
 use Rattle.segment_core.specs.declared.places.Places.{Places}
 use Rattle.segment_core.proofs.Addresses.{closed_keeps, taken_keeps, fired_keeps}
-use Rattle.segment_core.proofs.Refusals.{open_full, close_none, pause_none, pause_paused, resume_none, resume_open, send_done}
 use Rattle.segment_core.specs.Places.{place_among, ArePlaces}
 
 -- a call of an address is one of the station that stands at its place
@@ -30,4 +29,4 @@ places_kept places stations i st old h is same = record { all = h.all; found = �
         position_or_len-set (λ (s : Station). s.address.0 == a.0) stations i st old (ap (λ (b : Address). b.0 == a.0) (same ∙ ap (λ (s : Station). s.address) is)) in
         rw (here, length-set) refl
 
-pub ruleset call_laws = (at_is, at_none, places_kept, closed_keeps, taken_keeps, fired_keeps, open_full, close_none, pause_none, pause_paused, resume_none, resume_open, send_done)
+pub ruleset call_laws = (at_is, at_none, places_kept, closed_keeps, taken_keeps, fired_keeps)

@@ -1,10 +1,11 @@
 -- How the code answers a call.
 use Rattle.std.specs.Prelude.{◌≡◌, Option, Some, None, Result, Ok, Err, IsOk}
-use Rattle.station_core.specs.declared.refused.SendingCause.{SendingCause}
-use Rattle.station_core.specs.declared.refused.SendingCause.TheVariants as sending
+use Rattle.std.specs.Option.{option_and_then}
+use Rattle.station_core.specs.declared.refused.Refused.{Refused as Cause}
+use Rattle.station_core.specs.declared.refused.Refused.TheVariants as cause
 use Rattle.segment_law.specs.Segment.{Segment}
 use Rattle.segment_law.specs.declared.refusal.Refusal.{Refusal}
-use Rattle.segment_law.specs.declared.refusal.Refusal.TheVariants.{NoSuchStation, SameStation, TooShort, TooLong, LaneFull}
+use Rattle.segment_law.specs.declared.refusal.Refusal.TheVariants as refusal
 use Rattle.segment_law.specs.Calls.{Answer}
 use Rattle.segment_law.specs.declared.reply.Reply.{Reply}
 use Rattle.segment_core.specs.declared.stop.Stop.{Stop}
@@ -21,16 +22,28 @@ abbrev pub refusal_of : Answer → Option Refusal
 refusal_of (Ok step) = None
 refusal_of (Err cause) = Some cause
 
+-- how a call ends that a station doesn't do
+abbrev pub stop_of : Cause → Stop
+stop_of cause.NoSuchStation = Refused refusal.NoSuchStation
+stop_of cause.SameStation = Refused refusal.SameStation
+stop_of cause.TooShort = Refused refusal.TooShort
+stop_of cause.TooLong = Refused refusal.TooLong
+stop_of cause.LaneFull = Refused refusal.LaneFull
+stop_of cause.PortsFull = Refused refusal.PortsFull
+stop_of cause.NoSuchPort = Refused refusal.NoSuchPort
+stop_of cause.PortPaused = Refused refusal.PortPaused
+stop_of cause.PortNotPaused = Refused refusal.PortNotPaused
+stop_of cause.NothingToSend = Refused refusal.NothingToSend
+stop_of cause.NotYet = Refused refusal.NotYet
+stop_of cause.NothingDue = Refused refusal.NothingDue
+stop_of cause.TxFull = Refused refusal.TxFull
+stop_of cause.OutOfMemory = OutOfMemory
+
 -- the cause of a call that ended so, if it was refused
 abbrev pub refused_by : Stop → Option Refusal
 refused_by (Refused cause) = Some cause
 refused_by OutOfMemory = None
 
--- how a call ends whose message isn't sent
-abbrev pub sending_stop : SendingCause → Stop
-sending_stop sending.NoSuchStation = Refused NoSuchStation
-sending_stop sending.SameStation = Refused SameStation
-sending_stop sending.TooShort = Refused TooShort
-sending_stop sending.TooLong = Refused TooLong
-sending_stop sending.LaneFull = Refused LaneFull
-sending_stop sending.OutOfMemory = OutOfMemory
+-- why a call is refused whose station names this cause
+abbrev pub first_refusal : Option Cause → Option Refusal
+first_refusal first = option_and_then (λ cause. refused_by (stop_of cause)) first

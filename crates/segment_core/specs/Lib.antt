@@ -1,6 +1,5 @@
 pub mod Places
 pub mod Answers
-pub mod Looks
 pub mod SegmentCode
 pub mod SegmentFields
 pub mod DriveFields

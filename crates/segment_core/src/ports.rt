@@ -3,9 +3,9 @@ ghost use Rattle.segment_law.specs.Calls.{at_address, opens, closes, pauses, res
 ghost use Rattle.segment_core.specs.Answers.{IsAnswer};
 
 use crate::segment::Segment;
-use crate::stop::Stop;
+use crate::stop::{Stop, stop_of};
 use pgn_ids::{Address, Pgn};
-use port_table::{PauseError, PortId, ResumeError};
+use port_table::PortId;
 use segment_law::{Refusal, Reply};
 
 impl Segment {
@@ -19,7 +19,7 @@ impl Segment {
         };
         match self.stations[place].open(pgn, max_len) {
             Ok(port) => Ok(Reply::Opened(port)),
-            Err(_) => Err(Stop::Refused(Refusal::PortsFull)),
+            Err(cause) => Err(stop_of(cause)),
         }
     }
 
@@ -33,7 +33,7 @@ impl Segment {
         };
         match self.stations[place].close(port.number) {
             Ok(()) => Ok(self.done()),
-            Err(_) => Err(Stop::Refused(Refusal::NoSuchPort)),
+            Err(cause) => Err(stop_of(cause)),
         }
     }
 
@@ -47,8 +47,7 @@ impl Segment {
         };
         match self.stations[place].pause(port.number) {
             Ok(()) => Ok(self.done()),
-            Err(PauseError::NoSuchPort) => Err(Stop::Refused(Refusal::NoSuchPort)),
-            Err(PauseError::PortPaused) => Err(Stop::Refused(Refusal::PortPaused)),
+            Err(cause) => Err(stop_of(cause)),
         }
     }
 
@@ -62,8 +61,7 @@ impl Segment {
         };
         match self.stations[place].resume(port.number) {
             Ok(()) => Ok(self.done()),
-            Err(ResumeError::NoSuchPort) => Err(Stop::Refused(Refusal::NoSuchPort)),
-            Err(ResumeError::PortNotPaused) => Err(Stop::Refused(Refusal::PortNotPaused)),
+            Err(cause) => Err(stop_of(cause)),
         }
     }
 }

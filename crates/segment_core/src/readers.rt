@@ -1,30 +1,18 @@
 //! What a segment answers without a step. No reader takes memory.
-ghost use Rattle.std.specs.Prelude.{◌≡◌, ℕ, ◌<◌, List, length, is_ok, slice_get};
+ghost use Rattle.std.specs.Prelude.{◌≡◌, ◌<◌, List, length, slice_get};
 ghost use Rattle.pgn_ids.specs.declared.address.Address.{Address as AddressValue};
 ghost use Rattle.bus_order.specs.Bus.{bus_len, frame_at};
-ghost use Rattle.segment_law.specs.Segment.{Segment as State, has_station, waiting_at};
-ghost use Rattle.segment_law.specs.Calls.{pumps};
-ghost use Rattle.segment_law.specs.Readers.{queue_len, front_at, pumps_to, next_pump, is_due, wanted, wanted_with, given_by_take, frame_for, rests, is_idle};
+ghost use Rattle.segment_law.specs.Segment.{has_station, waiting_at};
+ghost use Rattle.segment_law.specs.Readers.{queue_len, front_at, next_pump, is_due, wanted, wanted_with, given_by_take, frame_for, rests, is_idle};
 ghost use Rattle.segment_law.specs.Record.{Record, StandsAt};
 ghost use Rattle.reader_law.specs.Counting.{counts_over};
 
-use crate::refusing::MOST_PUMPED;
 use crate::segment::Segment;
 use bus_frame::Frame;
 use pgn_ids::Address;
 use port_table::PortSet;
 use segment_law::Counts;
 use station_core::Station;
-
-/// How many addresses there are, that of all among them.
-const ADDRESSES: usize = 256;
-
-// Whether a Pump of a station to a destination at tick `now` would not be refused.
-fn is_pumping(station: &Station, to: Address, now: u64) -> bool
-    ensures { (seg : State) (i : ℕ) → seg.now ≡ now → result ≡ is_ok (pumps seg to i station.now) }
-{
-    to != Address::NULL && station.pump_refusal(to, now).is_none() && station.free() >= MOST_PUMPED
-}
 
 impl Segment {
     /// The tick of 1 ms at which the clock stands.
@@ -95,29 +83,15 @@ impl Segment {
         }
     }
 
-    // Whether a Pump of the station with an address to a destination would not be refused.
-    #[tactic(auto, using(crate::proofs::Pumping::pumps_to_is, crate::proofs::Pumping::pumps_to_none))]
-    fn is_pumping(&self, station: Address, to: Address) -> bool
-        ensures { result ≡ pumps_to self.now station to.0 }
-    {
-        match self.place_of(station) {
-            None => false,
-            Some(place) => is_pumping(&self.stations[place], to, self.clock.now()),
-        }
-    }
-
     /// The lowest destination of a station whose Pump would not be refused; none where the address isn't a station's.
-    #[tactic(auto, using(crate::proofs::Pumping::pumping_laws))]
+    #[tactic(auto, using(crate::proofs::Pumping::next_pump_is, crate::proofs::Pumping::next_pump_none))]
     pub fn next_pump(&self, station: Address) -> Option<Address>
         ensures { result ≡ next_pump self.now station }
     {
-        for number in 0..ADDRESSES {
-            let to = Address(number as u8);
-            if self.is_pumping(station, to) {
-                return Some(to);
-            }
+        match self.place_of(station) {
+            None => None,
+            Some(place) => self.stations[place].next_pump(self.clock.now()),
         }
-        None
     }
 
     /// Whether one of a station's timers is due; false where the address isn't a station's.

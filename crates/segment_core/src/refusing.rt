@@ -3,33 +3,17 @@ ghost use Rattle.std.specs.Prelude.{◌≡◌, ℕ, List, length, true};
 ghost use Rattle.bus_order.specs.Bus.{is_full};
 ghost use Rattle.segment_law.specs.Calls.{at_address, called, cancels, closes, fires, injects, overruns, pauses, pumps, repeats, resumes, takes, ticks, transmits};
 ghost use Rattle.segment_law.specs.declared.call.Call.TheVariants.{Open, Send};
-ghost use Rattle.segment_core.specs.Answers.{refusal_of, refused_by, sending_stop as sending_stop_of};
+ghost use Rattle.segment_core.specs.Answers.{refusal_of};
 
 use crate::segment::Segment;
-use crate::sending::sending_stop;
-use crate::stop::Stop;
+use crate::stop::refusal_by;
 use bus_frame::Frame;
-use lane_core::PumpRefused;
 use pgn_ids::{Address, read_id};
 use port_table::PortId;
 use segment_law::{Call, Refusal};
-use station_core::SendingCause;
 
 /// How many frames the bus keeps at most.
 const MOST_KEPT: u64 = 4096;
-
-/// The most frames that a Pump queues, for which a place each has to be free.
-pub(crate) const MOST_PUMPED: usize = 8;
-
-// The cause of a Send whose message isn't one to its destination; want of memory is none.
-fn message_cause(cause: SendingCause) -> Option<Refusal>
-    ensures { result ≡ refused_by (sending_stop_of cause) }
-{
-    match sending_stop(cause) {
-        Stop::Refused(refusal) => Some(refusal),
-        Stop::OutOfMemory => None,
-    }
-}
 
 impl Segment {
     /// Why a call would be refused: the first of its causes, or `None` where `apply` makes the call or finds no memory
@@ -70,14 +54,7 @@ impl Segment {
         let Some(place) = self.place_of(from) else {
             return Some(Refusal::NoSuchStation);
         };
-        let station = &self.stations[place];
-        if let Some(cause) = station.message_refusal(to, len) {
-            return message_cause(cause);
-        }
-        if station.is_lane_full(to) {
-            return Some(Refusal::LaneFull);
-        }
-        None
+        refusal_by(self.stations[place].send_refusal(to, len))
     }
 
     // Why a Close of a port would be refused.
@@ -88,10 +65,7 @@ impl Segment {
         let Some(place) = self.place_of(port.station) else {
             return Some(Refusal::NoSuchStation);
         };
-        if !self.stations[place].is_open(port.number) {
-            return Some(Refusal::NoSuchPort);
-        }
-        None
+        refusal_by(self.stations[place].close_refusal(port.number))
     }
 
     // Why a Pause of a port would be refused.
@@ -102,13 +76,7 @@ impl Segment {
         let Some(place) = self.place_of(port.station) else {
             return Some(Refusal::NoSuchStation);
         };
-        if !self.stations[place].is_open(port.number) {
-            return Some(Refusal::NoSuchPort);
-        }
-        if self.stations[place].is_paused(port.number) {
-            return Some(Refusal::PortPaused);
-        }
-        None
+        refusal_by(self.stations[place].pause_refusal(port.number))
     }
 
     // Why a Resume of a port would be refused.
@@ -119,13 +87,7 @@ impl Segment {
         let Some(place) = self.place_of(port.station) else {
             return Some(Refusal::NoSuchStation);
         };
-        if !self.stations[place].is_open(port.number) {
-            return Some(Refusal::NoSuchPort);
-        }
-        if !self.stations[place].is_paused(port.number) {
-            return Some(Refusal::PortNotPaused);
-        }
-        None
+        refusal_by(self.stations[place].resume_refusal(port.number))
     }
 
     /// Why an Open at a station would be refused, whatever its PGN and length: the address isn't a station's, or the
@@ -137,10 +99,7 @@ impl Segment {
         let Some(place) = self.place_of(station) else {
             return Some(Refusal::NoSuchStation);
         };
-        if self.stations[place].has_all_ports() {
-            return Some(Refusal::PortsFull);
-        }
-        None
+        refusal_by(self.stations[place].open_refusal())
     }
 
     /// Why a station's Transmit would be refused.
@@ -183,20 +142,7 @@ impl Segment {
         let Some(place) = self.place_of(station) else {
             return Some(Refusal::NoSuchStation);
         };
-        if to == Address::NULL {
-            return Some(Refusal::NoSuchStation);
-        }
-        let station = &self.stations[place];
-        match station.pump_refusal(to, self.clock.now()) {
-            Some(PumpRefused::NothingToSend) => Some(Refusal::NothingToSend),
-            Some(PumpRefused::NotYet) => Some(Refusal::NotYet),
-            None => {
-                if station.free() < MOST_PUMPED {
-                    return Some(Refusal::TxFull);
-                }
-                None
-            }
-        }
+        refusal_by(self.stations[place].pump_refusal(to, self.clock.now()))
     }
 
     /// Why a station's Take would be refused, with room or without.
@@ -210,10 +156,7 @@ impl Segment {
         let Some(_next) = self.next_frame(place) else {
             return Some(Refusal::NothingToTake);
         };
-        if self.stations[place].free() == 0 {
-            return Some(Refusal::TxFull);
-        }
-        None
+        refusal_by(self.stations[place].take_refusal())
     }
 
     // Why a station's TakeAgain would be refused.
@@ -227,10 +170,7 @@ impl Segment {
         let Some(_last) = self.bus.again(place) else {
             return Some(Refusal::NothingToRepeat);
         };
-        if self.stations[place].free() == 0 {
-            return Some(Refusal::TxFull);
-        }
-        None
+        refusal_by(self.stations[place].take_refusal())
     }
 
     // Why a station's Overrun would be refused.
@@ -265,13 +205,7 @@ impl Segment {
         let Some(place) = self.place_of(station) else {
             return Some(Refusal::NoSuchStation);
         };
-        if !self.stations[place].is_due(self.clock.now()) {
-            return Some(Refusal::NothingDue);
-        }
-        if self.stations[place].free() == 0 {
-            return Some(Refusal::TxFull);
-        }
-        None
+        refusal_by(self.stations[place].fire_refusal(self.clock.now()))
     }
 
     // Why a Cancel of a message would be refused.
@@ -282,16 +216,7 @@ impl Segment {
         let Some(place) = self.place_of(from) else {
             return Some(Refusal::NoSuchStation);
         };
-        if to == Address::NULL {
-            return Some(Refusal::NoSuchStation);
-        }
-        if !self.stations[place].is_pending(to, number) {
-            return Some(Refusal::NothingToSend);
-        }
-        if self.stations[place].queues_abort(to, number) && self.stations[place].free() == 0 {
-            return Some(Refusal::TxFull);
-        }
-        None
+        refusal_by(self.stations[place].cancel_refusal(to, number))
     }
 
     // Why an Inject of a frame would be refused.

@@ -1,28 +1,12 @@
 //! Messages that are sent, pumped and cancelled.
-ghost use Rattle.std.specs.Prelude.{◌≡◌};
 ghost use Rattle.segment_law.specs.Calls.{at_address, sends, pumps, cancels};
-ghost use Rattle.segment_core.specs.Answers.{IsAnswer, sending_stop as sending_stop_of};
+ghost use Rattle.segment_core.specs.Answers.{IsAnswer};
 
 use crate::segment::Segment;
-use crate::stop::Stop;
+use crate::stop::{Stop, stop_of};
 use lane_core::Bytes;
 use pgn_ids::{Address, Pgn};
 use segment_law::{Refusal, Reply};
-use station_core::{CancellingRefused, PumpingRefused, SendingCause};
-
-/// How a call ends whose message isn't sent.
-pub(crate) fn sending_stop(cause: SendingCause) -> Stop
-    ensures { result ≡ sending_stop_of cause }
-{
-    match cause {
-        SendingCause::NoSuchStation => Stop::Refused(Refusal::NoSuchStation),
-        SendingCause::SameStation => Stop::Refused(Refusal::SameStation),
-        SendingCause::TooShort => Stop::Refused(Refusal::TooShort),
-        SendingCause::TooLong => Stop::Refused(Refusal::TooLong),
-        SendingCause::LaneFull => Stop::Refused(Refusal::LaneFull),
-        SendingCause::OutOfMemory => Stop::OutOfMemory,
-    }
-}
 
 impl Segment {
     /// Sends a message.
@@ -41,7 +25,7 @@ impl Segment {
         };
         let number = match self.stations[place].send(to, pgn, bytes) {
             Ok(number) => number,
-            Err(refused) => return Err(sending_stop(refused.cause)),
+            Err(refused) => return Err(stop_of(refused.cause)),
         };
         Ok(Reply::Sent(number))
     }
@@ -54,15 +38,10 @@ impl Segment {
         let Some(place) = self.place_of(station) else {
             return Err(Stop::Refused(Refusal::NoSuchStation));
         };
-        if to == Address::NULL {
-            return Err(Stop::Refused(Refusal::NoSuchStation));
-        }
         let now = self.clock.now();
         match self.stations[place].pump(to, now) {
             Ok(events) => Ok(self.told(events)),
-            Err(PumpingRefused::NothingToSend) => Err(Stop::Refused(Refusal::NothingToSend)),
-            Err(PumpingRefused::NotYet) => Err(Stop::Refused(Refusal::NotYet)),
-            Err(PumpingRefused::TxFull) => Err(Stop::Refused(Refusal::TxFull)),
+            Err(cause) => Err(stop_of(cause)),
         }
     }
 
@@ -74,13 +53,9 @@ impl Segment {
         let Some(place) = self.place_of(from) else {
             return Err(Stop::Refused(Refusal::NoSuchStation));
         };
-        if to == Address::NULL {
-            return Err(Stop::Refused(Refusal::NoSuchStation));
-        }
         match self.stations[place].cancel(to, number) {
             Ok(events) => Ok(self.told(events)),
-            Err(CancellingRefused::NothingToSend) => Err(Stop::Refused(Refusal::NothingToSend)),
-            Err(CancellingRefused::TxFull) => Err(Stop::Refused(Refusal::TxFull)),
+            Err(cause) => Err(stop_of(cause)),
         }
     }
 }

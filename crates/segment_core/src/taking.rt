@@ -3,28 +3,16 @@ ghost use Rattle.segment_law.specs.Calls.{at_address, takes, repeats, overruns};
 ghost use Rattle.segment_law.specs.Segment.{counted, counted_look};
 ghost use Rattle.segment_law.specs.declared.reply.Reply.TheVariants.{Done};
 ghost use Rattle.segment_core.specs.Answers.{IsAnswer};
-ghost use Rattle.segment_core.specs.Looks.{IsLook};
 ghost use Rattle.std.specs.Prelude.{◌≡◌, ◌<◌, length};
 ghost use Rattle.bus_order.specs.Bus.{next_frame};
 
 use crate::counting::{count_look, count_repeat};
 use crate::segment::Segment;
-use crate::stop::Stop;
+use crate::stop::{Stop, stop_of};
 use bus_frame::Frame;
 use pgn_ids::Address;
 use segment_law::{Refusal, Reply};
-use station_core::{Station, Taken, TakingRefused};
-
-// A station takes a frame, where its queue has a free place.
-fn look(station: &mut Station, frame: &Frame, room: bool, now: u64) -> Result<Taken, Stop>
-    ensures { IsLook station.old frame.now room now station.new result }
-{
-    match station.take(frame, room, now) {
-        Ok(taken) => Ok(taken),
-        Err(TakingRefused::TxFull) => Err(Stop::Refused(Refusal::TxFull)),
-        Err(TakingRefused::OutOfMemory) => Err(Stop::OutOfMemory),
-    }
-}
+use station_core::Taken;
 
 impl Segment {
     /// A station takes the next frame of the bus.
@@ -38,10 +26,9 @@ impl Segment {
             return Err(Stop::Refused(Refusal::NothingToTake));
         };
         let now = self.clock.now();
-        let looked = match look(&mut self.stations[place], &frame, room, now) {
+        let looked = match self.stations[place].take(&frame, room, now) {
             Ok(looked) => looked,
-            Err(Stop::Refused(cause)) => return Err(Stop::Refused(cause)),
-            Err(Stop::OutOfMemory) => return Err(Stop::OutOfMemory),
+            Err(cause) => return Err(stop_of(cause)),
         };
         let _taken = self.bus.next(place);
         self.bus.release();
@@ -59,10 +46,9 @@ impl Segment {
             return Err(Stop::Refused(Refusal::NothingToRepeat));
         };
         let now = self.clock.now();
-        let looked = match look(&mut self.stations[place], &frame, room, now) {
+        let looked = match self.stations[place].take(&frame, room, now) {
             Ok(looked) => looked,
-            Err(Stop::Refused(cause)) => return Err(Stop::Refused(cause)),
-            Err(Stop::OutOfMemory) => return Err(Stop::OutOfMemory),
+            Err(cause) => return Err(stop_of(cause)),
         };
         count_repeat(&mut self.counts);
         Ok(self.looked(looked))

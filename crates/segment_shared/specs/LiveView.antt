@@ -20,8 +20,8 @@ use Rattle.segment_rings.specs.Ends.{ClientEnd, new_client_end, InboxEnd, new_in
 use Rattle.segment_rings.specs.Views.{SeatView, DoorView, noted_after}
 use Rattle.segment_shared.specs.declared.call.Stored.{Stored}
 use Rattle.segment_shared.specs.declared.call.WorkerCall.{WorkerCall}
-use Rattle.segment_shared.specs.declared.refused.OpenRefused.{OpenRefused}
-use Rattle.segment_shared.specs.declared.refused.OpenRefused.TheVariants as open_refused
+use Rattle.segment_shared.specs.declared.refused.NotMade.{NotMade}
+use Rattle.segment_shared.specs.declared.refused.NotMade.TheVariants as not_made
 use Rattle.segment_shared.specs.Words.{call_of, wanted_by}
 use Rattle.segment_shared.specs.Places.{times}
 use Rattle.segment_shared.specs.Record.{accepted, given, notes_of, settle_notes, trail}
@@ -175,9 +175,9 @@ new_port_view p = record { port = p; active = true; pushed = [] }
 
 -- why a port isn't opened: the segment refuses the Open, or else no more calls can be stored; or for want of memory, where
 -- neither holds
-abbrev pub IsOpenCause : LiveView → (station : Address) → (pgn max_len : ℕ) → OpenRefused → Type 0
-IsOpenCause a station pgn max_len open_refused.OutOfMemory = (refusal_of (called (trail a.addresses a.calls).state (Open station pgn max_len)) ≡ None) × (length a.calls < 1000000)
-IsOpenCause a station pgn max_len (open_refused.Refused c) = (Refused c ≡ reply_of (trail a.addresses a.calls).state (Open station pgn max_len))
+abbrev pub IsOpenCause : LiveView → (station : Address) → (pgn max_len : ℕ) → NotMade → Type 0
+IsOpenCause a station pgn max_len not_made.OutOfMemory = (refusal_of (called (trail a.addresses a.calls).state (Open station pgn max_len)) ≡ None) × (length a.calls < 1000000)
+IsOpenCause a station pgn max_len (not_made.Refused c) = (Refused c ≡ reply_of (trail a.addresses a.calls).state (Open station pgn max_len))
     ⊎ ((c ≡ TraceFull) × (refusal_of (called (trail a.addresses a.calls).state (Open station pgn max_len)) ≡ None) × (1000000 ≤ length a.calls))
 
 -- the Open was added, and the inbox is of the port that it opened

@@ -8,8 +8,8 @@ use Rattle.segment_law.specs.declared.refusal.Refusal.TheVariants.{NotThisSegmen
 use Rattle.reply_law.specs.Replies.{reply_of}
 use Rattle.segment_rings.specs.Ends.{ClientEnd, InboxEnd, closes}
 use Rattle.segment_shared.specs.declared.closing.Closed.{Closed}
-use Rattle.segment_shared.specs.declared.closing.CloseRefused.{CloseRefused}
-use Rattle.segment_shared.specs.declared.closing.CloseRefused.TheVariants as close_refused
+use Rattle.segment_shared.specs.declared.refused.NotMade.{NotMade}
+use Rattle.segment_shared.specs.declared.refused.NotMade.TheVariants as not_made
 use Rattle.segment_shared.specs.declared.report.ClientReport.{ClientReport}
 use Rattle.segment_shared.specs.declared.report.InboxReport.{InboxReport}
 use Rattle.segment_shared.specs.Record.{accepted, given, notes_of, trail}
@@ -78,9 +78,9 @@ pub record ClosedFor (a b : LiveView) (i j : InboxEnd) (r : Closed) : Type 0 whe
 
 -- why a port isn't closed: the inbox isn't of this segment, or else no more calls can be stored; or for want of memory, where
 -- neither holds
-abbrev pub IsCloseCause : LiveView → InboxEnd → CloseRefused → Type 0
-IsCloseCause a i close_refused.OutOfMemory = InboxAgrees a i × (length a.calls < 1000000)
-IsCloseCause a i (close_refused.Refused c) = ((c ≡ NotThisSegment) × (InboxAgrees a i → ⊥)) ⊎ ((c ≡ TraceFull) × InboxAgrees a i × (1000000 ≤ length a.calls))
+abbrev pub IsCloseCause : LiveView → InboxEnd → NotMade → Type 0
+IsCloseCause a i not_made.OutOfMemory = InboxAgrees a i × (length a.calls < 1000000)
+IsCloseCause a i (not_made.Refused c) = ((c ≡ NotThisSegment) × (InboxAgrees a i → ⊥)) ⊎ ((c ≡ TraceFull) × InboxAgrees a i × (1000000 ≤ length a.calls))
 
 -- the client of this number is gone
 abbrev pub gone : List ClientView → ℕ → List ClientView

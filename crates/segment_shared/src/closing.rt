@@ -9,6 +9,7 @@ use crate::compare::{begins, copy_deliveries};
 use crate::live::Live;
 use crate::offer::MOST_CALLS;
 use crate::places::door_of;
+use crate::refused::NotMade;
 use crate::step::make;
 use crate::tell::tell;
 use segment_core::{Call, PortId, Refusal, Reply};
@@ -20,15 +21,6 @@ use std::alloc::{AllocError, Global};
 pub struct Closed {
     pub port: PortId,
     pub rest: Vec<Delivery>,
-}
-
-/// Why a port isn't closed.
-#[derive(Clone, Copy, Debug, PartialEq, Eq)]
-pub enum CloseRefused {
-    /// The inbox isn't of this segment, or no more calls can be stored.
-    Refused(Refusal),
-    /// There was no memory.
-    OutOfMemory,
 }
 
 // What follows what was received.
@@ -68,24 +60,24 @@ impl Live {
     ///
     /// Refused where the port was never opened here, or what the inbox received isn't the beginning of what the port was
     /// given; and then where no more calls can be stored. These and want of memory change nothing but what is known of the rings.
-    pub fn close_on(&mut self, inbox: &mut Inbox) -> Result<Closed, CloseRefused>
+    pub fn close_on(&mut self, inbox: &mut Inbox) -> Result<Closed, NotMade>
         ensures closed { IfOk result (λ r. ClosedFor self.old self.new inbox.old inbox.new r) }
         ensures refused { IfErr result (λ e. IsCloseCause self.old inbox.old e) }
         ensures err { OnErr result (SameLive self.old self.new) }
         ensures kept { OnErr result (inbox.new ≡ with_room_kept inbox.old inbox.new.spare) }
     {
         let Some(k) = door_of(self.doors.as_slice(), inbox.port()) else {
-            return Err(CloseRefused::Refused(Refusal::NotThisSegment));
+            return Err(NotMade::Refused(Refusal::NotThisSegment));
         };
         if !begins(inbox.received(), self.doors[k].deliveries()) {
-            return Err(CloseRefused::Refused(Refusal::NotThisSegment));
+            return Err(NotMade::Refused(Refusal::NotThisSegment));
         }
         if self.calls.len() >= MOST_CALLS {
-            return Err(CloseRefused::Refused(Refusal::TraceFull));
+            return Err(NotMade::Refused(Refusal::TraceFull));
         }
         match self.shut(k, inbox) {
             Ok(closed) => Ok(closed),
-            Err(_) => Err(CloseRefused::OutOfMemory),
+            Err(_) => Err(NotMade::OutOfMemory),
         }
     }
 

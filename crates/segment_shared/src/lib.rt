@@ -24,11 +24,11 @@ mod wanted;
 mod workers;
 
 pub use call::{Owed, Stored, WorkerCall};
-pub use closing::{CloseRefused, Closed};
+pub use closing::Closed;
 pub use ending::finish;
 pub use live::Live;
 pub use offer::MOST_CALLS;
-pub use refused::{Accepted, AttachRefused, NewRefused, OpenRefused};
+pub use refused::{Accepted, NotMade};
 pub use report::{ClientReport, FinishRefused, InboxReport, Report};
 pub use segment_core::{Bytes, Event, Events, PortId, Refusal, Reply};
 pub use segment_rings::{Client, Delivery, Inbox, Note, Submission, SubmitRefused};

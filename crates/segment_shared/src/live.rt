@@ -5,13 +5,13 @@ ghost use Rattle.segment_shared.specs.LiveView.{is_station_of, clients_at, clien
 use crate::call::{Owed, Stored, WorkerCall};
 use crate::offer::{MOST_CALLS, Ready, make_ready, store};
 use crate::places::{Found, door_of, find_places};
-use crate::refused::{Accepted, AttachRefused, NewRefused, OpenRefused};
+use crate::refused::{Accepted, NotMade};
 use crate::step::{make, refusal_for};
 use crate::tell::tell;
 use crate::wanted::wanted_of;
 use headline_law::the_headline_holds;
 use pgn_ids::{Address, Pgn};
-use segment_core::{Call, PortId, Refusal, Reply, Segment};
+use segment_core::{Call, NewRefused, PortId, Refusal, Reply, Segment};
 use segment_law::Counts;
 use segment_rings::{Client, Delivery, Door, Doorway, Inbox, Note, Seat};
 use std::alloc::{AllocError, Global};
@@ -45,29 +45,33 @@ impl Model for Live {
 }
 
 impl Live {
-    ghost use Rattle.std.specs.Prelude.{◌≡◌, ◌≤◌, ◌<◌, ◌↔◌, [], ◌∷◌, ◌++◌, length, Bool, true, false, IfOk, OnOk, OnErr, IfErr, IsErrOf, Ok, MatchOption, slice_index_or};
+    ghost use Rattle.std.specs.Prelude.{◌≡◌, ◌≤◌, ◌<◌, [], ◌∷◌, ◌++◌, length, Bool, true, false, IfOk, OnOk, OnErr, IfErr, Ok, MatchOption, slice_index_or};
     ghost use Rattle.segment_law.specs.Headline.{Headline};
-    ghost use Rattle.segment_law.specs.Segment.{are_addresses};
     ghost use Rattle.segment_law.specs.Record.{StandsAt};
     ghost use Rattle.segment_law.specs.declared.reply.Reply.TheVariants.{Refused};
     ghost use Rattle.segment_law.specs.declared.refusal.Refusal.TheVariants.{TraceFull};
     ghost use Rattle.segment_shared.specs.Record.{Trail, trail, accepted, given, notes_of};
     ghost use Rattle.segment_shared.specs.LiveView.{ClientView, live_view, halted, SameLive, Applied, LacksMemory, Attached, Laws, OpenedFor, IsOpenCause};
     ghost use Rattle.segment_shared.specs.Offers.{AcceptedAs, LacksMemoryFor};
+    ghost use Rattle.segment_shared.specs.Refusals.{IsAnsweredBy, making_refusal, attaching_refusal};
+    ghost use Rattle.std.specs.Result.{result_err};
     ghost use Rattle.segment_shared.specs.Reports.{HasPort};
 
     /// A new segment with stations of these addresses, no clients and no ports.
-    pub fn new(alloc: Global, addresses: &[Address]) -> Result<Live, NewRefused>
+    ///
+    /// Refused as `BadAddresses` exactly where there is no address, one twice, one above 253 or more than 32, and else as
+    /// `OutOfMemory` where memory is refused.
+    pub fn new(alloc: Global, addresses: &[Address]) -> Result<Live, NotMade>
         ensures ok { IfOk result (λ live. live ≡ live_view false addresses.now [] [] []) }
-        ensures bad { IsErrOf result NewRefused.BadAddresses ↔ (are_addresses addresses.now ≡ false) }
+        ensures refused { IsAnsweredBy (making_refusal addresses.now) (result_err result) }
     {
         let segment = match Segment::new(alloc, addresses) {
             Ok(segment) => segment,
-            Err(segment_core::NewRefused::BadAddresses) => return Err(NewRefused::BadAddresses),
-            Err(segment_core::NewRefused::OutOfMemory) => return Err(NewRefused::OutOfMemory),
+            Err(NewRefused::BadAddresses) => return Err(NotMade::Refused(Refusal::BadAddresses)),
+            Err(NewRefused::OutOfMemory) => return Err(NotMade::OutOfMemory),
         };
         let Ok(addresses) = Vec::from_slice(alloc, addresses) else {
-            return Err(NewRefused::OutOfMemory);
+            return Err(NotMade::OutOfMemory);
         };
         Ok(Live {
             alloc,
@@ -209,17 +213,19 @@ impl Live {
     }
 
     /// A new client of a station, with empty lists.
-    pub fn attach(&mut self, station: Address) -> Result<Client, AttachRefused>
+    ///
+    /// Refused as `NoSuchStation` exactly where no station has the address, else as `ClientsFull` where it has 16 clients, and
+    /// else as `OutOfMemory` where memory is refused. These change nothing.
+    pub fn attach(&mut self, station: Address) -> Result<Client, NotMade>
         ensures attached { IfOk result (λ c. Attached self.old self.new station c) }
-        ensures full { IsErrOf result AttachRefused.ClientsFull ↔ ((is_station_of self.old.addresses station ≡ true) × (16 ≤ clients_at station self.old.clients)) }
-        ensures no_station { IsErrOf result AttachRefused.NoSuchStation ↔ (is_station_of self.old.addresses station ≡ false) }
+        ensures refused { IsAnsweredBy (attaching_refusal self.old station) (result_err result) }
         ensures err { OnErr result (self.new ≡ self.old) }
     {
         if !is_station(self.addresses.as_slice(), station) {
-            return Err(AttachRefused::NoSuchStation);
+            return Err(NotMade::Refused(Refusal::NoSuchStation));
         }
         if clients_of(self.seats.as_slice(), station) >= MOST_CLIENTS {
-            return Err(AttachRefused::ClientsFull);
+            return Err(NotMade::Refused(Refusal::ClientsFull));
         }
         let id = self.seats.len() as u64;
         self.seats.reserve(1)?;
@@ -232,22 +238,17 @@ impl Live {
     ///
     /// Refused where the segment refuses the Open, and then where no more calls can be stored. Want of memory is answered only
     /// where neither holds. These and want of memory change nothing.
-    pub fn open_port(
-        &mut self,
-        station: Address,
-        pgn: Pgn,
-        max_len: u32,
-    ) -> Result<Inbox, OpenRefused>
+    pub fn open_port(&mut self, station: Address, pgn: Pgn, max_len: u32) -> Result<Inbox, NotMade>
         ensures opened { IfOk result (λ i. OpenedFor self.old self.new station pgn max_len i) }
         ensures refused { IfErr result (λ e. IsOpenCause self.old station pgn max_len e) }
         ensures err { OnErr result (self.new ≡ self.old) }
     {
         match self.segment.open_refusal(station) {
-            Some(refusal) => return Err(OpenRefused::Refused(refusal)),
+            Some(refusal) => return Err(NotMade::Refused(refusal)),
             None => {}
         }
         if self.calls.len() >= MOST_CALLS {
-            return Err(OpenRefused::Refused(Refusal::TraceFull));
+            return Err(NotMade::Refused(Refusal::TraceFull));
         }
         let doorway = Doorway::new(self.alloc)?;
         self.calls.reserve(1)?;
@@ -271,7 +272,7 @@ impl Live {
                 });
                 Ok(inbox)
             }
-            Reply::Refused(refusal) => Err(OpenRefused::Refused(refusal)),
+            Reply::Refused(refusal) => Err(NotMade::Refused(refusal)),
             Reply::Sent(_) => unreachable!(),
             Reply::Done(_) => unreachable!(),
         }

@@ -1,41 +1,15 @@
 //! Why a call on a shared segment isn't made, and what becomes of a submission.
 ghost use Rattle.std.specs.Prelude.{◌≡◌};
-ghost use Rattle.segment_shared.specs.declared.refused.AttachRefused.TheVariants.{OutOfMemory as AttachOutOfMemory};
-ghost use Rattle.segment_shared.specs.declared.refused.OpenRefused.TheVariants.{OutOfMemory as OpenOutOfMemory};
+ghost use Rattle.segment_shared.specs.declared.refused.NotMade.TheVariants.{OutOfMemory};
 
 use segment_core::Refusal;
 use std::alloc::AllocError;
 use thiserror::Error;
 
-/// Why no segment is made.
+/// Why a call on a shared segment isn't made.
 #[derive(Clone, Copy, Debug, PartialEq, Eq, Error)]
-pub enum NewRefused {
-    /// No address, a repeated one, one above 253, or more than 32.
-    #[error("the addresses are not 1 to 32 distinct ones of 0 to 253")]
-    BadAddresses,
-    /// There was no memory.
-    #[error("out of memory")]
-    OutOfMemory,
-}
-
-/// Why no client is attached.
-#[derive(Clone, Copy, Debug, PartialEq, Eq, Error)]
-pub enum AttachRefused {
-    /// The address isn't that of a station.
-    #[error("no station has this address")]
-    NoSuchStation,
-    /// The station has 16 clients, or no number is left.
-    #[error("the station has 16 clients")]
-    ClientsFull,
-    /// There was no memory.
-    #[error("out of memory")]
-    OutOfMemory,
-}
-
-/// Why no port is opened.
-#[derive(Clone, Copy, Debug, PartialEq, Eq, Error)]
-pub enum OpenRefused {
-    /// The call was refused.
+pub enum NotMade {
+    /// It is refused.
     #[error("the call is refused")]
     Refused(Refusal),
     /// There was no memory.
@@ -43,19 +17,11 @@ pub enum OpenRefused {
     OutOfMemory,
 }
 
-impl From<AllocError> for OpenRefused {
-    ghost from_gives = { λ _ e. e ≡ OpenOutOfMemory };
+impl From<AllocError> for NotMade {
+    ghost from_gives = { λ _ e. e ≡ OutOfMemory };
 
-    fn from(_error: AllocError) -> OpenRefused {
-        OpenRefused::OutOfMemory
-    }
-}
-
-impl From<AllocError> for AttachRefused {
-    ghost from_gives = { λ _ e. e ≡ AttachOutOfMemory };
-
-    fn from(_error: AllocError) -> AttachRefused {
-        AttachRefused::OutOfMemory
+    fn from(_error: AllocError) -> NotMade {
+        NotMade::OutOfMemory
     }
 }
 

@@ -1,68 +1,99 @@
 -- Why a call of a station isn't done: of several causes the first.
-use Rattle.std.specs.Prelude.{◌≡◌, ℕ, ◌<◌, nat_lt, Bool, true, false, ◌==◌, if◌then◌else◌, Option, Some, None}
-use Rattle.pgn_ids.specs.Address.{null_address}
+use Rattle.std.specs.Prelude.{◌≡◌, ℕ, nat_lt, Bool, ◌&&◌, not, ◌==◌, if◌then◌else◌, Option, Some, None}
+use Rattle.std.specs.Option.{option_map, option_or}
+use Rattle.pgn_ids.specs.Address.{null_address, is_one}
 use Rattle.pgn_ids.specs.declared.address.Address.{Address}
 use Rattle.tx_queue.specs.Queue.{free_places}
 use Rattle.tp_wire.specs.declared.constants.TheConstants.{MIN_SIZE}
+use Rattle.port_table.specs.Refusals as ports
+use Rattle.port_table.specs.declared.refused.Refused.{Refused as PortsRefused}
+use Rattle.port_table.specs.declared.refused.Refused.TheVariants as of_ports
 use Rattle.lane_core.specs.Lane.{longest_to, is_full}
-use Rattle.lane_core.specs.declared.refused.PumpRefused.TheVariants as lane
+use Rattle.lane_core.specs.declared.refused.PumpRefused.{PumpRefused}
+use Rattle.lane_core.specs.declared.refused.PumpRefused.TheVariants as of_lane
 use Rattle.station_lanes.specs.LaneReaders.{refusal_at, is_pending_at, queues_abort_at}
 use Rattle.station_core.specs.Station.{Station}
 use Rattle.station_core.specs.Sending.{lane_of}
 use Rattle.station_core.specs.Timers.{is_due}
-use Rattle.station_core.specs.declared.refused.SendingCause.{SendingCause}
-use Rattle.station_core.specs.declared.refused.SendingCause.TheVariants as sending
-use Rattle.station_core.specs.declared.refused.TakingRefused.{TakingRefused}
-use Rattle.station_core.specs.declared.refused.TakingRefused.TheVariants as taking
-use Rattle.station_core.specs.declared.refused.FiringRefused.{FiringRefused}
-use Rattle.station_core.specs.declared.refused.FiringRefused.TheVariants as firing
-use Rattle.station_core.specs.declared.refused.PumpingRefused.{PumpingRefused}
-use Rattle.station_core.specs.declared.refused.PumpingRefused.TheVariants as pumping
-use Rattle.station_core.specs.declared.refused.CancellingRefused.{CancellingRefused}
-use Rattle.station_core.specs.declared.refused.CancellingRefused.TheVariants as cancelling
+use Rattle.station_core.specs.declared.refused.Refused.{Refused}
+use Rattle.station_core.specs.declared.refused.Refused.TheVariants.{NoSuchStation, SameStation, TooShort, TooLong, LaneFull, PortsFull, NoSuchPort, PortPaused, PortNotPaused, NothingToSend, NotYet, NothingDue, TxFull, OutOfMemory}
+
+-- the cause that a call answers which takes memory: the first of its own; and only where there is none, want of memory
+abbrev pub IsAnswered : (refusal answered : Option Refused) → Type 0
+IsAnswered refusal None = refusal ≡ None
+IsAnswered refusal (Some OutOfMemory) = refusal ≡ None
+IsAnswered refusal (Some cause) = refusal ≡ Some cause
+
+-- no station has an address that isn't one node's
+abbrev pub making_refusal : (address : Address) → Option Refused
+making_refusal address = if is_one address.0 then None else Some NoSuchStation
 
 -- no place of the queue is free
 abbrev pub is_queue_full : Station → Bool
 is_queue_full st = free_places st.queue == 0
 
--- a frame isn't taken; memory is wanting only where nothing else is
-abbrev pub IsTakingRefused : Station → TakingRefused → Type 0
-IsTakingRefused st taking.TxFull = is_queue_full st ≡ true
-IsTakingRefused st taking.OutOfMemory = is_queue_full st ≡ false
+-- the causes of the ports
+abbrev pub by_ports : PortsRefused → Refused
+by_ports of_ports.PortsFull = PortsFull
+by_ports of_ports.NoSuchPort = NoSuchPort
+by_ports of_ports.PortPaused = PortPaused
+by_ports of_ports.PortNotPaused = PortNotPaused
 
--- no timer fires
-abbrev pub IsFiringRefused : Station → (now : ℕ) → FiringRefused → Type 0
-IsFiringRefused st now firing.NothingDue = is_due st now ≡ false
-IsFiringRefused st now firing.TxFull = (is_due st now ≡ true) × (is_queue_full st ≡ true)
-IsFiringRefused st now firing.OutOfMemory = (is_due st now ≡ true) × (is_queue_full st ≡ false)
+abbrev pub opening_refusal : Station → Option Refused
+opening_refusal st = option_map by_ports (ports.opening_refusal st.ports)
 
--- why a message of so many bytes isn't sent, before the lane is looked at: the first that holds
-abbrev pub message_refusal : (from to : Address) → (len : ℕ) → Option SendingCause
+abbrev pub closing_refusal : Station → (number : ℕ) → Option Refused
+closing_refusal st number = option_map by_ports (ports.closing_refusal st.ports number)
+
+abbrev pub pausing_refusal : Station → (number : ℕ) → Option Refused
+pausing_refusal st number = option_map by_ports (ports.pausing_refusal st.ports number)
+
+abbrev pub resuming_refusal : Station → (number : ℕ) → Option Refused
+resuming_refusal st number = option_map by_ports (ports.resuming_refusal st.ports number)
+
+-- a message of so many bytes isn't one from a station to a destination
+abbrev pub message_refusal : (from to : Address) → (len : ℕ) → Option Refused
 message_refusal from to len =
-    if to.0 == null_address then Some sending.NoSuchStation
-    else if from.0 == to.0 then Some sending.SameStation
-    else if nat_lt len MIN_SIZE then Some sending.TooShort
-    else if nat_lt (longest_to to.0) len then Some sending.TooLong
+    if to.0 == null_address then Some NoSuchStation
+    else if from.0 == to.0 then Some SameStation
+    else if nat_lt len MIN_SIZE then Some TooShort
+    else if nat_lt (longest_to to.0) len then Some TooLong
     else None
 
--- a message isn't sent; memory is wanting only where nothing else is
-abbrev pub IsSendingRefused : Station → (to : Address) → (len : ℕ) → SendingCause → Type 0
-IsSendingRefused st to len sending.LaneFull = (message_refusal st.address to len ≡ None) × (is_full (lane_of st to) ≡ true)
-IsSendingRefused st to len sending.OutOfMemory = (message_refusal st.address to len ≡ None) × (is_full (lane_of st to) ≡ false)
-IsSendingRefused st to len cause = message_refusal st.address to len ≡ Some cause
+-- a message isn't sent: that, and else its lane is full
+abbrev pub sending_refusal : Station → (to : Address) → (len : ℕ) → Option Refused
+sending_refusal st to len = option_or (message_refusal st.address to len) (if is_full (lane_of st to) then Some LaneFull else None)
+
+-- the causes of a lane
+abbrev pub by_lane : PumpRefused → Refused
+by_lane of_lane.NothingToSend = NothingToSend
+by_lane of_lane.NotYet = NotYet
 
 -- how many places a pump may need
 abbrev pub pump_places : ℕ
 pump_places = 8
 
 -- nothing is queued to a destination
-abbrev pub IsPumpingRefused : Station → (to : Address) → (now : ℕ) → PumpingRefused → Type 0
-IsPumpingRefused st to now pumping.NothingToSend = refusal_at st.lanes to.0 now ≡ Some lane.NothingToSend
-IsPumpingRefused st to now pumping.NotYet = refusal_at st.lanes to.0 now ≡ Some lane.NotYet
-IsPumpingRefused st to now pumping.TxFull = (refusal_at st.lanes to.0 now ≡ None) × (free_places st.queue < pump_places)
+abbrev pub pumping_refusal : Station → (to : Address) → (now : ℕ) → Option Refused
+pumping_refusal st to now =
+    if to.0 == null_address then Some NoSuchStation
+    else option_or (option_map by_lane (refusal_at st.lanes to.0 now)) (if nat_lt (free_places st.queue) pump_places then Some TxFull else None)
+
+-- a frame isn't taken
+abbrev pub taking_refusal : Station → Option Refused
+taking_refusal st = if is_queue_full st then Some TxFull else None
+
+-- no timer fires
+abbrev pub firing_refusal : Station → (now : ℕ) → Option Refused
+firing_refusal st now =
+    if not (is_due st now) then Some NothingDue
+    else if is_queue_full st then Some TxFull
+    else None
 
 -- a message isn't cancelled
-abbrev pub IsCancellingRefused : Station → (to : Address) → (number : ℕ) → CancellingRefused → Type 0
-IsCancellingRefused st to number cancelling.NothingToSend = is_pending_at st.lanes to.0 number ≡ false
-IsCancellingRefused st to number cancelling.TxFull =
-    (is_pending_at st.lanes to.0 number ≡ true) × (queues_abort_at st.lanes to.0 number ≡ true) × (is_queue_full st ≡ true)
+abbrev pub cancelling_refusal : Station → (to : Address) → (number : ℕ) → Option Refused
+cancelling_refusal st to number =
+    if to.0 == null_address then Some NoSuchStation
+    else if not (is_pending_at st.lanes to.0 number) then Some NothingToSend
+    else if queues_abort_at st.lanes to.0 number && is_queue_full st then Some TxFull
+    else None

@@ -1,12 +1,13 @@
 //! Ports that close.
-ghost use Rattle.std.specs.Prelude.{◌≡◌, true, OnOk, OnErr, IfErr, Err};
-ghost use Rattle.port_table.specs.Ports.{closing, is_open};
+ghost use Rattle.std.specs.Prelude.{◌≡◌, OnOk, OnErr};
+ghost use Rattle.std.specs.Result.{result_err};
 ghost use Rattle.station_core.specs.Closing.{if_free, unbound_session, closed_below, closed};
+ghost use Rattle.station_core.specs.Refusals.{closing_refusal};
 
+use crate::refused::{Refused, by_ports};
 use crate::station::{Station, enqueue};
 use bus_frame::Frame;
 use pgn_ids::Address;
-use port_table::NoSuchPort;
 use session_table::{Key, SessionKind};
 use tx_queue::TxQueue;
 
@@ -25,20 +26,32 @@ fn enqueue_if_free(queue: &mut TxQueue, frame: Option<Frame>)
 }
 
 impl Station {
+    /// Why `close` of a port would be refused, if it would.
+    pub fn close_refusal(&self, number: u64) -> Option<Refused>
+        ensures { result ≡ closing_refusal self.now number }
+    {
+        match self.ports.close_refusal(number) {
+            None => None,
+            Some(cause) => Some(by_ports(cause)),
+        }
+    }
+
     /// Closes a port: it is taken out of each session's set. A session whose set is then empty ends, a connection by an
     /// abort as far as the queue has places: by rising source, TP before ETP.
     ///
-    /// Refused exactly where no open port has this number; then nothing changes. It takes no memory.
-    #[tactic(auto, using(crate::proofs::PortLaws::closing_is))]
-    pub fn close(&mut self, number: u64) -> Result<(), NoSuchPort>
+    /// Refused as `NoSuchPort` exactly where no open port has this number; then nothing changes. It takes no memory.
+    pub fn close(&mut self, number: u64) -> Result<(), Refused>
         ensures ok { OnOk result (self.new ≡ closed self.old number) }
-        ensures open { OnOk result (is_open self.old.ports number ≡ true) }
-        ensures refused { IfErr result (λ cause. closing self.old.ports number ≡ Err cause) }
+        ensures refused { result_err result ≡ closing_refusal self.old number }
         ensures err { OnErr result (self.new ≡ self.old) }
     {
-        self.ports.close(number)?;
-        self.unbind_all(number);
-        Ok(())
+        match self.ports.close(number) {
+            Ok(()) => {
+                self.unbind_all(number);
+                Ok(())
+            }
+            Err(cause) => Err(by_ports(cause)),
+        }
     }
 
     /// Takes a port out of the sets of all sessions.

@@ -12,9 +12,7 @@ mod station;
 mod taking;
 mod timers;
 
-pub use refused::{
-    CancellingRefused, FiringRefused, PumpingRefused, SendingCause, SendingRefused, TakingRefused,
-};
+pub use refused::{Refused, SendingRefused};
 pub use station::Station;
 pub use station_lanes::{Event, Events, EventsIntoIter, EventsIter};
 pub use taking::Taken;

@@ -1,100 +1,95 @@
-//! Why a call of a station isn't done. Each refusal changes nothing.
+//! Why a call of a station isn't done.
 ghost use Rattle.std.specs.Prelude.{◌≡◌};
-ghost use Rattle.station_core.specs.declared.refused.TakingRefused.TheVariants as taking;
-ghost use Rattle.station_core.specs.declared.refused.FiringRefused.TheVariants as firing;
+ghost use Rattle.station_core.specs.Refusals.{by_lane as by_lane_of, by_ports as by_ports_of};
+ghost use Rattle.station_core.specs.declared.refused.Refused.TheVariants.{OutOfMemory};
 
-use lane_core::Bytes;
+use lane_core::{Bytes, PumpRefused};
 use std::alloc::AllocError;
 use thiserror::Error;
 
-/// Why a message isn't sent.
-#[derive(Clone, Copy, Debug, PartialEq, Eq)]
-pub enum SendingCause {
+/// Why a call of a station isn't done, which then changes nothing.
+#[derive(Clone, Copy, Debug, PartialEq, Eq, Error)]
+pub enum Refused {
     /// The destination is the null address, 254, which is no node's.
+    #[error("the null address is no node's")]
     NoSuchStation,
     /// The destination is the station itself.
+    #[error("the destination is the station itself")]
     SameStation,
     /// The message has less than 9 bytes.
+    #[error("a message has 9 bytes or more")]
     TooShort,
     /// The message has more than 1,785 bytes to all, or more than 117,440,505 to one node.
+    #[error("a message has up to 1785 bytes to all, and up to 117440505 to one node")]
     TooLong,
     /// The lane has 32 messages without an outcome, or no further number.
+    #[error("32 messages to the destination have no outcome, or no number is left")]
     LaneFull,
-    /// There is no memory.
-    OutOfMemory,
-}
-
-/// A message that isn't sent.
-#[derive(Debug, Drop)]
-pub struct SendingRefused {
-    /// Why.
-    pub cause: SendingCause,
-    /// Its bytes.
-    pub bytes: Bytes,
-}
-
-/// Why a frame isn't taken.
-#[derive(Clone, Copy, Debug, PartialEq, Eq, Error)]
-pub enum TakingRefused {
-    /// No place of the queue is free for an answer.
-    #[error("no place of the queue is free")]
-    TxFull,
-    /// There is no memory.
-    #[error("out of memory")]
-    OutOfMemory,
-}
-
-/// Why no timer fires.
-#[derive(Clone, Copy, Debug, PartialEq, Eq, Error)]
-pub enum FiringRefused {
-    /// None is due.
-    #[error("no timer is due")]
-    NothingDue,
-    /// No place of the queue is free for the frame that it queues.
-    #[error("no place of the queue is free")]
-    TxFull,
-    /// There is no memory.
-    #[error("out of memory")]
-    OutOfMemory,
-}
-
-/// Why nothing is queued to a destination.
-#[derive(Clone, Copy, Debug, PartialEq, Eq, Error)]
-pub enum PumpingRefused {
-    /// No message is pending, or it awaits a frame of its destination.
-    #[error("nothing is to be sent to the destination")]
+    /// 16 ports are open, or the last number of `u64` was used.
+    #[error("16 ports are open, or no number is left")]
+    PortsFull,
+    /// No open port has this number: it was never opened, or it is closed.
+    #[error("no open port has this number")]
+    NoSuchPort,
+    /// The port is paused already.
+    #[error("the port is paused")]
+    PortPaused,
+    /// The port isn't paused.
+    #[error("the port is not paused")]
+    PortNotPaused,
+    /// No message is pending, it awaits a frame of its destination, or no such message is without an outcome.
+    #[error("nothing is to be sent, or no such message is without an outcome")]
     NothingToSend,
     /// The lane waits only for the 50 ticks between the frames of a broadcast message.
     #[error("the next frame of the broadcast message comes too soon")]
     NotYet,
-    /// Less than eight places of the queue are free.
-    #[error("less than eight places of the queue are free")]
+    /// No timer is due.
+    #[error("no timer is due")]
+    NothingDue,
+    /// Too few places of the queue are free.
+    #[error("too few places of the queue are free")]
     TxFull,
+    /// There is no memory.
+    #[error("out of memory")]
+    OutOfMemory,
 }
 
-/// Why a message isn't cancelled.
-#[derive(Clone, Copy, Debug, PartialEq, Eq, Error)]
-pub enum CancellingRefused {
-    /// No message with this number is without an outcome.
-    #[error("no such message is without an outcome")]
-    NothingToSend,
-    /// Its connection is under way, and no place of the queue is free for the abort.
-    #[error("no place of the queue is free")]
-    TxFull,
+/// A message that isn't sent.
+#[derive(Debug, Drop, Error)]
+#[error("{cause}")]
+pub struct SendingRefused {
+    /// Why.
+    pub cause: Refused,
+    /// Its bytes.
+    pub bytes: Bytes,
 }
 
-impl From<AllocError> for TakingRefused {
-    ghost from_gives = { λ _ refused. refused ≡ taking.OutOfMemory };
+impl From<AllocError> for Refused {
+    ghost from_gives = { λ _ refused. refused ≡ OutOfMemory };
 
-    fn from(_: AllocError) -> TakingRefused {
-        TakingRefused::OutOfMemory
+    fn from(_: AllocError) -> Refused {
+        Refused::OutOfMemory
     }
 }
 
-impl From<AllocError> for FiringRefused {
-    ghost from_gives = { λ _ refused. refused ≡ firing.OutOfMemory };
+// The cause of a lane as one of the station's.
+pub(crate) fn by_lane(cause: PumpRefused) -> Refused
+    ensures { result ≡ by_lane_of cause }
+{
+    match cause {
+        PumpRefused::NothingToSend => Refused::NothingToSend,
+        PumpRefused::NotYet => Refused::NotYet,
+    }
+}
 
-    fn from(_: AllocError) -> FiringRefused {
-        FiringRefused::OutOfMemory
+// The cause of the ports as one of the station's.
+pub(crate) fn by_ports(cause: port_table::Refused) -> Refused
+    ensures { result ≡ by_ports_of cause }
+{
+    match cause {
+        port_table::Refused::PortsFull => Refused::PortsFull,
+        port_table::Refused::NoSuchPort => Refused::NoSuchPort,
+        port_table::Refused::PortPaused => Refused::PortPaused,
+        port_table::Refused::PortNotPaused => Refused::PortNotPaused,
     }
 }

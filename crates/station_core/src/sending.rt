@@ -1,18 +1,18 @@
 //! Messages that are sent, pumped and cancelled.
-ghost use Rattle.std.specs.Prelude.{◌≡◌, ◌<◌, ◌≤◌, ◌+◌, ◌||◌, ◌==◌, true, false, length, None, IfOk, OnOk, OnErr, IfErr};
-ghost use Rattle.pgn_ids.specs.Address.{is_one, global_address};
-ghost use Rattle.tp_wire.specs.declared.constants.TheConstants.{MIN_SIZE};
-ghost use Rattle.tx_queue.specs.Queue.{queue_limit, free_places};
-ghost use Rattle.lane_core.specs.Lane.{is_full, longest_to as longest_to_of};
-ghost use Rattle.station_lanes.specs.LaneReaders.{refusal_at, missing_at, is_pending_at, queues_abort_at};
+ghost use Rattle.std.specs.Prelude.{◌≡◌, ◌≤◌, ◌+◌, ◌||◌, ◌==◌, true, length, None, IfOk, OnOk, OnErr, IfErr};
+ghost use Rattle.std.specs.Result.{result_err};
 ghost use Rattle.std.specs.Option.{option_map};
+ghost use Rattle.std.specs.FinMap as map;
+ghost use Rattle.pgn_ids.specs.Address.{is_one, global_address, null_address};
+ghost use Rattle.tp_wire.specs.declared.constants.TheConstants.{MIN_SIZE};
+ghost use Rattle.lane_core.specs.Lane.{longest_to as longest_to_of};
+ghost use Rattle.station_lanes.specs.LaneReaders.{missing_at, is_pending_at};
 ghost use Rattle.station_core.specs.Sending.{lane_of, sent, next_pump, pumped, cancelled};
-ghost use Rattle.station_core.specs.Refusals.{is_queue_full, message_refusal as message_refusal_of, pump_places, IsSendingRefused, IsPumpingRefused, IsCancellingRefused};
-ghost use Rattle.station_core.specs.declared.refused.CancellingRefused.TheVariants as cancelling;
+ghost use Rattle.station_core.specs.Refusals.{IsAnswered, message_refusal as message_refusal_of, sending_refusal, pumping_refusal, cancelling_refusal};
 
-use crate::refused::{CancellingRefused, PumpingRefused, SendingCause, SendingRefused};
+use crate::refused::{Refused, SendingRefused, by_lane};
 use crate::station::Station;
-use lane_core::{Bytes, PumpRefused, PushRefused, longest_to};
+use lane_core::{Bytes, PushRefused, longest_to};
 use pgn_ids::{Address, Pgn};
 use station_lanes::Events;
 use tp_wire::constants::MIN_SIZE;
@@ -20,25 +20,24 @@ use tp_wire::constants::MIN_SIZE;
 /// How many frames a pump queues at most.
 const MOST_PUMPED: usize = 8;
 
-// Why a message of so many bytes isn't sent from a station to a destination, before the lane is looked at: the first that
-// holds.
-fn message_refusal(from: Address, to: Address, len: usize) -> Option<SendingCause>
+// Why a message of so many bytes isn't one from a station to a destination: the first cause that holds.
+fn message_refusal(from: Address, to: Address, len: usize) -> Option<Refused>
     ensures value { result ≡ message_refusal_of from to len }
     ensures destination { result ≡ None → (is_one to.0 || to.0 == global_address) ≡ true }
     ensures least { result ≡ None → MIN_SIZE ≤ len }
     ensures most { result ≡ None → len ≤ longest_to_of to.0 }
 {
     if to == Address::NULL {
-        return Some(SendingCause::NoSuchStation);
+        return Some(Refused::NoSuchStation);
     }
     if from == to {
-        return Some(SendingCause::SameStation);
+        return Some(Refused::SameStation);
     }
     if len < MIN_SIZE as usize {
-        return Some(SendingCause::TooShort);
+        return Some(Refused::TooShort);
     }
     if len > longest_to(to) {
-        return Some(SendingCause::TooLong);
+        return Some(Refused::TooLong);
     }
     None
 }
@@ -54,9 +53,7 @@ impl Station {
     pub fn send(&mut self, to: Address, pgn: Pgn, bytes: Bytes) -> Result<u64, SendingRefused>
         ensures number { IfOk result (λ n. n ≡ (lane_of self.old to).sent + 1) }
         ensures ok { OnOk result (self.new ≡ sent self.old to pgn bytes) }
-        ensures sends { OnOk result (message_refusal_of self.old.address to (length bytes) ≡ None) }
-        ensures room { OnOk result (is_full (lane_of self.old to) ≡ false) }
-        ensures refused { IfErr result (λ refused. IsSendingRefused self.old to (length bytes) refused.cause) }
+        ensures refused { IsAnswered (sending_refusal self.old to (length bytes)) (option_map (λ refused. refused.cause) (result_err result)) }
         ensures back { IfErr result (λ refused. refused.bytes ≡ bytes) }
         ensures err { OnErr result (self.new ≡ self.old) }
     {
@@ -66,46 +63,54 @@ impl Station {
         match self.lanes.push(self.alloc, self.address, to, pgn, bytes) {
             Ok(number) => Ok(number),
             Err(PushRefused::LaneFull(bytes)) => Err(SendingRefused {
-                cause: SendingCause::LaneFull,
+                cause: Refused::LaneFull,
                 bytes,
             }),
             Err(PushRefused::OutOfMemory(bytes)) => Err(SendingRefused {
-                cause: SendingCause::OutOfMemory,
+                cause: Refused::OutOfMemory,
                 bytes,
             }),
         }
     }
 
-    /// Why a message of so many bytes to a destination isn't sent, whatever they are and before the lane is looked at: the
-    /// first cause of `send` that holds. It takes no memory.
-    pub fn message_refusal(&self, to: Address, len: usize) -> Option<SendingCause>
-        ensures { result ≡ message_refusal_of self.now.address to len }
+    /// Why `send` of so many bytes to a destination would be refused, if it would, whatever they are: the first cause. It
+    /// takes no memory.
+    pub fn send_refusal(&self, to: Address, len: usize) -> Option<Refused>
+        ensures { result ≡ sending_refusal self.now to len }
     {
-        message_refusal(self.address, to, len)
-    }
-
-    /// Whether the lane to a destination takes no further message: 32 have no outcome, or no number is left.
-    pub fn is_lane_full(&self, to: Address) -> bool
-        ensures { result ≡ is_full (lane_of self.now to) }
-    {
+        if let Some(cause) = message_refusal(self.address, to, len) {
+            return Some(cause);
+        }
         match self.lanes.get(to) {
-            None => false,
-            Some(lane) => lane.is_full(),
+            Some(lane) if lane.is_full() => Some(Refused::LaneFull),
+            _ => None,
         }
     }
 
-    /// Why the lane to a destination queues nothing at tick `now`, or `None` where a pump queues a frame.
-    pub fn pump_refusal(&self, to: Address, now: u64) -> Option<PumpRefused>
-        ensures { result ≡ refusal_at self.now.lanes to.0 now }
+    /// Why `pump` to a destination at tick `now` would be refused, if it would: the first cause.
+    pub fn pump_refusal(&self, to: Address, now: u64) -> Option<Refused>
+        ensures { result ≡ pumping_refusal self.now to now }
     {
-        self.lanes.pump_refusal(to, now)
+        if to == Address::NULL {
+            return Some(Refused::NoSuchStation);
+        }
+        if let Some(cause) = self.lanes.pump_refusal(to, now) {
+            return Some(by_lane(cause));
+        }
+        let places = self.queue.free();
+        if places < MOST_PUMPED {
+            return Some(Refused::TxFull);
+        }
+        None
     }
 
     /// The lowest destination that a pump queues a frame to at tick `now`; none where the queue has less than eight free
     /// places.
     pub fn next_pump(&self, now: u64) -> Option<Address>
-        ensures { option_map (λ to. to.0) result ≡ next_pump self.now now }
+        ensures value { option_map (λ to. to.0) result ≡ next_pump self.now now }
+        ensures null { map.get self.now.lanes null_address ≡ None }
     {
+        self.lanes.laws();
         if self.queue.free() < MOST_PUMPED {
             return None;
         }
@@ -122,23 +127,16 @@ impl Station {
 
     /// Queues what comes next to a destination at tick `now`: at most eight frames. It takes no memory.
     ///
-    /// Refused as `NothingToSend` or `NotYet` exactly where `pump_refusal` answers so, else as `TxFull` where less than
-    /// eight places of the queue are free. A refusal changes nothing.
-    pub fn pump(&mut self, to: Address, now: u64) -> Result<Events, PumpingRefused>
+    /// Refused for the first of these causes that holds: `NoSuchStation`, where the destination is 254, `NothingToSend`,
+    /// where no message is pending or it awaits a frame, `NotYet`, where the next frame of a broadcast comes too soon, and
+    /// `TxFull`, where less than eight places of the queue are free. A refusal changes nothing.
+    pub fn pump(&mut self, to: Address, now: u64) -> Result<Events, Refused>
         ensures ok { IfOk result (λ events. pumped self.old to now ≡ record { station = self.new; events = events }) }
-        ensures pumps { OnOk result (refusal_at self.old.lanes to.0 now ≡ None) }
-        ensures places { OnOk result (pump_places ≤ free_places self.old.queue) }
-        ensures refused { IfErr result (IsPumpingRefused self.old to now) }
+        ensures refused { result_err result ≡ pumping_refusal self.old to now }
         ensures err { OnErr result (self.new ≡ self.old) }
     {
-        match self.lanes.pump_refusal(to, now) {
-            Some(PumpRefused::NothingToSend) => return Err(PumpingRefused::NothingToSend),
-            Some(PumpRefused::NotYet) => return Err(PumpingRefused::NotYet),
-            None => {}
-        }
-        let places = self.queue.free();
-        if places < MOST_PUMPED {
-            return Err(PumpingRefused::TxFull);
+        if let Some(cause) = self.pump_refusal(to, now) {
+            return Err(cause);
         }
         let step = self.lanes.pump(to, now);
         Ok(self.finish_lane_step(to, step))
@@ -151,44 +149,39 @@ impl Station {
         self.lanes.is_pending(to, number)
     }
 
-    /// Whether cancelling the message to a destination with this number queues an abort: its connection is under way.
-    pub fn queues_abort(&self, to: Address, number: u64) -> bool
-        ensures { result ≡ queues_abort_at self.now.lanes to.0 number }
+    /// Why `cancel` of a message would be refused, if it would: the first cause.
+    pub fn cancel_refusal(&self, to: Address, number: u64) -> Option<Refused>
+        ensures { result ≡ cancelling_refusal self.now to number }
     {
-        self.lanes.queues_abort(to, number)
+        if to == Address::NULL {
+            return Some(Refused::NoSuchStation);
+        }
+        if !self.is_pending(to, number) {
+            return Some(Refused::NothingToSend);
+        }
+        if self.lanes.queues_abort(to, number) && self.queue.free() == 0 {
+            return Some(Refused::TxFull);
+        }
+        None
     }
 
     /// Cancels the message to a destination with this number: a connection under way ends by an abort, a broadcast under way
     /// without a frame. It takes no memory.
     ///
-    /// Refused as `NothingToSend` exactly where no such message is without an outcome, else as `TxFull` where an abort is
-    /// to be queued and no place is free for it. A refusal changes nothing.
-    #[tactic(auto, using(crate::proofs::Cancelling::aborted_is_pending))]
-    pub fn cancel(&mut self, to: Address, number: u64) -> Result<Events, CancellingRefused>
+    /// Refused for the first of these causes that holds: `NoSuchStation`, where the destination is 254, `NothingToSend`,
+    /// where no such message is without an outcome, and `TxFull`, where an abort is to be queued and no place is free for
+    /// it. A refusal changes nothing.
+    pub fn cancel(&mut self, to: Address, number: u64) -> Result<Events, Refused>
         ensures ok { IfOk result (λ events. cancelled self.old to number ≡ record { station = self.new; events = events }) }
-        ensures pending { OnOk result (is_pending_at self.old.lanes to.0 number ≡ true) }
-        ensures place { OnOk result (queues_abort_at self.old.lanes to.0 number ≡ true → is_queue_full self.old ≡ false) }
-        ensures refused { IfErr result (IsCancellingRefused self.old to number) }
+        ensures refused { result_err result ≡ cancelling_refusal self.old to number }
         ensures err { OnErr result (self.new ≡ self.old) }
     {
-        if self.queues_abort(to, number) && self.queue.free() == 0 {
-            return Err(CancellingRefused::TxFull);
+        if let Some(cause) = self.cancel_refusal(to, number) {
+            return Err(cause);
         }
-        self.cancel_in_lane(to, number)
-    }
-
-    // The same where an abort that it queues has its place.
-    fn cancel_in_lane(&mut self, to: Address, number: u64) -> Result<Events, CancellingRefused>
-        requires { queues_abort_at self.old.lanes to.0 number ≡ true → length self.old.queue < queue_limit }
-        ensures ok { IfOk result (λ events. cancelled self.old to number ≡ record { station = self.new; events = events }) }
-        ensures pending { OnOk result (is_pending_at self.old.lanes to.0 number ≡ true) }
-        ensures cause { IfErr result (λ cause. cause ≡ cancelling.NothingToSend) }
-        ensures absent { OnErr result (is_pending_at self.old.lanes to.0 number ≡ false) }
-        ensures err { OnErr result (self.new ≡ self.old) }
-    {
         let _within = self.queue.len();
         match self.lanes.cancel(to, number) {
-            None => Err(CancellingRefused::NothingToSend),
+            None => unreachable!(),
             Some(step) => Ok(self.finish_lane_step(to, step)),
         }
     }

@@ -1,17 +1,20 @@
 //! A station: its parts, its ports and its queue.
-ghost use Rattle.std.specs.Prelude.{◌≡◌, ◌≤◌, ◌<◌, ◌+◌, ◌++◌, ◌∷◌, [], true, length, IfOk, OnOk, OnErr, IfErr, Ok, Err, false};
+ghost use Rattle.std.specs.Prelude.{◌≡◌, ◌≤◌, ◌<◌, ◌+◌, ◌++◌, ◌∷◌, [], true, false, length, IfOk, OnOk, OnErr};
+ghost use Rattle.std.specs.Result.{result_err};
 ghost use Rattle.pgn_ids.specs.Address.{is_one};
 ghost use Rattle.tx_queue.specs.Queue.{queue_limit, free_places, front, behind};
 ghost use Rattle.lane_core.specs.Steps.{option_frames};
-ghost use Rattle.port_table.specs.Ports.{next_id, are_full, is_open, is_paused, opening, pausing, resuming, with_port, with_paused};
+ghost use Rattle.port_table.specs.Ports.{next_id, is_open, is_paused, with_port, with_paused};
 ghost use Rattle.station_core.specs.Station.{new_station};
+ghost use Rattle.station_core.specs.Refusals.{IsAnswered, making_refusal, opening_refusal, pausing_refusal, resuming_refusal};
 
+use crate::refused::{Refused, by_ports};
 use bus_frame::Frame;
 use pgn_ids::{Address, Pgn};
-use port_table::{PauseError, PortId, PortTable, PortsFull, ResumeError};
+use port_table::{PortId, PortTable};
 use station_lanes::Lanes;
 use station_sessions::Receivers;
-use std::alloc::{AllocError, Global};
+use std::alloc::Global;
 use std::marker::Model;
 use tx_queue::TxQueue;
 
@@ -76,12 +79,16 @@ pub(crate) fn enqueue_all(queue: &mut TxQueue, frames: &[Frame])
 }
 
 impl Station {
-    /// The station with this address, which is that of one node, 0 to 253. It makes the room of its queue, its lanes'
-    /// places and its ports.
-    pub fn new(alloc: Global, address: Address) -> Result<Station, AllocError>
-        requires { is_one address.0 ≡ true }
-        ensures { IfOk result (λ station. station ≡ new_station address) }
+    /// The station with this address, without a port. It makes the room of its queue, its lanes' places and its ports.
+    ///
+    /// `NoSuchStation` where the address isn't that of one node, 0 to 253 (SAE J1939-81); `OutOfMemory`.
+    pub fn new(alloc: Global, address: Address) -> Result<Station, Refused>
+        ensures ok { IfOk result (λ station. station ≡ new_station address) }
+        ensures refused { IsAnswered (making_refusal address) (result_err result) }
     {
+        if !address.is_one() {
+            return Err(Refused::NoSuchStation);
+        }
         Ok(Station {
             alloc,
             address,
@@ -131,25 +138,30 @@ impl Station {
         self.queue.pop()
     }
 
-    /// Opens a port for messages of a PGN, of at most `max_len` bytes. Its number is the next one, from 1.
-    ///
-    /// Refused exactly where 16 ports are open, or the next number would pass the end of `u64`; then nothing changes.
-    #[tactic(auto, using(crate::proofs::PortLaws::opening_is))]
-    pub fn open(&mut self, pgn: Pgn, max_len: u32) -> Result<PortId, PortsFull>
-        ensures id { IfOk result (λ id. id ≡ next_id self.old.ports) }
-        ensures ok { OnOk result (self.new ≡ record self.old { ports = with_port self.old.ports pgn max_len }) }
-        ensures opens { OnOk result (opening self.old.ports pgn max_len ≡ Ok self.new.ports) }
-        ensures refused { IfErr result (λ cause. opening self.old.ports pgn max_len ≡ Err cause) }
-        ensures err { OnErr result (self.new ≡ self.old) }
+    /// Why `open` would be refused, if it would, whatever the PGN and length.
+    pub fn open_refusal(&self) -> Option<Refused>
+        ensures { result ≡ opening_refusal self.now }
     {
-        self.ports.open(pgn, max_len)
+        match self.ports.open_refusal() {
+            None => None,
+            Some(cause) => Some(by_ports(cause)),
+        }
     }
 
-    /// Whether no port can be opened: 16 are open, or the next number would pass the end of `u64`.
-    pub fn has_all_ports(&self) -> bool
-        ensures { result ≡ are_full self.now.ports }
+    /// Opens a port for messages of a PGN, of at most `max_len` bytes. Its number is the next one, from 1.
+    ///
+    /// Refused as `PortsFull` exactly where 16 ports are open, or the next number would pass the end of `u64`; then
+    /// nothing changes. It takes no memory.
+    pub fn open(&mut self, pgn: Pgn, max_len: u32) -> Result<PortId, Refused>
+        ensures id { IfOk result (λ id. id ≡ next_id self.old.ports) }
+        ensures ok { OnOk result (self.new ≡ record self.old { ports = with_port self.old.ports pgn max_len }) }
+        ensures refused { result_err result ≡ opening_refusal self.old }
+        ensures err { OnErr result (self.new ≡ self.old) }
     {
-        self.ports.is_full()
+        match self.ports.open(pgn, max_len) {
+            Ok(port) => Ok(port),
+            Err(cause) => Err(by_ports(cause)),
+        }
     }
 
     /// Whether an open port has this number.
@@ -166,29 +178,53 @@ impl Station {
         self.ports.is_paused(number)
     }
 
+    /// Why `pause` of a port would be refused, if it would: the first cause.
+    pub fn pause_refusal(&self, number: u64) -> Option<Refused>
+        ensures { result ≡ pausing_refusal self.now number }
+    {
+        match self.ports.pause_refusal(number) {
+            None => None,
+            Some(cause) => Some(by_ports(cause)),
+        }
+    }
+
     /// Pauses a port: each session that gives to it is held, and grants no packet.
     ///
-    /// Refused exactly where no open port has this number, else where it is paused; then nothing changes.
-    #[tactic(auto, using(crate::proofs::PortLaws::pausing_is))]
-    pub fn pause(&mut self, number: u64) -> Result<(), PauseError>
+    /// Refused as `NoSuchPort` exactly where no open port has this number, else as `PortPaused` where it is paused; then
+    /// nothing changes. It takes no memory.
+    pub fn pause(&mut self, number: u64) -> Result<(), Refused>
         ensures ok { OnOk result (self.new ≡ record self.old { ports = with_paused self.old.ports number true }) }
-        ensures pauses { OnOk result (pausing self.old.ports number ≡ Ok self.new.ports) }
-        ensures refused { IfErr result (λ cause. pausing self.old.ports number ≡ Err cause) }
+        ensures refused { result_err result ≡ pausing_refusal self.old number }
         ensures err { OnErr result (self.new ≡ self.old) }
     {
-        self.ports.pause(number)
+        match self.ports.pause(number) {
+            Ok(()) => Ok(()),
+            Err(cause) => Err(by_ports(cause)),
+        }
+    }
+
+    /// Why `resume` of a port would be refused, if it would: the first cause.
+    pub fn resume_refusal(&self, number: u64) -> Option<Refused>
+        ensures { result ≡ resuming_refusal self.now number }
+    {
+        match self.ports.resume_refusal(number) {
+            None => None,
+            Some(cause) => Some(by_ports(cause)),
+        }
     }
 
     /// Ends the pause of a port.
     ///
-    /// Refused exactly where no open port has this number, else where it isn't paused; then nothing changes.
-    #[tactic(auto, using(crate::proofs::PortLaws::resuming_is))]
-    pub fn resume(&mut self, number: u64) -> Result<(), ResumeError>
+    /// Refused as `NoSuchPort` exactly where no open port has this number, else as `PortNotPaused` where it isn't paused;
+    /// then nothing changes. It takes no memory.
+    pub fn resume(&mut self, number: u64) -> Result<(), Refused>
         ensures ok { OnOk result (self.new ≡ record self.old { ports = with_paused self.old.ports number false }) }
-        ensures resumes { OnOk result (resuming self.old.ports number ≡ Ok self.new.ports) }
-        ensures refused { IfErr result (λ cause. resuming self.old.ports number ≡ Err cause) }
+        ensures refused { result_err result ≡ resuming_refusal self.old number }
         ensures err { OnErr result (self.new ≡ self.old) }
     {
-        self.ports.resume(number)
+        match self.ports.resume(number) {
+            Ok(()) => Ok(()),
+            Err(cause) => Err(by_ports(cause)),
+        }
     }
 }

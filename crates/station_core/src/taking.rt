@@ -1,14 +1,15 @@
 //! Frames that are taken, row by row (SAE J1939-21; ISO 11783-3).
-ghost use Rattle.std.specs.Prelude.{◌≡◌, ◌≤◌, ◌<◌, ◌+◌, ◌++◌, true, false, length, IfOk, IfErr, OnOk, OnErr};
+ghost use Rattle.std.specs.Prelude.{◌≡◌, ◌≤◌, ◌<◌, ◌+◌, ◌++◌, true, length, IfOk, OnErr};
+ghost use Rattle.std.specs.Result.{result_err};
 ghost use Rattle.tp_wire.specs.Rows.{comes_from};
 ghost use Rattle.tp_wire.specs.declared.wire.Wire.TheVariants.{Cm};
 ghost use Rattle.tx_queue.specs.Queue.{queue_limit};
 ghost use Rattle.station_lanes.specs.LaneCalls.{outcome_of};
 ghost use Rattle.station_core.specs.Opening.{key_of};
-ghost use Rattle.station_core.specs.Refusals.{is_queue_full, IsTakingRefused};
+ghost use Rattle.station_core.specs.Refusals.{IsAnswered, taking_refusal};
 ghost use Rattle.station_core.specs.Taking.{packet_kind as packet_kind_of, in_session, in_lane, abort_taken, cm_taken, answer, request_taken, ack_taken, wire_taken, looks_at as looks_at_frame, is_malformed_for, wanted, wire_wanted, taken};
 
-use crate::refused::TakingRefused;
+use crate::refused::Refused;
 use crate::station::{Station, enqueue, enqueue_all, enqueue_option};
 use bus_frame::Frame;
 use lane_core::LaneStep;
@@ -88,20 +89,29 @@ impl Station {
         }
     }
 
+    /// Why `take` would be refused, if it would, whatever the frame. It takes no memory.
+    pub fn take_refusal(&self) -> Option<Refused>
+        ensures { result ≡ taking_refusal self.now }
+    {
+        if self.queue.free() == 0 {
+            return Some(Refused::TxFull);
+        }
+        None
+    }
+
     /// Takes a frame at tick `now`: the same call takes a frame again. `room` says whether each port of the set has room for
     /// a message that the frame completes, and whether there is room to go on with one.
     ///
     /// Refused as `TxFull` exactly where its queue has no free place, and else as `OutOfMemory` where memory is refused. A
     /// refusal changes nothing.
-    pub fn take(&mut self, frame: &Frame, room: bool, now: u64) -> Result<Taken, TakingRefused>
+    pub fn take(&mut self, frame: &Frame, room: bool, now: u64) -> Result<Taken, Refused>
         ensures ok { IfOk result (λ step. taken self.old frame.now room now ≡ record { station = self.new; events = step.events }) }
         ensures malformed { IfOk result (λ step. step.is_malformed ≡ is_malformed_for self.old frame.now) }
-        ensures place { OnOk result (is_queue_full self.old ≡ false) }
-        ensures refused { IfErr result (IsTakingRefused self.old) }
+        ensures refused { IsAnswered (taking_refusal self.old) (result_err result) }
         ensures err { OnErr result (self.new ≡ self.old) }
     {
-        if self.queue.free() == 0 {
-            return Err(TakingRefused::TxFull);
+        if let Some(cause) = self.take_refusal() {
+            return Err(cause);
         }
         if !self.looks_at(frame) {
             return Ok(Taken {

@@ -5,3 +5,5 @@ pub mod Told
 pub mod Overruns
 pub mod EventPlaces
 pub mod Dues
+pub mod Resting
+pub mod Marked

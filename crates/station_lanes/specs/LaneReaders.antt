@@ -1,8 +1,8 @@
 -- What is asked of the lanes, their timers, and what an overrun makes of them.
-use Rattle.std.specs.Prelude.{◌≡◌, ℕ, zero, suc, Bool, true, false, if◌then◌else◌, ◌+◌, ◌^◌, ◌<◌, nat_lt, length, List, [], ◌++◌, Option, Some, None, is_none}
+use Rattle.std.specs.Prelude.{◌≡◌, ℕ, zero, suc, Bool, true, false, if◌then◌else◌, ◌+◌, ◌^◌, ◌<◌, ◌≤◌, nat_lt, length, List, [], ◌++◌, Option, Some, None, is_none}
 use Rattle.std.specs.FinMap as map
 use Rattle.pgn_ids.specs.declared.address.Address.{Address}
-use Rattle.lane_core.specs.Pump.{is_lane_due, missing, pump_refusal}
+use Rattle.lane_core.specs.Pump.{is_lane_due, missing, pump_refusal, is_ready, is_timed}
 use Rattle.lane_core.specs.Endings.{overrun, numbered, queues_abort}
 use Rattle.lane_core.specs.declared.place.UnderWay.{UnderWay}
 use Rattle.lane_core.specs.declared.place.UnderWay.TheVariants.{Connection}
@@ -40,6 +40,18 @@ queues_abort_at lanes to number = elim (map.get lanes to) [ None ↦ false | Som
 -- the timer of the lane to a destination is due
 abbrev pub is_due_at : Lanes → (now to : ℕ) → Bool
 is_due_at lanes now to = elim (map.get lanes to) [ None ↦ false | Some lane ↦ is_lane_due lane now ]
+
+-- the lane to a destination has a frame to queue, now or once a gap has passed
+abbrev pub is_ready_at : Lanes → (to : ℕ) → Bool
+is_ready_at lanes to = elim (map.get lanes to) [ None ↦ false | Some lane ↦ is_ready lane ]
+
+-- a timer of the lane to a destination runs
+abbrev pub is_timed_at : Lanes → (to : ℕ) → Bool
+is_timed_at lanes to = elim (map.get lanes to) [ None ↦ false | Some lane ↦ is_timed lane ]
+
+-- no number from one up to another passes
+abbrev pub NonePasses : (ℕ → Bool) → (from to : ℕ) → Type 0
+NonePasses test from to = (n : ℕ) → from ≤ n → n < to → test n ≡ false
 
 -- the one that was found, or else this one where it passes
 abbrev pub found_or : Option ℕ → (passes : Bool) → ℕ → Option ℕ

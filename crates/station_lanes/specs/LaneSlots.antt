@@ -1,7 +1,10 @@
 -- The lanes of a station as they are kept: one place for each destination.
-use Rattle.std.specs.Prelude.{ℕ, zero, suc, ◌≡◌, List, length, Option, Some, None, slice_index_or}
+use Rattle.std.specs.Prelude.{ℕ, zero, suc, ◌≡◌, ◌||◌, ◌==◌, true, List, length, Option, Some, None, slice_index_or}
 use Rattle.std.specs.FinMap as map
+use Rattle.pgn_ids.specs.Address.{is_one, global_address}
+use Rattle.address_set.specs.Sets.{has}
 use Rattle.lane_core.specs.Lane.{Lane}
+use Rattle.lane_core.specs.Pump.{is_ready, is_timed}
 use Rattle.station_lanes.specs.Lanes.{Lanes}
 use Rattle.station_lanes.specs.declared.lanes.Lanes.TheInside.{Inside}
 
@@ -21,7 +24,11 @@ lanes_below slots (suc to) = with_slot to (slot_at slots to) (lanes_below slots 
 abbrev pub lanes_value : Inside → Lanes
 lanes_value l = lanes_below l.slots.items (length l.slots.items)
 
--- there is a place for each address, and a lane stands at its destination
+-- there is a place for each address, a lane stands at its destination, which is a node or all, and is among those with a frame to queue, and among those with
+-- a running timer, where it is one
 pub record AreSlots (l : Inside) : Type 0 where
   pub places : length l.slots.items ≡ 256
   pub in_place : (to : ℕ) (lane : Lane) → slot_at l.slots.items to ≡ Some lane → lane.to ≡ to
+  pub nodes : (to : ℕ) (lane : Lane) → slot_at l.slots.items to ≡ Some lane → (is_one to || to == global_address) ≡ true
+  pub ready : (to : ℕ) (lane : Lane) → slot_at l.slots.items to ≡ Some lane → has l.ready to ≡ is_ready lane
+  pub timed : (to : ℕ) (lane : Lane) → slot_at l.slots.items to ≡ Some lane → has l.timed to ≡ is_timed lane

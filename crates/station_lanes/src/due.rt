@@ -14,8 +14,13 @@ impl Lanes {
         ensures { IsDueFrom (λ now. is_some (due_lane self.now now)) result }
     {
         let mut tick = None;
-        for place in 0..PLACES {
-            tick = earlier(tick, self.due_at(Address(place as u8)));
+        let mut from = 0;
+        for _ in 0..PLACES {
+            let Some(to) = self.next_timed(from) else {
+                return tick;
+            };
+            tick = earlier(tick, self.due_at(to));
+            from = usize::from(to.0) + 1;
         }
         tick
     }

@@ -126,11 +126,15 @@ impl Lanes {
     pub fn next_pump(&self, now: u64) -> Option<Address>
         ensures { option_map (λ to. to.0) result ≡ pumping_lane self.now now }
     {
-        for place in 0..PLACES {
-            let to = Address(place as u8);
+        let mut from = 0;
+        for _ in 0..PLACES {
+            let Some(to) = self.next_ready(from) else {
+                return None;
+            };
             if self.pump_refusal(to, now).is_none() {
                 return Some(to);
             }
+            from = usize::from(to.0) + 1;
         }
         None
     }
@@ -178,11 +182,15 @@ impl Lanes {
         ensures value { option_map (λ to. to.0) result ≡ due_lane self.now now }
         ensures due { IfSome result (λ to. is_due_at self.now now to.0 ≡ true) }
     {
-        for place in 0..PLACES {
-            let to = Address(place as u8);
+        let mut from = 0;
+        for _ in 0..PLACES {
+            let Some(to) = self.next_timed(from) else {
+                return None;
+            };
             if self.is_due(to, now) {
                 return Some(to);
             }
+            from = usize::from(to.0) + 1;
         }
         None
     }

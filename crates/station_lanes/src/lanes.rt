@@ -1,10 +1,13 @@
 //! The lanes of a station, by destination.
-ghost use Rattle.std.specs.Prelude.{◌≡◌, ◌<◌, ◌≤◌, Option, Some, None, IfOk, IfSome, slice_set, vec_len};
+ghost use Rattle.std.specs.Prelude.{◌≡◌, ◌<◌, ◌≤◌, Option, Some, None, IfOk, IfSome, IfNone, slice_set, vec_len};
 ghost use Rattle.std.specs.Option.{option_map, option_copied};
 ghost use Rattle.std.specs.FinMap as map;
+ghost use Rattle.pgn_ids.specs.Address.{null_address};
 ghost use Rattle.lane_core.specs.Lane.{Lane};
 ghost use Rattle.station_lanes.specs.LaneSlots.{slot_at};
+ghost use Rattle.station_lanes.specs.LaneReaders.{is_ready_at, is_timed_at, NonePasses};
 
+use address_set::AddressSet;
 use lane_core::Lane;
 use pgn_ids::Address;
 use std::alloc::{AllocError, Global};
@@ -62,10 +65,13 @@ impl Slot {
     }
 }
 
-/// The lanes of a station, by destination. There is a lane once a message was sent to its destination.
+/// The lanes of a station, by destination. There is a lane once a message was sent to its destination. Which of them have a frame
+/// to queue, and which a running timer, is kept beside them, so that the next one is found without looking at all.
 #[derive(Drop)]
 pub struct Lanes {
     slots: Vec<Slot>,
+    ready: AddressSet,
+    timed: AddressSet,
 }
 
 impl Model for Lanes {
@@ -92,7 +98,11 @@ impl Lanes {
         for _ in 0..PLACES {
             slots.push_reserved(Slot::empty());
         }
-        Ok(Lanes { slots })
+        Ok(Lanes {
+            slots,
+            ready: AddressSet::new(),
+            timed: AddressSet::new(),
+        })
     }
 
     /// The lane to a destination.
@@ -117,7 +127,40 @@ impl Lanes {
         requires { lane.value.to ≡ to.0 }
         ensures { self.new ≡ map.insert self.old to.0 lane.value }
     {
+        // A reader of it tells that no lane has the null address.
+        let _to = lane.to();
+        self.ready.set(to.0, lane.is_ready());
+        self.timed.set(to.0, lane.is_timed());
         put_at(&mut self.slots, to.0, lane);
+    }
+
+    /// What holds of all lanes: none is to the null address. It does nothing.
+    pub fn laws(&self)
+        ensures { map.get self.now null_address ≡ None }
+    {
+        let _places = self.slots.len();
+    }
+
+    /// The lowest destination from one on, 0 to 256, whose lane has a frame to queue, now or once a gap has passed.
+    pub(crate) fn next_ready(&self, from: usize) -> Option<Address>
+        ensures some { IfSome result (λ to. (from ≤ to.0) × NonePasses (is_ready_at self.now) from to.0) }
+        ensures none { IfNone result (NonePasses (is_ready_at self.now) from 256) }
+    {
+        match self.ready.next(from) {
+            None => None,
+            Some(to) => Some(Address(to)),
+        }
+    }
+
+    /// The lowest destination from one on, 0 to 256, whose lane may have a running timer.
+    pub(crate) fn next_timed(&self, from: usize) -> Option<Address>
+        ensures some { IfSome result (λ to. (from ≤ to.0) × NonePasses (is_timed_at self.now) from to.0) }
+        ensures none { IfNone result (NonePasses (is_timed_at self.now) from 256) }
+    {
+        match self.timed.next(from) {
+            None => None,
+            Some(to) => Some(Address(to)),
+        }
     }
 }
 

@@ -105,9 +105,8 @@ fn is_silent(rt: &impl Abort, station: &mut Station, id: u32, bytes: &[u8; 8]) -
     Ok(())
 }
 
-fn new_station(rt: &impl Abort, alloc: Global, address: Address) -> Result<Station, Fail> {
-    assert!(rt; address.is_one());
-    Ok(Station::new(alloc, address)?)
+fn new_station(alloc: Global, address: Address) -> Result<Station, Refused> {
+    Station::new(alloc, address)
 }
 
 fn open(station: &mut Station, pgn: Pgn) -> Result<(), Fail> {
@@ -115,8 +114,8 @@ fn open(station: &mut Station, pgn: Pgn) -> Result<(), Fail> {
     Ok(())
 }
 
-fn with_port(rt: &impl Abort, alloc: Global) -> Result<Station, Fail> {
-    let mut station = new_station(rt, alloc, B)?;
+fn with_port(alloc: Global) -> Result<Station, Fail> {
+    let mut station = new_station(alloc, B)?;
     open(&mut station, Pgn::new(FECA)?)?;
     Ok(station)
 }
@@ -168,16 +167,40 @@ fn is_as_said(rt: &impl Abort, told: bool) -> Result<(), Fail> {
     Ok(())
 }
 
-fn pump(station: &mut Station, to: Address, now: u64) -> Result<Events, PumpingRefused> {
+// Why a message isn't sent.
+fn unsent(
+    alloc: Global,
+    station: &mut Station,
+    to: Address,
+    message: &[u8],
+) -> Result<Option<Refused>, Fail> {
+    match send(alloc, station, to, message)? {
+        Ok(_) => Ok(None),
+        Err(refused) => Ok(Some(refused.cause)),
+    }
+}
+
+fn pump(station: &mut Station, to: Address, now: u64) -> Result<Events, Refused> {
     station.pump(to, now)
 }
 
-fn cancel(station: &mut Station, to: Address, number: u64) -> Result<Events, CancellingRefused> {
+fn cancel(station: &mut Station, to: Address, number: u64) -> Result<Events, Refused> {
     station.cancel(to, number)
 }
 
-fn queues_abort(station: &Station, to: Address, number: u64) -> bool {
-    station.queues_abort(to, number) && station.is_pending(to, number)
+// Why each call of station 21 would be refused: at its port 1, and with its message 1 to station 35.
+fn refusals(station: &Station, len: usize) -> [Option<Refused>; 9] {
+    [
+        station.open_refusal(),
+        station.close_refusal(1),
+        station.pause_refusal(1),
+        station.resume_refusal(1),
+        station.take_refusal(),
+        station.fire_refusal(0),
+        station.send_refusal(B, len),
+        station.pump_refusal(B, 0),
+        station.cancel_refusal(B, 1),
+    ]
 }
 
 // The frame in front leaves, and is this one.
@@ -205,7 +228,7 @@ const NO_RESOURCES: (u32, [u8; 8]) = (
 
 #[test]
 fn a_message_is_given(rt: HostRuntime) -> Result<(), Fail> {
-    let mut station = with_port(&rt, rt.alloc())?;
+    let mut station = with_port(rt.alloc())?;
     answers(&rt, &mut station, RTS_OF_80, &RTS, &CTS)?;
     is_silent(&rt, &mut station, PACKET_OF_80, &[1, 1, 2, 3, 4, 5, 6, 7])?;
     let last = Frame::full(
@@ -261,7 +284,7 @@ fn play(rt: &impl Abort, station: &mut Station, turn: &Turn) -> Result<(), Fail>
 
 /// Plays the turns at station 35 with one port.
 fn play_all(rt: &impl Abort, alloc: Global, turns: &[Turn]) -> Result<(), Fail> {
-    let mut station = with_port(rt, alloc)?;
+    let mut station = with_port(alloc)?;
     for turn in turns {
         play(rt, &mut station, turn)?;
     }
@@ -337,15 +360,38 @@ fn a_paused_port_holds_its_session(rt: HostRuntime) -> Result<(), Fail> {
 
 #[test]
 fn a_message_is_cancelled(rt: HostRuntime) -> Result<(), Fail> {
-    let mut station = new_station(&rt, rt.alloc(), A)?;
-    assert!(rt; send(rt.alloc(), &mut station, A, &M9)?.is_err());
-    assert!(rt; send(rt.alloc(), &mut station, B, &M9[1..])?.is_err());
-    assert!(rt; pump(&mut station, B, 0).is_err());
+    for address in [Address::NULL, Address::GLOBAL] {
+        let refused = new_station(rt.alloc(), address).err();
+        assert!(rt; refused == Some(Refused::NoSuchStation));
+    }
+    let mut station = new_station(rt.alloc(), A)?;
+    let mut expected = [
+        None,
+        Some(Refused::NoSuchPort),
+        Some(Refused::NoSuchPort),
+        Some(Refused::NoSuchPort),
+        None,
+        Some(Refused::NothingDue),
+        Some(Refused::TooShort),
+        Some(Refused::NothingToSend),
+        Some(Refused::NothingToSend),
+    ];
+    assert!(rt; refusals(&station, 8).as_slice() == expected.as_slice());
+    let itself = unsent(rt.alloc(), &mut station, A, &M9)?;
+    assert!(rt; itself == Some(Refused::SameStation));
+    let short = unsent(rt.alloc(), &mut station, B, &M9[1..])?;
+    assert!(rt; short == Some(Refused::TooShort));
+    assert!(rt; pump(&mut station, B, 0).err() == Some(Refused::NothingToSend));
+    open(&mut station, Pgn::new(FECA)?)?;
     let number = send(rt.alloc(), &mut station, B, &M9)??;
+    expected = [None; 9];
+    expected[3] = Some(Refused::PortNotPaused);
+    expected[5] = Some(Refused::NothingDue);
+    assert!(rt; refusals(&station, 9).as_slice() == expected.as_slice());
     assert!(rt; pump(&mut station, B, 0)?.is_empty());
-    assert!(rt; queues_abort(&station, B, number));
+    assert!(rt; station.is_pending(B, number));
     let (event, _) = cancel(&mut station, B, number)?.into_parts();
-    assert!(rt; cancel(&mut station, B, number).is_err());
+    assert!(rt; cancel(&mut station, B, number).err() == Some(Refused::NothingToSend));
     let mut seen = nothing_seen(rt.alloc());
     if let Some(event) = event {
         see(&mut seen, event)?;

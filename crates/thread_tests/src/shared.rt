@@ -5,7 +5,7 @@ mod threads;
 
 use pgn_ids::Address;
 use segment_shared::{
-    Accepted, AttachRefused, Client, Gate, Inbox, Live, Refusal, Reply, SharedSegment, WorkerCall,
+    Accepted, Client, Gate, Inbox, Live, NotMade, Refusal, Reply, SharedSegment, WorkerCall,
     bus_worker, finish,
 };
 use std::alloc::Global;
@@ -15,7 +15,7 @@ use std::test::Fail;
 use steps::*;
 
 // Why no client is attached at a station, which is found without memory.
-fn unattached(live: &mut Live, station: Address) -> Option<AttachRefused> {
+fn unattached(live: &mut Live, station: Address) -> Option<NotMade> {
     match live.attach(station) {
         Ok(_) => None,
         Err(refused) => Some(refused),
@@ -30,9 +30,10 @@ fn clients_and_submissions_are_limited(rt: HostRuntime) -> Result<(), Fail> {
     for _ in 0..15 {
         let _other = client(&mut live, A)?;
     }
-    assert!(rt; unattached(&mut live, A) == Some(AttachRefused::ClientsFull));
+    let full = unattached(&mut live, A);
+    assert!(rt; full == Some(NotMade::Refused(Refusal::ClientsFull)));
     let nowhere = unattached(&mut live, Address(0x50));
-    assert!(rt; nowhere == Some(AttachRefused::NoSuchStation));
+    assert!(rt; nowhere == Some(NotMade::Refused(Refusal::NoSuchStation)));
     for ticket in 1..65u64 {
         assert_eq!(rt; submit(&rt, &mut first, R, alloc)?, ticket);
     }

@@ -1,7 +1,7 @@
 //! Full rings, owed places, and the most calls that are stored.
 use super::steps::*;
 use pgn_ids::Address;
-use segment_shared::{Accepted, Client, Live, MOST_CALLS, OpenRefused, Refusal, WorkerCall};
+use segment_shared::{Accepted, Client, Live, MOST_CALLS, NotMade, Refusal, WorkerCall};
 use std::alloc::Global;
 use std::process::Abort;
 use std::test::Fail;
@@ -90,7 +90,7 @@ fn a_full_lane_keeps_its_submission(rt: HostRuntime) -> Result<(), Fail> {
 }
 
 // Why no port is opened at a station.
-fn unopened(live: &mut Live, station: Address) -> Result<Option<OpenRefused>, Fail> {
+fn unopened(live: &mut Live, station: Address) -> Result<Option<NotMade>, Fail> {
     match live.open_port(station, feca()?, 9) {
         Ok(_) => Ok(None),
         Err(refused) => Ok(Some(refused)),
@@ -112,8 +112,8 @@ fn no_more_calls_are_stored(rt: HostRuntime) -> Result<(), Fail> {
     assert!(rt; refused(&mut live, tick)? == Some(full));
     assert!(rt; accept(&mut live, &sender)? == Accepted::Refused(full));
     assert!(rt; close(&mut live, &mut inbox)? == Err(full));
-    assert!(rt; unopened(&mut live, R)? == Some(OpenRefused::Refused(full)));
-    let nowhere = OpenRefused::Refused(Refusal::NoSuchStation);
+    assert!(rt; unopened(&mut live, R)? == Some(NotMade::Refused(full)));
+    let nowhere = NotMade::Refused(Refusal::NoSuchStation);
     assert!(rt; unopened(&mut live, Address(0x50))? == Some(nowhere));
     Ok(())
 }

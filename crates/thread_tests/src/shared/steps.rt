@@ -2,8 +2,8 @@
 pub(super) use crate::calls::*;
 use pgn_ids::Address;
 use segment_shared::{
-    Accepted, Bytes, Client, CloseRefused, Closed, Inbox, Live, Note, PortKept, Refusal, Reply,
-    Report, WorkerCall, finish,
+    Accepted, Bytes, Client, Closed, Inbox, Live, NotMade, Note, PortKept, Refusal, Reply, Report,
+    WorkerCall, finish,
 };
 use std::alloc::{AllocError, Global};
 use std::process::Abort;
@@ -83,11 +83,11 @@ pub(super) fn receive(inbox: &mut Inbox) -> Result<bool, Fail> {
 }
 
 // How many deliveries a closing hands out, or why it is refused.
-fn handed_out(closed: Result<Closed, CloseRefused>) -> Result<Result<usize, Refusal>, AllocError> {
+fn handed_out(closed: Result<Closed, NotMade>) -> Result<Result<usize, Refusal>, AllocError> {
     match closed {
         Ok(closed) => Ok(Ok(closed.rest.len())),
-        Err(CloseRefused::Refused(refusal)) => Ok(Err(refusal)),
-        Err(CloseRefused::OutOfMemory) => Err(AllocError),
+        Err(NotMade::Refused(refusal)) => Ok(Err(refusal)),
+        Err(NotMade::OutOfMemory) => Err(AllocError),
     }
 }
 

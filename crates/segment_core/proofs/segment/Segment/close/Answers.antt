@@ -1,7 +1,7 @@
-use Rattle.std.proofs.Common.{ap, ◌∙◌}
+use Rattle.std.proofs.Common.{refl, sym, ap, ◌∙◌}
 use Rattle.segment_core.proofs.Addresses.{closed_keeps}
-use Rattle.segment_core.proofs.Refusals.{close_none}
-use Rattle.segment_core.proofs.Kept.{inside_kept, at_here, closes_open, stepped_view, unchanged_view}
+use Rattle.segment_core.proofs.Refusals.{closes_by, goes_on, refuses}
+use Rattle.segment_core.proofs.Kept.{inside_kept, at_here, stepped_view, unchanged_view}
 use Rattle.segment_core.proofs.segment.Segment.close.Goals as goal
 
 pub invariant_of-self : goal.invariant_of-self
@@ -11,12 +11,12 @@ invariant_of-self c =
 pub returns-in-Ok : goal.returns-in-Ok
 returns-in-Ok c =
     at_here c.self.inside _ _ c.in-Some.place c.index_mut.result.now _ c.self.view_is c.in-Some.ensures.value c.in-Some.ensures.within c.index_mut.ensures.value
-    ∙ closes_open _ c.args.port.number c.in-Some.place c.index_mut.result.now c.in-Ok.ensures.open
+    ∙ goes_on _ _ _ (closes_by c.args.self.now c.in-Some.place c.index_mut.result.now c.args.port.number) (sym c.in-Ok.ensures.refused)
     ∙ stepped_view c.self.inside _ c.in-Some.place _ _ _ _ c.self.view_is c.in-Ok.ensures.ok c.done.ensures
 
 pub returns-in-Err : goal.returns-in-Err
-returns-in-Err c = (
-  at_here c.self.inside _ _ c.in-Some.place c.index_mut.result.now _ c.self.view_is c.in-Some.ensures.value c.in-Some.ensures.within c.index_mut.ensures.value
-      ∙ close_none _ c.args.port.number c.in-Some.place c.index_mut.result.now c.in-Err.field-0 c.in-Err.ensures.refused,
-  unchanged_view c.self.inside _ c.in-Some.place _ c.index_mut.result.now c.self.view_is c.in-Err.ensures.err c.index_mut.ensures.value,
-)
+returns-in-Err c =
+    refuses _ _ _ (at_here c.self.inside _ _ c.in-Some.place c.index_mut.result.now _ c.self.view_is c.in-Some.ensures.value c.in-Some.ensures.within c.index_mut.ensures.value
+    ∙ closes_by c.args.self.now c.in-Some.place c.index_mut.result.now c.args.port.number) _ _ c.in-Err.cause _ c.stop_of.ensures refl
+    (unchanged_view c.self.inside _ c.in-Some.place _ c.index_mut.result.now c.self.view_is c.in-Err.ensures.err c.index_mut.ensures.value)
+    c.in-Err.ensures.refused

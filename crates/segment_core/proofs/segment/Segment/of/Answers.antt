@@ -13,7 +13,7 @@ loop-place-preserved c =
     let few : length c.in_ok-rising.rising.items ≤ 32 = subst (λ l. length l ≤ 32) (sym c.in_ok-rising.ensures) (rising_few c.args.addresses.now c.requires) in
     let one : c.index-address.result.now.0 < 254 = one_here c.args.addresses.now c.in_ok-rising.rising.items c.loop-place.place c.index-address.result.now c.requires c.in_ok-rising.ensures within c.index-address.ensures in
     let long : length c.loop-place.stations.items ≡ c.loop-place.place = how_many c.in_ok-rising.rising.items c.loop-place.stations.items c.loop-place.place c.loop-place.invariant.0 (omega arith) in
-    let pushed : c.push_reserved.new.self.items ≡ c.loop-place.stations.items ++ new_station c.index-address.result.now ∷ [] = c.push_reserved.ensures.items ∙ ap (λ st. c.loop-place.stations.items ++ st ∷ []) c.in_ok-new.ensures in
+    let pushed : c.push_reserved.new.self.items ≡ c.loop-place.stations.items ++ new_station c.index-address.result.now ∷ [] = c.push_reserved.ensures.items ∙ ap (λ st. c.loop-place.stations.items ++ st ∷ []) c.in_ok-station_at.ensures in
     let placed : ArePlaces (noted c.loop-place.places c.index-address.result.now c.loop-place.place) (c.loop-place.stations.items ++ new_station c.index-address.result.now ∷ []) =
     subst (λ n. ArePlaces (noted c.loop-place.places c.index-address.result.now n) (c.loop-place.stations.items ++ new_station c.index-address.result.now ∷ [])) long
     (placed_on c.loop-place.places c.loop-place.stations.items c.index-address.result.now c.loop-place.invariant.2 (omega arith) (omega arith)) in (
@@ -27,5 +27,5 @@ invariant_of-result c =
     let few : length c.in_ok-rising.rising.items ≤ 32 = subst (λ l. length l ≤ 32) (sym c.in_ok-rising.ensures) (rising_few c.args.addresses.now c.requires) in
     let all : length c.in_ok-rising.rising.items ≡ length c.args.addresses.now = ap length c.in_ok-rising.ensures ∙ length_rising c.args.addresses.now in
     let long : length c.loop-place.stations.items ≡ c.loop-place.place = how_many c.in_ok-rising.rising.items c.loop-place.stations.items c.loop-place.place c.loop-place.invariant.0 (omega arith) in
-    let cursors : length c.in_ok-new-2.field-0.cursors ≡ length c.args.addresses.now = ap (λ b. length b.cursors) c.in_ok-new-2.ensures.new ∙ length-replicate (length c.args.addresses.now) start in
+    let cursors : length c.in_ok-new.field-0.cursors ≡ length c.args.addresses.now = ap (λ b. length b.cursors) c.in_ok-new.ensures.new ∙ length-replicate (length c.args.addresses.now) start in
     record { few = omega arith; cursors = omega arith; places = c.loop-place.invariant.2 }

@@ -1,7 +1,7 @@
-use Rattle.std.proofs.Common.{ap, ◌∙◌}
+use Rattle.std.proofs.Common.{refl, sym, ap, ◌∙◌}
 use Rattle.segment_law.specs.declared.reply.Reply.TheVariants.{Opened}
-use Rattle.segment_core.proofs.Refusals.{open_full}
-use Rattle.segment_core.proofs.Kept.{at_here, opens_is, stepped_view, unchanged_view}
+use Rattle.segment_core.proofs.Refusals.{opens_by, goes_on, refuses}
+use Rattle.segment_core.proofs.Kept.{at_here, stepped_view, unchanged_view}
 use Rattle.segment_core.proofs.segment.Segment.open.Goals as goal
 use Rattle.segment_core.proofs.segment.Segment.open.Goals.{in-Ok, in-Err}
 
@@ -9,11 +9,11 @@ pub returns : goal.returns
 returns c = elim c.match-open.branch [
   | in-Ok w ↦ rw w.result-is
       (at_here c.self.inside _ _ c.in-Some.place c.index_mut.result.now _ c.self.view_is c.in-Some.ensures.value c.in-Some.ensures.within c.index_mut.ensures.value
-      ∙ opens_is _ c.args.pgn c.args.max_len c.in-Some.place c.index_mut.result.now _ w.in-Ok.ensures.opens
+      ∙ goes_on _ _ _ (opens_by c.args.self.now c.in-Some.place c.index_mut.result.now c.args.pgn c.args.max_len) (sym w.in-Ok.ensures.refused)
       ∙ stepped_view c.self.inside _ c.in-Some.place _ _ _ _ c.self.view_is w.in-Ok.ensures.ok (ap Opened w.in-Ok.ensures.id))
-  | in-Err w ↦ rw w.result-is (
-    at_here c.self.inside _ _ c.in-Some.place c.index_mut.result.now _ c.self.view_is c.in-Some.ensures.value c.in-Some.ensures.within c.index_mut.ensures.value
-        ∙ open_full _ c.args.pgn c.args.max_len c.in-Some.place c.index_mut.result.now _ w.in-Err.ensures.refused,
-    unchanged_view c.self.inside _ c.in-Some.place _ c.index_mut.result.now c.self.view_is w.in-Err.ensures.err c.index_mut.ensures.value,
-  )
+  | in-Err w ↦ rw w.result-is
+      (refuses _ _ _ (at_here c.self.inside _ _ c.in-Some.place c.index_mut.result.now _ c.self.view_is c.in-Some.ensures.value c.in-Some.ensures.within c.index_mut.ensures.value
+      ∙ opens_by c.args.self.now c.in-Some.place c.index_mut.result.now c.args.pgn c.args.max_len) _ _ w.in-Err.cause _ w.stop_of.ensures refl
+      (unchanged_view c.self.inside _ c.in-Some.place _ c.index_mut.result.now c.self.view_is w.in-Err.ensures.err c.index_mut.ensures.value)
+      w.in-Err.ensures.refused)
 ]

@@ -1,30 +1,21 @@
-use Rattle.std.proofs.Common.{◌≡◌, length, Some, None, sym, ap, ◌∙◌}
-use Rattle.station_core.specs.Refusals.{message_refusal}
-use Rattle.segment_core.specs.Answers.{refusal_of}
-use Rattle.segment_core.proofs.Refusals.{called_send, send_refused, send_full, send_done}
+use Rattle.std.proofs.Common.{◌≡◌, ℕ, List, refl, sym, ap, ◌∙◌}
+use Rattle.pgn_ids.specs.declared.address.Address.{Address}
+use Rattle.station_core.specs.Refusals.{sending_refusal}
+use Rattle.segment_law.specs.Segment.{Segment}
+use Rattle.segment_law.specs.Calls.{called, at_address, sends}
+use Rattle.segment_law.specs.declared.call.Call.TheVariants.{Send}
+use Rattle.segment_core.specs.Answers.{first_refusal}
+use Rattle.segment_core.proofs.Refusals.{sends_by, refused_for}
 use Rattle.segment_core.proofs.Kept.{at_here}
 use Rattle.segment_core.proofs.segment.Segment.send_refusal.Goals as goal
 
-pub returns-in-Some-message_refusal : goal.returns-in-Some-message_refusal
-returns-in-Some-message_refusal c pgn bytes len =
-    let st = c.index-station.result.now in
-    let cause : message_refusal st.address c.args.to (length bytes) ≡ Some c.in-Some-message_refusal.cause =
-    ap (λ n. message_refusal st.address c.args.to n) len ∙ sym c.in-Some-message_refusal.ensures in
-    sym (ap refusal_of (called_send c.args.self.now c.args.from c.args.to pgn bytes ∙ at_here c.self.inside _ _ c.in-Some.place st _ c.self.view_is c.in-Some.ensures.value c.in-Some.ensures.within c.index-station.ensures)
-    ∙ send_refused _ c.args.to pgn bytes c.in-Some.place st c.in-Some-message_refusal.cause cause ∙ sym c.message_cause.ensures)
-
-pub returns-then-is_lane_full : goal.returns-then-is_lane_full
-returns-then-is_lane_full c pgn bytes len =
-    let st = c.index-station.result.now in
-    let none : message_refusal st.address c.args.to (length bytes) ≡ None =
-    ap (λ n. message_refusal st.address c.args.to n) len ∙ sym c.message_refusal.ensures ∙ c.in_default-message_refusal.is in
-    sym (ap refusal_of (called_send c.args.self.now c.args.from c.args.to pgn bytes ∙ at_here c.self.inside _ _ c.in-Some.place st _ c.self.view_is c.in-Some.ensures.value c.in-Some.ensures.within c.index-station.ensures
-    ∙ send_full _ c.args.to pgn bytes c.in-Some.place st none (sym c.is_lane_full.ensures ∙ c.if-is_lane_full.true)))
+-- what a Send is
+called_send : (seg : Segment) (from to : Address) (pgn : ℕ) (bytes : List ℕ) → called seg (Send from to pgn bytes) ≡ at_address seg from (sends seg to pgn bytes)
+unfolding called
+called_send seg from to pgn bytes = refl
 
 pub returns : goal.returns
 returns c pgn bytes len =
-    let st = c.index-station.result.now in
-    let none : message_refusal st.address c.args.to (length bytes) ≡ None =
-    ap (λ n. message_refusal st.address c.args.to n) len ∙ sym c.message_refusal.ensures ∙ c.in_default-message_refusal.is in
-    sym (ap refusal_of (called_send c.args.self.now c.args.from c.args.to pgn bytes ∙ at_here c.self.inside _ _ c.in-Some.place st _ c.self.view_is c.in-Some.ensures.value c.in-Some.ensures.within c.index-station.ensures
-    ∙ send_done _ c.args.to pgn bytes c.in-Some.place st none (sym c.is_lane_full.ensures ∙ c.if-is_lane_full.false)))
+    c.refusal_by.ensures ∙ ap first_refusal (c.send_refusal.ensures ∙ ap (sending_refusal c.index.result.now c.args.to) (sym len))
+    ∙ refused_for _ _ _ (called_send c.args.self.now c.args.from c.args.to pgn bytes ∙ at_here c.self.inside _ _ c.in-Some.place c.index.result.now _ c.self.view_is c.in-Some.ensures.value c.in-Some.ensures.within c.index.ensures
+    ∙ sends_by c.args.self.now c.in-Some.place c.index.result.now c.args.to pgn bytes) refl

@@ -1,17 +1,18 @@
-use Rattle.std.proofs.Common.{◌≡◌, length, Some, sym, ap, ◌∙◌, subst, length-set}
+use Rattle.std.proofs.Common.{◌≡◌, length, Some, refl, sym, ap, ◌∙◌, subst, length-set}
 use Rattle.std.specs.Prelude.{OnSome}
 use Rattle.bus_order.specs.Bus.{taken as moved, released, next_frame}
 use Rattle.station_core.specs.Taking.{taken}
 use Rattle.segment_core.proofs.Addresses.{taken_keeps}
-use Rattle.segment_core.proofs.Kept.{inside_moved, at_here, passes_here, takes_is, takes_full, takes_pass, taken_view, unchanged_view, refused}
+use Rattle.segment_core.proofs.Refusals.{takes_are, stops}
+use Rattle.segment_core.proofs.Kept.{inside_moved, at_here, takes_is, taken_view, unchanged_view}
 use Rattle.segment_core.proofs.segment.Segment.take.Goals as goal
 
 pub invariant_of-self-2 : goal.invariant_of-self-2
 invariant_of-self-2 c =
     let is_some : c.next-taken.result ≡ Some c.in-Some-next_frame.frame = c.next-taken.ensures.frame ∙ ap (λ x. next_frame x.bus c.in-Some.place) c.self.view_is ∙ sym c.in-Some-next_frame.ensures in
     let move : c.next-taken.new.self ≡ moved c.self.inside.bus c.in-Some.place = subst (λ o. OnSome o (c.next-taken.new.self ≡ moved c.self.inside.bus c.in-Some.place)) is_some c.next-taken.ensures.some in
-    inside_moved c.self.inside c.in-Some.place c.look.new.station c.index_mut.result.now c.release.new.self c.self.invariant c.index_mut.ensures.value
-    (ap (λ s. s.station.address) (sym c.in-Ok.ensures.step) ∙ taken_keeps c.index_mut.result.now c.in-Some-next_frame.frame c.args.room c.now-now.result)
+    inside_moved c.self.inside c.in-Some.place c.take.new.self c.index_mut.result.now c.release.new.self c.self.invariant c.index_mut.ensures.value
+    (ap (λ s. s.station.address) (sym c.in-Ok.ensures.ok) ∙ taken_keeps c.index_mut.result.now c.in-Some-next_frame.frame c.args.room c.now-now.result)
     (ap (λ b. length b.cursors) (c.release.ensures.released ∙ ap released move) ∙ length-set c.self.inside.bus.cursors c.in-Some.place _)
 
 pub returns : goal.returns
@@ -20,22 +21,12 @@ returns c =
     let is_some : c.next-taken.result ≡ Some c.in-Some-next_frame.frame = c.next-taken.ensures.frame ∙ ap (λ x. next_frame x.bus c.in-Some.place) c.self.view_is ∙ sym c.in-Some-next_frame.ensures in
     let move : c.next-taken.new.self ≡ moved c.self.inside.bus c.in-Some.place = subst (λ o. OnSome o (c.next-taken.new.self ≡ moved c.self.inside.bus c.in-Some.place)) is_some c.next-taken.ensures.some in
     at_here c.self.inside _ _ c.in-Some.place c.index_mut.result.now _ c.self.view_is c.in-Some.ensures.value c.in-Some.ensures.within c.index_mut.ensures.value
-    ∙ takes_is _ c.args.room c.in-Some.place c.index_mut.result.now c.in-Some-next_frame.frame _ c.in-Some-next_frame.ensures c.in-Ok.ensures.place (ap (λ n. taken c.index_mut.result.now c.in-Some-next_frame.frame c.args.room n) (sym now_is) ∙ c.in-Ok.ensures.step)
-    ∙ taken_view c.self.inside _ c.in-Some.place c.index_mut.result.now c.in-Some-next_frame.frame c.look.new.station c.in-Ok.looked.events c.in-Ok.looked.is_malformed _ _ _ _ c.self.view_is c.in-Ok.ensures.malformed move c.release.ensures.released c.looked.ensures.counts c.looked.ensures.reply
+    ∙ takes_is _ c.args.room c.in-Some.place c.index_mut.result.now c.in-Some-next_frame.frame _ c.in-Some-next_frame.ensures c.in-Ok.ensures.refused (ap (λ n. taken c.index_mut.result.now c.in-Some-next_frame.frame c.args.room n) (sym now_is) ∙ c.in-Ok.ensures.ok)
+    ∙ taken_view c.self.inside _ c.in-Some.place c.index_mut.result.now c.in-Some-next_frame.frame c.take.new.self c.in-Ok.looked.events c.in-Ok.looked.is_malformed _ _ _ _ c.self.view_is c.in-Ok.ensures.malformed move c.release.ensures.released c.looked.ensures.counts c.looked.ensures.reply
 
-pub returns-in-Err-Refused : goal.returns-in-Err-Refused
-returns-in-Err-Refused c =
-    let e = rw c.in-Err-Refused.field-0-is at c.in-Err-Refused.ensures in (
-      at_here c.self.inside _ _ c.in-Some.place c.index_mut.result.now _ c.self.view_is c.in-Some.ensures.value c.in-Some.ensures.within c.index_mut.ensures.value
-          ∙ takes_full c.args.self.now c.args.room c.in-Some.place c.index_mut.result.now c.in-Some-next_frame.frame c.in-Some-next_frame.ensures e.0
-          ∙ ap refused (sym e.1),
-      unchanged_view c.self.inside _ c.in-Some.place _ c.index_mut.result.now c.self.view_is e.2 c.index_mut.ensures.value,
-    )
-
-pub returns-in-Err-OutOfMemory : goal.returns-in-Err-OutOfMemory
-returns-in-Err-OutOfMemory c =
-    let e = rw c.in-Err-OutOfMemory.field-0-is at c.in-Err-OutOfMemory.ensures in (
-      passes_here c.self.inside _ _ c.in-Some.place c.index_mut.result.now _ c.self.view_is c.in-Some.ensures.value c.in-Some.ensures.within c.index_mut.ensures.value
-          (takes_pass c.args.self.now c.args.room c.in-Some.place c.index_mut.result.now c.in-Some-next_frame.frame c.in-Some-next_frame.ensures e.0),
-      unchanged_view c.self.inside _ c.in-Some.place _ c.index_mut.result.now c.self.view_is e.1 c.index_mut.ensures.value,
-    )
+pub returns-in-Err : goal.returns-in-Err
+returns-in-Err c =
+    stops _ _ _ (at_here c.self.inside _ _ c.in-Some.place c.index_mut.result.now _ c.self.view_is c.in-Some.ensures.value c.in-Some.ensures.within c.index_mut.ensures.value
+    ∙ takes_are c.args.self.now c.in-Some.place c.index_mut.result.now c.args.room c.in-Some-next_frame.frame c.in-Some-next_frame.ensures) _ _ c.in-Err.cause _ c.stop_of.ensures refl
+    (unchanged_view c.self.inside _ c.in-Some.place _ c.index_mut.result.now c.self.view_is c.in-Err.ensures.err c.index_mut.ensures.value)
+    c.in-Err.ensures.refused
