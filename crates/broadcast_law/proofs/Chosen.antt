@@ -6,8 +6,8 @@ use Rattle.std.proofs.lemmas.List.{map-append}
 use Rattle.pgn_ids.specs.Address.{is_one}
 use Rattle.pgn_ids.specs.declared.address.Address.{Address}
 use Rattle.port_table.specs.declared.port.PortId.{PortId}
-use Rattle.station_lanes.specs.declared.event.Event.{Event}
-use Rattle.station_lanes.specs.declared.event.Event.TheVariants as event
+use Rattle.message_events.specs.declared.event.Event.{Event}
+use Rattle.message_events.specs.declared.event.Event.TheVariants as event
 use Rattle.segment_law.specs.Told as told
 use Rattle.segment_law.specs.Told.{Placed, AtPort, told_from, items_of, is_lane, given_to_port, given_to_station, sends, sent, given, station_givens}
 use Rattle.segment_law.specs.Headline.{IsStationOf}

@@ -7,9 +7,9 @@ use Rattle.pgn_ids.specs.declared.address.Address.{Address}
 use Rattle.tx_queue.specs.Queue.{queue_limit}
 use Rattle.port_table.specs.Ports.{without_port}
 use Rattle.lane_core.specs.Lane.{Lane}
-use Rattle.lane_core.specs.Steps.{nothing_to_do, option_frames}
-use Rattle.lane_core.specs.Endings.{overrun as lane_overrun}
-use Rattle.lane_core.specs.Pump.{fired as lane_fires}
+use Rattle.lane_core.specs.Step.{nothing_to_do, option_frames}
+use Rattle.lane_core.specs.Overrun.{overrun as lane_overrun}
+use Rattle.lane_core.specs.Fire.{fired as lane_fires}
 use Rattle.lane_core.specs.declared.step.LaneStep.{LaneStep}
 use Rattle.session_table.specs.declared.key.Key.{Key}
 use Rattle.session_table.specs.declared.key.SessionKind.{SessionKind}

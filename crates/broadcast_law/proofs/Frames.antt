@@ -13,7 +13,7 @@ use Rattle.bus_order.specs.Bus as bus
 use Rattle.bus_order.specs.Bus.{Bus, cursor_at, bus_len, released}
 use Rattle.bus_order.specs.Kept.{IsSound}
 use Rattle.session_table.specs.declared.incoming.Incoming.{Incoming}
-use Rattle.station_lanes.specs.declared.event.Event.{Event}
+use Rattle.message_events.specs.declared.event.Event.{Event}
 use Rattle.station_core.specs.Station.{Station, StationStep}
 use Rattle.station_core.specs.Taking.{is_malformed_for, taken}
 use Rattle.station_core.specs.Overruns.{overrun}

@@ -31,11 +31,15 @@ use Rattle.originator.specs.declared.states.OutState.TheVariants.{AwaitCts, Send
 use Rattle.originator.specs.declared.states.Stepped.{Stepped}
 use Rattle.originator.specs.declared.states.Stepped.TheVariants.{On, Over}
 use Rattle.lane_core.specs.Lane.{Lane, new_lane, pushed, link_for, with_under_way}
-use Rattle.lane_core.specs.Token.{is_token, other_token, token_pgn}
-use Rattle.lane_core.specs.Steps.{option_frames, says}
-use Rattle.lane_core.specs.Endings.{over, still, is_acknowledged, after_step, withdrawn, is_front, cancelled, cancelled_by, overrun, overrun_by}
-use Rattle.lane_core.specs.Heard.{connection_heard, heard, heard_by, answered, answered_by}
-use Rattle.lane_core.specs.Pump.{begins, probes, most_requests, idle_pumped, after_packet, after_burst, front_bytes, pumped, pumped_by, probe_fired, fired, fired_by}
+use Rattle.lane_core.specs.Probe.{is_token, other_token, token_pgn, probes, most_requests}
+use Rattle.lane_core.specs.Step.{option_frames, says}
+use Rattle.lane_core.specs.Endings.{over, still, is_acknowledged, after_step}
+use Rattle.lane_core.specs.Cancel.{withdrawn, is_front, cancelled, cancelled_by}
+use Rattle.lane_core.specs.Overrun.{overrun, overrun_by}
+use Rattle.lane_core.specs.Hear.{connection_heard, heard, heard_by}
+use Rattle.lane_core.specs.Answer.{answered, answered_by}
+use Rattle.lane_core.specs.Pump.{begins, idle_pumped, after_packet, after_burst, front_bytes, pumped, pumped_by}
+use Rattle.lane_core.specs.Fire.{probe_fired, fired, fired_by}
 use Rattle.lane_core.specs.declared.message.Pending.{Pending}
 use Rattle.lane_core.specs.declared.place.UnderWay.{UnderWay}
 use Rattle.lane_core.specs.declared.place.UnderWay.TheVariants.{Nothing, Broadcast, Connection}

@@ -2,8 +2,10 @@
 use Rattle.std.proofs.Common.{◌≡◌, ℕ, ◌<◌, [], None, refl, sym, ◌∙◌, arith}
 use Rattle.tp_wire.specs.declared.outcome.Outcome.TheVariants as outcome
 use Rattle.lane_core.specs.Lane.{Lane}
-use Rattle.lane_core.specs.Endings.{over, still, withdrawn, is_front, cancelled, cancelled_by, overrun, overrun_by}
-use Rattle.lane_core.specs.Pump.{probe_fired, fired, fired_by}
+use Rattle.lane_core.specs.Endings.{over, still}
+use Rattle.lane_core.specs.Cancel.{withdrawn, is_front, cancelled, cancelled_by}
+use Rattle.lane_core.specs.Overrun.{overrun, overrun_by}
+use Rattle.lane_core.specs.Fire.{probe_fired, fired, fired_by}
 use Rattle.lane_core.specs.declared.place.UnderWay.{UnderWay}
 use Rattle.lane_core.specs.declared.place.UnderWay.TheVariants.{Nothing, Broadcast, Connection}
 use Rattle.lane_core.specs.declared.probe.Standing.{Standing}

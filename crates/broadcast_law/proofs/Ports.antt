@@ -5,8 +5,8 @@ use Rattle.pgn_ids.specs.declared.address.Address.{Address}
 use Rattle.port_table.specs.PortSet.{without_number}
 use Rattle.port_table.specs.Ports.{Ports, with_port, without_port, with_paused, marked, ports_for, receives}
 use Rattle.port_table.specs.declared.port.Port.{Port}
-use Rattle.station_lanes.specs.declared.event.Event.{Event}
-use Rattle.station_lanes.specs.declared.event.Event.TheVariants as event
+use Rattle.message_events.specs.declared.event.Event.{Event}
+use Rattle.message_events.specs.declared.event.Event.TheVariants as event
 use Rattle.segment_law.specs.Told as told
 use Rattle.segment_law.specs.Told.{AtPort, is_lane, given_to_station}
 use Rattle.record_lemmas.proofs.Lists.{Each, each_append, each_filter, each_map}

@@ -15,8 +15,9 @@ use Rattle.bam_session.specs.Frames.{announcement, next_packet}
 use Rattle.bam_session.specs.Sending as sending
 use Rattle.bam_session.specs.declared.outgoing.BamPumped.TheVariants as pumping
 use Rattle.lane_core.specs.Lane.{Lane, pushed, link_for, with_under_way}
-use Rattle.lane_core.specs.Steps.{says}
-use Rattle.lane_core.specs.Endings.{over, withdrawn, is_front, cancelled, cancelled_by}
+use Rattle.lane_core.specs.Step.{says}
+use Rattle.lane_core.specs.Endings.{over}
+use Rattle.lane_core.specs.Cancel.{withdrawn, is_front, cancelled, cancelled_by}
 use Rattle.lane_core.specs.Pump.{begins, idle_pumped, after_packet, front_bytes, pumped, pumped_by}
 use Rattle.lane_core.specs.declared.message.Pending.{Pending}
 use Rattle.lane_core.specs.declared.place.UnderWay.{UnderWay}

@@ -10,8 +10,8 @@ use Rattle.tp_wire.specs.declared.constants.TheConstants.{MIN_SIZE}
 use Rattle.port_table.specs.Ports.{with_port, with_paused, next_id}
 use Rattle.port_table.specs.declared.port.PortId.{PortId}
 use Rattle.lane_core.specs.Lane.{Lane, new_lane, pushed}
-use Rattle.lane_core.specs.Pump as lane
-use Rattle.lane_core.specs.Endings as endings
+use Rattle.lane_core.specs.Pump as lane-pump
+use Rattle.lane_core.specs.Cancel as lane-cancel
 use Rattle.lane_core.specs.declared.step.LaneStep.{LaneStep}
 use Rattle.station_lanes.specs.LaneCalls.{lane_to}
 use Rattle.station_lanes.specs.LaneReaders.{is_pending_at}
@@ -82,17 +82,17 @@ module _ (s listener : Address) (one : is_one s.0 ≡ true) (goes : GoesOn) (giv
       Goal z = Good s listener seg (record { now = seg.now; stations = set seg.stations i (by_lane st z step).station; bus = seg.bus; counts = counts }) [] (by_lane st z step).events
 
   pub pumps_good : (station to : Address) → GoodBy s listener seg (Pump station to) (stepped seg i (pumped st to seg.now))
-  pumps_good station to = by_lane_good to (λ l. lane.pumped l seg.now) (λ n l. fits_pumped a.0 n l seg.now)
-      (λ l k same v e h. subst (λ x. Stands s (stepped_view v (lane.pumped x seg.now))) e (view_pumps s goes one reads seven v seg.now h)) (counted seg.counts (pumped st to seg.now).events)
+  pumps_good station to = by_lane_good to (λ l. lane-pump.pumped l seg.now) (λ n l. fits_pumped a.0 n l seg.now)
+      (λ l k same v e h. subst (λ x. Stands s (stepped_view v (lane-pump.pumped x seg.now))) e (view_pumps s goes one reads seven v seg.now h)) (counted seg.counts (pumped st to seg.now).events)
 
   pub cancels_good : (from to : Address) (number : ℕ) → is_pending_at st.lanes to.0 number ≡ true → GoodBy s listener seg (Cancel from to number) (stepped seg i (cancelled st to number))
   cancels_good from to number pending =
-      by_lane_good to (λ l. endings.cancelled l number) (λ n l. fits_cancelled a.0 n l number) shows (counted seg.counts (cancelled st to number).events)
+      by_lane_good to (λ l. lane-cancel.cancelled l number) (λ n l. fits_cancelled a.0 n l number) shows (counted seg.counts (cancelled st to number).events)
     where
-      shows : (l : Lane) → IsLaneOf a.0 255 l → a.0 ≡ s.0 → (v : View) → v.lane ≡ l → Stands s v → Stands s (stepped_view v (endings.cancelled l number))
+      shows : (l : Lane) → IsLaneOf a.0 255 l → a.0 ≡ s.0 → (v : View) → v.lane ≡ l → Stands s v → Stands s (stepped_view v (lane-cancel.cancelled l number))
       shows l k same v e h =
-          let none : v.queue ++ (endings.cancelled l number).1.frames ≡ v.queue = ap (λ fs. v.queue ++ fs) (all_cancelled a.0 l number k) ∙ append-nil v.queue in
-          subst (Stands s) (λ j. (let w : View = record v { lane = (endings.cancelled (e j) number).0; queue = sym none j } in w)) (view_cancels s goes v number h)
+          let none : v.queue ++ (lane-cancel.cancelled l number).1.frames ≡ v.queue = ap (λ fs. v.queue ++ fs) (all_cancelled a.0 l number k) ∙ append-nil v.queue in
+          subst (Stands s) (λ j. (let w : View = record v { lane = (lane-cancel.cancelled (e j) number).0; queue = sym none j } in w)) (view_cancels s goes v number h)
 
   -- A message is sent
 

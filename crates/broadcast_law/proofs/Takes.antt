@@ -28,12 +28,13 @@ use Rattle.session_table.specs.declared.key.SessionKind.TheVariants as session
 use Rattle.session_table.specs.declared.incoming.Incoming.{Incoming}
 use Rattle.session_table.specs.declared.incoming.Incoming.TheVariants as incoming
 use Rattle.lane_core.specs.Lane.{Lane}
-use Rattle.lane_core.specs.Steps.{nothing_to_do, option_frames}
-use Rattle.lane_core.specs.Heard.{heard, answered}
+use Rattle.lane_core.specs.Step.{nothing_to_do, option_frames}
+use Rattle.lane_core.specs.Hear.{heard}
+use Rattle.lane_core.specs.Answer.{answered}
 use Rattle.lane_core.specs.declared.step.Ended.{Ended}
 use Rattle.lane_core.specs.declared.step.LaneStep.{LaneStep}
 use Rattle.station_lanes.specs.LaneCalls.{outcome_of}
-use Rattle.station_lanes.specs.declared.event.Event.{Event}
+use Rattle.message_events.specs.declared.event.Event.{Event}
 use Rattle.station_sessions.specs.Receiving.{received, flow_at, aborted_at}
 use Rattle.station_core.specs.Station.{Station, StationStep, quietly, queues}
 use Rattle.station_core.specs.Opening.{key_of, refusal, is_tp_size, is_etp_size, set_for, others_than, whole_join, peer_of, opened, not_opened, rts_taken, bam_taken}

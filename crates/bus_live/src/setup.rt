@@ -1,5 +1,5 @@
 //! What the lines of a script set up.
-ghost use Rattle.std.specs.Prelude.{◌≡◌, ◌++◌, ◌∷◌, []};
+ghost use Rattle.std.specs.Prelude.{◌≡◌};
 ghost use Rattle.bus_live.specs.Plan.{plan_of, first_plan, Done, refused_by};
 
 use pgn_ids::{Address, Pgn};

@@ -1,6 +1,6 @@
 //! The text that is printed once the threads have ended.
 ghost use Rattle.std.specs.Prelude.{◌≡◌, ◌++◌, ◌==◌, suc, OnOk, IfOk, IsTrue, true, false};
-ghost use Rattle.segment_shared.specs.Record.{Trail, trail, given, notes_of};
+ghost use Rattle.segment_shared.specs.Record.{trail, given, notes_of};
 ghost use Rattle.bus_live.specs.declared.text.Lost.TheVariants.{OutOfMemory};
 ghost use Rattle.bus_live.specs.Texts.{below, given_lines, port_lines, ports_at, numbered_lines, highest, outcome_lines, clients_at, end_text};
 ghost use Rattle.bus_live.specs.Ending.{Came, count_from, all_noted};

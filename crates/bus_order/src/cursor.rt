@@ -1,6 +1,6 @@
 //! The cursors of the stations, and those furthest behind.
-ghost use Rattle.std.specs.Prelude.{◌≡◌, ◌<◌, ◌≤◌, ◌==◌, length, count_by, slice_set, slice_index_or};
-ghost use Rattle.bus_order.specs.Bus.{start, lowest};
+ghost use Rattle.std.specs.Prelude.{◌≡◌, ◌<◌, ◌≤◌, ◌==◌, length, slice_set, slice_index_or};
+ghost use Rattle.bus_order.specs.Bus.{start};
 ghost use Rattle.bus_order.specs.Rear.{IsRear};
 
 use std::marker::Model;

@@ -1,5 +1,5 @@
 //! The log of a bus.
-ghost use Rattle.std.specs.Prelude.{◌≡◌, ℕ, ◌+◌, ◌<◌, ◌≤◌, ◌^◌, ◌↔◌, length, drop, IfOk, OnOk, OnErr, OnSome, IfNone, IsErrOf, IsSome, IsTrue, slice_set};
+ghost use Rattle.std.specs.Prelude.{◌≡◌, ◌+◌, ◌<◌, ◌≤◌, ◌↔◌, length, drop, IfOk, OnOk, OnErr, OnSome, IfNone, IsErrOf, IsSome, IsTrue, slice_set};
 ghost use Rattle.std.specs.Bool.{OnTrue, OnFalse};
 ghost use Rattle.bus_order.specs.Bus.{new_bus, bus_len, cursor_at, frame_at, next_frame, frame_again, waiting, is_full, put, taken, passed, released};
 ghost use Rattle.bus_order.specs.Kept.{HoldsAhead, IsSound};

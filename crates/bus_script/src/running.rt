@@ -1,5 +1,5 @@
 //! A script, read and obeyed line by line.
-ghost use Rattle.std.specs.Prelude.{◌≡◌, ℕ, ◌≤◌, ◌<◌, IfSome, Some, None, ◌↔◌, Option};
+ghost use Rattle.std.specs.Prelude.{◌≡◌, ◌<◌, IfSome, Some, None, Option};
 ghost use Rattle.bus_script.specs.Script.{or_refused, outcome};
 ghost use Rattle.bus_script.specs.Ending.{Ended, status_of};
 

@@ -159,7 +159,7 @@ module _ (laws : Laws) (choose : machine.OnEachLane (λ lane. IsChoice lane.stre
 
   pub cancels_good : (from to : Address) (number : ℕ) → is_pending_at st.lanes to.0 number ≡ true → GoodBy laws s d pair seg (Cancel from to number) (stepped seg i (cancelled st to number))
   cancels_good from to number pending =
-      good_plain (counted seg.counts (cancelled st to number).events) (cancelled st to number) none_opened (turns_none laws s d pair seg r i st at (cancelled st to number).station refl) (tells_lane s d st.address st own to (λ l. Rattle.lane_core.specs.Endings.cancelled l number)) (record {
+      good_plain (counted seg.counts (cancelled st to number).events) (cancelled st to number) none_opened (turns_none laws s d pair seg r i st at (cancelled st to number).station refl) (tells_lane s d st.address st own to (λ l. Rattle.lane_core.specs.Cancel.cancelled l number)) (record {
         out = λ k v l ahead is h. sender_cancels laws s d pair v ahead l st k is h to number pending;
         in_it = λ k v l behind is h. in_aside laws choose s d pair v behind l st k is h _ (in_cancels laws choose s d pair st k to number);
       })

@@ -9,7 +9,7 @@ use Rattle.tp_wire.specs.declared.wire.Kind.TheVariants.{Tp, Etp}
 use Rattle.tx_queue.specs.Queue.{queue_limit}
 use Rattle.port_table.specs.Ports.{Ports, without_port}
 use Rattle.port_table.specs.PortSet.{without_number}
-use Rattle.lane_core.specs.Steps.{option_frames}
+use Rattle.lane_core.specs.Step.{option_frames}
 use Rattle.session_table.specs.Key.{session_for}
 use Rattle.session_table.specs.declared.key.Key.{Key}
 use Rattle.session_table.specs.declared.key.SessionKind.{SessionKind}

@@ -8,12 +8,12 @@ use Rattle.pgn_ids.specs.declared.address.Address.{Address}
 use Rattle.tp_wire.specs.declared.wire.Kind.{Kind}
 use Rattle.tp_wire.specs.declared.wire.Kind.TheVariants.{Tp, Etp}
 use Rattle.lane_core.specs.Lane.{Lane, new_lane}
-use Rattle.lane_core.specs.Steps.{nothing_to_do}
+use Rattle.lane_core.specs.Step.{nothing_to_do}
 use Rattle.lane_core.specs.declared.step.Ended.{Ended}
 use Rattle.lane_core.specs.declared.step.LaneStep.{LaneStep}
 use Rattle.station_lanes.specs.Lanes.{Lanes}
 use Rattle.station_lanes.specs.LaneCalls.{lane_to, outcome_of}
-use Rattle.station_lanes.specs.declared.event.Event.{Event}
+use Rattle.message_events.specs.declared.event.Event.{Event}
 use Rattle.session_table.specs.Key.{session_for}
 use Rattle.session_table.specs.Sessions.{state_at}
 use Rattle.station_sessions.specs.Receiving.{Inbound}

@@ -9,7 +9,7 @@ use Rattle.tp_wire.specs.declared.wire.Kind.TheVariants.{Tp, Etp}
 use Rattle.bus_order.specs.Bus.{Bus, frame_again}
 use Rattle.port_table.specs.Ports.{Ports, ports_for}
 use Rattle.station_lanes.specs.LaneCalls.{lane_to}
-use Rattle.station_lanes.specs.declared.event.Event.{Event}
+use Rattle.message_events.specs.declared.event.Event.{Event}
 use Rattle.station_core.specs.Station.{Station, StationStep, new_station}
 use Rattle.segment_law.specs.Told as told
 use Rattle.segment_law.specs.Told.{AtPort, sent_by}

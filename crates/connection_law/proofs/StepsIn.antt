@@ -12,9 +12,10 @@ use Rattle.responder.specs.declared.received.Received.{Received}
 use Rattle.responder.specs.declared.received.Received.TheVariants.{On, Complete, Ended}
 use Rattle.responder.specs.declared.flow.Flow.{Flow}
 use Rattle.port_table.specs.Ports.{Ports}
-use Rattle.lane_core.specs.Pump as lane
-use Rattle.lane_core.specs.Endings as endings
-use Rattle.lane_core.specs.Steps.{option_frames}
+use Rattle.lane_core.specs.Pump as lane-pump
+use Rattle.lane_core.specs.Fire as lane-fire
+use Rattle.lane_core.specs.Cancel as lane-cancel
+use Rattle.lane_core.specs.Step.{option_frames}
 use Rattle.session_table.specs.declared.key.Key.{Key}
 use Rattle.session_table.specs.declared.key.SessionKind.{SessionKind}
 use Rattle.session_table.specs.declared.key.SessionKind.TheVariants as session
@@ -72,10 +73,10 @@ module _ (laws : Laws) (choose : machine.OnEachLane (λ lane. IsChoice lane.stre
   in_ports st ports = record { sessions = λ k. inr refl; frames = []; queue = sym (append-nil st.queue); none = refl; untold = refl }
 
   pub in_pumps : (st : Station) → IsOwn d st → (to : Address) (now : ℕ) → Aside st (pumped st to now)
-  in_pumps st h to now = in_lane_step laws s d pair st h to (λ x. lane.pumped x now) (λ x z. out_pumped d.0 to.0 x now z)
+  in_pumps st h to now = in_lane_step laws s d pair st h to (λ x. lane-pump.pumped x now) (λ x z. out_pumped d.0 to.0 x now z)
 
   pub in_cancels : (st : Station) → IsOwn d st → (to : Address) (number : ℕ) → Aside st (cancelled st to number)
-  in_cancels st h to number = in_lane_step laws s d pair st h to (λ x. endings.cancelled x number) (λ x z. out_cancelled d.0 to.0 x number z)
+  in_cancels st h to number = in_lane_step laws s d pair st h to (λ x. lane-cancel.cancelled x number) (λ x z. out_cancelled d.0 to.0 x number z)
 
   pub in_sends : (st : Station) (to : Address) (pgn : ℕ) (bytes : List ℕ) → Aside st (quietly (sent st to pgn bytes))
   in_sends st to pgn bytes = record { sessions = λ k. inr refl; frames = []; queue = sym (append-nil st.queue); none = refl; untold = refl }
@@ -221,7 +222,7 @@ module _ (laws : Laws) (choose : machine.OnEachLane (λ lane. IsChoice lane.stre
 
     fires_lane : (now : ℕ) (o : Option ℕ) → Goal (lane_fired st now o)
     fires_lane now None = aside (quietly st) (in_none laws s d pair st)
-    fires_lane now (Some to) = aside _ (in_lane_step laws s d pair st h (record { 0 = to }) (λ x. lane.fired x now) (λ x z. out_fired d.0 to x now z))
+    fires_lane now (Some to) = aside _ (in_lane_step laws s d pair st h (record { 0 = to }) (λ x. lane-fire.fired x now) (λ x z. out_fired d.0 to x now z))
 
     pub receiver_fires : (now : ℕ) → Goal (fired st now)
     receiver_fires now = by (first_due st.sessions now)

@@ -27,8 +27,8 @@ use Rattle.responder.specs.Room.{first_join}
 use Rattle.bam_session.specs.States as bam-states
 use Rattle.bam_session.specs.Receiving as bam-steps
 use Rattle.lane_core.specs.Lane.{Lane}
-use Rattle.lane_core.specs.Steps.{nothing_to_do, option_frames}
-use Rattle.lane_core.specs.Heard.{heard}
+use Rattle.lane_core.specs.Step.{nothing_to_do, option_frames}
+use Rattle.lane_core.specs.Hear.{heard}
 use Rattle.lane_core.specs.declared.step.LaneStep.{LaneStep}
 use Rattle.session_table.specs.declared.key.Key.{Key}
 use Rattle.session_table.specs.declared.key.SessionKind.{SessionKind}
@@ -39,7 +39,7 @@ use Rattle.session_table.specs.Sessions.{state_at}
 use Rattle.session_table.specs.Key.{session_for}
 use Rattle.station_lanes.specs.Lanes.{Lanes}
 use Rattle.station_lanes.specs.LaneCalls.{outcome_of}
-use Rattle.station_lanes.specs.declared.event.Event.{Event}
+use Rattle.message_events.specs.declared.event.Event.{Event}
 use Rattle.station_sessions.specs.Receiving.{Inbound, received, received_by, broadcast_settled, flow_at, aborted_at}
 use Rattle.station_core.specs.Station.{Station, StationStep, quietly, queues, by_lane}
 use Rattle.station_core.specs.Opening.{key_of, refusal, is_tp_size, is_etp_size, set_for, others_than, whole_join, peer_of, rts_taken, bam_taken}

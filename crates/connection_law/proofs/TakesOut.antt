@@ -23,8 +23,9 @@ use Rattle.responder.specs.Asking.{asked}
 use Rattle.responder.specs.Room.{first_join}
 use Rattle.session_table.specs.Key.{session_for}
 use Rattle.lane_core.specs.Lane.{Lane, new_lane}
-use Rattle.lane_core.specs.Steps.{nothing_to_do, option_frames}
-use Rattle.lane_core.specs.Heard.{heard, answered}
+use Rattle.lane_core.specs.Step.{nothing_to_do, option_frames}
+use Rattle.lane_core.specs.Hear.{heard}
+use Rattle.lane_core.specs.Answer.{answered}
 use Rattle.lane_core.specs.declared.step.LaneStep.{LaneStep}
 use Rattle.session_table.specs.declared.key.SessionKind.{SessionKind}
 use Rattle.session_table.specs.declared.key.SessionKind.TheVariants as session

@@ -13,7 +13,7 @@ use Rattle.port_table.specs.declared.port.PortId.{PortId}
 use Rattle.session_table.specs.DueOrder.{first_due}
 use Rattle.session_table.specs.declared.key.SessionKind.TheVariants as session
 use Rattle.station_lanes.specs.LaneReaders.{due_lane}
-use Rattle.station_lanes.specs.declared.event.Event.{Event}
+use Rattle.message_events.specs.declared.event.Event.{Event}
 use Rattle.station_core.specs.Closing.{closed_below, closed}
 use Rattle.station_core.specs.Opening.{key_of, refusal, is_tp_size, is_etp_size, set_for, others_than}
 use Rattle.station_core.specs.Station.{Station, StationStep}

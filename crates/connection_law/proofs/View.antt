@@ -20,7 +20,7 @@ use Rattle.originator.specs.States.{Sending as Window}
 use Rattle.originator.specs.declared.states.OutState.{OutState}
 use Rattle.originator.specs.declared.states.OutState.TheVariants.{AwaitCts, Sending, AwaitEnd}
 use Rattle.lane_core.specs.Lane.{Lane, kind_for}
-use Rattle.lane_core.specs.Token.{token_pgn}
+use Rattle.lane_core.specs.Probe.{token_pgn}
 use Rattle.lane_core.specs.declared.message.Pending.{Pending}
 use Rattle.lane_core.specs.declared.place.UnderWay.{UnderWay}
 use Rattle.lane_core.specs.declared.place.UnderWay.TheVariants.{Nothing, Broadcast, Connection}

@@ -19,8 +19,8 @@ use Rattle.originator.specs.declared.states.OutState.{OutState}
 use Rattle.originator.specs.declared.states.OutState.TheVariants.{Sending}
 use Rattle.responder.specs.Window.{clear_to_send}
 use Rattle.session_table.specs.declared.incoming.Incoming.{Incoming}
-use Rattle.station_lanes.specs.declared.event.Event.{Event}
-use Rattle.station_lanes.specs.declared.event.Event.TheVariants as event
+use Rattle.message_events.specs.declared.event.Event.{Event}
+use Rattle.message_events.specs.declared.event.Event.TheVariants as event
 use Rattle.station_sessions.specs.Receiving.{Inbound}
 use Rattle.segment_law.specs.Drive.{Driven, goes_on, turn, turns_from}
 use Rattle.segment_law.specs.Quiet.{given_by}

@@ -10,7 +10,7 @@ use Rattle.bus_frame.specs.Frames.{CanFrame}
 use Rattle.pgn_ids.specs.Address.{is_one}
 use Rattle.pgn_ids.specs.declared.address.Address.{Address}
 use Rattle.tx_queue.specs.Queue.{free_places}
-use Rattle.station_lanes.specs.declared.event.Event.{Event}
+use Rattle.message_events.specs.declared.event.Event.{Event}
 use Rattle.station_core.specs.Station.{Station, StationStep, quietly}
 use Rattle.station_core.specs.Taking.{taken}
 use Rattle.segment_law.specs.Calls.{no_place}

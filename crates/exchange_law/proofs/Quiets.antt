@@ -23,7 +23,7 @@ use Rattle.lane_core.specs.declared.probe.Standing.TheVariants.{Settled}
 use Rattle.lane_core.specs.declared.probe.Token.{Token}
 use Rattle.port_table.specs.Ports.{is_any_paused}
 use Rattle.station_lanes.specs.LaneCalls.{lane_to}
-use Rattle.station_lanes.specs.declared.event.Event.TheVariants as event
+use Rattle.message_events.specs.declared.event.Event.TheVariants as event
 use Rattle.station_lanes.proofs.LaneLaws.{insert_same}
 use Rattle.station_core.specs.Station.{Station, new_station}
 use Rattle.segment_law.specs.Segment.{Segment, place_of, has_station, station_at, lane_at, waiting_at}

@@ -32,7 +32,7 @@ use Rattle.originator.specs.declared.states.OutState.{OutState}
 use Rattle.originator.specs.declared.states.OutState.TheVariants.{AwaitCts, Sending, AwaitEnd}
 use Rattle.originator.specs.declared.states.Stepped.{Stepped}
 use Rattle.originator.specs.declared.states.Stepped.TheVariants.{On, Over}
-use Rattle.lane_core.specs.Heard.{heard}
+use Rattle.lane_core.specs.Hear.{heard}
 use Rattle.lane_core.specs.Endings.{after_step}
 use Rattle.lane_core.specs.Lane.{Lane, kind_for}
 use Rattle.lane_core.specs.Pump.{pump_refusal, pumped}
@@ -47,7 +47,7 @@ use Rattle.lane_core.specs.declared.step.LaneStep.{LaneStep}
 use Rattle.station_lanes.specs.Lanes.{Lanes}
 use Rattle.station_lanes.specs.LaneCalls.{outcome_of}
 use Rattle.station_lanes.specs.LaneReaders.{refusal_at}
-use Rattle.station_lanes.specs.declared.event.Event.TheVariants as event
+use Rattle.message_events.specs.declared.event.Event.TheVariants as event
 use Rattle.station_core.specs.Station.{Station, StationStep, by_lane}
 use Rattle.station_core.specs.Sending as sending
 use Rattle.station_core.specs.Taking.{wire_taken}

@@ -8,7 +8,7 @@ use Rattle.bus_frame.specs.Frames.{CanFrame}
 use Rattle.tp_wire.specs.declared.wire.Wire.{Wire}
 use Rattle.station_lanes.specs.Lanes.{Lanes}
 use Rattle.station_lanes.specs.LaneReaders.{refusal_at}
-use Rattle.station_lanes.specs.declared.event.Event.{Event}
+use Rattle.message_events.specs.declared.event.Event.{Event}
 use Rattle.station_sessions.specs.Receiving.{Inbound}
 use Rattle.station_core.specs.Station.{Station, quietly}
 use Rattle.station_core.specs.Sending as sending

@@ -14,7 +14,7 @@ use Rattle.originator.specs.Pump as out
 use Rattle.originator.specs.Readers.{without_window}
 use Rattle.originator.specs.declared.states.OutState.{OutState}
 use Rattle.originator.specs.declared.states.OutState.TheVariants.{Sending}
-use Rattle.station_lanes.specs.declared.event.Event.{Event}
+use Rattle.message_events.specs.declared.event.Event.{Event}
 use Rattle.station_sessions.specs.Receiving.{Inbound}
 use Rattle.station_core.specs.Station.{StationStep}
 use Rattle.station_core.specs.Taking.{wire_taken}

@@ -1,3 +1,3 @@
 pub mod Pushing
-pub mod Withdrawing
-pub mod Unpumped
+pub mod Pumping
+pub mod Cancelling

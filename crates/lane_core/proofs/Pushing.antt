@@ -5,7 +5,7 @@ use Rattle.lane_core.specs.declared.message.Pending.{Pending}
 use Rattle.lane_core.specs.declared.place.UnderWay.{UnderWay}
 use Rattle.lane_core.specs.declared.place.UnderWay.TheVariants.{Nothing, Broadcast, Connection}
 use Rattle.lane_core.specs.Lane.{longest_to}
-use Rattle.lane_core.specs.Shape.{AreCarried, CarriesFront}
+use Rattle.lane_core.specs.LaneFields.{AreCarried, CarriesFront}
 
 pub carried_push : (to : ℕ) (messages : List Pending) (m : Pending) → AreCarried to messages → MIN_SIZE ≤ length m.bytes → length m.bytes ≤ longest_to to → AreCarried to (messages ++ m ∷ [])
 carried_push to [] m h least most = ((least, most), tt)

@@ -1,8 +1,12 @@
-pub mod Token
-pub mod Steps
+pub mod Step
 pub mod Lane
+pub mod Probe
 pub mod Endings
 pub mod Pump
-pub mod Heard
-pub mod Shape
+pub mod Fire
+pub mod Hear
+pub mod Answer
+pub mod Cancel
+pub mod Overrun
+pub mod LaneFields
 pub mod Refused

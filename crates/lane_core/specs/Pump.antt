@@ -1,33 +1,28 @@
--- What a lane queues when it is pumped (SAE J1939-21; ISO 11783-3), and how it settles.
-use Rattle.std.specs.Prelude.{ℕ, ◌+◌, Bool, true, false, nat_lt, ◌==◌, if◌then◌else◌, List, [], ◌∷◌, length, Option, Some, None, is_none}
+-- What a lane queues when it is pumped (SAE J1939-21; ISO 11783-3).
+use Rattle.std.specs.Prelude.{ℕ, Bool, true, false, ◌==◌, if◌then◌else◌, List, [], ◌∷◌, length, Option, Some, None, is_none}
 use Rattle.bus_frame.specs.Frames.{CanFrame}
 use Rattle.pgn_ids.specs.Address.{global_address}
 use Rattle.tick_timers.specs.Timers.{is_due}
-use Rattle.tick_timers.specs.declared.durations.TheConstants.{PROBE}
-use Rattle.tp_wire.specs.Rows.{written}
-use Rattle.tp_wire.specs.declared.wire.Wire.TheVariants.{Request}
 use Rattle.tp_wire.specs.declared.outcome.Outcome.TheVariants as outcome
-use Rattle.bam_session.specs.Sending as bam
 use Rattle.bam_session.specs.declared.outgoing.BamPumped.{BamPumped}
+use Rattle.bam_session.specs.Sending as bam
 use Rattle.bam_session.specs.declared.outgoing.BamPumped.TheVariants as pumping
+use Rattle.originator.specs.declared.states.OutState.TheVariants.{AwaitCts, Sending}
+use Rattle.originator.specs.declared.states.OutState.{OutState}
 use Rattle.originator.specs.Opening.{begun}
 use Rattle.originator.specs.Pump as out
-use Rattle.originator.specs.Readers.{is_state_due, has_timer, link_of, started}
-use Rattle.originator.specs.Endings.{expired}
-use Rattle.originator.specs.declared.states.OutState.{OutState}
-use Rattle.originator.specs.declared.states.OutState.TheVariants.{AwaitCts, Sending}
-use Rattle.lane_core.specs.declared.message.Pending.{Pending}
-use Rattle.lane_core.specs.declared.place.UnderWay.{UnderWay}
-use Rattle.lane_core.specs.declared.place.UnderWay.TheVariants.{Nothing, Broadcast, Connection}
-use Rattle.lane_core.specs.declared.probe.Standing.{Standing}
-use Rattle.lane_core.specs.declared.probe.Standing.TheVariants.{Settled, InDoubt, Probing}
-use Rattle.lane_core.specs.declared.refused.PumpRefused.{PumpRefused}
-use Rattle.lane_core.specs.declared.refused.PumpRefused.TheVariants.{NothingToSend, NotYet}
+use Rattle.lane_core.specs.declared.place.UnderWay.TheVariants.{Broadcast, Connection, Nothing}
+use Rattle.lane_core.specs.declared.probe.Standing.TheVariants.{InDoubt, Probing, Settled}
 use Rattle.lane_core.specs.declared.step.LaneStep.{LaneStep}
-use Rattle.lane_core.specs.Token.{token_pgn}
-use Rattle.lane_core.specs.Steps.{says}
+use Rattle.lane_core.specs.declared.refused.PumpRefused.TheVariants.{NotYet, NothingToSend}
+use Rattle.lane_core.specs.declared.message.Pending.{Pending}
+use Rattle.lane_core.specs.declared.refused.PumpRefused.{PumpRefused}
+use Rattle.lane_core.specs.declared.probe.Standing.{Standing}
+use Rattle.lane_core.specs.declared.place.UnderWay.{UnderWay}
 use Rattle.lane_core.specs.Lane.{Lane, link_for, with_under_way}
-use Rattle.lane_core.specs.Endings.{over, still, connection_over}
+use Rattle.lane_core.specs.Endings.{over, still}
+use Rattle.lane_core.specs.Probe.{probes}
+use Rattle.lane_core.specs.Step.{says}
 
 -- why the front message doesn't begin, where nothing is under way
 abbrev pub idle_refusal : Standing → List Pending → Option PumpRefused
@@ -71,14 +66,6 @@ begins lane m now =
     then (with_under_way lane (Broadcast (bam.begun lane.from m.pgn (length m.bytes) now).0), says (bam.begun lane.from m.pgn (length m.bytes) now).1)
     else (with_under_way lane (Connection (AwaitCts (begun (link_for lane.from lane.to m) now).0)), says (begun (link_for lane.from lane.to m) now).1)
 
--- the Request for the lane's token
-abbrev pub request_frame : Lane → CanFrame
-request_frame lane = written (Request (token_pgn lane.token)) lane.from lane.to
-
--- the lane asks for its token, for the count-th time
-abbrev pub probes : Lane → (count now : ℕ) → Lane × LaneStep
-probes lane count now = (record lane { standing = Probing count (started now PROBE) }, says (request_frame lane))
-
 -- nothing is under way: the front message begins where the lane is settled, and in doubt the lane asks first
 abbrev pub idle_pumped : Standing → List Pending → Lane → (now : ℕ) → Lane × LaneStep
 idle_pumped Settled (m ∷ _) lane now = begins lane m now
@@ -107,46 +94,3 @@ pumped_by (Connection s) lane now = after_burst lane (out.pumped s (front_bytes 
 
 abbrev pub pumped : Lane → (now : ℕ) → Lane × LaneStep
 pumped lane now = pumped_by lane.under_way lane now
-
--- the timer of the connection under way, else that of the Request
-abbrev pub is_probe_due : Standing → (now : ℕ) → Bool
-is_probe_due (Probing count timer) now = is_due timer now
-is_probe_due _ now = false
-
-abbrev pub due_by : UnderWay → Standing → (now : ℕ) → Bool
-due_by (Connection s) standing now = is_state_due s now
-due_by Nothing standing now = is_probe_due standing now
-due_by (Broadcast s) standing now = false
-
-abbrev pub is_lane_due : Lane → (now : ℕ) → Bool
-is_lane_due lane now = due_by lane.under_way lane.standing now
-
--- a timer runs: that of the connection under way, else that of the Request
-abbrev pub is_probing : Standing → Bool
-is_probing (Probing count timer) = true
-is_probing _ = false
-
-abbrev pub timed_by : UnderWay → Standing → Bool
-timed_by (Connection s) standing = has_timer s
-timed_by Nothing standing = is_probing standing
-timed_by (Broadcast s) standing = false
-
-abbrev pub is_timed : Lane → Bool
-is_timed lane = timed_by lane.under_way lane.standing
-
--- how often a lane asks in one round
-abbrev pub most_requests : ℕ
-most_requests = 3
-
--- the Request was not answered: it is repeated, and after the third the lane gives up, with the front message
-abbrev pub probe_fired : Standing → Lane → (now : ℕ) → Lane × LaneStep
-probe_fired (Probing count timer) lane now = if nat_lt count most_requests then probes lane (count + 1) now else over lane outcome.Unreachable None
-probe_fired _ lane now = still lane
-
-abbrev pub fired_by : UnderWay → Lane → (now : ℕ) → Lane × LaneStep
-fired_by (Connection s) lane now = connection_over lane (expired (link_of s))
-fired_by Nothing lane now = probe_fired lane.standing lane now
-fired_by (Broadcast s) lane now = still lane
-
-abbrev pub fired : Lane → (now : ℕ) → Lane × LaneStep
-fired lane now = fired_by lane.under_way lane now

@@ -1,6 +1,6 @@
 //! Messages that are cancelled.
 ghost use Rattle.std.specs.Prelude.{◌≡◌, ◌≤◌, ◌↔◌, length, IsSome, IsTrue, OnSome, IfSome, IfNone};
-ghost use Rattle.lane_core.specs.Endings.{numbered, is_front as is_front_of, cancelled as cancelled_lane, queues_abort as queues_abort_of, withdrawn, without_number, place_of};
+ghost use Rattle.lane_core.specs.Cancel.{numbered, is_front as is_front_of, cancelled as cancelled_lane, queues_abort as queues_abort_of, withdrawn, without_number, place_of};
 ghost use Rattle.lane_core.specs.declared.place.UnderWay.TheVariants.{Nothing};
 
 use crate::lane::Lane;
@@ -39,7 +39,7 @@ impl Lane {
     }
 
     /// A message is taken out, wherever it stands, while nothing is under way.
-    #[tactic(auto, using(crate::proofs::Withdrawing::carried_withdraw))]
+    #[tactic(auto, using(crate::proofs::Cancelling::carried_withdraw))]
     fn withdraw(&mut self, number: u64) -> LaneStep
         requires { self.old.under_way ≡ Nothing }
         ensures lane { self.new ≡ (withdrawn self.old number).0 }
@@ -99,7 +99,7 @@ fn place_of_number(messages: &VecDeque<Pending>, number: u64) -> Option<usize>
 }
 
 /// The first message with a number is taken out.
-#[tactic(auto, using(crate::proofs::Withdrawing::removed, crate::proofs::Withdrawing::none_removed))]
+#[tactic(auto, using(crate::proofs::Cancelling::removed, crate::proofs::Cancelling::none_removed))]
 fn take_number(messages: &mut VecDeque<Pending>, number: u64)
     ensures items { messages.new.items ≡ without_number messages.old.items number }
     ensures few { length messages.new.items ≤ length messages.old.items }

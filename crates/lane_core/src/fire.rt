@@ -1,7 +1,8 @@
 //! When the timer of a lane fires.
 ghost use Rattle.std.specs.Prelude.{◌≡◌};
+ghost use Rattle.tick_timers.specs.Due.{IsDueFrom};
 ghost use Rattle.lane_core.specs.declared.place.UnderWay.TheVariants.{Nothing};
-ghost use Rattle.lane_core.specs.Pump.{is_lane_due, is_timed, is_probe_due as is_probe_due_at, probe_fired, fired as fired_lane};
+ghost use Rattle.lane_core.specs.Fire.{is_lane_due, is_timed, is_probe_due as is_probe_due_at, probe_fired, fired as fired_lane};
 
 use crate::lane::Lane;
 use crate::place::UnderWay;
@@ -42,6 +43,28 @@ impl Lane {
         match self.standing {
             Standing::Probing { count: _, timer } => timer.is_due(now),
             _ => false,
+        }
+    }
+
+    /// The tick from which on the timer of its connection, or of its Request, is due. None where neither runs, and where it
+    /// isn't due up to the last tick.
+    pub fn due_at(&self) -> Option<u64>
+        ensures { IsDueFrom (is_lane_due self.now) result }
+    {
+        match self.place.content() {
+            UnderWay::Connection(state) => state.timer()?.due_at(),
+            UnderWay::Nothing => self.probe_due_at(),
+            UnderWay::Broadcast(_) => None,
+        }
+    }
+
+    // The same of its Request.
+    fn probe_due_at(&self) -> Option<u64>
+        ensures { IsDueFrom (is_probe_due_at self.now.standing) result }
+    {
+        match self.standing {
+            Standing::Probing { count: _, timer } => timer.due_at(),
+            _ => None,
         }
     }
 

@@ -1,26 +1,21 @@
-//! A lane, and how its messages come and end.
+//! A lane, and how its messages come.
 ghost use Rattle.std.specs.Prelude.{◌≡◌, ◌≤◌, ◌+◌, ◌||◌, ◌==◌, true, length, IfOk, OnOk, OnErr, IfErr, IsErr};
 ghost use Rattle.pgn_ids.specs.Address.{is_one, global_address};
 ghost use Rattle.lane_core.specs.Lane.{lane_limit, new_lane, is_full, pushed, longest_to, with_under_way};
-ghost use Rattle.lane_core.specs.Endings.{over as over_lane, connection_over};
-ghost use Rattle.lane_core.specs.Shape.{CarriesFront, IsCalm};
+ghost use Rattle.lane_core.specs.LaneFields.{CarriesFront, IsCalm};
 ghost use Rattle.lane_core.specs.Refused.{IsHandedBack};
 ghost use Rattle.lane_core.specs.declared.place.UnderWay.TheVariants.{Nothing};
 
-use crate::bytes::Bytes;
 use crate::message::Pending;
 use crate::place::{Place, UnderWay};
 use crate::probe::{Standing, Token};
 use crate::refused::PushRefused;
-use crate::step::{Ended, LaneStep};
-use bus_frame::Frame;
-use originator::OutOver;
+use message_events::Bytes;
 use pgn_ids::{Address, Pgn};
 use std::alloc::Global;
 use std::collections::VecDeque;
 use std::marker::Model;
 use std::mem;
-use tp_wire::Outcome;
 
 /// How many messages a lane has without an outcome at most.
 const LANE_LIMIT: usize = 32;
@@ -43,7 +38,7 @@ impl Model for Lane {
 
     ghost Value = { Lane };
 
-    ghost use Rattle.lane_core.specs.Shape.{lane_value, IsLaneInside};
+    ghost use Rattle.lane_core.specs.LaneFields.{lane_value, IsLaneInside};
 
     ghost view = { lane_value };
 
@@ -155,32 +150,5 @@ impl Lane {
         ensures { self.new ≡ with_under_way self.old under_way }
     {
         self.place = Place::new(under_way);
-    }
-
-    /// The front message ends.
-    pub(crate) fn over(&mut self, outcome: Outcome, frame: Option<Frame>) -> LaneStep
-        ensures lane { self.new ≡ (over_lane self.old outcome frame).0 }
-        ensures step { result ≡ (over_lane self.old outcome frame).1 }
-    {
-        let ended = match self.pending.pop_front() {
-            None => None,
-            Some(message) => Some(Ended {
-                number: message.number,
-                outcome,
-            }),
-        };
-        self.place = Place::new(UnderWay::Nothing);
-        if self.to != Address::GLOBAL && outcome != Outcome::Acknowledged {
-            self.standing = Standing::InDoubt;
-        }
-        LaneStep::over(frame, ended)
-    }
-
-    /// The connection under way is over.
-    pub(crate) fn connection_over(&mut self, over: OutOver) -> LaneStep
-        ensures lane { self.new ≡ (connection_over self.old over).0 }
-        ensures step { result ≡ (connection_over self.old over).1 }
-    {
-        self.over(over.outcome, over.frame)
     }
 }

@@ -2,13 +2,14 @@
 //! settles by a Request and its Acknowledgement before the next message begins (SAE J1939-21).
 #![tactic(auto)]
 
-mod bytes;
+mod answer;
 mod cancel;
-mod due;
+mod endings;
 mod fire;
-mod heard;
+mod hear;
 mod lane;
 mod message;
+mod overrun;
 mod place;
 mod probe;
 mod pump;
@@ -16,9 +17,9 @@ mod refused;
 mod spending;
 mod step;
 
-pub use bytes::Bytes;
 pub use lane::Lane;
 pub use message::{Pending, longest_to};
+pub use message_events::Bytes;
 pub use place::UnderWay;
 pub use probe::{Standing, Token};
 pub use refused::{PumpRefused, PushRefused};

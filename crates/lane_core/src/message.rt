@@ -2,7 +2,7 @@
 ghost use Rattle.std.specs.Prelude.{◌≡◌};
 ghost use Rattle.lane_core.specs.Lane.{longest_to as longest_to_of};
 
-use crate::bytes::Bytes;
+use message_events::Bytes;
 use pgn_ids::{Address, Pgn};
 use tp_wire::constants::{ETP_MAX_SIZE, TP_MAX_SIZE};
 

@@ -1,10 +1,16 @@
 //! How a lane settles after a doubtful end.
-ghost use Rattle.std.specs.Prelude.{◌≡◌, ◌<◌, ◌^◌};
-ghost use Rattle.lane_core.specs.Token.{token_pgn, other_token, is_token};
+ghost use Rattle.std.specs.Prelude.{◌≡◌, ◌≢◌, ◌<◌, ◌≤◌, ◌^◌};
+ghost use Rattle.lane_core.specs.declared.place.UnderWay.TheVariants.{Nothing};
+ghost use Rattle.lane_core.specs.declared.probe.Standing.TheVariants.{Settled};
+ghost use Rattle.lane_core.specs.Probe.{token_pgn, other_token, is_token, most_requests, request_frame as request_frame_of, probes};
 
+use crate::lane::Lane;
+use crate::step::LaneStep;
+use bus_frame::Frame;
 use pgn_ids::WirePgn;
-use tick_timers::Timer;
+use tick_timers::{PROBE, Timer};
 use tp_wire::constants::{TP_CM, TP_DT};
+use tp_wire::{Wire, write};
 
 /// Whether a connection may begin.
 #[derive(Clone, Copy, Debug, PartialEq, Eq)]
@@ -53,5 +59,34 @@ impl Token {
         ensures { result ≡ is_token self pgn }
     {
         pgn.clean().raw() == self.pgn()
+    }
+}
+
+impl Lane {
+    /// The lane asks for its token, for the `count`-th time.
+    pub(crate) fn probe(&mut self, count: u8, now: u64) -> LaneStep
+        requires nothing { self.old.under_way ≡ Nothing }
+        requires unsettled { self.old.standing ≢ Settled }
+        requires from_one { 1 ≤ count }
+        requires to_most { count ≤ most_requests }
+        ensures lane { self.new ≡ (probes self.old count now).0 }
+        ensures step { result ≡ (probes self.old count now).1 }
+    {
+        self.standing = Standing::Probing {
+            count,
+            timer: Timer::start(now, PROBE),
+        };
+        LaneStep::one(self.request_frame())
+    }
+
+    /// The Request for its token.
+    fn request_frame(&self) -> Frame
+        ensures { result ≡ request_frame_of self.now }
+    {
+        let pgn = match WirePgn::new(self.token.pgn()) {
+            Ok(pgn) => pgn,
+            Err(_) => unreachable!(),
+        };
+        write(Wire::Request { pgn }, self.from, self.to)
     }
 }

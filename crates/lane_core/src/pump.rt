@@ -1,12 +1,12 @@
 //! What a lane queues when it is pumped.
-ghost use Rattle.std.specs.Prelude.{◌≡◌, ◌≢◌, ◌≤◌, Some};
+ghost use Rattle.std.specs.Prelude.{◌≡◌, Some};
 ghost use Rattle.lane_core.specs.declared.place.UnderWay.TheVariants.{Nothing, Broadcast, Connection};
 ghost use Rattle.lane_core.specs.declared.probe.Standing.TheVariants.{Settled};
 ghost use Rattle.lane_core.specs.Lane.{kind_for as kind_for_len};
 ghost use Rattle.lane_core.specs.declared.refused.PumpRefused.{PumpRefused};
-ghost use Rattle.lane_core.specs.Shape.{CarriesFront};
+ghost use Rattle.lane_core.specs.LaneFields.{CarriesFront};
 ghost use Rattle.lane_core.specs.Endings.{still};
-ghost use Rattle.lane_core.specs.Pump.{idle_refusal, is_ready, pump_refusal as refusal_of, missing as missing_of, front_bytes as bytes_of_front, most_requests, request_frame as request_frame_of, probes, idle_pumped, pumped as pumped_lane, pumped_by};
+ghost use Rattle.lane_core.specs.Pump.{idle_refusal, is_ready, pump_refusal as refusal_of, missing as missing_of, front_bytes as bytes_of_front, idle_pumped, pumped as pumped_lane, pumped_by};
 
 use crate::lane::Lane;
 use crate::place::UnderWay;
@@ -14,12 +14,10 @@ use crate::probe::Standing;
 use crate::refused::PumpRefused;
 use crate::step::LaneStep;
 use bam_session::{BamOut, BamPumped};
-use bus_frame::Frame;
 use originator::OutState;
-use pgn_ids::{Address, WirePgn};
-use tick_timers::{PROBE, Timer};
+use pgn_ids::Address;
 use tp_wire::constants::TP_MAX_SIZE;
-use tp_wire::{Kind, Outcome, Wire, write};
+use tp_wire::{Kind, Outcome};
 
 impl Lane {
     /// Why it queues nothing at tick `now`, or `None` where a pump queues a frame.
@@ -79,7 +77,7 @@ impl Lane {
     /// Queues what comes next at tick `now`: the first frame of the front message, or of a round of Requests where the
     /// lane is in doubt; the next packet of a broadcast; the next part of a connection's window. Where `pump_refusal`
     /// gives a cause, nothing is queued and the lane stays as it was.
-    #[tactic(auto, using(crate::proofs::Unpumped::refused_pump))]
+    #[tactic(auto, using(crate::proofs::Pumping::refused_pump))]
     pub fn pump(&mut self, now: u64) -> LaneStep
         ensures lane { self.new ≡ (pumped_lane self.old now).0 }
         ensures step { result ≡ (pumped_lane self.old now).1 }
@@ -127,33 +125,6 @@ impl Lane {
         let (state, frame) = originator::begin(kind_for(len), self.from, self.to, pgn, len, now);
         self.put_under_way(UnderWay::Connection(OutState::AwaitCts(state)));
         LaneStep::one(frame)
-    }
-
-    /// The lane asks for its token, for the `count`-th time.
-    pub(crate) fn probe(&mut self, count: u8, now: u64) -> LaneStep
-        requires nothing { self.old.under_way ≡ Nothing }
-        requires unsettled { self.old.standing ≢ Settled }
-        requires from_one { 1 ≤ count }
-        requires to_most { count ≤ most_requests }
-        ensures lane { self.new ≡ (probes self.old count now).0 }
-        ensures step { result ≡ (probes self.old count now).1 }
-    {
-        self.standing = Standing::Probing {
-            count,
-            timer: Timer::start(now, PROBE),
-        };
-        LaneStep::one(self.request_frame())
-    }
-
-    /// The Request for its token.
-    fn request_frame(&self) -> Frame
-        ensures { result ≡ request_frame_of self.now }
-    {
-        let pgn = match WirePgn::new(self.token.pgn()) {
-            Ok(pgn) => pgn,
-            Err(_) => unreachable!(),
-        };
-        write(Wire::Request { pgn }, self.from, self.to)
     }
 
     /// The bytes of the front message, in place.

@@ -1,6 +1,6 @@
 //! Why a lane refuses a call.
 
-use crate::bytes::Bytes;
+use message_events::Bytes;
 use thiserror::Error;
 
 /// Why a message was not taken, with its bytes.

@@ -1,6 +1,6 @@
 //! What a step of a lane leaves to do.
 ghost use Rattle.std.specs.Prelude.{◌≡◌};
-ghost use Rattle.lane_core.specs.Steps.{nothing_to_do, says, option_frames};
+ghost use Rattle.lane_core.specs.Step.{nothing_to_do, says, option_frames};
 
 use bus_frame::Frame;
 use originator::Burst;

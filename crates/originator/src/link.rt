@@ -1,5 +1,5 @@
 //! The message that a connection carries, and its sender's frames.
-ghost use Rattle.std.specs.Prelude.{◌≡◌, ◌+◌, ◌-◌, ◌^◌, ◌<◌, ◌≤◌, true, length};
+ghost use Rattle.std.specs.Prelude.{◌≡◌, ◌-◌, ◌^◌, ◌<◌, ◌≤◌, true, length};
 ghost use Rattle.tp_wire.specs.Sizes.{is_size_of};
 ghost use Rattle.pgn_ids.specs.Address.{is_one};
 ghost use Rattle.tp_wire.specs.Rows.{HasNumbers, goes_to};

@@ -8,7 +8,7 @@ use Rattle.port_table.specs.Ports.{with_port, with_paused}
 use Rattle.lane_core.specs.Lane.{Lane, pushed}
 use Rattle.lane_core.specs.declared.message.Pending.{Pending}
 use Rattle.station_lanes.specs.LaneCalls.{lane_to}
-use Rattle.station_lanes.specs.declared.event.Event.{Event}
+use Rattle.message_events.specs.declared.event.Event.{Event}
 use Rattle.station_core.specs.Station.{Station, StationStep, quietly}
 use Rattle.station_core.specs.Sending.{lane_of, sent, pumped, cancelled}
 use Rattle.station_core.specs.Taking.{taken}

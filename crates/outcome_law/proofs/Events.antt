@@ -7,9 +7,9 @@ use Rattle.std.proofs.lemmas.List.{map-append}
 use Rattle.std.proofs.lemmas.List.Elements.{filter_map-append}
 use Rattle.pgn_ids.specs.declared.address.Address.{Address}
 use Rattle.lane_core.specs.declared.step.Ended.{Ended}
-use Rattle.station_lanes.specs.declared.event.Event.{Event}
+use Rattle.message_events.specs.declared.event.Event.{Event}
 use Rattle.station_lanes.specs.LaneCalls.{outcome_of}
-use Rattle.station_lanes.specs.declared.event.Event.TheVariants as event
+use Rattle.message_events.specs.declared.event.Event.TheVariants as event
 use Rattle.segment_law.specs.Told.{NumberedOutcome, outcome_in, is_lane}
 use Rattle.outcome_law.proofs.LaneSteps.{ended_number}
 

@@ -21,12 +21,16 @@ use Rattle.lane_core.specs.declared.probe.Standing.{Standing}
 use Rattle.lane_core.specs.declared.probe.Standing.TheVariants.{Settled, InDoubt, Probing}
 use Rattle.lane_core.specs.declared.step.Ended.{Ended}
 use Rattle.lane_core.specs.declared.step.LaneStep.{LaneStep}
-use Rattle.lane_core.specs.Token.{is_token, other_token}
-use Rattle.lane_core.specs.Steps.{says, nothing_to_do}
+use Rattle.lane_core.specs.Probe.{is_token, other_token, most_requests, probes}
+use Rattle.lane_core.specs.Step.{says, nothing_to_do}
 use Rattle.lane_core.specs.Lane.{Lane, link_for, with_under_way}
-use Rattle.lane_core.specs.Endings.{front_ended, over, still, after_step, numbered, withdrawn, without_number, is_front, cancelled, cancelled_by, overrun, overrun_by}
-use Rattle.lane_core.specs.Heard.{heard, heard_by, connection_heard, answered, answered_by}
-use Rattle.lane_core.specs.Pump.{begins, idle_pumped, after_packet, front_bytes, pumped, pumped_by, most_requests, probes, probe_fired, fired, fired_by}
+use Rattle.lane_core.specs.Endings.{front_ended, over, still, after_step}
+use Rattle.lane_core.specs.Cancel.{numbered, withdrawn, without_number, is_front, cancelled, cancelled_by}
+use Rattle.lane_core.specs.Overrun.{overrun, overrun_by}
+use Rattle.lane_core.specs.Hear.{heard, heard_by, connection_heard}
+use Rattle.lane_core.specs.Answer.{answered, answered_by}
+use Rattle.lane_core.specs.Pump.{begins, idle_pumped, after_packet, front_bytes, pumped, pumped_by}
+use Rattle.lane_core.specs.Fire.{probe_fired, fired, fired_by}
 use Rattle.record_lemmas.proofs.Tests.{on_test}
 use Rattle.outcome_law.proofs.Counting.{times}
 

@@ -11,10 +11,12 @@ use Rattle.tp_wire.specs.declared.wire.Wire.{Wire}
 use Rattle.tp_wire.specs.declared.wire.Wire.TheVariants.{Cm, Packet, Request, Ack}
 use Rattle.port_table.specs.Ports.{without_port}
 use Rattle.lane_core.specs.Lane.{Lane}
-use Rattle.lane_core.specs.Heard.{heard, answered}
-use Rattle.lane_core.specs.Steps.{nothing_to_do}
-use Rattle.lane_core.specs.Pump as lane
-use Rattle.lane_core.specs.Endings as endings
+use Rattle.lane_core.specs.Hear.{heard}
+use Rattle.lane_core.specs.Answer.{answered}
+use Rattle.lane_core.specs.Step.{nothing_to_do}
+use Rattle.lane_core.specs.Pump as lane-pump
+use Rattle.lane_core.specs.Fire as lane-fire
+use Rattle.lane_core.specs.Cancel as lane-cancel
 use Rattle.lane_core.specs.declared.step.LaneStep.{LaneStep}
 use Rattle.session_table.specs.DueOrder.{first_due}
 use Rattle.session_table.specs.Sessions.{state_at}
@@ -115,17 +117,17 @@ module _ (st : Station) where
   -- Other calls
 
   pub pumped_tells : (to : Address) (now : ℕ) → StepTells st (pumped st to now)
-  pumped_tells to now = by_lane_tells to (λ l. lane.pumped l now) (λ l _. ends_pumped l now)
+  pumped_tells to now = by_lane_tells to (λ l. lane-pump.pumped l now) (λ l _. ends_pumped l now)
 
   pub cancelled_tells : (to : Address) (number : ℕ) → is_pending_at st.lanes to.0 number ≡ true → StepTells st (cancelled st to number)
-  cancelled_tells to number is = by_lane_tells to (λ l. endings.cancelled l number) (λ l e. ends_cancelled l number (ap pending (sym e) ∙ is))
+  cancelled_tells to number is = by_lane_tells to (λ l. lane-cancel.cancelled l number) (λ l e. ends_cancelled l number (ap pending (sym e) ∙ is))
     where
       pending : Option Lane → Bool
-      pending o = elim o as (λ (_ : Option Lane). Bool) [ None ↦ false | Some l ↦ endings.numbered l.pending number ]
+      pending o = elim o as (λ (_ : Option Lane). Bool) [ None ↦ false | Some l ↦ lane-cancel.numbered l.pending number ]
 
   lane_fired_tells : (now : ℕ) (o : Option ℕ) → StepTells st (lane_fired st now o)
   lane_fired_tells now None = same
-  lane_fired_tells now (Some to) = by_lane_tells (record { 0 = to }) (λ l. lane.fired l now) (λ l _. ends_fired l now)
+  lane_fired_tells now (Some to) = by_lane_tells (record { 0 = to }) (λ l. lane-fire.fired l now) (λ l _. ends_fired l now)
 
   pub fired_tells : (now : ℕ) → StepTells st (fired st now)
   fired_tells now = by (first_due st.sessions now)

@@ -1,5 +1,5 @@
 //! PGN and addresses of an identifier.
-ghost use Rattle.std.specs.Prelude.{◌≡◌, ℕ, ◌+◌, ◌*◌, ◌/◌, ◌%◌, ◌<◌, ◌≤◌, ◌^◌, true, false};
+ghost use Rattle.std.specs.Prelude.{◌≡◌, ℕ, ◌/◌, ◌%◌, ◌<◌, true, false};
 ghost use Rattle.pgn_ids.specs.Pgn.{is_pgn, is_pdu1};
 ghost use Rattle.pgn_ids.specs.Identifier.{id_of, meaning_of};
 

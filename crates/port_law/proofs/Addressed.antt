@@ -5,8 +5,8 @@ use Rattle.std.proofs.lemmas.Bool.{and_parts}
 use Rattle.pgn_ids.specs.Address.{global_address}
 use Rattle.pgn_ids.specs.declared.address.Address.{Address}
 use Rattle.port_table.specs.declared.port.PortId.{PortId}
-use Rattle.station_lanes.specs.declared.event.Event.{Event}
-use Rattle.station_lanes.specs.declared.event.Event.TheVariants as event
+use Rattle.message_events.specs.declared.event.Event.{Event}
+use Rattle.message_events.specs.declared.event.Event.TheVariants as event
 use Rattle.segment_law.specs.Told.{Message, Placed, told_from, is_lane, same_port, given_to_port, givens, given}
 use Rattle.segment_law.specs.Headline.{IsStationOf}
 use Rattle.segment_law.specs.Segment.{Segment, new_segment}

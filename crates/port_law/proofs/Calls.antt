@@ -7,7 +7,7 @@ use Rattle.std.proofs.lemmas.Option.{same_Some}
 use Rattle.pgn_ids.specs.declared.address.Address.{Address}
 use Rattle.port_table.specs.Ports.{Ports, next_id, with_port, without_port, with_paused, is_open}
 use Rattle.port_table.specs.declared.port.PortId.{PortId}
-use Rattle.station_lanes.specs.declared.event.Event.{Event}
+use Rattle.message_events.specs.declared.event.Event.{Event}
 use Rattle.station_core.specs.Closing.{closed}
 use Rattle.station_core.specs.Station.{Station, StationStep}
 use Rattle.segment_law.proofs.Reaching.{slice_get_same, slice_get_other}

@@ -3,8 +3,8 @@ use Rattle.std.proofs.Common.{◌≡◌, ℕ, true, false, [], set, Some, refl, 
 use Rattle.std.specs.Prelude.{slice_get}
 use Rattle.tx_queue.specs.Queue.{behind}
 use Rattle.port_table.specs.declared.port.PortId.{PortId}
-use Rattle.lane_core.specs.Pump as lane
-use Rattle.lane_core.specs.Endings as endings
+use Rattle.lane_core.specs.Pump as lane-pump
+use Rattle.lane_core.specs.Cancel as lane-cancel
 use Rattle.station_core.specs.Station.{Station, StationStep, quietly}
 use Rattle.station_core.specs.Sending.{sent}
 use Rattle.station_core.specs.Timers.{fired}
@@ -71,13 +71,13 @@ module _ (p : PortId) (n : ℕ) (os : Openings) (cs : Closings) where
         opens = λ a pgn max_len q. goes_opened p n os cs seg.stations good i st at pgn max_len;
         closes = λ port q is. goes_closed p n os cs seg.stations good i st at port is q r.places;
         sends = λ from to pgn bytes q other long short. quiet (sent st to pgn bytes) refl refl refl;
-        pumps = λ a to q. acts _ (acts_lane st own each to (λ l. lane.pumped l seg.now));
+        pumps = λ a to q. acts _ (acts_lane st own each to (λ l. lane-pump.pumped l seg.now));
         transmits = λ a f q e free. quiet (record st { queue = behind st.queue }) refl refl refl;
         takes = λ a room f q e free. acts (taken st f room seg.now) (acts_taken st own each f room seg.now);
         repeats = λ a room f q e free. acts (taken st f room seg.now) (acts_taken st own each f room seg.now);
         overruns = λ a k q few. acts (overrun st) (acts_overrun st own each);
         fires = λ a q. acts (fired st seg.now) (acts_fired st own each seg.now);
-        cancels = λ from to number q pending. acts _ (acts_lane st own each to (λ l. endings.cancelled l number));
+        cancels = λ from to number q pending. acts _ (acts_lane st own each to (λ l. lane-cancel.cancelled l number));
         pauses = λ port q. goes_paused p n os cs seg.stations good i st at port.number true;
         resumes = λ port q. goes_paused p n os cs seg.stations good i st at port.number false;
       }

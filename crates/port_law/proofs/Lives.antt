@@ -7,8 +7,8 @@ use Rattle.pgn_ids.specs.declared.address.Address.{Address}
 use Rattle.port_table.specs.Ports.{Ports, with_port, less_port, without_port, with_paused, is_open}
 use Rattle.port_table.specs.declared.port.Port.{Port}
 use Rattle.port_table.specs.declared.port.PortId.{PortId}
-use Rattle.station_lanes.specs.declared.event.Event.{Event}
-use Rattle.station_lanes.specs.declared.event.Event.TheVariants as event
+use Rattle.message_events.specs.declared.event.Event.{Event}
+use Rattle.message_events.specs.declared.event.Event.TheVariants as event
 use Rattle.segment_law.specs.Told.{Message, Placed, same_port, any_given_to}
 use Rattle.record_lemmas.proofs.Lists.{Each, each_append, each_filter, each_weaker, In, in_front, in_behind, in_weaker, in_both, in_one}
 use Rattle.record_lemmas.proofs.Tests.{on_test}

@@ -7,8 +7,8 @@ use Rattle.pgn_ids.specs.declared.address.Address.{Address}
 use Rattle.port_table.specs.PortSet.{without_number}
 use Rattle.port_table.specs.Ports.{Ports, less_port, marked, receives, ports_for}
 use Rattle.port_table.specs.declared.port.Port.{Port}
-use Rattle.station_lanes.specs.declared.event.Event.{Event}
-use Rattle.station_lanes.specs.declared.event.Event.TheVariants as event
+use Rattle.message_events.specs.declared.event.Event.{Event}
+use Rattle.message_events.specs.declared.event.Event.TheVariants as event
 use Rattle.record_lemmas.proofs.Lists.{Each, each_kept, each_map, each_weaker, each_both, In, in_front, in_map, in_weaker}
 use Rattle.record_lemmas.proofs.Tests.{on_test, either}
 

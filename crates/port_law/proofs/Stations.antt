@@ -31,9 +31,9 @@ use Rattle.session_table.specs.declared.key.SessionKind.TheVariants as session
 use Rattle.session_table.specs.declared.incoming.Incoming.{Incoming}
 use Rattle.session_table.specs.declared.incoming.Incoming.TheVariants as incoming
 use Rattle.lane_core.specs.Lane.{Lane}
-use Rattle.lane_core.specs.Heard.{heard}
-use Rattle.lane_core.specs.Pump.{fired as lane_fires}
-use Rattle.lane_core.specs.Endings.{overrun as lane_overrun}
+use Rattle.lane_core.specs.Hear.{heard}
+use Rattle.lane_core.specs.Fire.{fired as lane_fires}
+use Rattle.lane_core.specs.Overrun.{overrun as lane_overrun}
 use Rattle.lane_core.specs.declared.step.Ended.{Ended}
 use Rattle.lane_core.specs.declared.step.LaneStep.{LaneStep}
 use Rattle.station_lanes.specs.Lanes.{Lanes}

@@ -1,5 +1,5 @@
 //! The open ports of a station.
-ghost use Rattle.std.specs.Prelude.{◌≡◌, true, false, ℕ, ◌+◌, ◌<◌, ◌≤◌, ◌==◌, [], map, length, OnOk, OnErr, IfOk, vec_capacity, AllPairs};
+ghost use Rattle.std.specs.Prelude.{◌≡◌, true, false, ◌+◌, ◌<◌, ◌==◌, map, length, OnOk, OnErr, IfOk, vec_capacity, AllPairs};
 ghost use Rattle.std.specs.Result.{result_err};
 ghost use Rattle.port_table.specs.Ports.{no_ports, next_id, with_port, without_port, with_paused, port_at, ports_for, less_port, marked, ArePorts};
 ghost use Rattle.port_table.specs.Ports.{is_open as is_open_at, is_paused as is_paused_at, is_any_paused};

@@ -27,8 +27,8 @@ use Rattle.lane_core.specs.Pump.{pump_refusal, missing}
 use Rattle.lane_core.specs.declared.message.Pending.{Pending}
 use Rattle.lane_core.specs.declared.probe.Token.{Token}
 use Rattle.lane_core.specs.declared.step.Ended.{Ended}
-use Rattle.station_lanes.specs.declared.event.Event.{Event}
-use Rattle.station_lanes.specs.declared.event.Event.TheVariants as event
+use Rattle.message_events.specs.declared.event.Event.{Event}
+use Rattle.message_events.specs.declared.event.Event.TheVariants as event
 use Rattle.station_core.specs.Station.{Station, StationStep, quietly}
 use Rattle.station_core.specs.Taking.{taken}
 use Rattle.segment_law.specs.Segment.{Segment}

@@ -29,7 +29,7 @@ use Rattle.lane_core.specs.declared.step.LaneStep.{LaneStep}
 use Rattle.station_lanes.specs.Lanes.{Lanes}
 use Rattle.station_lanes.specs.LaneCalls.{outcome_of}
 use Rattle.station_lanes.specs.LaneReaders.{refusal_at, missing_at}
-use Rattle.station_lanes.specs.declared.event.Event.{Event}
+use Rattle.message_events.specs.declared.event.Event.{Event}
 use Rattle.station_core.specs.Station.{Station, StationStep, new_station}
 use Rattle.station_core.specs.Sending as sending
 use Rattle.segment_law.specs.Segment.{Segment, place_of, station_at, with_station, counted, counted_frame}

@@ -13,7 +13,7 @@ use Rattle.bus_order.specs.Kept.{IsSound}
 use Rattle.bus_order.proofs.Steps.{sound_moved, released_len}
 use Rattle.bus_order.proofs.Cursors.{lowest_each}
 use Rattle.bus_order.proofs.Lists.{slice_get-drop, slice_get-right}
-use Rattle.station_lanes.specs.declared.event.Event.{Event}
+use Rattle.message_events.specs.declared.event.Event.{Event}
 use Rattle.station_core.specs.Station.{Station, StationStep}
 use Rattle.station_core.specs.Taking.{is_malformed_for, taken}
 use Rattle.segment_law.specs.Segment.{Segment, place_of, waiting_at, counted, counted_look}

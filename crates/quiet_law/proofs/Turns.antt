@@ -19,7 +19,7 @@ use Rattle.lane_core.specs.declared.probe.Token.{Token}
 use Rattle.lane_core.specs.declared.refused.PumpRefused.TheVariants as pump
 use Rattle.lane_core.specs.declared.step.Ended.{Ended}
 use Rattle.station_lanes.specs.LaneCalls.{outcome_of}
-use Rattle.station_lanes.specs.declared.event.Event.{Event}
+use Rattle.message_events.specs.declared.event.Event.{Event}
 use Rattle.station_core.specs.Station.{Station, new_station}
 use Rattle.segment_law.specs.Segment.{Segment, place_of, has_station, station_at}
 use Rattle.segment_law.specs.Calls.{applied, called, replied}

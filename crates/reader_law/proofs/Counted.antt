@@ -14,8 +14,8 @@ use Rattle.lane_core.specs.Lane.{longest_to, is_full}
 use Rattle.lane_core.specs.declared.refused.PumpRefused.{PumpRefused}
 use Rattle.lane_core.specs.declared.refused.PumpRefused.TheVariants as pump
 use Rattle.station_lanes.specs.LaneReaders.{refusal_at, is_pending_at, queues_abort_at}
-use Rattle.station_lanes.specs.declared.event.Event.{Event}
-use Rattle.station_lanes.specs.declared.event.Event.TheVariants as event
+use Rattle.message_events.specs.declared.event.Event.{Event}
+use Rattle.message_events.specs.declared.event.Event.TheVariants as event
 use Rattle.station_core.specs.Station.{Station}
 use Rattle.station_core.specs.Sending.{lane_of, pumped, cancelled}
 use Rattle.station_core.specs.Taking.{is_malformed_for, taken}

@@ -10,7 +10,7 @@ use Rattle.bus_order.specs.Bus.{Bus, Cursor, start, cursor_at, frame_again, pass
 use Rattle.bus_order.specs.Bus as bus
 use Rattle.port_table.specs.Ports.{with_port, with_paused}
 use Rattle.station_lanes.specs.LaneReaders.{overrun_lanes}
-use Rattle.station_lanes.specs.declared.event.Event.{Event}
+use Rattle.message_events.specs.declared.event.Event.{Event}
 use Rattle.station_lanes.proofs.Overruns.{overrun_ends_all}
 use Rattle.station_core.specs.Station.{Station, StationStep, new_station}
 use Rattle.station_core.specs.Sending.{sent, pumped, cancelled}

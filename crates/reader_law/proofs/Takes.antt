@@ -11,7 +11,7 @@ use Rattle.tp_wire.specs.declared.wire.Wire.{Wire}
 use Rattle.tp_wire.specs.declared.wire.Wire.TheVariants.{Cm, Packet, Request, Ack}
 use Rattle.bus_order.specs.Bus as bus
 use Rattle.port_table.specs.Ports.{Ports}
-use Rattle.lane_core.specs.Heard.{heard}
+use Rattle.lane_core.specs.Hear.{heard}
 use Rattle.lane_core.specs.declared.step.Ended.{Ended as EndedMessage}
 use Rattle.session_table.specs.declared.key.Key.{Key}
 use Rattle.session_table.specs.declared.key.SessionKind.TheVariants as session

@@ -23,7 +23,7 @@ use Rattle.tp_wire.specs.Kinds.{is_same_kind}
 use Rattle.session_table.specs.declared.incoming.Incoming.{Incoming}
 use Rattle.session_table.specs.declared.incoming.Incoming.TheVariants.{Broadcast, Connection}
 use Rattle.session_table.specs.declared.key.Key.{Key}
-use Rattle.station_lanes.specs.declared.event.Event.TheVariants as event
+use Rattle.message_events.specs.declared.event.Event.TheVariants as event
 use Rattle.pgn_ids.specs.Pgn.{clean}
 use Rattle.pgn_ids.specs.Address.{global_address}
 use Rattle.station_sessions.specs.Steps.{completes}

@@ -4,8 +4,8 @@ use Rattle.std.specs.Prelude.{ℕ, ◌-◌, ◌^◌, min, Bool, true, false, ◌
 use Rattle.bus_frame.specs.Frames.{CanFrame}
 use Rattle.pgn_ids.specs.declared.address.Address.{Address}
 use Rattle.tp_wire.specs.declared.outcome.Outcome.TheVariants.{Acknowledged, Broadcast, Aborted, TimedOut, Overrun, Cancelled, Unreachable}
-use Rattle.station_lanes.specs.declared.event.Event.{Event}
-use Rattle.station_lanes.specs.declared.event.Event.TheVariants as event
+use Rattle.message_events.specs.declared.event.Event.{Event}
+use Rattle.message_events.specs.declared.event.Event.TheVariants as event
 use Rattle.station_core.specs.Station.{Station}
 use Rattle.station_core.specs.Taking.{is_malformed_for}
 use Rattle.segment_law.specs.Segment.{Segment, new_segment, place_of}

@@ -2,7 +2,7 @@
 //! speak of the definitions alone, and a call of one does nothing.
 ghost use Rattle.std.specs.Prelude.{◌≡◌, ℕ, Bool, List};
 ghost use Rattle.pgn_ids.specs.declared.address.Address.{Address};
-ghost use Rattle.station_lanes.specs.declared.event.Event.{Event};
+ghost use Rattle.message_events.specs.declared.event.Event.{Event};
 ghost use Rattle.segment_law.specs.Segment.{Segment};
 ghost use Rattle.segment_law.specs.Calls.{applied};
 ghost use Rattle.segment_law.specs.declared.call.Call.TheVariants.{Overrun};

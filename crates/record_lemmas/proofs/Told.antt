@@ -6,7 +6,7 @@ use Rattle.std.proofs.lemmas.Bool.{and_parts, ltb-true, eqb-true, eq-eqb, trueâ‰
 use Rattle.pgn_ids.specs.Pgn.{is_pdu1, is_pgn, clean}
 use Rattle.pgn_ids.specs.declared.address.Address.{Address}
 use Rattle.station_core.specs.Sending.{lane_of}
-use Rattle.station_lanes.specs.declared.event.Event.{Event}
+use Rattle.message_events.specs.declared.event.Event.{Event}
 use Rattle.segment_law.specs.Told.{Message, Placed, told_from, items_of, places_of, sent_by, is_lane}
 use Rattle.segment_law.specs.Numbering.{item, IsAfter}
 use Rattle.segment_law.specs.Segment.{Segment}

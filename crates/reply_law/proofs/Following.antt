@@ -3,7 +3,7 @@
 use Rattle.std.proofs.Common.{◌≡◌, true, false, List, [], Ok, Err, refl, sym, ap, ◌∙◌}
 use Rattle.pgn_ids.specs.declared.address.Address.{Address}
 use Rattle.port_table.specs.declared.port.PortId.{PortId}
-use Rattle.station_lanes.specs.declared.event.Event.{Event}
+use Rattle.message_events.specs.declared.event.Event.{Event}
 use Rattle.segment_law.specs.Segment.{Segment}
 use Rattle.segment_law.specs.Calls.{Answer, called, applied, replied, events_of}
 use Rattle.segment_law.specs.Readers.{ports_given}

@@ -18,10 +18,10 @@ use Rattle.responder.specs.declared.received.Received.TheVariants.{On, Complete,
 use Rattle.bam_session.specs.States as bam
 use Rattle.bam_session.specs.Receiving as bam-steps
 use Rattle.port_table.specs.Ports.{Ports}
-use Rattle.lane_core.specs.Heard.{heard}
+use Rattle.lane_core.specs.Hear.{heard}
 use Rattle.lane_core.specs.Lane.{Lane}
-use Rattle.lane_core.specs.Pump as lane
-use Rattle.lane_core.specs.Endings as endings
+use Rattle.lane_core.specs.Fire as lane-fire
+use Rattle.lane_core.specs.Overrun as lane-overrun
 use Rattle.lane_core.specs.declared.step.Ended.{Ended as EndedMessage}
 use Rattle.lane_core.specs.declared.step.LaneStep.{LaneStep}
 use Rattle.session_table.specs.DueOrder.{first_due}
@@ -33,8 +33,8 @@ use Rattle.session_table.specs.declared.incoming.Incoming.TheVariants as incomin
 use Rattle.station_lanes.specs.Lanes.{Lanes}
 use Rattle.station_lanes.specs.LaneCalls.{step_at, outcome_of}
 use Rattle.station_lanes.specs.LaneReaders.{due_lane, overrun_lanes, overrun_events}
-use Rattle.station_lanes.specs.declared.event.Event.{Event}
-use Rattle.station_lanes.specs.declared.event.Event.TheVariants as event
+use Rattle.message_events.specs.declared.event.Event.{Event}
+use Rattle.message_events.specs.declared.event.Event.TheVariants as event
 use Rattle.station_sessions.specs.Steps.{completes, size_of}
 use Rattle.station_sessions.specs.Receiving.{Inbound, flow_at, broadcast_settled, connection_settled, session_stepped, session_fired, received_by, fired_by, wanted_by}
 use Rattle.station_core.specs.Opening.{key_of}
@@ -77,7 +77,7 @@ overrun_none-below : (from : Address) (lanes : Lanes) (n : ℕ) → ports_given 
 unfolding overrun_events
 overrun_none-below from lanes zero = refl
 overrun_none-below from lanes (suc n) =
-    let o = (step_at (overrun_lanes lanes n) n endings.overrun).ended in
+    let o = (step_at (overrun_lanes lanes n) n lane-overrun.overrun).ended in
     ports_append (overrun_events from lanes n) (outcome_of from (record { 0 = n }) o) ∙ ap (λ (ns : List ℕ). ns ++ ports_given (outcome_of from (record { 0 = n }) o)) (overrun_none-below from lanes n) ∙ outcome_none from (record { 0 = n }) o
 
 pub overrun_none : (st : Station) → ports_given (overrun st).events ≡ []
@@ -223,7 +223,7 @@ module _ (st : Station) (now : ℕ) where
 
   lane_fired_none : (o : Option ℕ) → ports_given (lane_fired st now o).events ≡ []
   lane_fired_none None = refl
-  lane_fired_none (Some to) = by_lane_none (record { 0 = to }) (λ l. lane.fired l now)
+  lane_fired_none (Some to) = by_lane_none (record { 0 = to }) (λ l. lane-fire.fired l now)
 
   pub fired_none : ports_given (fired st now).events ≡ []
   fired_none = by (first_due st.sessions now)

@@ -10,10 +10,10 @@ use Rattle.bus_order.specs.Bus as bus
 use Rattle.port_table.specs.Ports.{Ports, next_id, with_port, with_paused}
 use Rattle.port_table.specs.declared.port.Port.{Port}
 use Rattle.port_table.specs.declared.port.PortId.{PortId}
-use Rattle.lane_core.specs.Pump as lane
-use Rattle.lane_core.specs.Endings as endings
-use Rattle.station_lanes.specs.declared.event.Event.{Event}
-use Rattle.station_lanes.specs.declared.event.Event.TheVariants as event
+use Rattle.lane_core.specs.Pump as lane-pump
+use Rattle.lane_core.specs.Cancel as lane-cancel
+use Rattle.message_events.specs.declared.event.Event.{Event}
+use Rattle.message_events.specs.declared.event.Event.TheVariants as event
 use Rattle.station_core.specs.Station.{Station, StationStep}
 use Rattle.station_core.specs.Sending.{lane_of, sent, pumped, cancelled}
 use Rattle.station_core.specs.Timers.{fired}
@@ -271,13 +271,13 @@ module _ (seg : Segment) (r : IsReached seg) (sound : (j : ℕ) (st : Station) �
       opens = λ a pgn max_len q. goes_opened a pgn max_len;
       closes = λ port q is. goes_closed port;
       sends = λ from to pgn bytes q other long short. goes_sent from to pgn bytes;
-      pumps = λ a to q. quiet_step (Pump a to) _ (pumped st to seg.now) refl (acts_lane st it_is.own it_is.sessions to (λ l. lane.pumped l seg.now)) (by_lane_none st seg.now to (λ l. lane.pumped l seg.now)) (refl, refl);
+      pumps = λ a to q. quiet_step (Pump a to) _ (pumped st to seg.now) refl (acts_lane st it_is.own it_is.sessions to (λ l. lane-pump.pumped l seg.now)) (by_lane_none st seg.now to (λ l. lane-pump.pumped l seg.now)) (refl, refl);
       transmits = λ a f q e free. goes_set (record st { queue = behind st.queue }) refl (omega arith) (Transmit a) _ [] refl refl (refl, refl);
       takes = λ a room f q e free. take_goes a q room f e free;
       repeats = λ a room f q e free. repeat_goes a q room f e free;
       overruns = λ a k q few. quiet_step (Overrun a k) _ (overrun st) refl (acts_overrun st it_is.own it_is.sessions) (overrun_none st) (refl, refl);
       fires = λ a q. quiet_step (Fire a) _ (fired st seg.now) refl (acts_fired st it_is.own it_is.sessions seg.now) (fired_none st seg.now) (refl, refl);
-      cancels = λ from to number q pending. quiet_step (Cancel from to number) _ (cancelled st to number) refl (acts_lane st it_is.own it_is.sessions to (λ l. endings.cancelled l number)) (by_lane_none st seg.now to (λ l. endings.cancelled l number)) (refl, refl);
+      cancels = λ from to number q pending. quiet_step (Cancel from to number) _ (cancelled st to number) refl (acts_lane st it_is.own it_is.sessions to (λ l. lane-cancel.cancelled l number)) (by_lane_none st seg.now to (λ l. lane-cancel.cancelled l number)) (refl, refl);
       pauses = λ port q. marks port.number true (Pause port) (refl, refl);
       resumes = λ port q. marks port.number false (Resume port) (refl, refl);
     }

@@ -17,9 +17,10 @@ use Rattle.responder.specs.Unfinished.{Unfinished, number_of, with_packet, finis
 use Rattle.responder.specs.States as states
 use Rattle.responder.specs.Readers.{unfinished_of}
 use Rattle.responder.specs.Asking.{asking, asked, asks}
-use Rattle.responder.specs.DpoRows.{is_of_another, is_wrong_dpo, with_offset, announced, on_dpo, on_dpo_in_hold}
-use Rattle.responder.specs.PacketRows.{aborted, accepted, on_packet, on_packet_in_hold}
-use Rattle.responder.specs.Steps.{awaiting_stepped, holding_stepped, stepped, expired, is_next, completes}
+use Rattle.responder.specs.DpoRows.{is_of_another, is_wrong_dpo, with_offset, announced, on_dpo}
+use Rattle.responder.specs.Holding.{on_dpo_in_hold, on_packet_in_hold, holding_stepped}
+use Rattle.responder.specs.PacketRows.{aborted, accepted, on_packet}
+use Rattle.responder.specs.Steps.{awaiting_stepped, stepped, expired, is_next, completes}
 use Rattle.responder.specs.Room.{grants_next, needed, with_room_for, prepared, prepared_to_expire}
 use Rattle.responder.specs.declared.flow.Flow.{Flow}
 use Rattle.responder.specs.declared.flow.Flow.TheVariants.{Open, Held}

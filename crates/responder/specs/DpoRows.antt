@@ -4,7 +4,7 @@ use Rattle.pgn_ids.specs.Pgn.{clean}
 use Rattle.tp_wire.specs.declared.reason.AbortReason.TheVariants.{Other}
 use Rattle.responder.specs.Peer.{Peer}
 use Rattle.responder.specs.Unfinished.{Unfinished}
-use Rattle.responder.specs.States.{AwaitPacket, Holding}
+use Rattle.responder.specs.States.{AwaitPacket}
 use Rattle.responder.specs.PacketRows.{aborted}
 use Rattle.responder.specs.declared.in_state.InState.TheVariants as InState
 use Rattle.responder.specs.declared.received.Received.{Received}
@@ -35,10 +35,3 @@ on_dpo s packets offset pgn =
     if is_of_another s.message.peer pgn then On (InState.AwaitPacket s) None
     else if is_wrong_dpo s.message.join.next s.granted packets offset then aborted s.message Other
     else On (InState.AwaitPacket (announced s packets offset)) None
-
--- on hold, where what is granted ends ahead of the next packet
-abbrev pub on_dpo_in_hold : Holding → (packets offset pgn : ℕ) → Received
-on_dpo_in_hold s packets offset pgn =
-    if is_of_another s.message.peer pgn then On (InState.Holding s) None
-    else if is_wrong_dpo s.message.join.next (s.message.join.next - 1) packets offset then aborted s.message Other
-    else On (InState.Holding (record s { message = with_offset s.message offset })) None

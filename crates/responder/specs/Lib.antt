@@ -12,5 +12,6 @@ pub mod Readers
 pub mod Asking
 pub mod PacketRows
 pub mod DpoRows
+pub mod Holding
 pub mod Steps
 pub mod Room

@@ -7,7 +7,7 @@ use Rattle.tp_wire.specs.declared.reason.AbortReason.TheVariants.{Resources, Oth
 use Rattle.seg_cut.specs.Join.{wants_last}
 use Rattle.responder.specs.Answers.{abort_frame}
 use Rattle.responder.specs.Unfinished.{Unfinished, with_packet, finished}
-use Rattle.responder.specs.States.{AwaitPacket, Holding}
+use Rattle.responder.specs.States.{AwaitPacket}
 use Rattle.responder.specs.Asking.{asks}
 use Rattle.responder.specs.declared.flow.Flow.{Flow}
 use Rattle.responder.specs.declared.in_state.InState.TheVariants as InState
@@ -31,8 +31,3 @@ on_packet s number bytes room flow now =
     else if not (wants_last s.message.join) && room then asks (with_packet s.message bytes) flow now
     else if not (wants_last s.message.join) then aborted s.message Resources
     else Complete (finished (with_packet s.message bytes))
-
--- packet `number`, on hold
-abbrev pub on_packet_in_hold : Holding → (number : ℕ) → Received
-on_packet_in_hold s number =
-    if nat_lt number s.message.join.next then On (InState.Holding s) None else aborted s.message Other

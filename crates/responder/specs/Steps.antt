@@ -9,10 +9,11 @@ use Rattle.tp_wire.specs.declared.wire.Wire.{Wire}
 use Rattle.tp_wire.specs.declared.wire.Wire.TheVariants.{Cm, Packet}
 use Rattle.seg_cut.specs.Join.{wants_last}
 use Rattle.responder.specs.Unfinished.{number_of}
-use Rattle.responder.specs.States.{AwaitPacket, Holding}
+use Rattle.responder.specs.States.{AwaitPacket}
 use Rattle.responder.specs.Asking.{asks}
-use Rattle.responder.specs.DpoRows.{on_dpo, on_dpo_in_hold}
-use Rattle.responder.specs.PacketRows.{aborted, accepted, on_packet, on_packet_in_hold}
+use Rattle.responder.specs.DpoRows.{on_dpo}
+use Rattle.responder.specs.PacketRows.{aborted, accepted, on_packet}
+use Rattle.responder.specs.Holding.{holding_stepped}
 use Rattle.responder.specs.declared.flow.Flow.{Flow}
 use Rattle.responder.specs.declared.in_state.InState.{InState}
 use Rattle.responder.specs.declared.in_state.InState.TheVariants as InState
@@ -27,14 +28,6 @@ awaiting_stepped s (Packet kind sequence bytes) room flow now =
     if is_same_kind s.message.kind kind then on_packet s (number_of s.message sequence) bytes room flow now
     else On (InState.AwaitPacket s) None
 awaiting_stepped s _ room flow now = On (InState.AwaitPacket s) None
-
--- on hold
-abbrev pub holding_stepped : Holding → Wire → Received
-holding_stepped s (Cm (EtpDpo packets offset pgn)) =
-    if is_same_kind s.message.kind Etp then on_dpo_in_hold s packets offset pgn else On (InState.Holding s) None
-holding_stepped s (Packet kind sequence bytes) =
-    if is_same_kind s.message.kind kind then on_packet_in_hold s (number_of s.message sequence) else On (InState.Holding s) None
-holding_stepped s _ = On (InState.Holding s) None
 
 -- in either state
 abbrev pub stepped : InState → Wire → (room : Bool) → Flow → (now : ℕ) → Received

@@ -10,7 +10,7 @@ ghost use Rattle.tp_wire.specs.declared.wire.Wire.TheVariants.{Packet};
 ghost use Rattle.tp_wire.specs.declared.wire.Kind.TheVariants.{Etp};
 ghost use Rattle.seg_cut.specs.Join.{held, wants_last as wants_last_at};
 ghost use Rattle.responder.specs.Answers.{abort_frame};
-ghost use Rattle.responder.specs.Unfinished.{number_of, with_packet, finished};
+ghost use Rattle.responder.specs.Unfinished.{number_of, with_packet};
 ghost use Rattle.responder.specs.States.{with_window};
 ghost use Rattle.responder.specs.Asking.{asked, asks, grant};
 ghost use Rattle.responder.specs.DpoRows.{on_dpo};

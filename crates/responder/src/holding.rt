@@ -7,9 +7,8 @@ ghost use Rattle.seg_cut.specs.Join.{held};
 ghost use Rattle.responder.specs.Unfinished.{number_of};
 ghost use Rattle.responder.specs.States.{on_hold};
 ghost use Rattle.responder.specs.Asking.{asking, asked};
-ghost use Rattle.responder.specs.DpoRows.{on_dpo_in_hold};
-ghost use Rattle.responder.specs.PacketRows.{aborted, on_packet_in_hold};
-ghost use Rattle.responder.specs.Steps.{holding_stepped};
+ghost use Rattle.responder.specs.Holding.{on_dpo_in_hold, on_packet_in_hold, holding_stepped};
+ghost use Rattle.responder.specs.PacketRows.{aborted};
 ghost use Rattle.responder.specs.Room.{HasRoom, prepared_hold};
 ghost use Rattle.responder.specs.declared.flow.Flow.TheVariants.{Open, Held};
 

@@ -1,5 +1,4 @@
 //! What a line of a script asks for.
-ghost use Rattle.std.specs.Prelude.{◌≡◌};
 ghost use Rattle.script_commands.specs.Words.{texts};
 ghost use Rattle.script_commands.specs.Values.{Gives};
 ghost use Rattle.script_commands.specs.Commands.{stations_of, open_of, close_of, send_of, pump_of, transmit_of, fire_of, tick_of, take_of, again_of, overrun_of, cancel_of, pause_of, resume_of, inject_of, drive_of, counts_of, command_of, later_command_of};

@@ -1,5 +1,5 @@
 //! What the words of a command mean: addresses, numbers, ports and data.
-ghost use Rattle.std.specs.Prelude.{◌≡◌, ℕ, ◌≤◌, ◌<◌, ◌-◌, ◌^◌, IfOk};
+ghost use Rattle.std.specs.Prelude.{◌≡◌, ◌≤◌, ◌<◌, ◌-◌, ◌^◌, IfOk};
 ghost use Rattle.std.specs.Str.{bytes_eq};
 ghost use Rattle.script_commands.specs.Words.{texts};
 ghost use Rattle.script_commands.specs.Values.{Gives, address_of, addresses_of, bounded_word, number_of, pgn_of, id_of, data_of, port_of, room_of, payload_of, filling};
@@ -7,7 +7,7 @@ ghost use Rattle.script_commands.specs.Values.{Gives, address_of, addresses_of, 
 use crate::addresses::Addresses;
 use crate::fault::{Fault, LineError};
 use crate::words::{data, decimal, hex, place_of_dot};
-use lane_core::Bytes;
+use message_events::Bytes;
 use pgn_ids::Address;
 use port_table::PortId;
 use std::alloc::{AllocError, Global};

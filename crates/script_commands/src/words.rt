@@ -1,5 +1,5 @@
 //! Words of a line, and the numbers and data that words write.
-ghost use Rattle.std.specs.Prelude.{◌≡◌, ℕ, ◌<◌, ◌≤◌, IfOk, ◌++◌, OnOk, length, IfSome, option_map};
+ghost use Rattle.std.specs.Prelude.{◌≡◌, ◌<◌, ◌≤◌, IfOk, ◌++◌, OnOk, length, IfSome, option_map};
 ghost use Rattle.script_commands.specs.Words.{texts, some_word, words_of, digit_of, put_digit, numeral_from, decimal_word, hex_word, data_word, pair_of, dot_in};
 
 use std::alloc::{AllocError, Global};

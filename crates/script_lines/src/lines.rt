@@ -1,5 +1,5 @@
 //! Lines of a reader, one held at a time.
-ghost use Rattle.std.specs.Prelude.{◌≡◌, ◌≢◌, ℕ, ◌<◌, ◌≤◌, List, [], ◌∷◌, length, IfOk, OnErr, OnOk};
+ghost use Rattle.std.specs.Prelude.{◌≡◌, ◌<◌, ◌≤◌, length, IfOk, OnErr};
 ghost use Rattle.std.specs.Io.KnownBytes.{Keeps};
 ghost use Rattle.script_lines.specs.declared.lines.ReadError.TheVariants.{OutOfMemory};
 ghost use Rattle.script_lines.specs.Known.{TakesByte, Known};

@@ -3,7 +3,7 @@ use Rattle.std.proofs.Common.{◌≡◌, List, [], ◌∷◌, ◌++◌, refl, sy
 use Rattle.std.specs.List.{flat_map}
 use Rattle.std.proofs.lemmas.Grind.{flat_map-append}
 use Rattle.segment_core.specs.Joined.{joined}
-use Rattle.station_lanes.specs.declared.event.Event.{Event}
+use Rattle.message_events.specs.declared.event.Event.{Event}
 use Rattle.script_text.specs.Replies.{event_line, event_lines}
 
 pub parts_lines : (parts : List (List Event)) → flat_map event_lines parts ≡ event_lines (joined parts)

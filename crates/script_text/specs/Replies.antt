@@ -6,8 +6,8 @@ use Rattle.pgn_ids.specs.declared.address.Address.{Address}
 use Rattle.port_table.specs.declared.port.PortId.{PortId}
 use Rattle.tp_wire.specs.declared.outcome.Outcome.{Outcome}
 use Rattle.tp_wire.specs.declared.outcome.Outcome.TheVariants as ends
-use Rattle.station_lanes.specs.declared.event.Event.{Event}
-use Rattle.station_lanes.specs.declared.event.Event.TheVariants as events
+use Rattle.message_events.specs.declared.event.Event.{Event}
+use Rattle.message_events.specs.declared.event.Event.TheVariants as events
 use Rattle.segment_law.specs.Refusals.{refusal_number, refusal_name}
 use Rattle.segment_law.specs.declared.end.DriveEnd.{DriveEnd}
 use Rattle.segment_law.specs.declared.end.DriveEnd.TheVariants as ending

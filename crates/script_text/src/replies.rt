@@ -7,7 +7,7 @@ use crate::parts::{
     put_between, put_decimal, put_hex, put_port, put_spaced, put_text, put_unspaced,
 };
 use bus_frame::Frame;
-use lane_core::Bytes;
+use message_events::Bytes;
 use pgn_ids::{Address, Pgn};
 use port_table::PortId;
 use segment_core::{DriveEnd, Driven, Event, EventList, Events, Refusal, Reply};

@@ -1,7 +1,7 @@
 -- The events of one more call.
 use Rattle.std.proofs.Common.{◌≡◌, List, [], ◌∷◌, ◌++◌, sym, ap, ◌∙◌, append_assoc}
 use Rattle.std.proofs.lemmas.List.{append-nil}
-use Rattle.station_lanes.specs.declared.event.Event.{Event}
+use Rattle.message_events.specs.declared.event.Event.{Event}
 use Rattle.segment_core.specs.Joined.{joined}
 
 pub joined_push : (parts : List (List Event)) (events : List Event) → joined (parts ++ events ∷ []) ≡ joined parts ++ events

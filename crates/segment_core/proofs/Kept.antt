@@ -10,7 +10,7 @@ use Rattle.tx_queue.specs.Queue.{free_places}
 use Rattle.std.proofs.lemmas.Bool.{eqb-true, le-ltb}
 use Rattle.segment_law.specs.declared.counts.Counts.{Counts}
 use Rattle.pgn_ids.specs.declared.address.Address.{Address}
-use Rattle.station_lanes.specs.declared.event.Event.{Event}
+use Rattle.message_events.specs.declared.event.Event.{Event}
 use Rattle.station_core.specs.Station.{Station, StationStep}
 use Rattle.station_core.specs.Taking.{is_malformed_for, taken}
 use Rattle.station_core.specs.Overruns.{overrun}

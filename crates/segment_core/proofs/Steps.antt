@@ -18,7 +18,7 @@ use Rattle.bus_order.proofs.Steps.{sound_moved, sound_released, released_len}
 use Rattle.lane_core.specs.declared.refused.PumpRefused.{PumpRefused}
 use Rattle.lane_core.specs.declared.refused.PumpRefused.TheVariants as pump
 use Rattle.station_lanes.specs.LaneReaders.{refusal_at, missing_at}
-use Rattle.station_lanes.specs.declared.event.Event.{Event}
+use Rattle.message_events.specs.declared.event.Event.{Event}
 use Rattle.station_core.specs.Station.{Station, new_station}
 use Rattle.std.specs.Ordering.{nat_cmp}
 use Rattle.lane_core.specs.Lane.{Lane}

@@ -2,7 +2,7 @@
 use Rattle.std.proofs.Common.{◌≡◌, ℕ, ◌+◌, ◌-◌, List, [], ◌∷◌, length, drop, None}
 use Rattle.bus_frame.specs.Frames.{CanFrame}
 use Rattle.pgn_ids.specs.declared.address.Address.{Address}
-use Rattle.station_lanes.specs.declared.event.Event.{Event}
+use Rattle.message_events.specs.declared.event.Event.{Event}
 use Rattle.segment_law.specs.Segment.{Segment, waiting_at}
 use Rattle.segment_law.specs.Drive.{Driven, goes_on, takes, takes_all, turn, turns_from, driven}
 use Rattle.segment_core.specs.Joined.{joined}

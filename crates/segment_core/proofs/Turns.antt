@@ -5,7 +5,7 @@ use Rattle.std.specs.Prelude.{slice_get, is_some, unwrap_or}
 use Rattle.std.proofs.lemmas.Bool.{lt-ltb}
 use Rattle.bus_frame.specs.Frames.{CanFrame}
 use Rattle.pgn_ids.specs.declared.address.Address.{Address}
-use Rattle.station_lanes.specs.declared.event.Event.{Event}
+use Rattle.message_events.specs.declared.event.Event.{Event}
 use Rattle.station_core.specs.Station.{Station, new_station}
 use Rattle.segment_law.specs.Segment.{Segment, place_of, station_at, waiting_at}
 use Rattle.segment_law.specs.Record.{Record, StandsAt}

@@ -1,7 +1,7 @@
 -- What a drive's lists are kept as.
 use Rattle.std.specs.Prelude.{List}
 use Rattle.bus_frame.specs.Frames.{CanFrame}
-use Rattle.station_lanes.specs.declared.event.Event.{Event}
+use Rattle.message_events.specs.declared.event.Event.{Event}
 use Rattle.segment_core.specs.Joined.{joined}
 use Rattle.segment_core.specs.declared.driven.FrameList.TheInside as frames
 use Rattle.segment_core.specs.declared.driven.EventList.TheInside as events

@@ -4,7 +4,7 @@ use Rattle.std.specs.List.{list_all}
 use Rattle.bus_frame.specs.Frames.{CanFrame}
 use Rattle.pgn_ids.specs.declared.address.Address.{Address}
 use Rattle.bus_order.specs.Kept.{IsSound}
-use Rattle.station_lanes.specs.declared.event.Event.{Event}
+use Rattle.message_events.specs.declared.event.Event.{Event}
 use Rattle.segment_law.specs.Segment.{Segment, waiting_at}
 use Rattle.segment_law.specs.Calls.{called, is_call}
 use Rattle.segment_law.specs.Record.{Step, Record, StandsAt, replies_from, after, calls_of, replies_of}

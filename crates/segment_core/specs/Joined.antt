@@ -1,6 +1,6 @@
 -- The events of several calls.
 use Rattle.std.specs.Prelude.{List, [], ◌∷◌, ◌++◌}
-use Rattle.station_lanes.specs.declared.event.Event.{Event}
+use Rattle.message_events.specs.declared.event.Event.{Event}
 
 -- one after another
 abbrev pub joined : List (List Event) → List Event

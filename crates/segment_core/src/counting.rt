@@ -1,5 +1,5 @@
 //! Counting what calls tell.
-ghost use Rattle.std.specs.Prelude.{◌≡◌, [], fold};
+ghost use Rattle.std.specs.Prelude.{◌≡◌, []};
 ghost use Rattle.segment_law.specs.Segment.{plus, counted_outcome, counted_event, counted, counted_frame, counted_look, counted_repeat};
 ghost use Rattle.segment_law.specs.declared.reply.Reply.TheVariants.{Done};
 

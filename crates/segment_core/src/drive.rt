@@ -6,7 +6,7 @@ ghost use Rattle.station_lanes.specs.LaneReaders.{missing_at};
 ghost use Rattle.segment_law.specs.Segment.{Segment as State, station_at, waiting_at};
 ghost use Rattle.segment_law.specs.Record.{Record, StandsAt};
 ghost use Rattle.segment_law.specs.Quiet.{quiet, IsQuiet};
-ghost use Rattle.segment_law.specs.Drive.{Driven as Drive, driven, makes, makes_call, puts, pumps, turn_puts, takes_all, turn};
+ghost use Rattle.segment_law.specs.Drive.{Driven as Drive, driven, makes, puts, pumps, turn_puts, takes_all, turn};
 ghost use Rattle.segment_law.specs.declared.call.Call.TheVariants.{Pump, Take, Tick};
 ghost use Rattle.segment_law.specs.declared.end.DriveEnd.TheVariants as end;
 ghost use Rattle.segment_core.specs.Drives.{IsDriven, IsBegun, IsCourse, Went, IsFollowed, HasTaken, addresses_of, stop_end, too_soon};

@@ -1,5 +1,5 @@
 //! What a drive did.
-ghost use Rattle.std.specs.Prelude.{◌≡◌, length};
+ghost use Rattle.std.specs.Prelude.{◌≡◌};
 ghost use Rattle.segment_core.specs.Joined.{joined};
 
 use bus_frame::Frame;
@@ -55,7 +55,7 @@ pub struct EventList {
 
 impl Model for EventList {
     ghost use Rattle.std.specs.Prelude.{List};
-    ghost use Rattle.station_lanes.specs.declared.event.Event.{Event};
+    ghost use Rattle.message_events.specs.declared.event.Event.{Event};
     ghost use Rattle.segment_core.specs.DriveFields.{event_list_value};
 
     ghost Value = { List Event };

@@ -22,7 +22,7 @@ mod stop;
 mod taking;
 
 pub use driven::{Driven, EventList, FrameList};
-pub use lane_core::Bytes;
+pub use message_events::Bytes;
 pub use port_table::{PortId, PortSet};
 pub use run::Ran;
 pub use segment::{NewRefused, Segment};

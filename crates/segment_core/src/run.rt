@@ -9,7 +9,6 @@ ghost use Rattle.segment_core.specs.Promise.{KeepsPromise};
 use crate::segment::Segment;
 use headline_law::the_headline_holds;
 use segment_law::{Call, Reply, RunEnd};
-use std::alloc::Global;
 
 /// What a list of calls was answered.
 #[derive(Drop)]

@@ -4,7 +4,7 @@ ghost use Rattle.segment_core.specs.Answers.{IsAnswer};
 
 use crate::segment::Segment;
 use crate::stop::{Stop, stop_of};
-use lane_core::Bytes;
+use message_events::Bytes;
 use pgn_ids::{Address, Pgn};
 use segment_law::{Refusal, Reply};
 

@@ -29,12 +29,16 @@ use Rattle.lane_core.specs.declared.place.UnderWay.TheVariants.{Nothing, Broadca
 use Rattle.lane_core.specs.declared.probe.Standing.{Standing}
 use Rattle.lane_core.specs.declared.probe.Standing.TheVariants.{Settled, InDoubt, Probing}
 use Rattle.lane_core.specs.declared.step.LaneStep.{LaneStep}
-use Rattle.lane_core.specs.Token.{is_token, other_token}
-use Rattle.lane_core.specs.Steps.{says}
+use Rattle.lane_core.specs.Probe.{is_token, other_token, most_requests, probes}
+use Rattle.lane_core.specs.Step.{says}
 use Rattle.lane_core.specs.Lane.{Lane, new_lane, pushed, link_for, with_under_way}
-use Rattle.lane_core.specs.Endings.{over, after_step, withdrawn, without_number, is_front, cancelled, cancelled_by, overrun, overrun_by}
-use Rattle.lane_core.specs.Heard.{heard, heard_by, connection_heard, answered, answered_by}
-use Rattle.lane_core.specs.Pump.{begins, idle_pumped, after_packet, front_bytes, pumped, pumped_by, most_requests, probes, probe_fired, fired, fired_by}
+use Rattle.lane_core.specs.Endings.{over, after_step}
+use Rattle.lane_core.specs.Cancel.{withdrawn, without_number, is_front, cancelled, cancelled_by}
+use Rattle.lane_core.specs.Overrun.{overrun, overrun_by}
+use Rattle.lane_core.specs.Hear.{heard, heard_by, connection_heard}
+use Rattle.lane_core.specs.Answer.{answered, answered_by}
+use Rattle.lane_core.specs.Pump.{begins, idle_pumped, after_packet, front_bytes, pumped, pumped_by}
+use Rattle.lane_core.specs.Fire.{probe_fired, fired, fired_by}
 use Rattle.station_lanes.specs.Lanes.{Lanes}
 use Rattle.station_lanes.specs.LaneCalls.{stepped_lanes, lane_to}
 use Rattle.station_lanes.specs.LaneReaders.{overrun_lanes}

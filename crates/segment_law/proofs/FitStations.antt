@@ -11,10 +11,12 @@ use Rattle.tp_wire.specs.declared.wire.Wire.TheVariants.{Cm, Packet, Request, Ac
 use Rattle.tp_wire.specs.declared.reason.AbortReason.{AbortReason}
 use Rattle.port_table.specs.Ports.{Ports, without_port}
 use Rattle.lane_core.specs.Lane.{Lane}
-use Rattle.lane_core.specs.Heard.{heard, answered}
-use Rattle.lane_core.specs.Steps.{nothing_to_do}
-use Rattle.lane_core.specs.Pump as lane
-use Rattle.lane_core.specs.Endings as endings
+use Rattle.lane_core.specs.Hear.{heard}
+use Rattle.lane_core.specs.Answer.{answered}
+use Rattle.lane_core.specs.Step.{nothing_to_do}
+use Rattle.lane_core.specs.Pump as lane-pump
+use Rattle.lane_core.specs.Fire as lane-fire
+use Rattle.lane_core.specs.Cancel as lane-cancel
 use Rattle.lane_core.specs.declared.step.LaneStep.{LaneStep}
 use Rattle.session_table.specs.DueOrder.{first_due}
 use Rattle.session_table.specs.declared.key.Key.{Key}
@@ -116,14 +118,14 @@ module _ (a : Address) where
   sent_stays st to pgn bytes h m = stays_lanes st st.queue _ h (fit_insert st.address st.lanes to.0 _ h.fit.lanes (fit_pushed st.address to.0 (lane_of st to) pgn bytes (fit_lane_to st.address st.lanes to.0 h.fit.lanes) (m ((lane_of st to).sent + 1))))
 
   pub pumped_stays : (st : Station) (to : Address) (now : ℕ) → Stays a st → Stays a (pumped st to now).station
-  pumped_stays st to now h = by_lane_stays st to (λ l. lane.pumped l now) h (λ l. fit_pumped st.address to.0 l now)
+  pumped_stays st to now h = by_lane_stays st to (λ l. lane-pump.pumped l now) h (λ l. fit_pumped st.address to.0 l now)
 
   pub cancelled_stays : (st : Station) (to : Address) (number : ℕ) → Stays a st → Stays a (cancelled st to number).station
-  cancelled_stays st to number h = by_lane_stays st to (λ l. endings.cancelled l number) h (λ l. fit_cancelled st.address to.0 l number)
+  cancelled_stays st to number h = by_lane_stays st to (λ l. lane-cancel.cancelled l number) h (λ l. fit_cancelled st.address to.0 l number)
 
   lane_fired_stays : (st : Station) (now : ℕ) (o : Option ℕ) → Stays a st → Stays a (lane_fired st now o).station
   lane_fired_stays st now None h = h
-  lane_fired_stays st now (Some to) h = by_lane_stays st (record { 0 = to }) (λ l. lane.fired l now) h (λ l. fit_fired st.address to l now)
+  lane_fired_stays st now (Some to) h = by_lane_stays st (record { 0 = to }) (λ l. lane-fire.fired l now) h (λ l. fit_fired st.address to l now)
 
   pub fired_stays : (st : Station) (now : ℕ) → Stays a st → Stays a (fired st now).station
   fired_stays st now h = by (first_due st.sessions now)

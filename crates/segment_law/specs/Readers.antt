@@ -7,8 +7,8 @@ use Rattle.pgn_ids.specs.declared.address.Address.{Address}
 use Rattle.tx_queue.specs.Queue.{front}
 use Rattle.bus_order.specs.Bus.{next_frame, frame_again}
 use Rattle.station_lanes.specs.LaneReaders.{least_below, pumping_lane}
-use Rattle.station_lanes.specs.declared.event.Event.{Event}
-use Rattle.station_lanes.specs.declared.event.Event.TheVariants as event
+use Rattle.message_events.specs.declared.event.Event.{Event}
+use Rattle.message_events.specs.declared.event.Event.TheVariants as event
 use Rattle.station_core.specs.Station.{Station}
 use Rattle.station_core.specs.Taking as taking
 use Rattle.station_core.specs.Timers as timers

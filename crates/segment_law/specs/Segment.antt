@@ -7,8 +7,8 @@ use Rattle.tp_wire.specs.declared.outcome.Outcome.{Outcome}
 use Rattle.tp_wire.specs.declared.outcome.Outcome.TheVariants.{Acknowledged, Broadcast, Aborted, TimedOut, Overrun, Cancelled, Unreachable}
 use Rattle.bus_order.specs.Bus.{Bus, new_bus, waiting}
 use Rattle.lane_core.specs.Lane.{Lane}
-use Rattle.station_lanes.specs.declared.event.Event.{Event}
-use Rattle.station_lanes.specs.declared.event.Event.TheVariants as event
+use Rattle.message_events.specs.declared.event.Event.{Event}
+use Rattle.message_events.specs.declared.event.Event.TheVariants as event
 use Rattle.station_core.specs.Station.{Station, new_station}
 use Rattle.station_core.specs.Sending.{lane_of}
 use Rattle.segment_law.specs.declared.counts.Counts.{Counts}

@@ -2,7 +2,7 @@
 ghost use Rattle.std.specs.Prelude.{◌≡◌, IfOk};
 
 use bus_frame::Frame;
-use lane_core::Bytes;
+use message_events::Bytes;
 use pgn_ids::{Address, Pgn};
 use port_table::PortId;
 use std::alloc::{AllocError, Global};

@@ -1,6 +1,7 @@
 //! A client: what it submitted and the notes that it read, with its ends of the two rings.
 use crate::words::{Note, Submission};
-use lane_core::{Bytes, longest_to};
+use lane_core::longest_to;
+use message_events::Bytes;
 use pgn_ids::{Address, Pgn};
 use rtrb::{Consumer, Producer};
 use segment_law::Refusal;
@@ -42,7 +43,7 @@ impl Model for Client {
     ghost invariant = { λ c. (c.submitted.items ≡ sent c.submissions) × (c.read.items ≡ received c.notes) };
 }
 
-ghost use Rattle.std.specs.Prelude.{◌≡◌, length, IsErr, None};
+ghost use Rattle.std.specs.Prelude.{◌≡◌, length, None};
 ghost use Rattle.segment_rings.specs.Submitting.{submit_refusal as submit_refusal_of};
 
 /// Why a message of so many bytes isn't submitted, where its PGN is one and before a ring is looked at: the first that holds.
@@ -65,9 +66,8 @@ pub fn submit_refusal(from: Address, to: Address, len: usize) -> Option<Refusal>
 }
 
 impl Client {
-    ghost use Rattle.std.specs.Prelude.{◌≡◌, ◌+◌, ◌<◌, [], ◌∷◌, ◌++◌, ◌≤◌, length, true, false, IfOk, OnOk, OnErr, IfErr, MatchOption, Option, Some, None, ◌⊎◌};
+    ghost use Rattle.std.specs.Prelude.{◌≡◌, ◌+◌, ◌<◌, [], ◌≤◌, length, IfOk, OnOk, OnErr, IfErr, MatchOption, Option, Some, None, ◌⊎◌};
     ghost use Rattle.rtrb.specs.Ring.{sent, received, known_free};
-    ghost use Rattle.pgn_ids.specs.Pgn.{is_pgn};
     ghost use Rattle.segment_law.specs.declared.refusal.Refusal.{Refusal};
     ghost use Rattle.segment_law.specs.declared.refusal.Refusal.TheVariants as refusal;
     ghost use Rattle.segment_rings.specs.Ends.{ClientEnd, new_client_end, submits, reads, SameClient};

@@ -45,7 +45,7 @@ pub(crate) fn copy_delivery(alloc: Global, delivery: &Delivery) -> Result<Delive
 }
 
 impl Inbox {
-    ghost use Rattle.std.specs.Prelude.{◌≡◌, ◌+◌, ◌<◌, ◌≤◌, [], ◌∷◌, ◌++◌, length, true, false, IfOk, OnErr, OnOk, MatchOption, Some, None, Ok};
+    ghost use Rattle.std.specs.Prelude.{◌≡◌, ◌<◌, ◌≤◌, [], length, true, false, IfOk, OnErr, OnOk, MatchOption, Some, None, Ok};
     ghost use Rattle.rtrb.specs.Ring.{received};
     ghost use Rattle.segment_rings.specs.Ends.{InboxEnd, new_inbox_end, with_room_kept, receives, closes};
 

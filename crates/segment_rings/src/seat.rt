@@ -42,7 +42,7 @@ impl Model for Seat {
 }
 
 impl Seat {
-    ghost use Rattle.std.specs.Prelude.{◌≡◌, ◌≤◌, ◌<◌, ◌+◌, ◌-◌, ◌^◌, ◌↔◌, [], ◌∷◌, ◌++◌, length, true, false, IfOk, OnOk, OnErr, IsTrue, IsFalse};
+    ghost use Rattle.std.specs.Prelude.{◌≡◌, ◌≤◌, ◌<◌, ◌+◌, ◌-◌, ◌^◌, ◌↔◌, [], ◌∷◌, length, true, false, IfOk, OnOk, IsTrue};
     ghost use mathlib.Core.List.{IsPrefix};
     ghost use Rattle.segment_rings.specs.Views.{SeatView, new_seat, looked, looked_for_room, with_spare, popped_one, with_note, closed_seat, SameSeat, IsOffer};
     ghost use Rattle.segment_rings.specs.Ends.{new_client_end};

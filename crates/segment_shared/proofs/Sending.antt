@@ -4,7 +4,7 @@ use Rattle.std.proofs.lemmas.List.{length_push, length-map, get_or-map, map-set}
 use Rattle.std.specs.Prelude.{slice_index}
 use mathlib.Core.List.{IsPrefix}
 use Rattle.pgn_ids.specs.declared.address.Address.{Address}
-use Rattle.station_lanes.specs.declared.event.Event.{Event}
+use Rattle.message_events.specs.declared.event.Event.{Event}
 use Rattle.segment_law.specs.Segment.{Segment}
 use Rattle.segment_law.specs.Calls.{called, events_of}
 use Rattle.segment_core.specs.Answers.{refusal_of}

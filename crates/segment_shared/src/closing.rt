@@ -51,7 +51,7 @@ impl Live {
     ghost use Rattle.std.specs.Prelude.{◌≡◌, ◌<◌, length, slice_index_or, IfOk, IfErr, OnErr};
     ghost use mathlib.Core.List.{IsPrefix};
     ghost use Rattle.segment_rings.specs.Ends.{with_room_kept};
-    ghost use Rattle.segment_shared.specs.Record.{Trail, trail, given};
+    ghost use Rattle.segment_shared.specs.Record.{trail, given};
     ghost use Rattle.segment_shared.specs.LiveView.{PortView, SameLive};
     ghost use Rattle.segment_shared.specs.Reports.{ClosedFor, IsCloseCause};
 

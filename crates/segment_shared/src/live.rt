@@ -45,12 +45,12 @@ impl Model for Live {
 }
 
 impl Live {
-    ghost use Rattle.std.specs.Prelude.{◌≡◌, ◌≤◌, ◌<◌, [], ◌∷◌, ◌++◌, length, Bool, true, false, IfOk, OnOk, OnErr, IfErr, Ok, MatchOption, slice_index_or};
+    ghost use Rattle.std.specs.Prelude.{◌≡◌, ◌≤◌, ◌<◌, [], length, Bool, true, false, IfOk, OnErr, IfErr, Ok, MatchOption, slice_index_or};
     ghost use Rattle.segment_law.specs.Headline.{Headline};
     ghost use Rattle.segment_law.specs.Record.{StandsAt};
     ghost use Rattle.segment_law.specs.declared.reply.Reply.TheVariants.{Refused};
     ghost use Rattle.segment_law.specs.declared.refusal.Refusal.TheVariants.{TraceFull};
-    ghost use Rattle.segment_shared.specs.Record.{Trail, trail, accepted, given, notes_of};
+    ghost use Rattle.segment_shared.specs.Record.{trail, accepted, given, notes_of};
     ghost use Rattle.segment_shared.specs.LiveView.{ClientView, live_view, halted, SameLive, Applied, LacksMemory, Attached, Laws, OpenedFor, IsOpenCause};
     ghost use Rattle.segment_shared.specs.Offers.{AcceptedAs, LacksMemoryFor};
     ghost use Rattle.segment_shared.specs.Refusals.{IsAnsweredBy, making_refusal, attaching_refusal};

@@ -1,6 +1,6 @@
 //! Whether a client's front submission can be accepted now.
-ghost use Rattle.std.specs.Prelude.{◌≡◌, ℕ, ◌<◌, ◌≤◌, ◌+◌, [], ◌∷◌, ◌++◌, ◌^◌, length, IfOk, OnOk, OnErr, slice_index_or, vec_len, vec_capacity};
-ghost use Rattle.segment_rings.specs.Views.{SeatView, popped_one, with_spare};
+ghost use Rattle.std.specs.Prelude.{◌≡◌, ◌<◌, ◌≤◌, ◌+◌, ◌^◌, length, IfOk, OnOk, OnErr, slice_index_or, vec_len, vec_capacity};
+ghost use Rattle.segment_rings.specs.Views.{SeatView, with_spare};
 ghost use Rattle.segment_rings.specs.declared.words.Submission.{Submission};
 ghost use Rattle.segment_shared.specs.Record.{owed_by};
 ghost use Rattle.segment_shared.specs.Facts.{SameSeats};

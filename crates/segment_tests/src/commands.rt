@@ -1,6 +1,6 @@
 //! Lines with the commands that they mean. A test ends where memory is refused.
 use bus_frame::{CanId, Frame};
-use lane_core::Bytes;
+use message_events::Bytes;
 use pgn_ids::{Address, Pgn};
 use port_table::PortId;
 use script_commands::*;

@@ -1,7 +1,7 @@
 //! Each line with its exact text. A test ends where memory is refused.
 use crate::calls::*;
 use bus_frame::{CanId, Frame};
-use lane_core::Bytes;
+use message_events::Bytes;
 use pgn_ids::{Address, Pgn};
 use port_table::PortId;
 use script_text::*;

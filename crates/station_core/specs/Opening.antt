@@ -31,7 +31,7 @@ use Rattle.session_table.specs.declared.key.SessionKind.{SessionKind}
 use Rattle.session_table.specs.declared.key.SessionKind.TheVariants as session
 use Rattle.session_table.specs.declared.incoming.Incoming.{Incoming}
 use Rattle.session_table.specs.declared.incoming.Incoming.TheVariants as incoming
-use Rattle.lane_core.specs.Steps.{option_frames}
+use Rattle.lane_core.specs.Step.{option_frames}
 use Rattle.station_sessions.specs.Receiving.{flow_at}
 use Rattle.station_core.specs.Station.{Station}
 

@@ -4,8 +4,8 @@ use Rattle.tx_queue.specs.Queue.{free_places}
 use Rattle.std.specs.FinMap as map
 use Rattle.pgn_ids.specs.declared.address.Address.{Address}
 use Rattle.lane_core.specs.Lane.{Lane, pushed}
-use Rattle.lane_core.specs.Pump as lane
-use Rattle.lane_core.specs.Endings as endings
+use Rattle.lane_core.specs.Pump as lane-pump
+use Rattle.lane_core.specs.Cancel as lane-cancel
 use Rattle.station_lanes.specs.LaneCalls.{lane_to}
 use Rattle.station_lanes.specs.LaneReaders.{pumping_lane}
 use Rattle.station_core.specs.Station.{Station, StationStep, by_lane}
@@ -20,11 +20,11 @@ sent st to pgn bytes = record st { lanes = map.insert st.lanes to.0 (pushed (lan
 
 -- what comes next is queued
 abbrev pub pumped : Station → (to : Address) → (now : ℕ) → StationStep
-pumped st to now = by_lane st to (λ l. lane.pumped l now)
+pumped st to now = by_lane st to (λ l. lane-pump.pumped l now)
 
 -- a message is cancelled
 abbrev pub cancelled : Station → (to : Address) → (number : ℕ) → StationStep
-cancelled st to number = by_lane st to (λ l. endings.cancelled l number)
+cancelled st to number = by_lane st to (λ l. lane-cancel.cancelled l number)
 
 -- the lowest destination that is pumped, where eight frames have their places
 abbrev pub next_pump : Station → (now : ℕ) → Option ℕ

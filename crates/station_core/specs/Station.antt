@@ -5,10 +5,10 @@ use Rattle.bus_frame.specs.Frames.{CanFrame}
 use Rattle.pgn_ids.specs.Address.{is_one}
 use Rattle.pgn_ids.specs.declared.address.Address.{Address}
 use Rattle.port_table.specs.Ports.{Ports, no_ports}
-use Rattle.lane_core.specs.Steps.{option_frames}
+use Rattle.lane_core.specs.Step.{option_frames}
 use Rattle.lane_core.specs.Lane.{Lane}
 use Rattle.lane_core.specs.declared.step.LaneStep.{LaneStep}
-use Rattle.station_lanes.specs.declared.event.Event.{Event}
+use Rattle.message_events.specs.declared.event.Event.{Event}
 use Rattle.station_lanes.specs.Lanes.{Lanes}
 use Rattle.station_lanes.specs.LaneCalls.{stepped_lanes, step_at, outcome_of}
 use Rattle.station_sessions.specs.Receiving.{Inbound, Reception}

@@ -12,8 +12,9 @@ use Rattle.tp_wire.specs.declared.wire.CmFrame.{CmFrame}
 use Rattle.tp_wire.specs.declared.wire.CmFrame.TheVariants.{Rts, Cts, EndOfMsgAck, Bam, Abort, EtpRts, EtpCts, EtpDpo, EtpEoma, EtpAbort}
 use Rattle.tp_wire.specs.declared.wire.Wire.{Wire}
 use Rattle.tp_wire.specs.declared.wire.Wire.TheVariants.{Cm, Packet, Request, Ack}
-use Rattle.lane_core.specs.Heard.{heard, answered}
-use Rattle.lane_core.specs.Steps.{nothing_to_do}
+use Rattle.lane_core.specs.Hear.{heard}
+use Rattle.lane_core.specs.Answer.{answered}
+use Rattle.lane_core.specs.Step.{nothing_to_do}
 use Rattle.session_table.specs.declared.key.Key.{Key}
 use Rattle.session_table.specs.declared.key.SessionKind.{SessionKind}
 use Rattle.session_table.specs.declared.key.SessionKind.TheVariants as session

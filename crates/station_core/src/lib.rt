@@ -12,7 +12,7 @@ mod station;
 mod taking;
 mod timers;
 
+pub use message_events::{Event, Events, EventsIntoIter, EventsIter};
 pub use refused::{Refused, SendingRefused};
 pub use station::Station;
-pub use station_lanes::{Event, Events, EventsIntoIter, EventsIter};
 pub use taking::Taken;

@@ -3,7 +3,7 @@ ghost use Rattle.std.specs.Prelude.{◌≡◌, IfOk, OnOk, OnErr};
 ghost use Rattle.station_core.specs.Overruns.{overrun, HasNoneUnderWay};
 
 use crate::station::Station;
-use station_lanes::Events;
+use message_events::Events;
 use std::alloc::AllocError;
 
 impl Station {

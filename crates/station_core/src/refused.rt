@@ -3,7 +3,8 @@ ghost use Rattle.std.specs.Prelude.{◌≡◌};
 ghost use Rattle.station_core.specs.Refusals.{by_lane as by_lane_of, by_ports as by_ports_of};
 ghost use Rattle.station_core.specs.declared.refused.Refused.TheVariants.{OutOfMemory};
 
-use lane_core::{Bytes, PumpRefused};
+use lane_core::PumpRefused;
+use message_events::Bytes;
 use std::alloc::AllocError;
 use thiserror::Error;
 

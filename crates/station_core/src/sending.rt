@@ -12,9 +12,9 @@ ghost use Rattle.station_core.specs.Refusals.{IsAnswered, message_refusal as mes
 
 use crate::refused::{Refused, SendingRefused, by_lane};
 use crate::station::Station;
-use lane_core::{Bytes, PushRefused, longest_to};
+use lane_core::{PushRefused, longest_to};
+use message_events::{Bytes, Events};
 use pgn_ids::{Address, Pgn};
-use station_lanes::Events;
 use tp_wire::constants::MIN_SIZE;
 
 /// How many frames a pump queues at most.

@@ -3,7 +3,7 @@ ghost use Rattle.std.specs.Prelude.{◌≡◌, ◌≤◌, ◌<◌, ◌+◌, ◌+
 ghost use Rattle.std.specs.Result.{result_err};
 ghost use Rattle.pgn_ids.specs.Address.{is_one};
 ghost use Rattle.tx_queue.specs.Queue.{queue_limit, free_places, front, behind};
-ghost use Rattle.lane_core.specs.Steps.{option_frames};
+ghost use Rattle.lane_core.specs.Step.{option_frames};
 ghost use Rattle.port_table.specs.Ports.{next_id, is_open, is_paused, with_port, with_paused};
 ghost use Rattle.station_core.specs.Station.{new_station};
 ghost use Rattle.station_core.specs.Refusals.{IsAnswered, making_refusal, opening_refusal, pausing_refusal, resuming_refusal};

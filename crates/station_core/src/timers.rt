@@ -6,7 +6,7 @@ ghost use Rattle.station_core.specs.Timers.{is_due as is_due_station, fired};
 
 use crate::refused::Refused;
 use crate::station::{Station, enqueue_option};
-use station_lanes::Events;
+use message_events::Events;
 use station_sessions::Told;
 
 impl Station {

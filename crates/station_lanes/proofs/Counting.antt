@@ -2,7 +2,7 @@
 use Rattle.std.proofs.Common.{◌≡◌, ◌≢◌, ℕ, zero, suc, ◌+◌, ◌<◌, ◌≤◌, ◌==◌, Bool, true, false, [], ◌++◌, Option, Some, None, refl, sym, ap, ◌∙◌, subst, arith, add-one}
 use Rattle.std.proofs.lemmas.Bool.{eqb-true, eqb-false}
 use Rattle.pgn_ids.specs.declared.address.Address.{Address}
-use Rattle.lane_core.specs.Endings.{overrun}
+use Rattle.lane_core.specs.Overrun.{overrun}
 use Rattle.station_lanes.specs.Lanes.{Lanes}
 use Rattle.station_lanes.specs.LaneCalls.{stepped_lanes, step_at, outcome_of}
 use Rattle.station_lanes.specs.LaneReaders.{found_or, least_below, NonePasses, overrun_lanes, overrun_events}

@@ -23,13 +23,17 @@ use Rattle.originator.specs.Readers.{link_of}
 use Rattle.originator.specs.Endings.{expired, cancelled as cancelled_link}
 use Rattle.originator.specs.declared.states.OutState.TheVariants.{AwaitCts}
 use Rattle.lane_core.specs.declared.message.Pending.{Pending}
-use Rattle.lane_core.specs.Pump.{begins, idle_pumped, after_packet, front_bytes, pumped, pumped_by, most_requests, probes, probe_fired, fired, fired_by}
+use Rattle.lane_core.specs.Pump.{begins, idle_pumped, after_packet, front_bytes, pumped, pumped_by}
+use Rattle.lane_core.specs.Probe.{most_requests, probes, is_token, other_token}
+use Rattle.lane_core.specs.Fire.{probe_fired, fired, fired_by}
 use Rattle.lane_core.specs.declared.step.LaneStep.{LaneStep}
-use Rattle.lane_core.specs.Steps.{option_frames, says}
+use Rattle.lane_core.specs.Step.{option_frames, says}
 use Rattle.lane_core.specs.Lane.{Lane, link_for, with_under_way}
-use Rattle.lane_core.specs.Token.{is_token, other_token}
-use Rattle.lane_core.specs.Endings.{over, connection_over, after_step, withdrawn, is_front, cancelled, cancelled_by, queues_abort, queues_abort_by, overrun, overrun_by}
-use Rattle.lane_core.specs.Heard.{heard, heard_by, connection_heard, answered, answered_by}
+use Rattle.lane_core.specs.Endings.{over, connection_over, after_step}
+use Rattle.lane_core.specs.Cancel.{withdrawn, is_front, cancelled, cancelled_by, queues_abort, queues_abort_by}
+use Rattle.lane_core.specs.Overrun.{overrun, overrun_by}
+use Rattle.lane_core.specs.Hear.{heard, heard_by, connection_heard}
+use Rattle.lane_core.specs.Answer.{answered, answered_by}
 use Rattle.station_lanes.specs.Lanes.{Lanes}
 
 -- a lane that was taken out is put back changed

@@ -3,7 +3,6 @@ pub mod LaneLaws
 pub mod Counting
 pub mod Told
 pub mod Overruns
-pub mod EventPlaces
 pub mod Dues
 pub mod Resting
 pub mod Marked

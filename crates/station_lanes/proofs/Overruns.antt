@@ -9,7 +9,7 @@ use Rattle.std.specs.FinMap.{get-insert}
 use Rattle.lane_core.specs.declared.place.UnderWay.{UnderWay}
 use Rattle.lane_core.specs.declared.place.UnderWay.TheVariants.{Nothing, Broadcast, Connection}
 use Rattle.lane_core.specs.Lane.{Lane}
-use Rattle.lane_core.specs.Endings.{overrun, overrun_by}
+use Rattle.lane_core.specs.Overrun.{overrun, overrun_by}
 use Rattle.station_lanes.specs.Lanes.{Lanes}
 use Rattle.station_lanes.specs.LaneReaders.{is_connection, has_connection_to, HasNoConnection, overrun_lanes}
 

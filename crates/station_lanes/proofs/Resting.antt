@@ -10,7 +10,8 @@ use Rattle.lane_core.specs.declared.place.UnderWay.TheVariants.{Nothing, Broadca
 use Rattle.lane_core.specs.declared.probe.Standing.{Standing}
 use Rattle.lane_core.specs.declared.probe.Standing.TheVariants.{Settled, InDoubt, Probing}
 use Rattle.lane_core.specs.Lane.{Lane}
-use Rattle.lane_core.specs.Pump.{refusal_by, ready_by, due_by, timed_by, pump_refusal, is_ready, is_lane_due, is_timed}
+use Rattle.lane_core.specs.Pump.{refusal_by, ready_by, pump_refusal, is_ready}
+use Rattle.lane_core.specs.Fire.{due_by, timed_by, is_lane_due, is_timed}
 use Rattle.lane_core.specs.declared.refused.PumpRefused.{PumpRefused}
 use Rattle.lane_core.specs.declared.refused.PumpRefused.TheVariants.{NothingToSend}
 use Rattle.station_lanes.specs.Lanes.{Lanes}

@@ -13,9 +13,10 @@ use Rattle.lane_core.specs.declared.place.UnderWay.{UnderWay}
 use Rattle.lane_core.specs.declared.place.UnderWay.TheVariants.{Nothing, Broadcast, Connection}
 use Rattle.lane_core.specs.declared.step.LaneStep.{LaneStep}
 use Rattle.lane_core.specs.Lane.{Lane}
-use Rattle.lane_core.specs.Steps.{nothing_to_do}
-use Rattle.lane_core.specs.Endings.{front_ended, overrun, overrun_by}
-use Rattle.station_lanes.specs.declared.event.Event.{Event}
+use Rattle.lane_core.specs.Step.{nothing_to_do}
+use Rattle.lane_core.specs.Endings.{front_ended}
+use Rattle.lane_core.specs.Overrun.{overrun, overrun_by}
+use Rattle.message_events.specs.declared.event.Event.{Event}
 use Rattle.station_lanes.specs.Lanes.{Lanes}
 use Rattle.station_lanes.specs.LaneCalls.{step_at, outcome_of}
 use Rattle.station_lanes.specs.LaneReaders.{count_below, is_waiting_at, overrun_lanes, overrun_events}

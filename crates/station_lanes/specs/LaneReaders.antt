@@ -2,13 +2,15 @@
 use Rattle.std.specs.Prelude.{◌≡◌, ℕ, zero, suc, Bool, true, false, if◌then◌else◌, ◌+◌, ◌^◌, ◌<◌, ◌≤◌, nat_lt, length, List, [], ◌++◌, Option, Some, None, is_none}
 use Rattle.std.specs.FinMap as map
 use Rattle.pgn_ids.specs.declared.address.Address.{Address}
-use Rattle.lane_core.specs.Pump.{is_lane_due, missing, pump_refusal, is_ready, is_timed}
-use Rattle.lane_core.specs.Endings.{overrun, numbered, queues_abort}
+use Rattle.lane_core.specs.Fire.{is_lane_due, is_timed}
+use Rattle.lane_core.specs.Pump.{missing, pump_refusal, is_ready}
+use Rattle.lane_core.specs.Overrun.{overrun}
+use Rattle.lane_core.specs.Cancel.{numbered, queues_abort}
 use Rattle.lane_core.specs.declared.place.UnderWay.{UnderWay}
 use Rattle.lane_core.specs.declared.place.UnderWay.TheVariants.{Connection}
 use Rattle.lane_core.specs.declared.refused.PumpRefused.{PumpRefused}
 use Rattle.lane_core.specs.declared.refused.PumpRefused.TheVariants.{NothingToSend}
-use Rattle.station_lanes.specs.declared.event.Event.{Event}
+use Rattle.message_events.specs.declared.event.Event.{Event}
 use Rattle.station_lanes.specs.Lanes.{Lanes}
 use Rattle.station_lanes.specs.LaneCalls.{stepped_lanes, step_at, outcome_of}
 

@@ -4,7 +4,8 @@ use Rattle.std.specs.FinMap as map
 use Rattle.pgn_ids.specs.Address.{is_one, global_address}
 use Rattle.address_set.specs.Sets.{has}
 use Rattle.lane_core.specs.Lane.{Lane}
-use Rattle.lane_core.specs.Pump.{is_ready, is_timed}
+use Rattle.lane_core.specs.Pump.{is_ready}
+use Rattle.lane_core.specs.Fire.{is_timed}
 use Rattle.station_lanes.specs.Lanes.{Lanes}
 use Rattle.station_lanes.specs.declared.lanes.Lanes.TheInside.{Inside}
 

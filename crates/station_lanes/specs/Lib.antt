@@ -1,4 +1,3 @@
-pub mod EventFields
 pub mod Lanes
 pub mod LaneSlots
 pub mod LaneCalls

@@ -2,8 +2,8 @@
 use Rattle.std.specs.Prelude.{ℕ, List, map}
 use Rattle.pgn_ids.specs.declared.address.Address.{Address}
 use Rattle.station_sessions.specs.declared.copies.Message.{Message}
-use Rattle.station_lanes.specs.declared.event.Event.{Event}
-use Rattle.station_lanes.specs.declared.event.Event.TheVariants.{Given}
+use Rattle.message_events.specs.declared.event.Event.{Event}
+use Rattle.message_events.specs.declared.event.Event.TheVariants.{Given}
 
 -- at one port of a station
 abbrev pub given_at : Address → (number : ℕ) → Message → Event

@@ -19,7 +19,7 @@ use Rattle.session_table.specs.declared.incoming.Incoming.{Incoming}
 use Rattle.session_table.specs.declared.incoming.Incoming.TheVariants.{Broadcast, Connection}
 use Rattle.session_table.specs.Incoming.{pgn_of}
 use Rattle.session_table.specs.Sessions.{Sessions, state_at, IsHeld}
-use Rattle.station_lanes.specs.declared.event.Event.{Event}
+use Rattle.message_events.specs.declared.event.Event.{Event}
 use Rattle.station_sessions.specs.declared.copies.Message.{Message}
 use Rattle.station_sessions.specs.Given.{given_to}
 use Rattle.station_sessions.specs.Steps.{flow_of, broadcast_message, connection_message, given_answer, refused_answer, completes, size_of, closing_frame}

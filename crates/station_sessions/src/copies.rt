@@ -2,10 +2,9 @@
 ghost use Rattle.std.specs.Prelude.{◌≡◌, ◌≤◌, ◌-◌, [], length, All, IfOk, vec_capacity};
 ghost use Rattle.station_sessions.specs.Given.{given_at, given_to};
 
-use lane_core::Bytes;
+use message_events::{Bytes, Event, Events};
 use pgn_ids::{Address, Pgn};
 use port_table::{PortId, PortSet};
-use station_lanes::{Event, Events};
 use std::alloc::{AllocError, Global};
 use std::marker::Model;
 

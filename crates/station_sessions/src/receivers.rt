@@ -1,9 +1,9 @@
 //! The incoming sessions of a station.
-ghost use Rattle.std.specs.Prelude.{◌≡◌, ◌≤◌, ◌<◌, ◌-◌, Bool, Some, None, [], length, All, IfOk, IfErr, OnOk, OnErr, true};
+ghost use Rattle.std.specs.Prelude.{◌≡◌, ◌<◌, ◌-◌, Bool, Some, None, [], IfOk, IfErr, OnOk, OnErr, true};
 ghost use Rattle.std.specs.Bool.{OnTrue, OnFalse};
 ghost use Rattle.std.specs.FinMap as map;
 ghost use Rattle.port_table.specs.Ports.{Ports};
-ghost use Rattle.session_table.specs.Sessions.{IsHeld, state_at};
+ghost use Rattle.session_table.specs.Sessions.{state_at};
 ghost use Rattle.session_table.specs.DueOrder.{first_due};
 ghost use Rattle.session_table.specs.declared.TheConstants.{MAX_SESSIONS};
 ghost use Rattle.station_sessions.specs.Steps.{completes as completes_at, size_of, closing_frame};
@@ -13,11 +13,11 @@ mod due;
 
 use crate::steps::{self, Table, quiet};
 use bus_frame::Frame;
+use message_events::Events;
 use pgn_ids::WirePgn;
 use port_table::{PortSet, PortTable};
 use responder::Flow;
 use session_table::{InPlace, Incoming, Key, OpenRefused, SessionTable};
-use station_lanes::Events;
 use std::alloc::{AllocError, Global};
 use std::marker::Model;
 use tp_wire::Wire;

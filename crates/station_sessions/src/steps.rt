@@ -1,7 +1,7 @@
 //! The step of an incoming session whose key is held: it is put back, or has ended.
-ghost use Rattle.std.specs.Prelude.{◌≡◌, ◌≤◌, ◌-◌, true, length, All, Some, IfOk, OnOk, OnErr, [], None};
+ghost use Rattle.std.specs.Prelude.{◌≡◌, ◌-◌, true, length, All, Some, IfOk, OnOk, OnErr, [], None};
 ghost use Rattle.std.specs.FinMap as map;
-ghost use Rattle.bam_session.specs.Receiving.{stepped as bam_stepped, completes as bam_completes};
+ghost use Rattle.bam_session.specs.Receiving.{stepped as bam_stepped};
 ghost use Rattle.responder.specs.Readers.{unfinished_of};
 ghost use Rattle.responder.specs.Room.{IsPrepared, prepared};
 ghost use Rattle.responder.specs.Steps.{completes as completes_at};
@@ -19,12 +19,11 @@ use crate::copies::{Copies, Message, give};
 use crate::receivers::{Told, flow};
 use bam_session::{BamIn, BamStepped};
 use bus_frame::Frame;
-use lane_core::Bytes;
+use message_events::{Bytes, Events};
 use pgn_ids::{Address, Pgn};
 use port_table::{PortSet, PortTable};
 use responder::{Finished, Flow, InState, Received};
 use session_table::{Held, Incoming, SessionTable};
-use station_lanes::Events;
 use std::alloc::{AllocError, Global};
 use tp_wire::Wire;
 

@@ -1,11 +1,11 @@
 //! Messages to all from 21, received at the ports 35.1 and 35.2. Where memory is refused, a test ends by it.
 use bam_session::BamIn;
 use bus_frame::Frame;
+use message_events::{Event, Events};
 use pgn_ids::{Address, Pgn, WirePgn};
 use port_table::{PortSet, PortTable};
 use seg_cut::{Join, packets};
 use session_table::{Incoming, Key, MAX_SESSIONS, SessionKind};
-use station_lanes::{Event, Events};
 use station_sessions::*;
 use std::alloc::{AllocError, Global};
 use std::process::Abort;

@@ -1,6 +1,6 @@
 //! Station 35 takes frames of node 80, and station 21 sends. Where memory is refused once, the call is made again.
 use bus_frame::{CanId, Frame};
-use lane_core::Bytes;
+use message_events::Bytes;
 use pgn_ids::{Address, Pgn};
 use station_core::*;
 use std::alloc::{AllocError, Global};

@@ -1,6 +1,6 @@
 //! Calls of which a test only looks at the answer: their contracts are not carried through it. Want of memory is the error of each, and no
 //! answer, so that it ends the test.
-use lane_core::Bytes;
+use message_events::Bytes;
 use pgn_ids::{Address, Pgn};
 use segment_rings::{Client, SubmitRefused};
 use std::alloc::AllocError;

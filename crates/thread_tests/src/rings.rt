@@ -1,6 +1,6 @@
 //! Both ends of each ring on one thread: each call on its happy path, full and empty rings, and places that are free again.
 use crate::calls::*;
-use lane_core::Bytes;
+use message_events::Bytes;
 use pgn_ids::Address;
 use port_table::PortId;
 use segment_law::Refusal;

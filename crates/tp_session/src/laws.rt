@@ -1,15 +1,8 @@
 //! The law of a receiver of TP. It speaks of the definitions alone, and a call of it does nothing.
 ghost use Rattle.std.specs.Prelude.{ℕ, ◌≡◌, Bool};
-ghost use Rattle.tp_wire.specs.declared.wire.Kind.TheVariants.{Tp};
 ghost use Rattle.tp_wire.specs.declared.wire.Wire.{Wire};
-ghost use Rattle.seg_cut.specs.Join.{Join};
-ghost use Rattle.tp_wire.specs.Sizes.{IsSizeOf};
-ghost use Rattle.responder.specs.Peer.{Peer};
-ghost use Rattle.responder.specs.Unfinished.{begun};
-ghost use Rattle.responder.specs.Asking.{asking};
 ghost use Rattle.responder.specs.Steps.{stepped, expired};
 ghost use Rattle.responder.specs.Room.{IsPrepared, IsPreparedToExpire, prepared, prepared_to_expire};
-ghost use Rattle.responder.specs.Window.{most_of};
 ghost use Rattle.responder.specs.declared.flow.Flow.{Flow};
 ghost use Rattle.responder.specs.declared.in_state.InState.{InState};
 ghost use Rattle.tp_session.specs.Rows.{IsTp, tp_stepped, GoesOnAsTp};

@@ -1,5 +1,5 @@
 //! The next timer of a table.
-ghost use Rattle.std.specs.Prelude.{◌≡◌, false, is_some};
+ghost use Rattle.std.specs.Prelude.{false, is_some};
 ghost use Rattle.std.specs.Option.{option_map_or};
 ghost use Rattle.tick_timers.specs.Due.{IsDueFrom};
 ghost use Rattle.tick_timers.specs.Timers.{is_due};

@@ -1,4 +1,4 @@
-use Rattle.std.proofs.Common.{rules, ◌≡◌, ◌≢◌, ◌<◌, ◌==◌, ℕ, ap, ◌∙◌, sym}
+use Rattle.std.proofs.Common.{◌==◌, ap, ◌∙◌, sym}
 use Rattle.std.specs.Int.{w128}
 use Rattle.std.proofs.lemmas.Nat.Bits.{bit_at_set_same, bit_at_set_other, bit_at_clear_same, bit_at_clear_other}
 use Rattle.address_set.proofs.set.with_bit.Goals as goal

@@ -18,8 +18,10 @@ loop-preserved c =
     let to = c.in-Some.to.0 in
     let test = is_due_at c.args.self.now in
     let some = c.in-Some.ensures.some in
-    let before : IsDueFrom (λ now. is_some (least_below (test now) to)) c.loop.tick = λ now within. ap is_some (none_due c.args.self.now now c.loop.from to some.0 some.1) ∙ c.loop.invariant.2 now within in
-    (omega (arith, some.0, c.from-from.ensures), omega (arith, c.from-from.ensures),
-     subst (λ n. IsDueFrom (λ now. is_some (least_below (test now) (n + 1))) c.earlier-tick.result) (sym c.from-from.ensures)
-     (subst (IsDueFrom (λ now. is_some (least_below (test now) (to + 1)))) (sym c.earlier-tick.ensures)
-     (due_next test to c.loop.tick c.due_at.result before c.due_at.ensures)))
+    let before : IsDueFrom (λ now. is_some (least_below (test now) to)) c.loop.tick = λ now within. ap is_some (none_due c.args.self.now now c.loop.from to some.0 some.1) ∙ c.loop.invariant.2 now within in (
+      omega (arith, some.0, c.from-from.ensures),
+      omega (arith, c.from-from.ensures),
+      subst (λ n. IsDueFrom (λ now. is_some (least_below (test now) (n + 1))) c.earlier-tick.result) (sym c.from-from.ensures)
+          (subst (IsDueFrom (λ now. is_some (least_below (test now) (to + 1)))) (sym c.earlier-tick.ensures)
+          (due_next test to c.loop.tick c.due_at.result before c.due_at.ensures)),
+    )

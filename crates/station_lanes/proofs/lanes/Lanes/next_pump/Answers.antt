@@ -20,6 +20,8 @@ pub loop-preserved : goal.loop-preserved
 loop-preserved c =
     let to = c.in-Some.to.0 in
     let test = is_pumping c.args.self.now c.args.now in
-    let some = c.in-Some.ensures.some in
-    (omega (arith, some.0, c.from-from.ensures), omega (arith, c.from-from.ensures),
-     subst (λ n. least_below test (n + 1) ≡ None) (sym c.from-from.ensures) (none_below test to (none_pumped c.args.self.now c.args.now c.loop.from to some.0 some.1 ∙ c.loop.invariant.2) (ap is_none (sym c.pump_refusal.ensures) ∙ ap not c.is_none.ensures ∙ ap (λ b. not (not b)) c.if-is_none.false)))
+    let some = c.in-Some.ensures.some in (
+      omega (arith, some.0, c.from-from.ensures),
+      omega (arith, c.from-from.ensures),
+      subst (λ n. least_below test (n + 1) ≡ None) (sym c.from-from.ensures) (none_below test to (none_pumped c.args.self.now c.args.now c.loop.from to some.0 some.1 ∙ c.loop.invariant.2) (ap is_none (sym c.pump_refusal.ensures) ∙ ap not c.is_none.ensures ∙ ap (λ b. not (not b)) c.if-is_none.false)),
+    )

@@ -1,4 +1,4 @@
-use Rattle.lane_core.specs.Pump.{is_timed}
+use Rattle.lane_core.specs.Fire.{is_timed}
 use Rattle.station_lanes.proofs.Marked.{unmarked}
 use Rattle.station_lanes.proofs.lanes.Lanes.next_timed.Goals as goal
 

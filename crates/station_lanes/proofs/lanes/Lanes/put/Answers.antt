@@ -3,7 +3,8 @@ use Rattle.std.proofs.Math.ListN.{set}
 use Rattle.std.proofs.lemmas.List.{length-set}
 use Rattle.pgn_ids.specs.Address.{is_one, global_address}
 use Rattle.lane_core.specs.Lane.{Lane}
-use Rattle.lane_core.specs.Pump.{is_ready, is_timed}
+use Rattle.lane_core.specs.Pump.{is_ready}
+use Rattle.lane_core.specs.Fire.{is_timed}
 use Rattle.station_lanes.specs.LaneSlots.{slot_at}
 use Rattle.station_lanes.proofs.SlotLaws.{put_is, in_place_after}
 use Rattle.station_lanes.proofs.Marked.{Marks, marked_put, nodes_put, place_of}

@@ -16,7 +16,7 @@ pub struct EventsIter<'a> {
 
 impl<'a> Model for EventsIter<'a> {
     ghost use Rattle.std.specs.Prelude.{List, ◌++◌, option_to_list, option_copied};
-    ghost use Rattle.station_lanes.specs.declared.event.Event.{Event};
+    ghost use Rattle.message_events.specs.declared.event.Event.{Event};
 
     ghost Value = { List Event };
 
@@ -52,7 +52,7 @@ pub struct EventsIntoIter {
 impl Model for EventsIntoIter {
     ghost use Rattle.std.specs.Prelude.{List, ◌++◌, option_to_list};
     ghost use Rattle.std.specs.Vec.Iter.{into_iter_items};
-    ghost use Rattle.station_lanes.specs.declared.event.Event.{Event};
+    ghost use Rattle.message_events.specs.declared.event.Event.{Event};
 
     ghost Value = { List Event };
 

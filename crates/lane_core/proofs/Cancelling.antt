@@ -4,8 +4,8 @@ use Rattle.std.proofs.lemmas.Bool.{ltb-false}
 use Rattle.std.proofs.lemmas.List.{take_all, drop_all}
 use Rattle.std.specs.List.{position_or_len, remove}
 use Rattle.lane_core.specs.declared.message.Pending.{Pending}
-use Rattle.lane_core.specs.Endings.{without_number, place_of}
-use Rattle.lane_core.specs.Shape.{AreCarried}
+use Rattle.lane_core.specs.Cancel.{without_number, place_of}
+use Rattle.lane_core.specs.LaneFields.{AreCarried}
 
 -- by whether the front message has the number
 carried_unless : (b : Bool) (to : ℕ) (messages without : List Pending) (m : Pending) → AreCarried to (m ∷ messages) → AreCarried to without → AreCarried to (cond b messages (m ∷ without))

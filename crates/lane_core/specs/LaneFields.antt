@@ -10,7 +10,7 @@ use Rattle.lane_core.specs.declared.place.UnderWay.TheVariants.{Nothing, Broadca
 use Rattle.lane_core.specs.declared.probe.Standing.{Standing}
 use Rattle.lane_core.specs.declared.probe.Standing.TheVariants.{Settled, Probing}
 use Rattle.lane_core.specs.Lane.{Lane, lane_limit, longest_to, link_for}
-use Rattle.lane_core.specs.Pump.{most_requests}
+use Rattle.lane_core.specs.Probe.{most_requests}
 
 abbrev pub lane_value : Inside → Lane
 lane_value l = record { from = l.from.0; to = l.to.0; sent = l.sent; pending = l.pending.items; under_way = l.place; standing = l.standing; token = l.token }

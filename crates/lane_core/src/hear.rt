@@ -1,14 +1,10 @@
 //! Frames of the destination.
 ghost use Rattle.std.specs.Prelude.{◌≡◌};
 ghost use Rattle.originator.specs.Readers.{link_of, KeepsLink};
-ghost use Rattle.lane_core.specs.Endings.{overrun as overrun_lane};
-ghost use Rattle.lane_core.specs.Token.{other_token};
-ghost use Rattle.lane_core.specs.declared.probe.Standing.TheVariants.{Settled};
-ghost use Rattle.lane_core.specs.Heard.{heard as heard_lane, answered as answered_lane, connection_heard, abort_heard};
+ghost use Rattle.lane_core.specs.Hear.{heard as heard_lane, connection_heard, abort_heard};
 
 use crate::lane::Lane;
 use crate::place::UnderWay;
-use crate::probe::Standing;
 use crate::step::LaneStep;
 use originator::{OutState, Stepped};
 use pgn_ids::WirePgn;
@@ -27,7 +23,7 @@ fn hear_abort(state: OutState, kind: Kind, reason: u8, pgn: WirePgn) -> Stepped
 }
 
 /// An abort, else what the sender's own step does.
-fn hear(state: OutState, wire: &Wire, now: u64) -> Stepped
+fn hear_frame(state: OutState, wire: &Wire, now: u64) -> Stepped
     ensures value { result ≡ connection_heard state wire.now now }
     ensures link { KeepsLink (link_of state) result }
 {
@@ -46,47 +42,13 @@ impl Lane {
         ensures step { result ≡ (heard_lane self.old wire.now now).1 }
     {
         match self.take_under_way() {
-            UnderWay::Connection(state) => match hear(state, wire, now) {
+            UnderWay::Connection(state) => match hear_frame(state, wire, now) {
                 Stepped::On(state) => {
                     self.put_under_way(UnderWay::Connection(state));
                     LaneStep::none()
                 }
                 Stepped::Over(over) => self.connection_over(over),
             },
-            other => {
-                self.put_under_way(other);
-                LaneStep::none()
-            }
-        }
-    }
-
-    /// Takes an Acknowledgement of the destination: where a Request is on its way and the PGN field names its token, the
-    /// lane is settled, and the next round has the other token.
-    pub fn answer(&mut self, pgn: WirePgn)
-        ensures { self.new ≡ answered_lane self.old pgn }
-    {
-        if let Standing::Probing { .. } = self.standing {
-            if self.token.is_named(pgn) {
-                self.settle();
-            }
-        }
-    }
-
-    // What was asked for was answered.
-    fn settle(&mut self)
-        ensures { self.new ≡ record self.old { standing = Settled; token = other_token self.old.token } }
-    {
-        self.standing = Standing::Settled;
-        self.token = self.token.other();
-    }
-
-    /// The station missed frames: a connection under way ends, and nothing is queued. A broadcast and a Request go on.
-    pub fn overrun(&mut self) -> LaneStep
-        ensures lane { self.new ≡ (overrun_lane self.old).0 }
-        ensures step { result ≡ (overrun_lane self.old).1 }
-    {
-        match self.take_under_way() {
-            UnderWay::Connection(state) => self.connection_over(state.overrun()),
             other => {
                 self.put_under_way(other);
                 LaneStep::none()

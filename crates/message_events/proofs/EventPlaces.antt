@@ -1,7 +1,7 @@
 -- The events of a call by their places: the first stands apart, the others behind it.
 use Rattle.std.proofs.Common.{◌≡◌, ℕ, zero, suc, ◌-◌, List, [], ◌++◌, drop, Option, Some, None, refl, sym, ap, ◌∙◌, arith}
 use Rattle.std.specs.Prelude.{slice_get, option_to_list}
-use Rattle.station_lanes.specs.declared.event.Event.{Event}
+use Rattle.message_events.specs.declared.event.Event.{Event}
 
 -- the first
 pub first_is : (first : Option Event) (rest : List Event) → (first ≡ None → rest ≡ []) → slice_get (option_to_list first ++ rest) 0 ≡ first

@@ -1,0 +1,9 @@
+//! Messages as they are handed over: the bytes of one, and what a station tells of messages, that one is given at a port or has
+//! its outcome (SAE J1939-21; ISO 11783-3).
+#![tactic(auto)]
+
+mod bytes;
+mod event;
+
+pub use bytes::Bytes;
+pub use event::{Event, Events, EventsIntoIter, EventsIter};
