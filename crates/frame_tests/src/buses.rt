@@ -53,51 +53,112 @@ fn frame_of(number: u64) -> Result<Frame, Fail> {
     Ok(Frame::new(id, &number.to_le_bytes())?)
 }
 
+// The next frame of a cursor is that of this place, and is taken; or there is none.
+fn takes(rt: &impl Abort, log: &mut BusLog, cursor: usize, place: Option<u64>) -> Result<(), Fail> {
+    let expected = match place {
+        Some(place) => Some(frame_of(place)?),
+        None => None,
+    };
+    assert!(rt; next(rt, log, cursor) == expected);
+    Ok(())
+}
+
+// The frame that was taken last is that of this place, or isn't to be had again.
+fn repeats(rt: &impl Abort, log: &BusLog, place: Option<u64>) -> Result<(), Fail> {
+    let expected = match place {
+        Some(place) => Some(frame_of(place)?),
+        None => None,
+    };
+    assert!(rt; again(rt, log, 0) == expected);
+    Ok(())
+}
+
+// The frame at a place, where it is kept.
+fn keeps(rt: &impl Abort, log: &BusLog, place: u64, is_kept: bool) -> Result<(), Fail> {
+    let expected = match is_kept {
+        true => Some(frame_of(place)?),
+        false => None,
+    };
+    assert!(rt; frame(log, place) == expected);
+    Ok(())
+}
+
+fn puts(
+    rt: &impl Abort,
+    log: &mut BusLog,
+    place: u64,
+    answer: Result<(), PutError>,
+) -> Result<(), Fail> {
+    assert!(rt; put(log, frame_of(place)?) == answer);
+    Ok(())
+}
+
+fn skips(rt: &impl Abort, log: &mut BusLog, frames: u64, done: bool) -> Result<(), Fail> {
+    assert!(rt; skip(rt, log, 0, frames) == done);
+    Ok(())
+}
+
+// A test's steps are a function of their own, which owns nothing: where a step can end a test, what the test owns is dropped there, and each
+// such place takes its part of the proof.
+fn fill(rt: &impl Abort, log: &mut BusLog) -> Result<(), Fail> {
+    for place in 1..=4096u64 {
+        puts(rt, log, place, Ok(()))?;
+    }
+    puts(rt, log, 4097, Err(PutError::BusFull))
+}
+
+fn take_by_both(rt: &impl Abort, log: &mut BusLog, place: u64) -> Result<(), Fail> {
+    for cursor in 0..2usize {
+        takes(rt, log, cursor, Some(place))?;
+        release(log);
+    }
+    Ok(())
+}
+
+fn keep_from_the_lowest_cursor_on(rt: &impl Abort, log: &mut BusLog) -> Result<(), Fail> {
+    fill(rt, log)?;
+    // The frame at the lowest cursor is kept, so that one frame taken by each station makes no room.
+    take_by_both(rt, log, 1)?;
+    puts(rt, log, 4097, Err(PutError::BusFull))?;
+    take_by_both(rt, log, 2)?;
+    puts(rt, log, 4097, Ok(()))?;
+    assert_eq!(rt; log.len(), 4097);
+    keeps(rt, log, 1, false)?;
+    keeps(rt, log, 2, true)?;
+    keeps(rt, log, 4097, true)?;
+    keeps(rt, log, 4098, false)
+}
+
 #[test]
 fn frames_are_kept_from_the_lowest_cursor_on(rt: HostRuntime) -> Result<(), Fail> {
     let mut log = new_log(rt.alloc(), 2)?;
-    assert_eq!(rt; log.stations(), 2);
-    assert!(rt; log.is_empty());
-    for place in 1..=4096u64 {
-        assert_eq!(rt; put(&mut log, frame_of(place)?), Ok(()));
+    assert!(rt; log.stations() == 2 && log.is_empty());
+    keep_from_the_lowest_cursor_on(&rt, &mut log)
+}
+
+fn take_repeat_and_pass_over(rt: &impl Abort, log: &mut BusLog) -> Result<(), Fail> {
+    for place in 1..=5u64 {
+        puts(rt, log, place, Ok(()))?;
     }
-    assert_eq!(rt; put(&mut log, frame_of(4097)?), Err(PutError::BusFull));
-    // The frame at the lowest cursor is kept, so that one frame taken by each station makes no room.
-    for (place, want) in [(1u64, Err(PutError::BusFull)), (2, Ok(()))] {
-        for cursor in 0..2usize {
-            assert_eq!(rt; next(&rt, &mut log, cursor), Some(frame_of(place)?));
-            release(&mut log);
-        }
-        assert_eq!(rt; put(&mut log, frame_of(4097)?), want);
-    }
-    assert_eq!(rt; log.len(), 4097);
-    assert_eq!(rt; frame(&log, 1), None);
-    assert_eq!(rt; frame(&log, 2), Some(frame_of(2)?));
-    assert_eq!(rt; frame(&log, 4097), Some(frame_of(4097)?));
-    assert_eq!(rt; frame(&log, 4098), None);
-    Ok(())
+    repeats(rt, log, None)?;
+    takes(rt, log, 0, Some(1))?;
+    release(log);
+    repeats(rt, log, Some(1))?;
+    assert!(rt; waiting(rt, log, 0) == 4);
+    skips(rt, log, 5, false)?;
+    skips(rt, log, 2, true)?;
+    release(log);
+    repeats(rt, log, None)?;
+    keeps(rt, log, 3, true)?;
+    takes(rt, log, 0, Some(4))?;
+    skips(rt, log, 0, true)?;
+    repeats(rt, log, None)?;
+    takes(rt, log, 0, Some(5))?;
+    takes(rt, log, 0, None)
 }
 
 #[test]
 fn a_station_takes_repeats_and_passes_over(rt: HostRuntime) -> Result<(), Fail> {
     let mut log = new_log(rt.alloc(), 1)?;
-    for place in 1..=5u64 {
-        assert_eq!(rt; put(&mut log, frame_of(place)?), Ok(()));
-    }
-    assert_eq!(rt; again(&rt, &log, 0), None);
-    assert_eq!(rt; next(&rt, &mut log, 0), Some(frame_of(1)?));
-    release(&mut log);
-    assert_eq!(rt; again(&rt, &log, 0), Some(frame_of(1)?));
-    assert_eq!(rt; waiting(&rt, &log, 0), 4);
-    assert!(rt; !skip(&rt, &mut log, 0, 5));
-    assert!(rt; skip(&rt, &mut log, 0, 2));
-    release(&mut log);
-    assert_eq!(rt; again(&rt, &log, 0), None);
-    assert_eq!(rt; frame(&log, 3), Some(frame_of(3)?));
-    assert_eq!(rt; next(&rt, &mut log, 0), Some(frame_of(4)?));
-    assert!(rt; skip(&rt, &mut log, 0, 0));
-    assert_eq!(rt; again(&rt, &log, 0), None);
-    assert_eq!(rt; next(&rt, &mut log, 0), Some(frame_of(5)?));
-    assert_eq!(rt; next(&rt, &mut log, 0), None);
-    Ok(())
+    take_repeat_and_pass_over(&rt, &mut log)
 }

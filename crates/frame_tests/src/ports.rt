@@ -55,30 +55,65 @@ fn resume(table: &mut PortTable, number: u64) -> Result<(), Refused> {
     table.resume(number)
 }
 
+// A test's steps are a function of their own, which owns nothing: where a step can end a test, what the test owns is dropped there, and each
+// such place takes its part of the proof.
+fn find_several(rt: &impl Abort, table: &mut PortTable, pgn: Pgn) -> Result<(), Fail> {
+    for (number, max_len) in [(1, 4000), (2, 8), (3, 4000)] {
+        opens(rt, table, pgn, max_len, Ok(number));
+    }
+    assert!(rt; table.station() == STATION && table.len() == 3);
+    shows(rt, &find(table, pgn, 8), &[1, 2, 3]);
+    shows(rt, &find(table, pgn, 4001), &[]);
+    shows(rt, &find(table, Pgn::new(0xFECB)?, 9), &[]);
+    Ok(())
+}
+
+fn close_one_of_several(rt: &impl Abort, table: &mut PortTable, pgn: Pgn) {
+    let both = find(table, pgn, 9);
+    shows(rt, &both, &[1, 3]);
+    assert!(rt; close(table, 1) == Ok(()));
+    assert!(rt; close(table, 1) == Err(Refused::NoSuchPort));
+    assert!(rt; !table.is_open(1) && table.get(1).is_none());
+    shows(rt, &both.without(1), &[3]);
+    shows(rt, &find(table, pgn, 9), &[3]);
+    opens(rt, table, pgn, 9, Ok(4));
+    shows(rt, &find(table, pgn, 9), &[3, 4]);
+}
+
 #[test]
 fn several_ports_of_one_pgn(rt: HostRuntime) -> Result<(), Fail> {
     let pgn = Pgn::new(0xFECA)?;
     let mut table = new_table(rt.alloc())?;
     assert!(rt; table.is_empty());
-    for (number, max_len) in [(1, 4000), (2, 8), (3, 4000)] {
-        opens(&rt, &mut table, pgn, max_len, Ok(number));
-    }
-    assert_eq!(rt; table.station(), STATION);
-    assert_eq!(rt; table.len(), 3);
-    let both = find(&table, pgn, 9);
-    shows(&rt, &both, &[1, 3]);
-    shows(&rt, &find(&table, pgn, 8), &[1, 2, 3]);
-    shows(&rt, &find(&table, pgn, 4001), &[]);
-    shows(&rt, &find(&table, Pgn::new(0xFECB)?, 9), &[]);
-    assert_eq!(rt; close(&mut table, 1), Ok(()));
-    assert_eq!(rt; close(&mut table, 1), Err(Refused::NoSuchPort));
-    assert!(rt; !table.is_open(1));
-    assert_eq!(rt; table.get(1), None);
-    shows(&rt, &both.without(1), &[3]);
-    shows(&rt, &find(&table, pgn, 9), &[3]);
-    opens(&rt, &mut table, pgn, 9, Ok(4));
-    shows(&rt, &find(&table, pgn, 9), &[3, 4]);
+    find_several(&rt, &mut table, pgn)?;
+    close_one_of_several(&rt, &mut table, pgn);
     Ok(())
+}
+
+fn pause_port(rt: &impl Abort, table: &mut PortTable, pgn: Pgn) {
+    let set = find(table, pgn, 1785);
+    assert!(rt; resume(table, 1) == Err(Refused::PortNotPaused));
+    assert!(rt; pause(table, 1) == Ok(()));
+    assert!(rt; pause(table, 1) == Err(Refused::PortPaused));
+    let port = Port {
+        number: 1,
+        pgn,
+        max_len: 1785,
+        paused: true,
+    };
+    assert!(rt; table.get(1) == Some(port));
+    assert!(rt; table.is_paused(1));
+    assert!(rt; table.any_paused(&set) && !table.any_paused(&PortSet::empty()));
+    shows(rt, &find(table, pgn, 1785), &[1]);
+}
+
+fn resume_port(rt: &impl Abort, table: &mut PortTable, pgn: Pgn) {
+    let set = find(table, pgn, 1785);
+    assert!(rt; resume(table, 1) == Ok(()));
+    assert!(rt; !table.any_paused(&set));
+    assert!(rt; close(table, 1) == Ok(()));
+    assert!(rt; pause(table, 1) == Err(Refused::NoSuchPort));
+    assert!(rt; resume(table, 1) == Err(Refused::NoSuchPort));
 }
 
 #[test]
@@ -86,26 +121,8 @@ fn a_paused_port_is_found_and_holds(rt: HostRuntime) -> Result<(), Fail> {
     let pgn = Pgn::new(0xFECA)?;
     let mut table = new_table(rt.alloc())?;
     opens(&rt, &mut table, pgn, 1785, Ok(1));
-    let set = find(&table, pgn, 1785);
-    assert_eq!(rt; resume(&mut table, 1), Err(Refused::PortNotPaused));
-    assert_eq!(rt; pause(&mut table, 1), Ok(()));
-    assert_eq!(rt; pause(&mut table, 1), Err(Refused::PortPaused));
-    let port = Port {
-        number: 1,
-        pgn,
-        max_len: 1785,
-        paused: true,
-    };
-    assert_eq!(rt; table.get(1), Some(port));
-    assert!(rt; table.is_paused(1));
-    assert!(rt; table.any_paused(&set));
-    assert!(rt; !table.any_paused(&PortSet::empty()));
-    shows(&rt, &find(&table, pgn, 1785), &[1]);
-    assert_eq!(rt; resume(&mut table, 1), Ok(()));
-    assert!(rt; !table.any_paused(&set));
-    assert_eq!(rt; close(&mut table, 1), Ok(()));
-    assert_eq!(rt; pause(&mut table, 1), Err(Refused::NoSuchPort));
-    assert_eq!(rt; resume(&mut table, 1), Err(Refused::NoSuchPort));
+    pause_port(&rt, &mut table, pgn);
+    resume_port(&rt, &mut table, pgn);
     Ok(())
 }
 

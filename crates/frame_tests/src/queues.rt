@@ -1,5 +1,6 @@
 use bus_frame::{CanId, Frame};
 use std::alloc::{AllocError, Global};
+use std::process::Abort;
 use std::test::Fail;
 use tx_queue::*;
 
@@ -29,23 +30,32 @@ fn frame_of(number: u8) -> Result<Frame, Fail> {
     Ok(Frame::new(id, &[number])?)
 }
 
+// A test's steps are a function of their own, which owns nothing: where a step can end a test, what the test owns is dropped there, and each
+// such place takes its part of the proof.
+fn fill(rt: &impl Abort, queue: &mut TxQueue) -> Result<(), Fail> {
+    assert!(rt; queue.is_empty() && queue.free() == 64);
+    assert!(rt; pop(queue).is_none());
+    for number in 0..64u8 {
+        assert!(rt; push(queue, frame_of(number)?).is_ok());
+    }
+    assert!(rt; queue.len() == 64 && queue.free() == 0);
+    assert!(rt; push(queue, frame_of(64)?) == Err(TxFull));
+    Ok(())
+}
+
+fn empty(rt: &impl Abort, queue: &mut TxQueue) -> Result<(), Fail> {
+    for number in 0..64u8 {
+        let expected = Some(frame_of(number)?);
+        assert!(rt; front(queue) == expected);
+        assert!(rt; pop(queue) == expected);
+    }
+    assert!(rt; front(queue).is_none() && queue.is_empty());
+    Ok(())
+}
+
 #[test]
 fn sixty_four_frames_leave_in_order(rt: HostRuntime) -> Result<(), Fail> {
     let mut queue = new_queue(rt.alloc())?;
-    assert!(rt; queue.is_empty());
-    assert_eq!(rt; queue.free(), 64);
-    assert_eq!(rt; pop(&mut queue), None);
-    for number in 0..64u8 {
-        assert!(rt; push(&mut queue, frame_of(number)?).is_ok());
-    }
-    assert_eq!(rt; queue.len(), 64);
-    assert_eq!(rt; queue.free(), 0);
-    assert_eq!(rt; push(&mut queue, frame_of(64)?), Err(TxFull));
-    for number in 0..64u8 {
-        assert_eq!(rt; front(&queue), Some(frame_of(number)?));
-        assert_eq!(rt; pop(&mut queue), Some(frame_of(number)?));
-    }
-    assert_eq!(rt; front(&queue), None);
-    assert!(rt; queue.is_empty());
-    Ok(())
+    fill(&rt, &mut queue)?;
+    empty(&rt, &mut queue)
 }

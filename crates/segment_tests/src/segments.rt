@@ -161,25 +161,54 @@ fn shows(
     Ok(())
 }
 
-#[test]
-fn broadcast_by_single_calls(rt: HostRuntime) -> Result<(), Fail> {
-    let alloc = rt.alloc();
-    let mut segment = with_message(&rt, alloc, Address::GLOBAL)?;
-    one_frame(&rt, alloc, &mut segment, "", "")?;
-    one_frame(&rt, alloc, &mut segment, "", "")?;
+// A test's steps are a function of their own, which owns nothing: where a step can end a test, what the test owns is dropped there, and each
+// such place takes its part of the proof.
+fn three_frames(rt: &impl Abort, alloc: Global, segment: &mut Segment) -> Result<(), Fail> {
+    one_frame(rt, alloc, segment, "", "")?;
+    one_frame(rt, alloc, segment, "", "")?;
     one_frame(
-        &rt,
+        rt,
         alloc,
-        &mut segment,
+        segment,
         "outcome 255 1 Broadcast;",
         "given 1 33 255 [1, 2, 3, 4, 5, 6, 7, 8, 9];",
-    )?;
-    shows(&rt, &segment, 1, BROADCAST[0])?;
-    shows(&rt, &segment, 2, BROADCAST[1])?;
-    shows(&rt, &segment, 3, BROADCAST[2])?;
-    assert_eq!(rt; segment.now(), 150);
-    assert_eq!(rt; segment.waiting(A), 3);
-    assert_eq!(rt; segment.bus_len(), 3);
+    )
+}
+
+fn show_broadcast(rt: &impl Abort, segment: &Segment) -> Result<(), Fail> {
+    shows(rt, segment, 1, BROADCAST[0])?;
+    shows(rt, segment, 2, BROADCAST[1])?;
+    shows(rt, segment, 3, BROADCAST[2])?;
+    assert!(rt; segment.now() == 150 && segment.waiting(A) == 3 && segment.bus_len() == 3);
+    Ok(())
+}
+
+#[test]
+fn broadcast_by_single_calls(rt: HostRuntime) -> Result<(), Fail> {
+    let mut segment = with_message(&rt, rt.alloc(), Address::GLOBAL)?;
+    three_frames(&rt, rt.alloc(), &mut segment)?;
+    show_broadcast(&rt, &segment)
+}
+
+fn are_frames(rt: &impl Abort, frames: &[Frame], expected: &[(u32, [u8; 8])]) -> Result<(), Fail> {
+    assert!(rt; frames.len() == expected.len());
+    for (frame, shown) in frames.iter().zip(expected) {
+        assert!(rt; *frame == frame_of(*shown)?);
+    }
+    Ok(())
+}
+
+fn print_parts(alloc: Global, text: &mut String, driven: &Driven) -> Result<(), Fail> {
+    for part in driven.events.parts() {
+        text.push_str(printed(alloc, part)?.as_str())?;
+    }
+    Ok(())
+}
+
+fn are_told(rt: &impl Abort, alloc: Global, driven: &Driven, told: &str) -> Result<(), Fail> {
+    let mut text = String::new(alloc);
+    print_parts(alloc, &mut text, driven)?;
+    assert!(rt; text.as_str() == told);
     Ok(())
 }
 
@@ -187,21 +216,13 @@ fn broadcast_by_single_calls(rt: HostRuntime) -> Result<(), Fail> {
 fn drove(
     rt: &impl Abort,
     alloc: Global,
-    driven: Driven,
+    driven: &Driven,
     frames: &[(u32, [u8; 8])],
     told: &str,
 ) -> Result<(), Fail> {
-    assert_eq!(rt; driven.turns, frames.len() as u64);
-    assert_eq!(rt; driven.frames.as_slice().len(), frames.len());
-    for (frame, shown) in driven.frames.as_slice().iter().zip(frames) {
-        assert_eq!(rt; *frame, frame_of(*shown)?);
-    }
-    let mut text = String::new(alloc);
-    for part in driven.events.parts() {
-        text.push_str(printed(alloc, part)?.as_str())?;
-    }
-    assert_eq!(rt; text.as_str(), told);
-    Ok(())
+    assert!(rt; driven.turns == frames.len() as u64);
+    are_frames(rt, driven.frames.as_slice(), frames)?;
+    are_told(rt, alloc, driven, told)
 }
 
 #[test]
@@ -211,7 +232,7 @@ fn driven_broadcast(rt: HostRuntime) -> Result<(), Fail> {
     let driven = driven(&mut segment, A, Address::GLOBAL, 3)?;
     assert_eq!(rt; driven.end, DriveEnd::Turns);
     let told = "outcome 255 1 Broadcast;given 1 33 255 [1, 2, 3, 4, 5, 6, 7, 8, 9];";
-    drove(&rt, alloc, driven, &BROADCAST, told)?;
+    drove(&rt, alloc, &driven, &BROADCAST, told)?;
     assert!(rt; is_idle(&segment));
     Ok(())
 }
@@ -223,7 +244,7 @@ fn driven_connection(rt: HostRuntime) -> Result<(), Fail> {
     let driven = driven(&mut segment, A, B, 9)?;
     assert_eq!(rt; driven.end, DriveEnd::Idle);
     let told = "given 1 33 53 [1, 2, 3, 4, 5, 6, 7, 8, 9];outcome 53 1 Acknowledged;";
-    drove(&rt, alloc, driven, &CONNECTION, told)?;
+    drove(&rt, alloc, &driven, &CONNECTION, told)?;
     assert_eq!(rt; segment.counts().acknowledged, 1);
     Ok(())
 }
@@ -237,29 +258,32 @@ fn refuses(rt: &impl Abort, segment: &mut Segment, call: Call, cause: Refusal) -
     Ok(())
 }
 
-#[test]
-fn refusals(rt: HostRuntime) -> Result<(), Fail> {
-    let alloc = rt.alloc();
-    assert!(rt; Segment::new(alloc, &[A, A]).is_err());
-    let mut segment = with_port(&rt, alloc)?;
-    refuses(&rt, &mut segment, PUMP, Refusal::NothingToSend)?;
-    refuses(&rt, &mut segment, TRANSMIT_A, Refusal::NothingToSend)?;
-    refuses(&rt, &mut segment, TAKE_B, Refusal::NothingToTake)?;
+fn refuse(rt: &impl Abort, segment: &mut Segment) -> Result<(), Fail> {
+    refuses(rt, segment, PUMP, Refusal::NothingToSend)?;
+    refuses(rt, segment, TRANSMIT_A, Refusal::NothingToSend)?;
+    refuses(rt, segment, TAKE_B, Refusal::NothingToTake)?;
     let again = Call::TakeAgain {
         station: B,
         room: true,
     };
-    refuses(&rt, &mut segment, again, Refusal::NothingToRepeat)?;
+    refuses(rt, segment, again, Refusal::NothingToRepeat)?;
     let missed = Call::Overrun { station: B, n: 1 };
-    refuses(&rt, &mut segment, missed, Refusal::NothingToTake)?;
+    refuses(rt, segment, missed, Refusal::NothingToTake)?;
     let fire = Call::Fire { station: A };
-    refuses(&rt, &mut segment, fire, Refusal::NothingDue)?;
+    refuses(rt, segment, fire, Refusal::NothingDue)?;
     let resume = Call::Resume { port: PORT };
-    refuses(&rt, &mut segment, resume, Refusal::PortNotPaused)?;
+    refuses(rt, segment, resume, Refusal::PortNotPaused)?;
     let own = Call::Inject {
         frame: frame_of(CONNECTION[0])?,
     };
-    refuses(&rt, &mut segment, own, Refusal::StationAddress)
+    refuses(rt, segment, own, Refusal::StationAddress)
+}
+
+#[test]
+fn refusals(rt: HostRuntime) -> Result<(), Fail> {
+    assert!(rt; Segment::new(rt.alloc(), &[A, A]).is_err());
+    let mut segment = with_port(&rt, rt.alloc())?;
+    refuse(&rt, &mut segment)
 }
 
 #[test]

@@ -129,6 +129,26 @@ fn end_next(table: &mut SessionTable<u8>, now: u64) -> Option<Key> {
     Some(key)
 }
 
+// A test's steps are a function of their own, which owns nothing: where a step can end a test, what the test owns is dropped there, and each
+// such place takes its part of the proof.
+fn keys_rise(rt: &impl Abort, table: &SessionTable<u8>, keys: &[Key; 4]) {
+    let mut low = None;
+    for next in keys {
+        low = next_key(table, low);
+        assert!(rt; low == Some(*next));
+    }
+    assert!(rt; next_key(table, low).is_none());
+}
+
+fn end_in_order(rt: &impl Abort, table: &mut SessionTable<u8>, keys: &[Key; 4]) {
+    assert!(rt; next_due(table, 749).is_none());
+    assert!(rt; next_due(table, 750) == Some(keys[0]));
+    for next in keys {
+        assert!(rt; end_next(table, 1250) == Some(*next));
+    }
+    assert!(rt; next_due(table, 1250).is_none());
+}
+
 #[test]
 fn due_keys_rise(rt: HostRuntime) -> Result<(), Fail> {
     let mut table = new_table(rt.alloc());
@@ -141,18 +161,8 @@ fn due_keys_rise(rt: HostRuntime) -> Result<(), Fail> {
     for opened in [keys[3], keys[1], keys[2], keys[0]] {
         open(&rt, rt.alloc(), &mut table, opened)?;
     }
-    let mut low = None;
-    for next in keys {
-        low = next_key(&table, low);
-        assert_eq!(rt; low, Some(next));
-    }
-    assert_eq!(rt; next_key(&table, low), None);
-    assert_eq!(rt; next_due(&table, 749), None);
-    assert_eq!(rt; next_due(&table, 750), Some(keys[0]));
-    for next in keys {
-        assert_eq!(rt; end_next(&mut table, 1250), Some(next));
-    }
-    assert_eq!(rt; next_due(&table, 1250), None);
+    keys_rise(&rt, &table, &keys);
+    end_in_order(&rt, &mut table, &keys);
     assert!(rt; table.is_empty());
     Ok(())
 }

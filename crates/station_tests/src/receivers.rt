@@ -96,36 +96,100 @@ fn abort(sessions: &mut Receivers, pgn: u32) -> Result<(), Fail> {
     Ok(())
 }
 
+// What the step tells: no frame, and no message.
+fn tells_nothing(
+    rt: &impl Abort,
+    sessions: &mut Receivers,
+    ports: &PortTable,
+    wire: &Wire,
+) -> Result<(), Fail> {
+    let told = receive(sessions, ports, wire)?;
+    assert!(rt; told.frame.is_none() && told.events.is_empty());
+    Ok(())
+}
+
+// The step gives the nine bytes at these ports, and queues nothing.
+fn gives(
+    rt: &impl Abort,
+    alloc: Global,
+    sessions: &mut Receivers,
+    ports: &PortTable,
+    wire: &Wire,
+    numbers: &[u64],
+) -> Result<(), Fail> {
+    let told = receive(sessions, ports, wire)?;
+    assert!(rt; told.frame.is_none());
+    assert!(rt; given(alloc, told.events)?.as_slice() == numbers);
+    Ok(())
+}
+
+fn ends(rt: &impl Abort, sessions: &mut Receivers, number: u64) -> Result<(), Fail> {
+    assert!(rt; unbind(sessions, number).is_none());
+    Ok(())
+}
+
+fn is_due_as(
+    rt: &impl Abort,
+    sessions: &Receivers,
+    now: u64,
+    key: Option<Key>,
+) -> Result<(), Fail> {
+    assert!(rt; next_due(sessions, now) == key);
+    Ok(())
+}
+
+fn are_wanted(rt: &impl Abort, sessions: &Receivers, wire: &Wire) -> Result<(), Fail> {
+    let (set, size) = wants(sessions, wire);
+    assert!(rt; set.len() == 2 && size == 9);
+    Ok(())
+}
+
+// A test's steps are a function of their own, which owns nothing: where a step can end a test, what the test owns is dropped there, and each
+// such place takes its part of the proof.
+fn both_ports(
+    rt: &impl Abort,
+    alloc: Global,
+    sessions: &mut Receivers,
+    ports: &PortTable,
+) -> Result<(), Fail> {
+    assert_eq!(rt; sessions.others(KEY), 0);
+    tells_nothing(rt, sessions, ports, &FIRST)?;
+    are_wanted(rt, sessions, &LAST)?;
+    gives(rt, alloc, sessions, ports, &LAST, &[1, 2])?;
+    tells_nothing(rt, sessions, ports, &LAST)
+}
+
 #[test]
 fn given_at_both_ports_once(rt: HostRuntime) -> Result<(), Fail> {
     let ports = two_ports(rt.alloc())?;
     let mut sessions = announce(&rt, rt.alloc(), &ports)?;
-    assert_eq!(rt; sessions.others(KEY), 0);
-    let told = receive(&mut sessions, &ports, &FIRST)?;
-    assert!(rt; told.frame.is_none() && told.events.is_empty());
-    let (set, size) = wants(&sessions, &LAST);
-    assert!(rt; set.len() == 2 && size == 9);
-    let told = receive(&mut sessions, &ports, &LAST)?;
-    assert!(rt; told.frame.is_none());
-    assert!(rt; given(rt.alloc(), told.events)?.as_slice() == [1, 2].as_slice());
-    let repeated = receive(&mut sessions, &ports, &LAST)?;
-    assert!(rt; repeated.events.is_empty());
-    Ok(())
+    both_ports(&rt, rt.alloc(), &mut sessions, &ports)
+}
+
+fn second_port(
+    rt: &impl Abort,
+    alloc: Global,
+    sessions: &mut Receivers,
+    ports: &PortTable,
+) -> Result<(), Fail> {
+    ends(rt, sessions, 1)?;
+    tells_nothing(rt, sessions, ports, &FIRST)?;
+    gives(rt, alloc, sessions, ports, &LAST, &[2])
+}
+
+fn no_port(rt: &impl Abort, sessions: &mut Receivers) -> Result<(), Fail> {
+    ends(rt, sessions, 1)?;
+    ends(rt, sessions, 2)?;
+    is_due_as(rt, sessions, u64::MAX, None)
 }
 
 #[test]
 fn its_ports_close(rt: HostRuntime) -> Result<(), Fail> {
     let ports = two_ports(rt.alloc())?;
     let mut sessions = announce(&rt, rt.alloc(), &ports)?;
-    assert!(rt; unbind(&mut sessions, 1).is_none());
-    let told = receive(&mut sessions, &ports, &FIRST)?;
-    assert!(rt; told.events.is_empty());
-    let told = receive(&mut sessions, &ports, &LAST)?;
-    assert!(rt; given(rt.alloc(), told.events)?.as_slice() == [2].as_slice());
-    let mut sessions = announce(&rt, rt.alloc(), &ports)?;
-    assert!(rt; unbind(&mut sessions, 1).is_none() && unbind(&mut sessions, 2).is_none());
-    assert!(rt; next_due(&sessions, u64::MAX).is_none());
-    Ok(())
+    second_port(&rt, rt.alloc(), &mut sessions, &ports)?;
+    sessions = announce(&rt, rt.alloc(), &ports)?;
+    no_port(&rt, &mut sessions)
 }
 
 #[test]

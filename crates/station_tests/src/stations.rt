@@ -206,6 +206,7 @@ fn refusals(station: &Station, len: usize) -> [Option<Refused>; 9] {
 // The frame in front leaves, and is this one.
 fn pops(rt: &impl Abort, station: &mut Station, shown: &(u32, [u8; 8])) -> Result<(), Fail> {
     let frame = Frame::full(CanId::new(shown.0)?, shown.1);
+    assert!(rt; station.front() == Some(frame));
     assert!(rt; station.pop() == Some(frame));
     Ok(())
 }
@@ -226,27 +227,35 @@ const NO_RESOURCES: (u32, [u8; 8]) = (
     [0xFF, 0x02, 0xFF, 0xFF, 0xFF, 0xCA, 0xFE, 0x00],
 );
 
-#[test]
-fn a_message_is_given(rt: HostRuntime) -> Result<(), Fail> {
-    let mut station = with_port(rt.alloc())?;
-    answers(&rt, &mut station, RTS_OF_80, &RTS, &CTS)?;
-    is_silent(&rt, &mut station, PACKET_OF_80, &[1, 1, 2, 3, 4, 5, 6, 7])?;
-    let last = Frame::full(
-        CanId::new(PACKET_OF_80)?,
-        [0x02, 0x08, 0x09, 0xFF, 0xFF, 0xFF, 0xFF, 0xFF],
-    );
-    let (ports, size) = station.wants(&last);
-    assert!(rt; ports.numbers() == [1].as_slice());
-    assert_eq!(rt; size, 9);
-    let events = take(&mut station, &last, true)?;
-    let mut seen = nothing_seen(rt.alloc());
-    see_all(&mut seen, events)?;
-    assert!(rt; seen.given.as_slice() == [(1, 9)].as_slice());
-    let end = Frame::full(
-        CanId::new(0x1CEC_8035)?,
-        [0x13, 0x09, 0x00, 0x02, 0xFF, 0xCA, 0xFE, 0x00],
-    );
-    assert!(rt; station.front() == Some(end));
+// A last packet is said to be one of so many bytes for this port.
+fn wants(
+    rt: &impl Abort,
+    station: &Station,
+    id: u32,
+    bytes: &[u8; 8],
+    given: (u64, usize),
+) -> Result<(), Fail> {
+    let (ports, size) = station.wants(&Frame::full(CanId::new(id)?, *bytes));
+    assert!(rt; ports.numbers() == [given.0].as_slice());
+    assert!(rt; size as usize == given.1);
+    Ok(())
+}
+
+// A last packet gives so many bytes at this port.
+fn gives(
+    rt: &impl Abort,
+    alloc: Global,
+    station: &mut Station,
+    id: u32,
+    bytes: &[u8; 8],
+    given: (u64, usize),
+) -> Result<(), Fail> {
+    let mut seen = nothing_seen(alloc);
+    see_all(
+        &mut seen,
+        take(station, &Frame::full(CanId::new(id)?, *bytes), true)?,
+    )?;
+    assert!(rt; seen.given.as_slice() == [given].as_slice());
     Ok(())
 }
 
@@ -255,6 +264,8 @@ fn a_message_is_given(rt: HostRuntime) -> Result<(), Fail> {
 enum Turn {
     Answers(u32, [u8; 8], (u32, [u8; 8])),
     IsSilent(u32, [u8; 8]),
+    Wants(u32, [u8; 8], (u64, usize)),
+    Gives(u32, [u8; 8], (u64, usize)),
     TakesMalformed(u32, [u8; 8]),
     Overruns,
     Closes(u64),
@@ -266,10 +277,12 @@ enum Turn {
     Pops((u32, [u8; 8])),
 }
 
-fn play(rt: &impl Abort, station: &mut Station, turn: &Turn) -> Result<(), Fail> {
+fn play(rt: &impl Abort, alloc: Global, station: &mut Station, turn: &Turn) -> Result<(), Fail> {
     match turn {
         Turn::Answers(id, bytes, expected) => answers(rt, station, *id, bytes, expected),
         Turn::IsSilent(id, bytes) => is_silent(rt, station, *id, bytes),
+        Turn::Wants(id, bytes, given) => wants(rt, station, *id, bytes, *given),
+        Turn::Gives(id, bytes, given) => gives(rt, alloc, station, *id, bytes, *given),
         Turn::TakesMalformed(id, bytes) => is_malformed(rt, station, *id, bytes),
         Turn::Overruns => overruns(rt, station),
         Turn::Closes(number) => is_as_said(rt, is_closed(station, *number)),
@@ -286,7 +299,7 @@ fn play(rt: &impl Abort, station: &mut Station, turn: &Turn) -> Result<(), Fail>
 fn play_all(rt: &impl Abort, alloc: Global, turns: &[Turn]) -> Result<(), Fail> {
     let mut station = with_port(alloc)?;
     for turn in turns {
-        play(rt, &mut station, turn)?;
+        play(rt, alloc, &mut station, turn)?;
     }
     Ok(())
 }
@@ -295,6 +308,20 @@ const IS_TAKEN: Turn = Turn::Answers(RTS_OF_80, RTS, CTS);
 
 /// A packet out of order, which would abort a session.
 const NO_SESSION: Turn = Turn::IsSilent(PACKET_OF_80, [0x03; 8]);
+
+#[test]
+fn a_message_is_given(rt: HostRuntime) -> Result<(), Fail> {
+    let last = [2, 8, 9, 0xFF, 0xFF, 0xFF, 0xFF, 0xFF];
+    let end = [0x13, 0x09, 0x00, 0x02, 0xFF, 0xCA, 0xFE, 0x00];
+    let turns = [
+        IS_TAKEN,
+        Turn::IsSilent(PACKET_OF_80, [1, 1, 2, 3, 4, 5, 6, 7]),
+        Turn::Wants(PACKET_OF_80, last, (1, 9)),
+        Turn::Gives(PACKET_OF_80, last, (1, 9)),
+        Turn::Pops((0x1CEC_8035, end)),
+    ];
+    play_all(&rt, rt.alloc(), &turns)
+}
 
 #[test]
 fn a_refused_session_replaces_the_older(rt: HostRuntime) -> Result<(), Fail> {
