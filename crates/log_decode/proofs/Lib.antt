@@ -1,0 +1,4 @@
+pub mod AtKey
+pub mod Silences
+pub mod Due
+pub mod Keeping

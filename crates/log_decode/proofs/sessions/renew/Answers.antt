@@ -1,0 +1,8 @@
+use Rattle.std.proofs.Common.{sym, ◌∙◌}
+use Rattle.log_decode.proofs.AtKey.{there, renewed_there}
+use Rattle.log_decode.proofs.sessions.renew.Goals as goal
+
+pub returns-in-Some : goal.returns-in-Some
+returns-in-Some c =
+    let p = sym c.get_index_of.ensures.index ∙ c.in-Some.is in
+    renewed_there c.args.key c.args.now c.in-Some.at c.args.sessions.now.entries c.index_mut.result.now c.renew.new.self p (there c.args.key c.args.sessions.now.entries c.in-Some.at _ p c.index_mut.ensures.value) c.renew.ensures

@@ -1,0 +1,25 @@
+-- What tells messages under way apart: interface, sender, destination and transport.
+use Rattle.std.specs.Prelude.{Bool}
+use Rattle.tp_wire.specs.declared.wire.Kind.{Kind}
+use Rattle.tp_wire.specs.declared.wire.Kind.TheVariants as kinds
+use Rattle.log_decode.specs.declared.key.Transport.{Transport}
+use Rattle.log_decode.specs.declared.key.Transport.TheVariants.{Tp, Etp}
+use Rattle.log_decode.specs.declared.key.Key.{Key}
+use Rattle.log_decode.specs.declared.key.Way.{Way}
+use Rattle.log_decode.specs.contracts.key.KeyPartialEq.TheImpl as derived
+
+abbrev pub transport_of : Kind → Transport
+transport_of kinds.Tp = Tp
+transport_of kinds.Etp = Etp
+
+-- that of a message that goes as a frame does
+abbrev pub key_of : Way → Kind → Key
+key_of way kind = record { iface = way.iface; from = way.from; to = way.to; transport = transport_of kind }
+
+-- that of one that goes the other way
+abbrev pub key_back : Way → Kind → Key
+key_back way kind = record { iface = way.iface; from = way.to; to = way.from; transport = transport_of kind }
+
+-- keys are the same where each of their parts is
+abbrev pub same_key : Key → Key → Bool
+same_key = (derived.eq-value).it

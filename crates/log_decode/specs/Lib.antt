@@ -1,0 +1,6 @@
+pub mod Keys
+pub mod Session
+pub mod Sessions
+pub mod Due
+pub mod View
+pub mod Decoder

@@ -1,0 +1,272 @@
+//! A message under way, as a listener sees it.
+ghost use Rattle.std.specs.Prelude.{◌≡◌, ◌+◌, ◌*◌, ◌≤◌, ℕ, length, true, OnOk, IfOk, IsTrue, Some};
+ghost use Rattle.seg_cut.specs.Join.{wants};
+ghost use Rattle.log_decode.specs.Session.{opened, accepted, renewed, packet_heard, cm_heard, acknowledged, heard, abort_heard, is_silent, patience, given_of, told_of, is_again};
+ghost use Rattle.log_decode.specs.declared.session.Fate.TheVariants.{GoesOn, Lost};
+ghost use Rattle.tick_timers.specs.declared.durations.TheConstants.{T1};
+
+use crate::bytes::Bytes;
+use crate::key::Key;
+use crate::told::{Cause, Told};
+use pgn_ids::{Address, Pgn, WirePgn};
+use seg_cut::Join;
+use std::alloc::{AllocError, Global};
+use tick_timers::{T1, T3};
+use tp_wire::CmFrame;
+
+/// What becomes of a message under way by a frame.
+#[derive(Clone, Copy, Debug, PartialEq, Eq)]
+pub(crate) enum Fate {
+    /// It goes on.
+    GoesOn,
+    /// All of it has come.
+    Given,
+    /// It is lost.
+    Lost(Cause),
+    /// One of its ends aborted it.
+    Aborted { reason: u8, who: Address },
+}
+
+/// A message under way.
+#[derive(Debug, Drop)]
+pub struct Session {
+    /// The PGN field that announced it.
+    pgn: WirePgn,
+    /// What has come of it.
+    join: Join,
+    /// The offset of the last data packet offset, 0 before the first and where there is none.
+    offset: u32,
+    /// When a frame of it was last seen, in microseconds.
+    heard: u64,
+}
+
+/// For how many packets there is room at least, where one more comes.
+const WINDOW: u32 = 64;
+
+/// How many microseconds a tick has.
+const TICK: u64 = 1_000;
+
+impl Session {
+    /// One of which nothing has come. It takes no memory.
+    pub(crate) fn new(alloc: Global, pgn: WirePgn, size: u32, now: u64) -> Session
+        ensures { result ≡ opened pgn size now }
+    {
+        Session {
+            pgn,
+            join: Join::new(alloc, size),
+            offset: 0,
+            heard: now,
+        }
+    }
+
+    /// Whether an announcement of this PGN and size is the one that it began with, seen once more.
+    pub(crate) fn is_again(&self, pgn: WirePgn, size: u32) -> bool
+        ensures { result ≡ is_again self.now pgn size }
+    {
+        self.pgn == pgn && self.join.size() == size && self.join.next() == 1
+    }
+
+    /// Its next packet comes.
+    fn accept(&mut self, bytes: [u8; 7], now: u64) -> Result<(), AllocError>
+        requires { wants self.old.join self.old.join.next ≡ true }
+        ensures { OnOk result (self.new ≡ accepted self.old bytes now) }
+    {
+        let next = self.join.next();
+        if self.join.room() == 0 {
+            self.join.make_room((next - 1).max(WINDOW))?;
+        }
+        let Ok(()) = self.join.put(next, bytes) else {
+            return Err(AllocError);
+        };
+        self.heard = now;
+        Ok(())
+    }
+
+    /// A packet of it comes, or one that looks so.
+    #[tactic(auto, unfolding(crate::specs::Session::packet_heard))]
+    pub(crate) fn hear_packet(
+        &mut self,
+        to: Address,
+        sequence: u8,
+        bytes: [u8; 7],
+        now: u64,
+    ) -> Result<Fate, AllocError>
+        ensures { IfOk result (λ fate. (self.new, fate) ≡ packet_heard to self.old (self.old.offset + sequence) bytes now) }
+    {
+        let next = u64::from(self.join.next());
+        let number = u64::from(self.offset) + u64::from(sequence);
+        if number == next && !self.join.is_complete() {
+            self.accept(bytes, now)?;
+            return Ok(if self.join.is_complete() {
+                Fate::Given
+            } else {
+                Fate::GoesOn
+            });
+        }
+        if number > next && to == Address::GLOBAL {
+            return Ok(Fate::Lost(Cause::Missing));
+        }
+        Ok(self.go_on(now))
+    }
+
+    /// A frame of it is seen.
+    fn go_on(&mut self, now: u64) -> Fate
+        ensures value { result ≡ GoesOn }
+        ensures renewed { self.new ≡ renewed self.old now }
+    {
+        self.heard = now;
+        Fate::GoesOn
+    }
+
+    fn hear_cm(&mut self, frame: &CmFrame, now: u64) -> Fate
+        ensures { (self.new, result) ≡ cm_heard self.old frame.now now }
+    {
+        match frame {
+            CmFrame::Cts { .. } => self.go_on(now),
+            CmFrame::EtpCts { .. } => self.go_on(now),
+            CmFrame::EtpDpo { offset, .. } => {
+                self.offset = *offset;
+                self.go_on(now)
+            }
+            CmFrame::EndOfMsgAck { size, .. } => self.acknowledged(u32::from(*size)),
+            CmFrame::EtpEoma { size, .. } => self.acknowledged(*size),
+            CmFrame::Rts { .. } => Fate::GoesOn,
+            CmFrame::Bam { .. } => Fate::GoesOn,
+            CmFrame::Abort { .. } => Fate::GoesOn,
+            CmFrame::EtpRts { .. } => Fate::GoesOn,
+            CmFrame::EtpAbort { .. } => Fate::GoesOn,
+        }
+    }
+
+    /// Its receiver acknowledges a message of this size, and not all packets of it were seen.
+    fn acknowledged(&self, size: u32) -> Fate
+        ensures { result ≡ acknowledged self.now size }
+    {
+        if size == self.join.size() {
+            Fate::Lost(Cause::Acknowledged)
+        } else {
+            Fate::GoesOn
+        }
+    }
+
+    /// A connection management frame of one of its ends comes that is neither an announcement nor an abort. One of another PGN changes
+    /// nothing.
+    pub(crate) fn hear(&mut self, frame: &CmFrame, now: u64) -> Fate
+        ensures { (self.new, result) ≡ heard self.old frame.now now }
+    {
+        if frame.pgn().clean() != self.pgn.clean() {
+            return Fate::GoesOn;
+        }
+        self.hear_cm(frame, now)
+    }
+
+    /// One of its ends aborts a message of a PGN.
+    pub(crate) fn hear_abort(&self, who: Address, reason: u8, pgn: WirePgn) -> Fate
+        ensures { result ≡ abort_heard self.now who reason pgn }
+    {
+        if pgn.clean() == self.pgn.clean() {
+            Fate::Aborted { reason, who }
+        } else {
+            Fate::GoesOn
+        }
+    }
+
+    /// A frame of it comes that says nothing new.
+    pub(crate) fn renew(&mut self, now: u64)
+        ensures { self.new ≡ renewed self.old now }
+    {
+        self.heard = now;
+    }
+
+    /// Whether no frame of it was seen for so long that both of its ends have given it up.
+    pub(crate) fn is_silent(&self, to: Address, now: u64) -> bool
+        ensures { result ≡ is_silent to self.now now }
+    {
+        now.saturating_sub(self.heard) >= patience(to)
+    }
+
+    /// A time before which it isn't silent, if no frame of it is seen.
+    pub(crate) fn due(&self, to: Address) -> u64
+        ensures { result ≤ self.now.heard + patience to }
+    {
+        self.heard.saturating_add(patience(to))
+    }
+
+    /// What tells that it is lost.
+    pub(crate) fn lost(&self, key: Key, cause: Cause) -> Told
+        ensures { Some result ≡ told_of key self.now (Lost cause) }
+    {
+        Told::Lost {
+            key,
+            pgn: self.pgn.clean(),
+            have: bytes_seen(&self.join),
+            size: self.join.size(),
+            cause,
+        }
+    }
+
+    /// What its fate tells; nothing where it goes on.
+    pub(crate) fn into_told(self, key: Key, fate: Fate) -> Option<Told>
+        ensures { result ≡ told_of key self fate }
+    {
+        match fate {
+            Fate::GoesOn => None,
+            Fate::Given => {
+                let Session {
+                    pgn,
+                    join,
+                    offset: _,
+                    heard: _,
+                } = self;
+                given(key, pgn.clean(), join)
+            }
+            Fate::Lost(cause) => Some(self.lost(key, cause)),
+            Fate::Aborted { reason, who } => Some(Told::Aborted {
+                key,
+                pgn: self.pgn.clean(),
+                reason,
+                who,
+            }),
+        }
+    }
+}
+
+/// A time so long after this one as no message of which a frame is seen at this one is silent.
+pub(crate) fn soonest(now: u64) -> u64
+    ensures { result ≤ now + T1 * 1000 }
+{
+    now.saturating_add(T1 * TICK)
+}
+
+/// How long the ends of a message wait for a frame at most, in microseconds.
+fn patience(to: Address) -> u64
+    ensures { result ≡ patience to }
+{
+    if to == Address::GLOBAL {
+        T1 * TICK
+    } else {
+        T3 * TICK
+    }
+}
+
+/// How many bytes have come.
+fn bytes_seen(join: &Join) -> u32
+    ensures { result ≡ length join.now.bytes }
+{
+    let packets = u64::from(join.next() - 1);
+    (7 * packets).min(u64::from(join.size())) as u32
+}
+
+/// A message of which all has come.
+fn given(key: Key, pgn: Pgn, join: Join) -> Option<Told>
+    ensures { result ≡ given_of key pgn join }
+{
+    match join.finish() {
+        Ok(bytes) => Some(Told::Given {
+            key,
+            pgn,
+            bytes: Bytes::new(bytes),
+        }),
+        Err(_) => None,
+    }
+}

@@ -1,0 +1,184 @@
+//! The messages under way, in the order in which they were announced.
+ghost use Rattle.std.specs.Prelude.{◌≡◌, ◌++◌, OnOk, option_to_list};
+ghost use Rattle.log_decode.specs.Sessions.{settled, packet_taken, cm_taken, abort_taken, renewed_at, is_again_at, opened_at, announced, ended};
+
+use crate::key::Key;
+use crate::session::{Fate, Session};
+use crate::told::{Cause, Told};
+use indexmap::IndexMap;
+use pgn_ids::{Address, WirePgn};
+use std::alloc::{AllocError, Global};
+use tp_wire::CmFrame;
+
+/// The messages under way, in the order in which they were announced.
+pub(crate) type Sessions = IndexMap<Key, Session>;
+
+/// Puts what is told, where something is, behind what was told before.
+pub(crate) fn tell(told: &mut Vec<Told>, one: Option<Told>) -> Result<(), AllocError>
+    ensures { OnOk result (told.new.items ≡ told.old.items ++ option_to_list one) }
+{
+    if let Some(one) = one {
+        told.push(one)?;
+    }
+    Ok(())
+}
+
+/// A message under way meets its fate, if it isn't to go on.
+fn settle(
+    sessions: &mut Sessions,
+    key: Key,
+    fate: Fate,
+    told: &mut Vec<Told>,
+) -> Result<(), AllocError>
+    ensures { OnOk result ((sessions.new.entries, told.new.items) ≡ settled key fate (sessions.old.entries, told.old.items)) }
+{
+    if let Fate::GoesOn = fate {
+        return Ok(());
+    }
+    let Some(session) = sessions.shift_remove(&key) else {
+        return Ok(());
+    };
+    tell(told, session.into_told(key, fate))
+}
+
+/// A packet comes.
+pub(crate) fn take_packet(
+    sessions: &mut Sessions,
+    key: Key,
+    sequence: u8,
+    bytes: [u8; 7],
+    now: u64,
+    told: &mut Vec<Told>,
+) -> Result<(), AllocError>
+    ensures { OnOk result ((sessions.new.entries, told.new.items) ≡ packet_taken key sequence bytes now (sessions.old.entries, told.old.items)) }
+{
+    let Some(at) = sessions.get_index_of(&key) else {
+        return Ok(());
+    };
+    let fate = sessions[at].hear_packet(key.to, sequence, bytes, now)?;
+    settle(sessions, key, fate, told)
+}
+
+/// A connection management frame comes that is neither an announcement nor an abort.
+pub(crate) fn take_cm(
+    sessions: &mut Sessions,
+    key: Key,
+    frame: &CmFrame,
+    now: u64,
+    told: &mut Vec<Told>,
+) -> Result<(), AllocError>
+    ensures { OnOk result ((sessions.new.entries, told.new.items) ≡ cm_taken key frame.now now (sessions.old.entries, told.old.items)) }
+{
+    let Some(at) = sessions.get_index_of(&key) else {
+        return Ok(());
+    };
+    let fate = sessions[at].hear(frame, now);
+    settle(sessions, key, fate, told)
+}
+
+/// An abort of a message of a PGN comes.
+pub(crate) fn take_abort(
+    sessions: &mut Sessions,
+    key: Key,
+    who: Address,
+    reason: u8,
+    pgn: WirePgn,
+    told: &mut Vec<Told>,
+) -> Result<(), AllocError>
+    ensures { OnOk result ((sessions.new.entries, told.new.items) ≡ abort_taken key who reason pgn (sessions.old.entries, told.old.items)) }
+{
+    let Some(session) = sessions.get(&key) else {
+        return Ok(());
+    };
+    let fate = session.hear_abort(who, reason, pgn);
+    settle(sessions, key, fate, told)
+}
+
+/// Whether the announcement is that of the message under way, of which nothing has come yet.
+fn is_again(sessions: &Sessions, key: Key, pgn: WirePgn, size: u32) -> bool
+    ensures { result ≡ is_again_at key pgn size sessions.now.entries }
+{
+    match sessions.get(&key) {
+        None => false,
+        Some(session) => session.is_again(pgn, size),
+    }
+}
+
+/// A frame comes that says nothing new.
+fn renew(sessions: &mut Sessions, key: Key, now: u64)
+    ensures { sessions.new.entries ≡ renewed_at key now sessions.old.entries }
+{
+    if let Some(at) = sessions.get_index_of(&key) {
+        sessions[at].renew(now);
+    }
+}
+
+/// A message as it is announced: its PGN field and its size in bytes, and whether a transport carries such a one.
+#[derive(Clone, Copy, Debug, PartialEq, Eq)]
+pub(crate) struct News {
+    pub(crate) pgn: WirePgn,
+    pub(crate) size: u32,
+    pub(crate) is_sound: bool,
+}
+
+/// A message begins, unless no transport carries it or it is longer than `most` bytes.
+fn begin(
+    alloc: Global,
+    sessions: &mut Sessions,
+    key: Key,
+    news: News,
+    most: u32,
+    now: u64,
+    told: &mut Vec<Told>,
+) -> Result<(), AllocError>
+    ensures { OnOk result ((sessions.new.entries, told.new.items) ≡ opened_at key news most now (sessions.old.entries, told.old.items)) }
+{
+    if !news.is_sound {
+        return Ok(());
+    }
+    if news.size > most {
+        told.push(Told::Lost {
+            key,
+            pgn: news.pgn.clean(),
+            have: 0,
+            size: news.size,
+            cause: Cause::TooLong,
+        })?;
+        return Ok(());
+    }
+    sessions.insert(key, Session::new(alloc, news.pgn, news.size, now))?;
+    Ok(())
+}
+
+/// A message is announced.
+pub(crate) fn announce(
+    alloc: Global,
+    sessions: &mut Sessions,
+    key: Key,
+    news: News,
+    most: u32,
+    now: u64,
+    told: &mut Vec<Told>,
+) -> Result<(), AllocError>
+    ensures { OnOk result ((sessions.new.entries, told.new.items) ≡ announced key news most now (sessions.old.entries, told.old.items)) }
+{
+    if is_again(sessions, key, news.pgn, news.size) {
+        renew(sessions, key, now);
+        return Ok(());
+    }
+    settle(sessions, key, Fate::Lost(Cause::Replaced), told)?;
+    begin(alloc, sessions, key, news, most, now, told)
+}
+
+/// Each message that is still under way is lost.
+pub(crate) fn end_all(sessions: &Sessions, told: &mut Vec<Told>) -> Result<(), AllocError>
+    ensures { OnOk result (told.new.items ≡ told.old.items ++ ended sessions.now.entries) }
+{
+    for at in 0..sessions.len() {
+        let Some((key, session)) = sessions.get_index(at) else {
+            return Ok(());
+        };
+        told.push(session.lost(*key, Cause::EndOfLog))?;
+    }
+    Ok(())
+}

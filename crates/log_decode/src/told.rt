@@ -1,0 +1,47 @@
+//! What a listener is told.
+use crate::bytes::Bytes;
+use crate::key::Key;
+use pgn_ids::{Address, Pgn};
+
+/// Why a message is lost to the listener.
+#[derive(Clone, Copy, Debug, PartialEq, Eq)]
+pub enum Cause {
+    /// A packet of a broadcast is missing: a later one came.
+    Missing,
+    /// Its sender announced another one in its place.
+    Replaced,
+    /// No frame of it came for as long as both of its ends wait at most.
+    TimedOut,
+    /// Its receiver acknowledged it, and not all of its packets were seen.
+    Acknowledged,
+    /// It is longer than the listener takes.
+    TooLong,
+    /// The log ended.
+    EndOfLog,
+}
+
+/// What a listener is told of a message, whose key says where it was seen and between which nodes.
+#[derive(Debug, Drop)]
+pub enum Told {
+    /// All of it came.
+    Given {
+        key: Key,
+        pgn: Pgn,
+        bytes: Bytes,
+    },
+    /// One of its ends, `who`, aborted it, for a reason which is told as its byte.
+    Aborted {
+        key: Key,
+        pgn: Pgn,
+        reason: u8,
+        who: Address,
+    },
+    /// It is lost: of its `size` bytes the first `have` came.
+    Lost {
+        key: Key,
+        pgn: Pgn,
+        have: u32,
+        size: u32,
+        cause: Cause,
+    },
+}

@@ -1,0 +1,6 @@
+pub mod More
+pub mod Pairs
+pub mod DigitsBack
+pub mod FieldsBack
+pub mod IfaceBack
+pub mod Written

@@ -1,0 +1,18 @@
+-- Names of interfaces.
+use Rattle.std.specs.Prelude.{ℕ, ◌-◌, List, [], ◌∷◌, ◌++◌, length, take, replicate, Bool, true, ◌&&◌, ◌||◌, Option, Some, None, ◌==◌, nat_lt, if◌then◌else◌, unwrap_or}
+use Rattle.log_text.specs.Digits.{is_between}
+use Rattle.log_text.specs.Fields.{place_of}
+use Rattle.log_text.specs.declared.iface.Iface.{Iface}
+
+-- each byte is printable ASCII and no space
+abbrev pub is_printable : List ℕ → Bool
+is_printable [] = true
+is_printable (b ∷ bs) = is_between 33 126 b && is_printable bs
+
+-- 1 to 15 such bytes, kept in sixteen, those behind the name being 0
+abbrev pub iface_of : List ℕ → Option Iface
+iface_of name = if length name == 0 || nat_lt 15 (length name) then None else if is_printable name then Some (record { kept = name ++ replicate (16 - length name) 0 }) else None
+
+-- up to the first 0
+abbrev pub name_of : Iface → List ℕ
+name_of iface = take (unwrap_or (place_of 0 iface.kept) 15) iface.kept

@@ -1,0 +1,30 @@
+-- How a line of a log is written: (SECONDS.MICROS) IFACE ID#HEX.
+use Rattle.std.specs.Prelude.{ℕ, ◌/◌, ◌%◌, ◌^◌, ◌<◌, ◌≤◌, List, [], ◌∷◌, ◌++◌, length, nat_lt, if◌then◌else◌, ⊤}
+use Rattle.bus_frame.specs.Frames.{CanFrame}
+use Rattle.log_text.specs.Digits.{digits, unspaced}
+use Rattle.log_text.specs.Iface.{name_of}
+use Rattle.log_text.specs.declared.iface.Iface.{Iface}
+
+-- ten digits of seconds, or fourteen from 10^10 seconds on
+abbrev pub seconds_width : ℕ → ℕ
+seconds_width seconds = if nat_lt seconds 10000000000 then 10 else 14
+
+unfoldable pub time_text : ℕ → List ℕ
+time_text time = 40 ∷ digits 10 (seconds_width (time / 1000000)) (time / 1000000) ++ 46 ∷ digits 10 6 (time % 1000000) ++ 41 ∷ []
+
+unfoldable pub frame_text : CanFrame → List ℕ
+frame_text frame = digits 16 8 frame.id ++ 35 ∷ unspaced frame.bytes
+
+unfoldable pub log_text : ℕ → Iface → CanFrame → List ℕ
+log_text time iface frame = time_text time ++ 32 ∷ name_of iface ++ 32 ∷ frame_text frame
+
+-- each is a byte
+abbrev pub AreBytes : List ℕ → Type 0
+AreBytes [] = ⊤
+AreBytes (b ∷ bs) = (b < 2 ^ 8) × AreBytes bs
+
+-- an identifier of 29 bits and at most eight bytes
+pub record IsFrame (f : CanFrame) : Type 0 where
+  pub id : f.id < 2 ^ 29
+  pub short : length f.bytes ≤ 8
+  pub bytes : AreBytes f.bytes

@@ -1,0 +1,46 @@
+//! Fields of a line: what stands between marks and spaces.
+ghost use Rattle.std.specs.Prelude.{◌≡◌, ℕ, ◌<◌, ◌≤◌, length, IfSome, option_map};
+ghost use Rattle.log_text.specs.Fields.{place_of, cut_at, spaces_in, next_word};
+
+/// The place of the first byte of this value, from 0.
+pub(crate) fn place_of(wanted: u8, text: &[u8]) -> Option<usize>
+    ensures value { result ≡ place_of wanted text.now }
+    ensures within { IfSome result (λ at. at < length text.now) }
+{
+    for (at, byte) in text.iter().enumerate() {
+        if *byte == wanted {
+            return Some(at);
+        }
+    }
+    None
+}
+
+/// What stands before and behind the first byte of this value.
+pub(crate) fn cut_at(wanted: u8, text: &[u8]) -> Option<(&[u8], &[u8])>
+    ensures { option_map (λ p. (p.0.now, p.1.now)) result ≡ cut_at wanted text.now }
+{
+    let at = place_of(wanted, text)?;
+    Some((&text[..at], &text[at + 1..]))
+}
+
+/// How many spaces stand at the front.
+fn spaces_in(text: &[u8]) -> usize
+    ensures value { result ≡ spaces_in text.now }
+    ensures within { result ≤ length text.now }
+{
+    for (at, byte) in text.iter().enumerate() {
+        if *byte != b' ' {
+            return at;
+        }
+    }
+    text.len()
+}
+
+/// The first word, which is empty where there is none, and what stands behind it.
+pub(crate) fn next_word(text: &[u8]) -> (&[u8], &[u8])
+    ensures { (result.0.now, result.1.now) ≡ next_word text.now }
+{
+    let text = &text[spaces_in(text)..];
+    let len = place_of(b' ', text).unwrap_or(text.len());
+    text.split_at(len)
+}

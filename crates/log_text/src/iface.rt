@@ -1,0 +1,54 @@
+//! Names of interfaces.
+ghost use Rattle.std.specs.Prelude.{◌≡◌, ℕ, ◌<◌, ◌≤◌, length, MatchResult, Some, None, true, false};
+ghost use Rattle.log_text.specs.Iface.{is_printable, iface_of, name_of};
+
+use crate::fields::place_of;
+use thiserror::Error;
+
+/// The most bytes of a name, as Linux has them.
+const MOST: usize = 15;
+
+/// Not the name of an interface: empty, above 15 bytes, or with a byte that isn't printable ASCII or is a space.
+#[derive(Clone, Copy, Debug, PartialEq, Eq, Error)]
+#[error("an interface has a name of 1 to 15 printable characters")]
+pub struct BadName;
+
+/// An interface by its name, of 1 to 15 bytes, each of them printable ASCII and no space.
+#[derive(Clone, Copy, Debug, PartialEq, Eq, Hash)]
+pub struct Iface {
+    kept: [u8; 16],
+}
+
+/// Whether each byte is printable ASCII and no space.
+fn is_printable(name: &[u8]) -> bool
+    ensures { result ≡ is_printable name.now }
+{
+    for byte in name {
+        if *byte < b'!' || *byte > b'~' {
+            return false;
+        }
+    }
+    true
+}
+
+impl Iface {
+    /// The interface of this name, refused exactly where it is none.
+    pub fn new(name: &[u8]) -> Result<Iface, BadName>
+        ensures { MatchResult result (λ iface. iface_of name.now ≡ Some iface) (λ _. iface_of name.now ≡ None) }
+    {
+        if name.is_empty() || name.len() > MOST || !is_printable(name) {
+            return Err(BadName);
+        }
+        let mut kept = [0; 16];
+        kept[..name.len()].copy_from_slice(name);
+        Ok(Iface { kept })
+    }
+
+    /// Its name.
+    pub fn name(&self) -> &[u8]
+        ensures { result.now ≡ name_of self.now }
+    {
+        let len = place_of(0, &self.kept).unwrap_or(MOST);
+        &self.kept[..len]
+    }
+}

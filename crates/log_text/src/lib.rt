@@ -1,0 +1,18 @@
+//! Lines of a bus log: read, in the form that `candump -L` writes and `canplayer` reads, `(SECONDS.MICROS) IFACE ID#HEX`, and in that of
+//! `candump` on a screen; written in the first.
+//!
+//! Times are microseconds. Reading takes no memory.
+#![tactic(auto)]
+
+mod digits;
+mod fields;
+mod iface;
+mod laws;
+mod line;
+mod screen;
+mod writing;
+
+pub use iface::{BadName, Iface};
+pub use laws::written_lines_are_read_back;
+pub use line::{LogLine, NotLogLine, read_log_line};
+pub use writing::{put_digits, put_log_line, put_time};

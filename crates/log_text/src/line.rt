@@ -1,0 +1,157 @@
+//! What a line of a log shows.
+ghost use Rattle.std.specs.Prelude.{◌≡◌, MatchResult, Some, None};
+ghost use Rattle.log_text.specs.Line.{time_of, is_mark, is_ended, is_other, long_frame, frame_line, behind_time, timed_line, log_line};
+
+use crate::digits::{frame, numeral};
+use crate::fields::{cut_at, next_word};
+use crate::iface::Iface;
+use crate::screen::screen_frame;
+use bus_frame::{CanId, Frame};
+use thiserror::Error;
+
+/// What a line of a log shows.
+#[derive(Clone, Copy, Debug, PartialEq, Eq)]
+pub enum LogLine {
+    /// A data frame with a 29-bit identifier, seen on an interface, at so many microseconds where the line says when.
+    Frame {
+        time: Option<u64>,
+        iface: Iface,
+        frame: Frame,
+    },
+    /// Nothing of it: a line that shows no frame, or one with an 11-bit identifier, a remote, an error or a CAN FD frame.
+    Passed,
+}
+
+/// The line begins as one of a log, and goes on otherwise.
+#[derive(Clone, Copy, Debug, PartialEq, Eq, Error)]
+#[error("not a log line")]
+pub struct NotLogLine;
+
+/// How many microseconds a second has.
+pub(crate) const SECOND: u64 = 1_000_000;
+
+/// How many digits the microseconds have.
+const MICROS: usize = 6;
+
+/// One more than the largest identifier. Above it candump shows error frames.
+pub(crate) const ID_END: u64 = 0x2000_0000;
+
+/// A time, below 2 ^ 64 microseconds.
+#[tactic(auto, unfolding(crate::specs::Line::time_of))]
+fn time(seconds: &[u8], micros: &[u8]) -> Option<u64>
+    ensures { result ≡ time_of seconds.now micros.now }
+{
+    if seconds.is_empty() || micros.len() != MICROS {
+        return None;
+    }
+    let seconds = numeral(10, seconds)?;
+    let micros = numeral(10, micros)?;
+    seconds.checked_mul(SECOND)?.checked_add(micros)
+}
+
+/// Whether a word behind a frame says that it was received or sent, or there is none.
+fn is_mark(word: &[u8]) -> bool
+    ensures { result ≡ is_mark word.now }
+{
+    match word {
+        [] => true,
+        [byte] => *byte == b'R' || *byte == b'T',
+        _ => false,
+    }
+}
+
+/// Whether nothing but such a word follows.
+fn is_ended(text: &[u8]) -> bool
+    ensures { result ≡ is_ended text.now }
+{
+    let (mark, rest) = next_word(text);
+    let (more, _) = next_word(rest);
+    is_mark(mark) && more.is_empty()
+}
+
+/// Whether the data are those of a remote frame or of a CAN FD frame.
+fn is_other(shown: &[u8]) -> bool
+    ensures { result ≡ is_other shown.now }
+{
+    match shown {
+        [byte, ..] => *byte == b'R' || *byte == b'#',
+        [] => false,
+    }
+}
+
+/// A frame of eight digits of identifier. The bit above the identifier marks an error frame.
+#[tactic(auto, unfolding(crate::specs::Line::long_frame))]
+fn long_frame(time: u64, iface: Iface, id: &[u8], shown: &[u8]) -> Option<LogLine>
+    ensures { result ≡ long_frame time iface id.now shown.now }
+{
+    let number = numeral(16, id)?;
+    if is_other(shown) || number >= ID_END {
+        return Some(LogLine::Passed);
+    }
+    let id = CanId::new(number as u32).ok()?;
+    let frame = frame(id, shown)?;
+    Some(LogLine::Frame {
+        time: Some(time),
+        iface,
+        frame,
+    })
+}
+
+/// What the word of a frame shows.
+#[tactic(auto, unfolding(crate::specs::Line::frame_line))]
+fn frame_line(time: u64, iface: Iface, word: &[u8]) -> Option<LogLine>
+    ensures { result ≡ frame_line time iface word.now }
+{
+    let (id, shown) = cut_at(b'#', word)?;
+    match id.len() {
+        3 => {
+            let _number = numeral(16, id)?;
+            Some(LogLine::Passed)
+        }
+        8 => long_frame(time, iface, id, shown),
+        _ => None,
+    }
+}
+
+/// What a line shows behind its time.
+#[tactic(auto, unfolding(crate::specs::Line::behind_time))]
+fn behind_time(time: u64, text: &[u8]) -> Option<LogLine>
+    ensures { result ≡ behind_time time text.now }
+{
+    let (name, text) = next_word(text);
+    let (word, text) = next_word(text);
+    let iface = Iface::new(name).ok()?;
+    if !is_ended(text) {
+        return None;
+    }
+    frame_line(time, iface, word)
+}
+
+/// What a line shows behind the mark that begins its time.
+#[tactic(auto, unfolding(crate::specs::Line::timed_line))]
+fn timed_line(text: &[u8]) -> Option<LogLine>
+    ensures { result ≡ timed_line text.now }
+{
+    let (stamp, text) = cut_at(b')', text)?;
+    let (seconds, micros) = cut_at(b'.', stamp)?;
+    behind_time(time(seconds, micros)?, text)
+}
+
+/// What a line shows, without its line feed. Any number of spaces may stand where one does.
+///
+/// A line that begins with a bracket is refused where it goes on otherwise than as a log line: the time has six digits behind its point and
+/// is below 2^64 microseconds; then come a name of 1 to 15 characters, and the frame in one word, of 8 or 3 digits of identifier and at
+/// most eight pairs of digits of data; then `R` or `T`, or nothing. Any other line is passed over, unless it shows a frame in the form that
+/// candump shows on a screen: a name, 8 digits of identifier, a number up to 8 in square brackets, and so many pairs of digits.
+#[tactic(auto, unfolding(crate::specs::Line::log_line))]
+pub fn read_log_line(line: &[u8]) -> Result<LogLine, NotLogLine>
+    ensures { MatchResult result (λ shown. log_line line.now ≡ Some shown) (λ _. log_line line.now ≡ None) }
+{
+    let [b'(', text @ ..] = line else {
+        return Ok(screen_frame(line).unwrap_or(LogLine::Passed));
+    };
+    match timed_line(text) {
+        Some(shown) => Ok(shown),
+        None => Err(NotLogLine),
+    }
+}

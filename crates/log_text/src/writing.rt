@@ -1,0 +1,86 @@
+//! Lines of a log, written.
+ghost use Rattle.std.specs.Prelude.{◌≡◌, ℕ, ◌<◌, ◌≤◌, ◌++◌, ◌^◌, OnOk};
+ghost use Rattle.log_text.specs.Digits.{digit_char, digits, unspaced};
+ghost use Rattle.log_text.specs.Written.{time_text, frame_text, log_text};
+
+use crate::iface::Iface;
+use crate::line::SECOND;
+use bus_frame::Frame;
+use std::alloc::AllocError;
+
+fn digit_char(n: u8) -> u8
+    requires { n < 16 }
+    ensures { result ≡ digit_char n }
+{
+    if n < 10 { b'0' + n } else { b'A' + (n - 10) }
+}
+
+/// Puts a number in so many digits of a base, the last ones where it has more, behind what `out` holds. The base is 2 to 16. It fails only
+/// where memory is refused.
+pub fn put_digits(out: &mut Vec<u8>, base: u64, width: u8, n: u64) -> Result<(), AllocError>
+    requires least { 2 ≤ base }
+    requires most { base ≤ 16 }
+    ensures { OnOk result (out.new.items ≡ out.old.items ++ digits base width n) }
+{
+    if width == 0 {
+        return Ok(());
+    }
+    put_digits(out, base, width - 1, n / base)?;
+    out.push(digit_char((n % base) as u8))?;
+    Ok(())
+}
+
+/// From here on seconds have more than ten digits.
+const TEN_DIGITS: u64 = 10_000_000_000;
+
+/// Puts a time of so many microseconds in round brackets behind what `out` holds: the seconds in ten digits, or in fourteen from 10^10 on,
+/// a point, and six digits. It fails only where memory is refused.
+#[tactic(auto, unfolding(crate::specs::Written::time_text))]
+pub fn put_time(out: &mut Vec<u8>, time: u64) -> Result<(), AllocError>
+    ensures { OnOk result (out.new.items ≡ out.old.items ++ time_text time) }
+{
+    let seconds = time / SECOND;
+    let width = if seconds < TEN_DIGITS { 10 } else { 14 };
+    out.push(b'(')?;
+    put_digits(out, 10, width, seconds)?;
+    out.push(b'.')?;
+    put_digits(out, 10, 6, time % SECOND)?;
+    out.push(b')')?;
+    Ok(())
+}
+
+fn put_bytes(out: &mut Vec<u8>, bytes: &[u8]) -> Result<(), AllocError>
+    ensures { OnOk result (out.new.items ≡ out.old.items ++ unspaced bytes.now) }
+{
+    for byte in bytes {
+        put_digits(out, 16, 2, u64::from(*byte))?;
+    }
+    Ok(())
+}
+
+#[tactic(auto, unfolding(crate::specs::Written::frame_text))]
+fn put_frame(out: &mut Vec<u8>, frame: &Frame) -> Result<(), AllocError>
+    ensures { OnOk result (out.new.items ≡ out.old.items ++ frame_text frame.now) }
+{
+    put_digits(out, 16, 8, u64::from(frame.id().raw()))?;
+    out.push(b'#')?;
+    put_bytes(out, frame.bytes())
+}
+
+/// Puts the line of a frame that was seen at so many microseconds on an interface behind what `out` holds, without its line feed. It
+/// fails only where memory is refused.
+#[tactic(auto, unfolding(crate::specs::Written::log_text))]
+pub fn put_log_line(
+    out: &mut Vec<u8>,
+    time: u64,
+    iface: &Iface,
+    frame: &Frame,
+) -> Result<(), AllocError>
+    ensures { OnOk result (out.new.items ≡ out.old.items ++ log_text time iface.now frame.now) }
+{
+    put_time(out, time)?;
+    out.push(b' ')?;
+    out.extend_from_slice(iface.name())?;
+    out.push(b' ')?;
+    put_frame(out, frame)
+}
