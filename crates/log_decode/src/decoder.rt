@@ -206,7 +206,15 @@ impl Decoder {
         // Until the frame is taken nothing is known of when a message is due.
         self.due = 0;
         let due = end_due(&mut self.sessions, due, now, told)?;
-        take_frame(alloc, &mut self.sessions, iface, frame, self.most, now, told)?;
+        take_frame(
+            alloc,
+            &mut self.sessions,
+            iface,
+            frame,
+            self.most,
+            now,
+            told,
+        )?;
         self.due = due.min(soonest(now));
         Ok(())
     }

@@ -24,11 +24,7 @@ fn first_silent(sessions: &Sessions, now: u64) -> Option<usize>
 }
 
 /// Each message that is silent is lost.
-fn end_silent(
-    sessions: &mut Sessions,
-    now: u64,
-    told: &mut Vec<Told>,
-) -> Result<(), AllocError>
+fn end_silent(sessions: &mut Sessions, now: u64, told: &mut Vec<Told>) -> Result<(), AllocError>
     ensures { OnOk result ((sessions.new.entries, told.new.items) ≡ silenced now (sessions.old.entries, told.old.items)) }
 {
     while let Some(at) = first_silent(sessions, now) {

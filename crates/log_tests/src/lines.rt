@@ -61,7 +61,10 @@ fn other_lines_are_passed_over_or_refused(rt: HostRuntime) {
         "(1.000000) can0 18FEF100##1FF",
         "(1.000000) can0 20000004#0000000000000000",
     ] {
-        assert!(rt; read_log_line(line.as_bytes()) == Ok(LogLine::Passed), "at {line}");
+        assert!(rt;
+            read_log_line(line.as_bytes()) == Ok(LogLine::Passed),
+            "at {line}"
+        );
     }
     for line in [
         "(",
@@ -79,7 +82,10 @@ fn other_lines_are_passed_over_or_refused(rt: HostRuntime) {
         "(1.000000) can0 18FEF100#00 X",
         "(1.000000) can0 18FEF100#00 R R",
     ] {
-        assert!(rt; read_log_line(line.as_bytes()) == Err(NotLogLine), "at {line}");
+        assert!(rt;
+            read_log_line(line.as_bytes()) == Err(NotLogLine),
+            "at {line}"
+        );
     }
 }
 
@@ -89,6 +95,9 @@ fn lines_are_written_as_candump_does(rt: HostRuntime) -> Result<(), Fail> {
     let id = CanId::new(0x0CF0_0400)?;
     let frame = Frame::new(id, &[0xAB, 0x0C])?;
     put_log_line(&mut out, 1_500_000, &Iface::new(b"can0")?, &frame)?;
-    assert_eq!(rt; out.as_slice(), b"(0000000001.500000) can0 0CF00400#AB0C".as_slice());
+    assert_eq!(rt;
+        out.as_slice(),
+        b"(0000000001.500000) can0 0CF00400#AB0C".as_slice()
+    );
     Ok(())
 }

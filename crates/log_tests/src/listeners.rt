@@ -63,9 +63,12 @@ fn is_given(told: &Told) -> bool {
 
 fn is_timed_out(told: &Told) -> bool {
     match told {
-        Told::Lost { have, size, cause, .. } => {
-            *have == 0 && *size == 9 && *cause == Cause::TimedOut
-        }
+        Told::Lost {
+            have,
+            size,
+            cause,
+            ..
+        } => { *have == 0 && *size == 9 && *cause == Cause::TimedOut }
         _ => false,
     }
 }

@@ -1,0 +1,3 @@
+pub mod Line
+pub mod Working
+pub mod Relaying

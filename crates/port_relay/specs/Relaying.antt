@@ -1,0 +1,18 @@
+-- What one relay did.
+use Rattle.std.specs.Prelude.{◌≡◌, ℕ, ◌≤◌, List, ◌++◌, map, length, All}
+use Rattle.pgn_ids.specs.declared.address.Address.{Address}
+use Rattle.segment_rings.specs.declared.words.Delivery.{Delivery}
+use Rattle.segment_rings.specs.Ends.{ClientEnd, InboxEnd}
+use Rattle.port_relay.specs.declared.relaying.Relayed.{Relayed}
+use Rattle.port_relay.specs.Working.{receives_all, submits_all, relayed_to, IsFit}
+
+-- what the inbox received is what the client submitted, to one station, and then what is left, in order and byte for byte; what
+-- was submitted are messages that the client may submit, so that nothing is submitted behind one that it may not
+pub record IsRelayed (to : Address) (limit : ℕ) (i j : InboxEnd) (c d : ClientEnd) (r : Relayed) : Type 0 where
+  pub pushed : List Delivery
+  pub inbox : j ≡ receives_all i (pushed ++ r.left.items) j.spare
+  pub client : d ≡ submits_all c (map (relayed_to to) pushed) d.free
+  pub count_pulled : r.pulled ≡ length (pushed ++ r.left.items)
+  pub count_pushed : r.pushed ≡ length pushed
+  pub within : r.pulled ≤ limit
+  pub fit : All (IsFit c.station to) pushed

@@ -1,0 +1,15 @@
+//! The gateway between two segments: what one of them gives to a port is sent on over the other, in order, nothing dropped,
+//! repeated or invented.
+//!
+//! Two workers on two threads carry the messages, with a channel of 16 places between them. An acknowledgement on the second
+//! segment says nothing to the sender on the first.
+#![tactic(auto)]
+
+mod line;
+mod relaying;
+mod route;
+mod working;
+
+pub use relaying::{Relayed, relay};
+pub use route::Route;
+pub use segment_shared::Gate;
