@@ -1,5 +1,5 @@
 -- What a message that is submitted adds, and what a worker has done, by other names.
-use Rattle.std.proofs.Common.{◌≡◌, ◌+◌, ◌≤◌, ℕ, List, [], ◌∷◌, ◌++◌, map, length, Some, None, true, false, sym, ap, ◌∙◌, subst, append_assoc, length-append, arith}
+use Rattle.std.proofs.Common.{◌≡◌, ◌+◌, [], ◌∷◌, ◌++◌, map, length, Some, None, true, false, sym, ap, ◌∙◌, subst, append_assoc, length-append, arith}
 use Rattle.std.proofs.lemmas.List.{append-nil, map-append}
 use Rattle.std.proofs.lemmas.List.Elements.{All-push}
 use Rattle.pgn_ids.specs.declared.address.Address.{Address}
@@ -9,9 +9,7 @@ use Rattle.segment_rings.specs.Submitting.{why_refused}
 use Rattle.port_relay.specs.declared.line.Log.{Log}
 use Rattle.port_relay.specs.declared.working.Worked.{Worked}
 use Rattle.port_relay.specs.Line.{log, in_hand}
-use Rattle.port_relay.specs.declared.relaying.Relayed.{Relayed}
-use Rattle.port_relay.specs.Working.{receives_all, relayed_to, IsFit, HasPulled, HasPushed}
-use Rattle.port_relay.specs.Relaying.{IsRelayed}
+use Rattle.port_relay.specs.Working.{relayed_to, IsFit, HasPulled, HasPushed}
 
 pub submitted_one : (to : Address) (start now next : ClientEnd) (v : Log) (d : Delivery) (w : Worked) → HasPushed to start now v w → w.hand ≡ Some d
     → next ≡ submits now to d.pgn d.bytes next.free → why_refused now.station to d.pgn (length d.bytes) ≡ None → HasPushed to start next v record { count = w.count + 1; hand = None }
@@ -26,19 +24,3 @@ submitted_one to start now next v d w h e f g = record {
 
 pub carried : (start a b : InboxEnd) (v w : Log) (x y : Worked) → a ≡ b → v ≡ w → x ≡ y → HasPulled start b w y → HasPulled start a v x
 carried start a b v w x y e f g h = subst (λ (t : InboxEnd × Log × Worked). HasPulled start t.0 t.1 t.2) (λ i. (sym e i, sym f i, sym g i)) h
-
--- what both workers did, and what was left between them
-pub relayed : (to : Address) (limit : ℕ) (i j : InboxEnd) (c d : ClientEnd) (v w : Log) (last first : Worked) (r : Relayed) → HasPulled i j v last → HasPushed to c d w first
-    → ((front : List Delivery) → front ++ in_hand first.hand ≡ w.taken → front ++ r.left.items ≡ v.put ++ in_hand last.hand)
-    → r.pulled ≡ last.count → r.pushed ≡ first.count → last.count ≤ limit → IsRelayed to limit i j c d r
-relayed to limit i j c d v w last first r h k g p q l =
-    let same : k.pushed ++ r.left.items ≡ v.put ++ in_hand last.hand = g k.pushed (sym (ap (λ (x : Log). x.taken) k.view)) in
-    record {
-      pushed = k.pushed;
-      inbox = h.inbox ∙ ap (λ ds. receives_all i ds j.spare) (sym same);
-      client = k.client;
-      count_pulled = p ∙ h.count ∙ ap (λ (ds : List Delivery). length ds) (sym same);
-      count_pushed = q ∙ k.count;
-      within = omega (arith, p, l);
-      fit = k.fit;
-    }

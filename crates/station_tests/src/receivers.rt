@@ -192,24 +192,46 @@ fn its_ports_close(rt: HostRuntime) -> Result<(), Fail> {
     no_port(&rt, &mut sessions)
 }
 
+fn end_by_silence(
+    rt: &impl Abort,
+    sessions: &mut Receivers,
+    ports: &PortTable,
+) -> Result<(), Fail> {
+    is_due_as(rt, sessions, 749, None)?;
+    is_due_as(rt, sessions, 750, Some(KEY))?;
+    abort(sessions, 0xFEC9)?;
+    is_due_as(rt, sessions, 750, Some(KEY))?;
+    assert!(rt; fire(sessions, ports, 750)?.frame.is_none());
+    is_due_as(rt, sessions, 750, None)
+}
+
 #[test]
-fn sessions_end(rt: HostRuntime) -> Result<(), Fail> {
+fn a_silent_session_ends(rt: HostRuntime) -> Result<(), Fail> {
     let ports = two_ports(rt.alloc())?;
     let mut sessions = announce(&rt, rt.alloc(), &ports)?;
-    assert!(rt; next_due(&sessions, 749).is_none());
-    assert!(rt; next_due(&sessions, 750) == Some(KEY));
-    abort(&mut sessions, 0xFEC9)?;
-    assert!(rt; next_due(&sessions, 750) == Some(KEY));
-    assert!(rt; fire(&mut sessions, &ports, 750)?.frame.is_none());
-    assert!(rt; next_due(&sessions, 750).is_none());
+    end_by_silence(&rt, &mut sessions, &ports)
+}
+
+#[test]
+fn an_abort_ends_the_session_of_its_pgn(rt: HostRuntime) -> Result<(), Fail> {
+    let ports = two_ports(rt.alloc())?;
     let mut sessions = announce(&rt, rt.alloc(), &ports)?;
     abort(&mut sessions, FECA)?;
-    assert!(rt; next_due(&sessions, 750).is_none());
+    is_due_as(&rt, &sessions, 750, None)
+}
+
+#[test]
+fn a_session_is_ended(rt: HostRuntime) -> Result<(), Fail> {
+    let ports = two_ports(rt.alloc())?;
     let mut sessions = announce(&rt, rt.alloc(), &ports)?;
     sessions.end(KEY);
-    assert!(rt; next_due(&sessions, 750).is_none());
+    is_due_as(&rt, &sessions, 750, None)
+}
+
+#[test]
+fn missed_frames_end_each_session(rt: HostRuntime) -> Result<(), Fail> {
+    let ports = two_ports(rt.alloc())?;
     let mut sessions = announce(&rt, rt.alloc(), &ports)?;
     sessions.overrun();
-    assert!(rt; next_due(&sessions, 750).is_none());
-    Ok(())
+    is_due_as(&rt, &sessions, 750, None)
 }

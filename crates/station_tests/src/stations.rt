@@ -385,14 +385,44 @@ fn a_paused_port_holds_its_session(rt: HostRuntime) -> Result<(), Fail> {
     play_all(&rt, rt.alloc(), &turns)
 }
 
-#[test]
-fn a_message_is_cancelled(rt: HostRuntime) -> Result<(), Fail> {
-    for address in [Address::NULL, Address::GLOBAL] {
-        let refused = new_station(rt.alloc(), address).err();
-        assert!(rt; refused == Some(Refused::NoSuchStation));
+fn refuses(rt: &impl Abort, station: &Station, len: usize, expected: &[Option<Refused>; 9]) {
+    assert!(rt; refusals(station, len).as_slice() == expected.as_slice());
+}
+
+fn is_unsent(
+    rt: &impl Abort,
+    alloc: Global,
+    station: &mut Station,
+    to: Address,
+    message: &[u8],
+    cause: Refused,
+) -> Result<(), Fail> {
+    assert!(rt; unsent(alloc, station, to, message)? == Some(cause));
+    Ok(())
+}
+
+fn pumps(rt: &impl Abort, station: &mut Station, refused: Option<Refused>) {
+    match pump(station, B, 0) {
+        Ok(events) => assert!(rt; events.is_empty() && refused.is_none()),
+        Err(cause) => assert!(rt; refused == Some(cause)),
     }
-    let mut station = new_station(rt.alloc(), A)?;
-    let mut expected = [
+}
+
+// A message of its own ends as cancelled, and is then no more.
+fn cancels(rt: &impl Abort, alloc: Global, station: &mut Station, number: u64) -> Result<(), Fail> {
+    let mut seen = nothing_seen(alloc);
+    see_all(&mut seen, cancel(station, B, number)?)?;
+    assert!(rt; seen.outcomes.as_slice() == [(number, Outcome::Cancelled)].as_slice());
+    Ok(())
+}
+
+fn cancels_nothing(rt: &impl Abort, station: &mut Station, number: u64) {
+    assert!(rt; cancel(station, B, number).err() == Some(Refused::NothingToSend));
+}
+
+// What a station without a port and a message refuses.
+fn is_bare(rt: &impl Abort, alloc: Global, station: &mut Station) -> Result<(), Fail> {
+    let expected = [
         None,
         Some(Refused::NoSuchPort),
         Some(Refused::NoSuchPort),
@@ -403,27 +433,41 @@ fn a_message_is_cancelled(rt: HostRuntime) -> Result<(), Fail> {
         Some(Refused::NothingToSend),
         Some(Refused::NothingToSend),
     ];
-    assert!(rt; refusals(&station, 8).as_slice() == expected.as_slice());
-    let itself = unsent(rt.alloc(), &mut station, A, &M9)?;
-    assert!(rt; itself == Some(Refused::SameStation));
-    let short = unsent(rt.alloc(), &mut station, B, &M9[1..])?;
-    assert!(rt; short == Some(Refused::TooShort));
-    assert!(rt; pump(&mut station, B, 0).err() == Some(Refused::NothingToSend));
-    open(&mut station, Pgn::new(FECA)?)?;
-    let number = send(rt.alloc(), &mut station, B, &M9)??;
-    expected = [None; 9];
+    refuses(rt, station, 8, &expected);
+    is_unsent(rt, alloc, station, A, &M9, Refused::SameStation)?;
+    is_unsent(rt, alloc, station, B, &M9[1..], Refused::TooShort)?;
+    pumps(rt, station, Some(Refused::NothingToSend));
+    Ok(())
+}
+
+// With a port and a message it refuses less; the message begins, and is cancelled.
+fn sends_and_cancels(rt: &impl Abort, alloc: Global, station: &mut Station) -> Result<(), Fail> {
+    let number = send(alloc, station, B, &M9)??;
+    let mut expected = [None; 9];
     expected[3] = Some(Refused::PortNotPaused);
     expected[5] = Some(Refused::NothingDue);
-    assert!(rt; refusals(&station, 9).as_slice() == expected.as_slice());
-    assert!(rt; pump(&mut station, B, 0)?.is_empty());
-    assert!(rt; station.is_pending(B, number));
-    let (event, _) = cancel(&mut station, B, number)?.into_parts();
-    assert!(rt; cancel(&mut station, B, number).err() == Some(Refused::NothingToSend));
-    let mut seen = nothing_seen(rt.alloc());
-    if let Some(event) = event {
-        see(&mut seen, event)?;
-    }
-    assert!(rt; seen.outcomes.as_slice() == [(1, Outcome::Cancelled)].as_slice());
-    assert_eq!(rt; station.queue_len(), 2);
+    refuses(rt, station, 9, &expected);
+    pumps(rt, station, None);
+    assert!(rt; number == 1 && station.is_pending(B, number));
+    cancels(rt, alloc, station, number)?;
+    cancels_nothing(rt, station, number);
+    assert!(rt; station.queue_len() == 2);
     Ok(())
+}
+
+#[test]
+fn only_nodes_have_stations(rt: HostRuntime) -> Result<(), Fail> {
+    for address in [Address::NULL, Address::GLOBAL] {
+        let refused = new_station(rt.alloc(), address).err();
+        assert!(rt; refused == Some(Refused::NoSuchStation));
+    }
+    Ok(())
+}
+
+#[test]
+fn a_message_is_cancelled(rt: HostRuntime) -> Result<(), Fail> {
+    let mut station = new_station(rt.alloc(), A)?;
+    is_bare(&rt, rt.alloc(), &mut station)?;
+    open(&mut station, Pgn::new(FECA)?)?;
+    sends_and_cancels(&rt, rt.alloc(), &mut station)
 }

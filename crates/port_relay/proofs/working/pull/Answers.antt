@@ -1,4 +1,4 @@
-use Rattle.std.proofs.Common.{◌≡◌, ◌≤◌, ap, arith}
+use Rattle.std.proofs.Common.{ap, arith}
 use Rattle.crossbeam_channel.specs.Claims.{view}
 use Rattle.port_relay.proofs.Worked.{carried}
 use Rattle.port_relay.proofs.working.pull.Goals.{else-loop-turn-test, then-loop-turn-test+then-not-receive_one, then-loop-turn-test+else-not-receive_one+then-is_some+then-ended}

@@ -1,4 +1,4 @@
-use Rattle.std.proofs.Common.{◌≡◌, ◌+◌, length, sym, ap, ◌∙◌, subst}
+use Rattle.std.proofs.Common.{◌+◌, length, sym, ap, ◌∙◌, subst}
 use Rattle.segment_rings.specs.Ends.{submits}
 use Rattle.segment_rings.specs.Submitting.{why_refused}
 use Rattle.port_relay.specs.Working.{HasPushed}
