@@ -32,10 +32,10 @@ pub(crate) const TURNS: u64 = 2_000;
 const AHEAD: u64 = 16;
 
 /// How often a worker that is ahead looks again, at each turn.
-const LOOKS: u64 = 200;
+const LOOKS: u64 = 2_000;
 
 /// How often a worker looks at its first turn whether the other has come.
-const FIRST_LOOKS: u64 = 1_000_000;
+const FIRST_LOOKS: u64 = 10_000_000;
 
 /// Holds each worker at its first turn until both have come, and at each later one for a while where it is ahead of the other.
 #[derive(Drop)]
