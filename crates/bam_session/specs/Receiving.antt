@@ -25,15 +25,10 @@ abbrev pub stepped : Incoming → Wire → (now : ℕ) → Received
 stepped s (Packet Tp k bytes) now = received s k bytes now
 stepped s _ now = Awaits s
 
--- the frame is the next packet, and not the last
-abbrev pub goes_on : Incoming → Wire → Bool
-goes_on s (Packet Tp k bytes) = k == s.join.next && not (wants_last s.join)
-goes_on s _ = false
-
--- the packet of the frame is accepted
-abbrev pub gone_on : Incoming → Wire → (now : ℕ) → Incoming
-gone_on s (Packet Tp k bytes) now = accepted s bytes now
-gone_on s _ now = s
+-- a step that is taken where the state stands: the frame is the next packet, and not the last
+abbrev pub is_quiet : Incoming → Wire → Bool
+is_quiet s (Packet Tp k bytes) = k == s.join.next && not (wants_last s.join)
+is_quiet s _ = false
 
 -- the frame is the last packet, and the next one
 abbrev pub completes : Incoming → Wire → Bool

@@ -1,5 +1,5 @@
 -- How a broadcast message is sent (SAE J1939-21, broadcast announce message), row by row.
-use Rattle.std.specs.Prelude.{ℕ, not, ◌==◌, if◌then◌else◌, List}
+use Rattle.std.specs.Prelude.{ℕ, Bool, not, ◌&&◌, ◌==◌, if◌then◌else◌, List}
 use Rattle.bus_frame.specs.Frames.{CanFrame}
 use Rattle.seg_cut.specs.Packets.{packet_count}
 use Rattle.tick_timers.specs.Timers.{is_due, missing as missing_of_timer}
@@ -18,6 +18,10 @@ pumped s bytes now =
     if not (is_due s.gap now) then NotYet s
     else if s.next == packet_count s.len then Last (next_packet s bytes)
     else On (with_next s now) (next_packet s bytes)
+
+-- a pump that goes on where the state stands: its packet is due, and not the last
+abbrev pub pumps_quietly : Outgoing → (now : ℕ) → Bool
+pumps_quietly s now = is_due s.gap now && not (s.next == packet_count s.len)
 
 -- how many ticks its gap still has to last
 abbrev pub missing : Outgoing → (now : ℕ) → ℕ

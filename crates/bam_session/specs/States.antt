@@ -1,5 +1,5 @@
 -- The states of a broadcast message, at its sender and at a receiver (SAE J1939-21, broadcast announce message).
-use Rattle.std.specs.Prelude.{ℕ, ◌+◌, Bool, ◌&&◌, nat_le, List}
+use Rattle.std.specs.Prelude.{ℕ, ◌+◌, Bool, List}
 use Rattle.seg_cut.specs.Join.{Join, joined}
 use Rattle.tick_timers.specs.Timers.{Timer}
 use Rattle.tick_timers.specs.declared.durations.TheConstants.{T1, BROADCAST_GAP}

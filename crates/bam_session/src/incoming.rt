@@ -4,15 +4,16 @@ ghost use Rattle.std.specs.Bool.{OnTrue, OnFalse};
 ghost use Rattle.seg_cut.specs.Packets.{packet_count};
 ghost use Rattle.seg_cut.specs.Join.{IsJoin, joined, wants_last as wants_last_at};
 ghost use Rattle.tick_timers.specs.Timers.{is_due as is_due_at};
+ghost use Rattle.tp_wire.specs.Heard.{meant};
 ghost use Rattle.bam_session.specs.States.{is_size, announced, accepted};
-ghost use Rattle.bam_session.specs.Receiving.{Awaits, received, stepped, goes_on, gone_on, completes as completes_at};
+ghost use Rattle.bam_session.specs.Receiving.{Awaits, received, stepped, is_quiet, completes as completes_at};
 ghost use Rattle.bam_session.specs.Shown.{shown};
 
 use pgn_ids::{Address, WirePgn};
 use seg_cut::Join;
 use std::marker::Model;
 use tick_timers::{T1, Timer};
-use tp_wire::{Kind, Wire};
+use tp_wire::{Heard, Kind, Wire};
 
 /// A message to all whose packets are awaited. It must be spent.
 pub struct BamIn {
@@ -79,27 +80,26 @@ impl BamIn {
         self.take(*sequence, *bytes, now)
     }
 
-    /// Takes a packet in the middle of the message in place, at tick `now` (SAE J1939-21, TP.DT): whether the frame is
-    /// the next packet, and not the last. The step with it goes on in the same way; any other frame changes nothing.
+    /// Takes the next packet where the state stands, at tick `now`, if it isn't the last of the message (SAE J1939-21,
+    /// TP.DT): a step that ends nothing. Any other frame is left to `step`, and changes nothing.
     #[inline]
-    pub fn go_on(&mut self, wire: &Wire, now: u64) -> bool
-        ensures value { result ≡ goes_on self.old wire.now }
-        ensures next { OnTrue result (self.new ≡ gone_on self.old wire.now now) }
-        ensures step { OnTrue result (stepped self.old wire.now now ≡ Awaits self.new) }
+    pub fn take_in_place(&mut self, heard: &Heard<'_>, now: u64) -> bool
+        ensures value { result ≡ is_quiet self.old (meant heard.now) }
+        ensures step { OnTrue result (stepped self.old (meant heard.now) now ≡ Awaits self.new) }
         ensures other { OnFalse result (self.new ≡ self.old) }
     {
-        let Wire::Packet {
+        let Heard::Packet {
             kind: Kind::Tp,
             sequence,
             bytes,
-        } = wire
+        } = heard
         else {
             return false;
         };
         if u32::from(*sequence) != self.join.next() || self.join.wants_last() {
             return false;
         }
-        self.put(*bytes, now);
+        self.put(bytes, now);
         true
     }
 
@@ -127,17 +127,17 @@ impl BamIn {
         requires { wants_last_at self.join ≡ false }
         ensures { result ≡ accepted self packet now }
     {
-        self.put(packet, now);
+        self.put(&packet, now);
         self
     }
 
     /// Puts its next packet, which is not the last.
     #[inline]
-    fn put(&mut self, packet: [u8; 7], now: u64)
+    fn put(&mut self, packet: &[u8; 7], now: u64)
         requires { wants_last_at self.old.join ≡ false }
-        ensures { self.new ≡ accepted self.old packet now }
+        ensures { self.new ≡ accepted self.old packet.now now }
     {
-        put_next(&mut self.join, packet);
+        self.join.put_inner(packet);
         self.timer = Timer::start(now, T1);
     }
 
@@ -152,7 +152,7 @@ impl BamIn {
             mut join,
             timer: _,
         } = self;
-        put_next(&mut join, packet);
+        put_last(&mut join, packet);
         match join.finish() {
             Ok(bytes) => bytes,
             Err(_) => unreachable!(),
@@ -235,9 +235,8 @@ impl BamIn {
     }
 }
 
-/// Puts the next packet, for which there is room.
-#[inline]
-fn put_next(join: &mut Join, packet: [u8; 7])
+/// Puts the last packet, for which there is room.
+fn put_last(join: &mut Join, packet: [u8; 7])
     requires unfinished { join.old.next ≤ packet_count join.old.size }
     requires room { 0 < join.old.room }
     ensures { join.new ≡ joined join.old packet }

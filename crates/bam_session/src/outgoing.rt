@@ -1,11 +1,14 @@
 //! Sending to all.
-ghost use Rattle.std.specs.Prelude.{◌≡◌, ◌≢◌, ◌+◌, ◌≤◌, length, true};
+ghost use Rattle.std.specs.Prelude.{◌≡◌, ◌≢◌, ◌+◌, ◌<◌, ◌≤◌, length, true};
+ghost use Rattle.std.specs.Bool.{OnTrue, OnFalse};
 ghost use Rattle.pgn_ids.specs.Address.{is_one};
 ghost use Rattle.seg_cut.specs.Packets.{packet_count};
 ghost use Rattle.tick_timers.specs.Timers.{is_due as is_due_at};
 ghost use Rattle.bam_session.specs.States.{is_size, with_next};
 ghost use Rattle.bam_session.specs.Frames.{announcement, next_packet};
-ghost use Rattle.bam_session.specs.Sending.{begun, pumped, missing as missing_of};
+ghost use Rattle.tx_queue.specs.Queue.{queue_limit, queued};
+ghost use Rattle.bam_session.specs.Sending.{begun, pumped, pumps_quietly, missing as missing_of};
+ghost use Rattle.bam_session.specs.declared.outgoing.BamPumped.TheVariants.{On};
 
 use bus_frame::Frame;
 use pgn_ids::{Address, Pgn};
@@ -13,6 +16,7 @@ use seg_cut::{packet, packets};
 use std::marker::Model;
 use tick_timers::{BROADCAST_GAP, Timer};
 use tp_wire::{CmFrame, Kind, Wire, write};
+use tx_queue::TxQueue;
 
 /// A message to all whose packets are being queued. It must be spent.
 pub struct BamOut {
@@ -76,6 +80,28 @@ impl BamOut {
             return BamPumped::Last(frame);
         }
         BamPumped::On(self.go_on(now), frame)
+    }
+
+    /// Queues the next packet behind the frames of a queue at tick `now`, where at least 50 ticks have passed since the last
+    /// queued frame of the message and the packet isn't the last: a pump that ends nothing. Any other is left to `pump`, and
+    /// changes nothing.
+    #[inline]
+    pub fn pump_in_place(&mut self, bytes: &[u8], now: u64, queue: &mut TxQueue) -> bool
+        requires message { length bytes.now ≡ self.old.len }
+        requires place { length queue.old < queue_limit }
+        ensures value { result ≡ pumps_quietly self.old now }
+        ensures step { OnTrue result (pumped self.old bytes.now now ≡ On self.new (next_packet self.old bytes.now)) }
+        ensures queued { OnTrue result (queue.new ≡ queued queue.old (next_packet self.old bytes.now)) }
+        ensures other { OnFalse result (self.new ≡ self.old) }
+        ensures kept { OnFalse result (queue.new ≡ queue.old) }
+    {
+        if !self.is_due(now) || u32::from(self.next) == packets(self.len) {
+            return false;
+        }
+        queue.push_free(self.packet_frame(bytes));
+        self.next += 1;
+        self.gap = Timer::start(now, BROADCAST_GAP);
+        true
     }
 
     /// Whether the 50 ticks since its last queued frame have passed at tick `now`.

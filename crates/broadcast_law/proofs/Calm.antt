@@ -26,8 +26,9 @@ use Rattle.tp_wire.specs.Reason.{reason_byte}
 use Rattle.responder.specs.Answers.{abort_frame}
 use Rattle.bam_session.specs.States as bam
 use Rattle.station_sessions.specs.Receiving.{received, flow_at}
-use Rattle.station_core.specs.Station.{Station, StationStep, quietly, queues}
-use Rattle.station_core.specs.Opening.{key_of, refusal, is_tp_size, is_etp_size, set_for, others_than, whole_join, peer_of, opened, not_opened, rts_taken}
+use Rattle.station_core.specs.Station.{Station, StationStep, quietly, queues, by_session}
+use Rattle.station_sessions.specs.Opening.{key_of, refusal, is_tp_size, is_etp_size, set_for, others_than, whole_join, peer_of, rts_received}
+use Rattle.station_sessions.specs.Receiving.{goes_on_at, ended_at}
 use Rattle.station_core.specs.Taking.{packet_kind, in_session, in_lane, abort_taken, cm_taken, answer, wire_taken, looks_at, meaning_taken, taken}
 use Rattle.record_lemmas.proofs.Lists.{Each}
 use Rattle.record_lemmas.proofs.Maps.{StaysOrEnds, session_at, put_stays, dropped_stays}
@@ -53,10 +54,10 @@ module _ (a : Address) (small : a.0 < 254) (s : Address) where
   not_from from kind n e = n (sym (ap (λ (x : Key). x.source.0) e))
 
   module _ (st : Station) (key : Key) (n : key_all s ≡ key → ⊥) where
-    calm_opened : (set : List ℕ) (state : Incoming) (frame : Option CanFrame) → Calm st (quietly (opened st key set state frame))
+    calm_opened : (set : List ℕ) (state : Incoming) (frame : Option CanFrame) → Calm st (by_session st (goes_on_at key set st.sessions state frame))
     calm_opened set state frame = record { untold = tt; session = put_stays st.sessions key (key_all s) (set, state) n }
 
-    calm_not_opened : (frame : Option CanFrame) → Calm st (quietly (not_opened st key frame))
+    calm_not_opened : (frame : Option CanFrame) → Calm st (by_session st (ended_at key st.sessions frame))
     calm_not_opened frame = record { untold = tt; session = dropped_stays st.sessions key (key_all s) }
 
     calm_session : IsOwn a st → (wire : Wire) (room : Bool) (now : ℕ) → Calm st (in_session st key wire room now)
@@ -74,19 +75,19 @@ module _ (a : Address) (small : a.0 < 254) (s : Address) where
   of_other : (from to : Address) (w : Wire) → to.0 ≡ 255 → cond (from.0 == s.0 && to.0 == 255) (Some w) None ≡ None → from.0 ≡ s.0 → ⊥
   of_other from to w t h e = none-some w (sym h ∙ (λ i. cond (eq-eqb from.0 s.0 e i && eq-eqb to.0 255 t i) (Some w) None))
 
-  calm_rts : (st : Station) (kind : Kind) (is_size : Bool) (from : Address) (size most pgn : ℕ) (room : Bool) (now : ℕ) → Calm st (quietly (rts_taken st kind is_size from size most pgn room now))
+  calm_rts : (st : Station) (kind : Kind) (is_size : Bool) (from : Address) (size most pgn : ℕ) (room : Bool) (now : ℕ) → Calm st (by_session st (rts_received st.address st.ports kind is_size from size most pgn room now st.sessions))
   calm_rts st kind is_size from size most pgn room now =
-      let m : Unfinished = begun kind (peer_of st from pgn) most (first_join kind size (flow_at st.ports (set_for st pgn size))) in
-      by_option (λ x. Calm st (quietly x)) (refusal is_size room (set_for st pgn size) (others_than st (key_of from (session_for kind)))) _ _
-      (calm_opened st (key_of from (session_for kind)) (not_connection from kind) (set_for st pgn size) (incoming.Connection (asking m (flow_at st.ports (set_for st pgn size)) now)) (Some (asked m (flow_at st.ports (set_for st pgn size)))))
-      (λ reason. calm_not_opened st (key_of from (session_for kind)) (not_connection from kind) (Some (abort_frame kind (peer_of st from pgn) (reason_byte reason))))
+      let m : Unfinished = begun kind (peer_of st.address from pgn) most (first_join kind size (flow_at st.ports (set_for st.ports pgn size))) in
+      by_option (λ r. Calm st (by_session st r)) (refusal is_size room (set_for st.ports pgn size) (others_than st.sessions (key_of from (session_for kind)))) _ _
+      (calm_opened st (key_of from (session_for kind)) (not_connection from kind) (set_for st.ports pgn size) (incoming.Connection (asking m (flow_at st.ports (set_for st.ports pgn size)) now)) (Some (asked m (flow_at st.ports (set_for st.ports pgn size)))))
+      (λ reason. calm_not_opened st (key_of from (session_for kind)) (not_connection from kind) (Some (abort_frame kind (peer_of st.address from pgn) (reason_byte reason))))
 
   calm_cm : (st : Station) → IsOwn a st → (frame : CmFrame) (from to : Address) (room : Bool) (now : ℕ) → goes_to (Cm frame) to.0 ≡ true → of_lane s (Cm frame) from to ≡ None → Calm st (cm_taken st frame from room now)
   calm_cm st h (Rts size packets most pgn) from to room now g o = calm_rts st Tp (is_tp_size size packets) from size (most_of Tp most) pgn room now
   calm_cm st h (EtpRts size pgn) from to room now g o = calm_rts st Etp (is_etp_size size) from size ETP_MAX_WINDOW pgn room now
   calm_cm st h (Bam size packets pgn) from to room now g o =
       let n : key_all s ≡ key_of from session.Broadcast → ⊥ = not_from from session.Broadcast (of_other from to (Cm (Bam size packets pgn)) (eqb-true to.0 255 g) o) in
-      by_option (λ x. Calm st (quietly x)) (refusal (is_tp_size size packets) room (set_for st pgn size) (others_than st (key_of from session.Broadcast))) _ _ (calm_opened st (key_of from session.Broadcast) n (set_for st pgn size) (incoming.Broadcast (bam.announced from.0 pgn (whole_join size) now)) None)
+      by_option (λ r. Calm st (by_session st r)) (refusal (is_tp_size size packets) room (set_for st.ports pgn size) (others_than st.sessions (key_of from session.Broadcast))) _ _ (calm_opened st (key_of from session.Broadcast) n (set_for st.ports pgn size) (incoming.Broadcast (bam.announced from.0 pgn (whole_join size) now)) None)
       (λ reason. calm_not_opened st (key_of from session.Broadcast) n None)
   calm_cm st h (Cts granted next pgn) from to room now g o = calm_lane st from (Cm (Cts granted next pgn)) now
   calm_cm st h (EndOfMsgAck size packets pgn) from to room now g o = calm_lane st from (Cm (EndOfMsgAck size packets pgn)) now

@@ -4,13 +4,12 @@ use Rattle.std.proofs.lemmas.Bool.{eqb-false}
 use Rattle.std.specs.FinMap as finmap
 use Rattle.bus_frame.specs.Frames.{CanFrame}
 use Rattle.pgn_ids.specs.declared.address.Address.{Address}
-use Rattle.tx_queue.specs.Queue.{queue_limit}
+use Rattle.tx_queue.specs.Queue.{queue_limit, option_frames}
 use Rattle.port_table.specs.Ports.{without_port}
 use Rattle.lane_core.specs.Lane.{Lane}
-use Rattle.lane_core.specs.Step.{nothing_to_do, option_frames}
+use Rattle.lane_core.specs.Step.{nothing_to_do, LaneStep}
 use Rattle.lane_core.specs.Overrun.{overrun as lane_overrun}
 use Rattle.lane_core.specs.Fire.{fired as lane_fires}
-use Rattle.lane_core.specs.declared.step.LaneStep.{LaneStep}
 use Rattle.session_table.specs.declared.key.Key.{Key}
 use Rattle.session_table.specs.declared.key.SessionKind.{SessionKind}
 use Rattle.session_table.specs.declared.key.SessionKind.TheVariants as session
@@ -20,7 +19,7 @@ use Rattle.station_lanes.specs.LaneCalls.{stepped_lanes, step_at, outcome_of}
 use Rattle.station_lanes.specs.LaneReaders.{overrun_lanes, overrun_events, due_lane}
 use Rattle.station_sessions.specs.Receiving.{Inbound, fired_at, unbound_at}
 use Rattle.station_core.specs.Station.{Station, StationStep, by_session, by_lane}
-use Rattle.station_core.specs.Opening.{key_of}
+use Rattle.station_sessions.specs.Opening.{key_of}
 use Rattle.station_core.specs.Closing.{if_free, unbound_session, unbound_source, closed_below, closed}
 use Rattle.station_core.specs.Overruns.{overrun}
 use Rattle.station_core.specs.Timers.{lane_fired, fired}

@@ -6,8 +6,7 @@ use Rattle.std.specs.FinMap as finmap
 use Rattle.pgn_ids.specs.declared.address.Address.{Address}
 use Rattle.bus_order.specs.Bus.{Bus, frame_again}
 use Rattle.lane_core.specs.Lane.{Lane, new_lane}
-use Rattle.lane_core.specs.Step.{nothing_to_do}
-use Rattle.lane_core.specs.declared.step.LaneStep.{LaneStep}
+use Rattle.lane_core.specs.Step.{nothing_to_do, LaneStep}
 use Rattle.station_lanes.specs.LaneCalls.{step_at, lane_to}
 use Rattle.station_lanes.specs.Lanes.{Lanes}
 use Rattle.message_events.specs.declared.event.Event.{Event}

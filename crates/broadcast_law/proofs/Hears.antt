@@ -22,7 +22,7 @@ use Rattle.session_table.specs.declared.incoming.Incoming.TheVariants as incomin
 use Rattle.session_table.specs.Sessions.{state_at}
 use Rattle.station_sessions.specs.Receiving.{broadcast_settled, received_by}
 use Rattle.station_core.specs.Station.{Station, StationStep, quietly, by_session}
-use Rattle.station_core.specs.Opening.{refusal, is_tp_size, set_for, others_than, whole_join, bam_taken}
+use Rattle.station_sessions.specs.Opening.{refusal, is_tp_size, set_for, others_than, whole_join, bam_received}
 use Rattle.station_core.specs.Taking.{in_session, looks_at, meaning_taken, wire_taken, taken}
 use Rattle.segment_law.specs.Told as told
 use Rattle.record_lemmas.proofs.Maps.{session_at, state_put, state_dropped}
@@ -66,11 +66,11 @@ module _ (s listener : Address) (goes : GoesOn) (a : Address) where
   bare o = option_map (λ (v : List ℕ × Incoming). v.1) o
 
   -- a BAM
-  hears_bam : (v : View) (st : Station) (size packets pgn : ℕ) (room : Bool) (now : ℕ) → Taken s goes v (Cm (Bam size packets pgn)) → Stands s (heard_view v (quietly (bam_taken st s size packets pgn room now)))
+  hears_bam : (v : View) (st : Station) (size packets pgn : ℕ) (room : Bool) (now : ℕ) → Taken s goes v (Cm (Bam size packets pgn)) → Stands s (heard_view v (by_session st (bam_received st.ports s size packets pgn room now st.sessions)))
   hears_bam v st size packets pgn room now t =
       let b : ShowsBam t.frame size pgn = bam_shown t.frame size packets pgn t.shows in
-      by_option (λ x. Stands s (heard_view v (quietly x))) (refusal (is_tp_size size packets) room (set_for st pgn size) (others_than st key)) _ _
-      (shown_as v (Some (incoming.Broadcast (bam.announced s.0 pgn (whole_join size) now))) _ (ap bare (state_put st.sessions key (set_for st pgn size, incoming.Broadcast (bam.announced s.0 pgn (whole_join size) now))))
+      by_option (λ r. Stands s (heard_view v (by_session st r))) (refusal (is_tp_size size packets) room (set_for st.ports pgn size) (others_than st.sessions key)) _ _
+      (shown_as v (Some (incoming.Broadcast (bam.announced s.0 pgn (whole_join size) now))) _ (ap bare (state_put st.sessions key (set_for st.ports pgn size, incoming.Broadcast (bam.announced s.0 pgn (whole_join size) now))))
       (bam_opens s goes v t.stream b.number b.message size pgn now t.carries (t.again ∙ ap (λ (f : Frame). f ∷ []) b.frame) b.length_is b.pgn_is))
       (λ reason. shown_as v None _ (ap bare (state_dropped st.sessions key)) (ends s goes v t.stream t.carries))
 
@@ -110,7 +110,7 @@ module _ (s listener : Address) (goes : GoesOn) (a : Address) where
   hears_wire : (v : View) (st : Station) (wire w : Wire) (from to : Address) (room : Bool) (now : ℕ) → IsOwn a st → v.session ≡ session_at st.sessions key → of_lane s wire from to ≡ Some w → Taken s goes v w → Stands s (heard_view v (wire_taken st wire from to room now))
   hears_wire v st (Cm (Bam size packets pgn)) w from to room now h q c t =
       let l : IsOfLane s from to × (Cm (Bam size packets pgn) ≡ w) = lane_test s from to (Cm (Bam size packets pgn)) w c in
-      subst (λ x. Stands s (heard_view v (quietly (bam_taken st x size packets pgn room now)))) (sym l.0.source) (hears_bam v st size packets pgn room now (subst (Taken s goes v) (sym l.1) t))
+      subst (λ x. Stands s (heard_view v (by_session st (bam_received st.ports x size packets pgn room now st.sessions)))) (sym l.0.source) (hears_bam v st size packets pgn room now (subst (Taken s goes v) (sym l.1) t))
   hears_wire v st (Packet Tp k bytes) w from to room now h q c t =
       let l : IsOfLane s from to × (Packet Tp k bytes ≡ w) = lane_test s from to (Packet Tp k bytes) w c in
       subst (λ x. Stands s (heard_view v (wire_taken st (Packet Tp k bytes) x to room now))) (sym l.0.source)

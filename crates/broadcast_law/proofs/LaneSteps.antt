@@ -32,7 +32,8 @@ use Rattle.originator.specs.declared.states.Stepped.{Stepped}
 use Rattle.originator.specs.declared.states.Stepped.TheVariants.{On, Over}
 use Rattle.lane_core.specs.Lane.{Lane, new_lane, pushed, link_for, with_under_way}
 use Rattle.lane_core.specs.Probe.{is_token, other_token, token_pgn, probes, most_requests}
-use Rattle.lane_core.specs.Step.{option_frames, says}
+use Rattle.tx_queue.specs.Queue.{option_frames}
+use Rattle.lane_core.specs.Step.{says, LaneStep}
 use Rattle.lane_core.specs.Endings.{over, still, is_acknowledged, after_step}
 use Rattle.lane_core.specs.Cancel.{withdrawn, is_front, cancelled, cancelled_by}
 use Rattle.lane_core.specs.Overrun.{overrun, overrun_by}
@@ -45,7 +46,6 @@ use Rattle.lane_core.specs.declared.place.UnderWay.{UnderWay}
 use Rattle.lane_core.specs.declared.place.UnderWay.TheVariants.{Nothing, Broadcast, Connection}
 use Rattle.lane_core.specs.declared.probe.Standing.{Standing}
 use Rattle.lane_core.specs.declared.probe.Standing.TheVariants.{Settled, InDoubt, Probing}
-use Rattle.lane_core.specs.declared.step.LaneStep.{LaneStep}
 use Rattle.record_lemmas.proofs.Lists.{Each, each_append, each_map, each_of_all}
 use Rattle.record_lemmas.proofs.Tests.{on_test, either}
 use Rattle.broadcast_law.proofs.Carried.{IsSaid}

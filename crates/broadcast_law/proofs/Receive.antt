@@ -15,7 +15,7 @@ use Rattle.bam_session.specs.States as bam
 use Rattle.bam_session.specs.Receiving.{Received, Awaits, Completes, Drops, received}
 use Rattle.session_table.specs.declared.incoming.Incoming.{Incoming}
 use Rattle.session_table.specs.declared.incoming.Incoming.TheVariants as incoming
-use Rattle.station_core.specs.Opening.{whole_join}
+use Rattle.station_sessions.specs.Opening.{whole_join}
 use Rattle.segment_law.specs.Told as told
 use Rattle.record_lemmas.proofs.Lists.{take_more}
 use Rattle.record_lemmas.proofs.Tests.{on_test}

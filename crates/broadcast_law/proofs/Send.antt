@@ -15,7 +15,7 @@ use Rattle.bam_session.specs.Frames.{announcement, next_packet}
 use Rattle.bam_session.specs.Sending as sending
 use Rattle.bam_session.specs.declared.outgoing.BamPumped.TheVariants as pumping
 use Rattle.lane_core.specs.Lane.{Lane, pushed, link_for, with_under_way}
-use Rattle.lane_core.specs.Step.{says}
+use Rattle.lane_core.specs.Step.{says, LaneStep}
 use Rattle.lane_core.specs.Endings.{over}
 use Rattle.lane_core.specs.Cancel.{withdrawn, is_front, cancelled, cancelled_by}
 use Rattle.lane_core.specs.Pump.{begins, idle_pumped, after_packet, front_bytes, pumped, pumped_by}
@@ -23,7 +23,6 @@ use Rattle.lane_core.specs.declared.message.Pending.{Pending}
 use Rattle.lane_core.specs.declared.place.UnderWay.{UnderWay}
 use Rattle.lane_core.specs.declared.place.UnderWay.TheVariants.{Nothing, Broadcast, Connection}
 use Rattle.lane_core.specs.declared.probe.Standing.TheVariants.{Settled}
-use Rattle.lane_core.specs.declared.step.LaneStep.{LaneStep}
 use Rattle.originator.specs.Opening.{begun as connects}
 use Rattle.originator.specs.declared.states.OutState.TheVariants.{AwaitCts}
 use Rattle.record_lemmas.proofs.Lists.{each_append}

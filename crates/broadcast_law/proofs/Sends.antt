@@ -12,7 +12,7 @@ use Rattle.port_table.specs.declared.port.PortId.{PortId}
 use Rattle.lane_core.specs.Lane.{Lane, new_lane, pushed}
 use Rattle.lane_core.specs.Pump as lane-pump
 use Rattle.lane_core.specs.Cancel as lane-cancel
-use Rattle.lane_core.specs.declared.step.LaneStep.{LaneStep}
+use Rattle.lane_core.specs.Step.{LaneStep}
 use Rattle.station_lanes.specs.LaneCalls.{lane_to}
 use Rattle.station_lanes.specs.LaneReaders.{is_pending_at}
 use Rattle.station_core.specs.Station.{Station, by_lane}

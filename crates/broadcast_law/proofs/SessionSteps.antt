@@ -1,21 +1,15 @@
 -- The steps of an incoming session: it stays the one of its key, and what it queues goes to its source.
-use Rattle.std.proofs.Common.{◌≡◌, ℕ, ◌+◌, ◌-◌, nat_lt, Bool, not, ◌&&◌, ◌||◌, List, Option, Some}
-use Rattle.std.specs.Prelude.{nat_le}
+use Rattle.std.proofs.Common.{◌≡◌, ℕ, Bool, Option, Some}
 use Rattle.bus_frame.specs.Frames.{CanFrame}
 use Rattle.tp_wire.specs.Rows.{written}
 use Rattle.tp_wire.specs.declared.wire.Kind.{Kind}
 use Rattle.tp_wire.specs.declared.wire.Kind.TheVariants.{Tp, Etp}
-use Rattle.tp_wire.specs.declared.wire.CmFrame.{CmFrame}
-use Rattle.tp_wire.specs.declared.wire.CmFrame.TheVariants.{Rts, Cts, EndOfMsgAck, Bam, Abort, EtpRts, EtpCts, EtpDpo, EtpEoma, EtpAbort}
 use Rattle.tp_wire.specs.declared.wire.Wire.{Wire}
-use Rattle.tp_wire.specs.declared.wire.Wire.TheVariants.{Cm, Packet, Request, Ack}
-use Rattle.seg_cut.specs.Join.{Join, joined, wants_last}
 use Rattle.responder.specs.Peer.{Peer}
-use Rattle.responder.specs.Answers.{abort_frame, end_frame}
+use Rattle.responder.specs.Answers.{end_frame}
 use Rattle.responder.specs.Unfinished.{Unfinished, with_packet}
-use Rattle.responder.specs.Window.{cts_frame}
 use Rattle.responder.specs.Readers.{unfinished_of}
-use Rattle.responder.specs.Asking.{asking, asked, asks, grant}
+use Rattle.responder.specs.Asking.{asking, asked}
 use Rattle.responder.specs.Steps.{stepped, expired}
 use Rattle.responder.specs.Room.{prepared, prepared_to_expire}
 use Rattle.responder.specs.declared.flow.Flow.{Flow}
@@ -23,7 +17,7 @@ use Rattle.responder.specs.declared.flow.Flow.TheVariants.{Open, Held}
 use Rattle.responder.specs.declared.in_state.InState.{InState}
 use Rattle.responder.specs.declared.received.Received.{Received}
 use Rattle.responder.specs.declared.received.Received.TheVariants.{On, Complete, Ended}
-use Rattle.lane_core.specs.Step.{option_frames}
+use Rattle.tx_queue.specs.Queue.{option_frames}
 use Rattle.record_lemmas.proofs.Lists.{Each}
 use Rattle.responder.proofs.Rows.{by_rows, by_timer, by_room, by_room_at_timer}
 use Rattle.broadcast_law.proofs.Carried.{IsSaid}

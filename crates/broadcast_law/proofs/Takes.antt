@@ -6,7 +6,7 @@ use Rattle.bus_frame.specs.Frames.{CanFrame}
 use Rattle.pgn_ids.specs.Identifier.{meaning_of}
 use Rattle.pgn_ids.specs.declared.address.Address.{Address}
 use Rattle.tp_wire.specs.Reading.{reading}
-use Rattle.tp_wire.specs.Rows.{goes_to, comes_from}
+use Rattle.tp_wire.specs.Rows.{comes_from}
 use Rattle.tp_wire.specs.Reason.{reason_byte}
 use Rattle.tp_wire.specs.declared.constants.TheConstants.{ETP_MAX_WINDOW}
 use Rattle.tp_wire.specs.declared.wire.Kind.{Kind}
@@ -28,16 +28,18 @@ use Rattle.session_table.specs.declared.key.SessionKind.TheVariants as session
 use Rattle.session_table.specs.declared.incoming.Incoming.{Incoming}
 use Rattle.session_table.specs.declared.incoming.Incoming.TheVariants as incoming
 use Rattle.lane_core.specs.Lane.{Lane}
-use Rattle.lane_core.specs.Step.{nothing_to_do, option_frames}
+use Rattle.tx_queue.specs.Queue.{option_frames}
+use Rattle.lane_core.specs.Step.{nothing_to_do, LaneStep}
 use Rattle.lane_core.specs.Hear.{heard}
 use Rattle.lane_core.specs.Answer.{answered}
 use Rattle.lane_core.specs.declared.step.Ended.{Ended}
-use Rattle.lane_core.specs.declared.step.LaneStep.{LaneStep}
 use Rattle.station_lanes.specs.LaneCalls.{outcome_of}
 use Rattle.message_events.specs.declared.event.Event.{Event}
 use Rattle.station_sessions.specs.Receiving.{received, flow_at, aborted_at}
-use Rattle.station_core.specs.Station.{Station, StationStep, quietly, queues}
-use Rattle.station_core.specs.Opening.{key_of, refusal, is_tp_size, is_etp_size, set_for, others_than, whole_join, peer_of, opened, not_opened, rts_taken, bam_taken}
+use Rattle.station_core.specs.Station.{Station, StationStep, quietly, queues, by_session}
+use Rattle.station_sessions.specs.Opening.{key_of, refusal, is_tp_size, is_etp_size, set_for, others_than, whole_join, peer_of, rts_received, bam_received, opening_received}
+use Rattle.record_lemmas.proofs.Openings.{opening_untold}
+use Rattle.station_sessions.specs.Receiving.{goes_on_at, ended_at}
 use Rattle.station_core.specs.Taking.{packet_kind, in_session, in_lane, abort_taken, cm_taken, answer, request_taken, ack_taken, wire_taken, looks_at, meaning_taken, taken}
 use Rattle.record_lemmas.proofs.Lists.{Each, each_append}
 use Rattle.record_lemmas.proofs.Maps.{of_each_put, of_each_dropped}
@@ -61,28 +63,28 @@ other_node a st f h l e =
 module _ (gives : GivesBack) (a : Address) (small : a.0 < 254) where
   -- a session opens, or it doesn't
   module _ (st : Station) (h : IsOwn a st) (key : Key) (of_key : key.source.0 < 254) (foreign : key.source.0 ≡ a.0 → ⊥) where
-    does_opened : (pgn size : ℕ) (state : Incoming) (frame : Option CanFrame) → IsStateOf a.0 key state → SaidBack a.0 key.source.0 frame → Does a st (opened st key (set_for st pgn size) state frame)
-    does_opened pgn size state frame k e = does_sessions gives a small st (finmap.insert st.sessions key (Some (set_for st pgn size, state))) (option_frames frame) key.source.0 h
-        (of_each_put (IsSessionOf a.0) st.sessions key (set_for st pgn size, state) (record { small = of_key; foreign = foreign; distinct = set_distinct a st.ports h.ports _ size; state = k }) h.sessions) of_key e
+    does_opened : (pgn size : ℕ) (state : Incoming) (frame : Option CanFrame) → IsStateOf a.0 key state → SaidBack a.0 key.source.0 frame → Does a st (by_session st (goes_on_at key (set_for st.ports pgn size) st.sessions state frame)).station
+    does_opened pgn size state frame k e = does_sessions gives a small st (finmap.insert st.sessions key (Some (set_for st.ports pgn size, state))) (option_frames frame) key.source.0 h
+        (of_each_put (IsSessionOf a.0) st.sessions key (set_for st.ports pgn size, state) (record { small = of_key; foreign = foreign; distinct = set_distinct a st.ports h.ports _ size; state = k }) h.sessions) of_key e
 
-    does_not_opened : (frame : Option CanFrame) → SaidBack a.0 key.source.0 frame → Does a st (not_opened st key frame)
+    does_not_opened : (frame : Option CanFrame) → SaidBack a.0 key.source.0 frame → Does a st (by_session st (ended_at key st.sessions frame)).station
     does_not_opened frame e = does_sessions gives a small st (finmap.remove st.sessions key) (option_frames frame) key.source.0 h (of_each_dropped (IsSessionOf a.0) st.sessions key h.sessions) of_key e
 
   module _ (st : Station) (h : IsOwn a st) (from : Address) (foreign : from.0 ≡ a.0 → ⊥) (one : from.0 < 254) where
-    peer_fits : (pgn : ℕ) → FitsPeer a.0 from.0 (peer_of st from pgn)
+    peer_fits : (pgn : ℕ) → FitsPeer a.0 from.0 (peer_of st.address from pgn)
     peer_fits pgn = (ap (λ (x : Address). x.0) h.address, refl)
 
-    does_rts : (kind : Kind) (is_size : Bool) (size most pgn : ℕ) (room : Bool) (now : ℕ) → Does a st (rts_taken st kind is_size from size most pgn room now)
+    does_rts : (kind : Kind) (is_size : Bool) (size most pgn : ℕ) (room : Bool) (now : ℕ) → Does a st (by_session st (rts_received st.address st.ports kind is_size from size most pgn room now st.sessions)).station
     does_rts kind is_size size most pgn room now =
-        let m : Unfinished = begun kind (peer_of st from pgn) most (first_join kind size (flow_at st.ports (set_for st pgn size))) in
-        let q = asking_fits a.0 from.0 m (flow_at st.ports (set_for st pgn size)) now (peer_fits pgn) in
-        by_option (Does a st) (refusal is_size room (set_for st pgn size) (others_than st (key_of from (session_for kind)))) _ _
-        (does_opened st h (key_of from (session_for kind)) one foreign pgn size (incoming.Connection (asking m (flow_at st.ports (set_for st pgn size)) now)) (Some (asked m (flow_at st.ports (set_for st pgn size)))) (q.0, ap session_for (sym (asking_stays m (flow_at st.ports (set_for st pgn size)) now))) q.1)
-        (λ reason. does_not_opened st h (key_of from (session_for kind)) one foreign (Some (abort_frame kind (peer_of st from pgn) (reason_byte reason))) (said_peer a.0 from.0 (peer_of st from pgn) _ (peer_fits pgn)))
+        let m : Unfinished = begun kind (peer_of st.address from pgn) most (first_join kind size (flow_at st.ports (set_for st.ports pgn size))) in
+        let q = asking_fits a.0 from.0 m (flow_at st.ports (set_for st.ports pgn size)) now (peer_fits pgn) in
+        by_option (λ r. Does a st (by_session st r).station) (refusal is_size room (set_for st.ports pgn size) (others_than st.sessions (key_of from (session_for kind)))) _ _
+        (does_opened st h (key_of from (session_for kind)) one foreign pgn size (incoming.Connection (asking m (flow_at st.ports (set_for st.ports pgn size)) now)) (Some (asked m (flow_at st.ports (set_for st.ports pgn size)))) (q.0, ap session_for (sym (asking_stays m (flow_at st.ports (set_for st.ports pgn size)) now))) q.1)
+        (λ reason. does_not_opened st h (key_of from (session_for kind)) one foreign (Some (abort_frame kind (peer_of st.address from pgn) (reason_byte reason))) (said_peer a.0 from.0 (peer_of st.address from pgn) _ (peer_fits pgn)))
 
-    does_bam : (size packets pgn : ℕ) (room : Bool) (now : ℕ) → Does a st (bam_taken st from size packets pgn room now)
+    does_bam : (size packets pgn : ℕ) (room : Bool) (now : ℕ) → Does a st (by_session st (bam_received st.ports from size packets pgn room now st.sessions)).station
     does_bam size packets pgn room now =
-        by_option (Does a st) (refusal (is_tp_size size packets) room (set_for st pgn size) (others_than st (key_of from session.Broadcast))) _ _
+        by_option (λ r. Does a st (by_session st r).station) (refusal (is_tp_size size packets) room (set_for st.ports pgn size) (others_than st.sessions (key_of from session.Broadcast))) _ _
         (does_opened st h (key_of from session.Broadcast) one foreign pgn size (incoming.Broadcast (bam.announced from.0 pgn (whole_join size) now)) None (refl, refl) tt)
         (λ reason. does_not_opened st h (key_of from session.Broadcast) one foreign None tt)
 
@@ -161,13 +163,16 @@ module _ (gives : GivesBack) (a : Address) (small : a.0 < 254) where
   session_ports : (st : Station) → IsOwn a st → (key : Key) (wire : Wire) (room : Bool) (now : ℕ) → Each (IsOfPort a) (in_session st key wire room now).events
   session_ports st h key wire room now = (settles_received a st.ports h.ports.station small key st.sessions h.sessions wire room now).ports
 
+  opening_ports : (st : Station) (from : Address) (frame : CmFrame) (room : Bool) (now : ℕ) → Each (IsOfPort a) (opening_received st.address st.ports frame from room now st.sessions).events
+  opening_ports st from frame room now = subst (Each (IsOfPort a)) (sym (opening_untold st.address st.ports from room now st.sessions frame)) tt
+
   cm_ports : (st : Station) → IsOwn a st → (frame : CmFrame) (from : Address) (room : Bool) (now : ℕ) → Each (IsOfPort a) (cm_taken st frame from room now).events
-  cm_ports st h (Rts size packets most pgn) from room now = tt
+  cm_ports st h (Rts size packets most pgn) from room now = opening_ports st from (Rts size packets most pgn) room now
   cm_ports st h (Cts granted next pgn) from room now = outcome_ports a st.address from _
   cm_ports st h (EndOfMsgAck size packets pgn) from room now = outcome_ports a st.address from _
-  cm_ports st h (Bam size packets pgn) from room now = tt
+  cm_ports st h (Bam size packets pgn) from room now = opening_ports st from (Bam size packets pgn) room now
   cm_ports st h (Abort reason pgn) from room now = outcome_ports a st.address from _
-  cm_ports st h (EtpRts size pgn) from room now = tt
+  cm_ports st h (EtpRts size pgn) from room now = opening_ports st from (EtpRts size pgn) room now
   cm_ports st h (EtpCts granted next pgn) from room now = outcome_ports a st.address from _
   cm_ports st h (EtpDpo packets offset pgn) from room now = session_ports st h (key_of from session.Etp) (Cm (EtpDpo packets offset pgn)) room now
   cm_ports st h (EtpEoma size pgn) from room now = outcome_ports a st.address from _
@@ -195,13 +200,16 @@ module _ (gives : GivesBack) (a : Address) (small : a.0 < 254) where
     session_one : (st : Station) → IsOwn a st → (key : Key) (wire : Wire) (room : Bool) (now : ℕ) → Gives (in_session st key wire room now).events
     session_one st h key wire room now = (settles_received a st.ports h.ports.station small key st.sessions h.sessions wire room now).one x s
 
+    opening_one : (st : Station) (from : Address) (frame : CmFrame) (room : Bool) (now : ℕ) → Gives (opening_received st.address st.ports frame from room now st.sessions).events
+    opening_one st from frame room now = subst Gives (sym (opening_untold st.address st.ports from room now st.sessions frame)) (one_of_none [] refl)
+
     cm_one : (st : Station) → IsOwn a st → (frame : CmFrame) (from : Address) (room : Bool) (now : ℕ) → Gives (cm_taken st frame from room now).events
-    cm_one st h (Rts size packets most pgn) from room now = one_of_none [] refl
+    cm_one st h (Rts size packets most pgn) from room now = opening_one st from (Rts size packets most pgn) room now
     cm_one st h (Cts granted next pgn) from room now = outcome_one st from _
     cm_one st h (EndOfMsgAck size packets pgn) from room now = outcome_one st from _
-    cm_one st h (Bam size packets pgn) from room now = one_of_none [] refl
+    cm_one st h (Bam size packets pgn) from room now = opening_one st from (Bam size packets pgn) room now
     cm_one st h (Abort reason pgn) from room now = outcome_one st from _
-    cm_one st h (EtpRts size pgn) from room now = one_of_none [] refl
+    cm_one st h (EtpRts size pgn) from room now = opening_one st from (EtpRts size pgn) room now
     cm_one st h (EtpCts granted next pgn) from room now = outcome_one st from _
     cm_one st h (EtpDpo packets offset pgn) from room now = session_one st h (key_of from session.Etp) (Cm (EtpDpo packets offset pgn)) room now
     cm_one st h (EtpEoma size pgn) from room now = outcome_one st from _

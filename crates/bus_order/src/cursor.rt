@@ -52,6 +52,7 @@ pub(crate) fn rear_of(cursors: &[Cursor]) -> Rear
 }
 
 /// Moves a cursor on, and says which are furthest behind then. All are looked at only where the last one of them left.
+#[inline]
 pub(crate) fn move_cursor(cursors: &mut [Cursor], rear: Rear, at: usize, to: Cursor) -> Rear
     requires at { at < length cursors.old }
     requires rear { IsRear rear cursors.old }

@@ -1,6 +1,8 @@
 //! The log of a bus.
 ghost use Rattle.std.specs.Prelude.{◌≡◌, ◌+◌, ◌<◌, ◌≤◌, ◌↔◌, length, drop, IfOk, OnOk, OnErr, OnSome, IfNone, IsErrOf, IsSome, IsTrue, slice_set};
 ghost use Rattle.std.specs.Bool.{OnTrue, OnFalse};
+ghost use Rattle.std.specs.Option.{option_copied};
+ghost use Rattle.std.specs.VecDeque.{deque_capacity};
 ghost use Rattle.bus_order.specs.Bus.{new_bus, bus_len, cursor_at, frame_at, next_frame, frame_again, waiting, is_full, put, taken, passed, released};
 ghost use Rattle.bus_order.specs.Kept.{HoldsAhead, IsSound};
 
@@ -122,6 +124,7 @@ impl BusLog {
     }
 
     // How far a station is, and what holds of the log.
+    #[inline]
     fn at(&self, cursor: usize) -> Cursor
         requires { cursor < length self.now.cursors }
         ensures value { result ≡ cursor_at self.now cursor }
@@ -130,16 +133,18 @@ impl BusLog {
         self.cursors[cursor]
     }
 
-    // The frame behind a place.
-    fn frame_behind(&self, place: u64) -> Option<Frame>
+    // The frame behind a place, where it stands.
+    #[inline]
+    fn frame_behind(&self, place: u64) -> Option<&Frame>
         requires held { self.now.first ≤ place + 1 }
-        ensures frame { result ≡ frame_at self.now (place + 1) }
+        ensures frame { option_copied result ≡ frame_at self.now (place + 1) }
         ensures put { IsSome result ↔ (place < bus_len self.now) }
     {
-        self.kept.get((place - (self.first - 1)) as usize).copied()
+        self.kept.get((place - (self.first - 1)) as usize)
     }
 
     // Moves a cursor on, at most to the newest frame.
+    #[inline]
     fn move_to(&mut self, cursor: usize, to: Cursor)
         requires cursor { cursor < length self.old.cursors }
         requires on { (cursor_at self.old cursor).place ≤ to.place }
@@ -153,6 +158,7 @@ impl BusLog {
 
     /// Puts a frame on the bus, at the place behind the newest. `BusFull` comes exactly where 4,096 frames are kept or that
     /// place would pass `u64`; an error changes nothing.
+    #[inline]
     #[tactic(auto, using(crate::proofs::Steps::sound_put, crate::proofs::Steps::sound_holds))]
     pub fn put(&mut self, frame: Frame) -> Result<(), PutError>
         ensures ok { OnOk result (self.new ≡ put self.old frame) }
@@ -166,10 +172,14 @@ impl BusLog {
         if self.len() == u64::MAX {
             return Err(PutError::BusFull);
         }
-        match self.kept.push_back(frame) {
-            Ok(()) => Ok(()),
-            Err(_) => Err(PutError::OutOfMemory),
+        if self.kept.len() == self.kept.capacity() {
+            match grow(&mut self.kept) {
+                Ok(()) => {}
+                Err(_) => return Err(PutError::OutOfMemory),
+            }
         }
+        self.kept.push_back_reserved(frame);
+        Ok(())
     }
 
     /// A station takes the frame behind its cursor, which moves on by one: None exactly where no frame waits for it, and
@@ -184,13 +194,42 @@ impl BusLog {
         ensures holds { HoldsAhead self.new }
     {
         let at = self.at(cursor);
-        let frame = self.frame_behind(at.place)?;
+        let frame = *self.frame_behind(at.place)?;
         let to = Cursor {
             place: at.place + 1,
             repeatable: true,
         };
         self.move_to(cursor, to);
         Some(frame)
+    }
+
+    /// The frame behind a station's cursor, where it stands: None exactly where no frame waits for it.
+    #[inline]
+    #[tactic(auto, using(crate::proofs::Steps::read_within, crate::proofs::Steps::read_held))]
+    pub fn peek(&self, cursor: usize) -> Option<&Frame>
+        requires { cursor < length self.now.cursors }
+        ensures frame { option_copied result ≡ next_frame self.now cursor }
+        ensures waits { IsSome result ↔ (0 < waiting self.now cursor) }
+    {
+        self.frame_behind(self.at(cursor).place)
+    }
+
+    /// A station takes the frame behind its cursor, which waits for it, as `next` and `release` one after the other.
+    #[inline]
+    #[tactic(auto, using(crate::proofs::Steps::read_within, crate::proofs::Steps::sound_holds))]
+    pub fn pass(&mut self, cursor: usize)
+        requires cursor { cursor < length self.old.cursors }
+        requires waits { 0 < waiting self.old cursor }
+        ensures passed { self.new ≡ released (taken self.old cursor) }
+        ensures holds { HoldsAhead self.new }
+    {
+        let at = self.at(cursor);
+        let to = Cursor {
+            place: at.place + 1,
+            repeatable: true,
+        };
+        self.move_to(cursor, to);
+        self.release();
     }
 
     /// A station passes over the next n frames, which may be none: false exactly where fewer wait for it, and then
@@ -217,6 +256,7 @@ impl BusLog {
 
     /// Drops the frames that no station can take or repeat: what is kept is the frame at the lowest cursor and all after
     /// it, or all frames where that cursor is at 0.
+    #[inline]
     #[tactic(auto, using(crate::proofs::Steps::sound_released, crate::proofs::Steps::sound_holds))]
     pub fn release(&mut self)
         ensures released { self.new ≡ released self.old }
@@ -229,6 +269,15 @@ impl BusLog {
         drop_front(&mut self.kept, dropped);
         self.first = self.rear.place;
     }
+}
+
+// Makes room for one more frame. It is kept out of `put`, which seldom needs it.
+#[inline(never)]
+fn grow(kept: &mut VecDeque<Frame>) -> Result<(), AllocError>
+    ensures items { kept.new.items ≡ kept.old.items }
+    ensures room { OnOk result (length kept.new.items < deque_capacity kept.new) }
+{
+    kept.reserve(1)
 }
 
 // Frame by frame, so that what it costs is in proportion to what it drops.

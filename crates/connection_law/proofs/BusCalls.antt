@@ -11,7 +11,7 @@ use Rattle.tp_wire.specs.declared.wire.Kind.TheVariants.{Tp, Etp}
 use Rattle.tp_wire.specs.declared.wire.Wire.{Wire}
 use Rattle.tx_queue.specs.Queue.{front, behind}
 use Rattle.bus_order.specs.Bus as bus
-use Rattle.bus_order.specs.Bus.{Bus, cursor_at, bus_len, released, frame_again}
+use Rattle.bus_order.specs.Bus.{Bus, released, frame_again}
 use Rattle.bus_order.specs.Kept.{IsSound}
 use Rattle.station_core.specs.Station.{Station, quietly}
 use Rattle.station_core.specs.Overruns.{overrun}
@@ -34,7 +34,7 @@ use Rattle.connection_law.proofs.Frames.{goes, returns, goes_foreign, returns_fo
 use Rattle.connection_law.proofs.Roles.{real_at, told_to}
 use Rattle.connection_law.proofs.View.{Laws, IsPair, View, Still, next_still, still_same, still_then}
 use Rattle.connection_law.proofs.Moves.{skips, misses}
-use Rattle.connection_law.proofs.Events.{Tells, tells_none, tells_taken, tells_overrun}
+use Rattle.connection_law.proofs.Events.{tells_none, tells_overrun}
 use Rattle.connection_law.proofs.Turns.{none_opened, turns_same}
 use Rattle.connection_law.proofs.Segments.{Ghost, parts, station_in, view, goes_quietly, turns_none, Good, GoodBy, is_of, is_here, at_it, good_step}
 use Rattle.connection_law.proofs.Calls.{sends_so}
@@ -211,8 +211,8 @@ module _ (laws : Laws) (choose : machine.OnEachLane (λ lane. IsChoice lane.stre
                       again = filter_map (goes s d) (option_to_list (again_here y e j));
                       answers = filter_map (returns s d) (ahead_else x lx m j ++ (sym st_is j).queue);
                       heard = filter_map (returns s d) (option_to_list (again_else x lx m j));
-                      tp = state_empty (Rattle.station_core.specs.Opening.key_of s (session_for Tp)) j;
-                      etp = state_empty (Rattle.station_core.specs.Opening.key_of s (session_for Etp)) j;
+                      tp = state_empty (Rattle.station_sessions.specs.Opening.key_of s (session_for Tp)) j;
+                      etp = state_empty (Rattle.station_sessions.specs.Opening.key_of s (session_for Etp)) j;
                       sent = append-nil g.sent j;
                       given = (ap (λ ts. g.given ++ ts) told_none ∙ append-nil g.given) j;
                       ended = append-nil g.ended j;

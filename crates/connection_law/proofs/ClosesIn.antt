@@ -1,15 +1,14 @@
 -- A port of the destination's station closes.
-use Rattle.std.proofs.Common.{◌≡◌, inl, inr, ℕ, zero, suc, ◌<◌, ◌≤◌, ◌==◌, nat_lt, true, List, [], ◌∷◌, ◌++◌, filter_map, length, Option, Some, None, refl, sym, ap, ◌∙◌, subst, arith, append-nil, append_assoc}
+use Rattle.std.proofs.Common.{◌≡◌, inl, inr, ℕ, zero, suc, ◌<◌, ◌≤◌, ◌==◌, nat_lt, List, [], ◌∷◌, ◌++◌, filter_map, length, Option, Some, None, refl, sym, ap, ◌∙◌, subst, arith, append-nil, append_assoc}
 use Rattle.std.proofs.lemmas.List.Elements.{filter_map-append}
 use Rattle.std.proofs.lemmas.Option.{same_Some}
 use Rattle.bus_frame.specs.Frames.{CanFrame}
 use Rattle.pgn_ids.specs.declared.address.Address.{Address}
 use Rattle.tp_wire.specs.declared.wire.Kind.{Kind}
 use Rattle.tp_wire.specs.declared.wire.Kind.TheVariants.{Tp, Etp}
-use Rattle.tx_queue.specs.Queue.{queue_limit}
+use Rattle.tx_queue.specs.Queue.{queue_limit, option_frames}
 use Rattle.port_table.specs.Ports.{Ports, without_port}
 use Rattle.port_table.specs.PortSet.{without_number}
-use Rattle.lane_core.specs.Step.{option_frames}
 use Rattle.session_table.specs.Key.{session_for}
 use Rattle.session_table.specs.declared.key.Key.{Key}
 use Rattle.session_table.specs.declared.key.SessionKind.{SessionKind}
@@ -19,7 +18,7 @@ use Rattle.session_table.specs.Sessions.{state_at}
 use Rattle.station_sessions.specs.Steps.{closing_frame}
 use Rattle.station_sessions.specs.Receiving.{Inbound, Reception, unbound_at, unbound_by}
 use Rattle.station_core.specs.Station.{Station, quietly}
-use Rattle.station_core.specs.Opening.{key_of}
+use Rattle.station_sessions.specs.Opening.{key_of}
 use Rattle.station_core.specs.Closing.{if_free, unbound_session, closed_below, closed}
 use Rattle.record_lemmas.proofs.Maps.{OfEach}
 use Rattle.record_lemmas.proofs.Tests.{either}

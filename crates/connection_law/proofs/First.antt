@@ -11,7 +11,7 @@ use Rattle.tp_wire.specs.declared.wire.Kind.TheVariants.{Tp, Etp}
 use Rattle.bus_order.specs.Bus.{Cursor, start, cursor_at, frame_at, frame_again}
 use Rattle.lane_core.specs.Lane.{Lane, new_lane}
 use Rattle.station_lanes.specs.LaneCalls.{lane_to}
-use Rattle.station_core.specs.Opening.{key_of}
+use Rattle.station_sessions.specs.Opening.{key_of}
 use Rattle.station_core.specs.Station.{Station, new_station}
 use Rattle.segment_law.specs.Segment.{Segment, new_segment, rising}
 use Rattle.record_lemmas.proofs.Maps.{state_empty, of_each_none}

@@ -9,12 +9,14 @@ use Rattle.pgn_ids.specs.declared.address.Address.{Address}
 use Rattle.tp_wire.specs.Reading.{reading}
 use Rattle.tp_wire.specs.Rows.{written}
 use Rattle.tp_wire.specs.declared.wire.Kind.TheVariants.{Tp, Etp}
+use Rattle.tp_wire.specs.declared.wire.CmFrame.{CmFrame}
 use Rattle.tp_wire.specs.declared.wire.CmFrame.TheVariants.{Rts, Cts, EndOfMsgAck, Bam, Abort, EtpRts, EtpCts, EtpDpo, EtpEoma, EtpAbort}
 use Rattle.tp_wire.specs.declared.wire.Wire.{Wire}
 use Rattle.tp_wire.specs.declared.wire.Wire.TheVariants.{Cm, Packet, Request, Ack}
 use Rattle.session_table.specs.declared.key.SessionKind.TheVariants as session
 use Rattle.station_core.specs.Station.{Station, StationStep, quietly, queues}
-use Rattle.station_core.specs.Opening.{key_of}
+use Rattle.station_sessions.specs.Opening.{key_of, opening_received}
+use Rattle.record_lemmas.proofs.Openings.{opening_untold}
 use Rattle.station_core.specs.Taking.{answer, in_session, wire_taken, looks_at, meaning_taken, taken}
 use Rattle.segment_law.specs.Told.{AtPort}
 use Rattle.record_lemmas.proofs.Segments.{same_address}
@@ -82,10 +84,14 @@ module _ (laws : Laws) (choose : machine.OnEachLane (λ lane. IsChoice lane.stre
   not_global : (d.0 == 255) ≡ false
   not_global = ne_eqb d.0 255 (λ e. (let l : d.0 < 254 = small_d laws s d pair in omega (arith, e, l)))
 
+  -- an opening gives nothing
+  opening_quiet : (frame : CmFrame) (room : Bool) (now : ℕ) → station_told d s d (opening_received st.address st.ports frame s room now st.sessions).events ≡ []
+  opening_quiet frame room now = ap (station_told d s d) (opening_untold st.address st.ports s room now st.sessions frame)
+
   -- a wire of the pair
   of_pair : (x : Wire) (room : Bool) (now : ℕ) → of_forward s d x s d ≡ Some x → Taken laws s d l v x → Goal x (wire_taken st x s d room now)
-  of_pair (Cm (Rts size packets most pgn)) room now c t = (rts laws choose s d pair v behind l st h is size packets most pgn room now t, refl)
-  of_pair (Cm (EtpRts size pgn)) room now c t = (etp_rts laws choose s d pair v behind l st h is size pgn room now t, refl)
+  of_pair (Cm (Rts size packets most pgn)) room now c t = (rts laws choose s d pair v behind l st h is size packets most pgn room now t, opening_quiet (Rts size packets most pgn) room now)
+  of_pair (Cm (EtpRts size pgn)) room now c t = (etp_rts laws choose s d pair v behind l st h is size pgn room now t, opening_quiet (EtpRts size pgn) room now)
   of_pair (Cm (EtpDpo packets offset pgn)) room now c t = (dpo laws choose s d pair v behind l st h is packets offset pgn room now t, tt)
   of_pair (Packet Tp k bytes) room now c t = subst (λ b. Goal (Packet Tp k bytes) (in_session st (key_of s (cond b session.Broadcast session.Tp)) (Packet Tp k bytes) room now)) (sym not_global) (packet laws choose s d pair v behind l st h is Tp k bytes room now t, tt)
   of_pair (Packet Etp k bytes) room now c t = (packet laws choose s d pair v behind l st h is Etp k bytes room now t, tt)

@@ -19,7 +19,7 @@ use Rattle.responder.specs.Finished.{Finished}
 use Rattle.responder.specs.Answers.{abort_frame, end_frame}
 use Rattle.responder.specs.declared.received.Received.{Received}
 use Rattle.responder.specs.declared.received.Received.TheVariants.{On, Complete, Ended}
-use Rattle.lane_core.specs.Step.{option_frames}
+use Rattle.tx_queue.specs.Queue.{option_frames}
 use Rattle.session_table.specs.declared.key.Key.{Key}
 use Rattle.session_table.specs.declared.key.SessionKind.TheVariants as session
 use Rattle.session_table.specs.declared.incoming.Incoming.{Incoming}
@@ -28,7 +28,7 @@ use Rattle.session_table.specs.Key.{session_for}
 use Rattle.message_events.specs.declared.event.Event.{Event}
 use Rattle.station_sessions.specs.Receiving.{Inbound, connection_settled}
 use Rattle.station_core.specs.Station.{Station, StationStep, quietly, by_session}
-use Rattle.station_core.specs.Opening.{key_of}
+use Rattle.station_sessions.specs.Opening.{key_of}
 use Rattle.segment_law.specs.Told.{Message}
 use Rattle.record_lemmas.proofs.Maps.{state_put, state_dropped, state_put_else, state_dropped_else}
 use Rattle.lane_law.specs.Choice.{IsChoice}

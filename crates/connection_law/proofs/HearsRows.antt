@@ -31,9 +31,10 @@ use Rattle.session_table.specs.declared.incoming.Incoming.{Incoming}
 use Rattle.session_table.specs.declared.incoming.Incoming.TheVariants as incoming
 use Rattle.session_table.specs.Sessions.{state_at}
 use Rattle.session_table.specs.Key.{session_for}
-use Rattle.station_sessions.specs.Receiving.{connection_settled, received_by, flow_at}
-use Rattle.station_core.specs.Station.{Station, StationStep, quietly, by_session}
-use Rattle.station_core.specs.Opening.{key_of, refusal, is_tp_size, is_etp_size, set_for, others_than, peer_of, opened, not_opened, rts_taken}
+use Rattle.station_sessions.specs.Receiving.{connection_settled, received_by, flow_at, Reception}
+use Rattle.station_core.specs.Station.{Station, StationStep, by_session}
+use Rattle.station_sessions.specs.Opening.{key_of, refusal, is_tp_size, is_etp_size, set_for, others_than, peer_of, rts_received}
+use Rattle.station_sessions.specs.Receiving.{goes_on_at, ended_at}
 use Rattle.station_core.specs.Taking.{in_session}
 use Rattle.record_lemmas.proofs.Lists.{each_get}
 use Rattle.responder.proofs.Rows.{prepared_stays}
@@ -48,11 +49,11 @@ use Rattle.broadcast_law.proofs.Stations.{IsOwn}
 use Rattle.connection_law.proofs.SessionWires.{AsksIn, aborted_asks, Replies, connection_step, asked_of}
 use Rattle.connection_law.proofs.Sides.{asked_none}
 use Rattle.connection_law.proofs.Roles.{station_told, numbers_at, receiver_view, IsReceiverOf}
-use Rattle.connection_law.proofs.View.{Laws, IsPair, Mark, IsMarked, View, kind_of, IsHeardAs, IsHeard, IsSame, IsAlmost, IsGood, of_kind, Carries, Sim, Still, Next, next_still}
+use Rattle.connection_law.proofs.View.{Laws, IsPair, Mark, View, kind_of, IsHeardAs, IsSame, IsAlmost, IsGood, of_kind, Carries, Sim, Still, Next, next_still}
 use Rattle.connection_law.proofs.Sender.{small_s, small_d}
 use Rattle.connection_law.proofs.Moves.{IsPlain, Taken, carries_else}
 use Rattle.connection_law.proofs.Follows.{Left, Goes, Whole, Gone, left_by, Follows, Keeps, packet_follows, dpo_keeps, same_prepared, almost_prepared}
-use Rattle.connection_law.proofs.Receiver.{Real, tp_with, etp_with, with_kind, marked, mark_of, left_of, ports_of, settled_view, opens_tp, opens_etp, refuses_tp, refuses_etp, replies, ShowsPacket, packet_shown, ShowsDpo}
+use Rattle.connection_law.proofs.Receiver.{Real, with_kind, marked, mark_of, ports_of, settled_view, opens_tp, opens_etp, refuses_tp, refuses_etp, ShowsPacket, packet_shown, ShowsDpo}
 use Rattle.connection_law.proofs.Packets.{packet_heard, packet_unheard, dpo_heard, dpo_unheard}
 use Rattle.connection_law.proofs.HearsIn.{answers_are, shows_put, shows_drop, IsFine, shows_step, tells_step}
 
@@ -197,7 +198,7 @@ module _ (laws : Laws) (choose : machine.OnEachLane (λ lane. IsChoice lane.stre
         by Etp Tp e q = q
 
     abbrev mark : (pgn size : ℕ) → Mark
-    mark pgn size = mark_of (length v.sent) pgn size (set_for st pgn size)
+    mark pgn size = mark_of (length v.sent) pgn size (set_for st.ports pgn size)
 
     abbrev pub Opens : Kind → (pgn size : ℕ) → StationStep → Type 0
     Opens kind pgn size step = Next s d (numbers_at (station_told d s d step.events)) l (record (shown step) { opened = marked kind (mark pgn size) v.opened })
@@ -205,19 +206,19 @@ module _ (laws : Laws) (choose : machine.OnEachLane (λ lane. IsChoice lane.stre
     pub own : st.address.0 ≡ d.0
     own = ap (λ (x : Address). x.0) h.address
 
-    peer_is : (pgn : ℕ) → peer_of st s pgn ≡ record { from = s.0; to = d.0; pgn = pgn }
+    peer_is : (pgn : ℕ) → peer_of st.address s pgn ≡ record { from = s.0; to = d.0; pgn = pgn }
     peer_is pgn = λ i. record { from = s.0; to = own i; pgn = pgn }
 
-    fits : (pgn : ℕ) → FitsPeer d.0 s.0 (peer_of st s pgn)
+    fits : (pgn : ℕ) → FitsPeer d.0 s.0 (peer_of st.address s pgn)
     fits pgn = (own, refl)
 
     pub none_more : (kind : Kind) (x : Real) → record (with_kind kind x v) { answers = v.answers ++ []; given = v.given ++ [] } ≡ with_kind kind x v
     none_more kind x = λ i. (let w : View = record (with_kind kind x v) { answers = append-nil v.answers i; given = append-nil v.given i } in w)
 
-    opening : (kind : Kind) (pgn size : ℕ) (set : List ℕ) (state : Incoming) (frame : Option CanFrame) → AsksIn d.0 s.0 frame → Still s d l (record (with_kind kind (Some (set, state)) v) { opened = marked kind (mark pgn size) v.opened }) → Opens kind pgn size (quietly (opened st (own_key kind) set state frame))
+    opening : (kind : Kind) (pgn size : ℕ) (set : List ℕ) (state : Incoming) (frame : Option CanFrame) → AsksIn d.0 s.0 frame → Still s d l (record (with_kind kind (Some (set, state)) v) { opened = marked kind (mark pgn size) v.opened }) → Opens kind pgn size (by_session st (goes_on_at (own_key kind) set st.sessions state frame))
     opening kind pgn size set state frame a q = next_still s d l _ (subst (λ (w : View). Still s d l (record w { opened = marked kind (mark pgn size) v.opened })) (sym (shows_put laws choose s d pair v behind l st h is kind (set, state) frame a ∙ none_more kind (Some (set, state)))) q)
 
-    refusing : (kind : Kind) (pgn size : ℕ) (frame : Option CanFrame) → AsksIn d.0 s.0 frame → Still s d l (with_kind kind None v) → Opens kind pgn size (quietly (not_opened st (own_key kind) frame))
+    refusing : (kind : Kind) (pgn size : ℕ) (frame : Option CanFrame) → AsksIn d.0 s.0 frame → Still s d l (with_kind kind None v) → Opens kind pgn size (by_session st (ended_at (own_key kind) st.sessions frame))
     refusing kind pgn size frame a q = next_still s d l _ (subst (λ (w : View). Still s d l (record w { opened = marked kind (mark pgn size) v.opened })) (sym (shows_drop laws choose s d pair v behind l st h is kind frame [] [] [] (asked_none laws.gives s d d.0 s.0 frame low_d low_s a) refl ∙ none_more kind None))
         (record { lane = q.lane; sim = opened_else (with_kind kind None v) kind (mark pgn size) q.lane (Rattle.connection_law.proofs.Receiver.of_kind_with kind None v.tp v.etp) q.sim; given = q.given }))
 
@@ -229,33 +230,33 @@ module _ (laws : Laws) (choose : machine.OnEachLane (λ lane. IsChoice lane.stre
       bytes : (unfinished_of u).join.bytes ≡ []
       offset : (unfinished_of u).offset ≡ 0
 
-    begins : (kind : Kind) (pgn size most : ℕ) (join_flow flow : Flow) (now : ℕ) → Begins (asking (begun kind (peer_of st s pgn) most (first_join kind size join_flow)) flow now) pgn size
+    begins : (kind : Kind) (pgn size most : ℕ) (join_flow flow : Flow) (now : ℕ) → Begins (asking (begun kind (peer_of st.address s pgn) most (first_join kind size join_flow)) flow now) pgn size
     begins kind pgn size most join_flow Open now = record { peer = peer_is pgn; size_is = refl; next = refl; bytes = refl; offset = refl }
     begins kind pgn size most join_flow Held now = record { peer = peer_is pgn; size_is = refl; next = refl; bytes = refl; offset = refl }
 
     asked_for : (kind : Kind) (is_size : Bool) (size most pgn : ℕ) (room : Bool) (now : ℕ)
-        → ((u : InState) → Begins u pgn size → 0 < length (set_for st pgn size) → Still s d l (record (with_kind kind (Some (set_for st pgn size, incoming.Connection u)) v) { opened = marked kind (mark pgn size) v.opened }))
-        → Still s d l (with_kind kind None v) → Opens kind pgn size (quietly (rts_taken st kind is_size s size most pgn room now))
-    asked_for kind is_size size most pgn room now opens refuses = by (refusal is_size room (set_for st pgn size) (others_than st (own_key kind))) refl
+        → ((u : InState) → Begins u pgn size → 0 < length (set_for st.ports pgn size) → Still s d l (record (with_kind kind (Some (set_for st.ports pgn size, incoming.Connection u)) v) { opened = marked kind (mark pgn size) v.opened }))
+        → Still s d l (with_kind kind None v) → Opens kind pgn size (by_session st (rts_received st.address st.ports kind is_size s size most pgn room now st.sessions))
+    asked_for kind is_size size most pgn room now opens refuses = by (refusal is_size room (set_for st.ports pgn size) (others_than st.sessions (own_key kind))) refl
       where
         flow : Flow
-        flow = flow_at st.ports (set_for st pgn size)
+        flow = flow_at st.ports (set_for st.ports pgn size)
 
         m : Unfinished
-        m = begun kind (peer_of st s pgn) most (first_join kind size flow)
+        m = begun kind (peer_of st.address s pgn) most (first_join kind size flow)
 
         after : Option AbortReason → StationStep
-        after o = quietly (elim o as (λ (_ : Option AbortReason). Station) [ None ↦ opened st (own_key kind) (set_for st pgn size) (incoming.Connection (asking m flow now)) (Some (asked m flow)) | Some reason ↦ not_opened st (own_key kind) (Some (abort_frame kind (peer_of st s pgn) (reason_byte reason))) ])
+        after o = by_session st (elim o as (λ (_ : Option AbortReason). Reception) [ None ↦ goes_on_at (own_key kind) (set_for st.ports pgn size) st.sessions (incoming.Connection (asking m flow now)) (Some (asked m flow)) | Some reason ↦ ended_at (own_key kind) st.sessions (Some (abort_frame kind (peer_of st.address s pgn) (reason_byte reason))) ])
 
-        by : (o : Option AbortReason) → refusal is_size room (set_for st pgn size) (others_than st (own_key kind)) ≡ o → Opens kind pgn size (after o)
-        by None e = opening kind pgn size (set_for st pgn size) _ (Some (asked m flow)) (asked_of d.0 s.0 m flow (fits pgn))
-            (opens (asking m flow now) (begins kind pgn size most flow flow now) (refusal_some is_size room (set_for st pgn size) (others_than st (own_key kind)) e))
-        by (Some reason) e = refusing kind pgn size (Some (abort_frame kind (peer_of st s pgn) (reason_byte reason))) (aborted_asks d.0 s.0 kind (peer_of st s pgn) _ (fits pgn)) refuses
+        by : (o : Option AbortReason) → refusal is_size room (set_for st.ports pgn size) (others_than st.sessions (own_key kind)) ≡ o → Opens kind pgn size (after o)
+        by None e = opening kind pgn size (set_for st.ports pgn size) _ (Some (asked m flow)) (asked_of d.0 s.0 m flow (fits pgn))
+            (opens (asking m flow now) (begins kind pgn size most flow flow now) (refusal_some is_size room (set_for st.ports pgn size) (others_than st.sessions (own_key kind)) e))
+        by (Some reason) e = refusing kind pgn size (Some (abort_frame kind (peer_of st.address s pgn) (reason_byte reason))) (aborted_asks d.0 s.0 kind (peer_of st.address s pgn) _ (fits pgn)) refuses
 
-    pub rts : (size packets most pgn : ℕ) (room : Bool) (now : ℕ) → Taken laws s d l v (Cm (Rts size packets most pgn)) → Opens Tp pgn size (quietly (rts_taken st Tp (is_tp_size size packets) s size (most_of Tp most) pgn room now))
+    pub rts : (size packets most pgn : ℕ) (room : Bool) (now : ℕ) → Taken laws s d l v (Cm (Rts size packets most pgn)) → Opens Tp pgn size (by_session st (rts_received st.address st.ports Tp (is_tp_size size packets) s size (most_of Tp most) pgn room now st.sessions))
     rts size packets most pgn room now t = asked_for Tp (is_tp_size size packets) size (most_of Tp most) pgn room now
-        (λ u b some. opens_tp laws choose s d v l size packets most pgn (set_for st pgn size) u t some b.peer b.size_is b.next b.bytes b.offset) (refuses_tp laws choose s d v l size packets most pgn t)
+        (λ u b some. opens_tp laws choose s d v l size packets most pgn (set_for st.ports pgn size) u t some b.peer b.size_is b.next b.bytes b.offset) (refuses_tp laws choose s d v l size packets most pgn t)
 
-    pub etp_rts : (size pgn : ℕ) (room : Bool) (now : ℕ) → Taken laws s d l v (Cm (EtpRts size pgn)) → Opens Etp pgn size (quietly (rts_taken st Etp (is_etp_size size) s size ETP_MAX_WINDOW pgn room now))
+    pub etp_rts : (size pgn : ℕ) (room : Bool) (now : ℕ) → Taken laws s d l v (Cm (EtpRts size pgn)) → Opens Etp pgn size (by_session st (rts_received st.address st.ports Etp (is_etp_size size) s size ETP_MAX_WINDOW pgn room now st.sessions))
     etp_rts size pgn room now t = asked_for Etp (is_etp_size size) size ETP_MAX_WINDOW pgn room now
-        (λ u b some. opens_etp laws choose s d v l size pgn (set_for st pgn size) u t some b.peer b.size_is b.next b.bytes b.offset) (refuses_etp laws choose s d v l size pgn t)
+        (λ u b some. opens_etp laws choose s d v l size pgn (set_for st.ports pgn size) u t some b.peer b.size_is b.next b.bytes b.offset) (refuses_etp laws choose s d v l size pgn t)

@@ -4,12 +4,12 @@ use Rattle.std.proofs.Common.{◌≡◌, ◌⊎◌, inl, inr, ℕ, ◌<◌, true
 use Rattle.std.specs.Prelude.{Contains, zip}
 use Rattle.std.specs.List.{AllZip}
 use Rattle.std.proofs.lemmas.List.{map-append}
-use Rattle.std.proofs.lemmas.List.Elements.{All-head, All-tail, All-nil, All-cons, All-contains, Contains-append_left, Contains-append_right}
+use Rattle.std.proofs.lemmas.List.Elements.{All-contains, Contains-append_left, Contains-append_right}
 use Rattle.pgn_ids.specs.declared.address.Address.{Address}
 use Rattle.tp_wire.specs.declared.outcome.Outcome.TheVariants as outcome
 use Rattle.port_table.specs.declared.port.PortId.{PortId}
 use Rattle.segment_law.specs.Told as told
-use Rattle.segment_law.specs.Told.{Placed, AtPort, items_of, sends, sent, station_givens, outcomes, openings, closings}
+use Rattle.segment_law.specs.Told.{Placed, items_of, sends, sent, outcomes, openings, closings}
 use Rattle.segment_law.specs.Headline.{IsStationOf, HaveOneOutcome, IsOpenedFor, IsGivenBefore, AreHonest, port_of}
 use Rattle.segment_law.specs.Numbering.{Numbered, numbered, IsLaneNumbering}
 use Rattle.segment_law.specs.Segment.{Segment, new_segment}
@@ -21,7 +21,7 @@ use Rattle.lane_law.specs.Choice as choice
 use Rattle.lane_law.specs.Choice.{IsGiven}
 use Rattle.lane_law.specs.Outcome as fate
 use Rattle.broadcast_law.proofs.Beginning.{stands_at}
-use Rattle.broadcast_law.proofs.Numbered.{zip_both, all_seconds, Giving, all_at_ports, spread, all_spread, firsts, IsFit, above_zero}
+use Rattle.broadcast_law.proofs.Numbered.{zip_both, all_seconds, Giving, spread, all_spread, firsts, IsFit, above_zero}
 use Rattle.broadcast_law.proofs.Places.{IsAt}
 use Rattle.connection_law.proofs.View.{IsTold, Has}
 use Rattle.connection_law.proofs.Along.{IsBefore, IsTrueAt}

@@ -8,7 +8,7 @@ use Rattle.port_table.specs.Ports.{Ports, ports_for}
 use Rattle.port_table.specs.declared.port.Port.{Port}
 use Rattle.port_table.specs.declared.port.PortId.{PortId}
 use Rattle.segment_law.specs.Headline.{port_of, IsOpenedFor}
-use Rattle.segment_law.specs.Told.{Message, Placed, items_of, places_of, opened_by, closed_by, sends, sent, openings, closings}
+use Rattle.segment_law.specs.Told.{Message, Placed, places_of, opened_by, closed_by, sends, sent, openings, closings}
 use Rattle.segment_law.specs.Numbering.{item, IsAfter}
 use Rattle.segment_law.specs.Record.{Record}
 use Rattle.segment_law.specs.declared.call.Call.{Call}

@@ -1,6 +1,5 @@
 -- The destination takes a packet or a DPO, or the timer of its session fires.
 use Rattle.std.proofs.Common.{◌≡◌, inl, inr, ℕ, ◌+◌, ◌-◌, ◌<◌, Bool, true, false, List, [], ◌∷◌, ◌++◌, length, Option, Some, None, refl, sym, ap, ◌∙◌, subst, append-nil}
-use Rattle.std.specs.Prelude.{All}
 use Rattle.std.proofs.lemmas.List.{map-append}
 use Rattle.std.proofs.lemmas.Option.{same_Some}
 use Rattle.pgn_ids.specs.Pgn.{clean}
@@ -24,7 +23,7 @@ use Rattle.connection_law.proofs.Frames.{BackEnd}
 use Rattle.connection_law.proofs.View.{Laws, IsMarked, View, kind_of, shape, IsHeardAs, IsSame, IsAlmost, of_kind, Carries, Still, Next, next_still}
 use Rattle.connection_law.proofs.Moves.{IsPlain, Taken, carries_else}
 use Rattle.connection_law.proofs.Follows.{Left, Goes, Whole, Gone, Follows, Keeps, IsWhole}
-use Rattle.connection_law.proofs.Receiver.{Real, tp_with, etp_with, with_kind, of_kind_with, left_of, back_of, told_of, ports_of, settled_view, ShowsPacket, packet_shown, ShowsDpo, dpo_shown, all_last, drops}
+use Rattle.connection_law.proofs.Receiver.{Real, tp_with, etp_with, with_kind, of_kind_with, ports_of, settled_view, ShowsPacket, packet_shown, ShowsDpo, dpo_shown, all_last, drops}
 
 -- nothing more is answered or told
 pub settled_none : (v : View) (kind : Kind) (new : Real) → record (with_kind kind new v) { answers = v.answers ++ []; given = v.given ++ [] } ≡ with_kind kind new v

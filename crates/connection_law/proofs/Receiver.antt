@@ -23,11 +23,11 @@ use Rattle.lane_law.specs.Frame.{Frame, Rts as Begins, Dpo, Packet as Data, Requ
 use Rattle.lane_law.specs.Session.{Session, Given, new_session}
 use Rattle.lane_law.specs.Stream.{IsOfReached}
 use Rattle.lane_law.specs.Lane as machine
-use Rattle.lane_law.specs.Lane.{Reopens, Accepts, Gives, Replies}
+use Rattle.lane_law.specs.Lane.{Reopens, Replies}
 use Rattle.broadcast_law.proofs.Pending.{within}
 use Rattle.broadcast_law.proofs.View.{plain}
 use Rattle.connection_law.proofs.Frames.{Back, BackEnd, BackAck}
-use Rattle.connection_law.proofs.View.{Laws, Mark, Has, IsMarked, View, kind_of, token_of, IsShown, shape, IsPeer, IsCollected, IsHeardAs, IsHeard, IsSame, IsAlmost, of_kind, Carries, Sim, Still, Next, next_still}
+use Rattle.connection_law.proofs.View.{Laws, Mark, Has, IsMarked, View, kind_of, token_of, IsShown, shape, IsHeardAs, IsSame, of_kind, Still}
 use Rattle.connection_law.proofs.Moves.{IsPlain, Taken, carries_else, ends}
 use Rattle.connection_law.proofs.Follows.{Left, Goes, Whole, Gone}
 

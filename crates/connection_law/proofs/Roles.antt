@@ -8,19 +8,18 @@ use Rattle.pgn_ids.specs.declared.address.Address.{Address}
 use Rattle.tp_wire.specs.declared.wire.Kind.{Kind}
 use Rattle.tp_wire.specs.declared.wire.Kind.TheVariants.{Tp, Etp}
 use Rattle.lane_core.specs.Lane.{Lane, new_lane}
-use Rattle.lane_core.specs.Step.{nothing_to_do}
+use Rattle.lane_core.specs.Step.{nothing_to_do, LaneStep}
 use Rattle.lane_core.specs.declared.step.Ended.{Ended}
-use Rattle.lane_core.specs.declared.step.LaneStep.{LaneStep}
 use Rattle.station_lanes.specs.Lanes.{Lanes}
 use Rattle.station_lanes.specs.LaneCalls.{lane_to, outcome_of}
 use Rattle.message_events.specs.declared.event.Event.{Event}
 use Rattle.session_table.specs.Key.{session_for}
 use Rattle.session_table.specs.Sessions.{state_at}
 use Rattle.station_sessions.specs.Receiving.{Inbound}
-use Rattle.station_core.specs.Opening.{key_of}
+use Rattle.station_sessions.specs.Opening.{key_of}
 use Rattle.station_core.specs.Station.{Station, StationStep, by_lane}
 use Rattle.segment_law.specs.Told as told
-use Rattle.segment_law.specs.Told.{AtPort, is_lane, given_to_station, outcome_in}
+use Rattle.segment_law.specs.Told.{AtPort, given_to_station, outcome_in}
 use Rattle.record_lemmas.proofs.Maps.{lane_here}
 use Rattle.lane_law.specs.Lane as machine
 use Rattle.lane_law.specs.Session.{Session}

@@ -1,5 +1,5 @@
 -- The destination's station pumps, cancels, sends, fires a timer, or closes a port.
-use Rattle.std.proofs.Common.{◌≡◌, ◌⊎◌, inl, inr, ℕ, zero, suc, ◌<◌, ◌≤◌, ◌==◌, nat_lt, Bool, true, false, cond, not, List, [], ◌∷◌, ◌++◌, filter_map, length, Option, Some, None, refl, sym, ap, ◌∙◌, subst, arith, append-nil, append_assoc}
+use Rattle.std.proofs.Common.{◌≡◌, ◌⊎◌, inl, inr, ℕ, ◌<◌, ◌==◌, true, List, [], ◌++◌, filter_map, Option, Some, None, refl, sym, ap, ◌∙◌, subst, arith, append-nil}
 use Rattle.bus_frame.specs.Frames.{CanFrame}
 use Rattle.pgn_ids.specs.declared.address.Address.{Address}
 use Rattle.tp_wire.specs.declared.wire.Kind.{Kind}
@@ -15,7 +15,7 @@ use Rattle.port_table.specs.Ports.{Ports}
 use Rattle.lane_core.specs.Pump as lane-pump
 use Rattle.lane_core.specs.Fire as lane-fire
 use Rattle.lane_core.specs.Cancel as lane-cancel
-use Rattle.lane_core.specs.Step.{option_frames}
+use Rattle.tx_queue.specs.Queue.{option_frames}
 use Rattle.session_table.specs.declared.key.Key.{Key}
 use Rattle.session_table.specs.declared.key.SessionKind.{SessionKind}
 use Rattle.session_table.specs.declared.key.SessionKind.TheVariants as session
@@ -27,7 +27,7 @@ use Rattle.session_table.specs.Key.{session_for}
 use Rattle.station_lanes.specs.LaneReaders.{due_lane}
 use Rattle.station_sessions.specs.Receiving.{connection_settled, flow_at, fired_at, fired_by}
 use Rattle.station_core.specs.Station.{Station, StationStep, quietly, by_session}
-use Rattle.station_core.specs.Opening.{key_of}
+use Rattle.station_sessions.specs.Opening.{key_of}
 use Rattle.station_core.specs.Sending.{pumped, cancelled, sent}
 use Rattle.station_core.specs.Timers.{lane_fired, fired}
 use Rattle.record_lemmas.proofs.Maps.{key_cases}
@@ -47,7 +47,7 @@ use Rattle.connection_law.proofs.Replies.{replies_fired}
 use Rattle.connection_law.proofs.Others.{fired_same}
 use Rattle.connection_law.proofs.Tellings.{tells_fired, telling_foreign, telling_broadcast}
 use Rattle.connection_law.proofs.Roles.{station_told, receiver_view, IsReceiverOf, AsideIn, receiver_aside}
-use Rattle.connection_law.proofs.View.{Laws, IsPair, Mark, View, kind_of, IsHeardAs, IsSame, of_kind, Sim, Still, still_same}
+use Rattle.connection_law.proofs.View.{Laws, IsPair, Mark, View, kind_of, IsHeardAs, IsSame, of_kind, Sim, Still}
 use Rattle.connection_law.proofs.Sender.{small_s, small_d}
 use Rattle.connection_law.proofs.Moves.{carries_else, ends}
 use Rattle.connection_law.proofs.Follows.{Left, Goes, Whole, Gone, left_by, Keeps, connection_fired}

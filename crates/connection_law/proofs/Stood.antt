@@ -27,7 +27,7 @@ use Rattle.record_lemmas.proofs.Told.{items_placed, told_last}
 use Rattle.lane_law.specs.Message.{IsSent}
 use Rattle.lane_law.specs.Session.{Given}
 use Rattle.lane_law.specs.Choice as choice
-use Rattle.lane_law.specs.Choice.{IsChoice, IsGiven}
+use Rattle.lane_law.specs.Choice.{IsChoice}
 use Rattle.lane_law.specs.Outcome as fate
 use Rattle.lane_law.specs.Lane as machine
 use Rattle.broadcast_law.proofs.Counted.{at_step, giving}

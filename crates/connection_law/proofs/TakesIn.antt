@@ -27,9 +27,9 @@ use Rattle.responder.specs.Room.{first_join}
 use Rattle.bam_session.specs.States as bam-states
 use Rattle.bam_session.specs.Receiving as bam-steps
 use Rattle.lane_core.specs.Lane.{Lane}
-use Rattle.lane_core.specs.Step.{nothing_to_do, option_frames}
+use Rattle.tx_queue.specs.Queue.{option_frames}
+use Rattle.lane_core.specs.Step.{nothing_to_do, LaneStep}
 use Rattle.lane_core.specs.Hear.{heard}
-use Rattle.lane_core.specs.declared.step.LaneStep.{LaneStep}
 use Rattle.session_table.specs.declared.key.Key.{Key}
 use Rattle.session_table.specs.declared.key.SessionKind.{SessionKind}
 use Rattle.session_table.specs.declared.key.SessionKind.TheVariants as session
@@ -41,14 +41,14 @@ use Rattle.station_lanes.specs.Lanes.{Lanes}
 use Rattle.station_lanes.specs.LaneCalls.{outcome_of}
 use Rattle.message_events.specs.declared.event.Event.{Event}
 use Rattle.station_sessions.specs.Receiving.{Inbound, received, received_by, broadcast_settled, flow_at, aborted_at}
-use Rattle.station_core.specs.Station.{Station, StationStep, quietly, queues, by_lane}
-use Rattle.station_core.specs.Opening.{key_of, refusal, is_tp_size, is_etp_size, set_for, others_than, whole_join, peer_of, rts_taken, bam_taken}
+use Rattle.station_core.specs.Station.{Station, StationStep, quietly, queues, by_lane, by_session}
+use Rattle.station_sessions.specs.Opening.{key_of, refusal, is_tp_size, is_etp_size, set_for, others_than, peer_of, rts_received, bam_received}
 use Rattle.station_core.specs.Taking.{packet_kind, in_session, in_lane, abort_taken, cm_taken, answer, wire_taken, looks_at, meaning_taken, taken}
 use Rattle.record_lemmas.proofs.Maps.{state_put_else, state_dropped_else}
 use Rattle.record_lemmas.proofs.Tests.{on_test, either, by_option}
 use Rattle.broadcast_law.proofs.Carried.{Meaning, IsRead, reading_tells}
 use Rattle.broadcast_law.proofs.LaneSteps.{IsLaneOf}
-use Rattle.broadcast_law.proofs.Receptions.{IsSessionOf, no_broadcast}
+use Rattle.broadcast_law.proofs.Receptions.{no_broadcast}
 use Rattle.broadcast_law.proofs.Stations.{IsOwn}
 use Rattle.connection_law.proofs.Frames.{goes, returns, forward_of, of_forward, is_way, returns_ack_else}
 use Rattle.connection_law.proofs.LaneWires.{FitsOut, out_heard}
@@ -108,7 +108,7 @@ module _ (laws : Laws) (s d : Address) (pair : IsPair s d) where
     broadcast_key : (k : Kind) → own_key k ≡ key_of from session.Broadcast → ⊥
     broadcast_key k e = no_broadcast k (sym (ap (λ (x : Key). x.kind) e))
 
-    fits : (pgn : ℕ) → Rattle.broadcast_law.proofs.SessionSteps.FitsPeer d.0 from.0 (peer_of st from pgn)
+    fits : (pgn : ℕ) → Rattle.broadcast_law.proofs.SessionSteps.FitsPeer d.0 from.0 (peer_of st.address from pgn)
     fits pgn = (ap (λ (x : Address). x.0) h.address, refl)
 
     module _ (small : from.0 < 254) (n : from.0 ≡ s.0 → ⊥) where
@@ -121,12 +121,12 @@ module _ (laws : Laws) (s d : Address) (pair : IsPair s d) where
       else_to : (sessions : Inbound) (frame : Option CanFrame) → ((k : Kind) → state_at sessions (own_key k) ≡ state_at st.sessions (own_key k)) → RepliesIn d.0 from.0 frame → Aside st (record { station = record st { queue = st.queue ++ option_frames frame; sessions = sessions }; events = [] })
       else_to sessions frame same e = in_session_else st sessions frame [] same (elsewhere frame e) refl
 
-      rts : (kind : Kind) (is_size : Bool) (size most pgn : ℕ) (room : Bool) (now : ℕ) → Aside st (quietly (rts_taken st kind is_size from size most pgn room now))
+      rts : (kind : Kind) (is_size : Bool) (size most pgn : ℕ) (room : Bool) (now : ℕ) → Aside st (by_session st (rts_received st.address st.ports kind is_size from size most pgn room now st.sessions))
       rts kind is_size size most pgn room now =
-          let m : Unfinished = begun kind (peer_of st from pgn) most (first_join kind size (flow_at st.ports (set_for st pgn size))) in
-          by_option (λ x. Aside st (quietly x)) (refusal is_size room (set_for st pgn size) (others_than st (key_of from (session_for kind)))) _ _
-          (else_to _ (Some (asked m (flow_at st.ports (set_for st pgn size)))) (λ k. state_put_else st.sessions (key_of from (session_for kind)) _ (own_key k) (apart_key (session_for kind) n k)) (asked_in d.0 from.0 m (flow_at st.ports (set_for st pgn size)) (fits pgn)))
-          (λ reason. else_to _ (Some (abort_frame kind (peer_of st from pgn) (reason_byte reason))) (λ k. state_dropped_else st.sessions (key_of from (session_for kind)) (own_key k) (apart_key (session_for kind) n k)) (aborted_in d.0 from.0 kind (peer_of st from pgn) (reason_byte reason) (fits pgn)))
+          let m : Unfinished = begun kind (peer_of st.address from pgn) most (first_join kind size (flow_at st.ports (set_for st.ports pgn size))) in
+          by_option (λ r. Aside st (by_session st r)) (refusal is_size room (set_for st.ports pgn size) (others_than st.sessions (key_of from (session_for kind)))) _ _
+          (else_to _ (Some (asked m (flow_at st.ports (set_for st.ports pgn size)))) (λ k. state_put_else st.sessions (key_of from (session_for kind)) _ (own_key k) (apart_key (session_for kind) n k)) (asked_in d.0 from.0 m (flow_at st.ports (set_for st.ports pgn size)) (fits pgn)))
+          (λ reason. else_to _ (Some (abort_frame kind (peer_of st.address from pgn) (reason_byte reason))) (λ k. state_dropped_else st.sessions (key_of from (session_for kind)) (own_key k) (apart_key (session_for kind) n k)) (aborted_in d.0 from.0 kind (peer_of st.address from pgn) (reason_byte reason) (fits pgn)))
 
       its_session : (kind : SessionKind) (wire : Wire) (room : Bool) (now : ℕ) → Aside st (in_session st (key_of from kind) wire room now)
       its_session kind wire room now = in_session_else st _ (received st.ports (key_of from kind) wire room now st.sessions).frame (received st.ports (key_of from kind) wire room now st.sessions).events
@@ -134,8 +134,8 @@ module _ (laws : Laws) (s d : Address) (pair : IsPair s d) where
           (elsewhere _ (replies_received d (key_of from kind) st.sessions st.ports h.sessions wire room now))
           (telling_foreign s d d d (key_of from kind) _ n (tells_received d (key_of from kind) st.sessions st.ports h.ports.station h.sessions wire room now))
 
-    bam : (size packets pgn : ℕ) (room : Bool) (now : ℕ) → Aside st (quietly (bam_taken st from size packets pgn room now))
-    bam size packets pgn room now = by_option (λ x. Aside st (quietly x)) (refusal (is_tp_size size packets) room (set_for st pgn size) (others_than st (key_of from session.Broadcast))) _ _
+    bam : (size packets pgn : ℕ) (room : Bool) (now : ℕ) → Aside st (by_session st (bam_received st.ports from size packets pgn room now st.sessions))
+    bam size packets pgn room now = by_option (λ r. Aside st (by_session st r)) (refusal (is_tp_size size packets) room (set_for st.ports pgn size) (others_than st.sessions (key_of from session.Broadcast))) _ _
         (in_session_else st _ None [] (λ k. state_put_else st.sessions (key_of from session.Broadcast) _ (own_key k) (broadcast_key k)) refl refl)
         (λ reason. in_session_else st _ None [] (λ k. state_dropped_else st.sessions (key_of from session.Broadcast) (own_key k) (broadcast_key k)) refl refl)
 

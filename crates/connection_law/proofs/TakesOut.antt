@@ -23,17 +23,17 @@ use Rattle.responder.specs.Asking.{asked}
 use Rattle.responder.specs.Room.{first_join}
 use Rattle.session_table.specs.Key.{session_for}
 use Rattle.lane_core.specs.Lane.{Lane, new_lane}
-use Rattle.lane_core.specs.Step.{nothing_to_do, option_frames}
+use Rattle.tx_queue.specs.Queue.{option_frames}
+use Rattle.lane_core.specs.Step.{nothing_to_do, LaneStep}
 use Rattle.lane_core.specs.Hear.{heard}
 use Rattle.lane_core.specs.Answer.{answered}
-use Rattle.lane_core.specs.declared.step.LaneStep.{LaneStep}
 use Rattle.session_table.specs.declared.key.SessionKind.{SessionKind}
 use Rattle.session_table.specs.declared.key.SessionKind.TheVariants as session
 use Rattle.station_lanes.specs.Lanes.{Lanes}
-use Rattle.station_lanes.specs.LaneCalls.{lane_to, stepped_lanes, step_at}
+use Rattle.station_lanes.specs.LaneCalls.{lane_to, stepped_lanes}
 use Rattle.station_sessions.specs.Receiving.{received, flow_at, aborted_at}
-use Rattle.station_core.specs.Station.{Station, StationStep, quietly, by_lane}
-use Rattle.station_core.specs.Opening.{key_of, refusal, is_tp_size, is_etp_size, set_for, others_than, whole_join, peer_of, rts_taken, bam_taken}
+use Rattle.station_core.specs.Station.{Station, StationStep, quietly, by_lane, by_session}
+use Rattle.station_sessions.specs.Opening.{key_of, refusal, is_tp_size, is_etp_size, set_for, others_than, peer_of, rts_received, bam_received}
 use Rattle.station_core.specs.Taking.{packet_kind, in_session, in_lane, abort_taken, cm_taken, answer, wire_taken, looks_at, meaning_taken, taken}
 use Rattle.record_lemmas.proofs.Maps.{lane_else, lane_here}
 use Rattle.record_lemmas.proofs.Segments.{same_address}
@@ -122,18 +122,18 @@ module _ (laws : Laws) (s d : Address) (pair : IsPair s d) where
       low : from.0 < 256
       low = omega arith
 
-      fits : (pgn : ℕ) → Rattle.broadcast_law.proofs.SessionSteps.FitsPeer s.0 from.0 (peer_of st from pgn)
+      fits : (pgn : ℕ) → Rattle.broadcast_law.proofs.SessionSteps.FitsPeer s.0 from.0 (peer_of st.address from pgn)
       fits pgn = (ap (λ (x : Address). x.0) k.address, refl)
 
-      rts : (kind : Kind) (is_size : Bool) (size most pgn : ℕ) (room : Bool) (now : ℕ) → Aside st (quietly (rts_taken st kind is_size from size most pgn room now))
+      rts : (kind : Kind) (is_size : Bool) (size most pgn : ℕ) (room : Bool) (now : ℕ) → Aside st (by_session st (rts_received st.address st.ports kind is_size from size most pgn room now st.sessions))
       rts kind is_size size most pgn room now =
-          let m : Unfinished = begun kind (peer_of st from pgn) most (first_join kind size (flow_at st.ports (set_for st pgn size))) in
-          by_option (λ x. Aside st (quietly x)) (refusal is_size room (set_for st pgn size) (others_than st (key_of from (session_for kind)))) _ _
-          (out_session st _ from.0 (Some (asked m (flow_at st.ports (set_for st pgn size)))) [] low (asked_in s.0 from.0 m (flow_at st.ports (set_for st pgn size)) (fits pgn)) refl)
-          (λ reason. out_session st _ from.0 (Some (abort_frame kind (peer_of st from pgn) (reason_byte reason))) [] low (aborted_in s.0 from.0 kind (peer_of st from pgn) (reason_byte reason) (fits pgn)) refl)
+          let m : Unfinished = begun kind (peer_of st.address from pgn) most (first_join kind size (flow_at st.ports (set_for st.ports pgn size))) in
+          by_option (λ r. Aside st (by_session st r)) (refusal is_size room (set_for st.ports pgn size) (others_than st.sessions (key_of from (session_for kind)))) _ _
+          (out_session st _ from.0 (Some (asked m (flow_at st.ports (set_for st.ports pgn size)))) [] low (asked_in s.0 from.0 m (flow_at st.ports (set_for st.ports pgn size)) (fits pgn)) refl)
+          (λ reason. out_session st _ from.0 (Some (abort_frame kind (peer_of st.address from pgn) (reason_byte reason))) [] low (aborted_in s.0 from.0 kind (peer_of st.address from pgn) (reason_byte reason) (fits pgn)) refl)
 
-      bam : (size packets pgn : ℕ) (room : Bool) (now : ℕ) → Aside st (quietly (bam_taken st from size packets pgn room now))
-      bam size packets pgn room now = by_option (λ x. Aside st (quietly x)) (refusal (is_tp_size size packets) room (set_for st pgn size) (others_than st (key_of from session.Broadcast))) _ _
+      bam : (size packets pgn : ℕ) (room : Bool) (now : ℕ) → Aside st (by_session st (bam_received st.ports from size packets pgn room now st.sessions))
+      bam size packets pgn room now = by_option (λ r. Aside st (by_session st r)) (refusal (is_tp_size size packets) room (set_for st.ports pgn size) (others_than st.sessions (key_of from session.Broadcast))) _ _
           (out_session st _ from.0 None [] low tt refl) (λ reason. out_session st _ from.0 None [] low tt refl)
 
       in_its_session : (kind : SessionKind) (wire : Wire) (room : Bool) (now : ℕ) → Aside st (in_session st (key_of from kind) wire room now)

@@ -11,11 +11,9 @@ use Rattle.tp_wire.specs.declared.wire.Wire.TheVariants.{Cm, Packet, Request, Ac
 use Rattle.port_table.specs.Ports.{Ports, next_id, with_port, without_port, with_paused}
 use Rattle.port_table.specs.declared.port.PortId.{PortId}
 use Rattle.session_table.specs.DueOrder.{first_due}
-use Rattle.session_table.specs.declared.key.SessionKind.TheVariants as session
 use Rattle.station_lanes.specs.LaneReaders.{due_lane}
 use Rattle.message_events.specs.declared.event.Event.{Event}
 use Rattle.station_core.specs.Closing.{closed_below, closed}
-use Rattle.station_core.specs.Opening.{key_of, refusal, is_tp_size, is_etp_size, set_for, others_than}
 use Rattle.station_core.specs.Station.{Station, StationStep}
 use Rattle.station_core.specs.Taking.{cm_taken, wire_taken, looks_at, meaning_taken, taken}
 use Rattle.station_core.specs.Timers.{lane_fired, fired}
@@ -157,12 +155,12 @@ module _ (st : Station) where
   Stay step = step.station.ports ≡ st.ports
 
   cm_ports : (frame : CmFrame) (from : Address) (room : Bool) (now : ℕ) → Stay (cm_taken st frame from room now)
-  cm_ports (Rts size packets most pgn) from room now = by_option (λ (x : Station). x.ports ≡ st.ports) (refusal (is_tp_size size packets) room (set_for st pgn size) (others_than st (key_of from session.Tp))) _ _ refl (λ _. refl)
+  cm_ports (Rts size packets most pgn) from room now = refl
   cm_ports (Cts count next pgn) from room now = refl
   cm_ports (EndOfMsgAck size packets pgn) from room now = refl
-  cm_ports (Bam size packets pgn) from room now = by_option (λ (x : Station). x.ports ≡ st.ports) (refusal (is_tp_size size packets) room (set_for st pgn size) (others_than st (key_of from session.Broadcast))) _ _ refl (λ _. refl)
+  cm_ports (Bam size packets pgn) from room now = refl
   cm_ports (Abort reason pgn) from room now = refl
-  cm_ports (EtpRts size pgn) from room now = by_option (λ (x : Station). x.ports ≡ st.ports) (refusal (is_etp_size size) room (set_for st pgn size) (others_than st (key_of from session.Etp))) _ _ refl (λ _. refl)
+  cm_ports (EtpRts size pgn) from room now = refl
   cm_ports (EtpCts count next pgn) from room now = refl
   cm_ports (EtpDpo packets offset pgn) from room now = refl
   cm_ports (EtpEoma size pgn) from room now = refl

@@ -9,7 +9,6 @@ use Rattle.tp_wire.specs.declared.wire.Wire.TheVariants.{Cm, Packet, Request, Ac
 use Rattle.seg_cut.specs.Join.{Join}
 use Rattle.responder.specs.Peer.{Peer}
 use Rattle.responder.specs.Unfinished.{Unfinished}
-use Rattle.responder.specs.States as states
 use Rattle.responder.specs.Steps.{stepped}
 use Rattle.responder.specs.Room.{prepared}
 use Rattle.responder.specs.declared.flow.Flow.{Flow}

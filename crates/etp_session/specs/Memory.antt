@@ -5,7 +5,7 @@ use Rattle.tp_wire.specs.declared.wire.Kind.TheVariants.{Etp}
 use Rattle.seg_cut.specs.Join.{Join}
 use Rattle.responder.specs.Unfinished.{Unfinished}
 use Rattle.responder.specs.Window.{window}
-use Rattle.responder.specs.States.{AwaitPacket, Holding}
+use Rattle.responder.specs.States.{AwaitPacket}
 use Rattle.responder.specs.declared.in_state.InState.{InState}
 use Rattle.responder.specs.declared.in_state.InState.TheVariants as InState
 use Rattle.responder.specs.declared.received.Received.{Received}

@@ -11,5 +11,5 @@ mod opening;
 
 pub use laws::{memory_grows_by_the_window, rows_are_those_of_etp};
 pub use opening::{accept, begin};
-pub use originator::{AwaitCts, AwaitEnd, Burst, OutOver, OutState, Sending, Stepped};
+pub use originator::{AwaitCts, AwaitEnd, OutOver, OutState, Sending, Stepped};
 pub use responder::{AwaitPacket, Finished, Flow, Holding, InState, Peer, Received};

@@ -8,7 +8,7 @@ use Rattle.pgn_ids.specs.Address.{is_one}
 use Rattle.pgn_ids.specs.declared.address.Address.{Address}
 use Rattle.tx_queue.specs.Queue.{free_places, front}
 use Rattle.bus_order.specs.Bus as bus
-use Rattle.bus_order.specs.Bus.{Bus, is_full}
+use Rattle.bus_order.specs.Bus.{is_full}
 use Rattle.lane_core.specs.declared.refused.PumpRefused.{PumpRefused}
 use Rattle.station_lanes.specs.LaneReaders.{refusal_at}
 use Rattle.station_core.specs.Station.{Station, StationStep, new_station}
@@ -18,7 +18,7 @@ use Rattle.segment_law.specs.Calls.{at_place, at_station, called, replied, appli
 use Rattle.segment_law.specs.Record.{Record}
 use Rattle.segment_law.specs.Reached.{IsReached}
 use Rattle.segment_law.specs.Drive as drive
-use Rattle.segment_law.specs.Drive.{Driven, events_in, with_call, stops_at, goes_on, pumps_again, puts, with_put, has_queued}
+use Rattle.segment_law.specs.Drive.{events_in, with_call, stops_at, goes_on, pumps_again, puts, with_put, has_queued}
 use Rattle.segment_law.specs.declared.call.Call.TheVariants.{Pump, Transmit}
 use Rattle.segment_law.specs.declared.refusal.Refusal.TheVariants as refusal
 use Rattle.segment_law.specs.declared.reply.Reply.{Reply}

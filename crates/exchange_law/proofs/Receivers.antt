@@ -26,7 +26,7 @@ use Rattle.session_table.proofs.Keys.{key_total}
 use Rattle.session_table.proofs.Tables.{key_eq-refl}
 use Rattle.station_sessions.specs.Steps.{flow_of}
 use Rattle.station_sessions.specs.Receiving.{Inbound, flow_at, connection_settled, received_by}
-use Rattle.station_core.specs.Opening.{key_of, others_than, set_for, refusal}
+use Rattle.station_sessions.specs.Opening.{key_of, others_than, set_for, refusal}
 use Rattle.station_core.specs.Station.{Station, by_session}
 use Rattle.station_core.specs.Taking.{packet_kind, in_session}
 use Rattle.segment_law.specs.Quiet.{takers, has_place}
@@ -62,7 +62,7 @@ module _ (e : Sent) where
   key_is Tp = ap (λ (b : Bool). key_of (s e) (cond b session.Broadcast session.Tp)) (not_to_all e)
   key_is Etp = refl
 
-  pub set_is : (queue : List CanFrame) (sessions : Inbound) → set_for (hears queue sessions) e.m.pgn (len e) ≡ set
+  pub set_is : (queue : List CanFrame) (sessions : Inbound) → set_for (hears queue sessions).ports e.m.pgn (len e) ≡ set
   set_is queue sessions = ap (λ (p : ℕ). ports_for e.pair.ys.ports p (len e)) (clean_is e.m.pgn e.pgn).1
 
   module _ (h : Welcome e) where
@@ -70,9 +70,9 @@ module _ (e : Sent) where
     flow_is = ap flow_of h.flowing
 
     -- the session opens
-    pub admits : (kind : Kind) → e.kind ≡ kind → refusal true true set (others_than (hears [] e.pair.ys.sessions) (key kind)) ≡ None
+    pub admits : (kind : Kind) → e.kind ≡ kind → refusal true true set (others_than (hears [] e.pair.ys.sessions).sessions (key kind)) ≡ None
     admits kind is =
-        let others : ℕ = others_than e.pair.ys (key kind) in
+        let others : ℕ = others_than e.pair.ys.sessions (key kind) in
         let both : (nat_lt 0 (length set) ≡ true) × (nat_lt others MAX_SESSIONS ≡ true) = and_parts (nat_lt 0 (length set)) (nat_lt others MAX_SESSIONS) (ap (λ (k : Kind). has_place e.pair.ys e.m (s e) (session_for k)) (sym is) ∙ h.place) in
         let long : 0 < length set = ltb-true 0 (length set) both.0 in
         let some : (length set == 0) ≡ false = ne_eqb (length set) 0 (λ q. absurd (omega (arith, q, long))) in

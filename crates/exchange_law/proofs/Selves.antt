@@ -7,7 +7,7 @@ use Rattle.lane_core.specs.declared.message.Pending.{Pending}
 use Rattle.segment_law.specs.Told.{Message, sent_by}
 use Rattle.segment_law.specs.Segment.{Segment, new_segment, lane_at}
 use Rattle.segment_law.specs.Calls as calls
-use Rattle.segment_law.specs.Calls.{Answer, at_station, at_place, called, applied, replied, is_call}
+use Rattle.segment_law.specs.Calls.{applied}
 use Rattle.segment_law.specs.Record.{Record, StandsAt}
 use Rattle.segment_law.specs.Reached.{IsReached}
 use Rattle.segment_law.specs.declared.call.Call.{Call}

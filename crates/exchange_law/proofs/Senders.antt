@@ -43,7 +43,7 @@ use Rattle.lane_core.specs.declared.probe.Standing.TheVariants.{Settled}
 use Rattle.lane_core.specs.declared.probe.Token.{Token}
 use Rattle.lane_core.specs.declared.refused.PumpRefused.{PumpRefused}
 use Rattle.lane_core.specs.declared.refused.PumpRefused.TheVariants as pump
-use Rattle.lane_core.specs.declared.step.LaneStep.{LaneStep}
+use Rattle.lane_core.specs.Step.{LaneStep}
 use Rattle.station_lanes.specs.Lanes.{Lanes}
 use Rattle.station_lanes.specs.LaneCalls.{outcome_of}
 use Rattle.station_lanes.specs.LaneReaders.{refusal_at}

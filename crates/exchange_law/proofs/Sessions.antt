@@ -12,9 +12,9 @@ use Rattle.tp_wire.specs.declared.constants.TheConstants.{MIN_SIZE, TP_MAX_SIZE,
 use Rattle.tp_wire.specs.declared.reason.AbortReason.{AbortReason}
 use Rattle.tp_wire.specs.declared.wire.Kind.{Kind}
 use Rattle.tp_wire.specs.declared.wire.Kind.TheVariants.{Tp, Etp}
-use Rattle.tp_wire.specs.declared.wire.CmFrame.TheVariants.{Rts, EtpRts, EtpDpo}
+use Rattle.tp_wire.specs.declared.wire.CmFrame.TheVariants.{EtpDpo}
 use Rattle.tp_wire.specs.declared.wire.Wire.{Wire}
-use Rattle.tp_wire.specs.declared.wire.Wire.TheVariants.{Cm, Packet}
+use Rattle.tp_wire.specs.declared.wire.Wire.TheVariants.{Cm}
 use Rattle.seg_cut.specs.Packets.{packet_count, packet}
 use Rattle.seg_cut.specs.Join.{Join, IsFrontOf, joined, is_complete, wants_last, with_room}
 use Rattle.tick_timers.specs.Timers.{Timer}
@@ -22,8 +22,8 @@ use Rattle.tick_timers.specs.declared.durations.TheConstants.{T2}
 use Rattle.originator.specs.Link.{request_to_send}
 use Rattle.originator.specs.Pump.{sequence_of}
 use Rattle.responder.specs.Answers.{abort_frame, end_frame}
-use Rattle.responder.specs.Unfinished.{Unfinished, begun, number_of, with_packet, finished}
-use Rattle.responder.specs.Window.{most_of, window, clear_to_send}
+use Rattle.responder.specs.Unfinished.{Unfinished, begun, finished}
+use Rattle.responder.specs.Window.{clear_to_send}
 use Rattle.responder.specs.States as states
 use Rattle.responder.specs.States.{announced_at_first}
 use Rattle.responder.specs.Asking.{asking, asked, asks}
@@ -41,10 +41,11 @@ use Rattle.session_table.specs.declared.key.Key.{Key}
 use Rattle.session_table.specs.declared.incoming.Incoming.{Incoming}
 use Rattle.session_table.specs.declared.incoming.Incoming.TheVariants as incoming
 use Rattle.station_sessions.specs.Given.{given_to}
-use Rattle.station_sessions.specs.Receiving.{Inbound, connection_settled}
+use Rattle.station_sessions.specs.Receiving.{Inbound, connection_settled, Reception}
 use Rattle.station_sessions.proofs.SessionMaps.{insert_again}
-use Rattle.station_core.specs.Opening.{others_than, set_for, is_tp_size, is_etp_size, refusal, connection_opened, opened, not_opened, rts_taken}
-use Rattle.station_core.specs.Station.{Station, StationStep, quietly, by_session}
+use Rattle.station_sessions.specs.Opening.{others_than, set_for, is_tp_size, is_etp_size, refusal, connection_opened, rts_received}
+use Rattle.station_sessions.specs.Receiving.{goes_on_at, ended_at}
+use Rattle.station_core.specs.Station.{Station, StationStep, by_session}
 use Rattle.station_core.specs.Taking.{in_session, wire_taken}
 use Rattle.segment_law.specs.Quiet.{given_by}
 use Rattle.record_lemmas.proofs.Told.{clean_is}
@@ -154,18 +155,18 @@ module _ (e : Sent) where
     first kind = begun kind (peer e) (widest kind) (first_join kind (len e) Open)
 
     begins : (kind : Kind) → e.kind ≡ kind → (is_size : Bool) → is_size ≡ true → (now : ℕ)
-        → quietly (rts_taken st0 kind is_size (s e) (len e) (widest kind) e.m.pgn true now)
-        ≡ quietly (opened st0 (key e kind) (set e) (incoming.Connection (asking (first kind) Open now)) (Some (asked (first kind) Open)))
+        → by_session st0 (rts_received st0.address st0.ports kind is_size (s e) (len e) (widest kind) e.m.pgn true now st0.sessions)
+        ≡ by_session st0 (goes_on_at (key e kind) (set e) st0.sessions (incoming.Connection (asking (first kind) Open now)) (Some (asked (first kind) Open)))
     begins kind is is_size sized now =
-        ap (λ (b : Bool). quietly (by (refusal b true (set_for st0 e.m.pgn (len e)) (others_than st0 (key e kind))) (set_for st0 e.m.pgn (len e)))) sized
-        ∙ ap (λ (zs : List ℕ). quietly (by (refusal true true zs (others_than st0 (key e kind))) zs)) (set_is e [] e.pair.ys.sessions)
-        ∙ ap (λ (o : Option AbortReason). quietly (by o (set e))) (admits e h kind is)
-        ∙ ap (λ (flow : Flow). quietly (opened st0 (key e kind) (set e) (incoming.Connection (asking (begun kind (peer e) (widest kind) (first_join kind (len e) flow)) flow now)) (Some (asked (begun kind (peer e) (widest kind) (first_join kind (len e) flow)) flow)))) (flow_is e h)
+        ap (λ (b : Bool). by_session st0 (by (refusal b true (set_for st0.ports e.m.pgn (len e)) (others_than st0.sessions (key e kind))) (set_for st0.ports e.m.pgn (len e)))) sized
+        ∙ ap (λ (zs : List ℕ). by_session st0 (by (refusal true true zs (others_than st0.sessions (key e kind))) zs)) (set_is e [] e.pair.ys.sessions)
+        ∙ ap (λ (o : Option AbortReason). by_session st0 (by o (set e))) (admits e h kind is)
+        ∙ ap (λ (flow : Flow). by_session st0 (goes_on_at (key e kind) (set e) st0.sessions (incoming.Connection (asking (begun kind (peer e) (widest kind) (first_join kind (len e) flow)) flow now)) (Some (asked (begun kind (peer e) (widest kind) (first_join kind (len e) flow)) flow)))) (flow_is e h)
       where
-        by : Option AbortReason → List ℕ → Station
-        by o zs = elim o as (λ (_ : Option AbortReason). Station) [
-          | None ↦ connection_opened st0 (key e kind) zs kind (peer e) (len e) (widest kind) now
-          | Some reason ↦ not_opened st0 (key e kind) (Some (abort_frame kind (peer e) (reason_byte reason)))
+        by : Option AbortReason → List ℕ → Reception
+        by o zs = elim o as (λ (_ : Option AbortReason). Reception) [
+          | None ↦ connection_opened st0.ports (key e kind) zs kind (peer e) (len e) (widest kind) now st0.sessions
+          | Some reason ↦ ended_at (key e kind) st0.sessions (Some (abort_frame kind (peer e) (reason_byte reason)))
         ]
 
     pub opens : (kind : Kind) → e.kind ≡ kind → (now : ℕ) → Goes kind (cts kind 1 ∷ []) false 1 (1 - 1 + grant kind 1) 1 (wire_taken (hears e [] e.pair.ys.sessions) (Cm (request_to_send kind (len e) e.m.pgn)) (s e) (d e) true now)

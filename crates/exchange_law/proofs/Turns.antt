@@ -18,7 +18,7 @@ use Rattle.segment_law.specs.Calls.{no_place, is_address}
 use Rattle.segment_law.specs.Record.{Record}
 use Rattle.segment_law.specs.Reached.{IsReached}
 use Rattle.segment_law.specs.Drive as drive
-use Rattle.segment_law.specs.Drive.{Driven, events_in, goes_on, puts, has_queued, turn_puts, all_take, turn}
+use Rattle.segment_law.specs.Drive.{Driven, events_in, goes_on, puts, has_queued, all_take, turn}
 use Rattle.segment_law.specs.declared.call.Call.TheVariants.{Pump, Transmit}
 use Rattle.segment_law.specs.declared.reply.Reply.TheVariants.{Done}
 use Rattle.quiet_law.proofs.Sweeps.{under_way, Offers, Swept, sweep_free, after, told_by}

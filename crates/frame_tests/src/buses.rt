@@ -40,6 +40,16 @@ fn skip(rt: &impl Abort, log: &mut BusLog, cursor: usize, frames: u64) -> bool {
     log.skip(cursor, frames)
 }
 
+fn peek(rt: &impl Abort, log: &BusLog, cursor: usize) -> Option<Frame> {
+    assert!(rt; cursor < log.stations());
+    log.peek(cursor).copied()
+}
+
+fn pass(rt: &impl Abort, log: &mut BusLog, cursor: usize) {
+    assert!(rt; cursor < log.stations() && log.waiting(cursor) > 0);
+    log.pass(cursor)
+}
+
 fn release(log: &mut BusLog) {
     log.release()
 }
@@ -155,6 +165,29 @@ fn take_repeat_and_pass_over(rt: &impl Abort, log: &mut BusLog) -> Result<(), Fa
     repeats(rt, log, None)?;
     takes(rt, log, 0, Some(5))?;
     takes(rt, log, 0, None)
+}
+
+#[test]
+fn a_station_sees_a_frame_and_takes_it(rt: HostRuntime) -> Result<(), Fail> {
+    let mut log = new_log(rt.alloc(), 2)?;
+    assert_eq!(rt; peek(&rt, &log, 0), None);
+    for place in 1..=3u64 {
+        assert_eq!(rt; put(&mut log, frame_of(place)?), Ok(()));
+    }
+    for place in 1..=3u64 {
+        assert_eq!(rt; peek(&rt, &log, 0), Some(frame_of(place)?));
+        pass(&rt, &mut log, 0);
+    }
+    assert_eq!(rt; peek(&rt, &log, 0), None);
+    assert_eq!(rt; again(&rt, &log, 0), Some(frame_of(3)?));
+    pass(&rt, &mut log, 1);
+    pass(&rt, &mut log, 1);
+    assert_eq!(rt;
+        (frame(&log, 1), frame(&log, 2)),
+        (None, Some(frame_of(2)?))
+    );
+    assert_eq!(rt; waiting(&rt, &log, 1), 1);
+    Ok(())
 }
 
 #[test]

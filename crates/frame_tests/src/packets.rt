@@ -49,6 +49,18 @@ fn nine_bytes_come_in_two_packets(rt: HostRuntime) -> Result<(), Fail> {
 }
 
 #[test]
+fn a_packet_is_put_where_there_is_room(rt: HostRuntime) -> Result<(), Fail> {
+    let mut join = Join::new(rt.alloc(), 9);
+    join.make_room(2)?;
+    join.put_inner(&packet(&MESSAGE, 1));
+    assert_eq!(rt; (join.next(), join.room(), join.capacity()), (2, 1, 9));
+    join.put(2, packet(&MESSAGE, 2))?;
+    let bytes = join.finish().map_err(|_| "not finished")?;
+    assert_eq!(rt; bytes.as_slice(), MESSAGE.as_slice());
+    Ok(())
+}
+
+#[test]
 fn room_is_one_block(rt: HostRuntime) -> Result<(), Fail> {
     let mut join = Join::new(rt.alloc(), 117_440_505);
     assert_eq!(rt; join.capacity(), 0);

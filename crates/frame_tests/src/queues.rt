@@ -17,6 +17,11 @@ fn push(queue: &mut TxQueue, frame: Frame) -> Result<(), TxFull> {
     queue.push(frame)
 }
 
+fn push_free(rt: &impl Abort, queue: &mut TxQueue, frame: Frame) {
+    assert!(rt; queue.free() > 0);
+    queue.push_free(frame)
+}
+
 fn pop(queue: &mut TxQueue) -> Option<Frame> {
     queue.pop()
 }
@@ -50,6 +55,9 @@ fn empty(rt: &impl Abort, queue: &mut TxQueue) -> Result<(), Fail> {
         assert!(rt; pop(queue) == expected);
     }
     assert!(rt; front(queue).is_none() && queue.is_empty());
+    let expected = frame_of(65)?;
+    push_free(rt, queue, expected);
+    assert!(rt; pop(queue) == Some(expected));
     Ok(())
 }
 

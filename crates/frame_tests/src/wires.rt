@@ -10,6 +10,42 @@ fn frame_of(id: u32, bytes: &[u8]) -> Result<Frame, Fail> {
     Ok(Frame::new(CanId::new(id)?, bytes)?)
 }
 
+fn is_heard_as(heard: &Heard<'_>, wire: &Wire) -> bool {
+    let same = match heard {
+        Heard::Cm(frame) => Wire::Cm(*frame),
+        Heard::Packet {
+            kind,
+            sequence,
+            bytes,
+        } => Wire::Packet {
+            kind: *kind,
+            sequence: *sequence,
+            bytes: **bytes,
+        },
+        Heard::Request { pgn } => Wire::Request { pgn: *pgn },
+        Heard::Ack {
+            control,
+            address,
+            pgn,
+        } => Wire::Ack {
+            control: *control,
+            address: *address,
+            pgn: *pgn,
+        },
+    };
+    same == *wire
+}
+
+// Whether it is heard in place from and to these addresses.
+fn is_heard(frame: &Frame, wire: &Wire, from: Address, to: Address) -> bool {
+    match read_in_place(frame) {
+        None => false,
+        Some((heard, source, destination)) => {
+            is_heard_as(&heard, wire) && source == from && destination == to
+        }
+    }
+}
+
 // Whether a frame has this meaning, source and destination, and is what is written for them.
 fn means(frame: &Frame, wire: &Wire, from: Address, to: Address) -> bool {
     let Some((read_wire, source, destination)) = read(frame) else {
@@ -19,6 +55,7 @@ fn means(frame: &Frame, wire: &Wire, from: Address, to: Address) -> bool {
         && source == from
         && destination == to
         && write(read_wire, source, destination) == *frame
+        && is_heard(frame, wire, from, to)
 }
 
 #[test]
@@ -250,6 +287,7 @@ fn malformed_frames_have_no_meaning(rt: HostRuntime) -> Result<(), Fail> {
     ] {
         let frame = frame_of(id, &bytes)?;
         assert!(rt; read(&frame) == None && is_transport(&frame), "at {id:08X}");
+        assert!(rt; read_in_place(&frame).is_none(), "at {id:08X}");
     }
     for (id, len) in [(0x1CEC_3580, 7), (0x18EA_3521, 2)] {
         let frame = frame_of(id, &[0x10, 0x09, 0x00, 0x02, 0xFF, 0xCA, 0xFE][..len])?;

@@ -5,7 +5,7 @@ use Rattle.tp_wire.specs.declared.outcome.Outcome.TheVariants.{Cancelled}
 use Rattle.originator.specs.Readers.{link_of}
 use Rattle.originator.specs.Endings as out
 use Rattle.lane_core.specs.declared.place.UnderWay.TheVariants.{Broadcast, Connection, Nothing}
-use Rattle.lane_core.specs.declared.step.LaneStep.{LaneStep}
+use Rattle.lane_core.specs.Step.{LaneStep}
 use Rattle.lane_core.specs.declared.message.Pending.{Pending}
 use Rattle.lane_core.specs.declared.place.UnderWay.{UnderWay}
 use Rattle.lane_core.specs.Lane.{Lane}

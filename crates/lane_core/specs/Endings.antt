@@ -11,11 +11,11 @@ use Rattle.originator.specs.declared.states.Stepped.{Stepped}
 use Rattle.lane_core.specs.declared.place.UnderWay.TheVariants.{Connection, Nothing}
 use Rattle.lane_core.specs.declared.step.Ended.{Ended}
 use Rattle.lane_core.specs.declared.probe.Standing.TheVariants.{InDoubt}
-use Rattle.lane_core.specs.declared.step.LaneStep.{LaneStep}
+use Rattle.lane_core.specs.Step.{LaneStep, nothing_to_do}
 use Rattle.lane_core.specs.declared.message.Pending.{Pending}
 use Rattle.lane_core.specs.declared.probe.Standing.{Standing}
 use Rattle.lane_core.specs.Lane.{Lane, with_under_way}
-use Rattle.lane_core.specs.Step.{nothing_to_do, option_frames}
+use Rattle.tx_queue.specs.Queue.{option_frames}
 
 abbrev pub is_acknowledged : Outcome → Bool
 is_acknowledged Acknowledged = true

@@ -5,7 +5,7 @@ use Rattle.tp_wire.specs.declared.outcome.Outcome.TheVariants.{Unreachable}
 use Rattle.originator.specs.Endings.{expired}
 use Rattle.originator.specs.Readers.{has_timer, is_state_due, link_of}
 use Rattle.lane_core.specs.declared.place.UnderWay.TheVariants.{Broadcast, Connection, Nothing}
-use Rattle.lane_core.specs.declared.step.LaneStep.{LaneStep}
+use Rattle.lane_core.specs.Step.{LaneStep}
 use Rattle.lane_core.specs.declared.probe.Standing.TheVariants.{Probing}
 use Rattle.lane_core.specs.declared.probe.Standing.{Standing}
 use Rattle.lane_core.specs.declared.place.UnderWay.{UnderWay}

@@ -12,7 +12,7 @@ use Rattle.originator.specs.Endings.{aborted}
 use Rattle.originator.specs.Readers.{is_of}
 use Rattle.originator.specs.Step.{stepped}
 use Rattle.lane_core.specs.declared.place.UnderWay.TheVariants.{Connection}
-use Rattle.lane_core.specs.declared.step.LaneStep.{LaneStep}
+use Rattle.lane_core.specs.Step.{LaneStep}
 use Rattle.lane_core.specs.declared.place.UnderWay.{UnderWay}
 use Rattle.lane_core.specs.Lane.{Lane}
 use Rattle.lane_core.specs.Endings.{after_step, still}

@@ -10,3 +10,4 @@ pub mod Cancel
 pub mod Overrun
 pub mod LaneFields
 pub mod Refused
+pub mod Quiet

@@ -1,7 +1,7 @@
 -- What a lane does where its station missed frames.
 use Rattle.originator.specs.Endings as out
 use Rattle.lane_core.specs.declared.place.UnderWay.TheVariants.{Connection}
-use Rattle.lane_core.specs.declared.step.LaneStep.{LaneStep}
+use Rattle.lane_core.specs.Step.{LaneStep}
 use Rattle.lane_core.specs.declared.place.UnderWay.{UnderWay}
 use Rattle.lane_core.specs.Lane.{Lane}
 use Rattle.lane_core.specs.Endings.{connection_over, still}

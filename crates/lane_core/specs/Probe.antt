@@ -8,11 +8,10 @@ use Rattle.tp_wire.specs.declared.constants.TheConstants.{TP_CM, TP_DT}
 use Rattle.tp_wire.specs.Rows.{written}
 use Rattle.originator.specs.Readers.{started}
 use Rattle.lane_core.specs.declared.probe.Token.TheVariants.{ConnectionManagement, DataTransfer}
-use Rattle.lane_core.specs.declared.step.LaneStep.{LaneStep}
+use Rattle.lane_core.specs.Step.{LaneStep, says}
 use Rattle.lane_core.specs.declared.probe.Standing.TheVariants.{Probing}
 use Rattle.lane_core.specs.declared.probe.Token.{Token}
 use Rattle.lane_core.specs.Lane.{Lane}
-use Rattle.lane_core.specs.Step.{says}
 
 -- the PGN of each token
 abbrev pub token_pgn : Token → ℕ

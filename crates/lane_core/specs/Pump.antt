@@ -13,7 +13,7 @@ use Rattle.originator.specs.Opening.{begun}
 use Rattle.originator.specs.Pump as out
 use Rattle.lane_core.specs.declared.place.UnderWay.TheVariants.{Broadcast, Connection, Nothing}
 use Rattle.lane_core.specs.declared.probe.Standing.TheVariants.{InDoubt, Probing, Settled}
-use Rattle.lane_core.specs.declared.step.LaneStep.{LaneStep}
+use Rattle.lane_core.specs.Step.{LaneStep, says}
 use Rattle.lane_core.specs.declared.refused.PumpRefused.TheVariants.{NotYet, NothingToSend}
 use Rattle.lane_core.specs.declared.message.Pending.{Pending}
 use Rattle.lane_core.specs.declared.refused.PumpRefused.{PumpRefused}
@@ -22,7 +22,6 @@ use Rattle.lane_core.specs.declared.place.UnderWay.{UnderWay}
 use Rattle.lane_core.specs.Lane.{Lane, link_for, with_under_way}
 use Rattle.lane_core.specs.Endings.{over, still}
 use Rattle.lane_core.specs.Probe.{probes}
-use Rattle.lane_core.specs.Step.{says}
 
 -- why the front message doesn't begin, where nothing is under way
 abbrev pub idle_refusal : Standing → List Pending → Option PumpRefused

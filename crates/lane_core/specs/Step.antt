@@ -1,7 +1,14 @@
 -- What a step of a lane leaves to do.
-use Rattle.std.specs.Prelude.{List, [], ◌∷◌, Option, Some, None}
+use Rattle.std.specs.Prelude.{List, [], ◌∷◌, Option, None}
 use Rattle.bus_frame.specs.Frames.{CanFrame}
-use Rattle.lane_core.specs.declared.step.LaneStep.{LaneStep}
+use Rattle.tx_queue.specs.Queue.{option_frames}
+use Rattle.lane_core.specs.declared.step.Ended.{Ended}
+use Rattle.lane_core.specs.declared.step.LaneStep.{LaneStep as StepFields}
+
+-- the frames that are queued in their order, and the message that ended
+pub record LaneStep : Type 0 where
+  pub frames : List CanFrame
+  pub ended : Option Ended
 
 -- nothing is queued and no message ends
 abbrev pub nothing_to_do : LaneStep
@@ -11,7 +18,6 @@ nothing_to_do = record { frames = []; ended = None }
 abbrev pub says : CanFrame → LaneStep
 says frame = record { frames = frame ∷ []; ended = None }
 
--- a frame, or none
-abbrev pub option_frames : Option CanFrame → List CanFrame
-option_frames None = []
-option_frames (Some frame) = frame ∷ []
+-- what is left to do where that is one frame at most
+abbrev pub step_left : StepFields → LaneStep
+step_left step = record { frames = option_frames step.frame; ended = step.ended }

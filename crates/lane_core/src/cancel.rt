@@ -1,5 +1,6 @@
 //! Messages that are cancelled.
 ghost use Rattle.std.specs.Prelude.{◌≡◌, ◌≤◌, ◌↔◌, length, IsSome, IsTrue, OnSome, IfSome, IfNone};
+ghost use Rattle.lane_core.specs.Step.{step_left};
 ghost use Rattle.lane_core.specs.Cancel.{numbered, is_front as is_front_of, cancelled as cancelled_lane, queues_abort as queues_abort_of, withdrawn, without_number, place_of};
 ghost use Rattle.lane_core.specs.declared.place.UnderWay.TheVariants.{Nothing};
 
@@ -43,16 +44,16 @@ impl Lane {
     fn withdraw(&mut self, number: u64) -> LaneStep
         requires { self.old.under_way ≡ Nothing }
         ensures lane { self.new ≡ (withdrawn self.old number).0 }
-        ensures step { result ≡ (withdrawn self.old number).1 }
+        ensures step { step_left result ≡ (withdrawn self.old number).1 }
     {
         take_number(&mut self.pending, number);
-        LaneStep::over(
-            None,
-            Some(Ended {
+        LaneStep {
+            frame: None,
+            ended: Some(Ended {
                 number,
                 outcome: Outcome::Cancelled,
             }),
-        )
+        }
     }
 
     /// Cancels the message with this number: a connection under way ends by an abort, a broadcast under way without a
@@ -61,7 +62,7 @@ impl Lane {
     pub fn cancel(&mut self, number: u64) -> Option<LaneStep>
         ensures pending { IsSome result ↔ IsTrue (numbered self.old.pending number) }
         ensures lane { OnSome result (self.new ≡ (cancelled_lane self.old number).0) }
-        ensures step { IfSome result (λ step. step ≡ (cancelled_lane self.old number).1) }
+        ensures step { IfSome result (λ step. step_left step ≡ (cancelled_lane self.old number).1) }
         ensures none { IfNone result (self.new ≡ self.old) }
     {
         if !self.is_pending(number) {
@@ -73,7 +74,7 @@ impl Lane {
     // The same of a message that is pending.
     fn end(&mut self, number: u64) -> LaneStep
         ensures lane { self.new ≡ (cancelled_lane self.old number).0 }
-        ensures step { result ≡ (cancelled_lane self.old number).1 }
+        ensures step { step_left result ≡ (cancelled_lane self.old number).1 }
     {
         let is_front = self.is_front(number);
         match self.take_under_way() {

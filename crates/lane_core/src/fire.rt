@@ -1,6 +1,7 @@
 //! When the timer of a lane fires.
 ghost use Rattle.std.specs.Prelude.{◌≡◌};
 ghost use Rattle.tick_timers.specs.Due.{IsDueFrom};
+ghost use Rattle.lane_core.specs.Step.{step_left};
 ghost use Rattle.lane_core.specs.declared.place.UnderWay.TheVariants.{Nothing};
 ghost use Rattle.lane_core.specs.Fire.{is_lane_due, is_timed, is_probe_due as is_probe_due_at, probe_fired, fired as fired_lane};
 
@@ -72,7 +73,7 @@ impl Lane {
     /// repeated, and after the third one the front message is unreachable. It looks at no clock.
     pub fn fire(&mut self, now: u64) -> LaneStep
         ensures lane { self.new ≡ (fired_lane self.old now).0 }
-        ensures step { result ≡ (fired_lane self.old now).1 }
+        ensures step { step_left result ≡ (fired_lane self.old now).1 }
     {
         match self.take_under_way() {
             UnderWay::Connection(state) => self.connection_over(state.expire()),
@@ -88,7 +89,7 @@ impl Lane {
     fn fire_probe(&mut self, now: u64) -> LaneStep
         requires { self.old.under_way ≡ Nothing }
         ensures lane { self.new ≡ (probe_fired self.old.standing self.old now).0 }
-        ensures step { result ≡ (probe_fired self.old.standing self.old now).1 }
+        ensures step { step_left result ≡ (probe_fired self.old.standing self.old now).1 }
     {
         match self.standing {
             Standing::Probing { count, timer: _ } if count < MOST_REQUESTS => {

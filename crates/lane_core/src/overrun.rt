@@ -1,5 +1,6 @@
 //! Frames that the station missed.
 ghost use Rattle.std.specs.Prelude.{◌≡◌};
+ghost use Rattle.lane_core.specs.Step.{step_left};
 ghost use Rattle.lane_core.specs.Overrun.{overrun as overrun_lane};
 
 use crate::lane::Lane;
@@ -10,7 +11,7 @@ impl Lane {
     /// The station missed frames: a connection under way ends, and nothing is queued. A broadcast and a Request go on.
     pub fn overrun(&mut self) -> LaneStep
         ensures lane { self.new ≡ (overrun_lane self.old).0 }
-        ensures step { result ≡ (overrun_lane self.old).1 }
+        ensures step { step_left result ≡ (overrun_lane self.old).1 }
     {
         match self.take_under_way() {
             UnderWay::Connection(state) => self.connection_over(state.overrun()),

@@ -1,5 +1,6 @@
 //! How a lane settles after a doubtful end.
 ghost use Rattle.std.specs.Prelude.{◌≡◌, ◌≢◌, ◌<◌, ◌≤◌, ◌^◌};
+ghost use Rattle.lane_core.specs.Step.{step_left};
 ghost use Rattle.lane_core.specs.declared.place.UnderWay.TheVariants.{Nothing};
 ghost use Rattle.lane_core.specs.declared.probe.Standing.TheVariants.{Settled};
 ghost use Rattle.lane_core.specs.Probe.{token_pgn, other_token, is_token, most_requests, request_frame as request_frame_of, probes};
@@ -70,7 +71,7 @@ impl Lane {
         requires from_one { 1 ≤ count }
         requires to_most { count ≤ most_requests }
         ensures lane { self.new ≡ (probes self.old count now).0 }
-        ensures step { result ≡ (probes self.old count now).1 }
+        ensures step { step_left result ≡ (probes self.old count now).1 }
     {
         self.standing = Standing::Probing {
             count,

@@ -1,6 +1,11 @@
 //! What a lane queues when it is pumped.
-ghost use Rattle.std.specs.Prelude.{◌≡◌, Some};
-ghost use Rattle.lane_core.specs.declared.place.UnderWay.TheVariants.{Nothing, Broadcast, Connection};
+ghost use Rattle.std.specs.Prelude.{◌≡◌, ◌+◌, ◌≤◌, ◌++◌, false, length, Some, None};
+ghost use Rattle.std.specs.Bool.{OnTrue, OnFalse};
+ghost use Rattle.tx_queue.specs.Queue.{queue_limit};
+ghost use Rattle.originator.specs.Pump.{most_frames};
+ghost use Rattle.lane_core.specs.Quiet.{pumps_quietly};
+ghost use Rattle.lane_core.specs.Step.{step_left};
+ghost use Rattle.lane_core.specs.declared.place.UnderWay.TheVariants.{Nothing, Broadcast};
 ghost use Rattle.lane_core.specs.declared.probe.Standing.TheVariants.{Settled};
 ghost use Rattle.lane_core.specs.Lane.{kind_for as kind_for_len};
 ghost use Rattle.lane_core.specs.declared.refused.PumpRefused.{PumpRefused};
@@ -12,12 +17,13 @@ use crate::lane::Lane;
 use crate::place::UnderWay;
 use crate::probe::Standing;
 use crate::refused::PumpRefused;
-use crate::step::LaneStep;
+use crate::step::{Ended, LaneStep};
 use bam_session::{BamOut, BamPumped};
 use originator::OutState;
 use pgn_ids::Address;
 use tp_wire::constants::TP_MAX_SIZE;
 use tp_wire::{Kind, Outcome};
+use tx_queue::TxQueue;
 
 impl Lane {
     /// Why it queues nothing at tick `now`, or `None` where a pump queues a frame.
@@ -74,19 +80,60 @@ impl Lane {
         }
     }
 
-    /// Queues what comes next at tick `now`: the first frame of the front message, or of a round of Requests where the
-    /// lane is in doubt; the next packet of a broadcast; the next part of a connection's window. Where `pump_refusal`
-    /// gives a cause, nothing is queued and the lane stays as it was.
+    /// Queues what comes next at tick `now` behind the frames of a queue: the first frame of the front message, or of a round
+    /// of Requests where the lane is in doubt; the next packet of a broadcast; the next part of a connection's window. The
+    /// message that it ends is told. Where `pump_refusal` gives a cause, nothing is queued and the lane stays as it was.
     #[tactic(auto, using(crate::proofs::Pumping::refused_pump))]
-    pub fn pump(&mut self, now: u64) -> LaneStep
+    pub fn pump(&mut self, now: u64, queue: &mut TxQueue) -> Option<Ended>
+        requires { length queue.old + most_frames ≤ queue_limit }
         ensures lane { self.new ≡ (pumped_lane self.old now).0 }
-        ensures step { result ≡ (pumped_lane self.old now).1 }
+        ensures queued { queue.new ≡ queue.old ++ (pumped_lane self.old now).1.frames }
+        ensures ended { result ≡ (pumped_lane self.old now).1.ended }
         ensures refused { (cause : PumpRefused) → refusal_of self.old now ≡ Some cause → pumped_lane self.old now ≡ still self.old }
+    {
+        if self.pump_in_place(now, queue) {
+            return None;
+        }
+        let LaneStep { frame, ended } = self.pump_telling(now);
+        if let Some(frame) = frame {
+            queue.push_free(frame);
+        }
+        ended
+    }
+
+    /// Queues what comes next of what is under way, if that ends nothing.
+    #[inline]
+    #[tactic(auto, using(crate::proofs::Quiet::pumped_so, crate::proofs::Quiet::none_quiet, crate::proofs::Quiet::of_length, crate::proofs::Quiet::carries_on, crate::proofs::Quiet::calm_on))]
+    fn pump_in_place(&mut self, now: u64, queue: &mut TxQueue) -> bool
+        requires { length queue.old + most_frames ≤ queue_limit }
+        ensures value { result ≡ pumps_quietly self.old.under_way now }
+        ensures lane { OnTrue result (self.new ≡ (pumped_lane self.old now).0) }
+        ensures queued { OnTrue result (queue.new ≡ queue.old ++ (pumped_lane self.old now).1.frames) }
+        ensures ended { OnTrue result ((pumped_lane self.old now).1.ended ≡ None) }
+        ensures other { OnFalse result (self.new ≡ self.old) }
+        ensures kept { OnFalse result (queue.new ≡ queue.old) }
+    {
+        let bytes = match self.pending.front() {
+            None => return false,
+            Some(message) => message.bytes.as_slice(),
+        };
+        self.place.pump_in_place(bytes, now, queue)
+    }
+
+    /// Any other pump.
+    #[inline(never)]
+    fn pump_telling(&mut self, now: u64) -> LaneStep
+        requires { pumps_quietly self.old.under_way now ≡ false }
+        ensures lane { self.new ≡ (pumped_lane self.old now).0 }
+        ensures step { step_left result ≡ (pumped_lane self.old now).1 }
     {
         match self.take_under_way() {
             UnderWay::Nothing => self.pump_idle(now),
             UnderWay::Broadcast(state) => self.pump_broadcast(state, now),
-            UnderWay::Connection(state) => self.pump_connection(state, now),
+            UnderWay::Connection(state) => {
+                let _over = state.overrun();
+                unreachable!()
+            }
         }
     }
 
@@ -94,7 +141,7 @@ impl Lane {
     fn pump_idle(&mut self, now: u64) -> LaneStep
         requires { self.old.under_way ≡ Nothing }
         ensures lane { self.new ≡ (idle_pumped self.old.standing self.old.pending self.old now).0 }
-        ensures step { result ≡ (idle_pumped self.old.standing self.old.pending self.old now).1 }
+        ensures step { step_left result ≡ (idle_pumped self.old.standing self.old.pending self.old now).1 }
     {
         if self.pending.is_empty() {
             return LaneStep::none();
@@ -111,7 +158,7 @@ impl Lane {
         requires nothing { self.old.under_way ≡ Nothing }
         requires settled { self.old.standing ≡ Settled }
         ensures lane { self.new ≡ (idle_pumped Settled self.old.pending self.old now).0 }
-        ensures step { result ≡ (idle_pumped Settled self.old.pending self.old now).1 }
+        ensures step { step_left result ≡ (idle_pumped Settled self.old.pending self.old now).1 }
     {
         let Some(message) = self.pending.front() else {
             return LaneStep::none();
@@ -142,7 +189,7 @@ impl Lane {
         requires front { CarriesFront self.old.from self.old.to (Broadcast state) self.old.pending }
         requires settled { self.old.standing ≡ Settled }
         ensures lane { self.new ≡ (pumped_by (Broadcast state) self.old now).0 }
-        ensures step { result ≡ (pumped_by (Broadcast state) self.old now).1 }
+        ensures step { step_left result ≡ (pumped_by (Broadcast state) self.old now).1 }
     {
         match state.pump(self.front_bytes(), now) {
             BamPumped::On(state, frame) => {
@@ -154,21 +201,6 @@ impl Lane {
                 self.put_under_way(UnderWay::Broadcast(state));
                 LaneStep::none()
             }
-        }
-    }
-
-    /// A connection queues the next part of its window.
-    fn pump_connection(&mut self, state: OutState, now: u64) -> LaneStep
-        requires front { CarriesFront self.old.from self.old.to (Connection state) self.old.pending }
-        requires settled { self.old.standing ≡ Settled }
-        ensures lane { self.new ≡ (pumped_by (Connection state) self.old now).0 }
-        ensures step { result ≡ (pumped_by (Connection state) self.old now).1 }
-    {
-        let (state, frames) = state.pump(self.front_bytes(), now);
-        self.put_under_way(UnderWay::Connection(state));
-        LaneStep {
-            frames,
-            ended: None,
         }
     }
 }

@@ -1,9 +1,8 @@
 //! What a step of a lane leaves to do.
 ghost use Rattle.std.specs.Prelude.{◌≡◌};
-ghost use Rattle.lane_core.specs.Step.{nothing_to_do, says, option_frames};
+ghost use Rattle.lane_core.specs.Step.{nothing_to_do, says, step_left};
 
 use bus_frame::Frame;
-use originator::Burst;
 use tp_wire::Outcome;
 
 /// A message has its outcome: its number in the lane.
@@ -13,44 +12,31 @@ pub struct Ended {
     pub outcome: Outcome,
 }
 
-/// What a step of a lane leaves to do: frames to be queued in their order, at most eight, and the message that ended.
-#[derive(Debug, Drop)]
+/// What a step of a lane leaves to do: the frame to be queued, if there is one, and the message that ended.
+#[derive(Clone, Copy, Debug, PartialEq, Eq)]
 pub struct LaneStep {
-    pub frames: Burst,
+    pub frame: Option<Frame>,
     pub ended: Option<Ended>,
 }
 
 impl LaneStep {
     /// Nothing is to be done.
-    pub(crate) fn none() -> LaneStep
-        ensures { result ≡ nothing_to_do }
+    pub fn none() -> LaneStep
+        ensures { step_left result ≡ nothing_to_do }
     {
         LaneStep {
-            frames: Burst::new(),
+            frame: None,
             ended: None,
         }
     }
 
     /// One frame is to be queued.
     pub(crate) fn one(frame: Frame) -> LaneStep
-        ensures { result ≡ says frame }
+        ensures { step_left result ≡ says frame }
     {
-        let mut frames = Burst::new();
-        frames.push(frame);
         LaneStep {
-            frames,
+            frame: Some(frame),
             ended: None,
         }
-    }
-
-    /// A message ended, perhaps with a frame.
-    pub(crate) fn over(frame: Option<Frame>, ended: Option<Ended>) -> LaneStep
-        ensures { result ≡ record { frames = option_frames frame; ended = ended } }
-    {
-        let mut frames = Burst::new();
-        if let Some(frame) = frame {
-            frames.push(frame);
-        }
-        LaneStep { frames, ended }
     }
 }

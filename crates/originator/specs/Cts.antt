@@ -58,3 +58,8 @@ abbrev pub on_cts : OutState → (granted next now : ℕ) → Stepped
 on_cts (Sending s) granted next now = cts_in_window s granted next now
 on_cts (AwaitCts s) granted next now = cts_without_window s.link s.unsent s.resends granted next now
 on_cts (AwaitEnd s) granted next now = cts_without_window s.link (packets_of s.link + 1) s.resends granted next now
+
+-- a CTS is awaited, and this is a hold, or grants the first packet that was never queued
+abbrev pub awaits_cts : OutState → (granted next : ℕ) → Bool
+awaits_cts (AwaitCts s) granted next = granted == 0 || next == s.unsent
+awaits_cts _ granted next = false

@@ -2,7 +2,6 @@ pub mod Link
 pub mod LinkFields
 pub mod States
 pub mod StateFields
-pub mod BurstFields
 pub mod Readers
 pub mod Opening
 pub mod Endings

@@ -5,7 +5,6 @@
 
 mod await_cts;
 mod await_end;
-mod burst;
 mod cts;
 mod endings;
 mod link;
@@ -20,7 +19,6 @@ mod timers;
 
 pub use await_cts::AwaitCts;
 pub use await_end::AwaitEnd;
-pub use burst::Burst;
 pub use opening::begin;
 pub use sending::Sending;
 pub use states::{OutOver, OutState, Stepped};

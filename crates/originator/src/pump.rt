@@ -1,108 +1,109 @@
 //! A part of a window is queued (SAE J1939-21, TP.DT; ISO 11783-3, ETP.CM_DPO and ETP.DT).
-ghost use Rattle.std.specs.Prelude.{◌≡◌, ◌+◌, ◌-◌, ◌≤◌, ◌++◌, length};
+ghost use Rattle.std.specs.Prelude.{◌≡◌, ℕ, ◌+◌, ◌-◌, ◌<◌, ◌≤◌, ◌++◌, length};
+ghost use Rattle.tx_queue.specs.Queue.{queue_limit};
 ghost use Rattle.originator.specs.Readers.{link_of};
-ghost use Rattle.originator.specs.Pump.{announcement, packet_frames, queued_to as window_queued_to, pumped_window, pumped};
+ghost use Rattle.originator.specs.Pump.{most_frames, announcement, packet_frames, burst_of_window, burst_packets, queued_to, pumped};
+ghost use Rattle.originator.specs.declared.states.OutState.TheVariants as OutState;
 
-use crate::burst::{Burst, MOST_FRAMES};
 use crate::cts::without_window;
 use crate::sending::Sending;
 use crate::states::OutState;
+use std::mem;
 use tick_timers::{T3, Timer};
 use tp_wire::Kind;
+use tx_queue::TxQueue;
+
+/// How many frames are queued at once at most.
+const MOST_FRAMES: u32 = 8;
 
 impl Sending {
-    /// The announcement of the window, which ETP wants before its first packet.
-    fn announcement(&self) -> Burst
-        ensures { result ≡ announcement self.now.link.kind self.now }
+    /// Queues the announcement of the window, which ETP wants before its first packet: how many frames may still be queued
+    /// with it.
+    #[inline]
+    fn queue_announcement(&self, queue: &mut TxQueue) -> u32
+        requires place { length queue.old < queue_limit }
+        ensures queued { queue.new ≡ queue.old ++ announcement self.now.link.kind self.now }
+        ensures left { result + length (announcement self.now.link.kind self.now) ≡ most_frames }
+        ensures some { 1 ≤ result }
     {
-        let mut burst = Burst::new();
         if self.link.kind() == Kind::Etp && !self.announced {
             let packets = (self.until - (self.next - 1)) as u8;
-            burst.push(self.link.dpo_frame(packets, self.next - 1));
+            queue.push_free(self.link.dpo_frame(packets, self.next - 1));
+            return MOST_FRAMES - 1;
         }
-        burst
+        MOST_FRAMES
     }
 
-    /// Appends the packets of the window before `end` that are still to be queued.
-    fn push_packets(&self, bytes: &[u8], end: u32, burst: &mut Burst)
+    /// Queues the packets of the window before `end` that are still to be queued.
+    fn queue_packets(&self, bytes: &[u8], end: u32, queue: &mut TxQueue)
         requires message { length bytes.now ≡ self.now.link.len }
         requires from { self.now.at ≤ end }
         requires to { end ≤ self.now.until + 1 }
-        requires room { length burst.old + (end - self.now.at) ≤ 8 }
-        ensures value { burst.new ≡ burst.old ++ packet_frames self.now.link self.now.next bytes.now self.now.at (end - self.now.at) }
-        ensures len { length burst.new ≡ length burst.old + (end - self.now.at) }
+        requires places { length queue.old + (end - self.now.at) ≤ queue_limit }
+        ensures { queue.new ≡ queue.old ++ packet_frames self.now.link self.now.next bytes.now self.now.at (end - self.now.at) }
     {
         let link = self.link;
         let next = self.next;
         for k in self.at..end {
-            burst.push(link.packet_frame(next, bytes, k));
+            queue.push_free(link.packet_frame(next, bytes, k));
         }
     }
 
-    /// The packets before `at` are queued at tick `now`: the window goes on, or is finished.
-    fn queued_to(self, at: u32, now: u64) -> OutState
-        requires from { self.at ≤ at }
-        requires to { at ≤ self.until + 1 }
-        ensures value { result ≡ window_queued_to self at now }
-        ensures link { link_of result ≡ self.link }
+    /// Queues the next frames of the window: the packet from which on it is still to be queued then.
+    #[inline]
+    fn queue_part(&self, bytes: &[u8], queue: &mut TxQueue) -> u32
+        requires message { length bytes.now ≡ self.now.link.len }
+        requires places { length queue.old + most_frames ≤ queue_limit }
+        ensures queued { queue.new ≡ queue.old ++ burst_of_window self.now bytes.now }
+        ensures end { result ≡ self.now.at + burst_packets self.now }
+        ensures from { self.now.at ≤ result }
+        ensures to { result ≤ self.now.until + 1 }
     {
-        let Sending {
-            link,
-            unsent,
-            resends,
-            granted,
-            next,
-            at: _,
-            until,
-            announced: _,
-        } = self;
-        let unsent = unsent.max(at);
-        if until < at {
-            return without_window(link, unsent, resends, Timer::start(now, T3));
-        }
-        OutState::Sending(Sending {
-            link,
-            unsent,
-            resends,
-            granted,
-            next,
-            at,
-            until,
-            announced: true,
-        })
-    }
-
-    /// Queues the next frames of the window at tick `now`, one to eight: in ETP its data packet offset (DPO) first,
-    /// then its packets. `bytes` is the message. After the last packet of the window a CTS or the end acknowledgement
-    /// is awaited for T3.
-    pub fn pump(self, bytes: &[u8], now: u64) -> (OutState, Burst)
-        requires { length bytes.now ≡ self.link.len }
-        ensures value { result ≡ pumped_window self bytes.now now }
-        ensures link { link_of result.0 ≡ self.link }
-        ensures some { 1 ≤ length result.1 }
-        ensures short { length result.1 ≤ 8 }
-    {
-        let mut burst = self.announcement();
-        let places = (MOST_FRAMES - burst.len()) as u32;
+        let places = self.queue_announcement(queue);
+        // A call of it, so that the packet behind the window is known to have a number.
+        let _packets = self.link.packets();
         let end = self.at + places.min(self.until - self.at + 1);
-        self.push_packets(bytes, end, &mut burst);
-        (self.queued_to(end, now), burst)
+        self.queue_packets(bytes, end, queue);
+        end
+    }
+
+    /// The packets before `at` are queued, and the window has more.
+    #[inline]
+    fn go_to(&mut self, at: u32)
+        requires from { self.old.at ≤ at }
+        requires to { at ≤ self.old.until }
+        ensures state { (now : ℕ) → OutState.Sending self.new ≡ queued_to self.old at now }
+        ensures link { self.new.link ≡ self.old.link }
+    {
+        self.unsent = self.unsent.max(at);
+        self.at = at;
+        self.announced = true;
     }
 }
 
 impl OutState {
-    /// Queues the next frames of the window at tick `now`, one to eight, or none where there is no window. `bytes` is
-    /// the message.
-    pub fn pump(self, bytes: &[u8], now: u64) -> (OutState, Burst)
-        requires { length bytes.now ≡ (link_of self).len }
-        ensures value { result ≡ pumped self bytes.now now }
-        ensures link { link_of result.0 ≡ link_of self }
-        ensures short { length result.1 ≤ 8 }
+    /// Queues the next frames of the window behind those of a queue at tick `now`, one to eight, or none where there is no
+    /// window: in ETP its data packet offset (DPO) first, then its packets. `bytes` is the message. After the last packet of
+    /// the window a CTS or the end acknowledgement is awaited for T3.
+    #[inline]
+    pub fn pump(&mut self, bytes: &[u8], now: u64, queue: &mut TxQueue)
+        requires message { length bytes.now ≡ (link_of self.old).len }
+        requires places { length queue.old + most_frames ≤ queue_limit }
+        ensures state { self.new ≡ (pumped self.old bytes.now now).0 }
+        ensures queued { queue.new ≡ queue.old ++ (pumped self.old bytes.now now).1 }
+        ensures link { link_of self.new ≡ link_of self.old }
     {
-        match self {
-            OutState::Sending(state) => state.pump(bytes, now),
-            OutState::AwaitCts(state) => (OutState::AwaitCts(state), Burst::new()),
-            OutState::AwaitEnd(state) => (OutState::AwaitEnd(state), Burst::new()),
+        let OutState::Sending(state) = self else {
+            return;
+        };
+        let end = state.queue_part(bytes, queue);
+        if end <= state.until {
+            state.go_to(end);
+            return;
         }
+        let timer = Timer::start(now, T3);
+        let unsent = state.unsent.max(end);
+        let awaits = without_window(state.link, unsent, state.resends, timer);
+        let _link = mem::replace(self, awaits).into_link();
     }
 }

@@ -5,7 +5,8 @@ use pgn_ids::{Address, Pgn};
 use std::alloc::{AllocError, Global};
 use std::process::Abort;
 use std::test::Fail;
-use tp_wire::{CmFrame, Kind, Outcome, Wire};
+use tp_wire::{CmFrame, Heard, Kind, Outcome, Wire};
+use tx_queue::TxQueue;
 
 // A state can't be let go unspent: beside the first `impl`, the others compile only for types that aren't `Drop`.
 trait IsSpentOrDropped {}
@@ -101,21 +102,25 @@ fn ends(rt: &impl Abort, state: OutState, wire: Wire) -> OutOver {
     }
 }
 
-fn pumped(rt: &impl Abort, state: OutState, message: &[u8], now: u64) -> (OutState, Burst) {
-    assert!(rt; message.len() == state.link().len() as usize);
-    state.pump(message, now)
+fn pump(rt: &impl Abort, state: &mut OutState, message: &[u8], now: u64, queue: &mut TxQueue) {
+    assert!(rt; message.len() == state.link().len() as usize && queue.free() >= 8);
+    state.pump(message, now, queue);
 }
 
 fn is_frame(frame: &Frame, id: u32, bytes: [u8; 8]) -> bool {
     frame.id().raw() == id && frame.bytes() == bytes.as_slice()
 }
 
-/// Whether these are both packets of the nine bytes.
-fn are_both_packets(frames: &[Frame], id: u32) -> bool {
-    let [first, second] = frames else {
+fn is_shown(frame: Option<Frame>, id: u32, bytes: [u8; 8]) -> bool {
+    let Some(frame) = frame else {
         return false;
     };
-    is_frame(first, id, PACKET_1) && is_frame(second, id, PACKET_2)
+    is_frame(&frame, id, bytes)
+}
+
+/// Whether just both packets of the nine bytes are queued, which are taken out.
+fn are_both_packets(queue: &mut TxQueue, id: u32) -> bool {
+    is_shown(queue.pop(), id, PACKET_1) && is_shown(queue.pop(), id, PACKET_2) && queue.is_empty()
 }
 
 /// Whether the message ended so, with an abort of this reason.
@@ -129,17 +134,18 @@ fn is_over(over: OutOver, outcome: Outcome, id: u32, reason: u8) -> bool {
 #[test]
 fn nine_bytes_are_acknowledged(rt: HostRuntime) -> Result<(), Fail> {
     let pgn = Pgn::new(0xFECA)?;
+    let mut queue = TxQueue::new(rt.alloc())?;
     let (state, rts) = begun(&rt, Kind::Tp, PEER, pgn, 9);
     assert!(rt; is_frame(&rts, 0x1CEC_3521, [0x10, 9, 0, 2, 0xFF, 0xCA, 0xFE, 0]));
     assert!(rt; state.is_of(Kind::Tp, pgn.field()) && !state.is_of(Kind::Etp, pgn.field()));
     let state = goes_on(&rt, state, end(9, 2, pgn));
-    let state = goes_on(&rt, state, cts(2, 1, pgn));
-    let (state, burst) = pumped(&rt, state, &NINE, 0);
-    assert!(rt; are_both_packets(burst.frames(), 0x1CEB_3521));
+    let mut state = goes_on(&rt, state, cts(2, 1, pgn));
+    pump(&rt, &mut state, &NINE, 0, &mut queue);
+    assert!(rt; are_both_packets(&mut queue, 0x1CEB_3521));
     let state = goes_on(&rt, state, end(10, 2, pgn));
-    let state = goes_on(&rt, state, end(9, 3, pgn));
-    let (state, burst) = pumped(&rt, state, &NINE, 0);
-    assert!(rt; burst.frames().is_empty());
+    let mut state = goes_on(&rt, state, end(9, 3, pgn));
+    pump(&rt, &mut state, &NINE, 0, &mut queue);
+    assert!(rt; queue.is_empty());
     let over = ends(&rt, state, end(9, 2, pgn));
     assert!(rt; over.outcome == Outcome::Acknowledged && over.frame.is_none());
     Ok(())
@@ -148,11 +154,12 @@ fn nine_bytes_are_acknowledged(rt: HostRuntime) -> Result<(), Fail> {
 #[test]
 fn third_resend_is_refused(rt: HostRuntime) -> Result<(), Fail> {
     let pgn = Pgn::new(0xFECA)?;
+    let mut queue = TxQueue::new(rt.alloc())?;
     let mut state = nine_bytes_to(&rt, FOREIGN, pgn);
     for _ in 0..3 {
-        let (next, burst) = pumped(&rt, goes_on(&rt, state, cts(2, 1, pgn)), &NINE, 0);
-        assert!(rt; are_both_packets(burst.frames(), 0x1CEB_8021));
-        state = next;
+        state = goes_on(&rt, state, cts(2, 1, pgn));
+        pump(&rt, &mut state, &NINE, 0, &mut queue);
+        assert!(rt; are_both_packets(&mut queue, 0x1CEB_8021));
     }
     let over = ends(&rt, state, cts(2, 1, pgn));
     assert!(rt; is_over(over, Outcome::Aborted(5), 0x1CEC_8021, 5));
@@ -173,8 +180,29 @@ fn cts_during_a_transfer(rt: HostRuntime) -> Result<(), Fail> {
 }
 
 #[test]
+fn cts_in_place(rt: HostRuntime) -> Result<(), Fail> {
+    let (pgn, other) = (Pgn::new(0xFECA)?.field(), Pgn::new(0xFECB)?.field());
+    let mut queue = TxQueue::new(rt.alloc())?;
+    let mut state = nine_bytes_to(&rt, FOREIGN, Pgn::new(0xFECA)?);
+    let of = |granted, next, pgn| Heard::Cm(CmFrame::Cts { granted, next, pgn });
+    let others = state.take_in_place(&of(2, 1, other), 3)
+        || state.take_in_place(&of(1, 2, pgn), 3)
+        || state.take_in_place(&Heard::Request { pgn }, 3);
+    assert!(rt; !others && state.is_due(1250));
+    let held = state.take_in_place(&of(0, 1, pgn), 300);
+    assert!(rt; held && !state.is_due(1349) && state.is_due(1350));
+    let opened = state.take_in_place(&of(2, 1, pgn), 400);
+    assert!(rt; opened && !state.take_in_place(&of(2, 1, pgn), 400));
+    pump(&rt, &mut state, &NINE, 400, &mut queue);
+    assert!(rt; are_both_packets(&mut queue, 0x1CEB_8021));
+    let _over = state.overrun();
+    Ok(())
+}
+
+#[test]
 fn timers(rt: HostRuntime) -> Result<(), Fail> {
     let pgn = Pgn::new(0xFECA)?;
+    let mut queue = TxQueue::new(rt.alloc())?;
     let (state, _rts) = begin(Kind::Tp, OWN, FOREIGN, pgn, 9, 0);
     assert!(rt; !state.is_due(1249) && state.is_due(1250));
     assert!(rt; is_over(state.expire(), Outcome::TimedOut, 0x1CEC_8021, 3));
@@ -182,8 +210,8 @@ fn timers(rt: HostRuntime) -> Result<(), Fail> {
     assert!(rt; !held.is_due(1049));
     assert!(rt; held.is_due(1050));
     assert!(rt; is_over(held.expire(), Outcome::TimedOut, 0x1CEC_8021, 3));
-    let state = goes_on(&rt, nine_bytes_to(&rt, FOREIGN, pgn), cts(2, 1, pgn));
-    let (state, _burst) = pumped(&rt, state, &NINE, 7);
+    let mut state = goes_on(&rt, nine_bytes_to(&rt, FOREIGN, pgn), cts(2, 1, pgn));
+    pump(&rt, &mut state, &NINE, 7, &mut queue);
     match state {
         OutState::AwaitEnd(state) => {
             assert!(rt; !state.is_due(1256) && state.is_due(1257));
@@ -217,21 +245,16 @@ struct Window {
     frames: usize,
 }
 
-fn note(window: &mut Window, frames: &[Frame]) {
-    if window.first.is_none() {
-        window.first = frames.first().copied();
+fn note(window: &mut Window, queue: &mut TxQueue) {
+    for _ in 0..8 {
+        if let Some(frame) = queue.pop() {
+            if window.first.is_none() {
+                window.first = Some(frame);
+            }
+            window.last = Some(frame);
+            window.frames = window.frames.saturating_add(1);
+        }
     }
-    if let Some(frame) = frames.last() {
-        window.last = Some(*frame);
-    }
-    window.frames = window.frames.saturating_add(frames.len());
-}
-
-fn is_shown(frame: Option<Frame>, id: u32, bytes: [u8; 8]) -> bool {
-    let Some(frame) = frame else {
-        return false;
-    };
-    is_frame(&frame, id, bytes)
 }
 
 /// Takes the CTS of a window of at most 64 packets, and pumps them.
@@ -240,6 +263,7 @@ fn whole_window(
     state: OutState,
     wire: Wire,
     message: &[u8],
+    queue: &mut TxQueue,
 ) -> (OutState, Window) {
     let mut state = goes_on(rt, state, wire);
     let mut window = Window {
@@ -248,9 +272,8 @@ fn whole_window(
         frames: 0,
     };
     for _ in 0..9 {
-        let (next, burst) = pumped(rt, state, message, 0);
-        note(&mut window, burst.frames());
-        state = next;
+        pump(rt, &mut state, message, 0, queue);
+        note(&mut window, queue);
     }
     (state, window)
 }
@@ -259,14 +282,21 @@ fn whole_window(
 fn extended_windows(rt: HostRuntime) -> Result<(), Fail> {
     let pgn = Pgn::new(0xFECA)?;
     let message = fill(rt.alloc(), 1786)?;
+    let mut queue = TxQueue::new(rt.alloc())?;
     let (mut state, rts) = begun(&rt, Kind::Etp, PEER, pgn, 1786);
     assert!(rt; is_frame(&rts, 0x1CC8_3521, [0x14, 0xFA, 6, 0, 0, 0xCA, 0xFE, 0]));
     for next in [1, 65, 129] {
-        let (after, window) = whole_window(&rt, state, etp_cts(64, next, pgn), &message);
+        let (after, window) = whole_window(
+            &rt,
+            state,
+            etp_cts(64, next, pgn),
+            &message,
+            &mut queue,
+        );
         assert_eq!(rt; window.frames, 65);
         state = after;
     }
-    let (state, window) = whole_window(&rt, state, etp_cts(64, 193, pgn), &message);
+    let (state, window) = whole_window(&rt, state, etp_cts(64, 193, pgn), &message, &mut queue);
     assert_eq!(rt; window.frames, 65);
     assert!(rt;
         is_shown(
@@ -286,6 +316,7 @@ fn extended_windows(rt: HostRuntime) -> Result<(), Fail> {
 fn sixteen_windows(rt: HostRuntime) -> Result<(), Fail> {
     let pgn = Pgn::new(0xFECA)?;
     let message = fill(rt.alloc(), 1785)?;
+    let mut queue = TxQueue::new(rt.alloc())?;
     let (mut state, rts) = begun(&rt, Kind::Tp, PEER, pgn, 1785);
     assert!(rt;
         is_frame(
@@ -295,11 +326,17 @@ fn sixteen_windows(rt: HostRuntime) -> Result<(), Fail> {
         )
     );
     for window in 0..15u8 {
-        let (after, queued) = whole_window(&rt, state, cts(16, window * 16 + 1, pgn), &message);
+        let (after, queued) = whole_window(
+            &rt,
+            state,
+            cts(16, window * 16 + 1, pgn),
+            &message,
+            &mut queue,
+        );
         assert_eq!(rt; queued.frames, 16);
         state = after;
     }
-    let (state, queued) = whole_window(&rt, state, cts(15, 241, pgn), &message);
+    let (state, queued) = whole_window(&rt, state, cts(15, 241, pgn), &message, &mut queue);
     assert_eq!(rt; queued.frames, 15);
     let last = [0xFF, 0xF3, 0xF4, 0xF5, 0xF6, 0xF7, 0xF8, 0xF9];
     assert!(rt; is_shown(queued.last, 0x1CEB_3521, last));

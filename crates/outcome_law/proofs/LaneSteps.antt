@@ -20,9 +20,8 @@ use Rattle.lane_core.specs.declared.place.UnderWay.TheVariants.{Nothing, Broadca
 use Rattle.lane_core.specs.declared.probe.Standing.{Standing}
 use Rattle.lane_core.specs.declared.probe.Standing.TheVariants.{Settled, InDoubt, Probing}
 use Rattle.lane_core.specs.declared.step.Ended.{Ended}
-use Rattle.lane_core.specs.declared.step.LaneStep.{LaneStep}
+use Rattle.lane_core.specs.Step.{LaneStep, says, nothing_to_do}
 use Rattle.lane_core.specs.Probe.{is_token, other_token, most_requests, probes}
-use Rattle.lane_core.specs.Step.{says, nothing_to_do}
 use Rattle.lane_core.specs.Lane.{Lane, link_for, with_under_way}
 use Rattle.lane_core.specs.Endings.{front_ended, over, still, after_step}
 use Rattle.lane_core.specs.Cancel.{numbered, withdrawn, without_number, is_front, cancelled, cancelled_by}

@@ -6,9 +6,8 @@ use Rattle.std.specs.FinMap as finmap
 use Rattle.std.specs.FinMap.{get-insert}
 use Rattle.pgn_ids.specs.declared.address.Address.{Address}
 use Rattle.lane_core.specs.Lane.{Lane, new_lane}
-use Rattle.lane_core.specs.Step.{nothing_to_do}
+use Rattle.lane_core.specs.Step.{nothing_to_do, LaneStep}
 use Rattle.lane_core.specs.Overrun.{overrun}
-use Rattle.lane_core.specs.declared.step.LaneStep.{LaneStep}
 use Rattle.station_lanes.specs.Lanes.{Lanes}
 use Rattle.station_lanes.specs.LaneCalls.{stepped_lanes, step_at, outcome_of, lane_to}
 use Rattle.station_lanes.specs.LaneReaders.{overrun_lanes, overrun_events}

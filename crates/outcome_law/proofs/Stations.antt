@@ -13,11 +13,10 @@ use Rattle.port_table.specs.Ports.{without_port}
 use Rattle.lane_core.specs.Lane.{Lane}
 use Rattle.lane_core.specs.Hear.{heard}
 use Rattle.lane_core.specs.Answer.{answered}
-use Rattle.lane_core.specs.Step.{nothing_to_do}
+use Rattle.lane_core.specs.Step.{nothing_to_do, LaneStep}
 use Rattle.lane_core.specs.Pump as lane-pump
 use Rattle.lane_core.specs.Fire as lane-fire
 use Rattle.lane_core.specs.Cancel as lane-cancel
-use Rattle.lane_core.specs.declared.step.LaneStep.{LaneStep}
 use Rattle.session_table.specs.DueOrder.{first_due}
 use Rattle.session_table.specs.Sessions.{state_at}
 use Rattle.session_table.specs.declared.key.Key.{Key}
@@ -25,14 +24,14 @@ use Rattle.session_table.specs.declared.key.SessionKind.TheVariants as session
 use Rattle.station_lanes.specs.LaneCalls.{stepped_lanes, outcome_of}
 use Rattle.station_lanes.specs.LaneReaders.{due_lane, is_pending_at}
 use Rattle.station_lanes.specs.Lanes.{Lanes}
-use Rattle.station_sessions.specs.Receiving.{received, fired_at}
+use Rattle.station_sessions.specs.Receiving.{received, fired_at, Reception}
 use Rattle.station_core.specs.Station.{Station, StationStep, quietly, queues, by_session, by_lane}
 use Rattle.tp_wire.specs.declared.constants.TheConstants.{ETP_MAX_WINDOW}
 use Rattle.tp_wire.specs.declared.wire.Kind.{Kind}
 use Rattle.tp_wire.specs.declared.wire.Kind.TheVariants.{Tp, Etp}
 use Rattle.responder.specs.Window.{most_of}
 use Rattle.session_table.specs.Key.{session_for}
-use Rattle.station_core.specs.Opening.{key_of, refusal, is_tp_size, is_etp_size, set_for, others_than, rts_taken, bam_taken}
+use Rattle.station_sessions.specs.Opening.{key_of, refusal, is_tp_size, is_etp_size, set_for, others_than, rts_received, bam_received}
 use Rattle.station_core.specs.Sending.{pumped, cancelled}
 use Rattle.station_core.specs.Taking.{packet_kind, answer, request_taken, ack_taken, cm_taken, wire_taken, meaning_taken, looks_at, taken}
 use Rattle.station_core.specs.Timers.{lane_fired, fired}
@@ -58,15 +57,15 @@ module _ (st : Station) where
   -- Taking
 
   -- a session opens, or it doesn't
-  either_tells : (o : Option AbortReason) (x : Station) (y : AbortReason → Station) → StepTells st (quietly x) → ((reason : AbortReason) → StepTells st (quietly (y reason))) → StepTells st (quietly (elim o as (λ (_ : Option AbortReason). Station) [ None ↦ x | Some reason ↦ y reason ]))
+  either_tells : (o : Option AbortReason) (x : Reception) (y : AbortReason → Reception) → StepTells st (by_session st x) → ((reason : AbortReason) → StepTells st (by_session st (y reason))) → StepTells st (by_session st (elim o as (λ (_ : Option AbortReason). Reception) [ None ↦ x | Some reason ↦ y reason ]))
   either_tells None x y h k = h
   either_tells (Some reason) x y h k = k reason
 
-  rts_tells : (kind : Kind) (is_size : Bool) (from : Address) (size most pgn : ℕ) (room : Bool) (now : ℕ) → StepTells st (quietly (rts_taken st kind is_size from size most pgn room now))
-  rts_tells kind is_size from size most pgn room now = either_tells (refusal is_size room (set_for st pgn size) (others_than st (key_of from (session_for kind)))) _ _ same (λ reason. same)
+  rts_tells : (kind : Kind) (is_size : Bool) (from : Address) (size most pgn : ℕ) (room : Bool) (now : ℕ) → StepTells st (by_session st (rts_received st.address st.ports kind is_size from size most pgn room now st.sessions))
+  rts_tells kind is_size from size most pgn room now = either_tells (refusal is_size room (set_for st.ports pgn size) (others_than st.sessions (key_of from (session_for kind)))) _ _ same (λ reason. same)
 
-  bam_tells : (from : Address) (size packets pgn : ℕ) (room : Bool) (now : ℕ) → StepTells st (quietly (bam_taken st from size packets pgn room now))
-  bam_tells from size packets pgn room now = either_tells (refusal (is_tp_size size packets) room (set_for st pgn size) (others_than st (key_of from session.Broadcast))) _ _ same (λ reason. same)
+  bam_tells : (from : Address) (size packets pgn : ℕ) (room : Bool) (now : ℕ) → StepTells st (by_session st (bam_received st.ports from size packets pgn room now st.sessions))
+  bam_tells from size packets pgn room now = either_tells (refusal (is_tp_size size packets) room (set_for st.ports pgn size) (others_than st.sessions (key_of from session.Broadcast))) _ _ same (λ reason. same)
 
   in_lane_tells : (from : Address) (wire : Wire) (now : ℕ) → StepTells st (by_lane st from (λ l. heard l wire now))
   in_lane_tells from wire now = by_lane_tells from (λ l. heard l wire now) (λ l _. ends_heard l wire now)

@@ -7,7 +7,7 @@ use Rattle.session_table.specs.declared.key.Key.{Key}
 use Rattle.session_table.specs.declared.key.SessionKind.{SessionKind}
 use Rattle.session_table.specs.declared.key.SessionKind.TheVariants as session
 use Rattle.station_core.specs.Station.{Station}
-use Rattle.station_core.specs.Opening.{key_of}
+use Rattle.station_sessions.specs.Opening.{key_of}
 use Rattle.station_core.specs.Closing.{unbound_session, unbound_source, closed_below, closed}
 use Rattle.record_lemmas.proofs.Maps.{OfEach}
 use Rattle.port_law.proofs.Ports.{Lacks, receive_less}

@@ -1,11 +1,8 @@
 -- The steps of an incoming session: its destination, PGN field and size stay, and its message has no more bytes than that.
-use Rattle.std.proofs.Common.{◌≡◌, ℕ, zero, suc, ◌+◌, ◌-◌, ◌≤◌, nat_lt, Bool, not, ◌&&◌, ◌||◌, List, [], ◌∷◌, length, take, ap, arith}
-use Rattle.std.specs.Prelude.{nat_le}
+use Rattle.std.proofs.Common.{◌≡◌, ℕ, zero, suc, ◌-◌, ◌≤◌, nat_lt, Bool, not, List, [], ◌∷◌, length, take, ap, arith}
 use Rattle.std.proofs.lemmas.List.{length-append}
 use Rattle.pgn_ids.specs.Pgn.{clean}
 use Rattle.tp_wire.specs.declared.wire.Kind.TheVariants.{Tp, Etp}
-use Rattle.tp_wire.specs.declared.wire.CmFrame.{CmFrame}
-use Rattle.tp_wire.specs.declared.wire.CmFrame.TheVariants.{Rts, Cts, EndOfMsgAck, Bam, Abort, EtpRts, EtpCts, EtpDpo, EtpEoma, EtpAbort}
 use Rattle.tp_wire.specs.declared.wire.Wire.{Wire}
 use Rattle.tp_wire.specs.declared.wire.Wire.TheVariants.{Cm, Packet, Request, Ack}
 use Rattle.seg_cut.specs.Join.{Join, joined, wants_last}

@@ -35,13 +35,14 @@ use Rattle.lane_core.specs.Hear.{heard}
 use Rattle.lane_core.specs.Fire.{fired as lane_fires}
 use Rattle.lane_core.specs.Overrun.{overrun as lane_overrun}
 use Rattle.lane_core.specs.declared.step.Ended.{Ended}
-use Rattle.lane_core.specs.declared.step.LaneStep.{LaneStep}
+use Rattle.lane_core.specs.Step.{LaneStep}
 use Rattle.station_lanes.specs.Lanes.{Lanes}
 use Rattle.station_lanes.specs.LaneCalls.{step_at, outcome_of}
 use Rattle.station_lanes.specs.LaneReaders.{overrun_lanes, overrun_events, due_lane}
 use Rattle.station_sessions.specs.Receiving.{Reception, flow_at, received, fired_at}
 use Rattle.station_core.specs.Station.{Station, StationStep, quietly, by_session, by_lane}
-use Rattle.station_core.specs.Opening.{key_of, refusal, is_tp_size, is_etp_size, set_for, others_than, whole_join, peer_of, opened, not_opened, rts_taken, bam_taken}
+use Rattle.station_sessions.specs.Opening.{key_of, refusal, is_tp_size, is_etp_size, set_for, others_than, whole_join, peer_of, rts_received, bam_received}
+use Rattle.station_sessions.specs.Receiving.{goes_on_at, ended_at}
 use Rattle.station_core.specs.Overruns.{overrun}
 use Rattle.station_core.specs.Taking.{packet_kind, in_session, abort_taken, cm_taken, request_taken, ack_taken, wire_taken, looks_at, meaning_taken, taken}
 use Rattle.station_core.specs.Timers.{lane_fired, fired}
@@ -99,30 +100,30 @@ module _ (st : Station) (own : st.ports.station ≡ st.address) (each : AreBound
   -- Frames
 
   module _ (from : Address) (source : from.0 < 254) where
-    acts_opened : (kind : SessionKind) (pgn size : ℕ) (state : Incoming) (frame : Option CanFrame) → IsOf st.ports.station.0 pgn size state → Acts st (quietly (opened st (key_of from kind) (set_for st pgn size) state frame))
+    acts_opened : (kind : SessionKind) (pgn size : ℕ) (state : Incoming) (frame : Option CanFrame) → IsOf st.ports.station.0 pgn size state → Acts st (by_session st (goes_on_at (key_of from kind) (set_for st.ports pgn size) st.sessions state frame))
     acts_opened kind pgn size state frame h = record {
       address = refl;
       ports = refl;
-      sessions = of_each_put (IsBound st.ports) st.sessions (key_of from kind) (set_for st pgn size, state) (record { source = source; pgn = pgn; size = size; state = h; set = found_receive st.ports (clean pgn) size }) each;
+      sessions = of_each_put (IsBound st.ports) st.sessions (key_of from kind) (set_for st.ports pgn size, state) (record { source = source; pgn = pgn; size = size; state = h; set = found_receive st.ports (clean pgn) size }) each;
       events = tt;
     }
 
-    acts_not_opened : (kind : SessionKind) (frame : Option CanFrame) → Acts st (quietly (not_opened st (key_of from kind) frame))
+    acts_not_opened : (kind : SessionKind) (frame : Option CanFrame) → Acts st (by_session st (ended_at (key_of from kind) st.sessions frame))
     acts_not_opened kind frame = record { address = refl; ports = refl; sessions = of_each_dropped (IsBound st.ports) st.sessions (key_of from kind) each; events = tt }
 
-    abbrev Quietly : Station → Type 0
-    Quietly x = Acts st (quietly x)
+    abbrev Opens : Reception → Type 0
+    Opens r = Acts st (by_session st r)
 
-    acts_rts : (kind : Kind) (is_size : Bool) (size most pgn : ℕ) (room : Bool) (now : ℕ) → Quietly (rts_taken st kind is_size from size most pgn room now)
+    acts_rts : (kind : Kind) (is_size : Bool) (size most pgn : ℕ) (room : Bool) (now : ℕ) → Opens (rts_received st.address st.ports kind is_size from size most pgn room now st.sessions)
     acts_rts kind is_size size most pgn room now =
-        let m : Unfinished = begun kind (peer_of st from pgn) most (first_join kind size (flow_at st.ports (set_for st pgn size))) in
-        by_option Quietly (refusal is_size room (set_for st pgn size) (others_than st (key_of from (session_for kind)))) _ _
-        (acts_opened (session_for kind) pgn size (incoming.Connection (asking m (flow_at st.ports (set_for st pgn size)) now)) (Some (asked m (flow_at st.ports (set_for st pgn size))))
-        (asking_is st.ports.station.0 pgn size m (flow_at st.ports (set_for st pgn size)) now (own_address, (refl, (refl, omega arith)))))
-        (λ reason. acts_not_opened (session_for kind) (Some (abort_frame kind (peer_of st from pgn) (reason_byte reason))))
+        let m : Unfinished = begun kind (peer_of st.address from pgn) most (first_join kind size (flow_at st.ports (set_for st.ports pgn size))) in
+        by_option Opens (refusal is_size room (set_for st.ports pgn size) (others_than st.sessions (key_of from (session_for kind)))) _ _
+        (acts_opened (session_for kind) pgn size (incoming.Connection (asking m (flow_at st.ports (set_for st.ports pgn size)) now)) (Some (asked m (flow_at st.ports (set_for st.ports pgn size))))
+        (asking_is st.ports.station.0 pgn size m (flow_at st.ports (set_for st.ports pgn size)) now (own_address, (refl, (refl, omega arith)))))
+        (λ reason. acts_not_opened (session_for kind) (Some (abort_frame kind (peer_of st.address from pgn) (reason_byte reason))))
 
-    acts_bam : (size packets pgn : ℕ) (room : Bool) (now : ℕ) → Quietly (bam_taken st from size packets pgn room now)
-    acts_bam size packets pgn room now = by_option Quietly (refusal (is_tp_size size packets) room (set_for st pgn size) (others_than st (key_of from session.Broadcast))) _ _
+    acts_bam : (size packets pgn : ℕ) (room : Bool) (now : ℕ) → Opens (bam_received st.ports from size packets pgn room now st.sessions)
+    acts_bam size packets pgn room now = by_option Opens (refusal (is_tp_size size packets) room (set_for st.ports pgn size) (others_than st.sessions (key_of from session.Broadcast))) _ _
         (acts_opened session.Broadcast pgn size (incoming.Broadcast (bam.announced from.0 pgn (whole_join size) now)) None (refl, (refl, omega arith)))
         (λ reason. acts_not_opened session.Broadcast None)
 

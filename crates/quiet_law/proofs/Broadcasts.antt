@@ -178,7 +178,7 @@ module _ (c : Setting) where
     other_takes : (k : ℕ) (st : Station) (now : ℕ) → k < last → now ≡ time (suc k) → same st ≡ false → taken (other k st) (frame_no k) true now ≡ quietly (other (suc k) st)
     other_takes zero st now few clock e =
         taken_other s bam_wire (frame_no 0) (said 0 (omega arith)) (other 0 st) now (other_same 0 st e)
-        ∙ ap quietly (bam_heard s c.m c.msg.pgn c.msg.least c.msg.most st now)
+        ∙ bam_heard s c.m c.msg.pgn c.msg.least c.msg.most st now
         ∙ ap (λ (t : ℕ). quietly (hears s c.m 0 t st)) clock
     other_takes (suc j) st now few clock e =
         taken_other s (packet_wire j) (frame_no (suc j)) (said (suc j) (omega arith)) (other (suc j) st) now (other_same (suc j) st e)

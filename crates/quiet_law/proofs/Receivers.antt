@@ -30,7 +30,7 @@ use Rattle.session_table.proofs.Keys.{key_total}
 use Rattle.session_table.proofs.Tables.{key_eq-refl}
 use Rattle.station_sessions.specs.Given.{given_to}
 use Rattle.station_sessions.specs.Receiving.{Inbound, Reception, broadcast_settled, received, received_by}
-use Rattle.station_core.specs.Opening.{key_of, others_than, set_for, is_tp_size, refusal, whole_join, bam_taken}
+use Rattle.station_sessions.specs.Opening.{key_of, others_than, set_for, is_tp_size, refusal, whole_join, bam_received}
 use Rattle.station_core.specs.Station.{Station, StationStep, quietly, by_session}
 use Rattle.station_core.specs.Taking.{in_session}
 use Rattle.station_sessions.proofs.SessionMaps.{insert_again, remove_inserted}
@@ -45,15 +45,15 @@ module _ {T : Type 0} (m : Sessions T) (k : Key) where
   state_removed = ap option_flatten (get-remove key_total m k k ∙ ap (λ b. cond b None (finmap.get m k)) (key_eq-refl k))
 
 -- a session opens where there is a place for it
-opens_where : (set : List ℕ) (others : ℕ) (x : Station) (y : AbortReason → Station) (z : Station) → ((reason : AbortReason) → y reason ≡ z)
-    → (elim (refusal true true set others) as (λ (_ : Option AbortReason). Station) [ None ↦ x | Some reason ↦ y reason ]) ≡ cond (nat_lt 0 (length set) && nat_lt others MAX_SESSIONS) x z
+opens_where : (set : List ℕ) (others : ℕ) (x : Reception) (y : AbortReason → Reception) (z : Reception) → ((reason : AbortReason) → y reason ≡ z)
+    → (elim (refusal true true set others) as (λ (_ : Option AbortReason). Reception) [ None ↦ x | Some reason ↦ y reason ]) ≡ cond (nat_lt 0 (length set) && nat_lt others MAX_SESSIONS) x z
 opens_where [] others x y z same = same Resources
 opens_where (n ∷ set) others x y z same =
     let some : (length (n ∷ set) == 0) ≡ false = ne_eqb (length (n ∷ set)) 0 (λ e. absurd (omega (arith, e))) in
     let has : nat_lt 0 (length (n ∷ set)) ≡ true = lt-ltb 0 (length (n ∷ set)) (omega arith) in
     rw (some, has) (by (nat_lt others MAX_SESSIONS) refl)
   where
-    by : (b : Bool) → nat_lt others MAX_SESSIONS ≡ b → (elim (cond {A = Option AbortReason} (nat_le MAX_SESSIONS others) (Some NoFurtherSession) None) as (λ (_ : Option AbortReason). Station) [ None ↦ x | Some reason ↦ y reason ]) ≡ cond b x z
+    by : (b : Bool) → nat_lt others MAX_SESSIONS ≡ b → (elim (cond {A = Option AbortReason} (nat_le MAX_SESSIONS others) (Some NoFurtherSession) None) as (λ (_ : Option AbortReason). Reception) [ None ↦ x | Some reason ↦ y reason ]) ≡ cond b x z
     by true e =
         let le : nat_le MAX_SESSIONS others ≡ false = lt-leb MAX_SESSIONS others (ltb-true others MAX_SESSIONS e) in
         rw le refl
@@ -114,17 +114,17 @@ module _ (s : Address) (m : Pending) where
   join_size (suc k) = join_size k
 
   -- the BAM
-  pub bam_heard : is_pgn m.pgn ≡ true → MIN_SIZE ≤ len → len ≤ TP_MAX_SIZE → (st : Station) (t : ℕ) → bam_taken (record st { queue = [] }) s len last m.pgn true t ≡ hears 0 t st
+  pub bam_heard : is_pgn m.pgn ≡ true → MIN_SIZE ≤ len → len ≤ TP_MAX_SIZE → (st : Station) (t : ℕ) → by_session (record st { queue = [] }) (bam_received st.ports s len last m.pgn true t st.sessions) ≡ quietly (hears 0 t st)
   unfolding join_of
   bam_heard is long short st t =
       let size : is_tp_size len last ≡ true = sized in
-      let set : set_for (record st { queue = [] }) m.pgn len ≡ takers st m = ap (λ (p : ℕ). ports_for st.ports p len) (clean_is m.pgn is).1 in
-      let x : List ℕ → Station = λ (ns : List ℕ). record st { queue = []; sessions = finmap.insert st.sessions key (Some (ns, incoming.Broadcast (broadcast 0 t))) } in
-      let z : Station = record st { queue = []; sessions = finmap.remove st.sessions key } in
-      let others : ℕ = others_than st key in
-      ap (λ (b : Bool). elim (refusal b true (set_for (record st { queue = [] }) m.pgn len) others) as (λ (_ : Option AbortReason). Station) [ None ↦ x (set_for (record st { queue = [] }) m.pgn len) | Some reason ↦ z ]) size
-      ∙ ap (λ (ns : List ℕ). elim (refusal true true ns others) as (λ (_ : Option AbortReason). Station) [ None ↦ x ns | Some reason ↦ z ]) set
-      ∙ opens_where (takers st m) others (x (takers st m)) (λ _. z) z (λ _. refl)
+      let set : set_for st.ports m.pgn len ≡ takers st m = ap (λ (p : ℕ). ports_for st.ports p len) (clean_is m.pgn is).1 in
+      let x : List ℕ → Reception = λ (ns : List ℕ). record { sessions = finmap.insert st.sessions key (Some (ns, incoming.Broadcast (broadcast 0 t))); frame = None; events = [] } in
+      let z : Reception = record { sessions = finmap.remove st.sessions key; frame = None; events = [] } in
+      let others : ℕ = others_than st.sessions key in
+      ap (λ (r : Reception). by_session (record st { queue = [] }) r) (ap (λ (b : Bool). elim (refusal b true (set_for st.ports m.pgn len) others) as (λ (_ : Option AbortReason). Reception) [ None ↦ x (set_for st.ports m.pgn len) | Some reason ↦ z ]) size
+      ∙ ap (λ (ns : List ℕ). elim (refusal true true ns others) as (λ (_ : Option AbortReason). Reception) [ None ↦ x ns | Some reason ↦ z ]) set
+      ∙ opens_where (takers st m) others (x (takers st m)) (λ _. z) z (λ _. refl))
       ∙ out (place st)
     where
       sized : is_tp_size len last ≡ true
@@ -134,8 +134,8 @@ module _ (s : Address) (m : Pending) where
           let c : (last == packet_count len) ≡ true = eq-eqb last (packet_count len) refl in
           rw (a, b, c) refl
 
-      out : (b : Bool) → cond {A = Station} b (record st { queue = []; sessions = finmap.insert st.sessions key (Some (takers st m, incoming.Broadcast (broadcast 0 t))) }) (record st { queue = []; sessions = finmap.remove st.sessions key })
-          ≡ record st { queue = []; sessions = cond b (finmap.insert st.sessions key (Some (takers st m, incoming.Broadcast (broadcast 0 t)))) (finmap.remove st.sessions key) }
+      out : (b : Bool) → by_session (record st { queue = [] }) (cond {A = Reception} b (record { sessions = finmap.insert st.sessions key (Some (takers st m, incoming.Broadcast (broadcast 0 t))); frame = None; events = [] }) (record { sessions = finmap.remove st.sessions key; frame = None; events = [] }))
+          ≡ quietly (record st { queue = []; sessions = cond b (finmap.insert st.sessions key (Some (takers st m, incoming.Broadcast (broadcast 0 t)))) (finmap.remove st.sessions key) })
       out true = refl
       out false = refl
 

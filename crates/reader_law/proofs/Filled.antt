@@ -1,16 +1,12 @@
 -- The steps of an incoming session: each packet before the next one is there whole, and a message that is complete has the size
 -- that was announced.
-use Rattle.std.proofs.Common.{◌≡◌, ◌⊎◌, inl, inr, ℕ, ◌+◌, ◌-◌, ◌*◌, ◌<◌, ◌≤◌, nat_lt, Bool, true, false, cond, not, ◌&&◌, ◌||◌, List, length, take, None, ap, ◌∙◌, arith, ⊎_elim, subst}
-use Rattle.std.specs.Prelude.{nat_le}
+use Rattle.std.proofs.Common.{◌≡◌, ◌⊎◌, inl, inr, ℕ, ◌+◌, ◌-◌, ◌*◌, ◌<◌, ◌≤◌, nat_lt, Bool, true, cond, not, List, length, take, ap, ◌∙◌, arith, ⊎_elim, subst}
 use Rattle.std.proofs.lemmas.Bool.{cases_lt, eqb-true}
 use Rattle.std.proofs.lemmas.List.{length-append, length-take-le, take_all}
 use Rattle.tp_wire.specs.declared.wire.Kind.TheVariants.{Tp, Etp}
-use Rattle.tp_wire.specs.declared.wire.CmFrame.{CmFrame}
-use Rattle.tp_wire.specs.declared.wire.CmFrame.TheVariants.{Rts, Cts, EndOfMsgAck, Bam, Abort, EtpRts, EtpCts, EtpDpo, EtpEoma, EtpAbort}
 use Rattle.tp_wire.specs.declared.wire.Wire.{Wire}
 use Rattle.tp_wire.specs.declared.wire.Wire.TheVariants.{Cm, Packet, Request, Ack}
-use Rattle.tp_wire.specs.declared.reason.AbortReason.TheVariants.{Resources}
-use Rattle.seg_cut.specs.Join.{Join, joined, with_room, wants_last}
+use Rattle.seg_cut.specs.Join.{Join, joined, wants_last}
 use Rattle.seg_cut.specs.Packets.{packet_count}
 use Rattle.responder.specs.Unfinished.{Unfinished, with_packet}
 use Rattle.responder.specs.Readers.{unfinished_of}

@@ -27,7 +27,7 @@ use Rattle.message_events.specs.declared.event.Event.{Event}
 use Rattle.message_events.specs.declared.event.Event.TheVariants as event
 use Rattle.station_sessions.specs.Steps.{completes, size_of}
 use Rattle.station_sessions.specs.Receiving.{Inbound, flow_at, broadcast_settled, connection_settled, session_stepped, received_by, wanted_by}
-use Rattle.station_core.specs.Opening.{key_of}
+use Rattle.station_sessions.specs.Opening.{key_of}
 use Rattle.station_core.specs.Station.{Station, quietly}
 use Rattle.station_core.specs.Taking as taking
 use Rattle.station_core.specs.Taking.{wire_taken, meaning_taken, looks_at, taken, packet_kind}

@@ -31,10 +31,10 @@ use Rattle.session_table.specs.declared.key.Key.{Key}
 use Rattle.session_table.specs.declared.key.SessionKind.TheVariants as session
 use Rattle.session_table.specs.declared.incoming.Incoming.{Incoming}
 use Rattle.session_table.specs.declared.incoming.Incoming.TheVariants as incoming
-use Rattle.station_sessions.specs.Receiving.{Inbound, flow_at, fired_at}
+use Rattle.station_sessions.specs.Receiving.{Inbound, flow_at, fired_at, Reception}
 use Rattle.station_lanes.specs.LaneReaders.{due_lane}
 use Rattle.station_core.specs.Station.{Station, StationStep, by_session}
-use Rattle.station_core.specs.Opening.{key_of, refusal, is_tp_size, is_etp_size, set_for, others_than, whole_join, peer_of, rts_taken, bam_taken}
+use Rattle.station_sessions.specs.Opening.{key_of, refusal, is_tp_size, is_etp_size, set_for, others_than, whole_join, peer_of, rts_received, bam_received}
 use Rattle.station_core.specs.Taking.{packet_kind, cm_taken, wire_taken, meaning_taken, looks_at, taken}
 use Rattle.station_core.specs.Timers.{lane_fired, fired}
 use Rattle.station_core.specs.Closing.{closed_below, closed}
@@ -125,7 +125,7 @@ has_port is_size room set others e none = eqb-false (length set) 0 (by is_size (
     by false t e = absurd cc
 
 module _ (st : Station) (each : Kept st) where
-  by_refusal : (o : Option AbortReason) (x : Station) (y : AbortReason → Station) → (o ≡ None → Kept x) → ((reason : AbortReason) → Kept (y reason)) → Kept (elim o [ None ↦ x | Some reason ↦ y reason ])
+  by_refusal : (o : Option AbortReason) (x : Reception) (y : AbortReason → Reception) → (o ≡ None → AreKept x.sessions) → ((reason : AbortReason) → AreKept (y reason).sessions) → AreKept (elim o as (λ (_ : Option AbortReason). Reception) [ None ↦ x | Some reason ↦ y reason ]).sessions
   by_refusal None x y h k = h refl
   by_refusal (Some reason) x y h k = k reason
 
@@ -133,21 +133,21 @@ module _ (st : Station) (each : Kept st) where
   kept_opened key set state some filled = kept_put st.sessions key each (set, state) (record { some = some; filled = filled })
 
   module _ (from : Address) (room : Bool) (now : ℕ) where
-    kept_rts : (kind : Kind) (is_size : Bool) (size most pgn : ℕ) → Kept (rts_taken st kind is_size from size most pgn room now)
+    kept_rts : (kind : Kind) (is_size : Bool) (size most pgn : ℕ) → Kept (by_session st (rts_received st.address st.ports kind is_size from size most pgn room now st.sessions)).station
     kept_rts kind is_size size most pgn =
         let key : Key = key_of from (session_for kind) in
-        let flow : Flow = flow_at st.ports (set_for st pgn size) in
-        let m : Unfinished = begun kind (peer_of st from pgn) most (first_join kind size flow) in
-        by_refusal (refusal is_size room (set_for st pgn size) (others_than st key)) _ _
-        (λ e. kept_opened key (set_for st pgn size) (incoming.Connection (asking m flow now)) (has_port is_size room (set_for st pgn size) (others_than st key) e)
+        let flow : Flow = flow_at st.ports (set_for st.ports pgn size) in
+        let m : Unfinished = begun kind (peer_of st.address from pgn) most (first_join kind size flow) in
+        by_refusal (refusal is_size room (set_for st.ports pgn size) (others_than st.sessions key)) _ _
+        (λ e. kept_opened key (set_for st.ports pgn size) (incoming.Connection (asking m flow now)) (has_port is_size room (set_for st.ports pgn size) (others_than st.sessions key) e)
         (asking_filled m flow now (inr (omega arith, omega arith, omega arith))))
         (λ reason. kept_dropped st.sessions key each)
 
-    kept_bam : (size packets pgn : ℕ) → Kept (bam_taken st from size packets pgn room now)
+    kept_bam : (size packets pgn : ℕ) → Kept (by_session st (bam_received st.ports from size packets pgn room now st.sessions)).station
     kept_bam size packets pgn =
         let key : Key = key_of from session.Broadcast in
-        by_refusal (refusal (is_tp_size size packets) room (set_for st pgn size) (others_than st key)) _ _
-        (λ e. kept_opened key (set_for st pgn size) (incoming.Broadcast (bam.announced from.0 pgn (whole_join size) now)) (has_port (is_tp_size size packets) room (set_for st pgn size) (others_than st key) e) (inr (omega arith, omega arith, omega arith)))
+        by_refusal (refusal (is_tp_size size packets) room (set_for st.ports pgn size) (others_than st.sessions key)) _ _
+        (λ e. kept_opened key (set_for st.ports pgn size) (incoming.Broadcast (bam.announced from.0 pgn (whole_join size) now)) (has_port (is_tp_size size packets) room (set_for st.ports pgn size) (others_than st.sessions key) e) (inr (omega arith, omega arith, omega arith)))
         (λ reason. kept_dropped st.sessions key each)
 
     kept_cm : (frame : CmFrame) → Kept (cm_taken st frame from room now).station

@@ -1,5 +1,5 @@
 -- The ports that a Take with room gives to are those that it was said to want.
-use Rattle.std.proofs.Common.{◌≡◌, ℕ, Bool, true, false, cond, List, [], Option, Some, None, Err, refl, sym, ◌∙◌}
+use Rattle.std.proofs.Common.{◌≡◌, ℕ, Bool, true, false, cond, List, [], Option, Some, None, Err, refl, sym, ap, ◌∙◌}
 use Rattle.std.specs.Prelude.{slice_get}
 use Rattle.bus_frame.specs.Frames.{CanFrame}
 use Rattle.pgn_ids.specs.declared.address.Address.{Address}
@@ -20,10 +20,11 @@ use Rattle.session_table.specs.Sessions.{state_at}
 use Rattle.station_lanes.specs.LaneCalls.{step_at, outcome_of}
 use Rattle.station_sessions.specs.Steps.{completes, size_of}
 use Rattle.station_sessions.specs.Receiving.{Inbound, flow_at, received_by, wanted_by}
-use Rattle.station_core.specs.Opening.{key_of}
+use Rattle.station_sessions.specs.Opening.{key_of, opening_received}
+use Rattle.record_lemmas.proofs.Openings.{opening_untold}
 use Rattle.station_core.specs.Station.{Station, quietly}
 use Rattle.station_core.specs.Taking as taking
-use Rattle.station_core.specs.Taking.{cm_taken, wire_taken, meaning_taken, looks_at, taken, packet_kind, is_malformed_for}
+use Rattle.station_core.specs.Taking.{cm_taken, wire_taken, meaning_taken, looks_at, taken, packet_kind}
 use Rattle.segment_law.specs.Segment.{Segment, place_of, counted_repeat}
 use Rattle.segment_law.specs.Calls.{Answer, no_place, at_place, at_station, takes, takes_by, repeats, repeats_by, looks, called, replied, events_of}
 use Rattle.segment_law.specs.Readers.{frame_for, wanted_with, wanted, ports_given, given_by_take}
@@ -52,13 +53,16 @@ module _ (st : Station) (now : ℕ) where
   lane_ports : (from : Address) (wire : Wire) → ports_given (outcome_of st.address from (step_at st.lanes from.0 (λ l. heard l wire now)).ended) ≡ []
   lane_ports from wire = outcome_ports st.address from (step_at st.lanes from.0 (λ l. heard l wire now)).ended
 
+  opening_ports : (from : Address) (frame : CmFrame) → ports_given (opening_received st.address st.ports frame from true now st.sessions).events ≡ []
+  opening_ports from frame = ap ports_given (opening_untold st.address st.ports from true now st.sessions frame)
+
   cm_ports : (frame : CmFrame) (from : Address) → ports_given (cm_taken st frame from true now).events ≡ []
-  cm_ports (Rts size packets most pgn) from = refl
+  cm_ports (Rts size packets most pgn) from = opening_ports from (Rts size packets most pgn)
   cm_ports (Cts granted next pgn) from = lane_ports from (Cm (Cts granted next pgn))
   cm_ports (EndOfMsgAck size packets pgn) from = lane_ports from (Cm (EndOfMsgAck size packets pgn))
-  cm_ports (Bam size packets pgn) from = refl
+  cm_ports (Bam size packets pgn) from = opening_ports from (Bam size packets pgn)
   cm_ports (Abort reason pgn) from = lane_ports from (Cm (Abort reason pgn))
-  cm_ports (EtpRts size pgn) from = refl
+  cm_ports (EtpRts size pgn) from = opening_ports from (EtpRts size pgn)
   cm_ports (EtpCts granted next pgn) from = lane_ports from (Cm (EtpCts granted next pgn))
   cm_ports (EtpDpo packets offset pgn) from = in_offset_ports st.ports (key_of from session.Etp) now st.sessions (state_at st.sessions (key_of from session.Etp)) packets offset pgn
   cm_ports (EtpEoma size pgn) from = lane_ports from (Cm (EtpEoma size pgn))

@@ -10,7 +10,7 @@ use Rattle.tp_wire.specs.declared.wire.CmFrame.{CmFrame}
 use Rattle.tp_wire.specs.declared.wire.CmFrame.TheVariants.{Rts, Cts, EndOfMsgAck, Bam, Abort, EtpRts, EtpCts, EtpDpo, EtpEoma, EtpAbort}
 use Rattle.tp_wire.specs.declared.wire.Wire.{Wire}
 use Rattle.tp_wire.specs.declared.wire.Wire.TheVariants.{Cm, Packet, Request, Ack}
-use Rattle.responder.specs.Steps.{stepped, expired}
+use Rattle.responder.specs.Steps.{stepped}
 use Rattle.responder.specs.Room.{prepared, prepared_to_expire}
 use Rattle.responder.specs.declared.flow.Flow.{Flow}
 use Rattle.responder.specs.declared.received.Received.{Received}
@@ -23,7 +23,7 @@ use Rattle.lane_core.specs.Lane.{Lane}
 use Rattle.lane_core.specs.Fire as lane-fire
 use Rattle.lane_core.specs.Overrun as lane-overrun
 use Rattle.lane_core.specs.declared.step.Ended.{Ended as EndedMessage}
-use Rattle.lane_core.specs.declared.step.LaneStep.{LaneStep}
+use Rattle.lane_core.specs.Step.{LaneStep}
 use Rattle.session_table.specs.DueOrder.{first_due}
 use Rattle.session_table.specs.Sessions.{state_at}
 use Rattle.session_table.specs.declared.key.Key.{Key}
@@ -37,7 +37,8 @@ use Rattle.message_events.specs.declared.event.Event.{Event}
 use Rattle.message_events.specs.declared.event.Event.TheVariants as event
 use Rattle.station_sessions.specs.Steps.{completes, size_of}
 use Rattle.station_sessions.specs.Receiving.{Inbound, flow_at, broadcast_settled, connection_settled, session_stepped, session_fired, received_by, fired_by, wanted_by}
-use Rattle.station_core.specs.Opening.{key_of}
+use Rattle.station_sessions.specs.Opening.{key_of, opening_received}
+use Rattle.record_lemmas.proofs.Openings.{opening_untold}
 use Rattle.station_core.specs.Station.{Station, StationStep, quietly, by_lane, by_session}
 use Rattle.station_core.specs.Overruns.{overrun}
 use Rattle.station_core.specs.Taking.{packet_kind, cm_taken, wire_taken, meaning_taken, looks_at, taken, wire_wanted, meaning_wanted, wanted}
@@ -169,13 +170,16 @@ module _ (st : Station) (now : ℕ) where
   lane_none : (from : Address) (wire : Wire) → ports_given (outcome_of st.address from (step_at st.lanes from.0 (λ l. heard l wire now)).ended) ≡ []
   lane_none from wire = outcome_none st.address from (step_at st.lanes from.0 (λ l. heard l wire now)).ended
 
+  opening_none : (from : Address) (room : Bool) (frame : CmFrame) → ports_given (opening_received st.address st.ports frame from room now st.sessions).events ≡ []
+  opening_none from room frame = ap ports_given (opening_untold st.address st.ports from room now st.sessions frame)
+
   cm_none : (frame : CmFrame) (from : Address) (room : Bool) → ports_given (cm_taken st frame from room now).events ≡ []
-  cm_none (Rts size packets most pgn) from room = refl
+  cm_none (Rts size packets most pgn) from room = opening_none from room (Rts size packets most pgn)
   cm_none (Cts granted next pgn) from room = lane_none from (Cm (Cts granted next pgn))
   cm_none (EndOfMsgAck size packets pgn) from room = lane_none from (Cm (EndOfMsgAck size packets pgn))
-  cm_none (Bam size packets pgn) from room = refl
+  cm_none (Bam size packets pgn) from room = opening_none from room (Bam size packets pgn)
   cm_none (Abort reason pgn) from room = lane_none from (Cm (Abort reason pgn))
-  cm_none (EtpRts size pgn) from room = refl
+  cm_none (EtpRts size pgn) from room = opening_none from room (EtpRts size pgn)
   cm_none (EtpCts granted next pgn) from room = lane_none from (Cm (EtpCts granted next pgn))
   cm_none (EtpDpo packets offset pgn) from room = offset_none st.ports (key_of from session.Etp) now st.sessions (state_at st.sessions (key_of from session.Etp)) packets offset pgn room
   cm_none (EtpEoma size pgn) from room = lane_none from (Cm (EtpEoma size pgn))

@@ -1,5 +1,5 @@
 -- The rows of a receiver's step: what holds of what each of them leads to holds of the step.
-use Rattle.std.proofs.Common.{◌≡◌, ◌⊎◌, inl, inr, ℕ, ◌+◌, ◌-◌, ◌<◌, ◌≤◌, ◌==◌, nat_lt, Bool, true, false, cond, not, ◌&&◌, ◌||◌, List, Some, None, refl, sym, ap, ◌∙◌, subst, arith, ne_eqb, eq-eqb, ltb-false, ltb-true, ⊎_elim}
+use Rattle.std.proofs.Common.{◌≡◌, ◌⊎◌, ℕ, ◌+◌, ◌-◌, ◌≤◌, ◌==◌, nat_lt, Bool, true, false, cond, not, ◌&&◌, ◌||◌, List, None, refl, sym, ap, subst, arith, ne_eqb, eq-eqb, ltb-false, ltb-true, ⊎_elim}
 use Rattle.std.specs.Prelude.{nat_le}
 use Rattle.std.proofs.lemmas.Bool.{and_left, and_right, or_parts, lt-leb, le-leb, cases_Bool, cond_both}
 use Rattle.tick_timers.specs.Timers.{Timer}
@@ -16,9 +16,9 @@ use Rattle.seg_cut.specs.Join.{wants_last}
 use Rattle.responder.specs.Unfinished.{Unfinished, number_of, with_packet, finished}
 use Rattle.responder.specs.States as states
 use Rattle.responder.specs.Readers.{unfinished_of}
-use Rattle.responder.specs.Asking.{asking, asked, asks}
-use Rattle.responder.specs.DpoRows.{is_of_another, is_wrong_dpo, with_offset, announced, on_dpo}
-use Rattle.responder.specs.Holding.{on_dpo_in_hold, on_packet_in_hold, holding_stepped}
+use Rattle.responder.specs.Asking.{asking, asks}
+use Rattle.responder.specs.DpoRows.{is_of_another, is_wrong_dpo, with_offset, on_dpo}
+use Rattle.responder.specs.Holding.{on_dpo_in_hold, holding_stepped}
 use Rattle.responder.specs.PacketRows.{aborted, accepted, on_packet}
 use Rattle.responder.specs.Steps.{awaiting_stepped, stepped, expired, is_next, completes}
 use Rattle.responder.specs.Room.{grants_next, needed, with_room_for, prepared, prepared_to_expire}

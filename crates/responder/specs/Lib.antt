@@ -15,3 +15,4 @@ pub mod DpoRows
 pub mod Holding
 pub mod Steps
 pub mod Room
+pub mod Quiet

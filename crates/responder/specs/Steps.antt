@@ -39,17 +39,6 @@ abbrev pub is_next : AwaitPacket → Wire → Bool
 is_next s (Packet kind sequence bytes) = is_same_kind s.message.kind kind && number_of s.message sequence == s.message.join.next
 is_next s _ = false
 
--- the frame is the next packet, and the last neither of the message nor of what is announced: on hold there is none
-abbrev pub goes_on : InState → Wire → Bool
-goes_on (InState.AwaitPacket s) wire =
-    is_next s wire && not (wants_last s.message.join) && nat_lt s.message.join.next s.until
-goes_on (InState.Holding s) wire = false
-
--- the packet of the frame is accepted
-abbrev pub gone_on : InState → Wire → (now : ℕ) → InState
-gone_on (InState.AwaitPacket s) (Packet kind sequence bytes) now = InState.AwaitPacket (accepted s bytes now)
-gone_on s _ now = s
-
 -- the timer fired: T1 or T2 ends the session, Th asks again
 abbrev pub expired : InState → Flow → (now : ℕ) → Received
 expired (InState.AwaitPacket s) flow now = aborted s.message Timeout

@@ -13,10 +13,10 @@ ghost use Rattle.responder.specs.Answers.{abort_frame};
 ghost use Rattle.responder.specs.Unfinished.{number_of, with_packet};
 ghost use Rattle.responder.specs.States.{with_window};
 ghost use Rattle.responder.specs.Asking.{asked, asks, grant};
-ghost use Rattle.responder.specs.DpoRows.{on_dpo};
+ghost use Rattle.responder.specs.DpoRows.{on_dpo, announced, is_wrong_dpo};
 ghost use Rattle.responder.specs.PacketRows.{aborted, accepted, on_packet};
-ghost use Rattle.responder.specs.Steps.{awaiting_stepped, is_next as is_next_at, goes_on, gone_on, completes as completes_at};
-ghost use Rattle.responder.specs.Room.{HasRoom, IsPrepared, grants_next as grants_next_at, prepared_wait};
+ghost use Rattle.responder.specs.Steps.{awaiting_stepped, is_next as is_next_at, completes as completes_at};
+ghost use Rattle.responder.specs.Room.{HasRoom, IsPrepared, grants_next as grants_next_at, next_room, with_next_room, prepared_wait};
 ghost use Rattle.responder.specs.declared.flow.Flow.{Flow};
 ghost use Rattle.responder.specs.declared.flow.Flow.TheVariants.{Open};
 ghost use Rattle.responder.specs.declared.in_state.InState.TheVariants as InState;
@@ -36,8 +36,8 @@ use tp_wire::{AbortReason, CmFrame, Kind, Wire};
 /// A receiver that awaits the packets that it granted: T2 after the CTS, T1 after a packet. It must be spent.
 pub struct AwaitPacket {
     pub(crate) message: Unfinished,
-    granted: u32,
-    until: u32,
+    pub(crate) granted: u32,
+    pub(crate) until: u32,
     pub(crate) timer: Timer,
 }
 
@@ -60,14 +60,9 @@ impl AwaitPacket {
         ensures state { result.0 ≡ with_window message now }
         ensures frame { result.1 ≡ asked message Open }
     {
-        let next = message.next();
-        let packets = message.window(next);
-        let cts = message.cts(packets);
-        let granted = next - 1 + u32::from(packets);
-        let until = match message.kind() {
-            Kind::Tp => granted,
-            Kind::Etp => next - 1,
-        };
+        let cts = message.next_cts();
+        let granted = message.window_end();
+        let until = message.announced_at_first(granted);
         let timer = Timer::start(now, T2);
         let state = AwaitPacket {
             message,
@@ -87,7 +82,23 @@ impl AwaitPacket {
         ensures full { OnErr result (held self.old.message.join < held (prepared_wait self.old wire.now room flow).message.join) }
         ensures err { OnErr result (self.new ≡ self.old) }
     {
-        if !self.message.is_of(Kind::Etp) || !self.grants_next(wire, room, flow) {
+        if !self.grants_next(wire, room, flow) {
+            return Ok(());
+        }
+        self.make_next_room()
+    }
+
+    /// Makes room for the next packet, which is not the last, and a window behind it. An error changes nothing.
+    #[inline(never)]
+    pub(crate) fn make_next_room(&mut self) -> Result<(), AllocError>
+        requires { wants_last_at self.old.message.join ≡ false }
+        ensures etp_alone { OnErr result (self.old.message.kind ≡ Etp) }
+        ensures ok { OnOk result (self.new ≡ with_next_room self.old) }
+        ensures ready { OnOk result (self.old.message.kind ≡ Etp → next_room self.old ≤ self.new.message.join.room) }
+        ensures full { OnErr result (held self.old.message.join < held (with_next_room self.old).message.join) }
+        ensures err { OnErr result (self.new ≡ self.old) }
+    {
+        if !self.message.is_of(Kind::Etp) {
             return Ok(());
         }
         let packets = self.message.window(self.message.next() + 1);
@@ -157,35 +168,6 @@ impl AwaitPacket {
         }
     }
 
-    /// Takes a packet in the middle of a window in place, at tick `now`.
-    #[inline]
-    pub(crate) fn go_on(&mut self, wire: &Wire, now: u64) -> bool
-        ensures value { result ≡ goes_on (InState.AwaitPacket self.old) wire.now }
-        ensures next { OnTrue result (InState.AwaitPacket self.new ≡ gone_on (InState.AwaitPacket self.old) wire.now now) }
-        ensures unprepared { OnTrue result ((room : Bool) (flow : Flow) → prepared_wait self.old wire.now room flow ≡ self.old) }
-        ensures step { OnTrue result ((room : Bool) (flow : Flow)
-            → awaiting_stepped self.old wire.now room flow now ≡ On (InState.AwaitPacket self.new) None) }
-        ensures other { OnFalse result (self.new ≡ self.old) }
-    {
-        let Wire::Packet {
-            kind,
-            sequence,
-            bytes,
-        } = wire
-        else {
-            return false;
-        };
-        let next = self.message.next();
-        if !self.message.is_of(*kind)
-            || self.message.number(*sequence) != next
-            || next >= self.until
-        {
-            return false;
-        }
-        self.put(*bytes, now);
-        true
-    }
-
     /// A DPO came.
     fn take_dpo(mut self, packets: u8, offset: u32, pgn: WirePgn) -> Received
         ensures { result ≡ on_dpo self packets offset pgn }
@@ -193,15 +175,34 @@ impl AwaitPacket {
         if self.message.is_of_another(pgn) {
             return Received::On(InState::AwaitPacket(self), None);
         }
-        let next = self.message.next();
-        if packets == 0 || offset > next - 1 || offset + u32::from(packets) > self.granted {
+        if self.is_wrong_dpo(packets, offset) {
             return self.abort_with(AbortReason::Other);
         }
+        self.announce(packets, offset);
+        Received::On(InState::AwaitPacket(self), None)
+    }
+
+    /// Whether a DPO of its message is wrong.
+    pub(crate) fn is_wrong_dpo(&self, packets: u8, offset: u32) -> bool
+        ensures value { result ≡ is_wrong_dpo self.now.message.join.next self.now.granted packets offset }
+        ensures next { result ≡ false → offset < self.now.message.join.next }
+        ensures granted { result ≡ false → offset + packets ≤ self.now.granted }
+    {
+        packets == 0
+            || offset > self.message.next() - 1
+            || offset + u32::from(packets) > self.granted
+    }
+
+    /// Keeps the offset of a DPO that isn't wrong, and where its packets reach the next one, the last of them.
+    pub(crate) fn announce(&mut self, packets: u8, offset: u32)
+        requires next { offset < self.old.message.join.next }
+        requires granted { offset + packets ≤ self.old.granted }
+        ensures { self.new ≡ announced self.old packets offset }
+    {
         self.message.set_offset(offset);
-        if offset + u32::from(packets) >= next {
+        if offset + u32::from(packets) >= self.message.next() {
             self.until = offset + u32::from(packets);
         }
-        Received::On(InState::AwaitPacket(self), None)
     }
 
     /// A packet of its kind came.
@@ -242,20 +243,18 @@ impl AwaitPacket {
     /// Accepts a packet inside a window.
     #[inline]
     fn accept(mut self, bytes: [u8; 7], now: u64) -> AwaitPacket
-        requires to_come { wants_last_at self.message.join ≡ false }
-        requires inside { self.message.join.next < self.until }
+        requires { self.message.join.next < self.until }
         ensures { result ≡ accepted self bytes now }
     {
-        self.put(bytes, now);
+        self.put(&bytes, now);
         self
     }
 
     /// Puts a packet inside a window.
     #[inline]
-    fn put(&mut self, bytes: [u8; 7], now: u64)
-        requires to_come { wants_last_at self.old.message.join ≡ false }
-        requires inside { self.old.message.join.next < self.old.until }
-        ensures { self.new ≡ accepted self.old bytes now }
+    pub(crate) fn put(&mut self, bytes: &[u8; 7], now: u64)
+        requires { self.old.message.join.next < self.old.until }
+        ensures { self.new ≡ accepted self.old bytes.now now }
     {
         self.message.put(bytes);
         self.timer = Timer::start(now, T1);
@@ -268,7 +267,7 @@ impl AwaitPacket {
         ensures { result ≡ asks (with_packet self.message bytes) flow now }
     {
         let mut message = self.into_message();
-        message.put(bytes);
+        message.put(&bytes);
         let (state, frame) = ask(message, flow, now);
         Received::On(state, Some(frame))
     }

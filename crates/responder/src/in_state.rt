@@ -1,6 +1,5 @@
 //! The receiver of a connection, in whichever state it is.
-ghost use Rattle.std.specs.Prelude.{◌≡◌, ◌+◌, ◌*◌, ◌<◌, ◌≤◌, Bool, None, length, OnOk, OnErr};
-ghost use Rattle.std.specs.Bool.{OnTrue, OnFalse};
+ghost use Rattle.std.specs.Prelude.{◌≡◌, ◌+◌, ◌*◌, ◌<◌, ◌≤◌, length, OnOk, OnErr};
 ghost use Rattle.tick_timers.specs.Timers.{is_due as is_due_at};
 ghost use Rattle.tp_wire.specs.Reason.{reason_byte};
 ghost use Rattle.tp_wire.specs.Sizes.{IsSizeOf};
@@ -13,11 +12,10 @@ ghost use Rattle.responder.specs.Answers.{abort_frame};
 ghost use Rattle.responder.specs.Unfinished.{begun};
 ghost use Rattle.responder.specs.Readers.{unfinished_of, timer_of};
 ghost use Rattle.responder.specs.Asking.{asking, asked};
-ghost use Rattle.responder.specs.Steps.{stepped, goes_on, gone_on, expired, completes as completes_at};
+ghost use Rattle.responder.specs.Steps.{stepped, expired, completes as completes_at};
 ghost use Rattle.responder.specs.Room.{HasRoom, IsPrepared, IsPreparedToExpire, prepared, prepared_to_expire};
 ghost use Rattle.responder.specs.declared.flow.Flow.{Flow};
 ghost use Rattle.responder.specs.declared.flow.Flow.TheVariants.{Open};
-ghost use Rattle.responder.specs.declared.received.Received.TheVariants.{On};
 
 use crate::await_packet::AwaitPacket;
 use crate::flow::Flow;
@@ -108,24 +106,6 @@ impl InState {
         match self {
             InState::AwaitPacket(state) => state.step(wire, room, flow, now),
             InState::Holding(state) => state.step(wire),
-        }
-    }
-
-    /// Takes a packet in the middle of a window in place, at tick `now` (SAE J1939-21, TP.DT; ISO 11783-3, ETP.DT): whether
-    /// the frame is the next packet, and the last neither of the message nor of what is announced. Nothing is prepared for
-    /// it: the step with it goes on in the same way, whatever its `room` and `flow`, and queues nothing. Any other frame
-    /// changes nothing; on hold there is no such packet.
-    #[inline]
-    pub fn go_on(&mut self, wire: &Wire, now: u64) -> bool
-        ensures value { result ≡ goes_on self.old wire.now }
-        ensures next { OnTrue result (self.new ≡ gone_on self.old wire.now now) }
-        ensures unprepared { OnTrue result ((room : Bool) (flow : Flow) → prepared self.old wire.now room flow ≡ self.old) }
-        ensures step { OnTrue result ((room : Bool) (flow : Flow) → stepped self.old wire.now room flow now ≡ On self.new None) }
-        ensures other { OnFalse result (self.new ≡ self.old) }
-    {
-        match self {
-            InState::AwaitPacket(state) => state.go_on(wire, now),
-            InState::Holding(_) => false,
         }
     }
 

@@ -11,6 +11,7 @@ mod flow;
 mod holding;
 mod in_state;
 mod peer;
+mod quiet;
 mod received;
 mod spending;
 mod unfinished;

@@ -11,7 +11,10 @@ ghost use Rattle.responder.specs.Answers.{abort_frame};
 ghost use Rattle.responder.specs.Unfinished.{begun, number_of, with_packet, finished};
 ghost use Rattle.responder.specs.Window.{window as window_of, cts_frame};
 ghost use Rattle.responder.specs.DpoRows.{is_of_another, with_offset};
-ghost use Rattle.responder.specs.Room.{with_room_for};
+ghost use Rattle.responder.specs.Room.{HasRoom, with_room_for};
+ghost use Rattle.responder.specs.States.{announced_at_first, window_end};
+ghost use Rattle.responder.specs.Asking.{asked};
+ghost use Rattle.responder.specs.declared.flow.Flow.TheVariants.{Open};
 
 use crate::finished::Finished;
 use crate::peer::Peer;
@@ -100,6 +103,7 @@ impl Unfinished {
     #[inline]
     pub(crate) fn next(&self) -> u32
         ensures value { result ≡ self.now.join.next }
+        ensures from_first { 1 ≤ result }
         ensures in_range { result < 2 ^ 24 }
     {
         self.join.next()
@@ -164,6 +168,35 @@ impl Unfinished {
         write(Wire::Cm(frame), self.peer.to(), self.peer.from())
     }
 
+    /// The last packet of the next window, for which there is room.
+    pub(crate) fn window_end(&self) -> u32
+        requires { HasRoom Open self.now }
+        ensures value { result ≡ window_end self.now }
+        ensures some { self.now.join.next ≤ result }
+        ensures in_message { result ≤ packet_count self.now.join.size }
+        ensures room { result ≤ self.now.join.next - 1 + self.now.join.room }
+    {
+        let next = self.join.next();
+        next - 1 + u32::from(self.window(next))
+    }
+
+    /// The last packet announced where a window up to this one is granted.
+    pub(crate) fn announced_at_first(&self, granted: u32) -> u32
+        ensures { result ≡ announced_at_first self.now.kind self.now.join.next granted }
+    {
+        match self.kind {
+            Kind::Tp => granted,
+            Kind::Etp => self.next() - 1,
+        }
+    }
+
+    /// The CTS of the next window.
+    pub(crate) fn next_cts(&self) -> Frame
+        ensures { result ≡ asked self.now Open }
+    {
+        self.cts(self.window(self.next()))
+    }
+
     /// Makes room for so many packets. An error changes nothing.
     pub(crate) fn make_room(&mut self, packets: u32) -> Result<(), AllocError>
         requires { packets ≤ 1 + ETP_MAX_WINDOW }
@@ -184,13 +217,13 @@ impl Unfinished {
 
     /// Puts the next packet, which is not the last, and for which there is room.
     #[inline]
-    pub(crate) fn put(&mut self, bytes: [u8; 7])
+    pub(crate) fn put(&mut self, bytes: &[u8; 7])
         requires to_come { wants_last_at self.old.join ≡ false }
         requires room { 0 < self.old.join.room }
-        ensures value { self.new ≡ with_packet self.old bytes }
+        ensures value { self.new ≡ with_packet self.old bytes.now }
         ensures from_first { 1 ≤ self.old.join.next }
     {
-        put_next(&mut self.join, bytes);
+        self.join.put_inner(bytes);
     }
 
     /// Ends with the last packet, for which there is room.
@@ -206,7 +239,7 @@ impl Unfinished {
             most: _,
             offset: _,
         } = self;
-        put_next(&mut join, bytes);
+        put_last(&mut join, bytes);
         Finished::new(kind, peer, join)
     }
 
@@ -231,9 +264,8 @@ impl Unfinished {
     }
 }
 
-/// Puts the next packet, for which there is room.
-#[inline]
-fn put_next(join: &mut Join, bytes: [u8; 7])
+/// Puts the last packet, for which there is room.
+fn put_last(join: &mut Join, bytes: [u8; 7])
     requires to_come { join.old.next ≤ packet_count join.old.size }
     requires room { 0 < join.old.room }
     ensures { join.new ≡ joined join.old bytes }

@@ -1,5 +1,6 @@
 //! Joining the packets of a message.
 ghost use Rattle.std.specs.Prelude.{◌≡◌, ◌+◌, ◌<◌, ◌≤◌, ◌↔◌, ◌++◌, false, length, IsTrue, IsOk, OnOk, OnErr, IfOk, IfErr, IsErrOf, vec_len, vec_capacity};
+ghost use Rattle.seg_cut.specs.Packets.{packet_count};
 ghost use Rattle.seg_cut.specs.Join.{IsJoin, empty_join, wants, joined, with_room, held};
 ghost use Rattle.seg_cut.specs.Join.{is_complete as is_complete_at, wants_last as wants_last_at};
 
@@ -139,6 +140,19 @@ impl Join {
         }
         self.append(&packet);
         Ok(())
+    }
+
+    /// Puts the next packet, which is not the last, and for which there is room. It takes no memory.
+    #[inline]
+    pub fn put_inner(&mut self, packet: &[u8; 7])
+        requires inner { self.old.next < packet_count self.old.size }
+        requires room { 0 < self.old.room }
+        ensures value { self.new ≡ joined self.old packet.now }
+        ensures valid { IsJoin self.new }
+    {
+        append_reserved(&mut self.bytes, packet);
+        self.next += 1;
+        self.room -= 1;
     }
 
     /// Appends what the message has of its next packet.

@@ -8,11 +8,6 @@ use Rattle.tp_wire.specs.declared.wire.CmFrame.TheVariants.{Rts, Cts, EndOfMsgAc
 use Rattle.tp_wire.specs.declared.wire.Wire.{Wire}
 use Rattle.tp_wire.specs.declared.wire.Wire.TheVariants.{Cm, Packet, Request, Ack}
 use Rattle.station_core.specs.Station.{Station, quietly}
-use Rattle.tp_wire.specs.declared.constants.TheConstants.{ETP_MAX_WINDOW}
-use Rattle.tp_wire.specs.declared.wire.Kind.{Kind}
-use Rattle.tp_wire.specs.declared.wire.Kind.TheVariants.{Tp, Etp}
-use Rattle.responder.specs.Window.{most_of}
-use Rattle.station_core.specs.Opening.{is_tp_size, is_etp_size, rts_taken, bam_taken}
 use Rattle.station_core.specs.Taking.{cm_taken, request_taken, ack_taken, wire_taken, looks_at, meaning_taken, taken}
 use Rattle.station_core.specs.Closing.{closed, closed_below}
 use Rattle.station_core.specs.Timers.{lane_fired, fired}
@@ -25,19 +20,13 @@ closed_below_keeps st number (suc n) = closed_below_keeps st number n
 pub closed_keeps : (st : Station) (number : ℕ) → (closed st number).address ≡ st.address
 closed_keeps st number = closed_below_keeps _ number 254
 
-rts_keeps : (st : Station) (kind : Kind) (is_size : Bool) (from : Address) (size most pgn : ℕ) (room : Bool) (now : ℕ) → (rts_taken st kind is_size from size most pgn room now).address ≡ st.address
-rts_keeps st kind is_size from size most pgn room now = search rules
-
-bam_keeps : (st : Station) (from : Address) (size packets pgn : ℕ) (room : Bool) (now : ℕ) → (bam_taken st from size packets pgn room now).address ≡ st.address
-bam_keeps st from size packets pgn room now = search rules
-
 cm_keeps : (st : Station) (frame : CmFrame) (from : Address) (room : Bool) (now : ℕ) → (cm_taken st frame from room now).station.address ≡ st.address
-cm_keeps st (Rts size packets most pgn) from room now = rts_keeps st Tp (is_tp_size size packets) from size (most_of Tp most) pgn room now
+cm_keeps st (Rts size packets most pgn) from room now = refl
 cm_keeps st (Cts granted next pgn) from room now = refl
 cm_keeps st (EndOfMsgAck size packets pgn) from room now = refl
-cm_keeps st (Bam size packets pgn) from room now = bam_keeps st from size packets pgn room now
+cm_keeps st (Bam size packets pgn) from room now = refl
 cm_keeps st (Abort reason pgn) from room now = refl
-cm_keeps st (EtpRts size pgn) from room now = rts_keeps st Etp (is_etp_size size) from size ETP_MAX_WINDOW pgn room now
+cm_keeps st (EtpRts size pgn) from room now = refl
 cm_keeps st (EtpCts granted next pgn) from room now = refl
 cm_keeps st (EtpDpo packets offset pgn) from room now = refl
 cm_keeps st (EtpEoma size pgn) from room now = refl

@@ -1,5 +1,5 @@
 -- The segment that is kept, after a call of one station.
-use Rattle.std.proofs.Common.{◌≡◌, ℕ, ◌<◌, ◌≤◌, Bool, true, false, cond, not, nat_lt, List, [], length, set, get_or, Some, None, Result, Ok, Err, IsOk, refl, sym, ap, ◌∙◌, subst, arith, rules, length-set}
+use Rattle.std.proofs.Common.{◌≡◌, ℕ, ◌<◌, ◌≤◌, Bool, true, false, cond, nat_lt, List, [], length, set, get_or, Some, None, Result, Ok, Err, IsOk, refl, sym, ap, ◌∙◌, subst, arith, length-set}
 use Rattle.std.specs.Prelude.{slice_get}
 use Rattle.std.specs.Vec.{with_item}
 use Rattle.std.proofs.lemmas.List.{set-get_or}

@@ -11,7 +11,7 @@ use Rattle.bus_frame.specs.Frames.{CanFrame}
 use Rattle.pgn_ids.specs.Address.{null_address}
 use Rattle.pgn_ids.specs.declared.address.Address.{Address}
 use Rattle.tx_queue.specs.Queue.{front}
-use Rattle.bus_order.specs.Bus.{Bus, Cursor, bus_len, cursor_at, next_frame, waiting, is_full, released}
+use Rattle.bus_order.specs.Bus.{Bus, Cursor, bus_len, cursor_at, next_frame, waiting, released}
 use Rattle.bus_order.specs.Bus as bus
 use Rattle.bus_order.specs.Kept.{IsSound}
 use Rattle.bus_order.proofs.Steps.{sound_moved, sound_released, released_len}
@@ -27,7 +27,7 @@ use Rattle.std.specs.FinMap.{get-empty}
 use Rattle.station_core.specs.Taking as taking
 use Rattle.segment_law.specs.Segment.{Segment, place_of, station_at, waiting_at}
 use Rattle.segment_law.specs.Calls.{Answer, called, replied, applied, events_of, is_call, at_station, at_place, at_address, no_place, looks, takes_by, takes, transmits_by, transmits, pumps_by, pump_places, pumps, ticks}
-use Rattle.segment_law.specs.Drive.{Driven, end_by, with_call, stops_at, pumps_again, goes_on, makes, makes_call, with_put, puts_from, puts, has_queued, last_take, takes_all}
+use Rattle.segment_law.specs.Drive.{Driven, end_by, with_call, stops_at, pumps_again, goes_on, makes, makes_call, with_put, puts_from, puts, last_take}
 use Rattle.segment_law.specs.Drive as drive
 use Rattle.segment_law.specs.declared.call.Call.{Call}
 use Rattle.segment_law.specs.declared.call.Call.TheVariants.{Pump, Transmit, Take, Tick}

@@ -1,6 +1,7 @@
 //! One call on a segment.
 ghost use Rattle.std.specs.Prelude.{◌≡◌, ℕ, ◌<◌, ◌∷◌, ◌++◌, [], true, slice_index, List, IfOk, OnErr, IsOk};
-ghost use Rattle.segment_law.specs.Calls.{are_bytes, is_address, is_call, called, applied};
+ghost use Rattle.std.specs.Bool.{OnTrue, OnFalse};
+ghost use Rattle.segment_law.specs.Calls.{are_bytes, is_address, is_call, done, called, applied};
 ghost use Rattle.segment_law.specs.Record.{Record, StandsAt};
 ghost use Rattle.pgn_ids.specs.declared.address.Address.{Address as AddressValue};
 ghost use Rattle.segment_core.specs.Answers.{IsAnswer};
@@ -70,10 +71,26 @@ impl Segment {
         // A law, for the last clause: the call does nothing.
         the_headline_holds();
         fits(&call);
+        if self.call_in_place(&call) {
+            return Ok(self.done());
+        }
         match self.call(call) {
             Ok(reply) => Ok(reply),
             Err(Stop::Refused(cause)) => Ok(Reply::Refused(cause)),
             Err(Stop::OutOfMemory) => Err(AllocError),
+        }
+    }
+
+    // Makes a call where that tells nothing and ends nothing; any other changes nothing.
+    #[inline]
+    #[tactic(auto, unfolding(segment_law::specs::Calls::called))]
+    fn call_in_place(&mut self, call: &Call) -> bool
+        ensures step { OnTrue result (called self.old call.now ≡ done self.new) }
+        ensures other { OnFalse result (self.new ≡ self.old) }
+    {
+        match call {
+            Call::Take { station, room } => self.take_in_place(*station, *room),
+            _ => false,
         }
     }
 

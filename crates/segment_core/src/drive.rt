@@ -163,12 +163,24 @@ impl Segment {
     {
         let left = self.left(station);
         for _ in 0..left {
-            self.take_one(station, course)?;
+            self.take_next(station, course)?;
         }
         Ok(())
     }
 
-    // A station takes the next frame, with room. Memory is taken only once it isn't refused.
+    // A station takes the next frame, with room: where it can, in place.
+    fn take_next(&mut self, station: Address, course: &mut Course) -> Result<(), Stop>
+        requires { IsFollowed self.old }
+        ensures took { (start : State) (d : Drive) → IsCourse None start d self.old course.old → Went start (makes d (Take station true)) self.new course.new result }
+        ensures taken { OnOk result (HasTaken station self.old self.new) }
+    {
+        if self.take_in_place(station, true) {
+            return Ok(());
+        }
+        self.take_one(station, course)
+    }
+
+    // A station takes the next frame, with room, and what it tells is told. Memory is taken only once it isn't refused.
     fn take_one(&mut self, station: Address, course: &mut Course) -> Result<(), Stop>
         requires { IsFollowed self.old }
         ensures took { (start : State) (d : Drive) → IsCourse None start d self.old course.old → Went start (makes d (Take station true)) self.new course.new result }

@@ -1,9 +1,10 @@
 //! Frames that are taken, taken again and missed.
-ghost use Rattle.segment_law.specs.Calls.{at_address, takes, repeats, overruns};
+ghost use Rattle.segment_law.specs.Calls.{at_address, done, takes, repeats, overruns};
 ghost use Rattle.segment_law.specs.Segment.{counted, counted_look};
 ghost use Rattle.segment_law.specs.declared.reply.Reply.TheVariants.{Done};
 ghost use Rattle.segment_core.specs.Answers.{IsAnswer};
 ghost use Rattle.std.specs.Prelude.{◌≡◌, ◌<◌, length};
+ghost use Rattle.std.specs.Bool.{OnTrue, OnFalse};
 ghost use Rattle.bus_order.specs.Bus.{next_frame};
 
 use crate::counting::{count_look, count_repeat};
@@ -33,6 +34,31 @@ impl Segment {
         let _taken = self.bus.next(place);
         self.bus.release();
         Ok(self.looked(looked))
+    }
+
+    /// A station takes the next frame of the bus where that tells nothing and ends nothing. Any other frame is left to `take`,
+    /// and changes nothing; so is one that `take` refuses.
+    #[inline]
+    pub(crate) fn take_in_place(&mut self, station: Address, room: bool) -> bool
+        ensures step { OnTrue result (at_address self.old station (takes self.old room) ≡ done self.new) }
+        ensures other { OnFalse result (self.new ≡ self.old) }
+    {
+        let Some(place) = self.place_of(station) else {
+            return false;
+        };
+        let Some(frame) = self.bus.peek(place) else {
+            return false;
+        };
+        let now = self.clock.now();
+        let station = &mut self.stations[place];
+        if let Some(_cause) = station.take_refusal() {
+            return false;
+        }
+        if !station.take_in_place(frame, room, now) {
+            return false;
+        }
+        self.bus.pass(place);
+        true
     }
 
     /// A station takes the frame that it took last once more.

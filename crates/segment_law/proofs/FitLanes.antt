@@ -28,9 +28,8 @@ use Rattle.lane_core.specs.declared.place.UnderWay.{UnderWay}
 use Rattle.lane_core.specs.declared.place.UnderWay.TheVariants.{Nothing, Broadcast, Connection}
 use Rattle.lane_core.specs.declared.probe.Standing.{Standing}
 use Rattle.lane_core.specs.declared.probe.Standing.TheVariants.{Settled, InDoubt, Probing}
-use Rattle.lane_core.specs.declared.step.LaneStep.{LaneStep}
+use Rattle.lane_core.specs.Step.{LaneStep, says}
 use Rattle.lane_core.specs.Probe.{is_token, other_token, most_requests, probes}
-use Rattle.lane_core.specs.Step.{says}
 use Rattle.lane_core.specs.Lane.{Lane, new_lane, pushed, link_for, with_under_way}
 use Rattle.lane_core.specs.Endings.{over, after_step}
 use Rattle.lane_core.specs.Cancel.{withdrawn, without_number, is_front, cancelled, cancelled_by}

@@ -8,16 +8,14 @@ use Rattle.tp_wire.specs.declared.wire.CmFrame.{CmFrame}
 use Rattle.tp_wire.specs.declared.wire.CmFrame.TheVariants.{Rts, Cts, EndOfMsgAck, Bam, Abort, EtpRts, EtpCts, EtpDpo, EtpEoma, EtpAbort}
 use Rattle.tp_wire.specs.declared.wire.Wire.{Wire}
 use Rattle.tp_wire.specs.declared.wire.Wire.TheVariants.{Cm, Packet, Request, Ack}
-use Rattle.tp_wire.specs.declared.reason.AbortReason.{AbortReason}
 use Rattle.port_table.specs.Ports.{Ports, without_port}
 use Rattle.lane_core.specs.Lane.{Lane}
 use Rattle.lane_core.specs.Hear.{heard}
 use Rattle.lane_core.specs.Answer.{answered}
-use Rattle.lane_core.specs.Step.{nothing_to_do}
+use Rattle.lane_core.specs.Step.{nothing_to_do, LaneStep}
 use Rattle.lane_core.specs.Pump as lane-pump
 use Rattle.lane_core.specs.Fire as lane-fire
 use Rattle.lane_core.specs.Cancel as lane-cancel
-use Rattle.lane_core.specs.declared.step.LaneStep.{LaneStep}
 use Rattle.session_table.specs.DueOrder.{first_due}
 use Rattle.session_table.specs.declared.key.Key.{Key}
 use Rattle.session_table.specs.declared.key.SessionKind.TheVariants as session
@@ -26,12 +24,7 @@ use Rattle.station_lanes.specs.LaneCalls.{stepped_lanes}
 use Rattle.station_lanes.specs.LaneReaders.{due_lane}
 use Rattle.station_sessions.specs.Receiving.{aborted_at, fired_at}
 use Rattle.station_core.specs.Station.{Station, StationStep, new_station, quietly, queues, by_session, by_lane}
-use Rattle.tp_wire.specs.declared.constants.TheConstants.{ETP_MAX_WINDOW}
-use Rattle.tp_wire.specs.declared.wire.Kind.{Kind}
-use Rattle.tp_wire.specs.declared.wire.Kind.TheVariants.{Tp, Etp}
-use Rattle.responder.specs.Window.{most_of}
-use Rattle.session_table.specs.Key.{session_for}
-use Rattle.station_core.specs.Opening.{key_of, refusal, is_tp_size, is_etp_size, set_for, others_than, rts_taken, bam_taken}
+use Rattle.station_sessions.specs.Opening.{key_of}
 use Rattle.station_core.specs.Sending.{lane_of, sent, pumped, cancelled}
 use Rattle.station_core.specs.Taking.{answer, request_taken, ack_taken, cm_taken, wire_taken, meaning_taken, looks_at, taken}
 use Rattle.station_core.specs.Timers.{lane_fired, fired}
@@ -64,27 +57,16 @@ module _ (a : Address) where
 
   -- Taking
 
-  -- a session opens, or it doesn't
-  either_stays : (o : Option AbortReason) (x : Station) (y : AbortReason → Station) → Stays a x → ((reason : AbortReason) → Stays a (y reason)) → Stays a (elim o [ None ↦ x | Some reason ↦ y reason ])
-  either_stays None x y h k = h
-  either_stays (Some reason) x y h k = k reason
-
-  rts_stays : (st : Station) (kind : Kind) (is_size : Bool) (from : Address) (size most pgn : ℕ) (room : Bool) (now : ℕ) → Stays a st → Stays a (rts_taken st kind is_size from size most pgn room now)
-  rts_stays st kind is_size from size most pgn room now h = either_stays (refusal is_size room (set_for st pgn size) (others_than st (key_of from (session_for kind)))) _ _ (same st _ _ h) (λ reason. same st _ _ h)
-
-  bam_stays : (st : Station) (from : Address) (size packets pgn : ℕ) (room : Bool) (now : ℕ) → Stays a st → Stays a (bam_taken st from size packets pgn room now)
-  bam_stays st from size packets pgn room now h = either_stays (refusal (is_tp_size size packets) room (set_for st pgn size) (others_than st (key_of from session.Broadcast))) _ _ (same st _ _ h) (λ reason. same st _ _ h)
-
   in_lane_stays : (st : Station) (from : Address) (wire : Wire) (now : ℕ) → Stays a st → Stays a (by_lane st from (λ l. heard l wire now)).station
   in_lane_stays st from wire now h = by_lane_stays st from (λ l. heard l wire now) h (λ l. fit_heard st.address from.0 l wire now)
 
   cm_stays : (st : Station) (frame : CmFrame) (from : Address) (room : Bool) (now : ℕ) → Stays a st → Stays a (cm_taken st frame from room now).station
-  cm_stays st (Rts size packets most pgn) from room now h = rts_stays st Tp (is_tp_size size packets) from size (most_of Tp most) pgn room now h
+  cm_stays st (Rts size packets most pgn) from room now h = same st _ _ h
   cm_stays st (Cts granted next pgn) from room now h = in_lane_stays st from (Cm (Cts granted next pgn)) now h
   cm_stays st (EndOfMsgAck size packets pgn) from room now h = in_lane_stays st from (Cm (EndOfMsgAck size packets pgn)) now h
-  cm_stays st (Bam size packets pgn) from room now h = bam_stays st from size packets pgn room now h
+  cm_stays st (Bam size packets pgn) from room now h = same st _ _ h
   cm_stays st (Abort reason pgn) from room now h = in_lane_stays (record st { sessions = aborted_at (key_of from session.Tp) pgn st.sessions }) from (Cm (Abort reason pgn)) now (same st st.queue _ h)
-  cm_stays st (EtpRts size pgn) from room now h = rts_stays st Etp (is_etp_size size) from size ETP_MAX_WINDOW pgn room now h
+  cm_stays st (EtpRts size pgn) from room now h = same st _ _ h
   cm_stays st (EtpCts granted next pgn) from room now h = in_lane_stays st from (Cm (EtpCts granted next pgn)) now h
   cm_stays st (EtpDpo packets offset pgn) from room now h = same st _ _ h
   cm_stays st (EtpEoma size pgn) from room now h = in_lane_stays st from (Cm (EtpEoma size pgn)) now h

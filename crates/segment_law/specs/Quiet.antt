@@ -24,7 +24,7 @@ use Rattle.session_table.specs.declared.key.SessionKind.{SessionKind}
 use Rattle.session_table.specs.declared.key.SessionKind.TheVariants as session
 use Rattle.message_events.specs.declared.event.Event.{Event}
 use Rattle.message_events.specs.declared.event.Event.TheVariants as event
-use Rattle.station_core.specs.Opening.{key_of, others_than}
+use Rattle.station_sessions.specs.Opening.{key_of, others_than}
 use Rattle.station_core.specs.Station.{Station}
 use Rattle.segment_law.specs.Segment.{Segment, has_station, station_at, lane_at, waiting_at}
 use Rattle.segment_law.specs.Record.{Record, StandsAt}
@@ -96,7 +96,7 @@ takers st m = ports_for st.ports m.pgn (length m.bytes)
 
 -- an open port takes it, and fewer than 32 sessions stand beside one of its kind from its source, which it replaces
 abbrev pub has_place : Station → Pending → (s : Address) → SessionKind → Bool
-has_place st m s kind = nat_lt 0 (length (takers st m)) && nat_lt (others_than st (key_of s kind)) MAX_SESSIONS
+has_place st m s kind = nat_lt 0 (length (takers st m)) && nat_lt (others_than st.sessions (key_of s kind)) MAX_SESSIONS
 
 -- Quiet segments
 

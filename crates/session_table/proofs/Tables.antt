@@ -1,6 +1,7 @@
 -- A table's meaning after a write of one place and of the index at one key.
 use Rattle.std.proofs.Common.{◌≡◌, ℕ, ◌+◌, ◌≤◌, Bool, true, false, cond, List, [], ◌∷◌, length, map as map_list, Option, Some, None, refl, sym, ap, subst, ◌∙◌, true≢false, inl, inr, is_some, add-one, slice_index_or}
 use Rattle.std.proofs.lemmas.Bool.{cases_eq}
+use Rattle.std.specs.Bool.{OnTrue}
 use Rattle.std.specs.Option.{option_and_then, option_flatten, option_map}
 use Rattle.std.specs.Map.{lookup, keys_of}
 use Rattle.std.specs.List.{AllByRecursion, IsDistinct}
@@ -17,8 +18,10 @@ use Rattle.session_table.specs.declared.place.Place.{Place}
 use Rattle.session_table.specs.declared.incoming.Incoming.{Incoming}
 use Rattle.session_table.specs.Shape.{content_of}
 use Rattle.session_table.specs.Sessions.{Sessions}
-use Rattle.session_table.specs.Incoming.{goes_on, gone_on}
-use Rattle.session_table.specs.GoingOn.{content_after, gone_on_at, gone_on_by}
+use Rattle.session_table.specs.Quiet.{GoesOnIn, GoesOnAt}
+use Rattle.responder.specs.declared.flow.Flow.{Flow}
+use Rattle.responder.specs.declared.flow.Flow.TheVariants.{Held}
+use Rattle.bus_frame.specs.Frames.{CanFrame}
 use Rattle.tp_wire.specs.declared.wire.Wire.{Wire}
 use Rattle.session_table.specs.Key.{key_cmp, key_eq}
 use Rattle.session_table.specs.Shape.{content_at, sessions_of, IsPlaceOf, IsLinked}
@@ -111,6 +114,10 @@ same_index es k at h q = by (key_eq q k) refl
     by : (b : Bool) → key_eq q k ≡ b → lookup (key_eq q) es ≡ cond b (Some at) (lookup (key_eq q) es)
     by true e = ap (λ x. lookup (key_eq x) es) (key_eq-same q k e) ∙ h
     by false e = refl
+
+-- the same key leads to the same place
+pub leads_same : (es : List (Key × ℕ)) (a b : Key) (at : ℕ) → key_eq a b ≡ true → lookup (key_eq a) es ≡ Some at → Some at ≡ lookup (key_eq b) es
+leads_same es a b at same leads = sym leads ∙ ap (λ x. lookup (key_eq x) es) (key_eq-same a b same)
 
 -- k leads to a place with this content
 pub record IsFound {T : Type 0} (places : Slab (Place T)) (es : List (Key × ℕ)) (k : Key) (c : Option (T × Incoming)) (at : ℕ) : Type 0 where
@@ -256,12 +263,20 @@ module _ {T : Type 0} (m : Sessions T) (k : Key) where
   as_it_was a is = same_map key_total key_apart _ _ (λ q. get-insert key_total m k a q ∙ same (Some a) is q (key_eq q k) refl)
 
   -- what stands at the key takes a frame in place
-  pub written_in_place : (wire : Wire) (now : ℕ) (c : Option (T × Incoming)) → get m k ≡ Some c → insert m k (content_after c wire now) ≡ gone_on_at m k wire now
-  written_in_place wire now c is = by c is ∙ sym (ap (λ o. gone_on_by (option_flatten o) k wire now m) is)
-    where
-      by : (c : Option (T × Incoming)) → get m k ≡ Some c → insert m k (content_after c wire now) ≡ gone_on_by c k wire now m
-      by None is = as_it_was None is
-      by (Some v) is = elim (goes_on v.1 wire) as (λ b. insert m k (cond b (Some (v.0, gone_on v.1 wire now)) (Some v)) ≡ cond b (insert m k (Some (v.0, gone_on v.1 wire now))) m) [
-        | true ↦ refl
-        | false ↦ as_it_was (Some v) is
-      ]
+  goes_on_at : (wire : Wire) (room : Bool) (flow : Flow) (now : ℕ) (before after : List CanFrame) (c left : Option (T × Incoming)) → get m k ≡ Some c → GoesOnIn c wire room flow now left before after → GoesOnAt c m k wire room flow now (insert m k left) before after
+  goes_on_at wire room flow now before after None None is g = (as_it_was None is, g)
+  goes_on_at wire room flow now before after None (Some w) is g = absurd g
+  goes_on_at wire room flow now before after (Some v) None is g = absurd g
+  goes_on_at wire room flow now before after (Some v) (Some w) is g = (w.1, ap (λ x. insert m k (Some (x, w.1))) g.0, g.1)
+
+  -- and where an answer says that it does, in the table that is left
+  pub goes_on_where : (b : Bool) (wire : Wire) (room : Bool) (flow : Flow) (now : ℕ) (before after : List CanFrame) (c left : Option (T × Incoming)) (end : Sessions T) → get m k ≡ Some c → end ≡ insert m k left → OnTrue b (GoesOnIn c wire room flow now left before after) → OnTrue b (GoesOnAt (option_flatten (get m k)) m k wire room flow now end before after)
+  goes_on_where false wire room flow now before after c left end is e g = tt
+  goes_on_where true wire room flow now before after c left end is e g =
+      subst (λ o. GoesOnAt (option_flatten o) m k wire room flow now end before after) (sym is)
+      (subst (λ x. GoesOnAt c m k wire room flow now x before after) (sym e) (goes_on_at wire room flow now before after c left is g))
+
+  -- whatever the flow, where on hold
+  pub goes_on_held : (b : Bool) (wire : Wire) (room : Bool) (flow : Flow) (now : ℕ) (before after : List CanFrame) (c left : Option (T × Incoming)) (end : Sessions T) → get m k ≡ Some c → end ≡ insert m k left → OnTrue b (flow ≡ Held → (any : Flow) → GoesOnIn c wire room any now left before after) → OnTrue b (flow ≡ Held → (any : Flow) → GoesOnAt (option_flatten (get m k)) m k wire room any now end before after)
+  goes_on_held false wire room flow now before after c left end is e g = tt
+  goes_on_held true wire room flow now before after c left end is e g = λ on_hold any. goes_on_where true wire room any now before after c left end is e (g on_hold any)

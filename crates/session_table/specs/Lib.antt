@@ -2,6 +2,6 @@ pub mod Key
 pub mod Incoming
 pub mod Sessions
 pub mod DueOrder
-pub mod GoingOn
+pub mod Quiet
 pub mod Refusal
 pub mod Shape

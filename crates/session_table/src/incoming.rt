@@ -1,15 +1,21 @@
 //! The state of an incoming session, whatever its kind.
-ghost use Rattle.std.specs.Prelude.{◌≡◌};
+ghost use Rattle.std.specs.Prelude.{◌≡◌, ◌<◌, length, true};
 ghost use Rattle.std.specs.Bool.{OnTrue, OnFalse};
 ghost use Rattle.tick_timers.specs.Timers.{is_due as is_due_at};
-ghost use Rattle.session_table.specs.Incoming.{goes_on, gone_on, kind_of, pgn_of, timer_of};
+ghost use Rattle.tp_wire.specs.Heard.{meant};
+ghost use Rattle.tx_queue.specs.Queue.{queue_limit};
+ghost use Rattle.responder.specs.declared.flow.Flow.{Flow};
+ghost use Rattle.responder.specs.declared.flow.Flow.TheVariants.{Held};
+ghost use Rattle.session_table.specs.Quiet.{is_quiet, LacksRoom, GoesOn};
+ghost use Rattle.session_table.specs.Incoming.{kind_of, pgn_of, timer_of};
 
 use crate::key::SessionKind;
 use bam_session::BamIn;
 use pgn_ids::WirePgn;
-use responder::InState;
+use responder::{Flow, InState};
 use tick_timers::Timer;
-use tp_wire::Wire;
+use tp_wire::Heard;
+use tx_queue::TxQueue;
 
 /// The state of an incoming session, whatever its kind. It must be spent.
 pub enum Incoming {
@@ -60,18 +66,29 @@ impl Incoming {
         }
     }
 
-    /// Takes a packet in the middle of its message in place, at tick `now` (SAE J1939-21, TP.DT; ISO 11783-3, ETP.DT):
-    /// whether the frame is the next packet, and the last neither of the message nor of a window. A step with it goes on
-    /// in the same way and queues nothing; any other frame changes nothing.
+    /// Takes a frame of its source where the state stands, at tick `now` (SAE J1939-21, TP.DT; ISO 11783-3, ETP.DT,
+    /// ETP.CM_DPO), as the state of its kind says: a step that ends nothing. What it answers is queued behind the frames of a
+    /// queue. Any other frame changes nothing.
     #[inline]
-    pub fn go_on(&mut self, wire: &Wire, now: u64) -> bool
-        ensures value { result ≡ goes_on self.old wire.now }
-        ensures next { OnTrue result (self.new ≡ gone_on self.old wire.now now) }
+    pub fn take_in_place(
+        &mut self,
+        heard: &Heard<'_>,
+        room: bool,
+        flow: Flow,
+        now: u64,
+        queue: &mut TxQueue,
+    ) -> bool
+        requires { length queue.old < queue_limit }
+        ensures quiet { OnTrue result (is_quiet self.old (meant heard.now) room flow ≡ true) }
+        ensures step { OnTrue result (GoesOn self.old (meant heard.now) room flow now self.new queue.old queue.new) }
+        ensures held { OnTrue result (flow ≡ Held → (any : Flow) → GoesOn self.old (meant heard.now) room any now self.new queue.old queue.new) }
+        ensures wanting { OnFalse result (is_quiet self.old (meant heard.now) room flow ≡ true → LacksRoom self.old (meant heard.now) room flow) }
         ensures other { OnFalse result (self.new ≡ self.old) }
+        ensures kept { OnFalse result (queue.new ≡ queue.old) }
     {
         match self {
-            Incoming::Broadcast(state) => state.go_on(wire, now),
-            Incoming::Connection(state) => state.go_on(wire, now),
+            Incoming::Broadcast(state) => state.take_in_place(heard, now),
+            Incoming::Connection(state) => state.take_in_place(heard, room, flow, now, queue),
         }
     }
 

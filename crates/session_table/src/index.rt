@@ -3,7 +3,7 @@ ghost use Rattle.std.specs.Prelude.{◌≡◌, ◌+◌, ◌<◌, ◌≤◌, leng
 ghost use Rattle.std.specs.Map.{lookup};
 ghost use Rattle.indexmap.specs.IndexMap.{spare};
 ghost use Rattle.session_table.specs.Key.{key_eq};
-ghost use Rattle.session_table.specs.Shape.{TurnsOnly};
+ghost use Rattle.session_table.specs.Shape.{TurnsOnly, IsLast};
 
 use crate::key::Key;
 use indexmap::IndexMap;
@@ -16,6 +16,32 @@ pub(crate) fn find(index: &Index, key: Key) -> Option<usize>
     ensures { result ≡ lookup (key_eq key) index.now.entries }
 {
     index.get(&key).copied()
+}
+
+/// A key with the place that it was found at.
+#[derive(Clone, Copy)]
+pub(crate) struct Found {
+    pub(crate) key: Key,
+    pub(crate) at: usize,
+}
+
+/// The place of a key, which is looked for only where it isn't the one that was found last: packets of a message come one after
+/// another.
+#[inline]
+#[tactic(auto, using(crate::proofs::Tables::leads_same))]
+pub(crate) fn find_again(last: &mut Option<Found>, index: &Index, key: Key) -> Option<usize>
+    requires { IsLast index.now.entries last.old }
+    ensures value { result ≡ lookup (key_eq key) index.now.entries }
+    ensures last { IsLast index.now.entries last.new }
+{
+    if let Some(found) = *last {
+        if found.key.is_same(key) {
+            return Some(found.at);
+        }
+    }
+    let at = find(index, key)?;
+    *last = Some(Found { key, at });
+    Some(at)
 }
 
 /// Leads a key to a place, where there is room for it.

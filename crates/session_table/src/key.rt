@@ -1,7 +1,7 @@
 //! Keys of sessions.
 ghost use Rattle.std.specs.Prelude.{◌≡◌};
 ghost use Rattle.std.specs.Ordering.{is_lt};
-ghost use Rattle.session_table.specs.Key.{is_above_key, key_cmp, session_for};
+ghost use Rattle.session_table.specs.Key.{is_above_key, key_cmp, key_eq, session_for};
 
 use pgn_ids::Address;
 use tp_wire::Kind;
@@ -45,6 +45,15 @@ impl Key {
         ensures { result ≡ is_lt (key_cmp self other) }
     {
         self < other
+    }
+
+    /// Whether both are the same.
+    #[inline]
+    #[tactic(auto, using(crate::proofs::Keys::derived_eq))]
+    pub(crate) fn is_same(self, other: Key) -> bool
+        ensures { result ≡ key_eq self other }
+    {
+        self == other
     }
 
     /// Whether it is above that key; where there is none, each key is.

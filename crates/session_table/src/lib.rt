@@ -18,7 +18,6 @@ mod walk;
 pub use held::Held;
 pub use incoming::Incoming;
 pub use key::{Key, SessionKind};
-pub use place::InPlace;
 pub use table::{OpenRefused, SessionTable};
 
 /// How many sessions a table holds at most.

@@ -1,25 +1,21 @@
 //! A place of the table.
-ghost use Rattle.std.specs.Prelude.{◌≡◌};
+ghost use Rattle.std.specs.Prelude.{◌≡◌, ◌<◌, length, true};
+ghost use Rattle.std.specs.Bool.{OnTrue, OnFalse};
 ghost use Rattle.std.specs.Option.{option_map};
 ghost use Rattle.std.specs.Map.Iter.{deref_pair};
 ghost use Rattle.session_table.specs.Shape.{content_at, content_of};
-ghost use Rattle.session_table.specs.GoingOn.{content_after, in_place};
+ghost use Rattle.tp_wire.specs.Heard.{meant};
+ghost use Rattle.tx_queue.specs.Queue.{queue_limit};
+ghost use Rattle.responder.specs.declared.flow.Flow.{Flow};
+ghost use Rattle.responder.specs.declared.flow.Flow.TheVariants.{Held};
+ghost use Rattle.session_table.specs.Quiet.{is_quiet_at, LacksRoomAt, GoesOnIn};
 
 use crate::incoming::Incoming;
 use crate::key::Key;
+use responder::Flow;
 use slab::Slab;
-use tp_wire::Wire;
-
-/// What a frame did in place at the key of its session.
-#[derive(Clone, Copy, Debug, PartialEq, Eq)]
-pub enum InPlace {
-    /// No state stands at the key, which isn't there or is held.
-    NoSession,
-    /// It was a packet in the middle of the message, and the state went on.
-    GoneOn,
-    /// It is another frame, which wants a step of the state. Nothing has changed.
-    StepWanted,
-}
+use tp_wire::Heard;
+use tx_queue::TxQueue;
 
 /// A state with what it is bound to, or nothing while its key is held. One that is dropped spends its state.
 pub(crate) enum Slot<T> {
@@ -46,19 +42,28 @@ impl<T> Slot<T> {
         }
     }
 
-    /// Its state takes a frame at tick `now` in place, where that is a packet in the middle of the message.
+    /// Its state takes a frame at tick `now` in place; where there is none, nothing is done.
     #[inline]
-    pub(crate) fn go_on(&mut self, wire: &Wire, now: u64) -> InPlace
-        ensures answer { result ≡ in_place (content_of self.old) wire.now }
-        ensures content { content_of self.new ≡ content_after (content_of self.old) wire.now now }
+    pub(crate) fn take_in_place(
+        &mut self,
+        heard: &Heard<'_>,
+        room: bool,
+        flow: Flow,
+        now: u64,
+        queue: &mut TxQueue,
+    ) -> bool
+        requires { length queue.old < queue_limit }
+        ensures quiet { OnTrue result (is_quiet_at (content_of self.old) (meant heard.now) room flow ≡ true) }
+        ensures step { OnTrue result (GoesOnIn (content_of self.old) (meant heard.now) room flow now (content_of self.new) queue.old queue.new) }
+        ensures held { OnTrue result (flow ≡ Held → (any : Flow) → GoesOnIn (content_of self.old) (meant heard.now) room any now (content_of self.new) queue.old queue.new) }
+        ensures wanting { OnFalse result (is_quiet_at (content_of self.old) (meant heard.now) room flow ≡ true → LacksRoomAt (content_of self.old) (meant heard.now) room flow) }
+        ensures other { OnFalse result (content_of self.new ≡ content_of self.old) }
+        ensures kept { OnFalse result (queue.new ≡ queue.old) }
     {
-        let Slot::Full(_, state) = self else {
-            return InPlace::NoSession;
-        };
-        if state.go_on(wire, now) {
-            return InPlace::GoneOn;
+        match self {
+            Slot::Empty => true,
+            Slot::Full(_bound, state) => state.take_in_place(heard, room, flow, now, queue),
         }
-        InPlace::StepWanted
     }
 }
 

@@ -1,5 +1,6 @@
 //! The table.
-ghost use Rattle.std.specs.Prelude.{◌≡◌, ◌<◌, ◌≤◌, ◌==◌, Some, None, IfErr, OnOk, OnErr, OnSome, IfNone, IfSome};
+ghost use Rattle.std.specs.Prelude.{◌≡◌, ◌<◌, ◌≤◌, ◌==◌, length, true, Some, None, IfErr, OnOk, OnErr, OnSome, IfNone, IfSome};
+ghost use Rattle.std.specs.Bool.{OnTrue, OnFalse};
 ghost use Rattle.std.specs.Option.{option_map};
 ghost use Rattle.std.specs.FinMap as map;
 ghost use Rattle.std.specs.List.{IsDistinct};
@@ -10,7 +11,11 @@ ghost use Rattle.indexmap.specs.IndexMap.{spare};
 ghost use Rattle.session_table.specs.Key.{key_eq};
 ghost use Rattle.session_table.specs.Sessions.{IsHeld, state_at};
 ghost use Rattle.session_table.specs.DueOrder.{IsLeastPicked, first_above, first_due, is_above_low, is_due_now};
-ghost use Rattle.session_table.specs.GoingOn.{gone_on_at, in_place};
+ghost use Rattle.responder.specs.declared.flow.Flow.{Flow};
+ghost use Rattle.responder.specs.declared.flow.Flow.TheVariants.{Held as OnHold};
+ghost use Rattle.session_table.specs.Quiet.{is_quiet_at, LacksRoomAt, GoesOnAt};
+ghost use Rattle.tp_wire.specs.Heard.{meant};
+ghost use Rattle.tx_queue.specs.Queue.{queue_limit};
 ghost use Rattle.session_table.specs.Refusal.{refusal};
 
 mod due;
@@ -18,16 +23,18 @@ mod due;
 use crate::MAX_SESSIONS;
 use crate::held::Held;
 use crate::incoming::Incoming;
-use crate::index::{Index, find, link, unlink};
+use crate::index::{Found, Index, find, find_again, link, unlink};
 use crate::key::Key;
-use crate::place::{InPlace, Place, Slot, content};
+use crate::place::{Place, Slot, content};
 use crate::walk::{is_above_at, is_due_at, lesser};
 use indexmap::IndexMap;
+use responder::Flow;
 use slab::Slab;
 use std::alloc::{AllocError, Global};
 use std::marker::Model;
 use std::mem;
-use tp_wire::Wire;
+use tp_wire::Heard;
+use tx_queue::TxQueue;
 
 /// Why a session was not opened, with what was handed in. Its state must be spent.
 pub enum OpenRefused<T> {
@@ -45,6 +52,7 @@ pub enum OpenRefused<T> {
 pub struct SessionTable<T> {
     places: Slab<Place<T>>,
     index: Index,
+    last: Option<Found>,
 }
 
 impl<T> Model for SessionTable<T> {
@@ -54,11 +62,11 @@ impl<T> Model for SessionTable<T> {
 
     ghost coded = { sessions_code T.code };
 
-    ghost use Rattle.session_table.specs.Shape.{sessions_of, IsLinked};
+    ghost use Rattle.session_table.specs.Shape.{sessions_of, IsTable};
 
     ghost view = { λ s. sessions_of s.places s.index.entries };
 
-    ghost invariant = { λ s. IsLinked s.places s.index.entries };
+    ghost invariant = { λ s. IsTable s.places s.index.entries s.last };
 }
 
 impl<T> SessionTable<T> {
@@ -69,6 +77,7 @@ impl<T> SessionTable<T> {
         SessionTable {
             places: Slab::new(alloc),
             index: IndexMap::new(alloc),
+            last: None,
         }
     }
 
@@ -109,25 +118,38 @@ impl<T> SessionTable<T> {
             slot: Slot::Full(bound, state),
         });
         link(&mut self.index, key, at);
+        self.last = Some(Found { key, at });
         Ok(())
     }
 
-    /// The state of a key takes a frame at tick `now` in place, where that is a packet in the middle of its message
-    /// (SAE J1939-21, TP.DT; ISO 11783-3, ETP.DT): the next one, and the last neither of the message nor of a window. A
-    /// step with it goes on in the same way and queues nothing. Any other frame changes nothing, nor does any where the
-    /// key isn't there or is held. It takes no memory.
+    /// The state of a key takes a frame at tick `now` where it stands (SAE J1939-21, TP.DT; ISO 11783-3, ETP.DT, ETP.CM_DPO):
+    /// a step that ends nothing. What it answers is queued behind the frames of a queue. Where the key isn't there or is held,
+    /// nothing is to be done. Any other frame changes nothing. What is taken on hold is taken so whatever the flow.
     #[inline]
-    pub fn go_on(&mut self, key: Key, wire: &Wire, now: u64) -> InPlace
-        ensures answer { result ≡ in_place (state_at self.old key) wire.now }
-        ensures sessions { self.new ≡ gone_on_at self.old key wire.now now }
+    pub fn take_in_place(
+        &mut self,
+        key: Key,
+        heard: &Heard<'_>,
+        room: bool,
+        flow: Flow,
+        now: u64,
+        queue: &mut TxQueue,
+    ) -> bool
+        requires { length queue.old < queue_limit }
+        ensures quiet { OnTrue result (is_quiet_at (state_at self.old key) (meant heard.now) room flow ≡ true) }
+        ensures step { OnTrue result (GoesOnAt (state_at self.old key) self.old key (meant heard.now) room flow now self.new queue.old queue.new) }
+        ensures held { OnTrue result (flow ≡ OnHold → (any : Flow) → GoesOnAt (state_at self.old key) self.old key (meant heard.now) room any now self.new queue.old queue.new) }
+        ensures wanting { OnFalse result (is_quiet_at (state_at self.old key) (meant heard.now) room flow ≡ true → LacksRoomAt (state_at self.old key) (meant heard.now) room flow) }
+        ensures other { OnFalse result (self.new ≡ self.old) }
+        ensures kept { OnFalse result (queue.new ≡ queue.old) }
     {
-        let Some(at) = find(&self.index, key) else {
-            return InPlace::NoSession;
+        let Some(at) = find_again(&mut self.last, &self.index, key) else {
+            return true;
         };
         let Some(found) = self.places.get_mut(at) else {
-            return InPlace::NoSession;
+            return true;
         };
-        found.slot.go_on(wire, now)
+        found.slot.take_in_place(heard, room, flow, now, queue)
     }
 
     /// Takes the state of a key out, and leaves the key, which is held from now on. None where the key isn't there or
@@ -168,6 +190,7 @@ impl<T> SessionTable<T> {
         ensures { self.new ≡ map.remove self.old held }
     {
         let key = held.spend();
+        self.last = None;
         let Some(at) = unlink(&mut self.index, key) else {
             unreachable!()
         };

@@ -1,6 +1,7 @@
 ghost use Rattle.std.specs.Prelude.{◌≡◌};
 ghost use Rattle.bam_session.specs.declared.outgoing.BamPumped.TheVariants as BamPumped;
 
+use crate::heard;
 use bam_session::*;
 use bus_frame::{CanId, Frame};
 use pgn_ids::{Address, Pgn, WirePgn};
@@ -10,6 +11,7 @@ use std::process::Abort;
 use std::test::Fail;
 use tick_timers::T1;
 use tp_wire::{Kind, Wire};
+use tx_queue::TxQueue;
 
 const SOURCE: Address = Address(0x21);
 
@@ -119,6 +121,22 @@ fn nine_bytes_are_sent(rt: HostRuntime) -> Result<(), Fail> {
 }
 
 #[test]
+fn a_packet_is_queued_in_place(rt: HostRuntime) -> Result<(), Fail> {
+    let first = frame(0x1CEB_FF21, [1, 1, 2, 3, 4, 5, 6, 7])?;
+    let mut queue = TxQueue::new(rt.alloc())?;
+    let (mut out, _announcement) = BamOut::begin(SOURCE, Pgn::new(0xFECA)?, 9, 0);
+    let early = out.pump_in_place(&M9, 49, &mut queue);
+    let went_on = out.pump_in_place(&M9, 50, &mut queue);
+    let last = out.pump_in_place(&M9, 100, &mut queue);
+    let missing = out.missing(60);
+    out.cancel();
+    assert!(rt; !early && went_on && !last);
+    assert_eq!(rt; missing, 40);
+    assert!(rt; queue.pop() == Some(first) && queue.is_empty());
+    Ok(())
+}
+
+#[test]
 fn the_longest_is_announced(rt: HostRuntime) -> Result<(), Fail> {
     let announcement = frame(0x1CEC_FF21, [0x20, 0xF9, 6, 0xFF, 0xFF, 0x35, 0xF0, 1])?;
     let (out, queued) = BamOut::begin(SOURCE, Pgn::new(0x1_F035)?, 1785, 0);
@@ -154,11 +172,11 @@ fn nine_bytes_are_received(rt: HostRuntime) -> Result<(), Fail> {
 fn a_packet_in_the_middle_is_taken_in_place(rt: HostRuntime) -> Result<(), Fail> {
     let (first, last) = (packet(1, FIRST), packet(2, LAST));
     let mut state = receiver(rt.alloc())?;
-    let went_on = state.go_on(&first, 100);
+    let went_on = state.take_in_place(&heard(&first), 100);
     // A packet that has come, the last one and one that is skipped change nothing.
-    let others = state.go_on(&first, 700)
-        || state.go_on(&last, 700)
-        || state.go_on(&packet(3, LAST), 700);
+    let others = state.take_in_place(&heard(&first), 700)
+        || state.take_in_place(&heard(&last), 700)
+        || state.take_in_place(&heard(&packet(3, LAST)), 700);
     let due = (state.is_due(849), state.is_due(850));
     let bytes = match state.step(&last, 800) {
         BamStepped::Complete(bytes) => Some(bytes),

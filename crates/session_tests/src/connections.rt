@@ -1,4 +1,5 @@
 //! Exchanges of node 35 with node 21, frame by frame.
+use crate::heard;
 use bus_frame::Frame;
 use pgn_ids::{Address, Pgn, WirePgn};
 use responder::{Finished, Flow, Peer};
@@ -8,6 +9,7 @@ use std::process::Abort;
 use std::test::Fail;
 use tp_session::{InState, OutState, Received, accept, begin};
 use tp_wire::{Kind, Outcome, Wire};
+use tx_queue::TxQueue;
 
 // What 35 sends to 21 in TP.CM.
 const CM_TO_21: u32 = 0x1CEC_2135;
@@ -45,8 +47,18 @@ fn step(
     state.step(wire, room, flow, now)
 }
 
-fn go_on(state: &mut InState, wire: &Wire, now: u64) -> bool {
-    state.go_on(wire, now)
+// Takes a frame in place. A frame that is queued is the only one.
+fn take_in_place(
+    rt: &impl Abort,
+    state: &mut InState,
+    wire: &Wire,
+    room: bool,
+    flow: Flow,
+    now: u64,
+    queue: &mut TxQueue,
+) -> bool {
+    assert!(rt; queue.is_empty());
+    state.take_in_place(&heard(wire), room, flow, now, queue)
 }
 
 fn expire(rt: &impl Abort, mut state: InState, flow: Flow, now: u64) -> Received {
@@ -216,17 +228,33 @@ fn a_hold_is_repeated_until_the_session_is_open(rt: HostRuntime) -> Result<(), F
 #[test]
 fn a_packet_in_a_window_is_taken_in_place(rt: HostRuntime) -> Result<(), Fail> {
     // Four packets, in windows of three and one.
+    let mut queue = TxQueue::new(rt.alloc())?;
     let (mut state, _) = begun(&rt, rt.alloc(), diagnostics()?, 3, 28, Flow::Open)?;
-    let went_on = go_on(&mut state, &packet(1), 100) && go_on(&mut state, &packet(2), 200);
-    // A packet that has come, the last of the window and one that is skipped change nothing.
-    let others = go_on(&mut state, &packet(2), 300)
-        || go_on(&mut state, &packet(3), 300)
-        || go_on(&mut state, &packet(4), 300);
+    let mut takes = |state: &mut InState, k, room, flow, now| {
+        take_in_place(&rt, state, &packet(k), room, flow, now, &mut queue)
+    };
+    let went_on = takes(&mut state, 1, true, Flow::Open, 100)
+        && takes(&mut state, 2, false, Flow::Held, 200);
+    // A packet that has come and one that is skipped change nothing, nor does the last of the window without room or on hold.
+    let others = takes(&mut state, 2, true, Flow::Open, 300)
+        || takes(&mut state, 4, true, Flow::Open, 300)
+        || takes(&mut state, 3, false, Flow::Open, 300)
+        || takes(&mut state, 3, true, Flow::Held, 300);
     let is_due = falls_due(&state, 950);
-    let (mut state, cts) = on(&rt, step(&rt, state, &packet(3), true, Flow::Open, 400));
-    let last = go_on(&mut state, &packet(4), 500);
+    let granted = takes(&mut state, 3, true, Flow::Open, 400);
+    let is_due = is_due && falls_due(&state, 1650);
+    let cts = queue.pop();
+    let last = take_in_place(
+        &rt,
+        &mut state,
+        &packet(4),
+        true,
+        Flow::Open,
+        500,
+        &mut queue,
+    );
     let (bytes, _) = complete(&rt, step(&rt, state, &packet(4), true, Flow::Open, 500)).given();
-    assert!(rt; went_on && !others && !last);
+    assert!(rt; went_on && !others && granted && !last);
     assert!(rt; is_due);
     assert!(rt;
         cts.is_some_and(|cts| shows(cts, CM_TO_21, [0x11, 1, 4, 0xFF, 0xFF, 0xCA, 0xFE, 0]))

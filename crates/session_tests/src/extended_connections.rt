@@ -1,4 +1,5 @@
 //! Exact frames of extended exchanges, that calls succeed, and that nothing but a call lets a state go.
+use crate::heard;
 use bus_frame::{CanId, Frame};
 use etp_session::{InState, OutState, Received, accept, begin};
 use pgn_ids::{Address, Pgn, WirePgn};
@@ -9,6 +10,7 @@ use std::process::Abort;
 use std::test::Fail;
 use tp_wire::constants::{CONN_ABORT, ETP_CTS, ETP_EOMA, ETP_MAX_SIZE, ETP_MAX_WINDOW, ETP_RTS};
 use tp_wire::{CmFrame, Kind, Wire};
+use tx_queue::TxQueue;
 
 const FECA: u32 = 0xFECA;
 
@@ -75,8 +77,16 @@ fn goes_on(rt: &impl Abort, received: Received) -> InState {
     }
 }
 
-fn go_on(state: &mut InState, wire: &Wire, now: u64) -> bool {
-    state.go_on(wire, now)
+// Takes a frame in place, with room. A frame that is queued is the only one.
+fn take_in_place(
+    rt: &impl Abort,
+    state: &mut InState,
+    wire: &Wire,
+    now: u64,
+    queue: &mut TxQueue,
+) -> bool {
+    assert!(rt; queue.is_empty());
+    state.take_in_place(&heard(wire), true, Flow::Open, now, queue)
 }
 
 // Whether it is due at this tick, and not at the one before.
@@ -211,21 +221,27 @@ fn first_window(rt: &impl Abort, state: InState, flow: Flow) -> Received {
 
 #[test]
 fn packets_in_a_window_are_taken_in_place(rt: HostRuntime) -> Result<(), Fail> {
+    let mut queue = TxQueue::new(rt.alloc())?;
     let (mut state, _) = begun(&rt, rt.alloc(), 1786, Flow::Open)?;
-    let unannounced = go_on(&mut state, &data(1, [0; 7]), 50);
-    let mut state = goes_on(&rt, take(&rt, state, &dpo(&rt, 3, 0), Flow::Open));
-    let went_on = go_on(&mut state, &data(1, [0; 7]), 100)
-        && go_on(&mut state, &data(2, [0; 7]), 200);
-    // A packet that has come, the last that is announced and one that is skipped change nothing.
-    let others = go_on(&mut state, &data(2, [0; 7]), 300)
-        || go_on(&mut state, &data(3, [0; 7]), 300)
-        || go_on(&mut state, &data(4, [0; 7]), 300);
+    let mut takes = |state: &mut InState, wire: Wire, now| {
+        take_in_place(&rt, state, &wire, now, &mut queue)
+    };
+    let unannounced = takes(&mut state, data(1, [0; 7]), 50)
+        || takes(&mut state, dpo(&rt, 3, 1), 50);
+    let announced = takes(&mut state, dpo(&rt, 3, 0), 60);
+    let went_on = takes(&mut state, data(1, [0; 7]), 100)
+        && takes(&mut state, data(2, [0; 7]), 200);
+    // A packet that has come and one that is skipped change nothing.
+    let others = takes(&mut state, data(2, [0; 7]), 300) || takes(&mut state, data(4, [0; 7]), 300);
     let is_due = falls_due(&state, 950);
-    let (state, cts) = goes_out(&rt, take(&rt, state, &data(3, [0; 7]), Flow::Open));
+    // Where its memory is refused, nothing changes, and the next try finds it.
+    let granted = takes(&mut state, data(3, [0; 7]), 400)
+        || takes(&mut state, data(3, [0; 7]), 400);
+    let has_memory = has_memory(&state, 67 * 7);
     state.overrun();
-    assert!(rt; !unannounced && went_on && !others);
-    assert!(rt; is_due);
-    assert_eq!(rt; cts, from_35(&rt, ETP_CTS, [0x40, 4, 0, 0]));
+    assert!(rt; !unannounced && announced && went_on && !others && granted);
+    assert!(rt; is_due && has_memory);
+    assert_eq!(rt; queue.pop(), Some(from_35(&rt, ETP_CTS, [0x40, 4, 0, 0])));
     Ok(())
 }
 

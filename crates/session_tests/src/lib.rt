@@ -11,3 +11,33 @@ mod extended_connections;
 mod finished;
 #[cfg(test)]
 mod sessions;
+
+#[cfg(test)]
+use tp_wire::{Heard, Wire};
+
+/// What a frame with this meaning is heard as.
+#[cfg(test)]
+fn heard(wire: &Wire) -> Heard<'_> {
+    match wire {
+        Wire::Cm(frame) => Heard::Cm(*frame),
+        Wire::Packet {
+            kind,
+            sequence,
+            bytes,
+        } => Heard::Packet {
+            kind: *kind,
+            sequence: *sequence,
+            bytes,
+        },
+        Wire::Request { pgn } => Heard::Request { pgn: *pgn },
+        Wire::Ack {
+            control,
+            address,
+            pgn,
+        } => Heard::Ack {
+            control: *control,
+            address: *address,
+            pgn: *pgn,
+        },
+    }
+}

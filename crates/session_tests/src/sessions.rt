@@ -1,5 +1,9 @@
 //! Tables of sessions whose timers all start at tick 0. Where memory is refused once, the call is made again, so that
 //! each test passes whichever allocation fails.
+ghost use Rattle.std.specs.Prelude.{◌≡◌, None};
+ghost use Rattle.session_table.specs.Sessions.{state_at};
+
+use crate::heard;
 use bam_session::BamIn;
 use pgn_ids::{Address, WirePgn};
 use responder::{Flow, Peer};
@@ -10,6 +14,7 @@ use std::process::Abort;
 use std::test::Fail;
 use tp_wire::constants::ETP_MAX_WINDOW;
 use tp_wire::{Kind, Wire};
+use tx_queue::TxQueue;
 
 const FECA: u32 = 0xFECA;
 
@@ -100,8 +105,18 @@ fn next_due(table: &SessionTable<u8>, now: u64) -> Option<Key> {
     table.next_due(now)
 }
 
-fn go_on(table: &mut SessionTable<u8>, key: Key, wire: &Wire, now: u64) -> InPlace {
-    table.go_on(key, wire, now)
+fn take_in_place(
+    rt: &impl Abort,
+    table: &mut SessionTable<u8>,
+    key: Key,
+    wire: &Wire,
+    now: u64,
+    queue: &mut TxQueue,
+) -> bool
+    ensures idle { state_at table.old key ≡ None → table.new ≡ table.old }
+{
+    assert!(rt; queue.is_empty());
+    table.take_in_place(key, &heard(wire), true, Flow::Open, now, queue)
 }
 
 // What a packet leads to while the session of its key is taken out; the session ends.
@@ -111,12 +126,13 @@ fn goes_on_without(
     key: Key,
     wire: &Wire,
     now: u64,
-) -> InPlace {
+    queue: &mut TxQueue,
+) -> bool {
     let Some((held, _bound, state)) = table.take_out(key) else {
         panic!(rt; "nothing at the key")
     };
     state.overrun();
-    let out = table.go_on(key, wire, now);
+    let out = take_in_place(rt, table, held.key(), wire, now, queue);
     table.end(held);
     out
 }
@@ -213,14 +229,14 @@ fn a_packet_is_taken_in_place(rt: HostRuntime) -> Result<(), Fail> {
         sequence,
         bytes: [1, 2, 3, 4, 5, 6, 7],
     };
-    let absent = go_on(&mut table, key, &packet(1), 100);
+    let mut queue = TxQueue::new(rt.alloc())?;
+    let absent = take_in_place(&rt, &mut table, key, &packet(1), 100, &mut queue);
     open(&rt, rt.alloc(), &mut table, key)?;
-    let first = go_on(&mut table, key, &packet(1), 100);
-    let last = go_on(&mut table, key, &packet(2), 200);
+    let first = take_in_place(&rt, &mut table, key, &packet(1), 100, &mut queue);
+    let last = take_in_place(&rt, &mut table, key, &packet(2), 200, &mut queue);
     let due = (next_due(&table, 849), next_due(&table, 850));
-    let out = goes_on_without(&rt, &mut table, key, &packet(2), 300);
-    assert_eq!(rt; (absent, first), (InPlace::NoSession, InPlace::GoneOn));
-    assert_eq!(rt; (last, out), (InPlace::StepWanted, InPlace::NoSession));
+    let out = goes_on_without(&rt, &mut table, key, &packet(2), 300, &mut queue);
+    assert!(rt; absent && first && !last && out && queue.is_empty());
     assert_eq!(rt; due, (None, Some(key)));
     Ok(())
 }

@@ -6,7 +6,7 @@ use Rattle.tx_queue.specs.Queue.{queue_limit}
 use Rattle.port_table.specs.Ports.{without_port}
 use Rattle.session_table.specs.declared.key.SessionKind.{SessionKind}
 use Rattle.session_table.specs.declared.key.SessionKind.TheVariants as session
-use Rattle.station_core.specs.Opening.{key_of}
+use Rattle.station_sessions.specs.Opening.{key_of}
 use Rattle.station_sessions.specs.Receiving.{unbound_at}
 use Rattle.station_core.specs.Station.{Station}
 

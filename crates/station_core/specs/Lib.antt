@@ -1,8 +1,8 @@
 pub mod Station
 pub mod StationFields
 pub mod StationCode
-pub mod Opening
 pub mod Taking
+pub mod Quiet
 pub mod Sending
 pub mod Timers
 pub mod Closing

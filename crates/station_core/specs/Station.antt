@@ -5,9 +5,9 @@ use Rattle.bus_frame.specs.Frames.{CanFrame}
 use Rattle.pgn_ids.specs.Address.{is_one}
 use Rattle.pgn_ids.specs.declared.address.Address.{Address}
 use Rattle.port_table.specs.Ports.{Ports, no_ports}
-use Rattle.lane_core.specs.Step.{option_frames}
+use Rattle.tx_queue.specs.Queue.{option_frames}
 use Rattle.lane_core.specs.Lane.{Lane}
-use Rattle.lane_core.specs.declared.step.LaneStep.{LaneStep}
+use Rattle.lane_core.specs.Step.{LaneStep}
 use Rattle.message_events.specs.declared.event.Event.{Event}
 use Rattle.station_lanes.specs.Lanes.{Lanes}
 use Rattle.station_lanes.specs.LaneCalls.{stepped_lanes, step_at, outcome_of}

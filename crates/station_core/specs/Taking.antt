@@ -20,14 +20,18 @@ use Rattle.session_table.specs.declared.key.SessionKind.{SessionKind}
 use Rattle.session_table.specs.declared.key.SessionKind.TheVariants as session
 use Rattle.station_lanes.specs.LaneCalls.{stepped_lanes}
 use Rattle.session_table.specs.Sessions.{state_at}
+use Rattle.station_sessions.specs.Opening.{key_of, opening_received}
 use Rattle.station_sessions.specs.Receiving.{received, aborted_at, wanted_by}
 use Rattle.station_core.specs.Station.{Station, StationStep, quietly, queues, by_session, by_lane}
-use Rattle.station_core.specs.Opening.{key_of, opening_taken}
 
 -- the kind of the session that a data packet belongs to
 abbrev pub packet_kind : Kind → (to : Address) → SessionKind
 packet_kind kind.Tp to = if to.0 == global_address then session.Broadcast else session.Tp
 packet_kind kind.Etp to = session.Etp
+
+-- a session opens, or not
+abbrev pub in_opening : Station → CmFrame → (from : Address) → (room : Bool) → (now : ℕ) → StationStep
+in_opening st frame from room now = by_session st (opening_received st.address st.ports frame from room now st.sessions)
 
 -- the session of that kind from the source makes its step
 abbrev pub in_session : Station → Key → Wire → (room : Bool) → (now : ℕ) → StationStep
@@ -42,12 +46,12 @@ abbrev pub abort_taken : Station → (from : Address) → SessionKind → (pgn :
 abort_taken st from kind pgn wire now = in_lane (record st { sessions = aborted_at (key_of from kind) pgn st.sessions }) from wire now
 
 abbrev pub cm_taken : Station → CmFrame → (from : Address) → (room : Bool) → (now : ℕ) → StationStep
-cm_taken st (Rts size packets most pgn) from room now = quietly (opening_taken st (Rts size packets most pgn) from room now)
+cm_taken st (Rts size packets most pgn) from room now = in_opening st (Rts size packets most pgn) from room now
 cm_taken st (Cts granted next pgn) from room now = in_lane st from (Cm (Cts granted next pgn)) now
 cm_taken st (EndOfMsgAck size packets pgn) from room now = in_lane st from (Cm (EndOfMsgAck size packets pgn)) now
-cm_taken st (Bam size packets pgn) from room now = quietly (opening_taken st (Bam size packets pgn) from room now)
+cm_taken st (Bam size packets pgn) from room now = in_opening st (Bam size packets pgn) from room now
 cm_taken st (Abort reason pgn) from room now = abort_taken st from session.Tp pgn (Cm (Abort reason pgn)) now
-cm_taken st (EtpRts size pgn) from room now = quietly (opening_taken st (EtpRts size pgn) from room now)
+cm_taken st (EtpRts size pgn) from room now = in_opening st (EtpRts size pgn) from room now
 cm_taken st (EtpCts granted next pgn) from room now = in_lane st from (Cm (EtpCts granted next pgn)) now
 cm_taken st (EtpDpo packets offset pgn) from room now = in_session st (key_of from session.Etp) (Cm (EtpDpo packets offset pgn)) room now
 cm_taken st (EtpEoma size pgn) from room now = in_lane st from (Cm (EtpEoma size pgn)) now

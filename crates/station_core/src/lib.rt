@@ -4,7 +4,6 @@
 
 mod closing;
 mod due;
-mod opening;
 mod overruns;
 mod refused;
 mod sending;

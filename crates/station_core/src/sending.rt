@@ -11,10 +11,11 @@ ghost use Rattle.station_core.specs.Sending.{lane_of, sent, next_pump, pumped, c
 ghost use Rattle.station_core.specs.Refusals.{IsAnswered, message_refusal as message_refusal_of, sending_refusal, pumping_refusal, cancelling_refusal};
 
 use crate::refused::{Refused, SendingRefused, by_lane};
-use crate::station::Station;
+use crate::station::{Station, enqueue};
 use lane_core::{PushRefused, longest_to};
 use message_events::{Bytes, Events};
 use pgn_ids::{Address, Pgn};
+use station_lanes::outcome;
 use tp_wire::constants::MIN_SIZE;
 
 /// How many frames a pump queues at most.
@@ -138,8 +139,8 @@ impl Station {
         if let Some(cause) = self.pump_refusal(to, now) {
             return Err(cause);
         }
-        let step = self.lanes.pump(to, now);
-        Ok(self.finish_lane_step(to, step))
+        let ended = self.lanes.pump(to, now, &mut self.queue);
+        Ok(Events::of(self.alloc, outcome(self.address, to, ended)))
     }
 
     /// Whether a message to a destination with this number has no outcome yet.
@@ -179,10 +180,13 @@ impl Station {
         if let Some(cause) = self.cancel_refusal(to, number) {
             return Err(cause);
         }
-        let _within = self.queue.len();
-        match self.lanes.cancel(to, number) {
-            None => unreachable!(),
-            Some(step) => Ok(self.finish_lane_step(to, step)),
+        let Some(step) = self.lanes.cancel(to, number) else {
+            unreachable!()
+        };
+        if let Some(frame) = step.frame {
+            enqueue(&mut self.queue, frame);
         }
+        let event = outcome(self.address, to, step.ended);
+        Ok(Events::of(self.alloc, event))
     }
 }

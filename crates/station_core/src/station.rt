@@ -2,8 +2,7 @@
 ghost use Rattle.std.specs.Prelude.{◌≡◌, ◌≤◌, ◌<◌, ◌+◌, ◌++◌, ◌∷◌, [], true, false, length, IfOk, OnOk, OnErr};
 ghost use Rattle.std.specs.Result.{result_err};
 ghost use Rattle.pgn_ids.specs.Address.{is_one};
-ghost use Rattle.tx_queue.specs.Queue.{queue_limit, free_places, front, behind};
-ghost use Rattle.lane_core.specs.Step.{option_frames};
+ghost use Rattle.tx_queue.specs.Queue.{queue_limit, free_places, front, behind, option_frames};
 ghost use Rattle.port_table.specs.Ports.{next_id, is_open, is_paused, with_port, with_paused};
 ghost use Rattle.station_core.specs.Station.{new_station};
 ghost use Rattle.station_core.specs.Refusals.{IsAnswered, making_refusal, opening_refusal, pausing_refusal, resuming_refusal};
@@ -52,10 +51,7 @@ pub(crate) fn enqueue(queue: &mut TxQueue, frame: Frame)
     requires { length queue.old < queue_limit }
     ensures { queue.new ≡ queue.old ++ frame ∷ [] }
 {
-    match queue.push(frame) {
-        Ok(()) => {}
-        Err(_) => unreachable!(),
-    }
+    queue.push_free(frame);
 }
 
 /// Puts a frame, if there is one, behind the others, where there is a free place.
@@ -65,16 +61,6 @@ pub(crate) fn enqueue_option(queue: &mut TxQueue, frame: Option<Frame>)
 {
     if let Some(frame) = frame {
         enqueue(queue, frame);
-    }
-}
-
-/// Puts frames behind the others, where there are as many free places.
-pub(crate) fn enqueue_all(queue: &mut TxQueue, frames: &[Frame])
-    requires { length queue.old + length frames.now ≤ queue_limit }
-    ensures { queue.new ≡ queue.old ++ frames.now }
-{
-    for frame in frames {
-        enqueue(queue, *frame);
     }
 }
 

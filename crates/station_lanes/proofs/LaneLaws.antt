@@ -1,11 +1,11 @@
 -- What the steps of a lane keep, and lanes that are taken out and put back.
-use Rattle.std.proofs.Common.{◌≡◌, ℕ, ◌+◌, ◌≤◌, ◌==◌, nat_lt, Bool, true, false, cond, List, [], ◌∷◌, length, Option, Some, None, refl, sym, ap, ◌∙◌, arith, true≢false, IfNone}
+use Rattle.std.proofs.Common.{◌≡◌, ℕ, ◌+◌, ◌==◌, nat_lt, Bool, true, false, cond, List, [], ◌∷◌, length, Option, Some, None, refl, sym, ap, ◌∙◌, true≢false, IfNone}
+use Rattle.std.specs.Bool.{OnTrue, OnFalse}
 use Rattle.std.specs.Cmp.{nat_cmp_total, unsigned_tied}
 use Rattle.std.proofs.lemmas.Bool.{eqb-true}
 use Rattle.std.specs.Ordering.{nat_cmp, eq_by_cmp}
 use Rattle.std.specs.FinMap as map
 use Rattle.std.specs.FinMap.{get-insert, get-remove, same_map, nat_cmp-IsAntisymmetric}
-use Rattle.bus_frame.specs.Frames.{CanFrame}
 use Rattle.tp_wire.specs.declared.wire.Wire.{Wire}
 use Rattle.originator.specs.declared.states.Stepped.{Stepped}
 use Rattle.originator.specs.declared.states.Stepped.TheVariants.{On, Over}
@@ -20,16 +20,16 @@ use Rattle.bam_session.specs.declared.outgoing.BamPumped.{BamPumped}
 use Rattle.bam_session.specs.declared.outgoing.BamPumped.TheVariants as pumping
 use Rattle.originator.specs.Opening.{begun}
 use Rattle.originator.specs.Readers.{link_of}
-use Rattle.originator.specs.Endings.{expired, cancelled as cancelled_link}
+use Rattle.originator.specs.Endings.{cancelled as cancelled_link}
 use Rattle.originator.specs.declared.states.OutState.TheVariants.{AwaitCts}
 use Rattle.lane_core.specs.declared.message.Pending.{Pending}
 use Rattle.lane_core.specs.Pump.{begins, idle_pumped, after_packet, front_bytes, pumped, pumped_by}
 use Rattle.lane_core.specs.Probe.{most_requests, probes, is_token, other_token}
 use Rattle.lane_core.specs.Fire.{probe_fired, fired, fired_by}
-use Rattle.lane_core.specs.declared.step.LaneStep.{LaneStep}
-use Rattle.lane_core.specs.Step.{option_frames, says}
+use Rattle.lane_core.specs.declared.step.LaneStep.{LaneStep as LaneStepFields}
+use Rattle.lane_core.specs.Step.{LaneStep, says}
 use Rattle.lane_core.specs.Lane.{Lane, link_for, with_under_way}
-use Rattle.lane_core.specs.Endings.{over, connection_over, after_step}
+use Rattle.lane_core.specs.Endings.{over, connection_over, after_step, still}
 use Rattle.lane_core.specs.Cancel.{withdrawn, is_front, cancelled, cancelled_by, queues_abort, queues_abort_by}
 use Rattle.lane_core.specs.Overrun.{overrun, overrun_by}
 use Rattle.lane_core.specs.Hear.{heard, heard_by, connection_heard}
@@ -60,33 +60,22 @@ insert_same lanes to lane there = same_map nat_cmp_total nat_cmp-IsAntisymmetric
     by q true e = sym there ∙ ap (map.get lanes) (sym (eqb-true q to (sym (unsigned_tied q to) ∙ e)))
     by q false e = refl
 
-one_at_most : (frame : Option CanFrame) → length (option_frames frame) ≤ 1
-one_at_most None = omega arith
-one_at_most (Some f) = omega arith
-
 after_step-to : (lane : Lane) (s : Stepped) → (after_step lane s).0.to ≡ lane.to
 after_step-to lane (On s) = refl
 after_step-to lane (Over o) = refl
-
-after_step-few : (lane : Lane) (s : Stepped) → length (after_step lane s).1.frames ≤ 1
-after_step-few lane (On s) = omega arith
-after_step-few lane (Over o) = one_at_most o.frame
 
 heard_by-to : (u : UnderWay) (lane : Lane) (wire : Wire) (now : ℕ) → (heard_by u lane wire now).0.to ≡ lane.to
 heard_by-to Nothing lane wire now = refl
 heard_by-to (Broadcast s) lane wire now = refl
 heard_by-to (Connection s) lane wire now = after_step-to lane (connection_heard s wire now)
 
-heard_by-few : (u : UnderWay) (lane : Lane) (wire : Wire) (now : ℕ) → length (heard_by u lane wire now).1.frames ≤ 1
-heard_by-few Nothing lane wire now = omega arith
-heard_by-few (Broadcast s) lane wire now = omega arith
-heard_by-few (Connection s) lane wire now = after_step-few lane (connection_heard s wire now)
-
 pub heard_to : (lane : Lane) (wire : Wire) (now : ℕ) → (heard lane wire now).0.to ≡ lane.to
 heard_to lane wire now = heard_by-to lane.under_way lane wire now
 
-pub heard_few : (lane : Lane) (wire : Wire) (now : ℕ) → length (heard lane wire now).1.frames ≤ 1
-heard_few lane wire now = heard_by-few lane.under_way lane wire now
+-- a lane that took a frame where it stands, or stayed as it was, is to the same destination
+pub quiet_to : (b : Bool) (lane last : Lane) (wire : Wire) (now : ℕ) → OnTrue b (heard lane wire now ≡ still last) → OnFalse b (last ≡ lane) → last.to ≡ lane.to
+quiet_to true lane last wire now taken other = sym (ap (λ r. r.0.to) taken) ∙ heard_to lane wire now
+quiet_to false lane last wire now taken other = ap (λ l. l.to) other
 
 answered_by-to : (s : Standing) (lane : Lane) (pgn : ℕ) → (answered_by s lane pgn).to ≡ lane.to
 answered_by-to Settled lane pgn = refl
@@ -112,7 +101,9 @@ overrun_to lane = overrun_by-to lane.under_way lane
 pub overrun_none : (lane : Lane) → (overrun lane).1.frames ≡ []
 overrun_none lane = overrun_by-none lane.under_way lane
 
-pub ruleset heard_laws = (put_back, remove_absent, heard_to, heard_few)
+pub ruleset heard_laws = (put_back, remove_absent, heard_to)
+
+pub ruleset quiet_laws = (put_back, remove_absent, insert_same, quiet_to)
 
 pub ruleset answered_laws = (put_back, remove_absent, answered_to)
 
@@ -153,30 +144,17 @@ probe_fired-to Settled lane now = refl
 probe_fired-to InDoubt lane now = refl
 probe_fired-to (Probing count timer) lane now = elim (nat_lt count most_requests) as (λ b. (cond {A = Lane × LaneStep} b (probes lane (count + 1) now) (over lane outcome.Unreachable None)).0.to ≡ lane.to) [ true ↦ refl | false ↦ refl ]
 
-probe_fired-few : (s : Standing) (lane : Lane) (now : ℕ) → length (probe_fired s lane now).1.frames ≤ 1
-probe_fired-few Settled lane now = omega arith
-probe_fired-few InDoubt lane now = omega arith
-probe_fired-few (Probing count timer) lane now = elim (nat_lt count most_requests) as (λ b. length (cond {A = Lane × LaneStep} b (probes lane (count + 1) now) (over lane outcome.Unreachable None)).1.frames ≤ 1) [ true ↦ omega arith | false ↦ omega arith ]
-
 fired_by-to : (u : UnderWay) (lane : Lane) (now : ℕ) → (fired_by u lane now).0.to ≡ lane.to
 fired_by-to Nothing lane now = probe_fired-to lane.standing lane now
 fired_by-to (Broadcast s) lane now = refl
 fired_by-to (Connection s) lane now = refl
 
-fired_by-few : (u : UnderWay) (lane : Lane) (now : ℕ) → length (fired_by u lane now).1.frames ≤ 1
-fired_by-few Nothing lane now = probe_fired-few lane.standing lane now
-fired_by-few (Broadcast s) lane now = omega arith
-fired_by-few (Connection s) lane now = one_at_most (expired (link_of s)).frame
-
 pub fired_to : (lane : Lane) (now : ℕ) → (fired lane now).0.to ≡ lane.to
 fired_to lane now = fired_by-to lane.under_way lane now
 
-pub fired_few : (lane : Lane) (now : ℕ) → length (fired lane now).1.frames ≤ 1
-fired_few lane now = fired_by-few lane.under_way lane now
-
 pub ruleset pumped_laws = (put_back, remove_absent, pumped_to)
 
-pub ruleset fired_laws = (put_back, remove_absent, fired_to, fired_few)
+pub ruleset fired_laws = (put_back, remove_absent, fired_to)
 
 module _ (lane : Lane) (number : ℕ) where
   -- the front message is cancelled, or another one
@@ -187,19 +165,10 @@ module _ (lane : Lane) (number : ℕ) where
   front_or-to true front e = e
   front_or-to false front e = refl
 
-  front_or-few : (b : Bool) (front : Lane × LaneStep) → length front.1.frames ≤ 1 → length (front_or b front).1.frames ≤ 1
-  front_or-few true front e = e
-  front_or-few false front e = omega arith
-
   cancelled_by-to : (u : UnderWay) → (cancelled_by u lane number).0.to ≡ lane.to
   cancelled_by-to Nothing = refl
   cancelled_by-to (Broadcast s) = front_or-to (is_front lane.pending number) (over lane outcome.Cancelled None) refl
   cancelled_by-to (Connection s) = front_or-to (is_front lane.pending number) (connection_over lane (cancelled_link (link_of s))) refl
-
-  cancelled_by-few : (u : UnderWay) → length (cancelled_by u lane number).1.frames ≤ 1
-  cancelled_by-few Nothing = omega arith
-  cancelled_by-few (Broadcast s) = front_or-few (is_front lane.pending number) (over lane outcome.Cancelled None) (omega arith)
-  cancelled_by-few (Connection s) = front_or-few (is_front lane.pending number) (connection_over lane (cancelled_link (link_of s))) (one_at_most (cancelled_link (link_of s)).frame)
 
   front_or-none : (b : Bool) (front : Lane × LaneStep) → (b ≡ true → front.1.frames ≡ []) → (front_or b front).1.frames ≡ []
   front_or-none true front e = e refl
@@ -213,15 +182,12 @@ module _ (lane : Lane) (number : ℕ) where
   pub cancelled_to : (cancelled lane number).0.to ≡ lane.to
   cancelled_to = cancelled_by-to lane.under_way
 
-  pub cancelled_few : length (cancelled lane number).1.frames ≤ 1
-  cancelled_few = cancelled_by-few lane.under_way
-
   pub cancelled_none : queues_abort lane number ≡ false → (cancelled lane number).1.frames ≡ []
   cancelled_none = cancelled_by-none lane.under_way
 
-pub ruleset cancelled_laws = (put_back, remove_absent, cancelled_to, cancelled_few, cancelled_none)
+pub ruleset cancelled_laws = (put_back, remove_absent, cancelled_to, cancelled_none)
 
 -- a lane that was taken out and stayed as it was
-pub put_as_it_was : (r : Option LaneStep) (lanes after : Lanes) (to : ℕ) (lane last : Lane) → map.get lanes to ≡ Some lane → IfNone r (last ≡ lane) → after ≡ map.insert (map.remove lanes to) to last → IfNone r (after ≡ lanes)
+pub put_as_it_was : (r : Option LaneStepFields) (lanes after : Lanes) (to : ℕ) (lane last : Lane) → map.get lanes to ≡ Some lane → IfNone r (last ≡ lane) → after ≡ map.insert (map.remove lanes to) to last → IfNone r (after ≡ lanes)
 put_as_it_was None lanes after to lane last is same e = e ∙ put_back lanes to last ∙ ap (map.insert lanes to) same ∙ insert_same lanes to lane is
 put_as_it_was (Some step) lanes after to lane last is same e = tt

@@ -1,5 +1,5 @@
 -- The sets of lanes beside the places: what isn't in one has no frame to queue, or no running timer.
-use Rattle.std.proofs.Common.{◌≡◌, ◌≢◌, ℕ, ◌<◌, Bool, true, false, cond, List, length, Option, Some, None, ◌==◌, ◌||◌, nat_lt, arith, true≢false, subst, refl, sym, ap, ◌∙◌, get_or-set_same, get_or-set_other}
+use Rattle.std.proofs.Common.{◌≡◌, ◌≢◌, ℕ, ◌<◌, Bool, true, false, List, length, Option, Some, None, ◌==◌, ◌||◌, nat_lt, arith, true≢false, subst, refl, sym, ap, ◌∙◌, get_or-set_same, get_or-set_other}
 use Rattle.std.proofs.Math.ListN.{set}
 use Rattle.std.proofs.lemmas.List.{get_or_past}
 use Rattle.std.proofs.lemmas.Option.{none-some}

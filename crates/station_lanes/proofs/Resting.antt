@@ -1,5 +1,5 @@
 -- A lane with no frame to queue isn't pumped, and one without a running timer isn't due.
-use Rattle.std.proofs.Common.{◌≡◌, ℕ, ◌≤◌, Bool, true, false, Option, Some, None, refl, true≢false}
+use Rattle.std.proofs.Common.{◌≡◌, ℕ, ◌≤◌, Bool, false, Option, Some, None, refl, true≢false}
 use Rattle.std.specs.Prelude.{is_none}
 use Rattle.std.specs.FinMap as map
 use Rattle.originator.specs.Readers.{has_timer, is_state_due}

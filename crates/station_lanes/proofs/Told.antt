@@ -11,9 +11,8 @@ use Rattle.tp_wire.specs.declared.outcome.Outcome.{Outcome}
 use Rattle.lane_core.specs.declared.message.Pending.{Pending}
 use Rattle.lane_core.specs.declared.place.UnderWay.{UnderWay}
 use Rattle.lane_core.specs.declared.place.UnderWay.TheVariants.{Nothing, Broadcast, Connection}
-use Rattle.lane_core.specs.declared.step.LaneStep.{LaneStep}
+use Rattle.lane_core.specs.Step.{LaneStep, nothing_to_do}
 use Rattle.lane_core.specs.Lane.{Lane}
-use Rattle.lane_core.specs.Step.{nothing_to_do}
 use Rattle.lane_core.specs.Endings.{front_ended}
 use Rattle.lane_core.specs.Overrun.{overrun, overrun_by}
 use Rattle.message_events.specs.declared.event.Event.{Event}

@@ -1,8 +1,8 @@
 //! The calls of a lane, by its destination.
-ghost use Rattle.std.specs.Prelude.{◌≡◌, ◌≤◌, ◌||◌, ◌==◌, ◌+◌, true, false, length, [], IfOk, IfSome, IfNone, OnSome, OnOk, OnErr, IfErr, IsErr, IsSome, IsTrue, Some, None, ◌↔◌};
+ghost use Rattle.std.specs.Prelude.{◌≡◌, ◌≤◌, ◌||◌, ◌==◌, ◌+◌, ◌++◌, true, false, length, [], IfOk, IfSome, IfNone, OnSome, OnOk, OnErr, IfErr, IsErr, IsSome, IsTrue, Some, None, ◌↔◌};
 ghost use Rattle.std.specs.FinMap as map;
 ghost use Rattle.pgn_ids.specs.Address.{is_one, global_address};
-ghost use Rattle.lane_core.specs.Hear.{heard};
+ghost use Rattle.lane_core.specs.Hear.{heard as heard_lane};
 ghost use Rattle.lane_core.specs.Answer.{answered};
 ghost use Rattle.lane_core.specs.Overrun.{overrun as overrun_lane};
 ghost use Rattle.lane_core.specs.Cancel.{cancelled as cancelled_lane};
@@ -10,44 +10,54 @@ ghost use Rattle.lane_core.specs.Pump.{pumped as pumped_lane};
 ghost use Rattle.lane_core.specs.Fire.{fired as fired_lane};
 ghost use Rattle.lane_core.specs.Lane.{is_full as is_full_lane, longest_to, pushed};
 ghost use Rattle.lane_core.specs.Refused.{IsHandedBack};
-ghost use Rattle.lane_core.specs.Step.{nothing_to_do};
+ghost use Rattle.lane_core.specs.Step.{nothing_to_do, step_left};
+ghost use Rattle.tx_queue.specs.Queue.{queue_limit};
+ghost use Rattle.tp_wire.specs.Heard.{meant};
+ghost use Rattle.originator.specs.Pump.{most_frames};
+ghost use Rattle.std.specs.Bool.{OnTrue, OnFalse};
 ghost use Rattle.station_lanes.specs.LaneCalls.{stepped_lanes, step_at, lane_to};
-ghost use Rattle.station_lanes.specs.LaneReaders.{refusal_at, pumping_lane, missing_at, is_pending_at, queues_abort_at, is_due_at, due_lane, overrun_lanes, overrun_events, is_waiting_at, count_below, HasNoConnection};
+ghost use Rattle.station_lanes.specs.LaneReaders.{refusal_at, pumping_lane, missing_at, is_pending_at, queues_abort_at, is_due_at, hears_quietly_at, due_lane, overrun_lanes, overrun_events, is_waiting_at, count_below, HasNoConnection};
 ghost use Rattle.std.specs.Option.{option_map};
 
 use crate::lanes::{Lanes, PLACES};
 use crate::outcomes::{append, outcome};
-use lane_core::{Lane, LaneStep, PumpRefused, PushRefused};
+use lane_core::{Ended, Lane, LaneStep, PumpRefused, PushRefused};
 use message_events::{Bytes, Events};
-use originator::Burst;
 use pgn_ids::{Address, Pgn, WirePgn};
 use std::alloc::{AllocError, Global};
-use tp_wire::Wire;
-
-// Nothing is to be done.
-fn nothing() -> LaneStep
-    ensures { result ≡ nothing_to_do }
-{
-    LaneStep {
-        frames: Burst::new(),
-        ended: None,
-    }
-}
+use tp_wire::{Heard, Wire};
+use tx_queue::TxQueue;
 
 impl Lanes {
     /// A frame of its destination is taken at tick `now`.
     #[tactic(auto, using(crate::proofs::LaneLaws::heard_laws))]
     pub fn hear(&mut self, to: Address, wire: &Wire, now: u64) -> LaneStep
-        ensures lanes { self.new ≡ stepped_lanes self.old to.0 (λ lane. heard lane wire.now now) }
-        ensures step { result ≡ step_at self.old to.0 (λ lane. heard lane wire.now now) }
-        ensures few { length result.frames ≤ 1 }
+        ensures lanes { self.new ≡ stepped_lanes self.old to.0 (λ lane. heard_lane lane wire.now now) }
+        ensures step { step_left result ≡ step_at self.old to.0 (λ lane. heard_lane lane wire.now now) }
     {
         let Some(mut lane) = self.take_out(to) else {
-            return nothing();
+            return LaneStep::none();
         };
         let step = lane.hear(wire, now);
         self.put(to, lane);
         step
+    }
+
+    /// A frame of its destination is taken where its lane stands, at tick `now`, if it is the CTS that the lane awaits: a step
+    /// that ends nothing. Any other frame is left to `hear`, and changes nothing.
+    #[tactic(auto, using(crate::proofs::LaneLaws::quiet_laws))]
+    pub fn take_in_place(&mut self, to: Address, heard: &Heard<'_>, now: u64) -> bool
+        ensures value { result ≡ hears_quietly_at self.old to.0 (meant heard.now) }
+        ensures lanes { OnTrue result (self.new ≡ stepped_lanes self.old to.0 (λ lane. heard_lane lane (meant heard.now) now)) }
+        ensures step { OnTrue result (step_at self.old to.0 (λ lane. heard_lane lane (meant heard.now) now) ≡ nothing_to_do) }
+        ensures other { OnFalse result (self.new ≡ self.old) }
+    {
+        let Some(mut lane) = self.take_out(to) else {
+            return false;
+        };
+        let is_taken = lane.take_in_place(heard, now);
+        self.put(to, lane);
+        is_taken
     }
 
     /// An Acknowledgement of its destination is taken.
@@ -66,11 +76,11 @@ impl Lanes {
     #[tactic(auto, using(crate::proofs::LaneLaws::overrun_laws))]
     pub fn overrun(&mut self, to: Address) -> LaneStep
         ensures lanes { self.new ≡ stepped_lanes self.old to.0 overrun_lane }
-        ensures step { result ≡ step_at self.old to.0 overrun_lane }
-        ensures none { result.frames ≡ [] }
+        ensures step { step_left result ≡ step_at self.old to.0 overrun_lane }
+        ensures none { result.frame ≡ None }
     {
         let Some(mut lane) = self.take_out(to) else {
-            return nothing();
+            return LaneStep::none();
         };
         let step = lane.overrun();
         self.put(to, lane);
@@ -153,21 +163,19 @@ impl Lanes {
         }
     }
 
-    /// Queues what comes next to a destination at tick `now`; where `pump_refusal` gives a cause, nothing.
+    /// Queues what comes next to a destination at tick `now` behind the frames of a queue, where `pump_refusal` gives no cause;
+    /// the message that it ends is told.
     #[tactic(auto, using(crate::proofs::LaneLaws::pumped_laws))]
-    pub fn pump(&mut self, to: Address, now: u64) -> LaneStep
+    pub fn pump(&mut self, to: Address, now: u64, queue: &mut TxQueue) -> Option<Ended>
+        requires { length queue.old + most_frames ≤ queue_limit }
         ensures lanes { self.new ≡ stepped_lanes self.old to.0 (λ lane. pumped_lane lane now) }
-        ensures step { result ≡ step_at self.old to.0 (λ lane. pumped_lane lane now) }
-        ensures few { length result.frames ≤ 8 }
+        ensures queued { queue.new ≡ queue.old ++ (step_at self.old to.0 (λ lane. pumped_lane lane now)).frames }
+        ensures ended { result ≡ (step_at self.old to.0 (λ lane. pumped_lane lane now)).ended }
     {
-        let Some(mut lane) = self.take_out(to) else {
-            return nothing();
-        };
-        let step = lane.pump(now);
+        let mut lane = self.take_out(to)?;
+        let ended = lane.pump(now, queue);
         self.put(to, lane);
-        // At most eight, as its reader tells.
-        let _few = step.frames.len();
-        step
+        ended
     }
 
     /// Whether the timer of the lane to a destination is due at tick `now`.
@@ -203,11 +211,10 @@ impl Lanes {
     #[tactic(auto, using(crate::proofs::LaneLaws::fired_laws))]
     pub fn fire(&mut self, to: Address, now: u64) -> LaneStep
         ensures lanes { self.new ≡ stepped_lanes self.old to.0 (λ lane. fired_lane lane now) }
-        ensures step { result ≡ step_at self.old to.0 (λ lane. fired_lane lane now) }
-        ensures few { length result.frames ≤ 1 }
+        ensures step { step_left result ≡ step_at self.old to.0 (λ lane. fired_lane lane now) }
     {
         let Some(mut lane) = self.take_out(to) else {
-            return nothing();
+            return LaneStep::none();
         };
         let step = lane.fire(now);
         self.put(to, lane);
@@ -287,9 +294,8 @@ impl Lanes {
     pub fn cancel(&mut self, to: Address, number: u64) -> Option<LaneStep>
         ensures pending { IsSome result ↔ IsTrue (is_pending_at self.old to.0 number) }
         ensures lanes { OnSome result (self.new ≡ stepped_lanes self.old to.0 (λ lane. cancelled_lane lane number)) }
-        ensures step { IfSome result (λ step. step ≡ step_at self.old to.0 (λ lane. cancelled_lane lane number)) }
-        ensures few { IfSome result (λ step. length step.frames ≤ 1) }
-        ensures none { IfSome result (λ step. queues_abort_at self.old to.0 number ≡ false → step.frames ≡ []) }
+        ensures step { IfSome result (λ step. step_left step ≡ step_at self.old to.0 (λ lane. cancelled_lane lane number)) }
+        ensures none { IfSome result (λ step. queues_abort_at self.old to.0 number ≡ false → step.frame ≡ None) }
         ensures absent { IfNone result (self.new ≡ self.old) }
     {
         let mut lane = self.take_out(to)?;

@@ -1,4 +1,4 @@
 pub mod SessionMaps
 pub mod Settling
-pub mod GoingOn
+pub mod InPlace
 pub mod Whole

@@ -1,9 +1,6 @@
 -- A message of a connection is whole only where the step is said to complete it, and of the size that was announced.
-use Rattle.std.proofs.Common.{◌≡◌, ℕ, Bool, refl}
+use Rattle.std.proofs.Common.{ℕ, Bool, refl}
 use Rattle.tp_wire.specs.declared.wire.Wire.{Wire}
-use Rattle.responder.specs.Unfinished.{Unfinished, with_packet}
-use Rattle.responder.specs.Readers.{unfinished_of}
-use Rattle.responder.specs.Asking.{asks}
 use Rattle.responder.specs.Steps.{stepped}
 use Rattle.responder.specs.declared.flow.Flow.{Flow}
 use Rattle.responder.specs.declared.in_state.InState.{InState}

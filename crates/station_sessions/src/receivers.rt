@@ -1,15 +1,18 @@
 //! The incoming sessions of a station.
-ghost use Rattle.std.specs.Prelude.{◌≡◌, ◌<◌, ◌-◌, Bool, Some, None, [], IfOk, IfErr, OnOk, OnErr, true};
+ghost use Rattle.std.specs.Prelude.{◌≡◌, ◌<◌, ◌-◌, Some, None, [], IfOk, IfErr, OnOk, OnErr, length, true};
 ghost use Rattle.std.specs.Bool.{OnTrue, OnFalse};
 ghost use Rattle.std.specs.FinMap as map;
-ghost use Rattle.port_table.specs.Ports.{Ports};
 ghost use Rattle.session_table.specs.Sessions.{state_at};
 ghost use Rattle.session_table.specs.DueOrder.{first_due};
 ghost use Rattle.session_table.specs.declared.TheConstants.{MAX_SESSIONS};
 ghost use Rattle.station_sessions.specs.Steps.{completes as completes_at, size_of, closing_frame};
-ghost use Rattle.station_sessions.specs.Receiving.{flow_at, received, fired_at, aborted_at, unbound_at, unheard, wanted_by};
+ghost use Rattle.tp_wire.specs.Heard.{meant};
+ghost use Rattle.tx_queue.specs.Queue.{queue_limit};
+ghost use Rattle.station_sessions.specs.Quiet.{LeavesQuietly, receives_quietly, ReceivesLackingRoom};
+ghost use Rattle.station_sessions.specs.Receiving.{flow_at, received, fired_at, aborted_at, unbound_at, wanted_by};
 
 mod due;
+mod opening;
 
 use crate::steps::{self, Table, quiet};
 use bus_frame::Frame;
@@ -17,10 +20,11 @@ use message_events::Events;
 use pgn_ids::WirePgn;
 use port_table::{PortSet, PortTable};
 use responder::Flow;
-use session_table::{InPlace, Incoming, Key, OpenRefused, SessionTable};
+use session_table::{Incoming, Key, OpenRefused, SessionTable};
 use std::alloc::{AllocError, Global};
 use std::marker::Model;
-use tp_wire::Wire;
+use tp_wire::{Heard, Wire};
+use tx_queue::TxQueue;
 
 /// What a step of an incoming session leaves to do: the frame that is to be queued, if there is one, and what is told.
 #[derive(Drop)]
@@ -178,41 +182,8 @@ impl Receivers {
     /// the message, and whether there is room for the next window; without room a connection ends by an abort.
     ///
     /// All memory is taken first: want of it changes nothing.
-    pub fn receive(
-        &mut self,
-        ports: &PortTable,
-        key: Key,
-        wire: &Wire,
-        room: bool,
-        now: u64,
-    ) -> Result<Told, AllocError>
-        ensures ok { IfOk result (λ told. received ports.now key wire.now room now self.old ≡ record { sessions = self.new; frame = told.frame; events = told.events }) }
-        ensures err { OnErr result (self.new ≡ self.old) }
-    {
-        if self.go_on(key, wire, now) {
-            return Ok(quiet(self.alloc, None));
-        }
-        self.step(ports, key, wire, room, now)
-    }
-
-    // Takes a packet in the middle of a message where its session stands, and passes over a frame without a session: most
-    // frames of a bus are one or the other, and the state isn't moved for them. Any other frame changes nothing.
-    #[inline(always)]
-    fn go_on(&mut self, key: Key, wire: &Wire, now: u64) -> bool
-        ensures done { OnTrue result ((ports : Ports) (room : Bool) → received ports key wire.now room now self.old ≡ unheard self.new) }
-        ensures wanted { OnFalse result (self.new ≡ self.old) }
-    {
-        let InPlace::StepWanted = self.table.go_on(key, wire, now) else {
-            return true;
-        };
-        false
-    }
-
-    // Takes any frame by a step of the state, which it takes out of the table. It is kept out of `receive`, since a function
-    // pays at its entry for all its locals.
-    #[inline(never)]
     #[tactic(auto, using(crate::proofs::SessionMaps::session_maps))]
-    fn step(
+    pub fn receive(
         &mut self,
         ports: &PortTable,
         key: Key,
@@ -239,6 +210,58 @@ impl Receivers {
             now,
         )?;
         Ok(told)
+    }
+
+    /// Takes a frame of its source where the session of a key stands, at tick `now` (SAE J1939-21, TP.DT; ISO 11783-3, ETP.DT,
+    /// ETP.CM_DPO): a step that ends nothing. What it answers is queued behind the frames of a queue; without a session
+    /// nothing is done. Any other frame is left to `receive`, and changes nothing.
+    #[inline]
+    pub fn take_in_place(
+        &mut self,
+        ports: &PortTable,
+        key: Key,
+        heard: &Heard<'_>,
+        room: bool,
+        now: u64,
+        queue: &mut TxQueue,
+    ) -> bool
+        requires { length queue.old < queue_limit }
+        ensures quiet { OnTrue result (receives_quietly ports.now key (meant heard.now) room self.old ≡ true) }
+        ensures wanting { OnFalse result (receives_quietly ports.now key (meant heard.now) room self.old ≡ true → ReceivesLackingRoom ports.now key (meant heard.now) room self.old) }
+        ensures step { OnTrue result (LeavesQuietly (received ports.now key (meant heard.now) room now self.old) self.new queue.old queue.new) }
+        ensures other { OnFalse result (self.new ≡ self.old) }
+        ensures kept { OnFalse result (queue.new ≡ queue.old) }
+    {
+        // On hold no window is granted: whether a port is paused is asked only where one may be.
+        self.table
+            .take_in_place(key, heard, room, Flow::Held, now, queue)
+            || self.grant_in_place(ports, key, heard, room, now, queue)
+    }
+
+    // The same, asking whether a port of its set is paused, as the last packet of a window wants. It is kept out of line, since
+    // few frames come here.
+    #[inline(never)]
+    fn grant_in_place(
+        &mut self,
+        ports: &PortTable,
+        key: Key,
+        heard: &Heard<'_>,
+        room: bool,
+        now: u64,
+        queue: &mut TxQueue,
+    ) -> bool
+        requires { length queue.old < queue_limit }
+        ensures quiet { OnTrue result (receives_quietly ports.now key (meant heard.now) room self.old ≡ true) }
+        ensures wanting { OnFalse result (receives_quietly ports.now key (meant heard.now) room self.old ≡ true → ReceivesLackingRoom ports.now key (meant heard.now) room self.old) }
+        ensures step { OnTrue result (LeavesQuietly (received ports.now key (meant heard.now) room now self.old) self.new queue.old queue.new) }
+        ensures other { OnFalse result (self.new ≡ self.old) }
+        ensures kept { OnFalse result (queue.new ≡ queue.old) }
+    {
+        let flow = match self.table.get(key) {
+            Some((set, _)) => flow(ports, set),
+            None => return true,
+        };
+        self.table.take_in_place(key, heard, room, flow, now, queue)
     }
 
     /// The timer of the session of a key fires at tick `now`; without one nothing is done. A session on hold asks again or

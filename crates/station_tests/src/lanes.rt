@@ -5,7 +5,8 @@ use pgn_ids::{Address, Pgn, WirePgn};
 use std::alloc::Global;
 use std::process::Abort;
 use std::test::Fail;
-use tp_wire::{CmFrame, Outcome, Wire};
+use tp_wire::{CmFrame, Heard, Outcome, Wire};
+use tx_queue::TxQueue;
 
 const FROM: Address = Address(0x21);
 
@@ -114,9 +115,33 @@ fn queues_abort(lane: &Lane, number: u64) -> bool {
     lane.queues_abort(number)
 }
 
-fn pump(rt: &impl Abort, lane: &mut Lane, now: u64) -> LaneStep {
+// What a pump queues, and the message that it ends.
+fn pumped(
+    rt: &impl Abort,
+    alloc: Global,
+    lane: &mut Lane,
+    now: u64,
+) -> Result<(TxQueue, Option<Ended>), Fail> {
     assert!(rt; lane.pump_refusal(now).is_none());
-    lane.pump(now)
+    let mut queue = TxQueue::new(alloc)?;
+    let ended = lane.pump(now, &mut queue);
+    Ok((queue, ended))
+}
+
+// A pump queues just these frames; the message that it ends is handed out.
+fn pump(
+    rt: &impl Abort,
+    alloc: Global,
+    lane: &mut Lane,
+    now: u64,
+    frames: &[Frame],
+) -> Result<Option<Ended>, Fail> {
+    let (mut queue, ended) = pumped(rt, alloc, lane, now)?;
+    for frame in frames {
+        assert!(rt; queue.pop() == Some(*frame));
+    }
+    assert!(rt; queue.is_empty());
+    Ok(ended)
 }
 
 fn fire(rt: &impl Abort, lane: &mut Lane, now: u64) -> LaneStep {
@@ -128,6 +153,10 @@ fn hear(lane: &mut Lane, frame: CmFrame, now: u64) -> LaneStep {
     lane.hear(&Wire::Cm(frame), now)
 }
 
+fn take_in_place(lane: &mut Lane, frame: CmFrame, now: u64) -> bool {
+    lane.take_in_place(&Heard::Cm(frame), now)
+}
+
 fn cancel(rt: &impl Abort, lane: &mut Lane, number: u64) -> LaneStep {
     match lane.cancel(number) {
         Some(step) => step,
@@ -135,18 +164,13 @@ fn cancel(rt: &impl Abort, lane: &mut Lane, number: u64) -> LaneStep {
     }
 }
 
-// Whether a step queues just these frames.
-fn queues(step: &LaneStep, frames: &[Frame]) -> bool {
-    step.frames.frames() == frames
-}
-
-fn is_end(step: &LaneStep, number: u64, outcome: Outcome) -> bool {
-    step.ended == Some(Ended { number, outcome })
+fn is_end(ended: Option<Ended>, number: u64, outcome: Outcome) -> bool {
+    ended == Some(Ended { number, outcome })
 }
 
 // A step ends a message, and queues nothing.
 fn ends(rt: &impl Abort, step: LaneStep, number: u64, outcome: Outcome) {
-    assert!(rt; queues(&step, &[]) && is_end(&step, number, outcome));
+    assert!(rt; step.frame.is_none() && is_end(step.ended, number, outcome));
 }
 
 // A step ends a message, and queues its abort.
@@ -158,26 +182,33 @@ fn ends_by_abort(
     number: u64,
     outcome: Outcome,
 ) -> Result<(), Fail> {
-    assert!(rt; queues(&step, &[frame(id, &bytes)?]) && is_end(&step, number, outcome));
+    assert!(rt; step.frame == Some(frame(id, &bytes)?) && is_end(step.ended, number, outcome));
     Ok(())
 }
 
 // A pump only queues this frame.
-fn pumps(rt: &impl Abort, lane: &mut Lane, now: u64, id: u32, bytes: &[u8]) -> Result<(), Fail> {
-    let step = pump(rt, lane, now);
-    assert!(rt; queues(&step, &[frame(id, bytes)?]) && step.ended.is_none());
+fn pumps(
+    rt: &impl Abort,
+    alloc: Global,
+    lane: &mut Lane,
+    now: u64,
+    id: u32,
+    bytes: &[u8],
+) -> Result<(), Fail> {
+    let ended = pump(rt, alloc, lane, now, &[frame(id, bytes)?])?;
+    assert!(rt; ended.is_none());
     Ok(())
 }
 
 // What is due only queues this frame.
 fn fires(rt: &impl Abort, lane: &mut Lane, now: u64, id: u32, bytes: &[u8]) -> Result<(), Fail> {
     let step = fire(rt, lane, now);
-    assert!(rt; queues(&step, &[frame(id, bytes)?]) && step.ended.is_none());
+    assert!(rt; step.frame == Some(frame(id, bytes)?) && step.ended.is_none());
     Ok(())
 }
 
 fn is_still(step: LaneStep) -> bool {
-    step.frames.len() == 0 && step.ended.is_none()
+    step.frame.is_none() && step.ended.is_none()
 }
 
 #[test]
@@ -206,36 +237,38 @@ fn broadcast_waits_for_its_gaps(rt: HostRuntime) -> Result<(), Fail> {
     for number in 1..=3 {
         push(&rt, rt.alloc(), &mut lane, number)?;
     }
-    pumps(&rt, &mut lane, 0, 0x1CEC_FF21, &announcement)?;
+    pumps(&rt, rt.alloc(), &mut lane, 0, 0x1CEC_FF21, &announcement)?;
     assert!(rt; is_refused(&lane, 49, PumpRefused::NotYet));
     assert!(rt; misses(&lane, 0, 50) && misses(&lane, 49, 1) && misses(&lane, 50, 0));
-    pumps(&rt, &mut lane, 50, 0x1CEB_FF21, &FIRST)?;
+    pumps(&rt, rt.alloc(), &mut lane, 50, 0x1CEB_FF21, &FIRST)?;
     assert!(rt; is_still(overrun(&mut lane)));
     assert!(rt; is_refused(&lane, 99, PumpRefused::NotYet));
-    let step = pump(&rt, &mut lane, 100);
-    assert!(rt; queues(&step, &[frame(0x1CEB_FF21, &LAST)?]));
-    assert!(rt; is_end(&step, 1, Outcome::Broadcast));
+    let ended = pump(
+        &rt,
+        rt.alloc(),
+        &mut lane,
+        100,
+        &[frame(0x1CEB_FF21, &LAST)?],
+    )?;
+    assert!(rt; is_end(ended, 1, Outcome::Broadcast));
     assert!(rt; misses(&lane, 100, 0));
     // The lane to all settles at once, whatever the outcome.
-    pumps(&rt, &mut lane, 100, 0x1CEC_FF21, &announcement)?;
+    pumps(&rt, rt.alloc(), &mut lane, 100, 0x1CEC_FF21, &announcement)?;
     assert!(rt; !queues_abort(&lane, 2));
     ends(&rt, cancel(&rt, &mut lane, 2), 2, Outcome::Cancelled);
-    pumps(&rt, &mut lane, 101, 0x1CEC_FF21, &announcement)?;
+    pumps(&rt, rt.alloc(), &mut lane, 101, 0x1CEC_FF21, &announcement)?;
     Ok(())
 }
 
 // Takes a message that was begun to its last packet, from 21 to 35, and leaves the end acknowledgement to come.
-fn sends_packets(rt: &impl Abort, lane: &mut Lane, now: u64) -> Result<(), Fail> {
+fn sends_packets(rt: &impl Abort, alloc: Global, lane: &mut Lane, now: u64) -> Result<(), Fail> {
     assert!(rt; is_refused(lane, now, PumpRefused::NothingToSend));
-    assert!(rt; is_still(hear(lane, cts(2, 1)?, now)));
-    let step = pump(rt, lane, now);
-    assert!(rt;
-        queues(
-            &step,
-            &[frame(0x1CEB_3521, &FIRST)?, frame(0x1CEB_3521, &LAST)?]
-        )
-    );
-    assert!(rt; step.ended.is_none());
+    // An acknowledgement before its time is no CTS.
+    assert!(rt; !take_in_place(lane, end_acknowledgement()?, now));
+    assert!(rt; take_in_place(lane, cts(2, 1)?, now));
+    let packets = [frame(0x1CEB_3521, &FIRST)?, frame(0x1CEB_3521, &LAST)?];
+    let ended = pump(rt, alloc, lane, now, &packets)?;
+    assert!(rt; ended.is_none());
     Ok(())
 }
 
@@ -247,8 +280,8 @@ fn lane_settles_after_a_timeout(rt: HostRuntime) -> Result<(), Fail> {
     for number in 1..=3 {
         push(&rt, rt.alloc(), &mut lane, number)?;
     }
-    pumps(&rt, &mut lane, 0, CM_TO_35, &RTS)?;
-    sends_packets(&rt, &mut lane, 0)?;
+    pumps(&rt, rt.alloc(), &mut lane, 0, CM_TO_35, &RTS)?;
+    sends_packets(&rt, rt.alloc(), &mut lane, 0)?;
     assert!(rt; !is_due(&lane, 1249));
     ends_by_abort(
         &rt,
@@ -259,13 +292,20 @@ fn lane_settles_after_a_timeout(rt: HostRuntime) -> Result<(), Fail> {
         Outcome::TimedOut,
     )?;
     // The second message waits for the Acknowledgement; the late end of message acknowledgement is not of it.
-    pumps(&rt, &mut lane, 1250, REQUEST_TO_35, &[0, 0xEC, 0])?;
+    pumps(
+        &rt,
+        rt.alloc(),
+        &mut lane,
+        1250,
+        REQUEST_TO_35,
+        &[0, 0xEC, 0],
+    )?;
     assert!(rt; is_still(hear(&mut lane, end_acknowledgement()?, 1250)));
     assert!(rt; is_refused(&lane, 1250, PumpRefused::NothingToSend));
     fires(&rt, &mut lane, 2500, REQUEST_TO_35, &[0, 0xEC, 0])?;
     assert!(rt; is_still(overrun(&mut lane)));
     answer(&mut lane, cm_token);
-    pumps(&rt, &mut lane, 2500, CM_TO_35, &RTS)?;
+    pumps(&rt, rt.alloc(), &mut lane, 2500, CM_TO_35, &RTS)?;
     assert!(rt; queues_abort(&lane, 2) && !queues_abort(&lane, 3));
     ends_by_abort(
         &rt,
@@ -276,12 +316,19 @@ fn lane_settles_after_a_timeout(rt: HostRuntime) -> Result<(), Fail> {
         Outcome::Cancelled,
     )?;
     // The answer to the second Request of the first round comes in the second one.
-    pumps(&rt, &mut lane, 2500, REQUEST_TO_35, &[0, 0xEB, 0])?;
+    pumps(
+        &rt,
+        rt.alloc(),
+        &mut lane,
+        2500,
+        REQUEST_TO_35,
+        &[0, 0xEB, 0],
+    )?;
     answer(&mut lane, cm_token);
     assert!(rt; is_refused(&lane, 2500, PumpRefused::NothingToSend));
     answer(&mut lane, dt_token);
-    pumps(&rt, &mut lane, 2500, CM_TO_35, &RTS)?;
-    sends_packets(&rt, &mut lane, 2500)?;
+    pumps(&rt, rt.alloc(), &mut lane, 2500, CM_TO_35, &RTS)?;
+    sends_packets(&rt, rt.alloc(), &mut lane, 2500)?;
     ends(
         &rt,
         hear(&mut lane, end_acknowledgement()?, 2600),
@@ -290,7 +337,7 @@ fn lane_settles_after_a_timeout(rt: HostRuntime) -> Result<(), Fail> {
     );
     // It stays settled.
     push(&rt, rt.alloc(), &mut lane, 4)?;
-    pumps(&rt, &mut lane, 2600, CM_TO_35, &RTS)?;
+    pumps(&rt, rt.alloc(), &mut lane, 2600, CM_TO_35, &RTS)?;
     Ok(())
 }
 
@@ -299,7 +346,7 @@ fn silent_node_is_unreachable(rt: HostRuntime) -> Result<(), Fail> {
     let mut lane = lane_to(&rt, rt.alloc(), Address(0x80));
     push(&rt, rt.alloc(), &mut lane, 1)?;
     push(&rt, rt.alloc(), &mut lane, 2)?;
-    pumps(&rt, &mut lane, 0, CM_TO_80, &RTS)?;
+    pumps(&rt, rt.alloc(), &mut lane, 0, CM_TO_80, &RTS)?;
     ends_by_abort(
         &rt,
         fire(&rt, &mut lane, 1250),
@@ -308,7 +355,14 @@ fn silent_node_is_unreachable(rt: HostRuntime) -> Result<(), Fail> {
         1,
         Outcome::TimedOut,
     )?;
-    pumps(&rt, &mut lane, 1250, REQUEST_TO_80, &[0, 0xEC, 0])?;
+    pumps(
+        &rt,
+        rt.alloc(),
+        &mut lane,
+        1250,
+        REQUEST_TO_80,
+        &[0, 0xEC, 0],
+    )?;
     assert!(rt; !is_due(&lane, 2499));
     fires(&rt, &mut lane, 2500, REQUEST_TO_80, &[0, 0xEC, 0])?;
     fires(&rt, &mut lane, 3750, REQUEST_TO_80, &[0, 0xEC, 0])?;
@@ -316,13 +370,27 @@ fn silent_node_is_unreachable(rt: HostRuntime) -> Result<(), Fail> {
     assert!(rt; !is_due(&lane, u64::MAX) && lane.pending_len() == 0);
     // A round whose message was cancelled ends without an outcome, and the next one asks anew.
     push(&rt, rt.alloc(), &mut lane, 3)?;
-    pumps(&rt, &mut lane, 5000, REQUEST_TO_80, &[0, 0xEC, 0])?;
+    pumps(
+        &rt,
+        rt.alloc(),
+        &mut lane,
+        5000,
+        REQUEST_TO_80,
+        &[0, 0xEC, 0],
+    )?;
     ends(&rt, cancel(&rt, &mut lane, 3), 3, Outcome::Cancelled);
     fires(&rt, &mut lane, 6250, REQUEST_TO_80, &[0, 0xEC, 0])?;
     fires(&rt, &mut lane, 7500, REQUEST_TO_80, &[0, 0xEC, 0])?;
     assert!(rt; is_still(fire(&rt, &mut lane, 8750)));
     push(&rt, rt.alloc(), &mut lane, 4)?;
-    pumps(&rt, &mut lane, 8750, REQUEST_TO_80, &[0, 0xEC, 0])?;
+    pumps(
+        &rt,
+        rt.alloc(),
+        &mut lane,
+        8750,
+        REQUEST_TO_80,
+        &[0, 0xEC, 0],
+    )?;
     Ok(())
 }
 
@@ -332,10 +400,10 @@ fn packets_are_sent_again_twice(rt: HostRuntime) -> Result<(), Fail> {
     let mut lane = lane_to(&rt, rt.alloc(), Address(0x80));
     push(&rt, rt.alloc(), &mut lane, 1)?;
     push(&rt, rt.alloc(), &mut lane, 2)?;
-    pumps(&rt, &mut lane, 0, CM_TO_80, &RTS)?;
+    pumps(&rt, rt.alloc(), &mut lane, 0, CM_TO_80, &RTS)?;
     for _ in 0..3 {
         assert!(rt; is_still(hear(&mut lane, cts(2, 1)?, 0)));
-        assert!(rt; queues(&pump(&rt, &mut lane, 0), &packets));
+        assert!(rt; pump(&rt, rt.alloc(), &mut lane, 0, &packets)?.is_none());
     }
     ends_by_abort(
         &rt,
@@ -345,11 +413,11 @@ fn packets_are_sent_again_twice(rt: HostRuntime) -> Result<(), Fail> {
         1,
         Outcome::Aborted(5),
     )?;
-    pumps(&rt, &mut lane, 0, REQUEST_TO_80, &[0, 0xEC, 0])?;
+    pumps(&rt, rt.alloc(), &mut lane, 0, REQUEST_TO_80, &[0, 0xEC, 0])?;
 
     let mut lane = lane_to(&rt, rt.alloc(), Address(0x80));
     push(&rt, rt.alloc(), &mut lane, 1)?;
-    pumps(&rt, &mut lane, 0, CM_TO_80, &RTS)?;
+    pumps(&rt, rt.alloc(), &mut lane, 0, CM_TO_80, &RTS)?;
     ends_by_abort(
         &rt,
         hear(&mut lane, cts(1, 2)?, 0),
@@ -373,13 +441,20 @@ fn push_long(rt: &impl Abort, alloc: Global, lane: &mut Lane) -> Result<(), Fail
     Ok(())
 }
 
+// A pump queues a data packet offset, and seven packets behind it.
+fn begins_window(rt: &impl Abort, alloc: Global, lane: &mut Lane, dpo: Frame) -> Result<(), Fail> {
+    let (queue, ended) = pumped(rt, alloc, lane, 0)?;
+    assert!(rt; queue.len() == 8 && queue.front() == Some(dpo) && ended.is_none());
+    Ok(())
+}
+
 #[test]
 fn abort_and_overrun_leave_doubt(rt: HostRuntime) -> Result<(), Fail> {
     let other = WirePgn::new(0xFECB)?;
     let mut lane = lane_to(&rt, rt.alloc(), Address(0x35));
     assert!(rt; lane.from() == FROM && lane.to() == Address(0x35));
     push(&rt, rt.alloc(), &mut lane, 1)?;
-    pumps(&rt, &mut lane, 0, CM_TO_35, &RTS)?;
+    pumps(&rt, rt.alloc(), &mut lane, 0, CM_TO_35, &RTS)?;
     for frame in [
         CmFrame::Abort {
             reason: 2,
@@ -402,18 +477,17 @@ fn abort_and_overrun_leave_doubt(rt: HostRuntime) -> Result<(), Fail> {
     push_long(&rt, rt.alloc(), &mut lane)?;
     push(&rt, rt.alloc(), &mut lane, 2)?;
     let request = [0x14, 0xFA, 6, 0, 0, 0xCA, 0xFE, 0];
-    pumps(&rt, &mut lane, 0, 0x1CC8_3521, &request)?;
+    pumps(&rt, rt.alloc(), &mut lane, 0, 0x1CC8_3521, &request)?;
     let cts = CmFrame::EtpCts {
         granted: 64,
         next: 1,
         pgn: pgn()?,
     };
     assert!(rt; is_still(hear(&mut lane, cts, 0)));
-    let step = pump(&rt, &mut lane, 0);
     let dpo = frame(0x1CC8_3521, &[0x16, 0x40, 0, 0, 0, 0xCA, 0xFE, 0])?;
-    assert!(rt; step.frames.len() == 8 && step.frames.frames().first() == Some(&dpo));
+    begins_window(&rt, rt.alloc(), &mut lane, dpo)?;
     ends(&rt, overrun(&mut lane), 1, Outcome::Overrun);
-    pumps(&rt, &mut lane, 0, REQUEST_TO_35, &[0, 0xEC, 0])?;
+    pumps(&rt, rt.alloc(), &mut lane, 0, REQUEST_TO_35, &[0, 0xEC, 0])?;
     let copy = m9(rt.alloc())?.copy(rt.alloc())?;
     assert!(rt; copy.as_slice() == M9.as_slice() && copy.len() == 9);
     Ok(())

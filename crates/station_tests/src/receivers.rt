@@ -10,7 +10,8 @@ use station_sessions::*;
 use std::alloc::{AllocError, Global};
 use std::process::Abort;
 use std::test::Fail;
-use tp_wire::{Kind, Wire};
+use tp_wire::{Heard, Kind, Wire};
+use tx_queue::TxQueue;
 
 const FECA: u32 = 0xFECA;
 
@@ -73,6 +74,16 @@ fn given(alloc: Global, events: Events) -> Result<Vec<u64>, AllocError> {
 // Calls of which a test only looks at the answer: their contracts are not carried through it.
 fn receive(sessions: &mut Receivers, ports: &PortTable, wire: &Wire) -> Result<Told, AllocError> {
     sessions.receive(ports, KEY, wire, true, 0)
+}
+
+fn is_taken_in_place(
+    alloc: Global,
+    sessions: &mut Receivers,
+    ports: &PortTable,
+    heard: &Heard<'_>,
+) -> Result<bool, AllocError> {
+    let mut queue = TxQueue::new(alloc)?;
+    Ok(sessions.take_in_place(ports, KEY, heard, true, 0, &mut queue))
 }
 
 fn wants(sessions: &Receivers, wire: &Wire) -> (PortSet, u32) {
@@ -203,6 +214,35 @@ fn end_by_silence(
     is_due_as(rt, sessions, 750, Some(KEY))?;
     assert!(rt; fire(sessions, ports, 750)?.frame.is_none());
     is_due_as(rt, sessions, 750, None)
+}
+
+// The first packet is taken in place, the last one is left: with it the message is given.
+fn end_by_the_last_packet(
+    rt: &impl Abort,
+    alloc: Global,
+    sessions: &mut Receivers,
+    ports: &PortTable,
+) -> Result<(), Fail> {
+    let first = Heard::Packet {
+        kind: Kind::Tp,
+        sequence: 1,
+        bytes: &[1, 2, 3, 4, 5, 6, 7],
+    };
+    let last = Heard::Packet {
+        kind: Kind::Tp,
+        sequence: 2,
+        bytes: &[8, 9, 255, 255, 255, 255, 255],
+    };
+    assert!(rt; is_taken_in_place(alloc, sessions, ports, &first)?);
+    assert!(rt; !is_taken_in_place(alloc, sessions, ports, &last)?);
+    gives(rt, alloc, sessions, ports, &LAST, &[1, 2])
+}
+
+#[test]
+fn packets_are_taken_in_place(rt: HostRuntime) -> Result<(), Fail> {
+    let ports = two_ports(rt.alloc())?;
+    let mut sessions = announce(&rt, rt.alloc(), &ports)?;
+    end_by_the_last_packet(&rt, rt.alloc(), &mut sessions, &ports)
 }
 
 #[test]

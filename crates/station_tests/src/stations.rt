@@ -259,11 +259,27 @@ fn gives(
     Ok(())
 }
 
+// Whether a frame is taken in place.
+fn is_taken_in_place(
+    rt: &impl Abort,
+    station: &mut Station,
+    id: u32,
+    bytes: &[u8; 8],
+) -> Result<bool, Fail> {
+    let frame = Frame::full(CanId::new(id)?, *bytes);
+    match station.take_refusal() {
+        None => Ok(station.take_in_place(&frame, true, 0)),
+        Some(_) => panic!(rt; "a queue with free places refuses a frame"),
+    }
+}
+
 /// What comes to station 35, or is done there, and what is to be seen of it: frames by identifier and bytes, a port by its number.
 #[derive(Clone, Copy)]
 enum Turn {
     Answers(u32, [u8; 8], (u32, [u8; 8])),
     IsSilent(u32, [u8; 8]),
+    IsTakenInPlace(u32, [u8; 8]),
+    IsLeftInPlace(u32, [u8; 8]),
     Wants(u32, [u8; 8], (u64, usize)),
     Gives(u32, [u8; 8], (u64, usize)),
     TakesMalformed(u32, [u8; 8]),
@@ -281,6 +297,12 @@ fn play(rt: &impl Abort, alloc: Global, station: &mut Station, turn: &Turn) -> R
     match turn {
         Turn::Answers(id, bytes, expected) => answers(rt, station, *id, bytes, expected),
         Turn::IsSilent(id, bytes) => is_silent(rt, station, *id, bytes),
+        Turn::IsTakenInPlace(id, bytes) => {
+            is_as_said(rt, is_taken_in_place(rt, station, *id, bytes)?)
+        }
+        Turn::IsLeftInPlace(id, bytes) => {
+            is_as_said(rt, !is_taken_in_place(rt, station, *id, bytes)?)
+        }
         Turn::Wants(id, bytes, given) => wants(rt, station, *id, bytes, *given),
         Turn::Gives(id, bytes, given) => gives(rt, alloc, station, *id, bytes, *given),
         Turn::TakesMalformed(id, bytes) => is_malformed(rt, station, *id, bytes),
@@ -314,8 +336,10 @@ fn a_message_is_given(rt: HostRuntime) -> Result<(), Fail> {
     let last = [2, 8, 9, 0xFF, 0xFF, 0xFF, 0xFF, 0xFF];
     let end = [0x13, 0x09, 0x00, 0x02, 0xFF, 0xCA, 0xFE, 0x00];
     let turns = [
+        Turn::IsLeftInPlace(RTS_OF_80, RTS),
         IS_TAKEN,
-        Turn::IsSilent(PACKET_OF_80, [1, 1, 2, 3, 4, 5, 6, 7]),
+        Turn::IsTakenInPlace(PACKET_OF_80, [1, 1, 2, 3, 4, 5, 6, 7]),
+        Turn::IsLeftInPlace(PACKET_OF_80, last),
         Turn::Wants(PACKET_OF_80, last, (1, 9)),
         Turn::Gives(PACKET_OF_80, last, (1, 9)),
         Turn::Pops((0x1CEC_8035, end)),

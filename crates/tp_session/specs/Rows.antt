@@ -1,6 +1,6 @@
 -- The receiver of TP (SAE J1939-21, connection mode data transfer): its states, and the rows of a packet, of which the first that
 -- fits holds.
-use Rattle.std.specs.Prelude.{ℕ, ◌≡◌, ◌≤◌, Bool, ◌&&◌, not, nat_lt, if◌then◌else◌, List, Some, None, ⊤}
+use Rattle.std.specs.Prelude.{ℕ, ◌≡◌, ◌≤◌, Bool, ◌&&◌, not, nat_lt, if◌then◌else◌, List, None, ⊤}
 use Rattle.tp_wire.specs.declared.reason.AbortReason.TheVariants.{Resources, Other}
 use Rattle.tp_wire.specs.declared.wire.Kind.TheVariants.{Tp}
 use Rattle.tp_wire.specs.declared.wire.Wire.{Wire}
@@ -8,7 +8,7 @@ use Rattle.tp_wire.specs.declared.wire.Wire.TheVariants.{Packet}
 use Rattle.seg_cut.specs.Join.{wants_last}
 use Rattle.seg_cut.specs.Packets.{packet_count}
 use Rattle.responder.specs.Unfinished.{Unfinished, with_packet, finished}
-use Rattle.responder.specs.States.{AwaitPacket, Holding}
+use Rattle.responder.specs.States.{AwaitPacket}
 use Rattle.responder.specs.Asking.{asks}
 use Rattle.responder.specs.PacketRows.{aborted, accepted}
 use Rattle.responder.specs.Holding.{on_packet_in_hold}

@@ -11,5 +11,5 @@ mod opening;
 
 pub use laws::rows_are_those_of_tp;
 pub use opening::{accept, begin};
-pub use originator::{AwaitCts, AwaitEnd, Burst, OutOver, OutState, Sending, Stepped};
+pub use originator::{AwaitCts, AwaitEnd, OutOver, OutState, Sending, Stepped};
 pub use responder::{AwaitPacket, Finished, Flow, Holding, InState, Peer, Received};

@@ -6,3 +6,4 @@ pub mod Reading
 pub mod Sizes
 pub mod Aborts
 pub mod Kinds
+pub mod Heard

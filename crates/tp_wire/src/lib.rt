@@ -3,6 +3,7 @@
 #![tactic(auto)]
 
 pub mod constants;
+mod heard;
 mod laws;
 mod outcome;
 mod reader;
@@ -10,6 +11,7 @@ mod reason;
 mod wire;
 mod writer;
 
+pub use heard::{Heard, read_in_place};
 pub use laws::{
     frames_have_one_meaning, malformed_frames_have_no_meaning, meanings_are_of_transport_frames,
     what_is_written_is_read, written_frames_have_their_meaning,

@@ -1,7 +1,7 @@
 //! The transmit queue of a station: the frames that it has still to put on the bus, first in, first out.
 #![tactic(auto)]
 
-ghost use Rattle.std.specs.Prelude.{◌≡◌, ◌≤◌, ◌↔◌, [], length, IfOk, IsErr, IsTrue, OnErr, OnOk};
+ghost use Rattle.std.specs.Prelude.{◌≡◌, ◌<◌, ◌≤◌, ◌↔◌, [], length, IfOk, IsErr, IsTrue, OnErr, OnOk};
 ghost use Rattle.tx_queue.specs.Queue.{queue_limit, free_places, front, behind, queued};
 
 use bus_frame::Frame;
@@ -56,8 +56,17 @@ impl TxQueue {
         if self.frames.len() == QUEUE_LIMIT {
             return Err(TxFull);
         }
-        self.frames.push_back_reserved(frame);
+        self.push_free(frame);
         Ok(())
+    }
+
+    /// Puts a frame behind all others, where there is a free place.
+    #[inline]
+    pub fn push_free(&mut self, frame: Frame)
+        requires { length self.old < queue_limit }
+        ensures { self.new ≡ queued self.old frame }
+    {
+        self.frames.push_back_reserved(frame);
     }
 
     /// Takes the frame that came in first, or gives None where there is none.

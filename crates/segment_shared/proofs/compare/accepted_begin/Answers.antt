@@ -1,8 +1,7 @@
-use Rattle.std.proofs.Common.{◌≡◌, ◌+◌, ◌++◌, ◌<◌, ◌≤◌, length, take, drop, true, false, sym, ap, ◌∙◌, subst, refl, arith, List}
+use Rattle.std.proofs.Common.{◌≡◌, ◌+◌, ◌++◌, ◌<◌, length, take, drop, true, false, sym, ap, ◌∙◌, subst, refl, arith, List}
 use Rattle.std.proofs.lemmas.List.{take_all, take-append-drop}
 use mathlib.Core.List.{IsPrefix}
 use Rattle.segment_rings.specs.declared.words.Submission.{Submission}
-use Rattle.segment_shared.specs.declared.call.Stored.{Stored}
 use Rattle.segment_shared.specs.Record.{accepted, sent_in, is_by}
 use Rattle.segment_shared.proofs.Prefixes.{accepted_more, accepted_prefix}
 use Rattle.segment_shared.proofs.compare.accepted_begin.Goals as goal

@@ -1,4 +1,4 @@
-use Rattle.std.proofs.Common.{◌≡◌, refl, sym, ap, ◌∙◌, subst, Some, None}
+use Rattle.std.proofs.Common.{◌≡◌, refl, sym, ap, ◌∙◌, subst, Some}
 use Rattle.station_core.specs.Timers.{fired}
 use Rattle.station_core.specs.Refusals.{IsAnswered, firing_refusal}
 use Rattle.segment_law.specs.Calls.{stepped}

@@ -1,4 +1,4 @@
-use Rattle.std.proofs.Common.{length, refl, ap, ◌∙◌}
+use Rattle.std.proofs.Common.{refl, ap, ◌∙◌}
 use Rattle.segment_law.specs.declared.reply.Reply.TheVariants.{Sent}
 use Rattle.segment_core.proofs.Refusals.{sends_by, goes_on, stops}
 use Rattle.segment_core.proofs.Kept.{at_here, stepped_view, unchanged_view}

@@ -8,7 +8,7 @@ use Rattle.session_table.proofs.table.SessionTable.get.Goals as goal
 pub returns-in_err-find : goal.returns-in_err-find
 returns-in_err-find g c =
     let leads = sym c.find.ensures ∙ c.in_err-find.was in
-    let e : map.get c.args.self.now c.args.key ≡ None = sym (ap (λ m. map.get m c.args.key) c.self.view_is) ∙ absent_of_key _ _ c.args.key c.self.invariant leads in
+    let e : map.get c.args.self.now c.args.key ≡ None = sym (ap (λ m. map.get m c.args.key) c.self.view_is) ∙ absent_of_key _ _ c.args.key c.self.invariant.linked leads in
     rw (e, c.from_residual.ensures) refl
 
 pub returns : goal.returns

@@ -1,5 +1,4 @@
-use Rattle.std.proofs.Common.{◌≡◌, ◌+◌, None, sym, ap, ◌∙◌, subst, arith}
-use Rattle.std.specs.Prelude.{is_none}
+use Rattle.std.proofs.Common.{◌≡◌, ◌+◌, None, sym, ◌∙◌, subst, arith}
 use Rattle.station_lanes.specs.LaneReaders.{least_below, is_due_at}
 use Rattle.station_lanes.proofs.Counting.{none_below, least_is}
 use Rattle.station_lanes.proofs.Resting.{none_due}

@@ -1,4 +1,4 @@
-use Rattle.std.proofs.Common.{◌≡◌, ◌≤◌}
+use Rattle.std.proofs.Common.{◌≤◌}
 use Rattle.std.specs.Prelude.{is_some}
 use Rattle.tick_timers.specs.Due.{IsDueFrom}
 use Rattle.station_lanes.specs.LaneReaders.{least_below, is_due_at}

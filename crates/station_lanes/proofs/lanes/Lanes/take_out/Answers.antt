@@ -3,9 +3,7 @@ use Rattle.std.specs.FinMap as map
 use Rattle.std.proofs.Math.ListN.{set}
 use Rattle.std.proofs.lemmas.List.{length-set}
 use Rattle.lane_core.specs.Lane.{Lane}
-use Rattle.lane_core.specs.Pump.{is_ready}
-use Rattle.lane_core.specs.Fire.{is_timed}
-use Rattle.station_lanes.specs.LaneSlots.{slot_at, AreSlots}
+use Rattle.station_lanes.specs.LaneSlots.{slot_at}
 use Rattle.station_lanes.proofs.SlotLaws.{get_lanes, left_is}
 use Rattle.station_lanes.proofs.Marked.{still_there}
 use Rattle.station_lanes.proofs.lanes.Lanes.take_out.Goals as goal

@@ -1,6 +1,6 @@
-use Rattle.std.proofs.Common.{◌∙◌, ap, sym, subst}
-use Rattle.station_sessions.specs.Receiving.{NoneHeld, fired_at}
-use Rattle.station_sessions.proofs.Settling.{fired_is, fired_none_held}
+use Rattle.std.proofs.Common.{◌∙◌, ap, sym}
+use Rattle.station_sessions.specs.Receiving.{fired_at}
+use Rattle.station_sessions.proofs.Settling.{fired_is}
 use Rattle.station_sessions.proofs.receivers.Receivers.fire.Goals as goal
 
 pub returns-clause-ok : goal.returns-clause-ok

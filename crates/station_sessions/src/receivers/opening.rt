@@ -1,0 +1,256 @@
+//! Sessions that open (SAE J1939-21, TP.CM_RTS, TP.CM_BAM; ISO 11783-3, ETP.CM_RTS).
+ghost use Rattle.std.specs.Prelude.{◌≡◌, ◌≤◌, ◌<◌, true, None, IfOk, IsOk, OnErr};
+ghost use Rattle.pgn_ids.specs.Address.{is_one};
+ghost use Rattle.session_table.specs.declared.TheConstants.{MAX_SESSIONS};
+ghost use Rattle.station_sessions.specs.Receiving.{goes_on_at, ended_at};
+ghost use Rattle.station_sessions.specs.Opening.{is_tp_size as is_tp_size_of, is_etp_size as is_etp_size_of, refusal as refusal_of, whole_join as whole_join_of, others_than, rts_received, bam_received, opening_received};
+ghost use Rattle.seg_cut.specs.Join.{held};
+ghost use Rattle.seg_cut.specs.Packets.{packet_count};
+ghost use Rattle.responder.specs.Room.{first_join as first_join_of};
+ghost use Rattle.responder.specs.declared.flow.Flow.TheVariants.{Open, Held};
+ghost use Rattle.tp_wire.specs.declared.constants.TheConstants.{ETP_MAX_WINDOW};
+ghost use Rattle.tp_wire.specs.Sizes.{IsSizeOf};
+ghost use Rattle.tp_wire.specs.declared.wire.Kind.TheVariants.{Tp, Etp};
+
+use super::{Receivers, Told, flow};
+use crate::steps::quiet;
+use bam_session::BamIn;
+use bus_frame::Frame;
+use pgn_ids::{Address, WirePgn};
+use port_table::{PortSet, PortTable};
+use responder::{Flow, Peer, begin, most_packets};
+use seg_cut::{Join, packets};
+use session_table::{Incoming, Key, MAX_SESSIONS, SessionKind};
+use std::alloc::{AllocError, Global};
+use tp_wire::constants::{ETP_MAX_SIZE, ETP_MAX_WINDOW, MIN_SIZE, TP_MAX_SIZE};
+use tp_wire::{AbortReason, CmFrame, Kind};
+
+// Whether TP carries messages of this size, and they have so many packets.
+fn is_tp_size(size: u16, packet_count: u8) -> bool
+    ensures value { result ≡ is_tp_size_of size packet_count }
+    ensures range { result ≡ true → IsSizeOf Tp size }
+{
+    let size = u32::from(size);
+    size >= MIN_SIZE && size <= TP_MAX_SIZE && u32::from(packet_count) == packets(size)
+}
+
+// Whether ETP carries messages of this size.
+fn is_etp_size(size: u32) -> bool
+    ensures value { result ≡ is_etp_size_of size }
+    ensures range { result ≡ true → IsSizeOf Etp size }
+{
+    size > TP_MAX_SIZE && size <= ETP_MAX_SIZE
+}
+
+// Why a session for a set doesn't open beside so many others: the first that holds.
+fn refusal(is_size: bool, room: bool, set: &PortSet, others: usize) -> Option<AbortReason>
+    ensures value { result ≡ refusal_of is_size room set.now others }
+    ensures size { result ≡ None → is_size ≡ true }
+    ensures few { result ≡ None → others < MAX_SESSIONS }
+{
+    if !is_size {
+        return Some(AbortReason::Other);
+    }
+    if set.is_empty() {
+        return Some(AbortReason::Resources);
+    }
+    if others >= MAX_SESSIONS {
+        return Some(AbortReason::NoFurtherSession);
+    }
+    if !room {
+        return Some(AbortReason::Resources);
+    }
+    None
+}
+
+// Room for a whole message.
+fn whole_join(alloc: Global, size: u32) -> Result<Join, AllocError>
+    ensures { IfOk result (λ join. join ≡ whole_join_of size) }
+{
+    let mut join = Join::new(alloc, size);
+    join.make_room(packets(size))?;
+    Ok(join)
+}
+
+// Room for the packets of a connection as it begins: in TP for all, in ETP for the first window, and on hold for none, which takes
+// no memory.
+fn first_join(alloc: Global, kind: Kind, size: u32, flow: Flow) -> Result<Join, AllocError>
+    ensures join { IfOk result (λ join. join ≡ first_join_of kind size flow) }
+    ensures whole { IfOk result (λ join. kind ≡ Tp → packet_count size ≤ join.room) }
+    ensures first_window { IfOk result (λ join. kind ≡ Etp → flow ≡ Open → ETP_MAX_WINDOW ≤ join.room) }
+    ensures within_window { IfOk result (λ join. kind ≡ Etp → join.room ≤ ETP_MAX_WINDOW) }
+    ensures memory { IfOk result (λ join. kind ≡ Etp → flow ≡ Held → held join ≡ 0) }
+    ensures on_hold { kind ≡ Etp → flow ≡ Held → IsOk result }
+{
+    match (kind, flow) {
+        (Kind::Tp, _) => whole_join(alloc, size),
+        (Kind::Etp, Flow::Open) => {
+            let mut join = Join::new(alloc, size);
+            join.make_room(u32::from(ETP_MAX_WINDOW))?;
+            Ok(join)
+        }
+        (Kind::Etp, Flow::Held) => Ok(Join::new(alloc, size)),
+    }
+}
+
+impl Receivers {
+    /// Opens a session for a set, where there are less than 32 others, with a frame to be queued. An error changes nothing.
+    fn open_session(
+        &mut self,
+        key: Key,
+        set: PortSet,
+        state: Incoming,
+        frame: Option<Frame>,
+    ) -> Result<Told, AllocError>
+        requires few { others_than self.old key < MAX_SESSIONS }
+        ensures ok { IfOk result (λ told. goes_on_at key set self.old state frame ≡ record { sessions = self.new; frame = told.frame; events = told.events }) }
+        ensures err { OnErr result (self.new ≡ self.old) }
+    {
+        self.put(key, set, state)?;
+        Ok(quiet(self.alloc, frame))
+    }
+
+    /// Ends the session of a key, with a frame to be queued.
+    fn refuse_session(&mut self, key: Key, frame: Option<Frame>) -> Told
+        ensures { ended_at key self.old frame ≡ record { sessions = self.new; frame = result.frame; events = result.events } }
+    {
+        self.end(key);
+        quiet(self.alloc, frame)
+    }
+
+    /// Takes an RTS of a kind, of which a CTS may grant `most` packets: its session opens with a CTS or a hold, or it is answered
+    /// by an abort.
+    fn take_rts(
+        &mut self,
+        own: Address,
+        ports: &PortTable,
+        kind: Kind,
+        is_size: bool,
+        from: Address,
+        size: u32,
+        most: u8,
+        pgn: WirePgn,
+        room: bool,
+        now: u64,
+    ) -> Result<Told, AllocError>
+        requires own { is_one own.0 ≡ true }
+        requires source { is_one from.0 ≡ true }
+        requires size { is_size ≡ true → IsSizeOf kind size }
+        requires some { 0 < most }
+        requires narrow { most ≤ ETP_MAX_WINDOW }
+        ensures ok { IfOk result (λ told. rts_received own ports.now kind is_size from size most pgn room now self.old ≡ record { sessions = self.new; frame = told.frame; events = told.events }) }
+        ensures err { OnErr result (self.new ≡ self.old) }
+    {
+        let key = Key {
+            source: from,
+            kind: SessionKind::of(kind),
+        };
+        let set = ports.find(pgn.clean(), size);
+        let peer = Peer::new(from, own, pgn);
+        let others = self.others(key);
+        match refusal(is_size, room, &set, others) {
+            Some(reason) => Ok(self.refuse_session(key, Some(peer.abort(kind, reason)))),
+            None => {
+                let flow = flow(ports, &set);
+                let join = first_join(self.alloc, kind, size, flow)?;
+                let (state, frame) = begin(kind, peer, most, join, flow, now);
+                self.open_session(key, set, Incoming::Connection(state), Some(frame))
+            }
+        }
+    }
+
+    /// Takes a BAM: its session opens or not, without a frame.
+    fn take_bam(
+        &mut self,
+        ports: &PortTable,
+        from: Address,
+        size: u16,
+        packet_count: u8,
+        pgn: WirePgn,
+        room: bool,
+        now: u64,
+    ) -> Result<Told, AllocError>
+        ensures ok { IfOk result (λ told. bam_received ports.now from size packet_count pgn room now self.old ≡ record { sessions = self.new; frame = told.frame; events = told.events }) }
+        ensures err { OnErr result (self.new ≡ self.old) }
+    {
+        let key = Key {
+            source: from,
+            kind: SessionKind::Broadcast,
+        };
+        let set = ports.find(pgn.clean(), u32::from(size));
+        let others = self.others(key);
+        match refusal(is_tp_size(size, packet_count), room, &set, others) {
+            Some(_) => Ok(self.refuse_session(key, None)),
+            None => {
+                let join = whole_join(self.alloc, u32::from(size))?;
+                let state = BamIn::begin(from, pgn, join, now);
+                self.open_session(key, set, Incoming::Broadcast(state), None)
+            }
+        }
+    }
+
+    /// A frame that opens a session is taken by the station of address `own` at tick `now`: an RTS or a BAM of another node.
+    /// Any other is passed over. The new session takes the place of an older one of its kind from the same source, which ends
+    /// without an abort, also where the new one is refused. It opens for the ports that receive its message; a connection is
+    /// answered by a CTS, a hold or an abort. `room` says whether there is room for it.
+    ///
+    /// Want of memory changes nothing.
+    pub fn open(
+        &mut self,
+        own: Address,
+        ports: &PortTable,
+        frame: &CmFrame,
+        from: Address,
+        room: bool,
+        now: u64,
+    ) -> Result<Told, AllocError>
+        requires own { is_one own.0 ≡ true }
+        requires source { is_one from.0 ≡ true }
+        ensures ok { IfOk result (λ told. opening_received own ports.now frame.now from room now self.old ≡ record { sessions = self.new; frame = told.frame; events = told.events }) }
+        ensures err { OnErr result (self.new ≡ self.old) }
+    {
+        match frame {
+            CmFrame::Rts {
+                size,
+                packets,
+                most,
+                pgn,
+            } => {
+                let is_size = is_tp_size(*size, *packets);
+                let most = most_packets(Kind::Tp, *most);
+                let size = u32::from(*size);
+                self.take_rts(
+                    own,
+                    ports,
+                    Kind::Tp,
+                    is_size,
+                    from,
+                    size,
+                    most,
+                    *pgn,
+                    room,
+                    now,
+                )
+            }
+            CmFrame::Bam { size, packets, pgn } => {
+                self.take_bam(ports, from, *size, *packets, *pgn, room, now)
+            }
+            CmFrame::EtpRts { size, pgn } => {
+                let is_size = is_etp_size(*size);
+                self.take_rts(
+                    own,
+                    ports,
+                    Kind::Etp,
+                    is_size,
+                    from,
+                    *size,
+                    ETP_MAX_WINDOW,
+                    *pgn,
+                    room,
+                    now,
+                )
+            }
+            _ => Ok(quiet(self.alloc, None)),
+        }
+    }
+}
