@@ -1,16 +1,22 @@
 //! The command line of the program, read by `clap`.
 #![tactic(auto)]
 
+mod decode;
+
 use clap::{Arg, ArgAction, Command, Error, value_parser};
-use std::alloc::Global;
+pub use decode::OfLog;
+use decode::{decode_command, read_decode};
+use std::alloc::{AllocError, Global};
 
 /// What a command line asks for.
-#[derive(Clone, Copy, Debug, PartialEq, Eq)]
+#[derive(Debug, PartialEq, Eq, Drop)]
 pub enum Asked {
     /// The script of standard input is run line by line.
     Script,
     /// It is run by threads, each worker with at most so many turns.
     Live { turns: u64 },
+    /// The messages of the log of standard input are printed.
+    Decode(OfLog),
 }
 
 /// The turns of a worker where the command line names none.
@@ -32,7 +38,7 @@ Status:
   2  the command line is refused, or asks for help
   3  the turns of live ran out
 
-docs/SCRIPTS.md describes the language.";
+docs/SCRIPTS.md describes the language, docs/LOGS.md what decode reads.";
 
 /// The same at the end of the help of `live`.
 const LIVE_HELP: &str =
@@ -56,28 +62,35 @@ Status:
 
 docs/SCRIPTS.md describes the language, and this in its last part.";
 
-/// Reads the words of a command line, of which the first names the program. What it doesn't take is refused, and so is help, whose
-/// text is the error.
-pub fn read_command_line(alloc: Global, words: &[String]) -> Result<Asked, Error> {
+fn live_command<'a>(alloc: Global) -> Result<Command<'a>, AllocError> {
     let turns = Arg::new(alloc, "turns")
         .long("turns")
         .action(ArgAction::Set)
         .value_parser(value_parser!(u64).range(1..=1_000_000_000))
         .help("Most turns of a worker, 1 to 1000000000 [default: 1000000]");
-    let live = Command::new(alloc, "live")
+    Command::new(alloc, "live")
         .about("Runs the script of standard input by threads, and prints what came of it")
         .after_help(LIVE_HELP)
-        .arg(turns)?;
-    let matches = Command::new(alloc, "j1939bus")
+        .arg(turns)
+}
+
+/// Reads the words of a command line, of which the first names the program. What it doesn't take is refused, and so is help, whose
+/// text is the error.
+pub fn read_command_line(alloc: Global, words: &[String]) -> Result<Asked, Error> {
+    let mut command = Command::new(alloc, "j1939bus")
         .version("0.1.0")
         .about("Runs the script of standard input, and prints the reply to each line")
         .after_help(PROGRAM_HELP)
-        .subcommand(live)?
-        .try_get_matches_from(words)?;
-    let Some(live) = matches.subcommand_matches("live") else {
-        return Ok(Asked::Script);
-    };
-    Ok(Asked::Live {
-        turns: live.get_one::<u64>("turns").unwrap_or(TURNS),
-    })
+        .subcommand(live_command(alloc)?)?
+        .subcommand(decode_command(alloc)?)?;
+    let matches = command.try_get_matches_from_mut(words)?;
+    if let Some(live) = matches.subcommand_matches("live") {
+        return Ok(Asked::Live {
+            turns: live.get_one::<u64>("turns").unwrap_or(TURNS),
+        });
+    }
+    match matches.subcommand_matches("decode") {
+        Some(decode) => Ok(Asked::Decode(read_decode(alloc, &mut command, decode)?)),
+        None => Ok(Asked::Script),
+    }
 }

@@ -1,14 +1,16 @@
 //! `j1939bus` reads a script on standard input and prints the replies to its lines; `j1939bus live` runs it by threads and prints
-//! what came of it (SAE J1939-21, ISO 11783-3).
+//! what came of it; `j1939bus decode` reads the log of a bus and prints its messages (SAE J1939-21, ISO 11783-3).
 //!
-//! It ends with status 0 where the script ran to its end, refused calls included, with 1 at a script, read or write fault,
-//! which standard error tells, with 2 where the command line is refused or asks for help, and with 3 where the turns of the
-//! threads ran out.
+//! It ends with status 0 where the script or log was read to its end, refused calls included, with 1 at a wrong line, a read or
+//! write fault, which standard error tells, with 2 where the command line is refused or asks for help, and with 3 where the turns
+//! of the threads ran out.
 #![tactic(auto)]
 
+use bus_decode::{Options, Wanted, run_decode};
 use bus_live::{Gate, run_live};
 use bus_script::run_script;
-use command_line::{Asked, read_command_line};
+use command_line::{Asked, OfLog, read_command_line};
+use std::alloc::{AllocError, Global};
 use std::io;
 use std::io::{BufReader, BufWriter};
 use std::process::ExitCode;
@@ -50,12 +52,42 @@ fn live<R: Threads + Wait + Sync + Input + Print + Eprint + AllocGlobal>(
     Ok(ExitCode::from(ran.status()))
 }
 
+fn wanted(alloc: Global, named: &[u32]) -> Result<Wanted, AllocError> {
+    let mut wanted = Wanted::all(alloc);
+    for number in named {
+        wanted.name(*number)?;
+    }
+    Ok(wanted)
+}
+
+/// Prints the messages of the log of standard input.
+fn decode<R: Input + Print + Eprint + AllocGlobal>(rt: &R, asked: &OfLog) -> io::Result<ExitCode> {
+    let alloc = rt.alloc();
+    let options = Options {
+        pgns: wanted(alloc, asked.pgns.as_slice())?,
+        from: wanted(alloc, asked.from.as_slice())?,
+        to: wanted(alloc, asked.to.as_slice())?,
+        most: asked.most,
+        singles: asked.singles,
+    };
+    let mut reader = BufReader::new(alloc, rt.reader())?;
+    let mut writer = BufWriter::new(alloc, io::writer(rt))?;
+    let decoded = run_decode(alloc, &options, &mut reader, &mut writer);
+    if let Some(fault) = decoded.fault {
+        eprintln!(rt; "{fault}")?;
+    }
+    let counts = decoded.counts;
+    eprintln!(rt; "{counts}")?;
+    Ok(ExitCode::from(decoded.status()))
+}
+
 fn main(rt: HostRuntime) -> anyhow::Result<ExitCode> {
     let alloc = rt.alloc();
     let words: Vec<String> = std::env::args(&rt)?.collect(alloc)?;
     match read_command_line(alloc, words.as_slice()) {
         Ok(Asked::Script) => Ok(run(&rt)?),
         Ok(Asked::Live { turns }) => Ok(live(&rt, turns)?),
+        Ok(Asked::Decode(asked)) => Ok(decode(&rt, &asked)?),
         Err(error) => {
             eprint!(rt; "{error}")?;
             Ok(ExitCode::from(2))

@@ -1,7 +1,13 @@
-//! Tests of logs: their lines, and the messages that are put together of them.
+//! Tests of logs: their lines, and the messages that are put together of them, with the exact text that is printed.
 #![tactic(auto)]
 
+#[cfg(test)]
+mod failures;
 #[cfg(test)]
 mod lines;
 #[cfg(test)]
 mod listeners;
+#[cfg(test)]
+mod logs;
+#[cfg(test)]
+mod words;

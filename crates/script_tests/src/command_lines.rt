@@ -71,8 +71,9 @@ const PROGRAM_HELP: &str = "Runs the script of standard input, and prints the re
 Usage: j1939bus [COMMAND]
 
 Commands:
-  live  Runs the script of standard input by threads, and prints what came of it
-  help  Print this message or the help of the given subcommand(s)
+  live    Runs the script of standard input by threads, and prints what came of it
+  decode  Prints the messages of the log of standard input, put together of their packets
+  help    Print this message or the help of the given subcommand(s)
 
 Options:
   -h, --help     Print help
@@ -92,7 +93,7 @@ Status:
   2  the command line is refused, or asks for help
   3  the turns of live ran out
 
-docs/SCRIPTS.md describes the language.
+docs/SCRIPTS.md describes the language, docs/LOGS.md what decode reads.
 ";
 
 const LIVE_HELP: &str = "Runs the script of standard input by threads, and prints what came of it

@@ -1,0 +1,52 @@
+-- What is counted of a log.
+use Rattle.std.specs.Prelude.{ℕ, ◌+◌, ◌-◌, ◌^◌, List, ◌++◌, codes, fold, Bool, min, if◌then◌else◌}
+use Rattle.std.specs.Fmt.{decimal}
+use Rattle.bus_frame.specs.Frames.{CanFrame}
+use Rattle.tp_wire.specs.Reading.{is_transport, is_malformed}
+use Rattle.log_decode.specs.declared.told.Told.{Told}
+use Rattle.log_decode.specs.declared.told.Told.TheVariants.{Given, Aborted, Lost}
+use Rattle.bus_decode.specs.Options.{is_asked_for}
+use Rattle.bus_decode.specs.declared.counts.Counts.{Counts}
+use Rattle.bus_decode.specs.declared.options.Options.{Options}
+
+-- nothing was counted
+abbrev pub no_counts : Counts
+no_counts = record { lines = 0; passed = 0; frames = 0; earlier = 0; transport = 0; malformed = 0; messages = 0; aborted = 0; lost = 0 }
+
+-- one more, within 64 bits
+abbrev pub more : ℕ → ℕ
+more n = min (n + 1) (2 ^ 64 - 1)
+
+abbrev pub more_if : Bool → ℕ → ℕ
+more_if b n = if b then more n else n
+
+-- a frame was seen, with a time before that of the one before or not
+abbrev pub with_frame : CanFrame → (is_earlier : Bool) → Counts → Counts
+with_frame frame is_earlier c = record c {
+  frames = more c.frames;
+  earlier = more_if is_earlier c.earlier;
+  transport = more_if (is_transport frame) c.transport;
+  malformed = more_if (is_malformed frame) c.malformed;
+}
+
+-- something was told; it is counted where it was asked for
+abbrev pub with_told : Options → Counts → Told → Counts
+with_told options c (Given key pgn bytes) = record c { messages = more_if (is_asked_for options key.from key.to pgn) c.messages }
+with_told options c (Aborted key pgn reason who) = record c { aborted = more_if (is_asked_for options key.from key.to pgn) c.aborted }
+with_told options c (Lost key pgn have size cause) = record c { lost = more_if (is_asked_for options key.from key.to pgn) c.lost }
+
+abbrev pub with_each : Options → Counts → List Told → Counts
+with_each options c told = fold (with_told options) c told
+
+abbrev pub lines_text : Counts → List ℕ
+lines_text c = codes "lines " ++ decimal c.lines ++ codes " passed " ++ decimal c.passed ++ codes " frames " ++ decimal c.frames
+
+abbrev pub frames_text : Counts → List ℕ
+frames_text c = codes " earlier " ++ decimal c.earlier ++ codes " transport " ++ decimal c.transport ++ codes " malformed " ++ decimal c.malformed
+
+abbrev pub messages_text : Counts → List ℕ
+messages_text c = codes " messages " ++ decimal c.messages ++ codes " aborted " ++ decimal c.aborted ++ codes " lost " ++ decimal c.lost
+
+-- each number behind its name
+abbrev pub counts_text : Counts → List ℕ
+counts_text c = lines_text c ++ frames_text c ++ messages_text c

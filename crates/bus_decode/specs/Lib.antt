@@ -1,0 +1,6 @@
+pub mod Options
+pub mod Counts
+pub mod Text
+pub mod Listening
+pub mod Outcome
+pub mod Ending

@@ -1,0 +1,158 @@
+//! What was counted of a log.
+ghost use Rattle.std.specs.Prelude.{◌≡◌, Some};
+ghost use Rattle.std.specs.Fmt.{DisplaysOnOk};
+ghost use Rattle.bus_decode.specs.Counts.{no_counts, more, with_told, with_each, with_frame, lines_text, frames_text, messages_text, counts_text};
+
+use crate::options::Options;
+use bus_frame::Frame;
+use log_decode::Told;
+use std::fmt;
+use tp_wire::{is_transport, read};
+
+/// What was counted of a log. Each number stays at 2^64 - 1 where it would pass it.
+#[derive(Clone, Copy, Debug, PartialEq, Eq)]
+pub struct Counts {
+    /// Lines that were read.
+    pub lines: u64,
+    /// Lines of them that were passed over.
+    pub passed: u64,
+    /// Data frames with a 29-bit identifier.
+    pub frames: u64,
+    /// Frames of them whose time is before that of the one before.
+    pub earlier: u64,
+    /// Frames of them whose PGN is one of a transport, of Request or of Acknowledgement.
+    pub transport: u64,
+    /// Frames of those that mean nothing.
+    pub malformed: u64,
+    /// Messages that were given.
+    pub messages: u64,
+    /// Messages that were aborted.
+    pub aborted: u64,
+    /// Messages that were lost.
+    pub lost: u64,
+}
+
+/// One more.
+fn more(n: u64) -> u64
+    ensures { result ≡ more n }
+{
+    n.saturating_add(1)
+}
+
+impl Counts {
+    /// Nothing was counted.
+    pub fn none() -> Counts
+        ensures { result ≡ no_counts }
+    {
+        Counts {
+            lines: 0,
+            passed: 0,
+            frames: 0,
+            earlier: 0,
+            transport: 0,
+            malformed: 0,
+            messages: 0,
+            aborted: 0,
+            lost: 0,
+        }
+    }
+
+    /// A line was read.
+    pub(crate) fn add_line(&mut self)
+        ensures { self.new ≡ record self.old { lines = more self.old.lines } }
+    {
+        self.lines = more(self.lines);
+    }
+
+    /// A line was passed over.
+    pub(crate) fn add_passed(&mut self)
+        ensures { self.new ≡ record self.old { passed = more self.old.passed } }
+    {
+        self.passed = more(self.passed);
+    }
+
+    /// A frame was seen, with a time before that of the one before or not.
+    pub(crate) fn add_frame(&mut self, frame: &Frame, is_earlier: bool)
+        ensures { self.new ≡ with_frame frame.now is_earlier self.old }
+    {
+        self.frames = more(self.frames);
+        if is_earlier {
+            self.earlier = more(self.earlier);
+        }
+        if is_transport(frame) {
+            self.transport = more(self.transport);
+            if read(frame).is_none() {
+                self.malformed = more(self.malformed);
+            }
+        }
+    }
+
+    /// Something that was asked for was told.
+    fn add_told(&mut self, options: &Options, told: &Told)
+        ensures { self.new ≡ with_told options.now self.old told.now }
+    {
+        match told {
+            Told::Given { key, pgn, .. } => {
+                if options.ask_for(key.from, key.to, *pgn) {
+                    self.messages = more(self.messages);
+                }
+            }
+            Told::Aborted { key, pgn, .. } => {
+                if options.ask_for(key.from, key.to, *pgn) {
+                    self.aborted = more(self.aborted);
+                }
+            }
+            Told::Lost { key, pgn, .. } => {
+                if options.ask_for(key.from, key.to, *pgn) {
+                    self.lost = more(self.lost);
+                }
+            }
+        }
+    }
+
+    /// So much was told.
+    pub(crate) fn add_each(&mut self, options: &Options, told: &[Told])
+        ensures { self.new ≡ with_each options.now self.old told.now }
+    {
+        for one in told {
+            self.add_told(options, one);
+        }
+    }
+}
+
+/// What was read.
+fn put_lines<W: fmt::Write>(counts: &Counts, f: &mut fmt::Formatter<W>) -> fmt::Result
+    ensures { DisplaysOnOk W.write_str_gives f.old result (Some (lines_text counts.now)) f.new }
+{
+    let (lines, passed, frames) = (counts.lines, counts.passed, counts.frames);
+    write!(f, "lines {lines} passed {passed} frames {frames}")
+}
+
+/// What of it was of a transport, or came late.
+fn put_frames<W: fmt::Write>(counts: &Counts, f: &mut fmt::Formatter<W>) -> fmt::Result
+    ensures { DisplaysOnOk W.write_str_gives f.old result (Some (frames_text counts.now)) f.new }
+{
+    let (earlier, transport, malformed) = (counts.earlier, counts.transport, counts.malformed);
+    write!(
+        f,
+        " earlier {earlier} transport {transport} malformed {malformed}"
+    )
+}
+
+/// What came of its messages.
+fn put_messages<W: fmt::Write>(counts: &Counts, f: &mut fmt::Formatter<W>) -> fmt::Result
+    ensures { DisplaysOnOk W.write_str_gives f.old result (Some (messages_text counts.now)) f.new }
+{
+    let (messages, aborted, lost) = (counts.messages, counts.aborted, counts.lost);
+    write!(f, " messages {messages} aborted {aborted} lost {lost}")
+}
+
+impl fmt::Display for Counts {
+    ghost output = { λ c. Some (counts_text c) };
+
+    fn fmt<W: fmt::Write>(&self, f: &mut fmt::Formatter<W>) -> fmt::Result {
+        put_lines(self, f)?;
+        put_frames(self, f)?;
+        put_messages(self, f)
+    }
+}

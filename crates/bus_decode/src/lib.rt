@@ -1,0 +1,13 @@
+//! The messages of a recorded bus, read from a log and printed: `run_decode` reads the lines of a log as `candump -L` writes them and
+//! prints each transport message of it, or why there is none, where that is known.
+#![tactic(auto)]
+
+mod counts;
+mod listening;
+mod options;
+mod running;
+mod text;
+
+pub use counts::Counts;
+pub use options::{Options, Wanted};
+pub use running::{Cause, Decoded, LogFault, run_decode};

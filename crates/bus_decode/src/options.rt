@@ -1,0 +1,84 @@
+//! What of a log is asked for.
+ghost use Rattle.std.specs.Prelude.{◌≡◌, [], ◌∷◌, ◌++◌, OnOk};
+ghost use Rattle.bus_decode.specs.Options.{is_among, takes, is_asked_for};
+
+use pgn_ids::{Address, Pgn};
+use std::alloc::{AllocError, Global};
+use std::marker::Model;
+
+/// Numbers that are asked for. Where none is named, each is.
+#[derive(Debug, Drop)]
+pub struct Wanted {
+    named: Vec<u32>,
+}
+
+impl Model for Wanted {
+    ghost use Rattle.std.specs.Prelude.{List, ℕ};
+
+    ghost Value = { List ℕ };
+
+    ghost view = { λ w. w.named.items };
+}
+
+fn is_among(named: &[u32], n: u32) -> bool
+    ensures { result ≡ is_among named.now n }
+{
+    for one in named {
+        if *one == n {
+            return true;
+        }
+    }
+    false
+}
+
+impl Wanted {
+    /// None is named. It takes no memory.
+    pub fn all(alloc: Global) -> Wanted
+        ensures { result ≡ [] }
+    {
+        Wanted {
+            named: Vec::new(alloc),
+        }
+    }
+
+    /// Names one more.
+    pub fn name(&mut self, n: u32) -> Result<(), AllocError>
+        ensures { OnOk result (self.new ≡ self.old ++ n ∷ []) }
+    {
+        self.named.push(n)?;
+        Ok(())
+    }
+
+    /// Whether this one is asked for.
+    pub fn takes(&self, n: u32) -> bool
+        ensures { result ≡ takes self.now n }
+    {
+        self.named.is_empty() || is_among(self.named.as_slice(), n)
+    }
+}
+
+/// What of a log is printed and counted.
+#[derive(Debug, Drop)]
+pub struct Options {
+    /// Messages of these PGNs.
+    pub pgns: Wanted,
+    /// Messages from these addresses.
+    pub from: Wanted,
+    /// Messages to these addresses, 255 for those to all.
+    pub to: Wanted,
+    /// The longest message that is put together, in bytes.
+    pub most: u32,
+    /// Whether frames that aren't of a transport are printed too.
+    pub singles: bool,
+}
+
+impl Options {
+    /// Whether a message of this PGN between these addresses is asked for.
+    pub(crate) fn ask_for(&self, from: Address, to: Address, pgn: Pgn) -> bool
+        ensures { result ≡ is_asked_for self.now from to pgn }
+    {
+        self.pgns.takes(pgn.raw())
+            && self.from.takes(u32::from(from.0))
+            && self.to.takes(u32::from(to.0))
+    }
+}

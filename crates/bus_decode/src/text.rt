@@ -1,0 +1,197 @@
+//! What is printed of a log.
+ghost use Rattle.std.specs.Prelude.{◌≡◌, ◌++◌, OnOk};
+ghost use Rattle.std.specs.Fmt.{decimal};
+ghost use Rattle.log_text.specs.Digits.{unspaced};
+ghost use Rattle.bus_decode.specs.Text.{place_text, address_text, pgn_text, ends_text, way_text, message_text, cause_text, abort_text, loss_text, told_line, told_lines, single_line};
+
+use crate::options::Options;
+use bus_frame::Frame;
+use log_decode::{Cause, Told};
+use log_text::{Iface, put_digits, put_time};
+use pgn_ids::{Address, Pgn, read_id};
+use std::alloc::AllocError;
+use std::io::Write;
+
+fn put_text(out: &mut Vec<u8>, text: &str) -> Result<(), AllocError>
+    ensures { OnOk result (out.new.items ≡ out.old.items ++ text.now) }
+{
+    out.extend_from_slice(text.as_bytes())
+}
+
+fn put_decimal(out: &mut Vec<u8>, n: u64) -> Result<(), AllocError>
+    ensures { OnOk result (out.new.items ≡ out.old.items ++ decimal n) }
+{
+    match write!(out, "{n}") {
+        Ok(()) => Ok(()),
+        Err(_) => Err(AllocError),
+    }
+}
+
+fn put_bytes(out: &mut Vec<u8>, bytes: &[u8]) -> Result<(), AllocError>
+    ensures { OnOk result (out.new.items ≡ out.old.items ++ unspaced bytes.now) }
+{
+    for byte in bytes {
+        put_digits(out, 16, 2, u64::from(*byte))?;
+    }
+    Ok(())
+}
+
+/// Where and when something was seen: the time, the interface, and what it is.
+fn put_place(out: &mut Vec<u8>, now: u64, iface: &Iface, what: &str) -> Result<(), AllocError>
+    ensures { OnOk result (out.new.items ≡ out.old.items ++ place_text now iface.now what.now) }
+{
+    put_time(out, now)?;
+    put_text(out, " ")?;
+    out.extend_from_slice(iface.name())?;
+    put_text(out, what)
+}
+
+#[tactic(auto, unfolding(crate::specs::Text::address_text))]
+fn put_address(out: &mut Vec<u8>, address: Address) -> Result<(), AllocError>
+    ensures { OnOk result (out.new.items ≡ out.old.items ++ address_text address) }
+{
+    put_digits(out, 16, 2, u64::from(address.0))
+}
+
+#[tactic(auto, unfolding(crate::specs::Text::pgn_text))]
+fn put_pgn(out: &mut Vec<u8>, pgn: Pgn) -> Result<(), AllocError>
+    ensures { OnOk result (out.new.items ≡ out.old.items ++ pgn_text pgn) }
+{
+    put_digits(out, 16, 5, u64::from(pgn.raw()))
+}
+
+fn put_ends(out: &mut Vec<u8>, from: Address, to: Address) -> Result<(), AllocError>
+    ensures { OnOk result (out.new.items ≡ out.old.items ++ ends_text from to) }
+{
+    put_address(out, from)?;
+    put_text(out, " ")?;
+    put_address(out, to)?;
+    put_text(out, " ")
+}
+
+/// Between which addresses, and of which PGN.
+fn put_way(out: &mut Vec<u8>, from: Address, to: Address, pgn: Pgn) -> Result<(), AllocError>
+    ensures { OnOk result (out.new.items ≡ out.old.items ++ way_text from to pgn) }
+{
+    put_ends(out, from, to)?;
+    put_pgn(out, pgn)?;
+    put_text(out, " ")
+}
+
+fn put_message(out: &mut Vec<u8>, bytes: &[u8]) -> Result<(), AllocError>
+    ensures { OnOk result (out.new.items ≡ out.old.items ++ message_text bytes.now) }
+{
+    put_decimal(out, bytes.len() as u64)?;
+    put_text(out, " ")?;
+    put_bytes(out, bytes)?;
+    put_text(out, "\n")
+}
+
+fn put_cause(out: &mut Vec<u8>, cause: Cause) -> Result<(), AllocError>
+    ensures { OnOk result (out.new.items ≡ out.old.items ++ cause_text cause) }
+{
+    match cause {
+        Cause::Missing => put_text(out, "packet missing\n"),
+        Cause::Replaced => put_text(out, "replaced\n"),
+        Cause::TimedOut => put_text(out, "timed out\n"),
+        Cause::Acknowledged => put_text(out, "acknowledged\n"),
+        Cause::TooLong => put_text(out, "too long\n"),
+        Cause::EndOfLog => put_text(out, "end of log\n"),
+    }
+}
+
+fn put_abort(out: &mut Vec<u8>, reason: u8, who: Address) -> Result<(), AllocError>
+    ensures { OnOk result (out.new.items ≡ out.old.items ++ abort_text reason who) }
+{
+    put_decimal(out, u64::from(reason))?;
+    put_text(out, " ")?;
+    put_address(out, who)?;
+    put_text(out, "\n")
+}
+
+fn put_loss(out: &mut Vec<u8>, have: u32, size: u32, cause: Cause) -> Result<(), AllocError>
+    ensures { OnOk result (out.new.items ≡ out.old.items ++ loss_text have size cause) }
+{
+    put_decimal(out, u64::from(have))?;
+    put_text(out, " ")?;
+    put_decimal(out, u64::from(size))?;
+    put_text(out, " ")?;
+    put_cause(out, cause)
+}
+
+/// The line of what was told at a time, where it is asked for.
+fn put_told(out: &mut Vec<u8>, now: u64, options: &Options, told: &Told) -> Result<(), AllocError>
+    ensures { OnOk result (out.new.items ≡ out.old.items ++ told_line now options.now told.now) }
+{
+    match told {
+        Told::Given { key, pgn, bytes } => {
+            if !options.ask_for(key.from, key.to, *pgn) {
+                return Ok(());
+            }
+            put_place(out, now, &key.iface, " given ")?;
+            put_way(out, key.from, key.to, *pgn)?;
+            put_message(out, bytes.as_slice())
+        }
+        Told::Aborted {
+            key,
+            pgn,
+            reason,
+            who,
+        } => {
+            if !options.ask_for(key.from, key.to, *pgn) {
+                return Ok(());
+            }
+            put_place(out, now, &key.iface, " aborted ")?;
+            put_way(out, key.from, key.to, *pgn)?;
+            put_abort(out, *reason, *who)
+        }
+        Told::Lost {
+            key,
+            pgn,
+            have,
+            size,
+            cause,
+        } => {
+            if !options.ask_for(key.from, key.to, *pgn) {
+                return Ok(());
+            }
+            put_place(out, now, &key.iface, " lost ")?;
+            put_way(out, key.from, key.to, *pgn)?;
+            put_loss(out, *have, *size, *cause)
+        }
+    }
+}
+
+/// The lines of what was told at a time.
+pub(crate) fn put_each(
+    out: &mut Vec<u8>,
+    now: u64,
+    options: &Options,
+    told: &[Told],
+) -> Result<(), AllocError>
+    ensures { OnOk result (out.new.items ≡ out.old.items ++ told_lines now options.now told.now) }
+{
+    for one in told {
+        put_told(out, now, options, one)?;
+    }
+    Ok(())
+}
+
+/// The line of a frame that isn't of a transport, where it is asked for.
+pub(crate) fn put_single(
+    out: &mut Vec<u8>,
+    now: u64,
+    iface: &Iface,
+    options: &Options,
+    frame: &Frame,
+) -> Result<(), AllocError>
+    ensures { OnOk result (out.new.items ≡ out.old.items ++ single_line now iface.now options.now frame.now) }
+{
+    let meaning = read_id(frame.id());
+    if !options.ask_for(meaning.from, meaning.to, meaning.pgn) {
+        return Ok(());
+    }
+    put_place(out, now, iface, " frame ")?;
+    put_way(out, meaning.from, meaning.to, meaning.pgn)?;
+    put_message(out, frame.bytes())
+}

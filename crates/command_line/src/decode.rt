@@ -1,0 +1,139 @@
+//! The words of `decode`.
+use clap::error::ErrorKind;
+use clap::{Arg, ArgAction, ArgMatches, Command, Error, value_parser};
+use std::alloc::{AllocError, Global};
+
+/// What of a log is asked for.
+#[derive(Debug, PartialEq, Eq, Drop)]
+pub struct OfLog {
+    /// Messages of these PGNs; of each where none is named. So with the addresses.
+    pub pgns: Vec<u32>,
+    /// Messages from these addresses.
+    pub from: Vec<u32>,
+    /// Messages to these addresses, 255 for those to all.
+    pub to: Vec<u32>,
+    /// The longest message that is put together, in bytes.
+    pub most: u32,
+    /// Whether frames that aren't of a transport are printed too.
+    pub singles: bool,
+}
+
+/// The longest message that a transport carries, in bytes.
+const MOST: u32 = 117_440_505;
+
+/// The highest number of 18 bits.
+const PGN_MOST: u32 = 0x3_FFFF;
+
+/// The highest address, which as a destination is all.
+const ADDRESS_MOST: u32 = 0xFF;
+
+const DECODE_HELP: &str =
+    "The log is read from standard input, in lines (SECONDS.MICROS) IFACE ID#HEX as
+candump -L writes them. Each message that was sent in packets is printed with
+the time and the interface of the frame at which it is known:
+  (TIME) IFACE given FROM TO PGN LENGTH HEX
+  (TIME) IFACE aborted FROM TO PGN REASON WHO
+  (TIME) IFACE lost FROM TO PGN HAVE OF CAUSE
+What was counted is told on standard error at the end.
+
+Example:
+  printf '%s\\n' '(1.000000) can0 1CECFF21#20090002FFCAFE00' \\
+    '(1.050000) can0 1CEBFF21#0101020304050607' \\
+    '(1.100000) can0 1CEBFF21#020809FFFFFFFFFF' | j1939bus decode
+
+Status:
+  0  the log was read to its end
+  1  a line is wrong, or standard input or output failed
+  2  the command line is refused, or asks for help
+
+docs/LOGS.md describes what is read and printed.";
+
+fn numbers_arg<'a>(alloc: Global, name: &'a str, value: &'a str, help: &'a str) -> Arg<'a> {
+    Arg::new(alloc, name)
+        .long(name)
+        .value_name(value)
+        .action(ArgAction::Append)
+        .help(help)
+}
+
+/// The command as it is parsed, with its help.
+pub(crate) fn decode_command<'a>(alloc: Global) -> Result<Command<'a>, AllocError> {
+    let most = Arg::new(alloc, "max-bytes")
+        .long("max-bytes")
+        .value_name("N")
+        .action(ArgAction::Set)
+        .value_parser(value_parser!(u32).range(1..=117_440_505))
+        .help("Longest message that is put together [default: 117440505]");
+    let all = Arg::new(alloc, "all")
+        .long("all")
+        .action(ArgAction::SetTrue)
+        .help("Prints frames that aren't of a transport too, as frame FROM TO PGN LENGTH HEX");
+    Command::new(alloc, "decode")
+        .about("Prints the messages of the log of standard input, put together of their packets")
+        .after_help(DECODE_HELP)
+        .arg(numbers_arg(
+            alloc,
+            "pgn",
+            "PGN",
+            "Only messages of this PGN, hexadecimal",
+        ))?
+        .arg(numbers_arg(
+            alloc,
+            "from",
+            "A",
+            "Only messages from this address, hexadecimal",
+        ))?
+        .arg(numbers_arg(
+            alloc,
+            "to",
+            "A",
+            "Only messages to this address, FF for those to all",
+        ))?
+        .arg(most)?
+        .arg(all)
+}
+
+/// The number that hexadecimal digits write, where it is at most `most`.
+fn hexadecimal(word: &str, most: u32) -> Option<u32> {
+    if !word.as_bytes().first()?.is_ascii_hexdigit() {
+        return None;
+    }
+    let number = u32::from_str_radix(word, 16).ok()?;
+    if number <= most { Some(number) } else { None }
+}
+
+/// The numbers that an argument names; where one of its words writes none, that word is refused.
+fn numbers<'a>(
+    alloc: Global,
+    command: &mut Command<'a>,
+    matches: &ArgMatches<'a>,
+    name: &str,
+    most: u32,
+) -> Result<Vec<u32>, Error> {
+    let mut numbers = Vec::new(alloc);
+    for word in matches.get_strs(name).unwrap_or(&[]) {
+        let Some(number) = hexadecimal(*word, most) else {
+            let text = format!(in alloc;
+                "invalid value '{word}' for '--{name}': not a hexadecimal number up to {most:X}"
+            )?;
+            return Err(command.error(ErrorKind::ValueValidation, text.as_str())?);
+        };
+        numbers.push(number)?;
+    }
+    Ok(numbers)
+}
+
+/// What its words ask for.
+pub(crate) fn read_decode<'a>(
+    alloc: Global,
+    command: &mut Command<'a>,
+    matches: &ArgMatches<'a>,
+) -> Result<OfLog, Error> {
+    Ok(OfLog {
+        pgns: numbers(alloc, command, matches, "pgn", PGN_MOST)?,
+        from: numbers(alloc, command, matches, "from", ADDRESS_MOST)?,
+        to: numbers(alloc, command, matches, "to", ADDRESS_MOST)?,
+        most: matches.get_one::<u32>("max-bytes").unwrap_or(MOST),
+        singles: matches.get_flag("all"),
+    })
+}

@@ -1,0 +1,95 @@
+//! Readers and writers that fail in the middle of a log.
+use bus_decode::{Cause, Counts, Decoded, Options, Wanted, run_decode};
+use std::alloc::Global;
+use std::io;
+use std::io::{Error, ErrorKind, Read, Write};
+use std::test::Fail;
+
+fn all(alloc: Global) -> Options {
+    Options {
+        pgns: Wanted::all(alloc),
+        from: Wanted::all(alloc),
+        to: Wanted::all(alloc),
+        most: 1_785,
+        singles: true,
+    }
+}
+
+/// Reads a log; what that promises is no business of a test's proof.
+fn read<R: Read, W: Write>(alloc: Global, reader: &mut R, writer: &mut W) -> Decoded {
+    run_decode(alloc, &all(alloc), reader, writer)
+}
+
+/// Gives its text, and fails where it ends.
+#[derive(Drop)]
+struct Breaking<'a> {
+    text: &'a [u8],
+}
+
+impl Read for Breaking<'_> {
+    fn read(&mut self, buf: &mut [u8]) -> io::Result<usize> {
+        if self.text.is_empty() {
+            return Err(Error::from(ErrorKind::Other));
+        }
+        self.text.read(buf)
+    }
+}
+
+/// Takes so many writes, and fails then.
+#[derive(Drop)]
+struct Failing {
+    writes: u64,
+}
+
+impl Write for Failing {
+    fn write(&mut self, buf: &[u8]) -> io::Result<usize> {
+        if self.writes == 0 {
+            return Err(Error::from(ErrorKind::StorageFull));
+        }
+        self.writes -= 1;
+        Ok(buf.len())
+    }
+
+    fn flush(&mut self) -> io::Result<()> {
+        Ok(())
+    }
+}
+
+const THREE: &str =
+    "(1.000000) can0 18FEF100#01\n(2.000000) can0 18FEF100#02\n(3.000000) can0 18FEF100#03\n";
+
+#[test]
+fn a_failed_read_ends_the_log(rt: HostRuntime) -> Result<(), Fail> {
+    let alloc = rt.alloc();
+    let mut reader = Breaking {
+        text: b"\n(1.000000) can0 18FEF10",
+    };
+    let decoded = read(alloc, &mut reader, &mut io::sink());
+    let fault = decoded.fault.expect(&rt, "a fault");
+    if fault.cause != Cause::OutOfMemory {
+        assert_eq!(rt; fault.cause, Cause::ReadFailed);
+        assert_eq!(rt; fault.line, 2);
+        let counts = Counts {
+            lines: 1,
+            passed: 1,
+            ..Counts::none()
+        };
+        assert!(rt; decoded.counts == counts);
+    }
+    assert_eq!(rt; decoded.status(), 1);
+    Ok(())
+}
+
+#[test]
+fn a_failed_write_ends_the_log(rt: HostRuntime) -> Result<(), Fail> {
+    let alloc = rt.alloc();
+    let mut writer = Failing { writes: 1 };
+    let mut reader = THREE.as_bytes();
+    let decoded = read(alloc, &mut reader, &mut writer);
+    let fault = decoded.fault.expect(&rt, "a fault");
+    if fault.cause != Cause::OutOfMemory {
+        assert_eq!(rt; fault.cause, Cause::WriteFailed);
+        assert_eq!(rt; fault.line, 2);
+    }
+    Ok(())
+}

@@ -1,0 +1,140 @@
+//! The words of `decode`.
+use command_line::{Asked, OfLog, read_command_line};
+use std::alloc::{AllocError, Global};
+use std::process::Abort;
+use std::test::Fail;
+
+fn words_of(alloc: Global, all: &[&str]) -> Result<Vec<String>, Fail> {
+    let mut words = Vec::new(alloc);
+    for word in all {
+        words.push(format!(in alloc; "{word}")?)?;
+    }
+    Ok(words)
+}
+
+fn asked(alloc: Global, all: &[&str]) -> Result<OfLog, Fail> {
+    let words = words_of(alloc, all)?;
+    match read_command_line(alloc, words.as_slice())? {
+        Asked::Decode(asked) => Ok(asked),
+        _ => Err(Fail::new("another command")),
+    }
+}
+
+// The text that answers these words; a test ends where it is that memory was refused.
+fn answer(rt: &impl Abort, alloc: Global, all: &[&str]) -> Result<String, Fail> {
+    let words = words_of(alloc, all)?;
+    let error = read_command_line(alloc, words.as_slice()).expect_err(rt, "a text");
+    let text = format!(in alloc; "{error}")?;
+    if text.as_str() == "error: out of memory\n" {
+        out_of_memory()?;
+    }
+    Ok(text)
+}
+
+fn out_of_memory() -> Result<(), AllocError> {
+    Err(AllocError)
+}
+
+#[test]
+fn a_log_is_asked_for(rt: HostRuntime) -> Result<(), Fail> {
+    let alloc = rt.alloc();
+    let asked = asked(alloc, &["j1939bus", "decode"])?;
+    assert!(rt; asked.pgns.is_empty() && asked.from.is_empty() && asked.to.is_empty());
+    assert!(rt; asked.most == 117_440_505 && !asked.singles);
+    Ok(())
+}
+
+#[test]
+fn parts_of_a_log_are_asked_for(rt: HostRuntime) -> Result<(), Fail> {
+    let alloc = rt.alloc();
+    let asked = asked(
+        alloc,
+        &[
+            "j1939bus",
+            "decode",
+            "--pgn",
+            "FECA",
+            "--pgn",
+            "3ffff",
+            "--from",
+            "21",
+            "--to",
+            "0FF",
+            "--max-bytes",
+            "1785",
+            "--all",
+        ],
+    )?;
+    assert!(rt; asked.pgns.as_slice() == [0xFECA, 0x3_FFFF].as_slice());
+    assert!(rt; asked.from.as_slice() == [0x21].as_slice());
+    assert!(rt; asked.to.as_slice() == [0xFF].as_slice());
+    assert!(rt; asked.most == 1_785 && asked.singles);
+    Ok(())
+}
+
+#[test]
+fn other_numbers_are_refused(rt: HostRuntime) -> Result<(), Fail> {
+    let alloc = rt.alloc();
+    for (option, value, told) in [
+        (
+            "--pgn",
+            "40000",
+            "invalid value '40000' for '--pgn': not a hexadecimal number up to 3FFFF",
+        ),
+        ("--pgn", "+1", "invalid value '+1'"),
+        (
+            "--from",
+            "100",
+            "invalid value '100' for '--from': not a hexadecimal number up to FF",
+        ),
+        ("--to", "G", "invalid value 'G'"),
+        ("--max-bytes", "0", "invalid value '0'"),
+        ("--max-bytes", "117440506", "invalid value '117440506'"),
+    ] {
+        let text = answer(&rt, alloc, &["j1939bus", "decode", option, value])?;
+        assert!(rt; text.as_str().contains(told));
+    }
+    Ok(())
+}
+
+const DECODE_HELP: &str =
+    "Prints the messages of the log of standard input, put together of their packets
+
+Usage: j1939bus decode [OPTIONS]
+
+Options:
+      --pgn <PGN>      Only messages of this PGN, hexadecimal
+      --from <A>       Only messages from this address, hexadecimal
+      --to <A>         Only messages to this address, FF for those to all
+      --max-bytes <N>  Longest message that is put together [default: 117440505]
+      --all            Prints frames that aren't of a transport too, as frame FROM TO PGN LENGTH HEX
+  -h, --help           Print help
+
+The log is read from standard input, in lines (SECONDS.MICROS) IFACE ID#HEX as
+candump -L writes them. Each message that was sent in packets is printed with
+the time and the interface of the frame at which it is known:
+  (TIME) IFACE given FROM TO PGN LENGTH HEX
+  (TIME) IFACE aborted FROM TO PGN REASON WHO
+  (TIME) IFACE lost FROM TO PGN HAVE OF CAUSE
+What was counted is told on standard error at the end.
+
+Example:
+  printf '%s\\n' '(1.000000) can0 1CECFF21#20090002FFCAFE00' \\
+    '(1.050000) can0 1CEBFF21#0101020304050607' \\
+    '(1.100000) can0 1CEBFF21#020809FFFFFFFFFF' | j1939bus decode
+
+Status:
+  0  the log was read to its end
+  1  a line is wrong, or standard input or output failed
+  2  the command line is refused, or asks for help
+
+docs/LOGS.md describes what is read and printed.
+";
+
+#[test]
+fn help_says_what_is_read_and_printed(rt: HostRuntime) -> Result<(), Fail> {
+    let alloc = rt.alloc();
+    let text = answer(&rt, alloc, &["j1939bus", "decode", "--help"])?;
+    assert_eq!(rt; text.as_str(), DECODE_HELP);
+    Ok(())
+}

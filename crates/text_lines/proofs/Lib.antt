@@ -1,0 +1,2 @@
+pub mod LineFronts
+pub mod Known

@@ -1,0 +1,19 @@
+-- The lines of a text: each ends by a line feed, the last one also by the end of the text.
+use Rattle.std.specs.Prelude.{◌≡◌, ℕ, ◌<◌, List, [], ◌∷◌, length, ◌==◌, if◌then◌else◌}
+use Rattle.text_lines.specs.declared.lines.LineRead.{LineRead}
+use Rattle.text_lines.specs.declared.lines.LineRead.TheVariants.{End, Line, TooLong}
+
+-- b put before the first line
+abbrev pub before_lines : ℕ → List (List ℕ) → List (List ℕ)
+before_lines b [] = (b ∷ []) ∷ []
+before_lines b (line ∷ lines) = (b ∷ line) ∷ lines
+
+abbrev pub lines_of : List ℕ → List (List ℕ)
+lines_of [] = []
+lines_of (b ∷ bs) = if b == 10 then [] ∷ lines_of bs else before_lines b (lines_of bs)
+
+-- what was read is the first line of all, rest being left; or that line is too long
+abbrev pub ReadsLine : LineRead → List ℕ → List ℕ → List ℕ → Type 0
+ReadsLine End line all rest = lines_of all ≡ []
+ReadsLine Line line all rest = lines_of all ≡ line ∷ lines_of rest
+ReadsLine TooLong line all rest = (long : List ℕ) × (others : List (List ℕ)) × (lines_of all ≡ long ∷ others) × (8192 < length long)

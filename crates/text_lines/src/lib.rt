@@ -1,0 +1,8 @@
+//! Lines of a reader, one held at a time, and text for a writer, written and flushed at once.
+#![tactic(auto)]
+
+mod lines;
+mod writing;
+
+pub use lines::{LineRead, ReadError, read_line};
+pub use writing::{put_all, tell};

@@ -1,0 +1,49 @@
+//! Writing bytes to a writer.
+ghost use Rattle.std.specs.Prelude.{take, MatchResult};
+ghost use Rattle.std.specs.Io.KnownBytes.{Appends};
+ghost use Rattle.text_lines.specs.Known.{IsFront};
+
+use std::io;
+use std::io::Write;
+
+/// Writes all the bytes. Where that fails, it says how many of them were written.
+pub fn put_all<W: Write>(writer: &mut W, bytes: &[u8]) -> Result<(), usize>
+    ensures { MatchResult result (λ _. Appends (W.contents writer.old) (W.contents writer.new) bytes.now)
+        (λ n. Appends (W.contents writer.old) (W.contents writer.new) (take n bytes.now)) }
+{
+    let mut put = 0;
+    for _ in 0..u64::MAX {
+        if put >= bytes.len() {
+            return Ok(());
+        }
+        match writer.write(&bytes[put..]) {
+            Ok(0) => return Err(put),
+            Ok(n) => put += n,
+            Err(e) => {
+                if e.kind() != io::ErrorKind::Interrupted {
+                    return Err(put);
+                }
+            }
+        }
+    }
+    Err(put)
+}
+
+/// Writes a text at once and flushes it, so that who reads it has it before anything else is done. Where that fails, a front of
+/// the text was written.
+#[tactic(auto, using(crate::proofs::Known::front_of_part, crate::proofs::Known::front_of_all, crate::proofs::Known::appends_keeps))]
+pub fn tell<W: Write>(writer: &mut W, text: &[u8]) -> Result<(), ()>
+    ensures { MatchResult result (λ _. Appends (W.contents writer.old) (W.contents writer.new) text.now)
+        (λ _. IsFront (W.contents writer.old) (W.contents writer.new) text.now) }
+{
+    if text.is_empty() {
+        return Ok(());
+    }
+    let Ok(()) = put_all(writer, text) else {
+        return Err(());
+    };
+    let Ok(()) = writer.flush() else {
+        return Err(());
+    };
+    Ok(())
+}
