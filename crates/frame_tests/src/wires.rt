@@ -1,5 +1,5 @@
 use bus_frame::{CanId, Frame};
-use pgn_ids::{Address, WirePgn};
+use pgn_ids::{Address, WirePgn, read_id};
 use std::test::Fail;
 use tp_wire::*;
 
@@ -38,7 +38,7 @@ fn is_heard_as(heard: &Heard<'_>, wire: &Wire) -> bool {
 
 // Whether it is heard in place from and to these addresses.
 fn is_heard(frame: &Frame, wire: &Wire, from: Address, to: Address) -> bool {
-    match read_in_place(frame) {
+    match read_in_place(frame, &read_id(frame.id())) {
         None => false,
         Some((heard, source, destination)) => {
             is_heard_as(&heard, wire) && source == from && destination == to
@@ -287,7 +287,10 @@ fn malformed_frames_have_no_meaning(rt: HostRuntime) -> Result<(), Fail> {
     ] {
         let frame = frame_of(id, &bytes)?;
         assert!(rt; read(&frame) == None && is_transport(&frame), "at {id:08X}");
-        assert!(rt; read_in_place(&frame).is_none(), "at {id:08X}");
+        assert!(rt;
+            read_in_place(&frame, &read_id(frame.id())).is_none(),
+            "at {id:08X}"
+        );
     }
     for (id, len) in [(0x1CEC_3580, 7), (0x18EA_3521, 2)] {
         let frame = frame_of(id, &[0x10, 0x09, 0x00, 0x02, 0xFF, 0xCA, 0xFE][..len])?;

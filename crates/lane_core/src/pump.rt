@@ -101,10 +101,11 @@ impl Lane {
         ended
     }
 
-    /// Queues what comes next of what is under way, if that ends nothing.
+    /// Queues what comes next of what is under way at tick `now` behind the frames of a queue, if that ends nothing and begins
+    /// nothing. Any other pump is left to `pump`, and changes nothing.
     #[inline]
     #[tactic(auto, using(crate::proofs::Quiet::pumped_so, crate::proofs::Quiet::none_quiet, crate::proofs::Quiet::of_length, crate::proofs::Quiet::carries_on, crate::proofs::Quiet::calm_on))]
-    fn pump_in_place(&mut self, now: u64, queue: &mut TxQueue) -> bool
+    pub fn pump_in_place(&mut self, now: u64, queue: &mut TxQueue) -> bool
         requires { length queue.old + most_frames ≤ queue_limit }
         ensures value { result ≡ pumps_quietly self.old.under_way now }
         ensures lane { OnTrue result (self.new ≡ (pumped_lane self.old now).0) }

@@ -89,7 +89,10 @@ impl Segment {
         ensures other { OnFalse result (self.new ≡ self.old) }
     {
         match call {
+            Call::Pump { station, to } => self.pump_in_place(*station, *to),
             Call::Take { station, room } => self.take_in_place(*station, *room),
+            Call::Transmit { station } => self.transmit_front(*station).is_ok(),
+            Call::Tick { n } => self.clock.advance(*n).is_ok(),
             _ => false,
         }
     }

@@ -1,5 +1,6 @@
 //! What a drive did so far.
 ghost use Rattle.std.specs.Prelude.{◌≡◌, ◌<◌, ◌++◌, [], length, option_to_list, vec_len, vec_capacity};
+ghost use Rattle.std.specs.Bool.{OnTrue};
 ghost use Rattle.segment_law.specs.Calls.{events_of};
 ghost use Rattle.segment_core.specs.Joined.{joined};
 
@@ -26,6 +27,14 @@ impl Course {
             frames: Vec::new(alloc),
             parts: Vec::new(alloc),
         }
+    }
+
+    /// Whether there is room for one more frame.
+    #[inline(always)]
+    pub(crate) fn has_room(&self) -> bool
+        ensures { OnTrue result (vec_len self.now.frames < vec_capacity self.now.frames) }
+    {
+        self.frames.len() < self.frames.capacity()
     }
 
     /// The frame that a call put, for which there is room.

@@ -107,8 +107,21 @@ impl Segment {
         self.put_one(from, course)
     }
 
-    // A station transmits. Memory is taken only once it isn't refused.
+    // A station transmits.
     fn put_one(&mut self, station: Address, course: &mut Course) -> Result<(), Stop>
+        ensures { (start : State) (d : Drive) → IsCourse None start d self.old course.old → Went start (puts d station) self.new course.new result }
+    {
+        if !course.has_room() {
+            return self.put_growing(station, course);
+        }
+        let frame = self.transmit_front(station)?;
+        course.put(Some(frame));
+        Ok(())
+    }
+
+    // The same where the course has no room for the frame: memory is taken only once the call isn't refused.
+    #[inline(never)]
+    fn put_growing(&mut self, station: Address, course: &mut Course) -> Result<(), Stop>
         ensures { (start : State) (d : Drive) → IsCourse None start d self.old course.old → Went start (puts d station) self.new course.new result }
     {
         if let Some(cause) = self.transmit_refusal(station) {
@@ -142,8 +155,20 @@ impl Segment {
         self.pump_once(from, to, course)
     }
 
-    // The lane is pumped. Memory is taken only once it isn't refused.
+    // The lane is pumped.
     fn pump_once(&mut self, from: Address, to: Address, course: &mut Course) -> Result<(), Stop>
+        ensures { (start : State) (d : Drive) → IsCourse None start d self.old course.old → Went start (makes d (Pump from to)) self.new course.new result }
+    {
+        one_byte(to);
+        if self.pump_in_place(from, to) {
+            return Ok(());
+        }
+        self.pump_telling(from, to, course)
+    }
+
+    // Any other pump. Memory is taken only once it isn't refused.
+    #[inline(never)]
+    fn pump_telling(&mut self, from: Address, to: Address, course: &mut Course) -> Result<(), Stop>
         ensures { (start : State) (d : Drive) → IsCourse None start d self.old course.old → Went start (makes d (Pump from to)) self.new course.new result }
     {
         one_byte(to);

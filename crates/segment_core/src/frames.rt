@@ -1,7 +1,9 @@
 //! Frames that are put on the bus.
-ghost use Rattle.std.specs.Prelude.{◌≡◌, ◌↔◌, OnOk, OnErr, IsErrOf, IsTrue};
+ghost use Rattle.std.specs.Prelude.{◌≡◌, ◌↔◌, Some, Err, IfOk, IfErr, OnOk, OnErr, IsErrOf, IsTrue};
+ghost use Rattle.tx_queue.specs.Queue.{front};
+ghost use Rattle.segment_law.specs.Segment.{station_at};
 ghost use Rattle.bus_order.specs.Bus.{is_full};
-ghost use Rattle.segment_law.specs.Calls.{at_address, with_frame, transmits, injects};
+ghost use Rattle.segment_law.specs.Calls.{at_address, done, with_frame, transmits, injects};
 ghost use Rattle.segment_core.specs.Answers.{IsAnswer};
 
 use crate::counting::count_frame;
@@ -14,9 +16,20 @@ use segment_law::{Refusal, Reply};
 
 impl Segment {
     /// Puts the first frame of a station's queue on the bus.
-    #[tactic(auto, using(crate::proofs::Stations::call_laws))]
     pub(crate) fn transmit(&mut self, station: Address) -> Result<Reply, Stop>
         ensures { IsAnswer (at_address self.old station (transmits self.old)) self.old self.new result }
+    {
+        let _frame = self.transmit_front(station)?;
+        Ok(self.done())
+    }
+
+    /// Puts the first frame of a station's queue on the bus, and tells which it was.
+    #[tactic(auto, using(crate::proofs::Stations::call_laws))]
+    pub(crate) fn transmit_front(&mut self, station: Address) -> Result<Frame, Stop>
+        ensures put { IfOk result (λ frame. at_address self.old station (transmits self.old) ≡ done self.new) }
+        ensures front { IfOk result (λ frame. front (station_at self.old station).queue ≡ Some frame) }
+        ensures err { OnErr result (self.new ≡ self.old) }
+        ensures stopped { IfErr result (λ stop. IsAnswer (at_address self.old station (transmits self.old)) self.old self.new (Err stop)) }
     {
         let Some(place) = self.place_of(station) else {
             return Err(Stop::Refused(Refusal::NoSuchStation));
@@ -27,7 +40,7 @@ impl Segment {
         match self.put(frame) {
             Ok(()) => {
                 let _transmitted = self.stations[place].pop();
-                Ok(self.done())
+                Ok(frame)
             }
             Err(PutError::BusFull) => Err(Stop::Refused(Refusal::BusFull)),
             Err(PutError::OutOfMemory) => Err(Stop::OutOfMemory),

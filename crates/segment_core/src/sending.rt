@@ -1,5 +1,7 @@
 //! Messages that are sent, pumped and cancelled.
-ghost use Rattle.segment_law.specs.Calls.{at_address, sends, pumps, cancels};
+ghost use Rattle.std.specs.Prelude.{◌≡◌};
+ghost use Rattle.std.specs.Bool.{OnTrue, OnFalse};
+ghost use Rattle.segment_law.specs.Calls.{at_address, done, sends, pumps, cancels};
 ghost use Rattle.segment_core.specs.Answers.{IsAnswer};
 
 use crate::segment::Segment;
@@ -43,6 +45,19 @@ impl Segment {
             Ok(events) => Ok(self.told(events)),
             Err(cause) => Err(stop_of(cause)),
         }
+    }
+
+    /// Queues what comes next in a lane where that ends no message and begins none; any other pump changes nothing.
+    #[tactic(auto, using(crate::proofs::Stations::call_laws))]
+    pub(crate) fn pump_in_place(&mut self, station: Address, to: Address) -> bool
+        ensures step { OnTrue result (at_address self.old station (pumps self.old to) ≡ done self.new) }
+        ensures other { OnFalse result (self.new ≡ self.old) }
+    {
+        let Some(place) = self.place_of(station) else {
+            return false;
+        };
+        let now = self.clock.now();
+        self.stations[place].pump_in_place(to, now)
     }
 
     /// Cancels a message that has no outcome yet.

@@ -1,6 +1,6 @@
 -- The frames that a station takes where its sessions and lanes stand: those that tell nothing and end nothing (SAE J1939-21,
--- TP.DT, TP.CM_CTS; ISO 11783-3, ETP.DT, ETP.CM_CTS, ETP.CM_DPO).
-use Rattle.std.specs.Prelude.{Bool, true, false, if◌then◌else◌, Option, Some, None}
+-- TP.DT, TP.CM_CTS; ISO 11783-3, ETP.DT, ETP.CM_CTS, ETP.CM_DPO); and the pumps that do.
+use Rattle.std.specs.Prelude.{ℕ, Bool, true, false, ◌&&◌, is_none, if◌then◌else◌, Option, Some, None}
 use Rattle.bus_frame.specs.Frames.{CanFrame}
 use Rattle.pgn_ids.specs.declared.address.Address.{Address}
 use Rattle.tp_wire.specs.Reading.{reading}
@@ -10,10 +10,11 @@ use Rattle.tp_wire.specs.declared.wire.Wire.{Wire}
 use Rattle.tp_wire.specs.declared.wire.Wire.TheVariants.{Cm, Packet}
 use Rattle.session_table.specs.declared.key.Key.{Key}
 use Rattle.session_table.specs.declared.key.SessionKind.TheVariants as session
-use Rattle.station_lanes.specs.LaneReaders.{hears_quietly_at}
+use Rattle.station_lanes.specs.LaneReaders.{hears_quietly_at, pumps_quietly_at}
 use Rattle.station_sessions.specs.Opening.{key_of}
 use Rattle.station_sessions.specs.Quiet.{receives_quietly, ReceivesLackingRoom}
 use Rattle.station_core.specs.Station.{Station}
+use Rattle.station_core.specs.Refusals.{pumping_refusal}
 use Rattle.station_core.specs.Taking.{packet_kind, looks_at}
 
 -- the session of a key takes it in place
@@ -64,3 +65,7 @@ LooksLackingRoom true st f room = MeaningLacksRoom st (reading f) room
 
 abbrev pub LacksRoom : Station → CanFrame → (room : Bool) → Type 0
 LacksRoom st f room = LooksLackingRoom (looks_at st f) st f room
+
+-- a pump that isn't refused, and ends nothing and begins nothing
+abbrev pub pumps_in_place : Station → (to : Address) → (now : ℕ) → Bool
+pumps_in_place st to now = is_none (pumping_refusal st to now) && pumps_quietly_at st.lanes to.0 now

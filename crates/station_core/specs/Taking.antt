@@ -3,6 +3,7 @@ use Rattle.std.specs.Prelude.{ℕ, Bool, ◌&&◌, ◌||◌, not, ◌==◌, if�
 use Rattle.bus_frame.specs.Frames.{CanFrame}
 use Rattle.pgn_ids.specs.Address.{global_address}
 use Rattle.pgn_ids.specs.Identifier.{meaning_of}
+use Rattle.pgn_ids.specs.declared.identifier.IdMeaning.{IdMeaning}
 use Rattle.pgn_ids.specs.declared.address.Address.{Address}
 use Rattle.tp_wire.specs.Reading.{reading, is_malformed}
 use Rattle.tp_wire.specs.Rows.{written}
@@ -77,9 +78,12 @@ wire_taken st (Packet kind sequence bytes) from to room now = in_session st (key
 wire_taken st (Request pgn) from to room now = quietly (request_taken st from to pgn)
 wire_taken st (Ack control address pgn) from to room now = quietly (ack_taken st from to address pgn)
 
--- a frame of another node, to this one or to all
+-- what another node sends, to this one or to all
+abbrev pub is_meant_for : Station → IdMeaning → Bool
+is_meant_for st m = not (m.from.0 == st.address.0) && (m.to.0 == st.address.0 || m.to.0 == global_address)
+
 abbrev pub looks_at : Station → CanFrame → Bool
-looks_at st f = not ((meaning_of f.id).from.0 == st.address.0) && ((meaning_of f.id).to.0 == st.address.0 || (meaning_of f.id).to.0 == global_address)
+looks_at st f = is_meant_for st (meaning_of f.id)
 
 -- a frame that it looks at, of one of the six PGNs, that shows no row of the frame table
 abbrev pub is_malformed_for : Station → CanFrame → Bool

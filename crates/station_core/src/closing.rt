@@ -54,16 +54,22 @@ impl Station {
         }
     }
 
-    /// Takes a port out of the sets of all sessions.
-    #[tactic(auto, using(crate::proofs::Counting::closed_laws))]
+    /// Takes a port out of the sets of all sessions, by rising source: those without a session are passed over.
     fn unbind_all(&mut self, number: u64)
         ensures { self.new ≡ closed_below self.old number 254 }
     {
-        for node in 0..NODES {
-            let source = Address(node);
+        let mut from = 0;
+        for _ in 0..NODES {
+            let Some(source) = self.sessions.next_source(from) else {
+                return;
+            };
+            if source.0 >= NODES {
+                return;
+            }
             self.unbind(source, SessionKind::Broadcast, number);
             self.unbind(source, SessionKind::Tp, number);
             self.unbind(source, SessionKind::Etp, number);
+            from = source.0 + 1;
         }
     }
 

@@ -7,6 +7,9 @@ ghost use Rattle.pgn_ids.specs.Address.{is_one, global_address, null_address};
 ghost use Rattle.tp_wire.specs.declared.constants.TheConstants.{MIN_SIZE};
 ghost use Rattle.lane_core.specs.Lane.{longest_to as longest_to_of};
 ghost use Rattle.station_lanes.specs.LaneReaders.{missing_at, is_pending_at};
+ghost use Rattle.std.specs.Bool.{OnTrue, OnFalse};
+ghost use Rattle.station_core.specs.Station.{quietly};
+ghost use Rattle.station_core.specs.Quiet.{pumps_in_place};
 ghost use Rattle.station_core.specs.Sending.{lane_of, sent, next_pump, pumped, cancelled};
 ghost use Rattle.station_core.specs.Refusals.{IsAnswered, message_refusal as message_refusal_of, sending_refusal, pumping_refusal, cancelling_refusal};
 
@@ -141,6 +144,20 @@ impl Station {
         }
         let ended = self.lanes.pump(to, now, &mut self.queue);
         Ok(Events::of(self.alloc, outcome(self.address, to, ended)))
+    }
+
+    /// The same, faster, of a pump that ends no message and begins none, as most do. It answers false, and has changed nothing, where
+    /// the pump is left to `pump`, one that is refused among them.
+    pub fn pump_in_place(&mut self, to: Address, now: u64) -> bool
+        ensures value { result ≡ pumps_in_place self.old to now }
+        ensures free { OnTrue result (pumping_refusal self.old to now ≡ None) }
+        ensures step { OnTrue result (pumped self.old to now ≡ quietly self.new) }
+        ensures other { OnFalse result (self.new ≡ self.old) }
+    {
+        if self.pump_refusal(to, now).is_some() {
+            return false;
+        }
+        self.lanes.pump_in_place(to, now, &mut self.queue)
     }
 
     /// Whether a message to a destination with this number has no outcome yet.

@@ -1,5 +1,5 @@
 //! Frames that are taken, row by row (SAE J1939-21; ISO 11783-3).
-ghost use Rattle.std.specs.Prelude.{◌≡◌, ◌≤◌, ◌<◌, ◌+◌, ◌++◌, true, false, None, length, IfOk, OnErr};
+ghost use Rattle.std.specs.Prelude.{◌≡◌, ◌<◌, ◌+◌, ◌++◌, true, false, None, length, IfOk, OnErr};
 ghost use Rattle.std.specs.Bool.{OnTrue, OnFalse};
 ghost use Rattle.std.specs.Result.{result_err};
 ghost use Rattle.pgn_ids.specs.Address.{is_one};
@@ -13,14 +13,14 @@ ghost use Rattle.station_core.specs.Refusals.{IsAnswered, taking_refusal};
 ghost use Rattle.station_sessions.specs.Quiet.{ReceivesLackingRoom};
 ghost use Rattle.station_core.specs.Station.{quietly};
 ghost use Rattle.station_core.specs.Quiet.{takes_quietly, LacksRoom, cm_quiet, CmLacksRoom, session_quiet, lane_quiet};
-ghost use Rattle.station_core.specs.Taking.{packet_kind as packet_kind_of, in_opening, in_session, in_lane, abort_taken, cm_taken, answer, request_taken, ack_taken, wire_taken, looks_at as looks_at_frame, is_malformed_for, wanted, wire_wanted, taken};
+ghost use Rattle.station_core.specs.Taking.{packet_kind as packet_kind_of, in_opening, in_session, in_lane, abort_taken, cm_taken, answer, request_taken, ack_taken, wire_taken, is_meant_for, looks_at as looks_at_frame, is_malformed_for, wanted, wire_wanted, taken};
 
 use crate::refused::Refused;
 use crate::station::{Station, enqueue, enqueue_option};
 use bus_frame::Frame;
 use lane_core::LaneStep;
 use message_events::Events;
-use pgn_ids::{Address, WirePgn, read_id};
+use pgn_ids::{Address, IdMeaning, WirePgn, read_id};
 use port_table::PortSet;
 use session_table::{Key, SessionKind};
 use station_lanes::outcome;
@@ -61,7 +61,14 @@ impl Station {
     pub fn looks_at(&self, frame: &Frame) -> bool
         ensures { result ≡ looks_at_frame self.now frame.now }
     {
-        let meaning = read_id(frame.id());
+        self.is_meant(&read_id(frame.id()))
+    }
+
+    // Whether it looks at a frame whose identifier says this.
+    #[inline(always)]
+    fn is_meant(&self, meaning: &IdMeaning) -> bool
+        ensures { result ≡ is_meant_for self.now meaning.now }
+    {
         meaning.from != self.address
             && (meaning.to == self.address || meaning.to == Address::GLOBAL)
     }
@@ -119,10 +126,11 @@ impl Station {
         ensures well_formed { OnTrue result (is_malformed_for self.old frame.now ≡ false) }
         ensures other { OnFalse result (self.new ≡ self.old) }
     {
-        if !self.looks_at(frame) {
+        let meaning = read_id(frame.id());
+        if !self.is_meant(&meaning) {
             return true;
         }
-        let Some((heard, from, to)) = read_in_place(frame) else {
+        let Some((heard, from, to)) = read_in_place(frame, &meaning) else {
             return false;
         };
         match &heard {

@@ -152,7 +152,14 @@ fired_by-to (Connection s) lane now = refl
 pub fired_to : (lane : Lane) (now : ℕ) → (fired lane now).0.to ≡ lane.to
 fired_to lane now = fired_by-to lane.under_way lane now
 
+-- a lane that was pumped where it stands, or stayed as it was, is to the same destination
+pub pumped_quiet_to : (b : Bool) (lane last : Lane) (now : ℕ) → OnTrue b (last ≡ (pumped lane now).0) → OnFalse b (last ≡ lane) → last.to ≡ lane.to
+pumped_quiet_to true lane last now done other = ap (λ l. l.to) done ∙ pumped_to lane now
+pumped_quiet_to false lane last now done other = ap (λ l. l.to) other
+
 pub ruleset pumped_laws = (put_back, remove_absent, pumped_to)
+
+pub ruleset pumped_quiet_laws = (put_back, remove_absent, insert_same, pumped_quiet_to)
 
 pub ruleset fired_laws = (put_back, remove_absent, fired_to)
 

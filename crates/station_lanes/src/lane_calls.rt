@@ -1,5 +1,5 @@
 //! The calls of a lane, by its destination.
-ghost use Rattle.std.specs.Prelude.{◌≡◌, ◌≤◌, ◌||◌, ◌==◌, ◌+◌, ◌++◌, true, false, length, [], IfOk, IfSome, IfNone, OnSome, OnOk, OnErr, IfErr, IsErr, IsSome, IsTrue, Some, None, ◌↔◌};
+ghost use Rattle.std.specs.Prelude.{◌≡◌, ◌≤◌, ◌||◌, ◌==◌, ◌+◌, ◌++◌, true, false, length, IfOk, IfSome, IfNone, OnSome, OnOk, OnErr, IfErr, IsErr, IsSome, IsTrue, Some, None, ◌↔◌};
 ghost use Rattle.std.specs.FinMap as map;
 ghost use Rattle.pgn_ids.specs.Address.{is_one, global_address};
 ghost use Rattle.lane_core.specs.Hear.{heard as heard_lane};
@@ -16,7 +16,7 @@ ghost use Rattle.tp_wire.specs.Heard.{meant};
 ghost use Rattle.originator.specs.Pump.{most_frames};
 ghost use Rattle.std.specs.Bool.{OnTrue, OnFalse};
 ghost use Rattle.station_lanes.specs.LaneCalls.{stepped_lanes, step_at, lane_to};
-ghost use Rattle.station_lanes.specs.LaneReaders.{refusal_at, pumping_lane, missing_at, is_pending_at, queues_abort_at, is_due_at, hears_quietly_at, due_lane, overrun_lanes, overrun_events, is_waiting_at, count_below, HasNoConnection};
+ghost use Rattle.station_lanes.specs.LaneReaders.{refusal_at, pumping_lane, missing_at, is_pending_at, queues_abort_at, is_due_at, hears_quietly_at, pumps_quietly_at, due_lane, overrun_lanes, overrun_events, is_waiting_at, count_below, HasNoConnection};
 ghost use Rattle.std.specs.Option.{option_map};
 
 use crate::lanes::{Lanes, PLACES};
@@ -176,6 +176,25 @@ impl Lanes {
         let ended = lane.pump(now, queue);
         self.put(to, lane);
         ended
+    }
+
+    /// The same where that ends no message and begins none. Any other pump is left to `pump`, and changes nothing.
+    #[tactic(auto, using(crate::proofs::LaneLaws::pumped_quiet_laws))]
+    pub fn pump_in_place(&mut self, to: Address, now: u64, queue: &mut TxQueue) -> bool
+        requires { length queue.old + most_frames ≤ queue_limit }
+        ensures value { result ≡ pumps_quietly_at self.old to.0 now }
+        ensures lanes { OnTrue result (self.new ≡ stepped_lanes self.old to.0 (λ lane. pumped_lane lane now)) }
+        ensures queued { OnTrue result (queue.new ≡ queue.old ++ (step_at self.old to.0 (λ lane. pumped_lane lane now)).frames) }
+        ensures ended { OnTrue result ((step_at self.old to.0 (λ lane. pumped_lane lane now)).ended ≡ None) }
+        ensures other { OnFalse result (self.new ≡ self.old) }
+        ensures kept { OnFalse result (queue.new ≡ queue.old) }
+    {
+        let Some(mut lane) = self.take_out(to) else {
+            return false;
+        };
+        let is_pumped = lane.pump_in_place(now, queue);
+        self.put(to, lane);
+        is_pumped
     }
 
     /// Whether the timer of the lane to a destination is due at tick `now`.

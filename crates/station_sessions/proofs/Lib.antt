@@ -2,3 +2,4 @@ pub mod SessionMaps
 pub mod Settling
 pub mod InPlace
 pub mod Whole
+pub mod Sources

@@ -4,4 +4,5 @@ pub mod Steps
 pub mod Quiet
 pub mod Receiving
 pub mod Opening
+pub mod Sources
 pub mod CopyRoom

@@ -13,6 +13,7 @@ ghost use Rattle.station_sessions.specs.Receiving.{flow_at, received, fired_at, 
 
 mod due;
 mod opening;
+mod sources;
 
 use crate::steps::{self, Table, quiet};
 use bus_frame::Frame;

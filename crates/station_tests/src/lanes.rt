@@ -207,20 +207,27 @@ fn fires(rt: &impl Abort, lane: &mut Lane, now: u64, id: u32, bytes: &[u8]) -> R
     Ok(())
 }
 
+// Steps of a test, each of which owns nothing: where a step can end a test, what the test owns is dropped there, and each such place takes its
+// part of the proof.
+fn pushes(rt: &impl Abort, alloc: Global, lane: &mut Lane, last: u64) -> Result<(), Fail> {
+    for number in 1..=last {
+        push(rt, alloc, lane, number)?;
+    }
+    Ok(())
+}
+
 fn is_still(step: LaneStep) -> bool {
     step.frame.is_none() && step.ended.is_none()
 }
 
-#[test]
-fn messages_are_numbered(rt: HostRuntime) -> Result<(), Fail> {
-    let mut lane = lane_to(&rt, rt.alloc(), Address(0x35));
+fn fill(rt: &impl Abort, alloc: Global, lane: &mut Lane) -> Result<(), Fail> {
     for number in 1..=32 {
         assert!(rt; !lane.is_full());
-        push(&rt, rt.alloc(), &mut lane, number)?;
+        push(rt, alloc, lane, number)?;
     }
     assert!(rt; lane.is_full() && lane.pending_len() == 32 && lane.sent() == 32);
-    assert!(rt; is_pending(&lane, 32) && !is_pending(&lane, 33) && !is_pending(&lane, 0));
-    match push_bytes(&rt, &mut lane, Pgn::new(0xFECA)?, m9(rt.alloc())?) {
+    assert!(rt; is_pending(lane, 32) && !is_pending(lane, 33) && !is_pending(lane, 0));
+    match push_bytes(rt, lane, Pgn::new(0xFECA)?, m9(alloc)?) {
         Err(PushRefused::LaneFull(bytes)) => {
             assert!(rt; bytes.into_vec().as_slice() == M9.as_slice())
         }
@@ -230,34 +237,73 @@ fn messages_are_numbered(rt: HostRuntime) -> Result<(), Fail> {
 }
 
 #[test]
-fn broadcast_waits_for_its_gaps(rt: HostRuntime) -> Result<(), Fail> {
-    let announcement = [0x20, 9, 0, 2, 0xFF, 0xCA, 0xFE, 0];
-    let mut lane = lane_to(&rt, rt.alloc(), Address::GLOBAL);
-    assert!(rt; is_refused(&lane, 0, PumpRefused::NothingToSend));
-    for number in 1..=3 {
-        push(&rt, rt.alloc(), &mut lane, number)?;
-    }
-    pumps(&rt, rt.alloc(), &mut lane, 0, 0x1CEC_FF21, &announcement)?;
-    assert!(rt; is_refused(&lane, 49, PumpRefused::NotYet));
-    assert!(rt; misses(&lane, 0, 50) && misses(&lane, 49, 1) && misses(&lane, 50, 0));
-    pumps(&rt, rt.alloc(), &mut lane, 50, 0x1CEB_FF21, &FIRST)?;
-    assert!(rt; is_still(overrun(&mut lane)));
-    assert!(rt; is_refused(&lane, 99, PumpRefused::NotYet));
-    let ended = pump(
-        &rt,
-        rt.alloc(),
-        &mut lane,
-        100,
-        &[frame(0x1CEB_FF21, &LAST)?],
-    )?;
+fn messages_are_numbered(rt: HostRuntime) -> Result<(), Fail> {
+    let mut lane = lane_to(&rt, rt.alloc(), Address(0x35));
+    fill(&rt, rt.alloc(), &mut lane)
+}
+
+const ANNOUNCEMENT: [u8; 8] = [0x20, 9, 0, 2, 0xFF, 0xCA, 0xFE, 0];
+
+// The three frames of a message to all, each 50 ticks after the one before.
+fn broadcast(rt: &impl Abort, alloc: Global, lane: &mut Lane) -> Result<(), Fail> {
+    pumps(rt, alloc, lane, 0, 0x1CEC_FF21, &ANNOUNCEMENT)?;
+    assert!(rt; is_refused(lane, 49, PumpRefused::NotYet));
+    assert!(rt; misses(lane, 0, 50) && misses(lane, 49, 1) && misses(lane, 50, 0));
+    pumps(rt, alloc, lane, 50, 0x1CEB_FF21, &FIRST)?;
+    assert!(rt; is_still(overrun(lane)));
+    assert!(rt; is_refused(lane, 99, PumpRefused::NotYet));
+    let ended = pump(rt, alloc, lane, 100, &[frame(0x1CEB_FF21, &LAST)?])?;
     assert!(rt; is_end(ended, 1, Outcome::Broadcast));
-    assert!(rt; misses(&lane, 100, 0));
-    // The lane to all settles at once, whatever the outcome.
-    pumps(&rt, rt.alloc(), &mut lane, 100, 0x1CEC_FF21, &announcement)?;
-    assert!(rt; !queues_abort(&lane, 2));
-    ends(&rt, cancel(&rt, &mut lane, 2), 2, Outcome::Cancelled);
-    pumps(&rt, rt.alloc(), &mut lane, 101, 0x1CEC_FF21, &announcement)?;
+    assert!(rt; misses(lane, 100, 0));
     Ok(())
+}
+
+fn broadcast_three(rt: &impl Abort, alloc: Global, lane: &mut Lane) -> Result<(), Fail> {
+    assert!(rt; is_refused(lane, 0, PumpRefused::NothingToSend));
+    pushes(rt, alloc, lane, 3)?;
+    broadcast(rt, alloc, lane)?;
+    // The lane to all settles at once, whatever the outcome.
+    pumps(rt, alloc, lane, 100, 0x1CEC_FF21, &ANNOUNCEMENT)?;
+    assert!(rt; !queues_abort(lane, 2));
+    ends(rt, cancel(rt, lane, 2), 2, Outcome::Cancelled);
+    pumps(rt, alloc, lane, 101, 0x1CEC_FF21, &ANNOUNCEMENT)
+}
+
+// A pump that ends nothing and begins nothing queues this frame where the lane stands.
+fn is_pumped_in_place(
+    alloc: Global,
+    lane: &mut Lane,
+    now: u64,
+    packet: &[u8],
+) -> Result<bool, Fail> {
+    let mut queue = TxQueue::new(alloc)?;
+    let is_pumped = lane.pump_in_place(now, &mut queue);
+    Ok(is_pumped && queue.pop() == Some(frame(0x1CEB_FF21, packet)?))
+}
+
+// Of a message to all of two packets that is the first one alone.
+fn pumps_in_place(rt: &impl Abort, alloc: Global, lane: &mut Lane) -> Result<(), Fail> {
+    pushes(rt, alloc, lane, 1)?;
+    assert!(rt; !is_pumped_in_place(alloc, lane, 0, &FIRST)?);
+    pumps(rt, alloc, lane, 0, 0x1CEC_FF21, &ANNOUNCEMENT)?;
+    assert!(rt; !is_pumped_in_place(alloc, lane, 49, &FIRST)?);
+    assert!(rt; is_pumped_in_place(alloc, lane, 50, &FIRST)?);
+    assert!(rt; !is_pumped_in_place(alloc, lane, 100, &LAST)?);
+    let ended = pump(rt, alloc, lane, 100, &[frame(0x1CEB_FF21, &LAST)?])?;
+    assert!(rt; is_end(ended, 1, Outcome::Broadcast));
+    Ok(())
+}
+
+#[test]
+fn packets_are_pumped_where_their_lane_stands(rt: HostRuntime) -> Result<(), Fail> {
+    let mut lane = lane_to(&rt, rt.alloc(), Address::GLOBAL);
+    pumps_in_place(&rt, rt.alloc(), &mut lane)
+}
+
+#[test]
+fn broadcast_waits_for_its_gaps(rt: HostRuntime) -> Result<(), Fail> {
+    let mut lane = lane_to(&rt, rt.alloc(), Address::GLOBAL);
+    broadcast_three(&rt, rt.alloc(), &mut lane)
 }
 
 // Takes a message that was begun to its last packet, from 21 to 35, and leaves the end acknowledgement to come.
@@ -272,161 +318,151 @@ fn sends_packets(rt: &impl Abort, alloc: Global, lane: &mut Lane, now: u64) -> R
     Ok(())
 }
 
+fn answers(lane: &mut Lane, token: u32) -> Result<(), Fail> {
+    answer(lane, WirePgn::new(token)?);
+    Ok(())
+}
+
+// What is due ends a message by this abort to a node.
+fn times_out(rt: &impl Abort, lane: &mut Lane, id: u32) -> Result<(), Fail> {
+    let step = fire(rt, lane, 1250);
+    ends_by_abort(rt, step, id, abort(3), 1, Outcome::TimedOut)
+}
+
+// The second message waits for the Acknowledgement; the late end of message acknowledgement is not of it.
+fn first_round(rt: &impl Abort, alloc: Global, lane: &mut Lane) -> Result<(), Fail> {
+    pumps(rt, alloc, lane, 1250, REQUEST_TO_35, &[0, 0xEC, 0])?;
+    assert!(rt; is_still(hear(lane, end_acknowledgement()?, 1250)));
+    assert!(rt; is_refused(lane, 1250, PumpRefused::NothingToSend));
+    fires(rt, lane, 2500, REQUEST_TO_35, &[0, 0xEC, 0])?;
+    assert!(rt; is_still(overrun(lane)));
+    answers(lane, 0xEC00)?;
+    pumps(rt, alloc, lane, 2500, CM_TO_35, &RTS)?;
+    assert!(rt; queues_abort(lane, 2) && !queues_abort(lane, 3));
+    let step = cancel(rt, lane, 2);
+    ends_by_abort(rt, step, CM_TO_35, abort(250), 2, Outcome::Cancelled)
+}
+
+// The answer to the second Request of the first round comes in the second one.
+fn second_round(rt: &impl Abort, alloc: Global, lane: &mut Lane) -> Result<(), Fail> {
+    pumps(rt, alloc, lane, 2500, REQUEST_TO_35, &[0, 0xEB, 0])?;
+    answers(lane, 0xEC00)?;
+    assert!(rt; is_refused(lane, 2500, PumpRefused::NothingToSend));
+    answers(lane, 0xEB00)?;
+    pumps(rt, alloc, lane, 2500, CM_TO_35, &RTS)?;
+    sends_packets(rt, alloc, lane, 2500)?;
+    let step = hear(lane, end_acknowledgement()?, 2600);
+    ends(rt, step, 3, Outcome::Acknowledged);
+    Ok(())
+}
+
+fn settle(rt: &impl Abort, alloc: Global, lane: &mut Lane) -> Result<(), Fail> {
+    pushes(rt, alloc, lane, 3)?;
+    pumps(rt, alloc, lane, 0, CM_TO_35, &RTS)?;
+    sends_packets(rt, alloc, lane, 0)?;
+    assert!(rt; !is_due(lane, 1249));
+    times_out(rt, lane, CM_TO_35)?;
+    first_round(rt, alloc, lane)?;
+    second_round(rt, alloc, lane)?;
+    // It stays settled.
+    push(rt, alloc, lane, 4)?;
+    pumps(rt, alloc, lane, 2600, CM_TO_35, &RTS)
+}
+
 #[test]
 fn lane_settles_after_a_timeout(rt: HostRuntime) -> Result<(), Fail> {
-    let cm_token = WirePgn::new(0xEC00)?;
-    let dt_token = WirePgn::new(0xEB00)?;
     let mut lane = lane_to(&rt, rt.alloc(), Address(0x35));
-    for number in 1..=3 {
-        push(&rt, rt.alloc(), &mut lane, number)?;
-    }
-    pumps(&rt, rt.alloc(), &mut lane, 0, CM_TO_35, &RTS)?;
-    sends_packets(&rt, rt.alloc(), &mut lane, 0)?;
-    assert!(rt; !is_due(&lane, 1249));
-    ends_by_abort(
-        &rt,
-        fire(&rt, &mut lane, 1250),
-        CM_TO_35,
-        abort(3),
-        1,
-        Outcome::TimedOut,
-    )?;
-    // The second message waits for the Acknowledgement; the late end of message acknowledgement is not of it.
-    pumps(
-        &rt,
-        rt.alloc(),
-        &mut lane,
-        1250,
-        REQUEST_TO_35,
-        &[0, 0xEC, 0],
-    )?;
-    assert!(rt; is_still(hear(&mut lane, end_acknowledgement()?, 1250)));
-    assert!(rt; is_refused(&lane, 1250, PumpRefused::NothingToSend));
-    fires(&rt, &mut lane, 2500, REQUEST_TO_35, &[0, 0xEC, 0])?;
-    assert!(rt; is_still(overrun(&mut lane)));
-    answer(&mut lane, cm_token);
-    pumps(&rt, rt.alloc(), &mut lane, 2500, CM_TO_35, &RTS)?;
-    assert!(rt; queues_abort(&lane, 2) && !queues_abort(&lane, 3));
-    ends_by_abort(
-        &rt,
-        cancel(&rt, &mut lane, 2),
-        CM_TO_35,
-        abort(250),
-        2,
-        Outcome::Cancelled,
-    )?;
-    // The answer to the second Request of the first round comes in the second one.
-    pumps(
-        &rt,
-        rt.alloc(),
-        &mut lane,
-        2500,
-        REQUEST_TO_35,
-        &[0, 0xEB, 0],
-    )?;
-    answer(&mut lane, cm_token);
-    assert!(rt; is_refused(&lane, 2500, PumpRefused::NothingToSend));
-    answer(&mut lane, dt_token);
-    pumps(&rt, rt.alloc(), &mut lane, 2500, CM_TO_35, &RTS)?;
-    sends_packets(&rt, rt.alloc(), &mut lane, 2500)?;
-    ends(
-        &rt,
-        hear(&mut lane, end_acknowledgement()?, 2600),
-        3,
-        Outcome::Acknowledged,
-    );
-    // It stays settled.
-    push(&rt, rt.alloc(), &mut lane, 4)?;
-    pumps(&rt, rt.alloc(), &mut lane, 2600, CM_TO_35, &RTS)?;
+    settle(&rt, rt.alloc(), &mut lane)
+}
+
+// A Request to 80 at this tick.
+fn requests(rt: &impl Abort, alloc: Global, lane: &mut Lane, now: u64) -> Result<(), Fail> {
+    pumps(rt, alloc, lane, now, REQUEST_TO_80, &[0, 0xEC, 0])
+}
+
+fn requests_again(rt: &impl Abort, lane: &mut Lane, now: u64) -> Result<(), Fail> {
+    fires(rt, lane, now, REQUEST_TO_80, &[0, 0xEC, 0])
+}
+
+fn no_answer(rt: &impl Abort, alloc: Global, lane: &mut Lane) -> Result<(), Fail> {
+    requests(rt, alloc, lane, 1250)?;
+    assert!(rt; !is_due(lane, 2499));
+    requests_again(rt, lane, 2500)?;
+    requests_again(rt, lane, 3750)?;
+    ends(rt, fire(rt, lane, 5000), 2, Outcome::Unreachable);
+    assert!(rt; !is_due(lane, u64::MAX) && lane.pending_len() == 0);
     Ok(())
+}
+
+// A round whose message was cancelled ends without an outcome, and the next one asks anew.
+fn no_message(rt: &impl Abort, alloc: Global, lane: &mut Lane) -> Result<(), Fail> {
+    push(rt, alloc, lane, 3)?;
+    requests(rt, alloc, lane, 5000)?;
+    ends(rt, cancel(rt, lane, 3), 3, Outcome::Cancelled);
+    requests_again(rt, lane, 6250)?;
+    requests_again(rt, lane, 7500)?;
+    assert!(rt; is_still(fire(rt, lane, 8750)));
+    push(rt, alloc, lane, 4)?;
+    requests(rt, alloc, lane, 8750)
+}
+
+fn stay_silent(rt: &impl Abort, alloc: Global, lane: &mut Lane) -> Result<(), Fail> {
+    pushes(rt, alloc, lane, 2)?;
+    pumps(rt, alloc, lane, 0, CM_TO_80, &RTS)?;
+    times_out(rt, lane, CM_TO_80)?;
+    no_answer(rt, alloc, lane)?;
+    no_message(rt, alloc, lane)
 }
 
 #[test]
 fn silent_node_is_unreachable(rt: HostRuntime) -> Result<(), Fail> {
     let mut lane = lane_to(&rt, rt.alloc(), Address(0x80));
-    push(&rt, rt.alloc(), &mut lane, 1)?;
-    push(&rt, rt.alloc(), &mut lane, 2)?;
-    pumps(&rt, rt.alloc(), &mut lane, 0, CM_TO_80, &RTS)?;
+    stay_silent(&rt, rt.alloc(), &mut lane)
+}
+
+// A CTS ends a message by an abort to 80.
+fn cts_ends(
+    rt: &impl Abort,
+    lane: &mut Lane,
+    granted: u8,
+    next: u8,
+    reason: u8,
+) -> Result<(), Fail> {
+    let step = hear(lane, cts(granted, next)?, 0);
     ends_by_abort(
-        &rt,
-        fire(&rt, &mut lane, 1250),
+        rt,
+        step,
         CM_TO_80,
-        abort(3),
+        abort(reason),
         1,
-        Outcome::TimedOut,
-    )?;
-    pumps(
-        &rt,
-        rt.alloc(),
-        &mut lane,
-        1250,
-        REQUEST_TO_80,
-        &[0, 0xEC, 0],
-    )?;
-    assert!(rt; !is_due(&lane, 2499));
-    fires(&rt, &mut lane, 2500, REQUEST_TO_80, &[0, 0xEC, 0])?;
-    fires(&rt, &mut lane, 3750, REQUEST_TO_80, &[0, 0xEC, 0])?;
-    ends(&rt, fire(&rt, &mut lane, 5000), 2, Outcome::Unreachable);
-    assert!(rt; !is_due(&lane, u64::MAX) && lane.pending_len() == 0);
-    // A round whose message was cancelled ends without an outcome, and the next one asks anew.
-    push(&rt, rt.alloc(), &mut lane, 3)?;
-    pumps(
-        &rt,
-        rt.alloc(),
-        &mut lane,
-        5000,
-        REQUEST_TO_80,
-        &[0, 0xEC, 0],
-    )?;
-    ends(&rt, cancel(&rt, &mut lane, 3), 3, Outcome::Cancelled);
-    fires(&rt, &mut lane, 6250, REQUEST_TO_80, &[0, 0xEC, 0])?;
-    fires(&rt, &mut lane, 7500, REQUEST_TO_80, &[0, 0xEC, 0])?;
-    assert!(rt; is_still(fire(&rt, &mut lane, 8750)));
-    push(&rt, rt.alloc(), &mut lane, 4)?;
-    pumps(
-        &rt,
-        rt.alloc(),
-        &mut lane,
-        8750,
-        REQUEST_TO_80,
-        &[0, 0xEC, 0],
-    )?;
-    Ok(())
+        Outcome::Aborted(reason),
+    )
+}
+
+fn send_thrice(rt: &impl Abort, alloc: Global, lane: &mut Lane) -> Result<(), Fail> {
+    let packets = [frame(0x1CEB_8021, &FIRST)?, frame(0x1CEB_8021, &LAST)?];
+    pushes(rt, alloc, lane, 2)?;
+    pumps(rt, alloc, lane, 0, CM_TO_80, &RTS)?;
+    for _ in 0..3 {
+        assert!(rt; is_still(hear(lane, cts(2, 1)?, 0)));
+        assert!(rt; pump(rt, alloc, lane, 0, &packets)?.is_none());
+    }
+    cts_ends(rt, lane, 2, 1, 5)?;
+    requests(rt, alloc, lane, 0)
+}
+
+fn skip_one(rt: &impl Abort, alloc: Global, lane: &mut Lane) -> Result<(), Fail> {
+    push(rt, alloc, lane, 1)?;
+    pumps(rt, alloc, lane, 0, CM_TO_80, &RTS)?;
+    cts_ends(rt, lane, 1, 2, 250)
 }
 
 #[test]
 fn packets_are_sent_again_twice(rt: HostRuntime) -> Result<(), Fail> {
-    let packets = [frame(0x1CEB_8021, &FIRST)?, frame(0x1CEB_8021, &LAST)?];
     let mut lane = lane_to(&rt, rt.alloc(), Address(0x80));
-    push(&rt, rt.alloc(), &mut lane, 1)?;
-    push(&rt, rt.alloc(), &mut lane, 2)?;
-    pumps(&rt, rt.alloc(), &mut lane, 0, CM_TO_80, &RTS)?;
-    for _ in 0..3 {
-        assert!(rt; is_still(hear(&mut lane, cts(2, 1)?, 0)));
-        assert!(rt; pump(&rt, rt.alloc(), &mut lane, 0, &packets)?.is_none());
-    }
-    ends_by_abort(
-        &rt,
-        hear(&mut lane, cts(2, 1)?, 0),
-        CM_TO_80,
-        abort(5),
-        1,
-        Outcome::Aborted(5),
-    )?;
-    pumps(&rt, rt.alloc(), &mut lane, 0, REQUEST_TO_80, &[0, 0xEC, 0])?;
-
-    let mut lane = lane_to(&rt, rt.alloc(), Address(0x80));
-    push(&rt, rt.alloc(), &mut lane, 1)?;
-    pumps(&rt, rt.alloc(), &mut lane, 0, CM_TO_80, &RTS)?;
-    ends_by_abort(
-        &rt,
-        hear(&mut lane, cts(1, 2)?, 0),
-        CM_TO_80,
-        abort(250),
-        1,
-        Outcome::Aborted(250),
-    )?;
-    Ok(())
+    send_thrice(&rt, rt.alloc(), &mut lane)?;
+    lane = lane_to(&rt, rt.alloc(), Address(0x80));
+    skip_one(&rt, rt.alloc(), &mut lane)
 }
 
 // A message of 1,786 bytes, the first of its lane.
@@ -448,46 +484,57 @@ fn begins_window(rt: &impl Abort, alloc: Global, lane: &mut Lane, dpo: Frame) ->
     Ok(())
 }
 
-#[test]
-fn abort_and_overrun_leave_doubt(rt: HostRuntime) -> Result<(), Fail> {
-    let other = WirePgn::new(0xFECB)?;
-    let mut lane = lane_to(&rt, rt.alloc(), Address(0x35));
+fn changes_nothing(rt: &impl Abort, lane: &mut Lane, frame: CmFrame) {
+    assert!(rt; is_still(hear(lane, frame, 0)));
+}
+
+// An abort of another message, or of another protocol, is none of this one.
+fn hear_aborts(rt: &impl Abort, alloc: Global, lane: &mut Lane) -> Result<(), Fail> {
+    let (pgn, other) = (pgn()?, WirePgn::new(0xFECB)?);
     assert!(rt; lane.from() == FROM && lane.to() == Address(0x35));
-    push(&rt, rt.alloc(), &mut lane, 1)?;
-    pumps(&rt, rt.alloc(), &mut lane, 0, CM_TO_35, &RTS)?;
-    for frame in [
+    push(rt, alloc, lane, 1)?;
+    pumps(rt, alloc, lane, 0, CM_TO_35, &RTS)?;
+    changes_nothing(
+        rt,
+        lane,
         CmFrame::Abort {
             reason: 2,
             pgn: other,
         },
-        CmFrame::EtpAbort {
-            reason: 2,
-            pgn: pgn()?,
-        },
-    ] {
-        assert!(rt; is_still(hear(&mut lane, frame, 0)));
-    }
-    let abort = CmFrame::Abort {
-        reason: 2,
-        pgn: pgn()?,
-    };
-    ends(&rt, hear(&mut lane, abort, 0), 1, Outcome::Aborted(2));
+    );
+    changes_nothing(rt, lane, CmFrame::EtpAbort { reason: 2, pgn });
+    let step = hear(lane, CmFrame::Abort { reason: 2, pgn }, 0);
+    ends(rt, step, 1, Outcome::Aborted(2));
+    Ok(())
+}
 
-    let mut lane = lane_to(&rt, rt.alloc(), Address(0x35));
-    push_long(&rt, rt.alloc(), &mut lane)?;
-    push(&rt, rt.alloc(), &mut lane, 2)?;
+fn miss_frames(rt: &impl Abort, alloc: Global, lane: &mut Lane) -> Result<(), Fail> {
+    push_long(rt, alloc, lane)?;
+    push(rt, alloc, lane, 2)?;
     let request = [0x14, 0xFA, 6, 0, 0, 0xCA, 0xFE, 0];
-    pumps(&rt, rt.alloc(), &mut lane, 0, 0x1CC8_3521, &request)?;
+    pumps(rt, alloc, lane, 0, 0x1CC8_3521, &request)?;
     let cts = CmFrame::EtpCts {
         granted: 64,
         next: 1,
         pgn: pgn()?,
     };
-    assert!(rt; is_still(hear(&mut lane, cts, 0)));
+    changes_nothing(rt, lane, cts);
     let dpo = frame(0x1CC8_3521, &[0x16, 0x40, 0, 0, 0, 0xCA, 0xFE, 0])?;
-    begins_window(&rt, rt.alloc(), &mut lane, dpo)?;
-    ends(&rt, overrun(&mut lane), 1, Outcome::Overrun);
-    pumps(&rt, rt.alloc(), &mut lane, 0, REQUEST_TO_35, &[0, 0xEC, 0])?;
+    begins_window(rt, alloc, lane, dpo)?;
+    ends(rt, overrun(lane), 1, Outcome::Overrun);
+    pumps(rt, alloc, lane, 0, REQUEST_TO_35, &[0, 0xEC, 0])
+}
+
+#[test]
+fn abort_and_overrun_leave_doubt(rt: HostRuntime) -> Result<(), Fail> {
+    let mut lane = lane_to(&rt, rt.alloc(), Address(0x35));
+    hear_aborts(&rt, rt.alloc(), &mut lane)?;
+    lane = lane_to(&rt, rt.alloc(), Address(0x35));
+    miss_frames(&rt, rt.alloc(), &mut lane)
+}
+
+#[test]
+fn bytes_are_copied(rt: HostRuntime) -> Result<(), Fail> {
     let copy = m9(rt.alloc())?.copy(rt.alloc())?;
     assert!(rt; copy.as_slice() == M9.as_slice() && copy.len() == 9);
     Ok(())

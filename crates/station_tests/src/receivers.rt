@@ -94,6 +94,10 @@ fn unbind(sessions: &mut Receivers, number: u64) -> Option<Frame> {
     sessions.unbind(KEY, number)
 }
 
+fn next_source(sessions: &Receivers, from: u8) -> Option<Address> {
+    sessions.next_source(from)
+}
+
 fn next_due(sessions: &Receivers, now: u64) -> Option<Key> {
     sessions.next_due(now)
 }
@@ -233,6 +237,8 @@ fn end_by_the_last_packet(
         sequence: 2,
         bytes: &[8, 9, 255, 255, 255, 255, 255],
     };
+    assert!(rt; next_source(sessions, 0x21) == Some(KEY.source));
+    assert!(rt; next_source(sessions, 0x22).is_none());
     assert!(rt; is_taken_in_place(alloc, sessions, ports, &first)?);
     assert!(rt; !is_taken_in_place(alloc, sessions, ports, &last)?);
     gives(rt, alloc, sessions, ports, &LAST, &[1, 2])

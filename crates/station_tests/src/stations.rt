@@ -114,12 +114,6 @@ fn open(station: &mut Station, pgn: Pgn) -> Result<(), Fail> {
     Ok(())
 }
 
-fn with_port(alloc: Global) -> Result<Station, Fail> {
-    let mut station = new_station(alloc, B)?;
-    open(&mut station, Pgn::new(FECA)?)?;
-    Ok(station)
-}
-
 // Calls of which a test only looks at the answer: their contracts are not carried through it.
 fn overruns(rt: &impl Abort, station: &mut Station) -> Result<(), Fail> {
     assert!(rt; station.overrun()?.is_empty());
@@ -317,13 +311,25 @@ fn play(rt: &impl Abort, alloc: Global, station: &mut Station, turn: &Turn) -> R
     }
 }
 
-/// Plays the turns at station 35 with one port.
-fn play_all(rt: &impl Abort, alloc: Global, turns: &[Turn]) -> Result<(), Fail> {
-    let mut station = with_port(alloc)?;
+// A test's steps are functions of their own, which own nothing: where a step can end a test, what the test owns is dropped there, and each
+// such place takes its part of the proof.
+fn open_and_play(
+    rt: &impl Abort,
+    alloc: Global,
+    station: &mut Station,
+    turns: &[Turn],
+) -> Result<(), Fail> {
+    open(station, Pgn::new(FECA)?)?;
     for turn in turns {
-        play(rt, alloc, &mut station, turn)?;
+        play(rt, alloc, station, turn)?;
     }
     Ok(())
+}
+
+/// Plays the turns at station 35 with one port.
+fn play_all(rt: &impl Abort, alloc: Global, turns: &[Turn]) -> Result<(), Fail> {
+    let mut station = new_station(alloc, B)?;
+    open_and_play(rt, alloc, &mut station, turns)
 }
 
 const IS_TAKEN: Turn = Turn::Answers(RTS_OF_80, RTS, CTS);
@@ -432,6 +438,22 @@ fn pumps(rt: &impl Abort, station: &mut Station, refused: Option<Refused>) {
     }
 }
 
+// The first packet of a message to all is queued where the station stands; its announcement and its last packet aren't.
+fn pumps_in_place(rt: &impl Abort, station: &mut Station) -> Result<(), Fail> {
+    assert!(rt; !station.pump_in_place(Address::GLOBAL, 0));
+    assert!(rt; pump(station, Address::GLOBAL, 0)?.is_empty());
+    assert!(rt; !station.pump_in_place(Address::GLOBAL, 49) && station.queue_len() == 1);
+    assert!(rt; station.pump_in_place(Address::GLOBAL, 50) && station.queue_len() == 2);
+    assert!(rt; !station.pump_in_place(Address::GLOBAL, 100) && station.queue_len() == 2);
+    Ok(())
+}
+
+fn sends_to_all(rt: &impl Abort, alloc: Global, station: &mut Station) -> Result<(), Fail> {
+    let number = send(alloc, station, Address::GLOBAL, &M9)??;
+    assert!(rt; number == 1);
+    pumps_in_place(rt, station)
+}
+
 // A message of its own ends as cancelled, and is then no more.
 fn cancels(rt: &impl Abort, alloc: Global, station: &mut Station, number: u64) -> Result<(), Fail> {
     let mut seen = nothing_seen(alloc);
@@ -489,9 +511,19 @@ fn only_nodes_have_stations(rt: HostRuntime) -> Result<(), Fail> {
 }
 
 #[test]
+fn packets_are_pumped_where_their_station_stands(rt: HostRuntime) -> Result<(), Fail> {
+    let mut station = new_station(rt.alloc(), A)?;
+    sends_to_all(&rt, rt.alloc(), &mut station)
+}
+
+fn begin_and_cancel(rt: &impl Abort, alloc: Global, station: &mut Station) -> Result<(), Fail> {
+    is_bare(rt, alloc, station)?;
+    open(station, Pgn::new(FECA)?)?;
+    sends_and_cancels(rt, alloc, station)
+}
+
+#[test]
 fn a_message_is_cancelled(rt: HostRuntime) -> Result<(), Fail> {
     let mut station = new_station(rt.alloc(), A)?;
-    is_bare(&rt, rt.alloc(), &mut station)?;
-    open(&mut station, Pgn::new(FECA)?)?;
-    sends_and_cancels(&rt, rt.alloc(), &mut station)
+    begin_and_cancel(&rt, rt.alloc(), &mut station)
 }

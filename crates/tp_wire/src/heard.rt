@@ -10,7 +10,7 @@ use crate::constants::{ETP_DT, TP_DT};
 use crate::reader::read;
 use crate::wire::{CmFrame, Kind, Wire};
 use bus_frame::Frame;
-use pgn_ids::{Address, WirePgn, read_id};
+use pgn_ids::{Address, IdMeaning, WirePgn};
 
 /// What a frame that is taken means. The bytes of a packet stay in their frame: packets are most of what comes, and
 /// their bytes are copied once, to the message.
@@ -96,14 +96,17 @@ fn read_other(frame: &Frame) -> Option<(Heard<'_>, Address, Address)>
     Some((heard, from, to))
 }
 
-/// What a frame means, from whom and to whom, exactly where `read` has a meaning, and the same one, with a packet's bytes
-/// left where they stand.
+/// What a frame means whose identifier has this meaning, from whom and to whom: exactly where `read` has a meaning, and
+/// the same one, with a packet's bytes left where they stand.
 #[inline(always)]
 #[tactic(auto, unfolding(crate::specs::Reading::reading, crate::specs::Reading::body_of))]
-pub fn read_in_place(frame: &Frame) -> Option<(Heard<'_>, Address, Address)>
+pub fn read_in_place<'a>(
+    frame: &'a Frame,
+    meaning: &IdMeaning,
+) -> Option<(Heard<'a>, Address, Address)>
+    requires { meaning.now ≡ meaning_of frame.now.id }
     ensures { option_map meant_between result ≡ reading frame.now }
 {
-    let meaning = read_id(frame.id());
     match meaning.pgn.raw() {
         TP_DT => packet_between(Kind::Tp, meaning.from, meaning.to, frame.bytes()),
         ETP_DT => packet_between(Kind::Etp, meaning.from, meaning.to, frame.bytes()),
