@@ -9,5 +9,3 @@ mod lines;
 mod listeners;
 #[cfg(test)]
 mod logs;
-#[cfg(test)]
-mod words;

@@ -1,41 +1,43 @@
 //! Lines of logs.
 use bus_frame::{CanId, Frame};
 use log_text::*;
+use std::process::Abort;
 use std::test::Fail;
+
+fn shows(
+    rt: &impl Abort,
+    line: &str,
+    time: u64,
+    name: &[u8],
+    id: u32,
+    bytes: [u8; 8],
+) -> Result<(), Fail> {
+    let shown = LogLine::Frame {
+        time: Some(time),
+        iface: Iface::new(name)?,
+        frame: Frame::full(CanId::new(id)?, bytes),
+    };
+    assert!(rt; read_log_line(line.as_bytes()) == Ok(shown), "at {line}");
+    Ok(())
+}
 
 #[test]
 fn lines_show_frames(rt: HostRuntime) -> Result<(), Fail> {
-    for (line, time, name, id, bytes) in [
-        (
-            "(1436509052.249713) vcan0 1CECFF21#20090002FFCAFE00",
-            1_436_509_052_249_713,
-            "vcan0",
-            0x1CEC_FF21,
-            [0x20, 0x09, 0x00, 0x02, 0xFF, 0xCA, 0xFE, 0x00],
-        ),
-        (
-            "(0.000001)  can1  00000000#0102030405060708 R",
-            1,
-            "can1",
-            0,
-            [1, 2, 3, 4, 5, 6, 7, 8],
-        ),
-        (
-            "(18446744073709.551615) slcan-0 1fffffff#ffeeddccbbaa9988 T",
-            u64::MAX,
-            "slcan-0",
-            0x1FFF_FFFF,
-            [0xFF, 0xEE, 0xDD, 0xCC, 0xBB, 0xAA, 0x99, 0x88],
-        ),
-    ] {
-        let shown = LogLine::Frame {
-            time: Some(time),
-            iface: Iface::new(name.as_bytes())?,
-            frame: Frame::full(CanId::new(id)?, bytes),
-        };
-        assert!(rt; read_log_line(line.as_bytes()) == Ok(shown), "at {line}");
-    }
-    Ok(())
+    let line = "(1436509052.249713) vcan0 1CECFF21#20090002FFCAFE00";
+    let bytes = [0x20, 0x09, 0x00, 0x02, 0xFF, 0xCA, 0xFE, 0x00];
+    shows(
+        &rt,
+        line,
+        1_436_509_052_249_713,
+        b"vcan0",
+        0x1CEC_FF21,
+        bytes,
+    )?;
+    let line = "(0.000001)  can1  00000000#0102030405060708 R";
+    shows(&rt, line, 1, b"can1", 0, [1, 2, 3, 4, 5, 6, 7, 8])?;
+    let line = "(18446744073709.551615) slcan-0 1fffffff#ffeeddccbbaa9988 T";
+    let bytes = [0xFF, 0xEE, 0xDD, 0xCC, 0xBB, 0xAA, 0x99, 0x88];
+    shows(&rt, line, u64::MAX, b"slcan-0", 0x1FFF_FFFF, bytes)
 }
 
 #[test]
@@ -49,44 +51,44 @@ fn lines_of_a_screen_show_frames(rt: HostRuntime) -> Result<(), Fail> {
     Ok(())
 }
 
+const PASSED: [&str; 8] = [
+    "",
+    "vcan0  1CECFF21   [8]  20 09 00 02 FF CA FE",
+    "vcan0  123   [1]  20",
+    "  vcan0  18FEF100   [0]  remote request",
+    "(1.000000) can0 123#0102",
+    "(1.000000) can0 18FEF100#R",
+    "(1.000000) can0 18FEF100##1FF",
+    "(1.000000) can0 20000004#0000000000000000",
+];
+
+const REFUSED: [&str; 14] = [
+    "(",
+    "(1.00000) can0 18FEF100#00",
+    "(1.0000000) can0 18FEF100#00",
+    "(.000000) can0 18FEF100#00",
+    "(18446744073709.551616) can0 18FEF100#00",
+    "(1.000000) interface-of-16b 18FEF100#00",
+    "(1.000000) can0",
+    "(1.000000) can0 18FEF100",
+    "(1.000000) can0 18FEF10#00",
+    "(1.000000) can0 18FEF100#0",
+    "(1.000000) can0 18FEF100#0G",
+    "(1.000000) can0 18FEF100#010203040506070809",
+    "(1.000000) can0 18FEF100#00 X",
+    "(1.000000) can0 18FEF100#00 R R",
+];
+
+fn are_read(rt: &impl Abort, lines: &[&str], expected: &Result<LogLine, NotLogLine>) {
+    for line in lines {
+        assert!(rt; read_log_line(line.as_bytes()) == *expected, "at {line}");
+    }
+}
+
 #[test]
 fn other_lines_are_passed_over_or_refused(rt: HostRuntime) {
-    for line in [
-        "",
-        "vcan0  1CECFF21   [8]  20 09 00 02 FF CA FE",
-        "vcan0  123   [1]  20",
-        "  vcan0  18FEF100   [0]  remote request",
-        "(1.000000) can0 123#0102",
-        "(1.000000) can0 18FEF100#R",
-        "(1.000000) can0 18FEF100##1FF",
-        "(1.000000) can0 20000004#0000000000000000",
-    ] {
-        assert!(rt;
-            read_log_line(line.as_bytes()) == Ok(LogLine::Passed),
-            "at {line}"
-        );
-    }
-    for line in [
-        "(",
-        "(1.00000) can0 18FEF100#00",
-        "(1.0000000) can0 18FEF100#00",
-        "(.000000) can0 18FEF100#00",
-        "(18446744073709.551616) can0 18FEF100#00",
-        "(1.000000) interface-of-16b 18FEF100#00",
-        "(1.000000) can0",
-        "(1.000000) can0 18FEF100",
-        "(1.000000) can0 18FEF10#00",
-        "(1.000000) can0 18FEF100#0",
-        "(1.000000) can0 18FEF100#0G",
-        "(1.000000) can0 18FEF100#010203040506070809",
-        "(1.000000) can0 18FEF100#00 X",
-        "(1.000000) can0 18FEF100#00 R R",
-    ] {
-        assert!(rt;
-            read_log_line(line.as_bytes()) == Err(NotLogLine),
-            "at {line}"
-        );
-    }
+    are_read(&rt, &PASSED, &Ok(LogLine::Passed));
+    are_read(&rt, &REFUSED, &Err(NotLogLine));
 }
 
 #[test]

@@ -39,6 +39,14 @@ fn decoded(
     run_decode(alloc, options, &mut reader, out)
 }
 
+/// What is printed of a log, and what is counted.
+fn prints(rt: &impl Abort, alloc: Global, options: &Options, log: &str, text: &str) -> Decoded {
+    let mut out = Vec::new(alloc);
+    let decoded = decoded(rt, alloc, options, log, &mut out, text);
+    assert_eq!(rt; out.as_slice(), text.as_bytes());
+    decoded
+}
+
 /// Five messages on two interfaces, one between the packets of the other; node 90 sends a packet twice.
 const FIVE: &str = "\
 (1700000000.000000) can0 1CECFF21#20090002FFCAFE00\n\
@@ -79,11 +87,9 @@ const FIVE_GIVEN: &str = "\
 ";
 
 #[test]
-fn interleaved_messages_are_given(rt: HostRuntime) -> Result<(), Fail> {
-    let alloc = rt.alloc();
-    let mut out = Vec::new(alloc);
-    let decoded = decoded(&rt, alloc, &all(alloc), FIVE, &mut out, FIVE_GIVEN);
-    assert_eq!(rt; out.as_slice(), FIVE_GIVEN.as_bytes());
+fn interleaved_messages_are_given(rt: HostRuntime) {
+    let options = all(rt.alloc());
+    let decoded = prints(&rt, rt.alloc(), &options, FIVE, FIVE_GIVEN);
     assert!(rt; decoded.fault.is_none());
     let counts = Counts {
         lines: 27,
@@ -94,7 +100,6 @@ fn interleaved_messages_are_given(rt: HostRuntime) -> Result<(), Fail> {
     };
     assert!(rt; decoded.counts == counts);
     assert_eq!(rt; decoded.status(), 0);
-    Ok(())
 }
 
 /// Messages that aren't given: one for each cause, and one that is aborted.
@@ -129,11 +134,9 @@ const LOST_TOLD: &str = "\
 ";
 
 #[test]
-fn messages_that_are_not_given_are_told(rt: HostRuntime) -> Result<(), Fail> {
-    let alloc = rt.alloc();
-    let mut out = Vec::new(alloc);
-    let decoded = decoded(&rt, alloc, &all(alloc), LOST, &mut out, LOST_TOLD);
-    assert_eq!(rt; out.as_slice(), LOST_TOLD.as_bytes());
+fn messages_that_are_not_given_are_told(rt: HostRuntime) {
+    let options = all(rt.alloc());
+    let decoded = prints(&rt, rt.alloc(), &options, LOST, LOST_TOLD);
     let counts = Counts {
         lines: 17,
         passed: 1,
@@ -146,42 +149,48 @@ fn messages_that_are_not_given_are_told(rt: HostRuntime) -> Result<(), Fail> {
         lost: 6,
     };
     assert!(rt; decoded.counts == counts);
-    Ok(())
 }
 
-#[test]
-fn what_is_asked_for_is_told(rt: HostRuntime) -> Result<(), Fail> {
-    let alloc = rt.alloc();
-    let mut options = all(alloc);
+const ASKED_TOLD: &str = "(1700000000.027500) can0 frame 21 FF 0FEF1 8 FFFFFFFFFFFFFFFF\n\
+(1700000000.048000) can1 given 21 FF 0FEE3 12 0102030405060708090A0B0C\n";
+
+fn ask(options: &mut Options) -> Result<(), Fail> {
     options.from.name(0x21)?;
     options.to.name(0xFF)?;
     options.pgns.name(0xFEE3)?;
     options.pgns.name(0xFEF1)?;
     options.singles = true;
-    let text = "(1700000000.027500) can0 frame 21 FF 0FEF1 8 FFFFFFFFFFFFFFFF\n\
-(1700000000.048000) can1 given 21 FF 0FEE3 12 0102030405060708090A0B0C\n";
-    let mut out = Vec::new(alloc);
-    let decoded = decoded(&rt, alloc, &options, FIVE, &mut out, text);
-    assert_eq!(rt; out.as_slice(), text.as_bytes());
-    assert_eq!(rt; decoded.counts.messages, 1);
     Ok(())
 }
 
 #[test]
-fn a_wrong_line_ends_the_run(rt: HostRuntime) -> Result<(), Fail> {
-    let alloc = rt.alloc();
-    let log = "(0000000001.000000) can0 1CECFF21#20090002FFCAFE00\n(0000000001.000000) can0\n";
-    let mut out = Vec::new(alloc);
-    let decoded = decoded(&rt, alloc, &all(alloc), log, &mut out, "");
-    assert!(rt; out.is_empty());
-    let fault = decoded.fault.expect(&rt, "a fault");
+fn what_is_asked_for_is_told(rt: HostRuntime) -> Result<(), Fail> {
+    let mut options = all(rt.alloc());
+    ask(&mut options)?;
+    let decoded = prints(&rt, rt.alloc(), &options, FIVE, ASKED_TOLD);
+    assert_eq!(rt; decoded.counts.messages, 1);
+    Ok(())
+}
+
+const WRONG: &str =
+    "(0000000001.000000) can0 1CECFF21#20090002FFCAFE00\n(0000000001.000000) can0\n";
+
+fn is_told(rt: &impl Abort, alloc: Global, decoded: &Decoded, text: &str) -> Result<(), Fail> {
+    let fault = decoded.fault.expect(rt, "a fault");
     assert_eq!(rt; fault.line, 2);
     let line = match format!(in alloc; "{fault}") {
         Ok(line) => line,
         Err(_) => format!(in alloc; "{fault}")?,
     };
-    assert_eq!(rt; line.as_str(), "line 2: not a log line");
+    assert_eq!(rt; line.as_str(), text);
+    Ok(())
+}
+
+#[test]
+fn a_wrong_line_ends_the_run(rt: HostRuntime) -> Result<(), Fail> {
+    let options = all(rt.alloc());
+    let decoded = prints(&rt, rt.alloc(), &options, WRONG, "");
     assert_eq!(rt; decoded.counts.lines, 1);
     assert_eq!(rt; decoded.status(), 1);
-    Ok(())
+    is_told(&rt, rt.alloc(), &decoded, "line 2: not a log line")
 }

@@ -1,4 +1,6 @@
 //! The command line: its name alone runs a script, `live` runs it by threads; whatever else is asked for is answered by a text.
+mod logs;
+
 use command_line::{Asked, read_command_line};
 use std::alloc::{AllocError, Global};
 use std::process::Abort;
@@ -13,8 +15,9 @@ fn words_of(alloc: Global, all: &[&str]) -> Result<Vec<String>, Fail> {
 }
 
 // The text that answers these words; a test ends where it is that memory was refused.
-fn answer(rt: &impl Abort, alloc: Global, words: &[String]) -> Result<String, Fail> {
-    let error = read_command_line(alloc, words).expect_err(rt, "a text");
+fn answer(rt: &impl Abort, alloc: Global, all: &[&str]) -> Result<String, Fail> {
+    let words = words_of(alloc, all)?;
+    let error = read_command_line(alloc, words.as_slice()).expect_err(rt, "a text");
     let text = format!(in alloc; "{error}")?;
     if text.as_str() == "error: out of memory\n" {
         out_of_memory()?;
@@ -26,44 +29,49 @@ fn out_of_memory() -> Result<(), AllocError> {
     Err(AllocError)
 }
 
+// The text that answers these words is this.
+fn answers(rt: &impl Abort, alloc: Global, all: &[&str], expected: &str) -> Result<(), Fail> {
+    let text = answer(rt, alloc, all)?;
+    assert_eq!(rt; text.as_str(), expected);
+    Ok(())
+}
+
+// The text that answers these words has this in it.
+fn tells(rt: &impl Abort, alloc: Global, all: &[&str], part: &str) -> Result<(), Fail> {
+    let text = answer(rt, alloc, all)?;
+    assert!(rt; text.as_str().contains(part));
+    Ok(())
+}
+
+// These words ask for this.
+fn asks(rt: &impl Abort, alloc: Global, all: &[&str], expected: &Asked) -> Result<(), Fail> {
+    let words = words_of(alloc, all)?;
+    let asked = read_command_line(alloc, words.as_slice())?;
+    assert!(rt; asked == *expected);
+    Ok(())
+}
+
 #[test]
 fn a_script_is_run_alone_or_by_threads(rt: HostRuntime) -> Result<(), Fail> {
     let alloc = rt.alloc();
-    let words = words_of(alloc, &["j1939bus"])?;
-    let asked = read_command_line(alloc, words.as_slice())?;
-    assert!(rt; asked == Asked::Script);
-    let words = words_of(alloc, &["j1939bus", "live"])?;
-    let asked = read_command_line(alloc, words.as_slice())?;
-    assert!(rt; asked == Asked::Live { turns: 1_000_000 });
-    let words = words_of(alloc, &["j1939bus", "live", "--turns", "1"])?;
-    let asked = read_command_line(alloc, words.as_slice())?;
-    assert!(rt; asked == Asked::Live { turns: 1 });
-    Ok(())
+    asks(&rt, alloc, &["j1939bus"], &Asked::Script)?;
+    let live = Asked::Live { turns: 1_000_000 };
+    asks(&rt, alloc, &["j1939bus", "live"], &live)?;
+    let once = ["j1939bus", "live", "--turns", "1"];
+    asks(&rt, alloc, &once, &Asked::Live { turns: 1 })
+}
+
+fn refuses_turns(rt: &impl Abort, alloc: Global, turns: &str, told: &str) -> Result<(), Fail> {
+    tells(rt, alloc, &["j1939bus", "live", "--turns", turns], told)
 }
 
 #[test]
 fn whatever_else_is_asked_for_is_answered_by_a_text(rt: HostRuntime) -> Result<(), Fail> {
     let alloc = rt.alloc();
-    for (first, second, third, told) in [
-        ("--version", "", "", "j1939bus 0.1.0"),
-        ("lives", "", "", "'lives'"),
-        ("live", "--turns", "0", "invalid value '0'"),
-        (
-            "live",
-            "--turns",
-            "1000000001",
-            "invalid value '1000000001'",
-        ),
-    ] {
-        let mut words = words_of(alloc, &["j1939bus", first])?;
-        if !second.is_empty() {
-            words.push(format!(in alloc; "{second}")?)?;
-            words.push(format!(in alloc; "{third}")?)?;
-        }
-        let text = answer(&rt, alloc, words.as_slice())?;
-        assert!(rt; text.as_str().contains(told));
-    }
-    Ok(())
+    tells(&rt, alloc, &["j1939bus", "--version"], "j1939bus 0.1.0")?;
+    tells(&rt, alloc, &["j1939bus", "lives"], "'lives'")?;
+    refuses_turns(&rt, alloc, "0", "invalid value '0'")?;
+    refuses_turns(&rt, alloc, "1000000001", "invalid value '1000000001'")
 }
 
 const PROGRAM_HELP: &str = "Runs the script of standard input, and prints the reply to each line
@@ -128,11 +136,6 @@ docs/SCRIPTS.md describes the language, and this in its last part.
 #[test]
 fn help_says_what_is_read_and_written(rt: HostRuntime) -> Result<(), Fail> {
     let alloc = rt.alloc();
-    let words = words_of(alloc, &["j1939bus", "--help"])?;
-    let text = answer(&rt, alloc, words.as_slice())?;
-    assert_eq!(rt; text.as_str(), PROGRAM_HELP);
-    let words = words_of(alloc, &["j1939bus", "live", "--help"])?;
-    let text = answer(&rt, alloc, words.as_slice())?;
-    assert_eq!(rt; text.as_str(), LIVE_HELP);
-    Ok(())
+    answers(&rt, alloc, &["j1939bus", "--help"], PROGRAM_HELP)?;
+    answers(&rt, alloc, &["j1939bus", "live", "--help"], LIVE_HELP)
 }

@@ -1,5 +1,5 @@
 //! Calls on a segment of stations 21 and 35 of which a test only looks at the answer: their contracts are not carried through it.
-use pgn_ids::Address;
+use pgn_ids::{Address, Pgn};
 use segment_core::*;
 use std::alloc::{AllocError, Global};
 use std::test::Fail;
@@ -85,8 +85,40 @@ pub(crate) fn filled(alloc: Global, len: u32) -> Result<Vec<u8>, Fail> {
         Ok(bytes) => bytes,
         Err(_) => Vec::with_capacity(alloc, len as usize)?,
     };
-    for i in 0..len {
+    for i in 1..=len {
         bytes.push((i % 256) as u8)?;
     }
     Ok(bytes)
+}
+
+// Port 35.1 on FECA, for up to 4,000 bytes.
+pub(crate) fn opening() -> Result<Call, Fail> {
+    Ok(Call::Open {
+        station: B,
+        pgn: Pgn::new(0xFECA)?,
+        max_len: 4000,
+    })
+}
+
+// A message of so many bytes from 21, as `filled` makes them.
+pub(crate) fn sending(alloc: Global, to: Address, len: u32) -> Result<Call, Fail> {
+    let pgn = Pgn::new(0xFECA)?;
+    Ok(Call::Send {
+        from: A,
+        to,
+        pgn,
+        bytes: Bytes::new(filled(alloc, len)?),
+    })
+}
+
+// Port 35.1 is open, and the message is sent.
+pub(crate) fn open_and_send(
+    alloc: Global,
+    segment: &mut Segment,
+    to: Address,
+    len: u32,
+) -> Result<(), Fail> {
+    apply(segment, opening()?)?;
+    apply(segment, sending(alloc, to, len)?)?;
+    Ok(())
 }

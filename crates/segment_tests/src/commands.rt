@@ -49,74 +49,105 @@ fn means(
     Ok(())
 }
 
+fn is_call(rt: &impl Abort, alloc: Global, line: &str, call: Call) -> Result<(), Fail> {
+    means(rt, alloc, line, &Ok(Command::Call(call)))
+}
+
+fn is_send(
+    rt: &impl Abort,
+    alloc: Global,
+    line: &str,
+    to: Address,
+    bytes: &[u8],
+) -> Result<(), Fail> {
+    let pgn = Pgn::new(0xFECA)?;
+    let bytes = Bytes::new(Vec::from_slice(alloc, bytes)?);
+    let send = Call::Send {
+        from: A,
+        to,
+        pgn,
+        bytes,
+    };
+    is_call(rt, alloc, line, send)
+}
+
+// Each is read by a function of few lines: a value that a step leaves behind is dropped at each later one, which takes its part of the proof.
+fn calls_of_ports(rt: &impl Abort, alloc: Global) -> Result<(), Fail> {
+    let pgn = Pgn::new(0xFECA)?;
+    let open = Call::Open {
+        station: B,
+        pgn,
+        max_len: 4000,
+    };
+    is_call(rt, alloc, "open 35 FECA 4000", open)?;
+    is_call(rt, alloc, "close 35.1", Call::Close { port: PORT })?;
+    is_call(rt, alloc, "pause 35.1", Call::Pause { port: PORT })?;
+    is_call(rt, alloc, "resume 35.1", Call::Resume { port: PORT })
+}
+
+fn calls_of_messages(rt: &impl Abort, alloc: Global) -> Result<(), Fail> {
+    is_send(rt, alloc, "send 21 35 feca 0aFF", B, &[0x0A, 0xFF])?;
+    let filled = [1, 2, 3, 4, 5, 6, 7, 8, 9];
+    is_send(
+        rt,
+        alloc,
+        "send 21 FF FECA fill 9",
+        Address::GLOBAL,
+        &filled,
+    )?;
+    is_call(rt, alloc, "pump 21 35", Call::Pump { station: A, to: B })?;
+    let cancel = Call::Cancel {
+        from: A,
+        to: B,
+        number: 2,
+    };
+    is_call(rt, alloc, "cancel 21 35 2", cancel)
+}
+
+fn calls_of_frames(rt: &impl Abort, alloc: Global) -> Result<(), Fail> {
+    is_call(rt, alloc, "transmit 21", Call::Transmit { station: A })?;
+    let take = Call::Take {
+        station: B,
+        room: true,
+    };
+    is_call(rt, alloc, "take 35", take)?;
+    let again = Call::TakeAgain {
+        station: B,
+        room: false,
+    };
+    is_call(rt, alloc, "again 35 noroom", again)?;
+    is_call(
+        rt,
+        alloc,
+        "overrun 35 3",
+        Call::Overrun { station: B, n: 3 },
+    )?;
+    let frame = Frame::new(CanId::new(0x18EA_35F9)?, &[0x00, 0xEE, 0x0A])?;
+    is_call(rt, alloc, "inject 18EA35F9 00EE0A", Call::Inject { frame })
+}
+
 #[test]
 fn calls_are_read(rt: HostRuntime) -> Result<(), Fail> {
-    let alloc = rt.alloc();
-    let pgn = Pgn::new(0xFECA)?;
-    let frame = Frame::new(CanId::new(0x18EA_35F9)?, &[0x00, 0xEE, 0x0A])?;
-    let bytes = Bytes::new(Vec::from_slice(alloc, &[0x0A, 0xFF])?);
-    let filled = Bytes::new(Vec::from_slice(alloc, &[1, 2, 3, 4, 5, 6, 7, 8, 9])?);
-    let calls = [
-        (
-            "open 35 FECA 4000",
-            Call::Open {
-                station: B,
-                pgn,
-                max_len: 4000,
-            },
-        ),
-        ("close 35.1", Call::Close { port: PORT }),
-        (
-            "send 21 35 feca 0aFF",
-            Call::Send {
-                from: A,
-                to: B,
-                pgn,
-                bytes,
-            },
-        ),
-        (
-            "send 21 FF FECA fill 9",
-            Call::Send {
-                from: A,
-                to: Address::GLOBAL,
-                pgn,
-                bytes: filled,
-            },
-        ),
-        ("pump 21 35", Call::Pump { station: A, to: B }),
-        ("transmit 21", Call::Transmit { station: A }),
-        ("fire 21", Call::Fire { station: A }),
-        ("tick 1250", Call::Tick { n: 1250 }),
-        (
-            "take 35",
-            Call::Take {
-                station: B,
-                room: true,
-            },
-        ),
-        (
-            "again 35 noroom",
-            Call::TakeAgain {
-                station: B,
-                room: false,
-            },
-        ),
-        ("overrun 35 3", Call::Overrun { station: B, n: 3 }),
-        (
-            "cancel 21 35 2",
-            Call::Cancel {
-                from: A,
-                to: B,
-                number: 2,
-            },
-        ),
-        ("pause 35.1", Call::Pause { port: PORT }),
-        ("resume 35.1", Call::Resume { port: PORT }),
-        ("inject 18EA35F9 00EE0A", Call::Inject { frame }),
-    ];
-    for (line, call) in calls {
-        means(&rt, alloc, line, &Ok(Command::Call(call)))?;
+    calls_of_ports(&rt, rt.alloc())?;
+    calls_of_messages(&rt, rt.alloc())?;
+    calls_of_frames(&rt, rt.alloc())?;
+    is_call(&rt, rt.alloc(), "fire 21", Call::Fire { station: A })?;
+    is_call(&rt, rt.alloc(), "tick 1250", Call::Tick { n: 1250 })
+}
+
+fn is_refused(rt: &impl Abort, alloc: Global, line: &str, cause: Refusal) -> Result<(), Fail> {
+    means(rt, alloc, line, &Ok(Command::Refused(cause)))
+}
+
+fn are_stations(
+    rt: &impl Abort,
+    alloc: Global,
+    line: &str,
+    expected: &[Address],
+) -> Result<(), Fail> {
+    match meaning(rt, alloc, line)? {
+        Ok(Command::Stations(addresses)) => assert!(rt; addresses.as_slice() == expected),
+        other => panic!(rt; "{other:?}"),
     }
     Ok(())
 }
@@ -129,81 +160,69 @@ fn other_commands_are_read(rt: HostRuntime) -> Result<(), Fail> {
         to: B,
         turns: 9,
     };
-    for (line, command) in [
-        ("  drive 21 35  9 ", drive),
-        ("counts", Command::Counts),
-        ("open 35 EC21 1", Command::Refused(Refusal::BadPgn)),
-        ("send 21 FF 40000 00", Command::Refused(Refusal::BadPgn)),
-        ("inject 20000000 00", Command::Refused(Refusal::IdTooLarge)),
-        (
-            "inject 1CEC3580 000102030405060708",
-            Command::Refused(Refusal::DataTooLong),
-        ),
-    ] {
-        means(&rt, alloc, line, &Ok(command))?;
+    means(&rt, alloc, "  drive 21 35  9 ", &Ok(drive))?;
+    means(&rt, alloc, "counts", &Ok(Command::Counts))?;
+    is_refused(&rt, alloc, "open 35 EC21 1", Refusal::BadPgn)?;
+    is_refused(&rt, alloc, "send 21 FF 40000 00", Refusal::BadPgn)?;
+    is_refused(&rt, alloc, "inject 20000000 00", Refusal::IdTooLarge)?;
+    let long = "inject 1CEC3580 000102030405060708";
+    is_refused(&rt, alloc, long, Refusal::DataTooLong)?;
+    are_stations(&rt, alloc, "stations 35 21", &[B, A])
+}
+
+const UNKNOWN: [&str; 1] = ["Tick 1"];
+
+const WRONG_NUMBER: [&str; 8] = [
+    "stations",
+    "open 35 FECA",
+    "pump 21",
+    "fire",
+    "again 35 noroom noroom",
+    "cancel 21 35",
+    "drive 21 35 9 9",
+    "counts 1",
+];
+
+const BAD_WORDS: [&str; 10] = [
+    "stations 21 100",
+    "close 35",
+    "send 21 FF FECA 010",
+    "transmit G1",
+    "tick 18446744073709551616",
+    "take 35 room",
+    "overrun 35 -1",
+    "pause 35.",
+    "resume .1",
+    "inject 100000000 00",
+];
+
+// Each line has this fault, which is told so.
+fn are_wrong(
+    rt: &impl Abort,
+    alloc: Global,
+    lines: &[&str],
+    fault: Fault,
+    text: &str,
+) -> Result<(), Fail> {
+    for line in lines {
+        means(rt, alloc, line, &Err(fault))?;
     }
-    match meaning(&rt, alloc, "stations 35 21")? {
-        Ok(Command::Stations(addresses)) => assert!(rt; addresses.as_slice() == [B, A].as_slice()),
-        other => panic!(rt; "{other:?}"),
-    }
+    let told = format!(in alloc; "{fault}")?;
+    assert_eq!(rt; told.as_str(), text);
     Ok(())
 }
 
 #[test]
 fn wrong_lines_have_their_fault(rt: HostRuntime) -> Result<(), Fail> {
     let alloc = rt.alloc();
-    for (line, fault, text) in [
-        ("Tick 1", Fault::UnknownCommand, "unknown command"),
-        (
-            "stations",
-            Fault::WrongNumberOfWords,
-            "wrong number of words",
-        ),
-        ("stations 21 100", Fault::BadWord, "bad word"),
-        (
-            "open 35 FECA",
-            Fault::WrongNumberOfWords,
-            "wrong number of words",
-        ),
-        ("close 35", Fault::BadWord, "bad word"),
-        ("send 21 FF FECA 010", Fault::BadWord, "bad word"),
-        (
-            "pump 21",
-            Fault::WrongNumberOfWords,
-            "wrong number of words",
-        ),
-        ("transmit G1", Fault::BadWord, "bad word"),
-        ("fire", Fault::WrongNumberOfWords, "wrong number of words"),
-        ("tick 18446744073709551616", Fault::BadWord, "bad word"),
-        ("take 35 room", Fault::BadWord, "bad word"),
-        (
-            "again 35 noroom noroom",
-            Fault::WrongNumberOfWords,
-            "wrong number of words",
-        ),
-        ("overrun 35 -1", Fault::BadWord, "bad word"),
-        (
-            "cancel 21 35",
-            Fault::WrongNumberOfWords,
-            "wrong number of words",
-        ),
-        ("pause 35.", Fault::BadWord, "bad word"),
-        ("resume .1", Fault::BadWord, "bad word"),
-        ("inject 100000000 00", Fault::BadWord, "bad word"),
-        (
-            "drive 21 35 9 9",
-            Fault::WrongNumberOfWords,
-            "wrong number of words",
-        ),
-        (
-            "counts 1",
-            Fault::WrongNumberOfWords,
-            "wrong number of words",
-        ),
-    ] {
-        means(&rt, alloc, line, &Err(fault))?;
-        let told = format!(in alloc; "{fault}")?;
-        assert_eq!(rt; told.as_str(), text);
-    }
-    Ok(())
+    are_wrong(
+        &rt,
+        alloc,
+        &UNKNOWN,
+        Fault::UnknownCommand,
+        "unknown command",
+    )?;
+    let number = "wrong number of words";
+    are_wrong(&rt, alloc, &WRONG_NUMBER, Fault::WrongNumberOfWords, number)?;
+    are_wrong(&rt, alloc, &BAD_WORDS, Fault::BadWord, "bad word")
 }

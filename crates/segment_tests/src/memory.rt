@@ -1,7 +1,6 @@
 //! Exchanges by single calls on two segments side by side, whichever one allocation is refused.
 use crate::calls::*;
 use crate::pairs::*;
-use pgn_ids::Pgn;
 use segment_core::*;
 use std::alloc::Global;
 use std::process::Abort;
@@ -22,28 +21,25 @@ const AGAIN_B: Call = Call::TakeAgain {
     room: true,
 };
 
+fn two(alloc: Global) -> Result<Pair, Fail> {
+    let one = segment(alloc)?;
+    let other = segment(alloc)?;
+    Ok(Pair { one, other })
+}
+
+// Both open this port.
+fn open(rt: &impl Abort, alloc: Global, pair: &mut Pair, opened: PortId) -> Result<(), Fail> {
+    let reply = both(rt, alloc, pair, opening()?)?;
+    assert!(rt; matches!(reply, Reply::Opened(port) if port == opened));
+    Ok(())
+}
+
 // Port 35.1 for up to 4,000 bytes is open, and a message of so many bytes is sent to 35.
-fn begun(rt: &impl Abort, alloc: Global, len: u32) -> Result<Pair, Fail> {
-    let mut pair = Pair {
-        one: segment(alloc)?,
-        other: segment(alloc)?,
-    };
-    let open = Call::Open {
-        station: B,
-        pgn: Pgn::new(0xFECA)?,
-        max_len: 4000,
-    };
-    let opened = both(rt, alloc, &mut pair, open)?;
-    assert!(rt; matches!(opened, Reply::Opened(PORT)));
-    let send = Call::Send {
-        from: A,
-        to: B,
-        pgn: Pgn::new(0xFECA)?,
-        bytes: Bytes::new(filled(alloc, len)?),
-    };
-    let sent = both(rt, alloc, &mut pair, send)?;
+fn begin(rt: &impl Abort, alloc: Global, pair: &mut Pair, len: u32) -> Result<(), Fail> {
+    open(rt, alloc, pair, PORT)?;
+    let sent = both(rt, alloc, pair, sending(alloc, B, len)?)?;
     assert!(rt; matches!(sent, Reply::Sent(1)));
-    Ok(pair)
+    Ok(())
 }
 
 // Puts the next frame: what comes next in the lane, where no queue has one.
@@ -77,22 +73,31 @@ fn ends(rt: &impl Abort, pair: &Pair, frames: u64) {
     assert!(rt; is_idle(&pair.other));
 }
 
-#[test]
-fn connection_with_each_growth_refused(rt: HostRuntime) -> Result<(), Fail> {
-    let alloc = rt.alloc();
-    let mut pair = begun(&rt, alloc, 9)?;
-    frames(&rt, alloc, &mut pair, 5)?;
-    ends(&rt, &pair, 5);
+// A test's steps are functions of their own, which own nothing: where a step can end a test, what the test owns is dropped there, and each
+// such place takes its part of the proof.
+fn exchange(
+    rt: &impl Abort,
+    alloc: Global,
+    pair: &mut Pair,
+    len: u32,
+    count: u64,
+) -> Result<(), Fail> {
+    begin(rt, alloc, pair, len)?;
+    frames(rt, alloc, pair, count)?;
+    ends(rt, pair, count);
     Ok(())
 }
 
 #[test]
+fn connection_with_each_growth_refused(rt: HostRuntime) -> Result<(), Fail> {
+    let mut pair = two(rt.alloc())?;
+    exchange(&rt, rt.alloc(), &mut pair, 9, 5)
+}
+
+#[test]
 fn extended_message_with_each_growth_refused(rt: HostRuntime) -> Result<(), Fail> {
-    let alloc = rt.alloc();
-    let mut pair = begun(&rt, alloc, 1786)?;
-    frames(&rt, alloc, &mut pair, 266)?;
-    ends(&rt, &pair, 266);
-    Ok(())
+    let mut pair = two(rt.alloc())?;
+    exchange(&rt, rt.alloc(), &mut pair, 1786, 266)
 }
 
 // A frame is put, and both stations take it twice.
@@ -104,54 +109,57 @@ fn taken_twice(rt: &impl Abort, alloc: Global, pair: &mut Pair) -> Result<(), Fa
     done(rt, alloc, pair, AGAIN_A)
 }
 
-#[test]
-fn repeated_frames_with_each_growth_refused(rt: HostRuntime) -> Result<(), Fail> {
-    let alloc = rt.alloc();
-    let mut pair = begun(&rt, alloc, 9)?;
-    // The repeated RTS is answered by a second CTS, which 21 takes before it goes on.
-    taken_twice(&rt, alloc, &mut pair)?;
-    taken_twice(&rt, alloc, &mut pair)?;
-    taken_twice(&rt, alloc, &mut pair)?;
-    taken_twice(&rt, alloc, &mut pair)?;
-    taken_twice(&rt, alloc, &mut pair)?;
-    taken_twice(&rt, alloc, &mut pair)?;
-    ends(&rt, &pair, 6);
+// The repeated RTS is answered by a second CTS, which 21 takes before it goes on.
+fn take_all_twice(rt: &impl Abort, alloc: Global, pair: &mut Pair) -> Result<(), Fail> {
+    begin(rt, alloc, pair, 9)?;
+    for _ in 0..6 {
+        taken_twice(rt, alloc, pair)?;
+    }
+    ends(rt, pair, 6);
     assert_eq!(rt; counts(&pair.one).repeated, 12);
     Ok(())
 }
 
 #[test]
-fn port_closed_on_the_way_with_each_growth_refused(rt: HostRuntime) -> Result<(), Fail> {
-    let alloc = rt.alloc();
-    let mut pair = begun(&rt, alloc, 9)?;
-    frames(&rt, alloc, &mut pair, 3)?;
-    done(&rt, alloc, &mut pair, TRANSMIT_A)?;
-    done(&rt, alloc, &mut pair, Call::Close { port: PORT })?;
-    assert_eq!(rt; queue_len(&pair.one, B), 1);
-    let open = Call::Open {
-        station: B,
-        pgn: Pgn::new(0xFECA)?,
-        max_len: 4000,
-    };
-    let opened = both(&rt, alloc, &mut pair, open)?;
-    assert!(rt;
-        matches!(
-            opened,
-            Reply::Opened(PortId {
-                station: B,
-                number: 2
-            })
-        )
-    );
-    done(&rt, alloc, &mut pair, TAKE_B)?;
-    done(&rt, alloc, &mut pair, TAKE_A)?;
-    done(&rt, alloc, &mut pair, TRANSMIT_B)?;
-    done(&rt, alloc, &mut pair, TAKE_A)?;
+fn repeated_frames_with_each_growth_refused(rt: HostRuntime) -> Result<(), Fail> {
+    let mut pair = two(rt.alloc())?;
+    take_all_twice(&rt, rt.alloc(), &mut pair)
+}
+
+fn is_aborted(rt: &impl Abort, pair: &Pair) {
     assert_eq!(rt; counts(&pair.other).aborted, 1);
     assert_eq!(rt; counts(&pair.other).given, 0);
-    let closed = both(&rt, alloc, &mut pair, Call::Close { port: PORT })?;
+}
+
+fn has_no_port(rt: &impl Abort, alloc: Global, pair: &mut Pair) -> Result<(), Fail> {
+    let closed = both(rt, alloc, pair, Call::Close { port: PORT })?;
     assert!(rt; matches!(closed, Reply::Refused(Refusal::NoSuchPort)));
     Ok(())
+}
+
+fn close_on_the_way(rt: &impl Abort, alloc: Global, pair: &mut Pair) -> Result<(), Fail> {
+    begin(rt, alloc, pair, 9)?;
+    frames(rt, alloc, pair, 3)?;
+    done(rt, alloc, pair, TRANSMIT_A)?;
+    done(rt, alloc, pair, Call::Close { port: PORT })?;
+    assert_eq!(rt; queue_len(&pair.one, B), 1);
+    let next = PortId {
+        station: B,
+        number: 2,
+    };
+    open(rt, alloc, pair, next)?;
+    done(rt, alloc, pair, TAKE_B)?;
+    done(rt, alloc, pair, TAKE_A)?;
+    done(rt, alloc, pair, TRANSMIT_B)?;
+    done(rt, alloc, pair, TAKE_A)?;
+    is_aborted(rt, pair);
+    has_no_port(rt, alloc, pair)
+}
+
+#[test]
+fn port_closed_on_the_way_with_each_growth_refused(rt: HostRuntime) -> Result<(), Fail> {
+    let mut pair = two(rt.alloc())?;
+    close_on_the_way(&rt, rt.alloc(), &mut pair)
 }
 
 // Appends a call, where its place in the list isn't below `from`.
@@ -171,46 +179,61 @@ fn add_takes(calls: &mut Vec<Call>, place: &mut usize, from: usize) -> Result<()
     add(calls, place, from, AGAIN_A)
 }
 
+// A frame is put by a station, and each takes it twice.
+fn add_frame(
+    calls: &mut Vec<Call>,
+    place: &mut usize,
+    from: usize,
+    transmit: Call,
+) -> Result<(), Fail> {
+    add(calls, place, from, transmit)?;
+    add_takes(calls, place, from)
+}
+
 // The calls of a message of two packets with each frame taken twice, without the first `from` of them.
+fn add_all(calls: &mut Vec<Call>, from: usize) -> Result<(), Fail> {
+    let mut place = 0;
+    add(calls, &mut place, from, PUMP)?;
+    add_frame(calls, &mut place, from, TRANSMIT_A)?;
+    add_frame(calls, &mut place, from, TRANSMIT_B)?;
+    add_frame(calls, &mut place, from, TRANSMIT_B)?;
+    add(calls, &mut place, from, PUMP)?;
+    add_frame(calls, &mut place, from, TRANSMIT_A)?;
+    add_frame(calls, &mut place, from, TRANSMIT_A)?;
+    add_frame(calls, &mut place, from, TRANSMIT_B)
+}
+
 fn list(alloc: Global, from: usize) -> Result<Vec<Call>, Fail> {
     let mut calls = match Vec::with_capacity(alloc, 32) {
         Ok(calls) => calls,
         Err(_) => Vec::with_capacity(alloc, 32)?,
     };
-    let mut place = 0;
-    add(&mut calls, &mut place, from, PUMP)?;
-    add(&mut calls, &mut place, from, TRANSMIT_A)?;
-    add_takes(&mut calls, &mut place, from)?;
-    add(&mut calls, &mut place, from, TRANSMIT_B)?;
-    add_takes(&mut calls, &mut place, from)?;
-    add(&mut calls, &mut place, from, TRANSMIT_B)?;
-    add_takes(&mut calls, &mut place, from)?;
-    add(&mut calls, &mut place, from, PUMP)?;
-    add(&mut calls, &mut place, from, TRANSMIT_A)?;
-    add_takes(&mut calls, &mut place, from)?;
-    add(&mut calls, &mut place, from, TRANSMIT_A)?;
-    add_takes(&mut calls, &mut place, from)?;
-    add(&mut calls, &mut place, from, TRANSMIT_B)?;
-    add_takes(&mut calls, &mut place, from)?;
+    add_all(&mut calls, from)?;
     Ok(calls)
 }
 
 // What is left of the list is run until no memory is refused.
-#[test]
-fn one_list_with_each_growth_refused(rt: HostRuntime) -> Result<(), Fail> {
-    let alloc = rt.alloc();
-    let mut pair = begun(&rt, alloc, 9)?;
+fn run_list(rt: &impl Abort, alloc: Global, pair: &mut Pair) -> Result<(), Fail> {
+    begin(rt, alloc, pair, 9)?;
     let calls = list(alloc, 0)?;
     assert_eq!(rt; calls.len(), 32);
     let ran = run(&mut pair.other, calls);
-    if ran.end == RunEnd::OutOfMemory {
-        let rest = list(alloc, ran.replies.len())?;
+    let (end, done) = (ran.end, ran.replies.len());
+    drop(ran);
+    if end == RunEnd::OutOfMemory {
+        let rest = list(alloc, done)?;
         assert_eq!(rt; run(&mut pair.other, rest).end, RunEnd::All);
     } else {
-        assert_eq!(rt; ran.replies.len(), 32);
+        assert_eq!(rt; done, 32);
     }
-    ends(&rt, &pair, 6);
+    ends(rt, pair, 6);
     Ok(())
+}
+
+#[test]
+fn one_list_with_each_growth_refused(rt: HostRuntime) -> Result<(), Fail> {
+    let mut pair = two(rt.alloc())?;
+    run_list(&rt, rt.alloc(), &mut pair)
 }
 
 // Takes the frame that a drive put, where a station found no memory to take it.
@@ -224,19 +247,31 @@ fn takes_rest(segment: &mut Segment) -> Result<(), Fail> {
     Ok(())
 }
 
+// A drive goes on once more where it finds no memory.
+fn drive_again(rt: &impl Abort, segment: &mut Segment) -> Result<(), Fail> {
+    let first = drive(segment, A, B, 266);
+    assert_eq!(rt; first.turns, first.frames.as_slice().len() as u64);
+    let (end, turns) = (first.end, first.turns);
+    drop(first);
+    if end == DriveEnd::OutOfMemory {
+        takes_rest(segment)?;
+        let second = drive(segment, A, B, 266);
+        assert_eq!(rt; turns.saturating_add(second.turns), 266);
+    } else {
+        assert_eq!(rt; end, DriveEnd::Turns);
+    }
+    Ok(())
+}
+
+fn drive_other(rt: &impl Abort, alloc: Global, pair: &mut Pair) -> Result<(), Fail> {
+    begin(rt, alloc, pair, 1786)?;
+    drive_again(rt, &mut pair.other)?;
+    ends(rt, pair, 266);
+    Ok(())
+}
+
 #[test]
 fn drive_with_each_growth_refused(rt: HostRuntime) -> Result<(), Fail> {
-    let alloc = rt.alloc();
-    let mut pair = begun(&rt, alloc, 1786)?;
-    let first = drive(&mut pair.other, A, B, 266);
-    assert_eq!(rt; first.turns, first.frames.as_slice().len() as u64);
-    if first.end == DriveEnd::OutOfMemory {
-        takes_rest(&mut pair.other)?;
-        let second = drive(&mut pair.other, A, B, 266);
-        assert_eq!(rt; first.turns.saturating_add(second.turns), 266);
-    } else {
-        assert_eq!(rt; first.end, DriveEnd::Turns);
-    }
-    ends(&rt, &pair, 266);
-    Ok(())
+    let mut pair = two(rt.alloc())?;
+    drive_other(&rt, rt.alloc(), &mut pair)
 }

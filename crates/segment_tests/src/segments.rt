@@ -1,14 +1,12 @@
 //! Exchanges between stations 21 and 35. A test ends where a call finds no memory.
 use crate::calls::*;
 use bus_frame::{CanId, Frame};
-use pgn_ids::{Address, Pgn};
+use pgn_ids::Address;
 use segment_core::*;
 use std::alloc::Global;
 use std::process::Abort;
 use std::test::Fail;
 use tp_wire::Outcome;
-
-const M9: [u8; 9] = [1, 2, 3, 4, 5, 6, 7, 8, 9];
 
 const PORT: PortId = PortId {
     station: B,
@@ -29,10 +27,6 @@ const CONNECTION: [(u32, [u8; 8]); 5] = [
     (0x1CEC_2135, [0x13, 9, 0, 2, 0xFF, 0xCA, 0xFE, 0]),
 ];
 
-fn feca() -> Result<Pgn, Fail> {
-    Ok(Pgn::new(0xFECA)?)
-}
-
 fn frame_of(shown: (u32, [u8; 8])) -> Result<Frame, Fail> {
     Ok(Frame::full(CanId::new(shown.0)?, shown.1))
 }
@@ -46,10 +40,6 @@ fn wants(segment: &Segment) -> (PortSet, u32) {
     segment.wants(B, false)
 }
 
-fn message(alloc: Global) -> Result<Bytes, Fail> {
-    Ok(Bytes::new(Vec::from_slice(alloc, &M9)?))
-}
-
 // The call is done, and tells this, as it is printed.
 fn tells(
     rt: &impl Abort,
@@ -58,7 +48,7 @@ fn tells(
     call: Call,
     expected: &str,
 ) -> Result<(), Fail> {
-    match segment.apply(call)? {
+    match apply(segment, call)? {
         Reply::Done(events) => assert_eq!(rt; printed(alloc, &events)?.as_str(), expected),
         reply => panic!(rt; "{reply:?}"),
     }
@@ -101,35 +91,29 @@ fn print_event(text: &mut String, event: &Event) -> Result<(), Fail> {
     Ok(())
 }
 
-// A segment of two stations, of which 35 has a port.
-fn with_port(rt: &impl Abort, alloc: Global) -> Result<Segment, Fail> {
-    let mut segment = Segment::new(alloc, &[B, A])?;
-    let opened = segment.apply(Call::Open {
-        station: B,
-        pgn: feca()?,
-        max_len: 4000,
-    })?;
-    match opened {
+// 35 opens a port.
+fn opens(rt: &impl Abort, segment: &mut Segment) -> Result<(), Fail> {
+    match apply(segment, opening()?)? {
         Reply::Opened(port) => assert_eq!(rt; port, PORT),
         reply => panic!(rt; "{reply:?}"),
     }
-    Ok(segment)
+    Ok(())
 }
 
-// The same with a message of station 21.
-fn with_message(rt: &impl Abort, alloc: Global, to: Address) -> Result<Segment, Fail> {
-    let mut segment = with_port(rt, alloc)?;
-    let send = Call::Send {
-        from: A,
-        to,
-        pgn: feca()?,
-        bytes: message(alloc)?,
-    };
-    match segment.apply(send.copy(alloc)?)? {
+// 35 opens a port, and 21 sends a copy of a message of nine bytes.
+fn opens_and_sends(
+    rt: &impl Abort,
+    alloc: Global,
+    segment: &mut Segment,
+    to: Address,
+) -> Result<(), Fail> {
+    opens(rt, segment)?;
+    let send = sending(alloc, to, 9)?.copy(alloc)?;
+    match apply(segment, send)? {
         Reply::Sent(number) => assert_eq!(rt; number, 1),
         reply => panic!(rt; "{reply:?}"),
     }
-    Ok(segment)
+    Ok(())
 }
 
 const PUMP: Call = Call::Pump {
@@ -183,11 +167,16 @@ fn show_broadcast(rt: &impl Abort, segment: &Segment) -> Result<(), Fail> {
     Ok(())
 }
 
+fn broadcast(rt: &impl Abort, alloc: Global, segment: &mut Segment) -> Result<(), Fail> {
+    opens_and_sends(rt, alloc, segment, Address::GLOBAL)?;
+    three_frames(rt, alloc, segment)?;
+    show_broadcast(rt, segment)
+}
+
 #[test]
 fn broadcast_by_single_calls(rt: HostRuntime) -> Result<(), Fail> {
-    let mut segment = with_message(&rt, rt.alloc(), Address::GLOBAL)?;
-    three_frames(&rt, rt.alloc(), &mut segment)?;
-    show_broadcast(&rt, &segment)
+    let mut segment = segment(rt.alloc())?;
+    broadcast(&rt, rt.alloc(), &mut segment)
 }
 
 fn are_frames(rt: &impl Abort, frames: &[Frame], expected: &[(u32, [u8; 8])]) -> Result<(), Fail> {
@@ -225,33 +214,39 @@ fn drove(
     are_told(rt, alloc, driven, told)
 }
 
+fn drive_broadcast(rt: &impl Abort, alloc: Global, segment: &mut Segment) -> Result<(), Fail> {
+    opens_and_sends(rt, alloc, segment, Address::GLOBAL)?;
+    let driven = driven(segment, A, Address::GLOBAL, 3)?;
+    assert_eq!(rt; driven.end, DriveEnd::Turns);
+    assert!(rt; is_idle(segment));
+    let told = "outcome 255 1 Broadcast;given 1 33 255 [1, 2, 3, 4, 5, 6, 7, 8, 9];";
+    drove(rt, alloc, &driven, &BROADCAST, told)
+}
+
 #[test]
 fn driven_broadcast(rt: HostRuntime) -> Result<(), Fail> {
-    let alloc = rt.alloc();
-    let mut segment = with_message(&rt, alloc, Address::GLOBAL)?;
-    let driven = driven(&mut segment, A, Address::GLOBAL, 3)?;
-    assert_eq!(rt; driven.end, DriveEnd::Turns);
-    let told = "outcome 255 1 Broadcast;given 1 33 255 [1, 2, 3, 4, 5, 6, 7, 8, 9];";
-    drove(&rt, alloc, &driven, &BROADCAST, told)?;
-    assert!(rt; is_idle(&segment));
-    Ok(())
+    let mut segment = segment(rt.alloc())?;
+    drive_broadcast(&rt, rt.alloc(), &mut segment)
+}
+
+fn drive_connection(rt: &impl Abort, alloc: Global, segment: &mut Segment) -> Result<(), Fail> {
+    opens_and_sends(rt, alloc, segment, B)?;
+    let driven = driven(segment, A, B, 9)?;
+    assert_eq!(rt; driven.end, DriveEnd::Idle);
+    assert_eq!(rt; counts(segment).acknowledged, 1);
+    let told = "given 1 33 53 [1, 2, 3, 4, 5, 6, 7, 8, 9];outcome 53 1 Acknowledged;";
+    drove(rt, alloc, &driven, &CONNECTION, told)
 }
 
 #[test]
 fn driven_connection(rt: HostRuntime) -> Result<(), Fail> {
-    let alloc = rt.alloc();
-    let mut segment = with_message(&rt, alloc, B)?;
-    let driven = driven(&mut segment, A, B, 9)?;
-    assert_eq!(rt; driven.end, DriveEnd::Idle);
-    let told = "given 1 33 53 [1, 2, 3, 4, 5, 6, 7, 8, 9];outcome 53 1 Acknowledged;";
-    drove(&rt, alloc, &driven, &CONNECTION, told)?;
-    assert_eq!(rt; segment.counts().acknowledged, 1);
-    Ok(())
+    let mut segment = segment(rt.alloc())?;
+    drive_connection(&rt, rt.alloc(), &mut segment)
 }
 
 // The call is refused for this cause.
 fn refuses(rt: &impl Abort, segment: &mut Segment, call: Call, cause: Refusal) -> Result<(), Fail> {
-    match segment.apply(call)? {
+    match apply(segment, call)? {
         Reply::Refused(refusal) => assert_eq!(rt; refusal, cause),
         reply => panic!(rt; "{reply:?}"),
     }
@@ -259,6 +254,7 @@ fn refuses(rt: &impl Abort, segment: &mut Segment, call: Call, cause: Refusal) -
 }
 
 fn refuse(rt: &impl Abort, segment: &mut Segment) -> Result<(), Fail> {
+    opens(rt, segment)?;
     refuses(rt, segment, PUMP, Refusal::NothingToSend)?;
     refuses(rt, segment, TRANSMIT_A, Refusal::NothingToSend)?;
     refuses(rt, segment, TAKE_B, Refusal::NothingToTake)?;
@@ -282,45 +278,74 @@ fn refuse(rt: &impl Abort, segment: &mut Segment) -> Result<(), Fail> {
 #[test]
 fn refusals(rt: HostRuntime) -> Result<(), Fail> {
     assert!(rt; Segment::new(rt.alloc(), &[A, A]).is_err());
-    let mut segment = with_port(&rt, rt.alloc())?;
+    let mut segment = segment(rt.alloc())?;
     refuse(&rt, &mut segment)
+}
+
+fn are_before(rt: &impl Abort, segment: &Segment) {
+    assert!(rt; segment.has_station(A));
+    assert_eq!(rt; open_refusal(segment, B), None);
+    assert_eq!(rt;
+        open_refusal(segment, Address::GLOBAL),
+        Some(Refusal::NoSuchStation)
+    );
+    assert!(rt; !is_idle(segment));
+    assert_eq!(rt; segment.next_pump(A), Some(B));
+}
+
+// The last packet waits for 35.
+fn are_behind(rt: &impl Abort, segment: &Segment) {
+    assert_eq!(rt; segment.queue_len(A), 0);
+    assert!(rt; segment.front(A).is_none());
+    assert!(rt; segment.frame(1).is_none());
+    let (set, len) = wants(segment);
+    assert!(rt; set.numbers() == [1].as_slice());
+    assert_eq!(rt; len, 9);
+    assert!(rt; !segment.is_due(A));
+}
+
+fn read_before_and_behind(
+    rt: &impl Abort,
+    alloc: Global,
+    segment: &mut Segment,
+) -> Result<(), Fail> {
+    opens_and_sends(rt, alloc, segment, B)?;
+    are_before(rt, segment);
+    assert_eq!(rt; driven(segment, A, B, 3)?.turns, 3);
+    tells(rt, alloc, segment, TRANSMIT_A, "")?;
+    are_behind(rt, segment);
+    Ok(())
 }
 
 #[test]
 fn readers(rt: HostRuntime) -> Result<(), Fail> {
-    let alloc = rt.alloc();
-    let mut segment = with_message(&rt, alloc, B)?;
-    assert!(rt; segment.has_station(A));
-    assert_eq!(rt; open_refusal(&segment, B), None);
-    assert_eq!(rt;
-        open_refusal(&segment, Address::GLOBAL),
-        Some(Refusal::NoSuchStation)
-    );
-    assert!(rt; !is_idle(&segment));
-    assert_eq!(rt; segment.next_pump(A), Some(B));
-    assert_eq!(rt; driven(&mut segment, A, B, 3)?.turns, 3);
-    tells(&rt, alloc, &mut segment, TRANSMIT_A, "")?;
-    // The last packet waits for 35.
-    assert_eq!(rt; segment.queue_len(A), 0);
-    assert!(rt; segment.front(A).is_none());
-    assert!(rt; segment.frame(1).is_none());
-    let (set, len) = wants(&segment);
-    assert!(rt; set.numbers() == [1].as_slice());
-    assert_eq!(rt; len, 9);
-    assert!(rt; !segment.is_due(A));
+    let mut segment = segment(rt.alloc())?;
+    read_before_and_behind(&rt, rt.alloc(), &mut segment)
+}
+
+fn listed(calls: &mut Vec<Call>) -> Result<(), Fail> {
+    calls.push(PUMP)?;
+    calls.push(TRANSMIT_A)?;
+    calls.push(TAKE_B)?;
     Ok(())
+}
+
+fn runs(rt: &impl Abort, segment: &mut Segment, calls: Vec<Call>) -> Result<(), Fail> {
+    let ran = ran(segment, calls)?;
+    assert_eq!(rt; ran.replies.len(), 3);
+    assert_eq!(rt; ran.end, RunEnd::All);
+    Ok(())
+}
+
+fn run_list(rt: &impl Abort, alloc: Global, segment: &mut Segment) -> Result<(), Fail> {
+    opens_and_sends(rt, alloc, segment, Address::GLOBAL)?;
+    let mut calls = Vec::new(alloc);
+    listed(&mut calls)?;
+    runs(rt, segment, calls)
 }
 
 #[test]
 fn calls_as_one_list(rt: HostRuntime) -> Result<(), Fail> {
-    let alloc = rt.alloc();
-    let mut segment = with_message(&rt, alloc, Address::GLOBAL)?;
-    let mut calls = Vec::new(alloc);
-    calls.push(PUMP)?;
-    calls.push(TRANSMIT_A)?;
-    calls.push(TAKE_B)?;
-    let ran = ran(&mut segment, calls)?;
-    assert_eq!(rt; ran.replies.len(), 3);
-    assert_eq!(rt; ran.end, RunEnd::All);
-    Ok(())
+    let mut segment = segment(rt.alloc())?;
+    run_list(&rt, rt.alloc(), &mut segment)
 }

@@ -1,119 +1,182 @@
 //! Full rings, owed places, and the most calls that are stored.
 use super::steps::*;
 use pgn_ids::Address;
-use segment_shared::{Accepted, Client, Live, MOST_CALLS, NotMade, Refusal, WorkerCall};
+use segment_shared::{Accepted, Client, Inbox, Live, MOST_CALLS, NotMade, Refusal, WorkerCall};
 use std::alloc::Global;
 use std::process::Abort;
 use std::test::Fail;
 use tp_wire::Outcome;
 
-// The outcome of the next message of a client.
-fn outcome(
+// The next message of a client has this outcome.
+fn ends(
     rt: &impl Abort,
     live: &mut Live,
     sender: &mut Client,
     alloc: Global,
-) -> Result<Outcome, Fail> {
+    expected: Outcome,
+) -> Result<(), Fail> {
     submit(rt, sender, R, alloc)?;
     go_on(live);
     match note(sender)? {
-        Some(note) => Ok(note.outcome),
+        Some(note) => assert!(rt; note.outcome == expected),
         None => panic!(rt; "no note"),
     }
+    Ok(())
+}
+
+fn are_given(rt: &impl Abort, live: &Live, count: u64) {
+    assert_eq!(rt; live.counts().given, count);
+}
+
+fn fill_port(
+    rt: &impl Abort,
+    alloc: Global,
+    live: &mut Live,
+    inbox: &mut Inbox,
+    sender: &mut Client,
+) -> Result<(), Fail> {
+    for _ in 0..64 {
+        ends(rt, live, sender, alloc, Outcome::Acknowledged)?;
+    }
+    are_given(rt, live, 64);
+    ends(rt, live, sender, alloc, Outcome::Aborted(2))?;
+    assert!(rt; receive(inbox)?);
+    ends(rt, live, sender, alloc, Outcome::Acknowledged)?;
+    are_given(rt, live, 65);
+    Ok(())
+}
+
+fn fill_port_of(rt: &impl Abort, alloc: Global, live: &mut Live) -> Result<(), Fail> {
+    let (mut inbox, mut sender) = port_and_client(live)?;
+    fill_port(rt, alloc, live, &mut inbox, &mut sender)
 }
 
 #[test]
 fn a_port_whose_ring_is_full_is_given_nothing(rt: HostRuntime) -> Result<(), Fail> {
-    let alloc = rt.alloc();
-    let mut live = three(alloc)?;
-    let mut inbox = port(&mut live)?;
-    let mut sender = client(&mut live, A)?;
-    for _ in 0..64 {
-        assert!(rt; outcome(&rt, &mut live, &mut sender, alloc)? == Outcome::Acknowledged);
-    }
-    assert_eq!(rt; given(&live), 64);
-    assert!(rt; outcome(&rt, &mut live, &mut sender, alloc)? == Outcome::Aborted(2));
-    assert!(rt; receive(&mut inbox)?);
-    assert!(rt; outcome(&rt, &mut live, &mut sender, alloc)? == Outcome::Acknowledged);
-    assert_eq!(rt; given(&live), 65);
+    let mut live = three(rt.alloc())?;
+    fill_port_of(&rt, rt.alloc(), &mut live)
+}
+
+// The front submission of a client is accepted so.
+fn accepts(
+    rt: &impl Abort,
+    live: &mut Live,
+    sender: &Client,
+    expected: Accepted,
+) -> Result<(), Fail> {
+    assert!(rt; accept(live, sender)? == expected);
     Ok(())
 }
 
-fn given(live: &Live) -> u64 {
-    live.counts().given
+// The first message of 21 to 35 is cancelled.
+fn cancels_first(rt: &impl Abort, live: &mut Live) -> Result<(), Fail> {
+    let cancelled = WorkerCall::Cancel {
+        from: A,
+        to: R,
+        number: 1,
+    };
+    made(rt, live, cancelled)?;
+    Ok(())
+}
+
+fn fill_places(
+    rt: &impl Abort,
+    alloc: Global,
+    live: &mut Live,
+    sender: &mut Client,
+) -> Result<(), Fail> {
+    for number in 1..33u64 {
+        submit(rt, sender, R, alloc)?;
+        submit(rt, sender, Address::GLOBAL, alloc)?;
+        accepts(rt, live, sender, Accepted::Sent(number))?;
+        accepts(rt, live, sender, Accepted::Sent(number))?;
+    }
+    submit(rt, sender, Address(0x80), alloc)?;
+    accepts(rt, live, sender, Accepted::Owed)?;
+    cancels_first(rt, live)?;
+    assert!(rt; note(sender)?.is_some());
+    accepts(rt, live, sender, Accepted::Sent(1))
+}
+
+fn fill_places_of(rt: &impl Abort, alloc: Global, live: &mut Live) -> Result<(), Fail> {
+    let mut sender = client(live, A)?;
+    fill_places(rt, alloc, live, &mut sender)
 }
 
 #[test]
 fn messages_without_an_outcome_hold_their_places(rt: HostRuntime) -> Result<(), Fail> {
-    let alloc = rt.alloc();
-    let mut live = three(alloc)?;
-    let mut sender = client(&mut live, A)?;
+    let mut live = three(rt.alloc())?;
+    fill_places_of(&rt, rt.alloc(), &mut live)
+}
+
+fn fill_lane(
+    rt: &impl Abort,
+    alloc: Global,
+    live: &mut Live,
+    sender: &mut Client,
+) -> Result<(), Fail> {
     for number in 1..33u64 {
-        submit(&rt, &mut sender, R, alloc)?;
-        submit(&rt, &mut sender, Address::GLOBAL, alloc)?;
-        assert!(rt; accept(&mut live, &sender)? == Accepted::Sent(number));
-        assert!(rt; accept(&mut live, &sender)? == Accepted::Sent(number));
+        submit(rt, sender, R, alloc)?;
+        accepts(rt, live, sender, Accepted::Sent(number))?;
     }
-    submit(&rt, &mut sender, Address(0x80), alloc)?;
-    assert!(rt; accept(&mut live, &sender)? == Accepted::Owed);
-    let cancelled = WorkerCall::Cancel {
-        from: A,
-        to: R,
-        number: 1,
-    };
-    made(&rt, &mut live, cancelled)?;
-    assert!(rt; note(&mut sender)?.is_some());
-    assert!(rt; accept(&mut live, &sender)? == Accepted::Sent(1));
-    Ok(())
+    submit(rt, sender, R, alloc)?;
+    accepts(rt, live, sender, Accepted::Refused(Refusal::LaneFull))?;
+    cancels_first(rt, live)?;
+    accepts(rt, live, sender, Accepted::Sent(33))
+}
+
+fn fill_lane_of(rt: &impl Abort, alloc: Global, live: &mut Live) -> Result<(), Fail> {
+    let mut sender = client(live, A)?;
+    fill_lane(rt, alloc, live, &mut sender)
 }
 
 #[test]
 fn a_full_lane_keeps_its_submission(rt: HostRuntime) -> Result<(), Fail> {
-    let alloc = rt.alloc();
-    let mut live = three(alloc)?;
-    let mut sender = client(&mut live, A)?;
-    for number in 1..33u64 {
-        submit(&rt, &mut sender, R, alloc)?;
-        assert!(rt; accept(&mut live, &sender)? == Accepted::Sent(number));
+    let mut live = three(rt.alloc())?;
+    fill_lane_of(&rt, rt.alloc(), &mut live)
+}
+
+// No port is opened at a station, for this cause.
+fn is_unopened(
+    rt: &impl Abort,
+    live: &mut Live,
+    station: Address,
+    cause: Refusal,
+) -> Result<(), Fail> {
+    match live.open_port(station, feca()?, 9) {
+        Ok(_) => panic!(rt; "opened"),
+        Err(refused) => assert!(rt; refused == NotMade::Refused(cause)),
     }
-    submit(&rt, &mut sender, R, alloc)?;
-    let full = Accepted::Refused(Refusal::LaneFull);
-    assert!(rt; accept(&mut live, &sender)? == full);
-    let cancelled = WorkerCall::Cancel {
-        from: A,
-        to: R,
-        number: 1,
-    };
-    made(&rt, &mut live, cancelled)?;
-    assert!(rt; accept(&mut live, &sender)? == Accepted::Sent(33));
     Ok(())
 }
 
-// Why no port is opened at a station.
-fn unopened(live: &mut Live, station: Address) -> Result<Option<NotMade>, Fail> {
-    match live.open_port(station, feca()?, 9) {
-        Ok(_) => Ok(None),
-        Err(refused) => Ok(Some(refused)),
+fn fill_calls(
+    rt: &impl Abort,
+    alloc: Global,
+    live: &mut Live,
+    inbox: &mut Inbox,
+    sender: &mut Client,
+) -> Result<(), Fail> {
+    submit(rt, sender, R, alloc)?;
+    let tick = WorkerCall::Tick { n: 0 };
+    for _ in 1..MOST_CALLS {
+        assert!(rt; refused(live, tick)?.is_none());
     }
+    let full = Refusal::TraceFull;
+    assert!(rt; refused(live, tick)? == Some(full));
+    accepts(rt, live, sender, Accepted::Refused(full))?;
+    assert!(rt; close(live, inbox)? == Err(full));
+    is_unopened(rt, live, R, full)?;
+    is_unopened(rt, live, Address(0x50), Refusal::NoSuchStation)
+}
+
+fn fill_calls_of(rt: &impl Abort, alloc: Global, live: &mut Live) -> Result<(), Fail> {
+    let (mut inbox, mut sender) = port_and_client(live)?;
+    fill_calls(rt, alloc, live, &mut inbox, &mut sender)
 }
 
 #[test]
 fn no_more_calls_are_stored(rt: HostRuntime) -> Result<(), Fail> {
-    let alloc = rt.alloc();
-    let mut live = three(alloc)?;
-    let mut inbox = port(&mut live)?;
-    let mut sender = client(&mut live, A)?;
-    submit(&rt, &mut sender, R, alloc)?;
-    let tick = WorkerCall::Tick { n: 0 };
-    for _ in 1..MOST_CALLS {
-        assert!(rt; refused(&mut live, tick)?.is_none());
-    }
-    let full = Refusal::TraceFull;
-    assert!(rt; refused(&mut live, tick)? == Some(full));
-    assert!(rt; accept(&mut live, &sender)? == Accepted::Refused(full));
-    assert!(rt; close(&mut live, &mut inbox)? == Err(full));
-    assert!(rt; unopened(&mut live, R)? == Some(NotMade::Refused(full)));
-    let nowhere = NotMade::Refused(Refusal::NoSuchStation);
-    assert!(rt; unopened(&mut live, Address(0x50))? == Some(nowhere));
-    Ok(())
+    let mut live = three(rt.alloc())?;
+    fill_calls_of(&rt, rt.alloc(), &mut live)
 }

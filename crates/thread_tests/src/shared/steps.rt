@@ -18,7 +18,7 @@ pub(super) const R: Address = Address(0x35);
 // Two turns more than the longest exchange takes: a turn that finds no memory leaves what it was to do to the next.
 const MANY: u64 = 14;
 
-pub(super) fn bytes(alloc: Global, first: u8, many: u8) -> Result<Bytes, Fail> {
+pub(super) fn bytes(alloc: Global, first: u8, many: u8) -> Result<Bytes, AllocError> {
     let mut all = Vec::new(alloc);
     for k in 0..many {
         all.push(first.wrapping_add(k))?;
@@ -38,6 +38,14 @@ pub(super) fn port(live: &mut Live) -> Result<Inbox, Fail> {
 
 pub(super) fn client(live: &mut Live, station: Address) -> Result<Client, Fail> {
     Ok(live.attach(station)?)
+}
+
+// A test's steps are functions of their own, which own nothing: where a step can end a test, what the test owns is dropped there, and each
+// such place takes its part of the proof. So a segment, its ends and the steps are of one function each.
+pub(super) fn port_and_client(live: &mut Live) -> Result<(Inbox, Client), Fail> {
+    let inbox = port(live)?;
+    let sender = client(live, A)?;
+    Ok((inbox, sender))
 }
 
 // A client submits nine bytes.
@@ -137,22 +145,34 @@ fn left_by(report: &Report) -> Left {
     left
 }
 
-// What is left of these clients and an inbox.
-pub(super) fn left_of(
+fn reports(
     rt: &impl Abort,
     live: &mut Live,
     clients: Vec<Client>,
-    inbox: Inbox,
-    alloc: Global,
-) -> Result<Left, Fail> {
-    let inboxes = vec![in alloc; inbox]?;
+    inboxes: Vec<Inbox>,
+    expected: Left,
+) -> Result<(), Fail> {
     match finish(live, clients, inboxes) {
-        Ok(report) => Ok(left_by(&report)),
+        Ok(report) => assert_eq!(rt; left_by(&report), expected),
         Err(refused) => {
             assert!(rt; !refused.not_this_segment);
-            Err(Fail::from(AllocError))
+            return Err(Fail::from(AllocError));
         }
     }
+    Ok(())
+}
+
+// So much is left of these clients and an inbox.
+pub(super) fn leaves(
+    rt: &impl Abort,
+    alloc: Global,
+    live: &mut Live,
+    clients: Vec<Client>,
+    inbox: Inbox,
+    expected: Left,
+) -> Result<(), Fail> {
+    let inboxes = vec![in alloc; inbox]?;
+    reports(rt, live, clients, inboxes, expected)
 }
 
 // Turns of the workers of stations 21 and 35 and of the bus, one after another.

@@ -1,10 +1,9 @@
 //! A worker for each of three stations and one for the bus, each a thread of its own, and two clients and an inbox.
 use super::steps::*;
 use pgn_ids::Address;
-use segment_shared::{
-    Bytes, Client, Gate, Inbox, Live, SharedSegment, Tally, bus_worker, station_worker,
-};
+use segment_shared::{Client, Gate, Inbox, Live, SharedSegment, Tally, bus_worker, station_worker};
 use std::alloc::{AllocError, Global};
+use std::process::Abort;
 use std::sync::Wait;
 use std::sync::atomic::{AtomicU64, Ordering};
 use std::test::Fail;
@@ -124,13 +123,12 @@ fn is_given(rt: &impl Wait, pace: &Pace, inbox: &mut Inbox) -> Result<bool, Allo
 // Both clients submit; whether each of the notes and deliveries of it came.
 fn talk(
     rt: &impl Wait,
+    alloc: Global,
     pace: &Pace,
     ends: &mut Ends,
-    nine: Bytes,
-    ten: Bytes,
 ) -> Result<[bool; 4], AllocError> {
-    let first = submitted(&mut ends.first, R, FECA, nine)?.is_ok();
-    let second = submitted(&mut ends.second, R, FECA, ten)?.is_ok();
+    let first = submitted(&mut ends.first, R, FECA, bytes(alloc, 1, 9)?)?.is_ok();
+    let second = submitted(&mut ends.second, R, FECA, bytes(alloc, 0x11, 10)?)?.is_ok();
     if !(first && second) {
         return Ok([false; 4]);
     }
@@ -145,11 +143,10 @@ fn talk(
 // The talk beside the workers. Where not all of their threads could be started there is none.
 fn talk_by_threads<T: Threads + Wait + Sync>(
     rt: &T,
+    alloc: Global,
     shared: &SharedSegment,
     pace: &Pace,
     ends: Ends,
-    nine: Bytes,
-    ten: Bytes,
 ) -> (Ends, Result<[bool; 4], AllocError>) {
     thread::scope(thread::scope_env(), rt, move |scope| {
         let mut ends = ends;
@@ -164,7 +161,7 @@ fn talk_by_threads<T: Threads + Wait + Sync>(
                 .is_ok()
             && scope.spawn(move || work_bus(rt, shared, pace)).is_ok();
         let came = if all {
-            talk(rt, pace, &mut ends, nine, ten)
+            talk(rt, alloc, pace, &mut ends)
         } else {
             Err(AllocError)
         };
@@ -174,35 +171,25 @@ fn talk_by_threads<T: Threads + Wait + Sync>(
     })
 }
 
-// A segment with two clients and an inbox for what they submit.
-fn with_ends(alloc: Global) -> Result<(Live, Ends), Fail> {
-    let mut live = three(alloc)?;
-    let inbox = port(&mut live)?;
-    let first = client(&mut live, A)?;
-    let second = client(&mut live, B)?;
-    let ends = Ends {
+// Two clients and an inbox for what they submit.
+fn ends_of(live: &mut Live) -> Result<Ends, Fail> {
+    let inbox = port(live)?;
+    let first = client(live, A)?;
+    let second = client(live, B)?;
+    Ok(Ends {
         first,
         second,
         inbox,
-    };
-    Ok((live, ends))
+    })
 }
 
-#[test]
-fn messages_of_two_threads_come_to_a_third(rt: HostRuntime) -> Result<(), Fail> {
-    let alloc = rt.alloc();
-    let (live, ends) = with_ends(alloc)?;
-    let nine = bytes(alloc, 1, 9)?;
-    let ten = bytes(alloc, 0x11, 10)?;
-    let shared = SharedSegment::share(live);
-    let pace = Pace::new();
-    let (ends, came) = talk_by_threads(&rt, &shared, &pace, ends, nine, ten);
-    assert!(rt; came? == [true; 4]);
-    assert_eq!(rt; pace.missed.load(Ordering::SeqCst), 0);
-    let mut live = shared.into_live();
+fn are_applied(rt: &impl Abort, live: &Live, pace: &Pace) {
     assert!(rt; live.is_stopped());
     let applied = pace.calls.load(Ordering::SeqCst);
     assert_eq!(rt; live.calls().len() as u64, applied.saturating_add(1));
+}
+
+fn leave_nothing(rt: &impl Abort, alloc: Global, live: &mut Live, ends: Ends) -> Result<(), Fail> {
     let Ends {
         first,
         second,
@@ -216,6 +203,19 @@ fn messages_of_two_threads_come_to_a_third(rt: HostRuntime) -> Result<(), Fail> 
         inboxes: 1,
         deliveries: 0,
     };
-    assert_eq!(rt; left_of(&rt, &mut live, clients, inbox, alloc)?, nothing);
-    Ok(())
+    leaves(rt, alloc, live, clients, inbox, nothing)
+}
+
+#[test]
+fn messages_of_two_threads_come_to_a_third(rt: HostRuntime) -> Result<(), Fail> {
+    let mut live = three(rt.alloc())?;
+    let ends = ends_of(&mut live)?;
+    let shared = SharedSegment::share(live);
+    let pace = Pace::new();
+    let (ends, came) = talk_by_threads(&rt, rt.alloc(), &shared, &pace, ends);
+    let mut live = shared.into_live();
+    assert!(rt; came? == [true; 4]);
+    assert_eq!(rt; pace.missed.load(Ordering::SeqCst), 0);
+    are_applied(&rt, &live, &pace);
+    leave_nothing(&rt, rt.alloc(), &mut live, ends)
 }

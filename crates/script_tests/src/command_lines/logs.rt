@@ -1,16 +1,9 @@
 //! The words of `decode`.
+use super::{answers, tells, words_of};
 use command_line::{Asked, OfLog, read_command_line};
-use std::alloc::{AllocError, Global};
+use std::alloc::Global;
 use std::process::Abort;
 use std::test::Fail;
-
-fn words_of(alloc: Global, all: &[&str]) -> Result<Vec<String>, Fail> {
-    let mut words = Vec::new(alloc);
-    for word in all {
-        words.push(format!(in alloc; "{word}")?)?;
-    }
-    Ok(words)
-}
 
 fn asked(alloc: Global, all: &[&str]) -> Result<OfLog, Fail> {
     let words = words_of(alloc, all)?;
@@ -18,21 +11,6 @@ fn asked(alloc: Global, all: &[&str]) -> Result<OfLog, Fail> {
         Asked::Decode(asked) => Ok(asked),
         _ => Err(Fail::new("another command")),
     }
-}
-
-// The text that answers these words; a test ends where it is that memory was refused.
-fn answer(rt: &impl Abort, alloc: Global, all: &[&str]) -> Result<String, Fail> {
-    let words = words_of(alloc, all)?;
-    let error = read_command_line(alloc, words.as_slice()).expect_err(rt, "a text");
-    let text = format!(in alloc; "{error}")?;
-    if text.as_str() == "error: out of memory\n" {
-        out_of_memory()?;
-    }
-    Ok(text)
-}
-
-fn out_of_memory() -> Result<(), AllocError> {
-    Err(AllocError)
 }
 
 #[test]
@@ -72,29 +50,33 @@ fn parts_of_a_log_are_asked_for(rt: HostRuntime) -> Result<(), Fail> {
     Ok(())
 }
 
+fn refuses(
+    rt: &impl Abort,
+    alloc: Global,
+    option: &str,
+    value: &str,
+    told: &str,
+) -> Result<(), Fail> {
+    tells(rt, alloc, &["j1939bus", "decode", option, value], told)
+}
+
 #[test]
 fn other_numbers_are_refused(rt: HostRuntime) -> Result<(), Fail> {
     let alloc = rt.alloc();
-    for (option, value, told) in [
-        (
-            "--pgn",
-            "40000",
-            "invalid value '40000' for '--pgn': not a hexadecimal number up to 3FFFF",
-        ),
-        ("--pgn", "+1", "invalid value '+1'"),
-        (
-            "--from",
-            "100",
-            "invalid value '100' for '--from': not a hexadecimal number up to FF",
-        ),
-        ("--to", "G", "invalid value 'G'"),
-        ("--max-bytes", "0", "invalid value '0'"),
-        ("--max-bytes", "117440506", "invalid value '117440506'"),
-    ] {
-        let text = answer(&rt, alloc, &["j1939bus", "decode", option, value])?;
-        assert!(rt; text.as_str().contains(told));
-    }
-    Ok(())
+    let told = "invalid value '40000' for '--pgn': not a hexadecimal number up to 3FFFF";
+    refuses(&rt, alloc, "--pgn", "40000", told)?;
+    refuses(&rt, alloc, "--pgn", "+1", "invalid value '+1'")?;
+    let told = "invalid value '100' for '--from': not a hexadecimal number up to FF";
+    refuses(&rt, alloc, "--from", "100", told)?;
+    refuses(&rt, alloc, "--to", "G", "invalid value 'G'")?;
+    refuses(&rt, alloc, "--max-bytes", "0", "invalid value '0'")?;
+    refuses(
+        &rt,
+        alloc,
+        "--max-bytes",
+        "117440506",
+        "invalid value '117440506'",
+    )
 }
 
 const DECODE_HELP: &str =
@@ -133,8 +115,10 @@ docs/LOGS.md describes what is read and printed.
 
 #[test]
 fn help_says_what_is_read_and_printed(rt: HostRuntime) -> Result<(), Fail> {
-    let alloc = rt.alloc();
-    let text = answer(&rt, alloc, &["j1939bus", "decode", "--help"])?;
-    assert_eq!(rt; text.as_str(), DECODE_HELP);
-    Ok(())
+    answers(
+        &rt,
+        rt.alloc(),
+        &["j1939bus", "decode", "--help"],
+        DECODE_HELP,
+    )
 }
