@@ -13,7 +13,7 @@ use Rattle.segment_law.specs.declared.reply.Reply.TheVariants.{Opened, Sent, Ref
 use Rattle.reply_law.specs.Replies.{reply_of}
 use Rattle.segment_shared.specs.declared.call.Stored.{Stored}
 use Rattle.segment_shared.specs.Record.{trail}
-use Rattle.script_lines.specs.Lines.{is_ascii}
+use Rattle.script_commands.specs.Words.{is_ascii}
 use Rattle.script_commands.specs.Words.{words_of}
 use Rattle.script_commands.specs.Values.{◌>>=◌}
 use Rattle.script_commands.specs.Commands.{command_of}

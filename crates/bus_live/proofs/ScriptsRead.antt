@@ -1,14 +1,14 @@
 -- A script that is read on by a line: what the rest sets up from the plan so far is what all of it sets up.
 use Rattle.std.proofs.Common.{◌≡◌, ℕ, ◌+◌, ◌<◌, ◌≤◌, List, [], ◌∷◌, length, Option, Some, None, Ok, Err, true, false, refl, sym, ◌∙◌, ap, arith, nat_lt, subst, IfSome, cond, ◌||◌}
 use Rattle.std.proofs.lemmas.Bool.Decides.{nat_tests}
-use Rattle.script_lines.specs.Known.{Known}
-use Rattle.script_lines.specs.Lines.{lines_of, ReadsLine}
-use Rattle.script_lines.specs.declared.lines.LineRead.{LineRead}
-use Rattle.script_lines.specs.declared.lines.LineRead.TheVariants.{End, Line, TooLong}
-use Rattle.script_lines.specs.declared.lines.ReadError.{ReadError}
-use Rattle.script_lines.specs.declared.lines.ReadError.TheVariants as reads
-use Rattle.script_lines.specs.Faults.{cause_of, read_cause}
-use Rattle.script_lines.specs.declared.fault.Cause.TheVariants as causes
+use Rattle.text_lines.specs.Known.{Known}
+use Rattle.text_lines.specs.Lines.{lines_of, ReadsLine}
+use Rattle.text_lines.specs.declared.lines.LineRead.{LineRead}
+use Rattle.text_lines.specs.declared.lines.LineRead.TheVariants.{End, Line, TooLong}
+use Rattle.text_lines.specs.declared.lines.ReadError.{ReadError}
+use Rattle.text_lines.specs.declared.lines.ReadError.TheVariants as reads
+use Rattle.script_commands.specs.Ending.{cause_of, read_cause}
+use Rattle.script_commands.specs.declared.ending.Cause.TheVariants as causes
 use Rattle.script_commands.specs.Faults.{limit_fault}
 use Rattle.script_commands.specs.declared.fault.Fault.{Fault}
 use Rattle.script_commands.specs.declared.fault.Fault.TheVariants.{TooManyLines}

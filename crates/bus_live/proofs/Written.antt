@@ -2,10 +2,10 @@
 use Rattle.std.proofs.Common.{◌≡◌, ℕ, List, [], ◌++◌, Bool, false, Option, Some, None, Result, Ok, Err, refl, sym, ◌∙◌, ap, append_assoc, subst, inl, inr, option_map, IfSome}
 use Rattle.std.proofs.lemmas.List.{append-nil}
 use Rattle.std.specs.Io.KnownBytes.{Appends}
-use Rattle.script_lines.specs.Known.{IsFront}
-use Rattle.script_lines.specs.declared.fault.Cause.{Cause}
-use Rattle.script_lines.specs.declared.fault.Cause.TheVariants as causes
-use Rattle.script_lines.specs.declared.fault.ScriptFault.{ScriptFault}
+use Rattle.text_lines.specs.Known.{IsFront}
+use Rattle.script_commands.specs.declared.ending.Cause.{Cause}
+use Rattle.script_commands.specs.declared.ending.Cause.TheVariants as causes
+use Rattle.script_commands.specs.declared.ending.ScriptFault.{ScriptFault}
 use Rattle.pgn_ids.specs.declared.address.Address.{Address}
 use Rattle.port_table.specs.declared.port.PortId.{PortId}
 use Rattle.segment_shared.specs.LiveView.{LiveView}

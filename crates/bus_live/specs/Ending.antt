@@ -1,11 +1,11 @@
 -- How a run of a script by threads ended.
 use Rattle.std.specs.Prelude.{◌≡◌, ℕ, ◌+◌, ◌==◌, List, [], ◌∷◌, ◌++◌, ◌⊎◌, length, nat_lt, cond, Bool, true, false, Option, Some, None, Result, Ok, Err, if◌then◌else◌, codes}
 use Rattle.std.specs.Io.KnownBytes.{Appends}
-use Rattle.script_lines.specs.Known.{IsFront}
-use Rattle.script_lines.specs.Faults.{fault_line}
-use Rattle.script_lines.specs.declared.fault.Cause.{Cause}
-use Rattle.script_lines.specs.declared.fault.Cause.TheVariants as causes
-use Rattle.script_lines.specs.declared.fault.ScriptFault.{ScriptFault}
+use Rattle.text_lines.specs.Known.{IsFront}
+use Rattle.script_commands.specs.Ending.{fault_line}
+use Rattle.script_commands.specs.declared.ending.Cause.{Cause}
+use Rattle.script_commands.specs.declared.ending.Cause.TheVariants as causes
+use Rattle.script_commands.specs.declared.ending.ScriptFault.{ScriptFault}
 use Rattle.pgn_ids.specs.declared.address.Address.{Address}
 use Rattle.port_table.specs.declared.port.PortId.{PortId}
 use Rattle.segment_law.specs.Headline.{Headline}

@@ -26,7 +26,8 @@ use Rattle.script_commands.specs.declared.fault.LineError.{LineError}
 use Rattle.script_commands.specs.declared.fault.LineError.TheVariants as errors
 use Rattle.script_commands.specs.declared.command.Command.{Command}
 use Rattle.script_commands.specs.declared.command.Command.TheVariants as commands
-use Rattle.script_lines.specs.Lines.{lines_of, is_ascii}
+use Rattle.text_lines.specs.Lines.{lines_of}
+use Rattle.script_commands.specs.Words.{is_ascii}
 use Rattle.script_text.specs.Parts.{line}
 use Rattle.script_text.specs.Replies.{refusal_text}
 use Rattle.bus_live.specs.declared.setup.Message.{Message}

@@ -11,5 +11,5 @@ mod setup;
 mod text;
 
 pub use running::{LiveFault, LiveRan, run_live};
-pub use script_lines::{Cause, ScriptFault};
+pub use script_commands::{Cause, ScriptFault};
 pub use segment_shared::Gate;

@@ -6,8 +6,7 @@ ghost use Rattle.bus_live.specs.Plan.{plan_of, Done, FewCalls, is_known, made_by
 
 use crate::setup::{Message, Setup};
 use pgn_ids::{Address, Pgn};
-use script_commands::{Command, Fault, LineError, read_command, split_words};
-use script_lines::is_ascii;
+use script_commands::{Command, Fault, LineError, is_ascii, read_command, split_words};
 use segment_core::{Call, Refusal};
 use segment_rings::submit_refusal;
 use segment_shared::{Live, NotMade};

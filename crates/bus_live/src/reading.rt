@@ -5,10 +5,10 @@ ghost use Rattle.bus_live.specs.Ending.{IsRead};
 
 use crate::obeying::obey_line;
 use crate::setup::Setup;
-use script_commands::{Fault, MAX_LINES, limit_fault};
-use script_lines::{Cause, LineRead, ScriptFault, cause_of, read_cause, read_line};
+use script_commands::{Cause, Fault, MAX_LINES, ScriptFault, cause_of, limit_fault, read_cause};
 use std::alloc::Global;
 use std::io::Read;
+use text_lines::{LineRead, read_line};
 
 /// Reads a script to its end, or to its first fault, and does what its lines ask for.
 pub(crate) fn read_script<R: Read>(

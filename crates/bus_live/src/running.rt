@@ -11,7 +11,7 @@ use crate::reading::read_script;
 use crate::setup::{Message, Setup};
 use crate::text::{Lost, Told, text_of};
 use pgn_ids::Address;
-use script_lines::{Cause, ScriptFault, tell};
+use script_commands::{Cause, ScriptFault};
 use segment_core::PortId;
 use segment_shared::{Client, Gate, Inbox, Live, NotMade, SharedSegment, Submission, finish};
 use std::alloc::{AllocError, Global};
@@ -19,6 +19,7 @@ use std::io::{Read, Write};
 use std::sync::Wait;
 use std::thread::{JoinHandle, Threads};
 use std::{fmt, thread};
+use text_lines::tell;
 
 /// Why a run ended before its end.
 #[derive(Clone, Copy, Debug, PartialEq, Eq)]

@@ -4,20 +4,20 @@ use Rattle.std.proofs.lemmas.Bool.Decides.{nat_tests}
 use Rattle.std.proofs.lemmas.List.{append-nil}
 use Rattle.std.specs.Io.KnownBytes.{Appends, Keeps, append_known}
 use Rattle.segment_law.specs.Segment.{Segment}
-use Rattle.script_lines.specs.Known.{Known, IsFront}
-use Rattle.script_lines.specs.Lines.{lines_of, ReadsLine}
+use Rattle.text_lines.specs.Known.{Known, IsFront}
+use Rattle.text_lines.specs.Lines.{lines_of, ReadsLine}
 use Rattle.bus_script.specs.Script.{or_refused, Step, Outcome, outcome_from, outcome, numbered_line, obey_line, Obeyed}
 use Rattle.bus_script.specs.Ending.{Ended}
 use Rattle.bus_script.specs.declared.obeying.Told.{Told}
 use Rattle.bus_script.specs.declared.obeying.Told.TheVariants.{Answered, NoMemory}
-use Rattle.script_lines.specs.Faults.{cause_of, read_cause}
-use Rattle.script_lines.specs.declared.fault.Cause.TheVariants as causes
+use Rattle.script_commands.specs.Ending.{cause_of, read_cause}
+use Rattle.script_commands.specs.declared.ending.Cause.TheVariants as causes
 use Rattle.script_commands.specs.declared.fault.LineError.{LineError}
 use Rattle.script_commands.specs.declared.fault.LineError.TheVariants as errors
-use Rattle.script_lines.specs.declared.lines.ReadError.{ReadError}
-use Rattle.script_lines.specs.declared.lines.ReadError.TheVariants as reads
-use Rattle.script_lines.specs.declared.lines.LineRead.{LineRead}
-use Rattle.script_lines.specs.declared.lines.LineRead.TheVariants.{End, Line, TooLong}
+use Rattle.text_lines.specs.declared.lines.ReadError.{ReadError}
+use Rattle.text_lines.specs.declared.lines.ReadError.TheVariants as reads
+use Rattle.text_lines.specs.declared.lines.LineRead.{LineRead}
+use Rattle.text_lines.specs.declared.lines.LineRead.TheVariants.{End, Line, TooLong}
 use Rattle.script_commands.specs.Faults.{limit_fault}
 use Rattle.script_commands.specs.declared.fault.Fault.{Fault}
 use Rattle.script_commands.specs.declared.fault.Fault.TheVariants.{TooManyLines}

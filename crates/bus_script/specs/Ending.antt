@@ -2,10 +2,10 @@
 use Rattle.std.specs.Prelude.{◌≡◌, ℕ, List, false, Option, Some, None}
 use Rattle.std.specs.Io.KnownBytes.{Appends}
 use Rattle.bus_script.specs.Script.{Outcome}
-use Rattle.script_lines.specs.Known.{IsFront}
-use Rattle.script_lines.specs.declared.fault.Cause.{Cause}
-use Rattle.script_lines.specs.declared.fault.Cause.TheVariants as causes
-use Rattle.script_lines.specs.declared.fault.ScriptFault.{ScriptFault}
+use Rattle.text_lines.specs.Known.{IsFront}
+use Rattle.script_commands.specs.declared.ending.Cause.{Cause}
+use Rattle.script_commands.specs.declared.ending.Cause.TheVariants as causes
+use Rattle.script_commands.specs.declared.ending.ScriptFault.{ScriptFault}
 use Rattle.bus_script.specs.declared.running.Ran.{Ran}
 
 abbrev pub EndedByCause : ℕ → Cause → Option (List ℕ) → Option (List ℕ) → Outcome → Type 0

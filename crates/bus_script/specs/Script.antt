@@ -24,7 +24,8 @@ use Rattle.script_commands.specs.declared.fault.LineError.TheVariants as errors
 use Rattle.script_text.specs.Parts.{line}
 use Rattle.script_text.specs.Replies.{refusal_text, reply_line, put_line, event_lines, drive_lines}
 use Rattle.script_text.specs.Counts.{counts_line}
-use Rattle.script_lines.specs.Lines.{lines_of, is_ascii}
+use Rattle.text_lines.specs.Lines.{lines_of}
+use Rattle.script_commands.specs.Words.{is_ascii}
 use Rattle.bus_script.specs.declared.obeying.Told.{Told}
 use Rattle.bus_script.specs.declared.obeying.Told.TheVariants.{Answered, NoMemory}
 

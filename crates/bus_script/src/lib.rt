@@ -6,5 +6,4 @@ mod obeying;
 mod running;
 
 pub use running::{Ran, run_script};
-pub use script_commands::Fault;
-pub use script_lines::{Cause, ScriptFault};
+pub use script_commands::{Cause, Fault, ScriptFault};

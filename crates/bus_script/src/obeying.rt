@@ -5,8 +5,7 @@ ghost use Rattle.bus_script.specs.Script.{Obeyed, frame_put, optional_put, made,
 
 use bus_frame::Frame;
 use pgn_ids::Address;
-use script_commands::{Addresses, Command, Fault, LineError, read_command, split_words};
-use script_lines::is_ascii;
+use script_commands::{Addresses, Command, Fault, LineError, is_ascii, read_command, split_words};
 use script_text::{
     print_counts, print_driven, print_events, print_put, print_refused, print_reply, print_text,
 };

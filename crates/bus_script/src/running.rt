@@ -4,10 +4,10 @@ ghost use Rattle.bus_script.specs.Script.{or_refused, outcome};
 ghost use Rattle.bus_script.specs.Ending.{Ended, status_of};
 
 use crate::obeying::{Told, obey_line};
-use script_commands::{Fault, MAX_LINES, limit_fault};
-use script_lines::{Cause, LineRead, ScriptFault, cause_of, read_cause, read_line, tell};
+use script_commands::{Cause, Fault, MAX_LINES, ScriptFault, cause_of, limit_fault, read_cause};
 use std::alloc::Global;
 use std::io::{Read, Write};
+use text_lines::{LineRead, read_line, tell};
 
 /// How a script ended.
 #[derive(Clone, Copy, Debug, PartialEq, Eq)]

@@ -1,4 +1,5 @@
 pub mod Words
 pub mod Faults
+pub mod Ending
 pub mod Values
 pub mod Commands

@@ -1,10 +1,15 @@
 -- Words of a line, and the numbers and data that words write.
-use Rattle.std.specs.Prelude.{ℕ, ◌+◌, ◌-◌, ◌*◌, ◌^◌, List, [], ◌∷◌, ◌++◌, length, Bool, ◌&&◌, ◌||◌, Option, Some, None, nat_lt, nat_le, ◌==◌, if◌then◌else◌, option_and_then, option_map, map}
+use Rattle.std.specs.Prelude.{ℕ, ◌+◌, ◌-◌, ◌*◌, ◌^◌, List, [], ◌∷◌, ◌++◌, length, Bool, true, ◌&&◌, ◌||◌, Option, Some, None, nat_lt, nat_le, ◌==◌, if◌then◌else◌, option_and_then, option_map, map}
 use Rattle.std.specs.Borrow.{Bor}
 
 infixl 10 ◌>>=◌
 abbrev pub ◌>>=◌ : {A B : Type 0} → Option A → (A → Option B) → Option B
 o >>= f = option_and_then f o
+
+-- each byte is below 128
+abbrev pub is_ascii : List ℕ → Bool
+is_ascii [] = true
+is_ascii (b ∷ bs) = nat_lt b 128 && is_ascii bs
 
 -- what references point to
 abbrev pub texts : List (Bor (List ℕ)) → List (List ℕ)

@@ -1,15 +1,18 @@
-//! What a line of a script asks for: its words, the command that they mean, or the first fault in them.
+//! What a line of a script asks for: its words, the command that they mean, or the first fault in them; and where and why a script
+//! ended before its end.
 //!
 //! Nothing here knows a segment that is made: whether a command can be obeyed is for the layer above.
 #![tactic(auto)]
 
 mod addresses;
 mod command;
+mod ending;
 mod fault;
 mod values;
 mod words;
 
 pub use addresses::Addresses;
 pub use command::{Command, read_command};
+pub use ending::{Cause, ScriptFault, cause_of, read_cause};
 pub use fault::{Fault, LineError, MAX_LINES, limit_fault};
-pub use words::split_words;
+pub use words::{is_ascii, split_words};

@@ -1,8 +1,20 @@
 //! Words of a line, and the numbers and data that words write.
 ghost use Rattle.std.specs.Prelude.{◌≡◌, ◌<◌, ◌≤◌, IfOk, ◌++◌, OnOk, length, IfSome, option_map};
-ghost use Rattle.script_commands.specs.Words.{texts, some_word, words_of, digit_of, put_digit, numeral_from, decimal_word, hex_word, data_word, pair_of, dot_in};
+ghost use Rattle.script_commands.specs.Words.{is_ascii, texts, some_word, words_of, digit_of, put_digit, numeral_from, decimal_word, hex_word, data_word, pair_of, dot_in};
 
 use std::alloc::{AllocError, Global};
+
+/// Whether each byte of a line is below 128.
+pub fn is_ascii(line: &[u8]) -> bool
+    ensures { result ≡ is_ascii line.now }
+{
+    for byte in line {
+        if *byte >= 128 {
+            return false;
+        }
+    }
+    true
+}
 
 /// Puts a word behind the others, where it has a byte.
 fn push_word<'a>(words: &mut Vec<&'a [u8]>, word: &'a [u8]) -> Result<(), AllocError>

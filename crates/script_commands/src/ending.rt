@@ -1,10 +1,10 @@
 //! Where a script ended before its end, and why.
 ghost use Rattle.std.specs.Prelude.{◌≡◌, Some};
-ghost use Rattle.script_lines.specs.Faults.{cause_of, read_cause, fault_line};
+ghost use Rattle.script_commands.specs.Ending.{cause_of, read_cause, fault_line};
 
-use crate::lines::ReadError;
-use script_commands::{Fault, LineError};
+use crate::fault::{Fault, LineError};
 use std::fmt;
+use text_lines::ReadError;
 
 /// Why a script ended before its end.
 #[derive(Clone, Copy, Debug, PartialEq, Eq)]

@@ -4,11 +4,11 @@ use Rattle.std.specs.Fmt.{decimal}
 use Rattle.script_commands.specs.Faults.{fault_text}
 use Rattle.script_commands.specs.declared.fault.LineError.{LineError}
 use Rattle.script_commands.specs.declared.fault.LineError.TheVariants as errors
-use Rattle.script_lines.specs.declared.lines.ReadError.{ReadError}
-use Rattle.script_lines.specs.declared.lines.ReadError.TheVariants as reads
-use Rattle.script_lines.specs.declared.fault.Cause.{Cause}
-use Rattle.script_lines.specs.declared.fault.Cause.TheVariants as causes
-use Rattle.script_lines.specs.declared.fault.ScriptFault.{ScriptFault}
+use Rattle.text_lines.specs.declared.lines.ReadError.{ReadError}
+use Rattle.text_lines.specs.declared.lines.ReadError.TheVariants as reads
+use Rattle.script_commands.specs.declared.ending.Cause.{Cause}
+use Rattle.script_commands.specs.declared.ending.Cause.TheVariants as causes
+use Rattle.script_commands.specs.declared.ending.ScriptFault.{ScriptFault}
 
 -- why a line ends a script
 abbrev pub cause_of : LineError → Cause

@@ -1,2 +1,0 @@
-pub mod LineFronts
-pub mod Known
