@@ -1,5 +1,6 @@
 pub mod Places
 pub mod Answers
+pub mod InPlace
 pub mod SegmentCode
 pub mod SegmentFields
 pub mod DriveFields

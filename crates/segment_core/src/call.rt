@@ -3,8 +3,10 @@ ghost use Rattle.std.specs.Prelude.{◌≡◌, ℕ, ◌<◌, ◌∷◌, ◌++◌
 ghost use Rattle.std.specs.Bool.{OnTrue, OnFalse};
 ghost use Rattle.segment_law.specs.Calls.{are_bytes, is_address, is_call, done, called, applied};
 ghost use Rattle.segment_law.specs.Record.{Record, StandsAt};
+ghost use Rattle.segment_law.specs.declared.reply.Reply.TheVariants.{Done};
 ghost use Rattle.pgn_ids.specs.declared.address.Address.{Address as AddressValue};
 ghost use Rattle.segment_core.specs.Answers.{IsAnswer};
+ghost use Rattle.segment_core.specs.InPlace.{is_quiet, MayLackMemory};
 ghost use Rattle.segment_core.specs.Promise.{KeepsPromise};
 
 use crate::segment::Segment;
@@ -81,10 +83,30 @@ impl Segment {
         }
     }
 
+    /// Makes a call where that tells nothing and ends nothing, as most do, and answers whether it did: faster than `apply`, since
+    /// no reply is made. Any other call is left to `apply`, and changes nothing, one that is refused or finds no memory among
+    /// them.
+    #[inline]
+    pub fn apply_in_place(&mut self, call: &Call) -> bool
+        ensures quiet { OnTrue result (is_quiet self.old call.now ≡ true) }
+        ensures wanting { OnFalse result (is_quiet self.old call.now ≡ true → MayLackMemory self.old call.now) }
+        ensures applied { OnTrue result (applied self.old call.now ≡ (self.new, Done [])) }
+        ensures stands { (addresses : List AddressValue) (steps : Record) → StandsAt addresses steps self.old → OnTrue result (StandsAt addresses (steps ++ (call.now, Done []) ∷ []) self.new) }
+        ensures headline { KeepsPromise self.new }
+        ensures other { OnFalse result (self.new ≡ self.old) }
+    {
+        // A law, for the clause `headline`: the call does nothing.
+        the_headline_holds();
+        fits(call);
+        self.call_in_place(call)
+    }
+
     // Makes a call where that tells nothing and ends nothing; any other changes nothing.
     #[inline]
     #[tactic(auto, unfolding(segment_law::specs::Calls::called))]
     fn call_in_place(&mut self, call: &Call) -> bool
+        ensures quiet { OnTrue result (is_quiet self.old call.now ≡ true) }
+        ensures wanting { OnFalse result (is_quiet self.old call.now ≡ true → MayLackMemory self.old call.now) }
         ensures step { OnTrue result (called self.old call.now ≡ done self.new) }
         ensures other { OnFalse result (self.new ≡ self.old) }
     {

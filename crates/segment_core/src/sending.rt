@@ -2,6 +2,8 @@
 ghost use Rattle.std.specs.Prelude.{◌≡◌};
 ghost use Rattle.std.specs.Bool.{OnTrue, OnFalse};
 ghost use Rattle.segment_law.specs.Calls.{at_address, done, sends, pumps, cancels};
+ghost use Rattle.segment_law.specs.Segment.{station_of};
+ghost use Rattle.segment_core.specs.InPlace.{pump_quiet};
 ghost use Rattle.segment_core.specs.Answers.{IsAnswer};
 
 use crate::segment::Segment;
@@ -50,6 +52,7 @@ impl Segment {
     /// Queues what comes next in a lane where that ends no message and begins none; any other pump changes nothing.
     #[tactic(auto, using(crate::proofs::Stations::call_laws))]
     pub(crate) fn pump_in_place(&mut self, station: Address, to: Address) -> bool
+        ensures value { result ≡ pump_quiet (station_of self.old station) to self.old.now }
         ensures step { OnTrue result (at_address self.old station (pumps self.old to) ≡ done self.new) }
         ensures other { OnFalse result (self.new ≡ self.old) }
     {

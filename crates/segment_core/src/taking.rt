@@ -1,9 +1,10 @@
 //! Frames that are taken, taken again and missed.
 ghost use Rattle.segment_law.specs.Calls.{at_address, done, takes, repeats, overruns};
-ghost use Rattle.segment_law.specs.Segment.{counted, counted_look};
+ghost use Rattle.segment_law.specs.Segment.{place_of, station_of, counted, counted_look};
 ghost use Rattle.segment_law.specs.declared.reply.Reply.TheVariants.{Done};
+ghost use Rattle.segment_core.specs.InPlace.{take_quiet, next_at, TakeLacksRoom};
 ghost use Rattle.segment_core.specs.Answers.{IsAnswer};
-ghost use Rattle.std.specs.Prelude.{◌≡◌, ◌<◌, length};
+ghost use Rattle.std.specs.Prelude.{◌≡◌, ◌<◌, length, true};
 ghost use Rattle.std.specs.Bool.{OnTrue, OnFalse};
 ghost use Rattle.bus_order.specs.Bus.{next_frame};
 
@@ -40,6 +41,8 @@ impl Segment {
     /// and changes nothing; so is one that `take` refuses.
     #[inline]
     pub(crate) fn take_in_place(&mut self, station: Address, room: bool) -> bool
+        ensures quiet { OnTrue result (take_quiet (station_of self.old station) (next_at self.old (place_of self.old station)) room ≡ true) }
+        ensures wanting { OnFalse result (take_quiet (station_of self.old station) (next_at self.old (place_of self.old station)) room ≡ true → TakeLacksRoom (station_of self.old station) (next_at self.old (place_of self.old station)) room) }
         ensures step { OnTrue result (at_address self.old station (takes self.old room) ≡ done self.new) }
         ensures other { OnFalse result (self.new ≡ self.old) }
     {
