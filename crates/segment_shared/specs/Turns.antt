@@ -1,15 +1,17 @@
 -- What the turns of workers do.
-use Rattle.std.specs.Prelude.{◌≡◌, ℕ, zero, suc, ◌<◌, ◌≤◌, ◌⊎◌, Bool, true, false, cond, List, length, Option, Some, None, MatchOption, slice_index_or, nat_lt}
+use Rattle.std.specs.Prelude.{◌≡◌, ℕ, zero, suc, ◌-◌, ◌<◌, ◌≤◌, ◌⊎◌, Bool, true, false, ◌&&◌, cond, List, length, Option, Some, None, MatchOption, slice_index_or, nat_lt, nat_le}
 use Rattle.bus_frame.specs.Frames.{CanFrame}
+use Rattle.tx_queue.specs.Queue.{queue_limit}
+use Rattle.bus_order.specs.Bus.{kept_limit}
 use Rattle.pgn_ids.specs.declared.address.Address.{Address}
 use Rattle.segment_law.specs.Segment.{Segment, plus, waiting_at}
-use Rattle.segment_law.specs.Readers.{front_at, next_pump, is_due, is_idle}
+use Rattle.segment_law.specs.Readers.{front_at, queue_len, next_pump, is_due, is_idle}
 use Rattle.segment_law.specs.declared.refusal.Refusal.{Refusal}
 use Rattle.segment_law.specs.declared.refusal.Refusal.TheVariants.{TraceFull}
 use Rattle.segment_law.specs.declared.reply.Reply.{Reply}
 use Rattle.segment_law.specs.declared.reply.Reply.TheVariants.{Opened, Sent, Refused, Done}
 use Rattle.segment_shared.specs.declared.call.WorkerCall.{WorkerCall}
-use Rattle.segment_shared.specs.declared.call.WorkerCall.TheVariants.{Pump, Transmit, Take, Tick, Fire}
+use Rattle.segment_shared.specs.declared.call.WorkerCall.TheVariants.{Pump, Transmit, Take, Overrun, Tick, Fire}
 use Rattle.segment_shared.specs.declared.refused.Accepted.{Accepted}
 use Rattle.segment_shared.specs.declared.refused.Accepted.TheVariants as accepted
 use Rattle.segment_shared.specs.declared.turns.Turn.{Turn}
@@ -108,15 +110,22 @@ abbrev pub PumpsTo : Option Address → Address → Point → Point → Type 0
 PumpsTo None station p q = q ≡ p
 PumpsTo (Some to) station p q = Makes (Pump station to) p q
 
--- the turn of a station: its clients, then at most one Pump, one Take and one Fire
+-- a station's queue has no place for an answer, so that it takes nothing, and with the frame that it took last as many wait for it
+-- as the bus keeps, so that no frame leaves a queue: no other call but that it misses them would let either go on
+abbrev pub is_stuck : Segment → Address → Bool
+is_stuck seg a = nat_le (kept_limit - 1) (waiting_at seg a) && nat_le queue_limit (queue_len seg a)
+
+-- the turn of a station: its clients, then at most one Pump, one Take and one Fire; a station that is stuck then misses what waits
 pub record StationTurn (station : Address) (p q : Point) : Type 0 where
   pub accepted : Point
   pub pumped : Point
   pub taken : Point
+  pub fired : Point
   pub accepts : AcceptsBelow (length p.live.clients) station p accepted
   pub pumps : PumpsTo (next_pump (state_of accepted.live) station) station accepted pumped
   pub takes : MakesWhere (nat_lt 0 (waiting_at (state_of pumped.live) station)) (Take station) pumped taken
-  pub fires : MakesWhere (is_due (state_of taken.live) station) (Fire station) taken q
+  pub fires : MakesWhere (is_due (state_of taken.live) station) (Fire station) taken fired
+  pub misses : MakesWhere (is_stuck (state_of fired.live) station) (Overrun station (waiting_at (state_of fired.live) station)) fired q
 
 -- the station of the lowest identifier transmits; where none does, the clock goes on by 50 ticks if all rest
 abbrev pub TransmitsOr : Option Address → Point → Point → Type 0

@@ -1,5 +1,6 @@
 //! Full rings, owed places, and the most calls that are stored.
 use super::steps::*;
+use bus_frame::{CanId, Frame};
 use pgn_ids::Address;
 use segment_shared::{Accepted, Client, Inbox, Live, MOST_CALLS, NotMade, Refusal, WorkerCall};
 use std::alloc::Global;
@@ -179,4 +180,59 @@ fn fill_calls_of(rt: &impl Abort, alloc: Global, live: &mut Live) -> Result<(), 
 fn no_more_calls_are_stored(rt: HostRuntime) -> Result<(), Fail> {
     let mut live = three(rt.alloc())?;
     fill_calls_of(&rt, rt.alloc(), &mut live)
+}
+
+// Node 80, which is no station, asks to send 35 the nine bytes of a message in two packets: where no port takes it, 35 answers with an abort.
+fn rts_of_80() -> Result<Frame, Fail> {
+    let id = CanId::new(0x1CEC_3580)?;
+    Ok(Frame::new(id, &[16, 9, 0, 2, 0xFF, 0xCA, 0xFE, 0])?)
+}
+
+// All three stations take as many requests as the queue of 35 holds frames, and 35 answers each.
+fn fill_queue(rt: &impl Abort, live: &mut Live) -> Result<(), Fail> {
+    for _ in 0..64 {
+        let frame = rts_of_80()?;
+        made(rt, live, WorkerCall::Inject { frame })?;
+        takes(rt, live, A)?;
+        takes(rt, live, B)?;
+        takes(rt, live, R)?;
+    }
+    Ok(())
+}
+
+fn takes(rt: &impl Abort, live: &mut Live, station: Address) -> Result<(), Fail> {
+    made(rt, live, WorkerCall::Take { station })?;
+    Ok(())
+}
+
+// With the frame that each took last, the bus keeps 4,096.
+fn fill_bus(rt: &impl Abort, live: &mut Live) -> Result<(), Fail> {
+    for _ in 0..4_095 {
+        let frame = rts_of_80()?;
+        made(rt, live, WorkerCall::Inject { frame })?;
+    }
+    let frame = rts_of_80()?;
+    assert!(rt; refused(live, WorkerCall::Inject { frame })? == Some(Refusal::BusFull));
+    Ok(())
+}
+
+// 35 can neither take nor transmit until it has missed what waits for it, and the others have taken a frame.
+fn stick(rt: &impl Abort, live: &mut Live) -> Result<(), Fail> {
+    fill_queue(rt, live)?;
+    fill_bus(rt, live)?;
+    let full = Some(Refusal::TxFull);
+    assert!(rt; refused(live, WorkerCall::Take { station: R })? == full);
+    assert_eq!(rt; live.station_turn(R).calls, 1);
+    let empty = Some(Refusal::NothingToTake);
+    assert!(rt; refused(live, WorkerCall::Take { station: R })? == empty);
+    takes(rt, live, A)?;
+    takes(rt, live, B)?;
+    made(rt, live, WorkerCall::Transmit { station: R })?;
+    Ok(())
+}
+
+#[test]
+fn a_station_that_can_take_nothing_more_misses_what_waits(rt: HostRuntime) -> Result<(), Fail> {
+    let mut live = three(rt.alloc())?;
+    stick(&rt, &mut live)
 }
