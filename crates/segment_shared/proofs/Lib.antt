@@ -13,5 +13,6 @@ pub mod Ready
 pub mod Refusing
 pub mod Telling
 pub mod Applying
+pub mod Quiet
 pub mod Closings
 pub mod Openings

@@ -6,12 +6,12 @@ use crate::call::{Owed, Stored, WorkerCall};
 use crate::offer::{MOST_CALLS, Ready, make_ready, store};
 use crate::places::{Found, door_of, find_places};
 use crate::refused::{Accepted, NotMade};
-use crate::step::{make, refusal_for};
+use crate::step::{make, make_in_place, refusal_for};
 use crate::tell::tell;
 use crate::wanted::wanted_of;
 use headline_law::the_headline_holds;
 use pgn_ids::{Address, Pgn};
-use segment_core::{Call, NewRefused, PortId, Refusal, Reply, Segment};
+use segment_core::{Call, Events, NewRefused, PortId, Refusal, Reply, Segment};
 use segment_law::Counts;
 use segment_rings::{Client, Delivery, Door, Doorway, Inbox, Note, Seat};
 use std::alloc::{AllocError, Global};
@@ -48,7 +48,8 @@ impl Live {
     ghost use Rattle.std.specs.Prelude.{◌≡◌, ◌≤◌, ◌<◌, [], length, Bool, true, false, IfOk, OnErr, IfErr, Ok, MatchOption, slice_index_or};
     ghost use Rattle.segment_law.specs.Headline.{Headline};
     ghost use Rattle.segment_law.specs.Record.{StandsAt};
-    ghost use Rattle.segment_law.specs.declared.reply.Reply.TheVariants.{Refused};
+    ghost use Rattle.std.specs.Bool.{OnTrue, OnFalse};
+    ghost use Rattle.segment_law.specs.declared.reply.Reply.TheVariants.{Refused, Done};
     ghost use Rattle.segment_law.specs.declared.refusal.Refusal.TheVariants.{TraceFull};
     ghost use Rattle.segment_shared.specs.Record.{trail, accepted, given, notes_of};
     ghost use Rattle.segment_shared.specs.LiveView.{ClientView, live_view, halted, SameLive, Applied, LacksMemory, Attached, Laws, OpenedFor, IsOpenCause};
@@ -146,6 +147,42 @@ impl Live {
         if self.calls.len() >= MOST_CALLS {
             return Ok(Reply::Refused(Refusal::TraceFull));
         }
+        if self.apply_in_place(&call) {
+            return Ok(Reply::Done(Events::none(self.alloc)));
+        }
+        self.apply_telling(call)
+    }
+
+    // A call that tells nothing and ends nothing is made and stored, where the list of calls has its place. Any other changes
+    // nothing.
+    #[inline]
+    fn apply_in_place(&mut self, call: &WorkerCall) -> bool
+        requires { length self.old.calls < 1000000 }
+        ensures applied { OnTrue result (Applied self.old self.new call.now (Done []) true) }
+        ensures other { OnFalse result (self.new ≡ self.old) }
+    {
+        if self.calls.len() >= self.calls.capacity() {
+            return false;
+        }
+        let asked = call.with_room(true);
+        if !make_in_place(&mut self.segment, &asked) {
+            return false;
+        }
+        self.calls.push_reserved(Stored {
+            by: None,
+            call: asked,
+        });
+        true
+    }
+
+    // Any other call.
+    #[inline(never)]
+    fn apply_telling(&mut self, call: WorkerCall) -> Result<Reply, AllocError>
+        requires { length self.old.calls < 1000000 }
+        ensures applied { IfOk result (λ r. (room : Bool) × Applied self.old self.new call r room) }
+        ensures err { OnErr result (SameLive self.old self.new) }
+        ensures not_refused { OnErr result (LacksMemory self.old call) }
+    {
         if let Some(refusal) = refusal_for(&self.segment, &call) {
             return Ok(Reply::Refused(refusal));
         }
