@@ -1,5 +1,1 @@
-pub mod TextsGrow
-pub mod ScriptsRead
-pub mod Growing
-pub mod Written
-pub mod Belows
+pub mod Coming

@@ -2,14 +2,11 @@
 //! bus, and one watches for the end.
 #![tactic(auto)]
 
-mod jobs;
-mod obeying;
-mod pacing;
 mod reading;
 mod running;
-mod setup;
 mod text;
 
-pub use running::{LiveFault, LiveRan, run_live};
+pub use running::run_live;
 pub use script_commands::{Cause, ScriptFault};
+pub use script_runs::{LiveFault, LiveRan};
 pub use segment_shared::Gate;

@@ -1,11 +1,11 @@
 //! A script, read to its end.
 ghost use Rattle.std.specs.Prelude.{◌≡◌, IfSome};
-ghost use Rattle.bus_live.specs.Plan.{plan_of, first_plan, planned};
-ghost use Rattle.bus_live.specs.Ending.{IsRead};
+ghost use Rattle.script_runs.specs.Reading.{IsRead};
+ghost use Rattle.script_setup.specs.Plan.{plan_of, first_plan, text_of};
+ghost use Rattle.bus_live.specs.Ending.{planned};
 
-use crate::obeying::obey_line;
-use crate::setup::Setup;
 use script_commands::{Cause, Fault, MAX_LINES, ScriptFault, cause_of, limit_fault, read_cause};
+use script_setup::{Setup, obey_line};
 use std::alloc::Global;
 use std::io::Read;
 use text_lines::{LineRead, read_line};
@@ -17,7 +17,7 @@ pub(crate) fn read_script<R: Read>(
     setup: &mut Setup,
 ) -> Result<(), ScriptFault>
     requires { plan_of setup.old ≡ first_plan }
-    ensures { IfSome (R.remaining reader.old) (λ script. IsRead result (plan_of setup.new) (planned script)) }
+    ensures { IfSome (R.remaining reader.old) (λ script. IsRead text_of result (plan_of setup.new) (planned script)) }
 {
     let mut line = Vec::new(alloc);
     let mut number = 1;

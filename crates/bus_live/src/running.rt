@@ -1,197 +1,53 @@
 //! A script run by threads.
-ghost use Rattle.std.specs.Prelude.{◌≡◌, Some, IfSome, IfOk, map, false};
+ghost use Rattle.std.specs.Prelude.{◌≡◌, IfSome, IfOk, map};
 ghost use Rattle.segment_shared.specs.LiveView.{LiveView};
-ghost use Rattle.bus_live.specs.Plan.{planned, plan_of, port_of};
-ghost use Rattle.bus_live.specs.Ending.{Came, CameTo, Ended, live_fault_line, lost_fault, status_of};
-ghost use Rattle.bus_live.specs.declared.running.LiveFault.TheVariants.{Script};
+ghost use Rattle.script_setup.specs.Plan.{plan_of, port_of};
+ghost use Rattle.bus_live.specs.Ending.{Came, CameTo, Ended, planned};
 
-use crate::jobs::{Board, Sender, receive_all, send_all, watch, work_bus, work_station};
-use crate::pacing::Pace;
 use crate::reading::read_script;
-use crate::setup::{Message, Setup};
-use crate::text::{Lost, Told, text_of};
+use crate::text::text_of;
 use pgn_ids::Address;
-use script_commands::{Cause, ScriptFault};
+use script_commands::Cause;
+use script_runs::{LiveRan, Lost, Told, failed, lost_by};
+use script_setup::{Message, Setup};
 use segment_core::PortId;
-use segment_shared::{Client, Gate, Inbox, Live, NotMade, SharedSegment, Submission, finish};
+use segment_shared::{Gate, Inbox, Live, SharedSegment, finish};
+use segment_threads::{Board, Ends, Pace, Party, Sender, gather, senders_of, spawn_segment, watch};
 use std::alloc::{AllocError, Global};
 use std::io::{Read, Write};
 use std::sync::Wait;
-use std::thread::{JoinHandle, Threads};
-use std::{fmt, thread};
+use std::thread;
+use std::thread::Threads;
 use text_lines::tell;
 
-/// Why a run ended before its end.
-#[derive(Clone, Copy, Debug, PartialEq, Eq)]
-pub enum LiveFault {
-    /// As a script ends; behind its last line, the line is told as 0.
-    Script(ScriptFault),
-    /// What the threads hold at the end isn't of the segment that they shared.
-    NotThisSegment,
-}
-
-/// How a run ended: before its end, by a fault; or else with all messages done, unless the turns ran out.
-#[derive(Clone, Copy, Debug, PartialEq, Eq)]
-pub struct LiveRan {
-    pub fault: Option<LiveFault>,
-    pub ran_out: bool,
-}
-
-impl LiveRan {
-    /// The status of a program that made this run: 0 where all was done, 1 at a fault, 3 where the turns ran out.
-    pub fn status(&self) -> u8
-        ensures { result ≡ status_of self.now }
-    {
-        if self.fault.is_some() {
-            return 1;
-        }
-        if self.ran_out {
-            return 3;
-        }
-        0
-    }
-}
-
-impl fmt::Display for LiveFault {
-    ghost output = { λ f. Some (live_fault_line f) };
-
-    fn fmt<W: fmt::Write>(&self, f: &mut fmt::Formatter<W>) -> fmt::Result {
-        match self {
-            LiveFault::Script(fault) => write!(f, "{fault}"),
-            LiveFault::NotThisSegment => write!(f, "refused 30 NotThisSegment"),
-        }
-    }
-}
-
-fn failed(line: u64, cause: Cause) -> LiveRan
-    ensures { result ≡ record { fault = Some (Script (record { line = line; cause = cause })); ran_out = false } }
-{
-    LiveRan {
-        fault: Some(LiveFault::Script(ScriptFault { line, cause })),
-        ran_out: false,
-    }
-}
-
-fn lost_by(lost: Lost) -> LiveRan
-    ensures { result ≡ record { fault = Some (lost_fault lost); ran_out = false } }
-{
-    match lost {
-        Lost::OutOfMemory => failed(0, Cause::OutOfMemory),
-        Lost::NotThisSegment => LiveRan {
-            fault: Some(LiveFault::NotThisSegment),
-            ran_out: false,
-        },
-    }
-}
-
-// A client of each station, with the messages that it is to submit.
-fn senders_of(
-    alloc: Global,
-    live: &mut Live,
-    stations: &[Address],
-    messages: &[Message],
-) -> Result<Vec<Sender>, Lost> {
-    let mut senders = Vec::new(alloc);
-    for station in stations {
-        let client = match live.attach(*station) {
-            Ok(client) => client,
-            Err(NotMade::OutOfMemory) => return Err(Lost::OutOfMemory),
-            Err(_) => return Err(Lost::NotThisSegment),
-        };
-        let messages = messages_of(alloc, *station, messages)?;
-        senders.reserve(1)?;
-        senders.push_reserved(Sender { client, messages });
-    }
-    Ok(senders)
-}
-
-// The messages of one station, in order.
-fn messages_of(
-    alloc: Global,
-    station: Address,
-    messages: &[Message],
-) -> Result<Vec<Submission>, AllocError> {
-    let mut own = Vec::new(alloc);
-    for message in messages {
-        if message.from == station {
-            own.push(Submission {
-                to: message.to,
-                pgn: message.pgn,
-                bytes: message.bytes.copy(alloc)?,
-            })?;
-        }
-    }
-    Ok(own)
-}
-
-// What the threads hand back.
-#[derive(Drop)]
-struct Ends {
-    clients: Vec<Client>,
-    inboxes: Vec<Inbox>,
-    drained: bool,
-}
-
-// A thread for each station, for the bus, for each sender and each inbox, and one that watches. None begins before all are made:
-// where one can't be, the others end at once, so that nobody waits for it.
+// The threads of the segment, and one that watches. None begins before all are made: where one can't be, the others end at once, so
+// that nobody waits for it. What they hand back, and whether the bus is drained.
 fn in_threads<R: Threads + Wait + Sync, G: Gate + Sync>(
     rt: &R,
     alloc: Global,
-    shared: &SharedSegment,
-    stations: &[Address],
+    party: Party<'_>,
     senders: Vec<Sender>,
     inboxes: Vec<Inbox>,
     pace: &Pace<'_, G>,
     turns: u64,
-) -> Result<Ends, AllocError> {
+) -> Result<(Ends, bool), AllocError> {
     let board = pace.board;
-    let room = Ends {
-        clients: Vec::with_capacity(alloc, senders.len())?,
-        inboxes: Vec::with_capacity(alloc, inboxes.len())?,
-        drained: false,
-    };
+    let room = Ends::with_room(alloc, senders.len(), inboxes.len())?;
+    let parties = [party];
+    let watched = parties.as_slice();
     thread::scope(
         thread::scope_env(),
         rt,
-        move |scope| -> Result<Ends, AllocError> {
+        move |scope| -> Result<(Ends, bool), AllocError> {
             let mut made = board.made.lock(rt);
-            for station in stations {
-                scope.spawn(move || work_station(rt, shared, *station, pace, turns))?;
-            }
-            scope.spawn(move || work_bus(rt, shared, pace, turns))?;
-            let watching = scope.spawn(move || watch(rt, shared, stations, pace))?;
-            let mut sending = Vec::new(alloc);
-            for sender in senders {
-                sending.push(scope.spawn(move || send_all(rt, sender, board))?)?;
-            }
-            let mut receiving = Vec::new(alloc);
-            for inbox in inboxes {
-                receiving.push(scope.spawn(move || receive_all(rt, inbox, board))?)?;
-            }
+            let watching = scope.spawn(move || watch(rt, watched, pace))?;
+            let running = spawn_segment(scope, rt, alloc, party, senders, inboxes, pace, turns)?;
             *made = true;
             drop(made);
-            gather(rt, room, sending, receiving, watching)
+            let ends = gather(rt, room, running)?;
+            Ok((ends, watching.join(rt)))
         },
     )
-}
-
-// Waits for the threads, and puts what they hand back where there is room for it.
-fn gather<R: Threads>(
-    rt: &R,
-    room: Ends,
-    sending: Vec<JoinHandle<Client>>,
-    receiving: Vec<JoinHandle<Inbox>>,
-    watching: JoinHandle<bool>,
-) -> Result<Ends, AllocError> {
-    let mut ends = room;
-    for thread in sending {
-        ends.clients.push(thread.join(rt))?;
-    }
-    for thread in receiving {
-        ends.inboxes.push(thread.join(rt))?;
-    }
-    ends.drained = watching.join(rt);
-    Ok(ends)
 }
 
 // Runs what was set up by threads, and gives the segment at their end.
@@ -204,7 +60,7 @@ fn run_threads<R: Threads + Wait + Sync, G: Gate + Sync>(
     messages: &[Message],
     gate: &G,
     turns: u64,
-) -> Result<(Live, Ends), Lost> {
+) -> Result<(Live, Ends, bool), Lost> {
     let mut live = live;
     let senders = senders_of(alloc, &mut live, stations, messages)?;
     let shared = SharedSegment::share(live);
@@ -214,9 +70,14 @@ fn run_threads<R: Threads + Wait + Sync, G: Gate + Sync>(
         board: &board,
         senders: stations.len() as u64,
         workers: (stations.len() as u64).saturating_add(1),
+        relays: 0,
     };
-    let ends = in_threads(rt, alloc, &shared, stations, senders, inboxes, &pace, turns)?;
-    Ok((shared.into_live(), ends))
+    let party = Party {
+        shared: &shared,
+        stations,
+    };
+    let (ends, drained) = in_threads(rt, alloc, party, senders, inboxes, &pace, turns)?;
+    Ok((shared.into_live(), ends, drained))
 }
 
 // Reports on the clients and inboxes, and gives the text of what the threads came to.
@@ -224,6 +85,7 @@ fn tell_end(
     alloc: Global,
     live: Live,
     ends: Ends,
+    drained: bool,
     stations: &[Address],
     ports: &[PortId],
     messages: &[Message],
@@ -231,11 +93,7 @@ fn tell_end(
     ensures { IfOk result (λ told. (v : LiveView) × Came stations.now ports.now messages.now told.ran_out told.text.items v) }
 {
     let mut live = live;
-    let Ends {
-        clients,
-        inboxes,
-        drained,
-    } = ends;
+    let Ends { clients, inboxes } = ends;
     if let Err(refused) = finish(&mut live, clients, inboxes) {
         if refused.not_this_segment {
             return Err(Lost::NotThisSegment);
@@ -270,7 +128,7 @@ fn run<R: Threads + Wait + Sync, G: Gate + Sync>(
     };
     let stations = Vec::from_slice(alloc, live.addresses())?;
     let ports = ports_of(alloc, inboxes.as_slice())?;
-    let (live, ends) = run_threads(
+    let (live, ends, drained) = run_threads(
         rt,
         alloc,
         live,
@@ -284,6 +142,7 @@ fn run<R: Threads + Wait + Sync, G: Gate + Sync>(
         alloc,
         live,
         ends,
+        drained,
         stations.as_slice(),
         ports.as_slice(),
         messages.as_slice(),

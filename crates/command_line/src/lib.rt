@@ -15,6 +15,8 @@ pub enum Asked {
     Script,
     /// It is run by threads, each worker with at most so many turns.
     Live { turns: u64 },
+    /// Its two segments are run by threads, with a relay between them.
+    Relay { turns: u64 },
     /// The messages of the log of standard input are printed.
     Decode(OfLog),
 }
@@ -36,7 +38,7 @@ Status:
   0  the script ran to its end, refused calls included
   1  a line is wrong, or standard input or output failed
   2  the command line is refused, or asks for help
-  3  the turns of live ran out
+  3  the turns of live or relay ran out
 
 docs/SCRIPTS.md describes the language, docs/LOGS.md what decode reads.";
 
@@ -62,16 +64,62 @@ Status:
 
 docs/SCRIPTS.md describes the language, and this in its last part.";
 
-fn live_command<'a>(alloc: Global) -> Result<Command<'a>, AllocError> {
+/// The same at the end of the help of `relay`.
+const RELAY_HELP: &str =
+    "The script is read from standard input to its end: lines of a first segment as
+live reads them, a second line of stations, lines that open ports on the second
+segment, and one last line, route PORT A B. Both segments run by threads, and
+each message that PORT is given a client of A sends on to B. The refusals of
+lines are written to standard output first, and at the end each port of the
+second segment with what it was given, how many messages the relay received,
+submitted and left, and the outcomes of the first segment and of the second.
+
+Example:
+  printf '%s\\n' 'stations 21 35' 'open 35 FECA 1785' \\
+    'send 21 35 FECA 010203040506070809' 'stations 40 50' \\
+    'open 50 FECA 1785' 'route 35.1 40 50' | j1939bus relay
+
+Status:
+  0  each message has its outcome, and nothing is left
+  1  a line is wrong, or standard input or output failed
+  2  the command line is refused, or asks for help
+  3  the turns ran out
+
+docs/SCRIPTS.md describes the language, and this in its last part.";
+
+fn threads_command<'a>(
+    alloc: Global,
+    name: &'a str,
+    about: &'a str,
+    help: &'a str,
+) -> Result<Command<'a>, AllocError> {
     let turns = Arg::new(alloc, "turns")
         .long("turns")
         .action(ArgAction::Set)
         .value_parser(value_parser!(u64).range(1..=1_000_000_000))
         .help("Most turns of a worker, 1 to 1000000000 [default: 1000000]");
-    Command::new(alloc, "live")
-        .about("Runs the script of standard input by threads, and prints what came of it")
-        .after_help(LIVE_HELP)
+    Command::new(alloc, name)
+        .about(about)
+        .after_help(help)
         .arg(turns)
+}
+
+fn live_command<'a>(alloc: Global) -> Result<Command<'a>, AllocError> {
+    threads_command(
+        alloc,
+        "live",
+        "Runs the script of standard input by threads, and prints what came of it",
+        LIVE_HELP,
+    )
+}
+
+fn relay_command<'a>(alloc: Global) -> Result<Command<'a>, AllocError> {
+    threads_command(
+        alloc,
+        "relay",
+        "Runs two segments by threads, and relays from a port of the first to the second",
+        RELAY_HELP,
+    )
 }
 
 /// Reads the words of a command line, of which the first names the program. What it doesn't take is refused, and so is help, whose
@@ -82,11 +130,17 @@ pub fn read_command_line(alloc: Global, words: &[String]) -> Result<Asked, Error
         .about("Runs the script of standard input, and prints the reply to each line")
         .after_help(PROGRAM_HELP)
         .subcommand(live_command(alloc)?)?
+        .subcommand(relay_command(alloc)?)?
         .subcommand(decode_command(alloc)?)?;
     let matches = command.try_get_matches_from_mut(words)?;
     if let Some(live) = matches.subcommand_matches("live") {
         return Ok(Asked::Live {
             turns: live.get_one::<u64>("turns").unwrap_or(TURNS),
+        });
+    }
+    if let Some(relay) = matches.subcommand_matches("relay") {
+        return Ok(Asked::Relay {
+            turns: relay.get_one::<u64>("turns").unwrap_or(TURNS),
         });
     }
     match matches.subcommand_matches("decode") {

@@ -1,5 +1,5 @@
 //! `j1939bus` reads a script on standard input and prints the replies to its lines; `j1939bus live` runs it by threads and prints
-//! what came of it; `j1939bus decode` reads the log of a bus and prints its messages (SAE J1939-21, ISO 11783-3).
+//! what came of it; `j1939bus relay` runs two segments so, with a relay between them; `j1939bus decode` reads the log of a bus and prints its messages (SAE J1939-21, ISO 11783-3).
 //!
 //! It ends with status 0 where the script or log was read to its end, refused calls included, with 1 at a wrong line, a read or
 //! write fault, which standard error tells, with 2 where the command line is refused or asks for help, and with 3 where the turns
@@ -8,6 +8,7 @@
 
 use bus_decode::{Options, Wanted, run_decode};
 use bus_live::{Gate, run_live};
+use bus_relay::run_relay;
 use bus_script::run_script;
 use command_line::{Asked, OfLog, read_command_line};
 use std::alloc::{AllocError, Global};
@@ -52,6 +53,21 @@ fn live<R: Threads + Wait + Sync + Input + Print + Eprint + AllocGlobal>(
     Ok(ExitCode::from(ran.status()))
 }
 
+/// Runs the two segments of the script of standard input by threads, with a relay between them.
+fn relay<R: Threads + Wait + Sync + Input + Print + Eprint + AllocGlobal>(
+    rt: &R,
+    turns: u64,
+) -> io::Result<ExitCode> {
+    let alloc = rt.alloc();
+    let mut reader = BufReader::new(alloc, rt.reader())?;
+    let mut writer = BufWriter::new(alloc, io::writer(rt))?;
+    let ran = run_relay(rt, alloc, &mut reader, &mut writer, &OpenGate {}, turns);
+    if let Some(fault) = ran.fault {
+        eprintln!(rt; "{fault}")?;
+    }
+    Ok(ExitCode::from(ran.status()))
+}
+
 fn wanted(alloc: Global, named: &[u32]) -> Result<Wanted, AllocError> {
     let mut wanted = Wanted::all(alloc);
     for number in named {
@@ -87,6 +103,7 @@ fn main(rt: HostRuntime) -> anyhow::Result<ExitCode> {
     match read_command_line(alloc, words.as_slice()) {
         Ok(Asked::Script) => Ok(run(&rt)?),
         Ok(Asked::Live { turns }) => Ok(live(&rt, turns)?),
+        Ok(Asked::Relay { turns }) => Ok(relay(&rt, turns)?),
         Ok(Asked::Decode(asked)) => Ok(decode(&rt, &asked)?),
         Err(error) => {
             eprint!(rt; "{error}")?;

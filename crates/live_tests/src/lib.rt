@@ -2,4 +2,6 @@
 #![tactic(auto)]
 
 #[cfg(test)]
+mod gateways;
+#[cfg(test)]
 mod runs;

@@ -3,3 +3,4 @@ pub mod Faults
 pub mod Ending
 pub mod Values
 pub mod Commands
+pub mod Routes

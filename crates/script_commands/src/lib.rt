@@ -8,6 +8,7 @@ mod addresses;
 mod command;
 mod ending;
 mod fault;
+mod route;
 mod values;
 mod words;
 
@@ -15,4 +16,5 @@ pub use addresses::Addresses;
 pub use command::{Command, read_command};
 pub use ending::{Cause, ScriptFault, cause_of, read_cause};
 pub use fault::{Fault, LineError, MAX_LINES, limit_fault};
+pub use route::{RouteWords, read_route};
 pub use words::{is_ascii, split_words};

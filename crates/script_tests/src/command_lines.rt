@@ -80,6 +80,7 @@ Usage: j1939bus [COMMAND]
 
 Commands:
   live    Runs the script of standard input by threads, and prints what came of it
+  relay   Runs two segments by threads, and relays from a port of the first to the second
   decode  Prints the messages of the log of standard input, put together of their packets
   help    Print this message or the help of the given subcommand(s)
 
@@ -99,7 +100,7 @@ Status:
   0  the script ran to its end, refused calls included
   1  a line is wrong, or standard input or output failed
   2  the command line is refused, or asks for help
-  3  the turns of live ran out
+  3  the turns of live or relay ran out
 
 docs/SCRIPTS.md describes the language, docs/LOGS.md what decode reads.
 ";

@@ -1,5 +1,5 @@
 -- The line of what a segment counted.
-use Rattle.std.specs.Prelude.{ℕ, List, ◌++◌, codes}
+use Rattle.std.specs.Prelude.{ℕ, List, [], ◌++◌, codes}
 use Rattle.std.specs.Fmt.{decimal}
 use Rattle.segment_law.specs.declared.counts.Counts.{Counts}
 use Rattle.script_text.specs.Parts.{line}
@@ -19,3 +19,7 @@ given_up_counts c = counted (codes " Overrun") c.overrun ++ counted (codes " Can
 
 unfoldable pub counts_line : Counts → List ℕ
 counts_line c = line (frame_counts c ++ ended_counts c ++ given_up_counts c)
+
+-- how many messages a relay received, how many of them it submitted, and how many it left
+unfoldable pub relayed_line : (pulled pushed left : ℕ) → List ℕ
+relayed_line pulled pushed left = line (counted (codes "relayed") pulled ++ counted [] pushed ++ counted [] left)

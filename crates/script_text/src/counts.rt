@@ -1,6 +1,6 @@
 //! The line of what a segment counted.
 ghost use Rattle.std.specs.Prelude.{◌≡◌, ◌++◌, OnOk};
-ghost use Rattle.script_text.specs.Counts.{counted, frame_counts, ended_counts, given_up_counts, counts_line};
+ghost use Rattle.script_text.specs.Counts.{counted, frame_counts, ended_counts, given_up_counts, counts_line, relayed_line};
 
 use crate::parts::{put_decimal, put_text};
 use segment_core::Counts;
@@ -48,5 +48,21 @@ pub fn print_counts(out: &mut Vec<u8>, counts: Counts) -> Result<(), AllocError>
     put_frame_counts(out, counts)?;
     put_ended_counts(out, counts)?;
     put_given_up_counts(out, counts)?;
+    put_text(out, "\n")
+}
+
+/// The line of a relay: how many messages it received, how many of them it submitted, and how many it left.
+#[tactic(auto, unfolding(crate::specs::Counts::relayed_line))]
+pub fn print_relayed(
+    out: &mut Vec<u8>,
+    pulled: u64,
+    pushed: u64,
+    left: u64,
+) -> Result<(), AllocError>
+    ensures { OnOk result (out.new.items ≡ out.old.items ++ relayed_line pulled pushed left) }
+{
+    put_count(out, "relayed", pulled)?;
+    put_count(out, "", pushed)?;
+    put_count(out, "", left)?;
     put_text(out, "\n")
 }

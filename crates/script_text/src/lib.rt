@@ -1,4 +1,4 @@
-//! What is printed of a segment's replies, frames, events and counts: each call puts whole lines behind what a buffer holds
+//! What is printed of a segment's replies, frames, events and counts, and of a relay: each call puts whole lines behind what a buffer holds
 //! already.
 //!
 //! A call fails only where memory is refused; what the buffer holds then is not said.
@@ -8,7 +8,7 @@ mod counts;
 mod parts;
 mod replies;
 
-pub use counts::print_counts;
+pub use counts::{print_counts, print_relayed};
 pub use replies::{
     print_driven, print_events, print_given, print_outcome, print_port, print_put, print_refused,
     print_reply, print_text,

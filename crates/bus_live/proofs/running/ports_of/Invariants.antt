@@ -1,5 +1,5 @@
 use Rattle.std.proofs.Common.{◌≡◌, map, take}
-use Rattle.bus_live.specs.Plan.{port_of}
+use Rattle.script_setup.specs.Plan.{port_of}
 use Rattle.bus_live.proofs.running.ports_of.Given as goal
 
 abbrev pub invariant-loop-inbox : goal.invariant-loop-inbox

@@ -1,6 +1,6 @@
 use Rattle.std.proofs.Common.{◌∙◌, ap, map}
-use Rattle.bus_live.specs.Plan.{port_of}
-use Rattle.bus_live.proofs.Written.{at_came}
+use Rattle.script_setup.specs.Plan.{port_of}
+use Rattle.bus_live.proofs.Coming.{at_came}
 use Rattle.bus_live.proofs.running.run.Goals as goal
 
 pub returns : goal.returns

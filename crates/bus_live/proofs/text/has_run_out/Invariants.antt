@@ -1,7 +1,0 @@
-use Rattle.std.proofs.Common.{◌≡◌, drop}
-use Rattle.segment_shared.specs.Record.{trail}
-use Rattle.bus_live.specs.Ending.{all_noted}
-use Rattle.bus_live.proofs.text.has_run_out.Given as goal
-
-abbrev pub invariant-loop-client : goal.invariant-loop-client
-invariant-loop-client l = all_noted l.client (drop l.client l.stations) l.messages (trail l.live.addresses l.live.calls) ≡ all_noted 0 l.stations l.messages (trail l.live.addresses l.live.calls)

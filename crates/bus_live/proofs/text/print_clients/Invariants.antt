@@ -1,7 +1,0 @@
-use Rattle.std.proofs.Common.{◌≡◌, ◌++◌}
-use Rattle.segment_shared.specs.Record.{trail}
-use Rattle.bus_live.specs.Texts.{below, clients_at}
-use Rattle.bus_live.proofs.text.print_clients.Given as goal
-
-abbrev pub invariant-loop-station : goal.invariant-loop-station
-invariant-loop-station l = l.out.items ≡ l.fn.out.items ++ below l.station (λ station. clients_at station 0 l.stations (trail l.live.addresses l.live.calls))

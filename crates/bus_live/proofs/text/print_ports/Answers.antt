@@ -1,8 +1,0 @@
-use Rattle.bus_live.proofs.Belows.{none_put, more_put}
-use Rattle.bus_live.proofs.text.print_ports.Goals as goal
-
-pub loop-station-init : goal.loop-station-init
-loop-station-init c = none_put _ _
-
-pub loop-station-preserved : goal.loop-station-preserved
-loop-station-preserved c = more_put _ _ _ _ _ c.loop-station.invariant c.in_ok-print_ports_at.ensures

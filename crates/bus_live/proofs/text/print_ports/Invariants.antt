@@ -1,7 +1,0 @@
-use Rattle.std.proofs.Common.{◌≡◌, ◌++◌}
-use Rattle.segment_shared.specs.Record.{trail}
-use Rattle.bus_live.specs.Texts.{below, ports_at}
-use Rattle.bus_live.proofs.text.print_ports.Given as goal
-
-abbrev pub invariant-loop-station : goal.invariant-loop-station
-invariant-loop-station l = l.out.items ≡ l.fn.out.items ++ below l.station (λ station. ports_at station l.ports (trail l.live.addresses l.live.calls))

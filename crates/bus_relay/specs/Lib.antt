@@ -1,0 +1,4 @@
+pub mod Gateway
+pub mod Carriages
+pub mod Parts
+pub mod Ending

@@ -1,0 +1,18 @@
+//! A script of two segments run by threads, with one relay between them: what a port of the first is given, a client of the second
+//! sends on.
+#![tactic(auto)]
+
+mod carrying;
+mod gateway;
+mod pacing;
+mod parts;
+mod reading;
+mod running;
+mod settling;
+mod text;
+mod threads;
+
+pub use running::run_relay;
+pub use script_commands::{Cause, ScriptFault};
+pub use script_runs::{LiveFault as RelayFault, LiveRan as RelayRan};
+pub use segment_shared::Gate;

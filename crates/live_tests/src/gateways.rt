@@ -1,0 +1,212 @@
+//! Scripts of two segments with a relay between them.
+use bus_relay::{Cause, Gate, RelayFault, RelayRan, run_relay};
+use std::alloc::Global;
+use std::sync::Wait;
+use std::sync::atomic::{AtomicU64, Ordering};
+use std::test::Fail;
+use std::thread;
+use std::thread::Threads;
+
+const LOOKS: u64 = 100_000_000;
+
+/// The two workers of the relay, behind three of each segment.
+const FIRST: u8 = 6;
+
+// Holds both workers of the relay at their first turns until both are noted, or the looks are used up.
+#[derive(Drop)]
+struct Crossing {
+    come: AtomicU64,
+    missed: AtomicU64,
+}
+
+impl Gate for Crossing {
+    fn pass(&self, worker: u8, turn: u64) {
+        if turn > 1 || worker < FIRST {
+            return;
+        }
+        self.come.fetch_add(1, Ordering::SeqCst);
+        for _ in 0..LOOKS {
+            if self.come.load(Ordering::SeqCst) >= 2 {
+                return;
+            }
+            thread::yield_now();
+        }
+        self.missed.fetch_add(1, Ordering::SeqCst);
+    }
+}
+
+const SCRIPT: &str =
+    "stations 21 35\nopen 35 FECA 1785\nsend 21 35 FECA 010203040506070809\nstations 40 50\nopen 50 FECA 1785\nroute 35.1 40 50\n";
+
+const TEXT: &str =
+    "port 50.1\n  given 50.1 40 50 0FECA 9 010203040506070809\nrelayed 1 1 0\noutcome 21 35 1 Acknowledged\noutcome 40 50 1 Acknowledged\n";
+
+fn run_once<T: Threads + Wait + Sync, G: Gate + Sync>(
+    rt: &T,
+    alloc: Global,
+    script: &str,
+    writer: &mut Vec<u8>,
+    gate: &G,
+    turns: u64,
+) -> RelayRan {
+    let mut reader = script.as_bytes();
+    run_relay(rt, alloc, &mut reader, writer, gate, turns)
+}
+
+// Whether a run ended for want of memory, for which alone a vector refuses a write.
+fn lacked_memory(ran: RelayRan) -> bool {
+    match ran.fault {
+        Some(RelayFault::Script(fault)) => {
+            fault.cause == Cause::OutOfMemory || fault.cause == Cause::WriteFailed
+        }
+        _ => false,
+    }
+}
+
+// Runs a script, and gives what it wrote; once more where memory was refused.
+fn run_past<T: Threads + Wait + Sync, G: Gate + Sync>(
+    rt: &T,
+    alloc: Global,
+    script: &str,
+    gate: &G,
+    turns: u64,
+) -> (RelayRan, Vec<u8>) {
+    let mut writer = Vec::new(alloc);
+    let ran = run_once(rt, alloc, script, &mut writer, gate, turns);
+    if !lacked_memory(ran) {
+        return (ran, writer);
+    }
+    writer.clear();
+    let ran = run_once(rt, alloc, script, &mut writer, gate, turns);
+    (ran, writer)
+}
+
+// Lets each worker pass at once.
+#[derive(Drop)]
+struct OpenGate {}
+
+impl Gate for OpenGate {
+    fn pass(&self, _worker: u8, _turn: u64) {}
+}
+
+// Runs a script, and whether it ends with this status and wrote this text.
+fn writes<T: Threads + Wait + Sync>(
+    rt: &T,
+    alloc: Global,
+    script: &str,
+    turns: u64,
+    status: u8,
+    meant: &str,
+) -> bool {
+    let (ran, text) = run_past(rt, alloc, script, &OpenGate {}, turns);
+    ran.status() == status && text.as_slice() == meant.as_bytes()
+}
+
+// Runs a script that ends at a fault, and whether this is its line.
+fn fails_by<T: Threads + Wait + Sync>(
+    rt: &T,
+    alloc: Global,
+    script: &str,
+    meant: &str,
+) -> Result<bool, Fail> {
+    let (ran, _text) = run_past(rt, alloc, script, &OpenGate {}, 1);
+    match ran.fault {
+        Some(fault) => {
+            let line = format!(in alloc; "{fault}")?;
+            Ok(line.as_str() == meant)
+        }
+        None => Ok(false),
+    }
+}
+
+#[test]
+fn a_message_is_relayed_by_two_threads(rt: HostRuntime) -> Result<(), Fail> {
+    let alloc = rt.alloc();
+    let gate = Crossing {
+        come: AtomicU64::new(0),
+        missed: AtomicU64::new(0),
+    };
+    let (ran, text) = run_past(&rt, alloc, SCRIPT, &gate, 1_000_000);
+    assert_eq!(rt; ran.status(), 0);
+    assert_eq!(rt; gate.missed.load(Ordering::SeqCst), 0);
+    assert!(rt; text.as_slice() == TEXT.as_bytes());
+    Ok(())
+}
+
+const MANY: &str =
+    "stations 21 35 22\nopen 35 FECA 1785\nopen 35 FEE3 1785\nopen 22 FECA 1785\nsend 21 35 FECA 010203040506070809\nsend 21 FF FECA 1112131415161718191A\nsend 21 35 FEE3 313233343536373839\nsend 21 22 FECA 414243444546474849\nstations 50 21\nopen 50 FECA 1785\nroute 35.1 21 50\n";
+
+const MANY_TEXT: &str =
+    "port 50.1\n  given 50.1 21 50 0FECA 9 010203040506070809\n  given 50.1 21 50 0FECA 10 1112131415161718191A\nrelayed 2 2 0\noutcome 21 22 1 Acknowledged\noutcome 21 35 1 Acknowledged\noutcome 21 35 2 Acknowledged\noutcome 21 FF 1 Broadcast\noutcome 21 50 1 Acknowledged\noutcome 21 50 2 Acknowledged\n";
+
+#[test]
+fn the_limit_is_what_the_port_is_sent(rt: HostRuntime) -> Result<(), Fail> {
+    let alloc = rt.alloc();
+    assert!(rt; writes(&rt, alloc, MANY, 1_000_000, 0, MANY_TEXT));
+    Ok(())
+}
+
+#[test]
+fn refused_routes_relay_nothing(rt: HostRuntime) -> Result<(), Fail> {
+    let alloc = rt.alloc();
+    for (script, meant) in [
+        (
+            "stations 21\nstations 40\nroute 21.1 21 FF\n",
+            "refused 12 NoSuchPort\nrelayed 0 0 0\n",
+        ),
+        (
+            "stations 21\nopen 21 FECA 9\nstations 40\nroute 21.1 21 21\n",
+            "refused 14 NoSuchStation\nrelayed 0 0 0\n",
+        ),
+        (
+            "stations 21\nopen 21 FECA 9\nstations 40\nroute 21.1 40 FE\n",
+            "refused 14 NoSuchStation\nrelayed 0 0 0\n",
+        ),
+        (
+            "stations 21\nopen 21 FECA 9\nstations 40\nroute 21.1 40 40\n",
+            "refused 17 SameStation\nrelayed 0 0 0\n",
+        ),
+        ("stations 21\nstations 40\n", "relayed 0 0 0\n"),
+    ] {
+        assert!(rt; writes(&rt, alloc, script, 1_000_000, 0, meant));
+    }
+    Ok(())
+}
+
+#[test]
+fn lines_stand_in_their_order(rt: HostRuntime) -> Result<(), Fail> {
+    let alloc = rt.alloc();
+    for (script, meant) in [
+        ("", "line 1: no stations"),
+        ("stations 21\n", "line 2: no stations"),
+        ("stations 21\nroute 21.1 40 50\n", "line 2: unknown command"),
+        (
+            "stations 21\nstations 40\nsend 40 FF FECA 010203040506070809\n",
+            "line 3: unknown command",
+        ),
+        (
+            "stations 21\nstations 40\nstations 50\n",
+            "line 3: stations twice",
+        ),
+        (
+            "stations 21\nstations 40\nroute 21.1 40\n",
+            "line 3: wrong number of words",
+        ),
+        (
+            "stations 21\nstations 40\nroute 21.1 40 50\nopen 40 FECA 9\n",
+            "line 4: unknown command",
+        ),
+    ] {
+        let is_told = fails_by(&rt, alloc, script, meant)?;
+        assert!(rt; is_told);
+    }
+    Ok(())
+}
+
+#[test]
+fn one_turn_relays_nothing(rt: HostRuntime) -> Result<(), Fail> {
+    let alloc = rt.alloc();
+    let meant = "port 50.1\nrelayed 0 0 0\nturns ran out\n";
+    assert!(rt; writes(&rt, alloc, SCRIPT, 1, 3, meant));
+    Ok(())
+}

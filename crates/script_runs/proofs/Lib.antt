@@ -1,0 +1,2 @@
+pub mod ScriptsRead
+pub mod Written

@@ -1,0 +1,52 @@
+-- How a run of a script by threads ended. Text is what is printed of refused lines, and CameTo what the threads came to: whether their
+-- turns ran out, and the text of what they left.
+use Rattle.std.specs.Prelude.{◌≡◌, ℕ, List, ◌++◌, ◌⊎◌, Bool, Option, Some, None, if◌then◌else◌, codes}
+use Rattle.std.specs.Io.KnownBytes.{Appends}
+use Rattle.text_lines.specs.Known.{IsFront}
+use Rattle.script_commands.specs.Ending.{fault_line}
+use Rattle.script_commands.specs.declared.ending.Cause.{Cause}
+use Rattle.script_commands.specs.declared.ending.Cause.TheVariants as causes
+use Rattle.script_runs.specs.Reading.{Planned}
+use Rattle.script_runs.specs.declared.ending.Lost.{Lost}
+use Rattle.script_runs.specs.declared.ending.Lost.TheVariants as losts
+use Rattle.script_runs.specs.declared.ending.LiveFault.{LiveFault}
+use Rattle.script_runs.specs.declared.ending.LiveFault.TheVariants as faults
+use Rattle.script_runs.specs.declared.ending.LiveRan.{LiveRan}
+
+-- why a run of threads has no text
+abbrev pub lost_fault : Lost → LiveFault
+lost_fault losts.OutOfMemory = faults.Script record { line = 0; cause = causes.OutOfMemory }
+lost_fault losts.NotThisSegment = faults.NotThisSegment
+
+-- all that a run without a fault writes
+abbrev pub WholeText : {P : Type 0} → (P → List ℕ) → (P → Bool → List ℕ → Type 0) → Planned P → (ran_out : Bool) → List ℕ → Type 0
+WholeText text CameTo planned ran_out whole = (planned.fault ≡ None) × ((end : List ℕ) × CameTo planned.plan ran_out end × (whole ≡ text planned.plan ++ end))
+
+-- at a fault of the script the text of the refused lines was written, and else a front of what is to be written
+abbrev pub EndedByCause : {P : Type 0} → (P → List ℕ) → (P → Bool → List ℕ → Type 0) → ℕ → Cause → Option (List ℕ) → Option (List ℕ) → Planned P → Type 0
+EndedByCause text CameTo n (causes.Fault f) a b planned = Appends a b (text planned.plan) × (planned.fault ≡ Some (n, f))
+EndedByCause text CameTo n causes.ReadFailed a b planned = IsFront a b (text planned.plan)
+EndedByCause text CameTo n causes.OutOfMemory a b planned = IsFront a b (text planned.plan)
+EndedByCause text CameTo n causes.WriteFailed a b planned = IsFront a b (text planned.plan) ⊎ ((ran_out : Bool) × (whole : List ℕ) × WholeText text CameTo planned ran_out whole × IsFront a b whole)
+
+-- where the threads left another segment, only the former was written
+abbrev pub EndedByFault : {P : Type 0} → (P → List ℕ) → (P → Bool → List ℕ → Type 0) → LiveFault → Option (List ℕ) → Option (List ℕ) → Planned P → Type 0
+EndedByFault text CameTo (faults.Script f) a b planned = EndedByCause text CameTo f.line f.cause a b planned
+EndedByFault text CameTo faults.NotThisSegment a b planned = Appends a b (text planned.plan) × (planned.fault ≡ None)
+
+-- the text of the refused lines was written, and then, where the script has no fault, that of what the threads came to; at a fault
+-- of the script nothing but the former
+abbrev pub EndedBy : {P : Type 0} → (P → List ℕ) → (P → Bool → List ℕ → Type 0) → LiveRan → Option (List ℕ) → Option (List ℕ) → Planned P → Type 0
+EndedBy text CameTo ran a b planned = elim ran.fault [
+  | None ↦ (whole : List ℕ) × WholeText text CameTo planned ran.ran_out whole × Appends a b whole
+  | Some f ↦ EndedByFault text CameTo f a b planned
+]
+
+-- the status of a program
+abbrev pub status_of : LiveRan → ℕ
+status_of ran = elim ran.fault [ None ↦ if ran.ran_out then 3 else 0 | Some f ↦ 1 ]
+
+-- the line that tells of a fault
+abbrev pub live_fault_line : LiveFault → List ℕ
+live_fault_line (faults.Script f) = fault_line f
+live_fault_line faults.NotThisSegment = codes "refused 30 NotThisSegment"

@@ -1,0 +1,66 @@
+-- A script that is read to its end, or to its first fault. Its lines set up a plan, each by one step; text is what is printed of
+-- refused lines, and ends what is wrong with a script that ends at a plan.
+use Rattle.std.specs.Prelude.{◌≡◌, ℕ, ◌+◌, List, [], ◌∷◌, ◌++◌, length, ◌||◌, Option, Some, None, Result, Ok, Err, nat_lt, if◌then◌else◌}
+use Rattle.script_commands.specs.Faults.{limit_fault}
+use Rattle.script_commands.specs.declared.fault.Fault.{Fault}
+use Rattle.script_commands.specs.declared.fault.LineError.{LineError}
+use Rattle.script_commands.specs.declared.fault.LineError.TheVariants as errors
+use Rattle.text_lines.specs.Lines.{lines_of}
+use Rattle.script_commands.specs.declared.ending.Cause.{Cause}
+use Rattle.script_commands.specs.declared.ending.Cause.TheVariants as causes
+use Rattle.script_commands.specs.declared.ending.ScriptFault.{ScriptFault}
+
+-- what a line leaves of a plan, or what is wrong with it; and the same of a script's end
+pub record Grammar (P : Type 0) : Type 0 where
+  pub step : P → List ℕ → Result P Fault
+  pub ends : P → Option Fault
+  pub text : P → List ℕ
+
+-- line n of a script, within the limits
+unfoldable pub numbered_line : {P : Type 0} → Grammar P → P → ℕ → List ℕ → Result P Fault
+numbered_line g p n text = if nat_lt 1000000 n || nat_lt 8192 (length text) then Err (limit_fault n) else g.step p text
+
+-- what is set up, and the fault with its line, where there is one
+pub record Planned (P : Type 0) : Type 0 where
+  pub plan : P
+  pub fault : Option (ℕ × Fault)
+
+abbrev pub then_rest : {P : Type 0} → P → ℕ → Result P Fault → (P → Planned P) → Planned P
+then_rest p n (Ok q) rest = rest q
+then_rest p n (Err f) rest = record { plan = p; fault = Some (n, f) }
+
+abbrev pub fault_at : ℕ → Option Fault → Option (ℕ × Fault)
+fault_at n None = None
+fault_at n (Some f) = Some (n, f)
+
+-- up to the first fault
+unfoldable pub planned_from : {P : Type 0} → Grammar P → P → ℕ → List (List ℕ) → Planned P
+planned_from g p n [] = record { plan = p; fault = fault_at n (g.ends p) }
+planned_from g p n (text ∷ texts) = then_rest p n (numbered_line g p n text) (λ q. planned_from g q (n + 1) texts)
+
+abbrev pub planned_by : {P : Type 0} → Grammar P → P → List ℕ → Planned P
+planned_by g p script = planned_from g p 1 (lines_of script)
+
+-- How the code read a script
+
+-- how a step went, from plan p to plan q: a line that isn't obeyed prints nothing
+abbrev pub Done : {P : Type 0} → (P → List ℕ) → Result (Unit {0}) LineError → P → P → Result P Fault → Type 0
+Done text (Ok u) p q step = step ≡ Ok q
+Done text (Err (errors.Fault f)) p q step = (step ≡ Err f) × (text q ≡ text p)
+Done text (Err errors.OutOfMemory) p q step = text q ≡ text p
+
+-- the second text is the first, and more
+abbrev pub Begins : List ℕ → List ℕ → Type 0
+Begins a b = (more : List ℕ) × (b ≡ a ++ more)
+
+-- what was printed of refused lines when a line ended the reading: all of it at a fault of the script, else its beginning
+abbrev pub IsCut : {P : Type 0} → (P → List ℕ) → ℕ → Cause → P → Planned P → Type 0
+IsCut text n (causes.Fault f) p planned = (text p ≡ text planned.plan) × (planned.fault ≡ Some (n, f))
+IsCut text n causes.ReadFailed p planned = Begins (text p) (text planned.plan)
+IsCut text n causes.OutOfMemory p planned = Begins (text p) (text planned.plan)
+IsCut text n causes.WriteFailed p planned = ⊥
+
+-- the script was read to its end, or to its fault
+abbrev pub IsRead : {P : Type 0} → (P → List ℕ) → Result (Unit {0}) ScriptFault → P → Planned P → Type 0
+IsRead text (Ok u) p planned = (p ≡ planned.plan) × (planned.fault ≡ None)
+IsRead text (Err f) p planned = IsCut text f.line f.cause p planned

@@ -1,0 +1,2 @@
+pub mod TextsGrow
+pub mod Growing

@@ -1,0 +1,9 @@
+//! What the lines of a script set up that is read whole before it is run by threads: the segment of its stations, the inboxes of its
+//! ports, and the messages that are to be submitted.
+#![tactic(auto)]
+
+mod obeying;
+mod setup;
+
+pub use obeying::{obey_line, obey_words};
+pub use setup::{Message, Setup};

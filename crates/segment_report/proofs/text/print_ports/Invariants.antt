@@ -1,0 +1,7 @@
+use Rattle.std.proofs.Common.{◌≡◌, ◌++◌}
+use Rattle.segment_shared.specs.Record.{trail}
+use Rattle.segment_report.specs.Texts.{below, ports_at}
+use Rattle.segment_report.proofs.text.print_ports.Given as goal
+
+abbrev pub invariant-loop-station : goal.invariant-loop-station
+invariant-loop-station l = l.out.items ≡ l.fn.out.items ++ below l.station (λ station. ports_at station l.ports (trail l.live.addresses l.live.calls))

@@ -1,0 +1,261 @@
+//! The text of what threads leave of a segment.
+ghost use Rattle.std.specs.Prelude.{◌≡◌, ◌++◌, ◌==◌, suc, OnOk, IfOk, IsTrue, true, false};
+ghost use Rattle.segment_shared.specs.Record.{trail, given, notes_of};
+ghost use Rattle.segment_report.specs.Texts.{below, given_lines, port_lines, ports_at, numbered_lines, highest, outcome_lines, clients_at};
+ghost use Rattle.segment_report.specs.Noted.{count_from, all_noted};
+
+use pgn_ids::Address;
+use script_runs::Lost;
+use script_setup::Message;
+use script_text::{print_given, print_outcome, print_port};
+use segment_core::PortId;
+use segment_shared::{Delivery, Live, Note};
+use std::alloc::AllocError;
+
+/// How many addresses there are.
+const ADDRESSES: u16 = 256;
+
+// Whether an address is this number.
+fn is_at(address: Address, number: u16) -> bool
+    ensures { result ≡ (address.0 == number) }
+{
+    u16::from(address.0) == number
+}
+
+// What a port was given by one sender to one destination, in the order in which it was given.
+fn print_lane(
+    out: &mut Vec<u8>,
+    port: PortId,
+    from: u16,
+    to: u16,
+    given: &[Delivery],
+) -> Result<(), AllocError>
+    ensures { OnOk result (out.new.items ≡ out.old.items ++ given_lines port from to given.now) }
+{
+    for delivery in given {
+        if is_at(delivery.from, from) && is_at(delivery.to, to) {
+            print_given(
+                out,
+                port,
+                delivery.from,
+                delivery.to,
+                delivery.pgn,
+                &delivery.bytes,
+            )?;
+        }
+    }
+    Ok(())
+}
+
+// What it was given by one sender, by rising destination.
+fn print_sender(
+    out: &mut Vec<u8>,
+    port: PortId,
+    from: u16,
+    given: &[Delivery],
+) -> Result<(), AllocError>
+    ensures { OnOk result (out.new.items ≡ out.old.items ++ below 256 (λ to. given_lines port from to given.now)) }
+{
+    for to in 0..ADDRESSES {
+        print_lane(out, port, from, to, given)?;
+    }
+    Ok(())
+}
+
+// What it was given by all, by rising sender.
+fn print_deliveries(out: &mut Vec<u8>, port: PortId, given: &[Delivery]) -> Result<(), AllocError>
+    ensures { OnOk result (out.new.items ≡ out.old.items ++ below 256 (λ from. below 256 (λ to. given_lines port from to given.now))) }
+{
+    for from in 0..ADDRESSES {
+        print_sender(out, port, from, given)?;
+    }
+    Ok(())
+}
+
+// A port, and what it was given.
+#[tactic(auto, unfolding(crate::specs::Texts::port_lines))]
+fn print_given_to(out: &mut Vec<u8>, live: &Live, port: PortId) -> Result<(), Lost>
+    ensures { OnOk result (out.new.items ≡ out.old.items ++ port_lines port (given port (trail live.now.addresses live.now.calls).events)) }
+{
+    let Some(given) = live.given_to(port) else {
+        return Err(Lost::NotThisSegment);
+    };
+    print_port(out, port)?;
+    print_deliveries(out, port, given)?;
+    Ok(())
+}
+
+// The ports of one station, in the order in which they were opened, which is that of their numbers.
+fn print_ports_at(
+    out: &mut Vec<u8>,
+    live: &Live,
+    ports: &[PortId],
+    station: u16,
+) -> Result<(), Lost>
+    ensures { OnOk result (out.new.items ≡ out.old.items ++ ports_at station ports.now (trail live.now.addresses live.now.calls)) }
+{
+    for port in ports {
+        if is_at(port.station, station) {
+            print_given_to(out, live, *port)?;
+        }
+    }
+    Ok(())
+}
+
+/// Prints the ports by rising station, and those of one station in the order in which they are listed: each with what the record of the
+/// segment gives to it, by rising sender and destination and in the order in which it was given.
+///
+/// `NotThisSegment` where one of them is no port of the segment, `OutOfMemory` where memory was refused; what the buffer holds then is
+/// not said.
+pub fn print_ports(out: &mut Vec<u8>, live: &Live, ports: &[PortId]) -> Result<(), Lost>
+    ensures { OnOk result (out.new.items ≡ out.old.items ++ below 256 (λ station. ports_at station ports.now (trail live.now.addresses live.now.calls))) }
+{
+    for station in 0..ADDRESSES {
+        print_ports_at(out, live, ports, station)?;
+    }
+    Ok(())
+}
+
+// The outcome of the message of this number to this destination.
+fn print_numbered(
+    out: &mut Vec<u8>,
+    from: Address,
+    to: u16,
+    number: u64,
+    notes: &[Note],
+) -> Result<(), AllocError>
+    ensures { OnOk result (out.new.items ≡ out.old.items ++ numbered_lines from to number notes.now) }
+{
+    for note in notes {
+        if is_at(note.to, to) && note.number == number {
+            print_outcome(out, from, note.to, note.number, note.outcome)?;
+        }
+    }
+    Ok(())
+}
+
+// The highest number of a message.
+fn highest(notes: &[Note]) -> u64
+    ensures { result ≡ highest notes.now }
+{
+    let mut top = 0;
+    for note in notes {
+        top = top.max(note.number);
+    }
+    top
+}
+
+// The outcomes of the messages to one destination, by rising number.
+fn print_destination(
+    out: &mut Vec<u8>,
+    from: Address,
+    to: u16,
+    notes: &[Note],
+) -> Result<(), AllocError>
+    ensures { OnOk result (out.new.items ≡ out.old.items ++ below (suc (highest notes.now)) (λ number. numbered_lines from to number notes.now)) }
+{
+    let top = highest(notes);
+    for number in 0..top {
+        print_numbered(out, from, to, number, notes)?;
+    }
+    print_numbered(out, from, to, top, notes)?;
+    Ok(())
+}
+
+// The outcomes of a client's messages, by rising destination.
+#[tactic(auto, unfolding(crate::specs::Texts::outcome_lines))]
+fn print_outcomes(out: &mut Vec<u8>, from: Address, notes: &[Note]) -> Result<(), AllocError>
+    ensures { OnOk result (out.new.items ≡ out.old.items ++ outcome_lines from notes.now) }
+{
+    for to in 0..ADDRESSES {
+        print_destination(out, from, to, notes)?;
+    }
+    Ok(())
+}
+
+fn print_client(out: &mut Vec<u8>, live: &Live, client: u64, from: Address) -> Result<(), Lost>
+    ensures { OnOk result (out.new.items ≡ out.old.items ++ outcome_lines from (notes_of client (trail live.now.addresses live.now.calls).noted)) }
+{
+    let Some(notes) = live.notes_of(client) else {
+        return Err(Lost::NotThisSegment);
+    };
+    print_outcomes(out, from, notes)?;
+    Ok(())
+}
+
+// The outcomes of the client of one station. Each station has one, and they are numbered from 0 in the order of the stations.
+fn print_clients_at(
+    out: &mut Vec<u8>,
+    live: &Live,
+    stations: &[Address],
+    station: u16,
+) -> Result<(), Lost>
+    ensures { OnOk result (out.new.items ≡ out.old.items ++ clients_at station 0 stations.now (trail live.now.addresses live.now.calls)) }
+{
+    for (client, address) in stations.iter().enumerate() {
+        if is_at(*address, station) {
+            print_client(out, live, client as u64, *address)?;
+        }
+    }
+    Ok(())
+}
+
+/// Prints the outcomes that are noted in the record of the segment, by rising station, destination and number. Each station has a client,
+/// and they are numbered from 0 in the order of the stations.
+///
+/// `NotThisSegment` where one of them has none, `OutOfMemory` where memory was refused; what the buffer holds then is not said.
+pub fn print_clients(out: &mut Vec<u8>, live: &Live, stations: &[Address]) -> Result<(), Lost>
+    ensures { OnOk result (out.new.items ≡ out.old.items ++ below 256 (λ station. clients_at station 0 stations.now (trail live.now.addresses live.now.calls))) }
+{
+    for station in 0..ADDRESSES {
+        print_clients_at(out, live, stations, station)?;
+    }
+    Ok(())
+}
+
+/// Whether two lists have the same addresses in the same order. True only where they have.
+pub fn are_same(stations: &[Address], others: &[Address]) -> bool
+    ensures { IsTrue result → stations.now ≡ others.now }
+{
+    if stations.len() != others.len() {
+        return false;
+    }
+    for i in 0..stations.len() {
+        if stations[i] != others[i] {
+            return false;
+        }
+    }
+    true
+}
+
+// How many of the messages are of one station.
+fn count_from(station: Address, messages: &[Message]) -> usize
+    ensures { result ≡ count_from station messages.now }
+{
+    let mut count = 0;
+    for message in messages {
+        if message.from.0 == station.0 {
+            count += 1;
+        }
+    }
+    count
+}
+
+/// Whether the turns ran out before the bus was drained and each message had its outcome. Each station has a client, and they are
+/// numbered from 0 in the order of the stations. False only where each of the messages has its outcome in the record.
+pub fn has_run_out(live: &Live, stations: &[Address], messages: &[Message], drained: bool) -> bool
+    ensures { result ≡ false → all_noted 0 stations.now messages.now (trail live.now.addresses live.now.calls) ≡ true }
+{
+    if !drained {
+        return true;
+    }
+    for (client, station) in stations.iter().enumerate() {
+        let Some(notes) = live.notes_of(client as u64) else {
+            return true;
+        };
+        if notes.len() < count_from(*station, messages) {
+            return true;
+        }
+    }
+    false
+}
