@@ -1,1 +1,4 @@
+pub mod Written
+pub mod Splits
+pub mod Logs
 pub mod RunSteps

@@ -6,8 +6,10 @@ use Rattle.std.specs.Io.KnownBytes.{Appends, Keeps, append_known}
 use Rattle.segment_law.specs.Segment.{Segment}
 use Rattle.text_lines.specs.Known.{Known, IsFront}
 use Rattle.text_lines.specs.Lines.{lines_of, ReadsLine}
-use Rattle.bus_script.specs.Script.{or_refused, Step, Outcome, outcome_from, outcome, numbered_line, obey_line, Obeyed}
+use Rattle.bus_script.specs.Telling.{Telling, text_of, log_of}
+use Rattle.bus_script.specs.Script.{or_refused, Step, Outcome, outcome_from, outcome, numbered_line, obey_line, told_by, Obeyed}
 use Rattle.bus_script.specs.Ending.{Ended}
+use Rattle.bus_script.specs.declared.page.Page.{Page}
 use Rattle.bus_script.specs.declared.obeying.Told.{Told}
 use Rattle.bus_script.specs.declared.obeying.Told.TheVariants.{Answered, NoMemory}
 use Rattle.script_commands.specs.Ending.{cause_of, read_cause}
@@ -53,26 +55,6 @@ keeps_same (Some t) = refl
 not_above : (most n : ℕ) → n ≤ most → nat_lt most n ≡ false
 not_above most n h = grind (arith, nat_tests)
 
--- after a line that was obeyed
-pub line_done : (a b c : Option (List ℕ)) (s t : Option Segment) (n : ℕ) (p line : List ℕ) (lines : List (List ℕ)) (whole : Outcome) → n ≤ 1000000 → length line ≤ 8192
-    → obey_line s line ≡ Ok (t, p) → Appends b c p
-    → GoesOn a b (outcome_from s n (line ∷ lines)) whole → GoesOn a c (outcome_from t (n + 1) lines) whole
-unfolding outcome_from numbered_line
-line_done a b c s t n p line lines whole h l done written so_far =
-    let rest : Outcome = outcome_from t (n + 1) lines in
-    let e : outcome_from s n (line ∷ lines) ≡ record { text = p ++ rest.text; fault = rest.fault } = rw (not_above 1000000 n h, not_above 8192 (length line) l, done) refl in
-    let w : GoesOn a b record { text = p ++ rest.text; fault = rest.fault } whole = subst (λ o. GoesOn a b o whole) e so_far in
-    record { text = appends_more a b c p rest.text whole.text written w.text; fault = w.fault }
-
--- at a fault
-pub line_fails : (a b c : Option (List ℕ)) (s : Option Segment) (n : ℕ) (f : Fault) (line : List ℕ) (lines : List (List ℕ)) (whole : Outcome) → numbered_line s n line ≡ Err f → Keeps b c
-    → GoesOn a b (outcome_from s n (line ∷ lines)) whole → Appends a c whole.text × (whole.fault ≡ Some (n, f))
-unfolding outcome_from
-line_fails a b c s n f line lines whole e k so_far =
-    let o : outcome_from s n (line ∷ lines) ≡ record { text = []; fault = Some (n, f) } = rw e refl in
-    let w : GoesOn a b record { text = []; fault = Some (n, f) } whole = subst (λ o. GoesOn a b o whole) o so_far in
-    (appends_none a b c whole.text k w.text, sym w.fault)
-
 pub too_many : (s : Option Segment) (n : ℕ) (line : List ℕ) → 1000000 < n → numbered_line s n line ≡ Err TooManyLines
 unfolding numbered_line
 too_many s n line h = let e : nat_lt 1000000 n ≡ true = grind (arith, nat_tests) in rw e refl
@@ -86,22 +68,6 @@ too_long s n line l =
 pub faulty : (s : Option Segment) (n : ℕ) (f : Fault) (line : List ℕ) → n ≤ 1000000 → length line ≤ 8192 → obey_line s line ≡ Err f → numbered_line s n line ≡ Err f
 unfolding numbered_line
 faulty s n f line h l e = rw (not_above 1000000 n h, not_above 8192 (length line) l, e) refl
-
--- with no line left
-pub no_line : (a b : Option (List ℕ)) (s : Option Segment) (n : ℕ) (whole : Outcome) → GoesOn a b (outcome_from s n []) whole → Appends a b whole.text × (whole.fault ≡ None)
-unfolding outcome_from
-no_line a b s n whole so_far = (appends_none a b b whole.text (keeps_same b) so_far.text, sym so_far.fault)
-
--- the loop's invariant: of what was read, ra is all and rb is left; of what was written, a was there and b is there now
-abbrev pub Inv : Option (List ℕ) → Option (List ℕ) → Bool → Option (List ℕ) → Option (List ℕ) → Option Segment → ℕ → Type 0
-Inv ra rb refused a b s n = Known ra rb (λ all rest. refused ≡ false → GoesOn a b (outcome_from s n (lines_of rest)) (outcome all))
-
-pub at_end : (ra rb rc : Option (List ℕ)) (line : List ℕ) (refused : Bool) (a b : Option (List ℕ)) (s : Option Segment) (n : ℕ) → Inv ra rb refused a b s n → Known rb rc (ReadsLine End line)
-    → IfSome ra (λ script. Ended record { fault = None; memory_refused = refused } a b (outcome script))
-at_end None rb rc line refused a b s n inv reads = tt
-at_end (Some all) None rc line refused a b s n inv reads = absurd inv
-at_end (Some all) (Some rest) None line refused a b s n inv reads = absurd reads
-at_end (Some all) (Some rest) (Some left) line refused a b s n inv reads = λ r. no_line a b s n (outcome all) (subst (λ ls. GoesOn a b (outcome_from s n ls) (outcome all)) reads (inv r))
 
 -- the next line has this fault
 abbrev pub Faulty : Option Segment → ℕ → Fault → List ℕ → Type 0
@@ -117,62 +83,111 @@ faulty_line None rc line s n f e reads = tt
 faulty_line (Some rest) None line s n f e reads = absurd reads
 faulty_line (Some rest) (Some left) line s n f e reads = (line, lines_of left, reads, e)
 
-pub at_fault : (ra rb : Option (List ℕ)) (refused : Bool) (a b c : Option (List ℕ)) (s : Option Segment) (n : ℕ) (f : Fault) → Inv ra rb refused a b s n → IfSome rb (Faulty s n f) → Keeps b c
-    → IfSome ra (λ script. Ended record { fault = Some record { line = n; cause = causes.Fault f }; memory_refused = refused } a c (outcome script))
-at_fault None rb refused a b c s n f inv next keeps = tt
-at_fault (Some all) None refused a b c s n f inv next keeps = absurd inv
-at_fault (Some all) (Some rest) refused a b c s n f inv next keeps = λ r.
-    line_fails a b c s n f next.0 next.1 (outcome all) next.3 keeps (subst (λ ls. GoesOn a b (outcome_from s n ls) (outcome all)) next.2 (inv r))
-
-pub at_line : (ra rb rc : Option (List ℕ)) (line : List ℕ) (refused after : Bool) (a b c : Option (List ℕ)) (s t : Option Segment) (n : ℕ) (p : List ℕ) → Inv ra rb refused a b s n → Known rb rc (ReadsLine Line line)
-    → n ≤ 1000000 → length line ≤ 8192 → (after ≡ false → (refused ≡ false) × (obey_line s line ≡ Ok (t, p))) → Appends b c p → Inv ra rc after a c t (n + 1)
-at_line None rb rc line refused after a b c s t n p inv reads h l done written = tt
-at_line (Some all) None rc line refused after a b c s t n p inv reads h l done written = absurd inv
-at_line (Some all) (Some rest) None line refused after a b c s t n p inv reads h l done written = absurd reads
-at_line (Some all) (Some rest) (Some left) line refused after a b c s t n p inv reads h l done written = λ r.
-    let d = done r in
-    line_done a b c s t n p line (lines_of left) (outcome all) h l d.1 written (subst (λ ls. GoesOn a b (outcome_from s n ls) (outcome all)) reads (inv d.0))
-
--- nothing more was written
-pub at_front : (ra rb : Option (List ℕ)) (refused : Bool) (a b : Option (List ℕ)) (s : Option Segment) (n : ℕ) → Inv ra rb refused a b s n → IfSome ra (λ script. refused ≡ false → IsFront a b (outcome script).text)
-at_front None rb refused a b s n inv = tt
-at_front (Some all) None refused a b s n inv = absurd inv
-at_front (Some all) (Some rest) refused a b s n inv = λ r. ((outcome_from s n (lines_of rest)).text, (inv r).text)
-
--- no line was read
-pub at_no_line : (ra rb : Option (List ℕ)) (refused : Bool) (a b : Option (List ℕ)) (s : Option Segment) (n : ℕ) (error : ReadError) → Inv ra rb refused a b s n
-    → IfSome ra (λ script. Ended record { fault = Some record { line = n; cause = read_cause error }; memory_refused = refused } a b (outcome script))
-at_no_line ra rb refused a b s n reads.Failed inv = at_front ra rb refused a b s n inv
-at_no_line ra rb refused a b s n reads.OutOfMemory inv = at_front ra rb refused a b s n inv
-
--- a front of the line's text was written
-pub at_write : (ra rb rc : Option (List ℕ)) (line : List ℕ) (refused after : Bool) (a b c : Option (List ℕ)) (s t : Option Segment) (n : ℕ) (p : List ℕ) → Inv ra rb refused a b s n → Known rb rc (ReadsLine Line line)
-    → n ≤ 1000000 → length line ≤ 8192 → (after ≡ false → (refused ≡ false) × (obey_line s line ≡ Ok (t, p))) → IsFront b c p
-    → IfSome ra (λ script. after ≡ false → IsFront a c (outcome script).text)
-unfolding outcome_from numbered_line
-at_write None rb rc line refused after a b c s t n p inv reads h l done written = tt
-at_write (Some all) None rc line refused after a b c s t n p inv reads h l done written = absurd inv
-at_write (Some all) (Some rest) None line refused after a b c s t n p inv reads h l done written = absurd reads
-at_write (Some all) (Some rest) (Some left) line refused after a b c s t n p inv reads h l done written = λ r.
-    let d = done r in
-    let next : Outcome = outcome_from t (n + 1) (lines_of left) in
-    let e : outcome_from s n (line ∷ lines_of left) ≡ record { text = p ++ next.text; fault = next.fault } = rw (not_above 1000000 n h, not_above 8192 (length line) l, d.1) refl in
-    let o : outcome_from s n (lines_of rest) ≡ record { text = p ++ next.text; fault = next.fault } = ap (outcome_from s n) reads ∙ e in
-    let w : GoesOn a b record { text = p ++ next.text; fault = next.fault } (outcome all) = subst (λ x. GoesOn a b x (outcome all)) o (inv d.0) in
-    (written.0 ++ next.text, appends_front a b c written.0 p next.text (outcome all).text written.1 w.text)
-
 -- what was read, by its name
 pub reads_as : (read as_known : LineRead) (rb rc : Option (List ℕ)) (line : List ℕ) → read ≡ as_known → Known rb rc (ReadsLine read line) → Known rb rc (ReadsLine as_known line)
 reads_as read as_known rb rc line e k = subst (λ r. Known rb rc (ReadsLine r line)) e k
 
-pub was_told : (told : Told) (earlier after : Bool) (t : Option Segment) (p : List ℕ) (step : Step) → after ≡ or_refused told earlier → Obeyed (Ok told) t [] p step → after ≡ false
-    → (earlier ≡ false) × (step ≡ Ok (t, p))
-was_told Answered earlier after t p step e o r = (sym e ∙ r, o.0 ∙ ap (λ q. Ok (t, q)) (sym o.1))
-was_told NoMemory earlier after t p step e o r = let bad : true ≡ false = sym e ∙ r in cc
+-- a text that shows of what is told what a view does
+module _ (view : Telling → List ℕ) where
+  -- after a line that was obeyed
+  pub line_done : (a b c : Option (List ℕ)) (s t : Option Segment) (n : ℕ) (p : List ℕ) (q : Telling) (line : List ℕ) (lines : List (List ℕ)) (whole : Outcome) → n ≤ 1000000 → length line ≤ 8192
+      → obey_line s line ≡ Ok (t, q) → p ≡ view q → Appends b c p
+      → GoesOn a b (outcome_from view s n (line ∷ lines)) whole → GoesOn a c (outcome_from view t (n + 1) lines) whole
+  unfolding outcome_from numbered_line
+  line_done a b c s t n p q line lines whole h l done shown written so_far =
+      let rest : Outcome = outcome_from view t (n + 1) lines in
+      let e : outcome_from view s n (line ∷ lines) ≡ record { text = view q ++ rest.text; fault = rest.fault } = rw (not_above 1000000 n h, not_above 8192 (length line) l, done) refl in
+      let w : GoesOn a b record { text = view q ++ rest.text; fault = rest.fault } whole = subst (λ o. GoesOn a b o whole) e so_far in
+      record { text = appends_more a b c (view q) rest.text whole.text (subst (λ x. Appends b c x) shown written) w.text; fault = w.fault }
 
--- at a line that ends the run
-pub at_error : (ra rb rc : Option (List ℕ)) (line : List ℕ) (refused : Bool) (a b : Option (List ℕ)) (s t : Option Segment) (n : ℕ) (before after : List ℕ) (error : LineError) → Inv ra rb refused a b s n → Known rb rc (ReadsLine Line line)
-    → n ≤ 1000000 → length line ≤ 8192 → Obeyed (Err error) t before after (obey_line s line)
-    → IfSome ra (λ script. Ended record { fault = Some record { line = n; cause = cause_of error }; memory_refused = refused } a b (outcome script))
-at_error ra rb rc line refused a b s t n before after errors.OutOfMemory inv reads h l o = at_front ra rb refused a b s n inv
-at_error ra rb rc line refused a b s t n before after (errors.Fault f) inv reads h l o = at_fault ra rb refused a b b s n f inv (faulty_line rb rc line s n f (faulty s n f line h l o) reads) (keeps_same b)
+  -- at a fault
+  pub line_fails : (a b c : Option (List ℕ)) (s : Option Segment) (n : ℕ) (f : Fault) (line : List ℕ) (lines : List (List ℕ)) (whole : Outcome) → numbered_line s n line ≡ Err f → Keeps b c
+      → GoesOn a b (outcome_from view s n (line ∷ lines)) whole → Appends a c whole.text × (whole.fault ≡ Some (n, f))
+  unfolding outcome_from
+  line_fails a b c s n f line lines whole e k so_far =
+      let o : outcome_from view s n (line ∷ lines) ≡ record { text = []; fault = Some (n, f) } = rw e refl in
+      let w : GoesOn a b record { text = []; fault = Some (n, f) } whole = subst (λ o. GoesOn a b o whole) o so_far in
+      (appends_none a b c whole.text k w.text, sym w.fault)
+
+  -- with no line left
+  pub no_line : (a b : Option (List ℕ)) (s : Option Segment) (n : ℕ) (whole : Outcome) → GoesOn a b (outcome_from view s n []) whole → Appends a b whole.text × (whole.fault ≡ None)
+  unfolding outcome_from
+  no_line a b s n whole so_far = (appends_none a b b whole.text (keeps_same b) so_far.text, sym so_far.fault)
+
+  -- what a line told was shown
+  abbrev pub Done : Option Segment → List ℕ → Option Segment → Bool → List ℕ → Type 0
+  Done s line t refused p = (q : Telling) × (refused ≡ false) × (obey_line s line ≡ Ok (t, q)) × (p ≡ view q)
+
+  -- the loop's invariant: of what was read, ra is all and rb is left; of what was written, a was there and b is there now
+  abbrev pub Inv : Option (List ℕ) → Option (List ℕ) → Bool → Option (List ℕ) → Option (List ℕ) → Option Segment → ℕ → Type 0
+  Inv ra rb refused a b s n = Known ra rb (λ all rest. refused ≡ false → GoesOn a b (outcome_from view s n (lines_of rest)) (outcome view all))
+
+  pub at_end : (ra rb rc : Option (List ℕ)) (line : List ℕ) (refused : Bool) (a b : Option (List ℕ)) (s : Option Segment) (n : ℕ) → Inv ra rb refused a b s n → Known rb rc (ReadsLine End line)
+      → IfSome ra (λ script. Ended record { fault = None; memory_refused = refused } a b (outcome view script))
+  at_end None rb rc line refused a b s n inv reads = tt
+  at_end (Some all) None rc line refused a b s n inv reads = absurd inv
+  at_end (Some all) (Some rest) None line refused a b s n inv reads = absurd reads
+  at_end (Some all) (Some rest) (Some left) line refused a b s n inv reads = λ r. no_line a b s n (outcome view all) (subst (λ ls. GoesOn a b (outcome_from view s n ls) (outcome view all)) reads (inv r))
+
+  pub at_fault : (ra rb : Option (List ℕ)) (refused : Bool) (a b c : Option (List ℕ)) (s : Option Segment) (n : ℕ) (f : Fault) → Inv ra rb refused a b s n → IfSome rb (Faulty s n f) → Keeps b c
+      → IfSome ra (λ script. Ended record { fault = Some record { line = n; cause = causes.Fault f }; memory_refused = refused } a c (outcome view script))
+  at_fault None rb refused a b c s n f inv next keeps = tt
+  at_fault (Some all) None refused a b c s n f inv next keeps = absurd inv
+  at_fault (Some all) (Some rest) refused a b c s n f inv next keeps = λ r.
+      line_fails a b c s n f next.0 next.1 (outcome view all) next.3 keeps (subst (λ ls. GoesOn a b (outcome_from view s n ls) (outcome view all)) next.2 (inv r))
+
+  pub at_line : (ra rb rc : Option (List ℕ)) (line : List ℕ) (refused after : Bool) (a b c : Option (List ℕ)) (s t : Option Segment) (n : ℕ) (p : List ℕ) → Inv ra rb refused a b s n → Known rb rc (ReadsLine Line line)
+      → n ≤ 1000000 → length line ≤ 8192 → (after ≡ false → Done s line t refused p) → Appends b c p → Inv ra rc after a c t (n + 1)
+  at_line None rb rc line refused after a b c s t n p inv reads h l done written = tt
+  at_line (Some all) None rc line refused after a b c s t n p inv reads h l done written = absurd inv
+  at_line (Some all) (Some rest) None line refused after a b c s t n p inv reads h l done written = absurd reads
+  at_line (Some all) (Some rest) (Some left) line refused after a b c s t n p inv reads h l done written = λ r.
+      let d = done r in
+      line_done a b c s t n p d.0 line (lines_of left) (outcome view all) h l d.2 d.3 written (subst (λ ls. GoesOn a b (outcome_from view s n ls) (outcome view all)) reads (inv d.1))
+
+  -- nothing more was written
+  pub at_front : (ra rb : Option (List ℕ)) (refused : Bool) (a b : Option (List ℕ)) (s : Option Segment) (n : ℕ) → Inv ra rb refused a b s n → IfSome ra (λ script. refused ≡ false → IsFront a b (outcome view script).text)
+  at_front None rb refused a b s n inv = tt
+  at_front (Some all) None refused a b s n inv = absurd inv
+  at_front (Some all) (Some rest) refused a b s n inv = λ r. ((outcome_from view s n (lines_of rest)).text, (inv r).text)
+
+  -- no line was read
+  pub at_no_line : (ra rb : Option (List ℕ)) (refused : Bool) (a b : Option (List ℕ)) (s : Option Segment) (n : ℕ) (error : ReadError) → Inv ra rb refused a b s n
+      → IfSome ra (λ script. Ended record { fault = Some record { line = n; cause = read_cause error }; memory_refused = refused } a b (outcome view script))
+  at_no_line ra rb refused a b s n reads.Failed inv = at_front ra rb refused a b s n inv
+  at_no_line ra rb refused a b s n reads.OutOfMemory inv = at_front ra rb refused a b s n inv
+
+  -- a front of the line's text was written
+  pub at_write : (ra rb rc : Option (List ℕ)) (line : List ℕ) (refused after : Bool) (a b c : Option (List ℕ)) (s t : Option Segment) (n : ℕ) (p : List ℕ) → Inv ra rb refused a b s n → Known rb rc (ReadsLine Line line)
+      → n ≤ 1000000 → length line ≤ 8192 → (after ≡ false → Done s line t refused p) → IsFront b c p
+      → IfSome ra (λ script. after ≡ false → IsFront a c (outcome view script).text)
+  unfolding outcome_from numbered_line
+  at_write None rb rc line refused after a b c s t n p inv reads h l done written = tt
+  at_write (Some all) None rc line refused after a b c s t n p inv reads h l done written = absurd inv
+  at_write (Some all) (Some rest) None line refused after a b c s t n p inv reads h l done written = absurd reads
+  at_write (Some all) (Some rest) (Some left) line refused after a b c s t n p inv reads h l done written = λ r.
+      let d = done r in
+      let next : Outcome = outcome_from view t (n + 1) (lines_of left) in
+      let e : outcome_from view s n (line ∷ lines_of left) ≡ record { text = view d.0 ++ next.text; fault = next.fault } = rw (not_above 1000000 n h, not_above 8192 (length line) l, d.2) refl in
+      let o : outcome_from view s n (lines_of rest) ≡ record { text = view d.0 ++ next.text; fault = next.fault } = ap (outcome_from view s n) reads ∙ e in
+      let w : GoesOn a b record { text = view d.0 ++ next.text; fault = next.fault } (outcome view all) = subst (λ x. GoesOn a b x (outcome view all)) o (inv d.1) in
+      let front : IsFront b c (view d.0) = subst (λ x. IsFront b c x) d.3 written in
+      (front.0 ++ next.text, appends_front a b c front.0 (view d.0) next.text (outcome view all).text front.1 w.text)
+
+  -- at a line that ends the run
+  pub at_error : (ra rb rc : Option (List ℕ)) (line : List ℕ) (refused : Bool) (a b : Option (List ℕ)) (s t : Option Segment) (n : ℕ) (logged : Bool) (old page : Page) (error : LineError) → Inv ra rb refused a b s n → Known rb rc (ReadsLine Line line)
+      → n ≤ 1000000 → length line ≤ 8192 → Obeyed logged (Err error) t old page (obey_line s line)
+      → IfSome ra (λ script. Ended record { fault = Some record { line = n; cause = cause_of error }; memory_refused = refused } a b (outcome view script))
+  at_error ra rb rc line refused a b s t n logged old page errors.OutOfMemory inv reads h l o = at_front ra rb refused a b s n inv
+  at_error ra rb rc line refused a b s t n logged old page (errors.Fault f) inv reads h l o = at_fault ra rb refused a b b s n f inv (faulty_line rb rc line s n f (faulty s n f line h l o) reads) (keeps_same b)
+
+-- a line that was told is in the text and in the log
+pub was_told : (logged : Bool) (told : Told) (earlier after : Bool) (s t : Option Segment) (line : List ℕ) (old page : Page) → after ≡ or_refused told earlier → old.text.items ≡ [] → Obeyed logged (Ok told) t old page (obey_line s line) → after ≡ false
+    → Done (text_of logged) s line t earlier page.text.items
+was_told logged Answered earlier after s t line old page e z o r = (told_by (obey_line s line), sym e ∙ r, o.0, o.1 ∙ ap (λ x. x ++ text_of logged (told_by (obey_line s line))) z)
+was_told logged NoMemory earlier after s t line old page e z o r = let bad : true ≡ false = sym e ∙ r in cc
+
+pub was_logged : (logged : Bool) (told : Told) (earlier after : Bool) (s t : Option Segment) (line : List ℕ) (old page : Page) → after ≡ or_refused told earlier → old.log.items ≡ [] → Obeyed logged (Ok told) t old page (obey_line s line) → after ≡ false
+    → Done (log_of logged) s line t earlier page.log.items
+was_logged logged Answered earlier after s t line old page e z o r = (told_by (obey_line s line), sym e ∙ r, o.0, o.2 ∙ ap (λ x. x ++ log_of logged (told_by (obey_line s line))) z)
+was_logged logged NoMemory earlier after s t line old page e z o r = let bad : true ≡ false = sym e ∙ r in cc

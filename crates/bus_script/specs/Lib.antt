@@ -1,2 +1,5 @@
+pub mod Telling
+pub mod Turns
 pub mod Script
+pub mod Driving
 pub mod Ending

@@ -1,10 +1,10 @@
--- What a script prints, line by line, up to its fault.
-use Rattle.std.specs.Prelude.{◌≡◌, ℕ, ◌+◌, List, [], ◌∷◌, ◌++◌, length, Bool, true, ◌||◌, Option, Some, None, Result, Ok, Err, nat_lt, if◌then◌else◌, codes}
+-- What a script tells, line by line, up to its fault.
+use Rattle.std.specs.Prelude.{◌≡◌, ℕ, ◌+◌, List, [], ◌∷◌, ◌++◌, length, map, Bool, true, ◌||◌, Option, Some, None, Result, Ok, Err, nat_lt, if◌then◌else◌, option_to_list, codes}
 use Rattle.bus_frame.specs.Frames.{CanFrame}
 use Rattle.pgn_ids.specs.declared.address.Address.{Address}
 use Rattle.segment_law.specs.Segment.{Segment, are_addresses, new_segment}
 use Rattle.segment_law.specs.Readers.{front_at}
-use Rattle.segment_law.specs.Calls.{applied}
+use Rattle.segment_law.specs.Calls.{applied, events_of}
 use Rattle.segment_law.specs.Drive.{driven, end_of, events_in}
 use Rattle.segment_law.specs.declared.call.Call.{Call}
 use Rattle.segment_law.specs.declared.call.Call.TheVariants.{Transmit, Inject}
@@ -22,22 +22,25 @@ use Rattle.script_commands.specs.declared.command.Command.TheVariants as command
 use Rattle.script_commands.specs.declared.fault.LineError.{LineError}
 use Rattle.script_commands.specs.declared.fault.LineError.TheVariants as errors
 use Rattle.script_text.specs.Parts.{line}
-use Rattle.script_text.specs.Replies.{refusal_text, reply_line, put_line, event_lines, drive_lines}
+use Rattle.script_text.specs.Replies.{refusal_text, reply_line, drove_line}
 use Rattle.script_text.specs.Counts.{counts_line}
 use Rattle.text_lines.specs.Lines.{lines_of}
 use Rattle.script_commands.specs.Words.{is_ascii}
+use Rattle.bus_script.specs.Telling.{Telling, reply_alone, text_of, log_of}
+use Rattle.bus_script.specs.Turns.{turn_times}
+use Rattle.bus_script.specs.declared.page.Page.{Page}
 use Rattle.bus_script.specs.declared.obeying.Told.{Told}
 use Rattle.bus_script.specs.declared.obeying.Told.TheVariants.{Answered, NoMemory}
 
--- the segment afterwards, where there is one, and what is printed
+-- the segment afterwards, where there is one, and what is told
 abbrev pub Step : Type 0
-Step = Result (Option Segment × List ℕ) Fault
+Step = Result (Option Segment × Telling) Fault
 
 -- the segment is made, or its addresses are refused
 abbrev pub made : List Address → Step
 made addresses =
-    if are_addresses addresses then Ok (Some (new_segment addresses), line (codes "done"))
-    else Ok (None, line (refusal_text BadAddresses))
+    if are_addresses addresses then Ok (Some (new_segment addresses), reply_alone (line (codes "done")))
+    else Ok (None, reply_alone (line (refusal_text BadAddresses)))
 
 -- the frame that a call puts on the bus where it is done
 abbrev pub frame_put : Segment → Call → Option CanFrame
@@ -45,28 +48,30 @@ frame_put s (Transmit station) = front_at s station
 frame_put s (Inject frame) = Some frame
 frame_put s _ = None
 
-abbrev pub optional_put : Option CanFrame → List ℕ
-optional_put None = []
-optional_put (Some frame) = put_line frame
+-- only a call that is done puts its frame
+abbrev pub frames_put : Option CanFrame → Reply → List CanFrame
+frames_put put (Done events) = option_to_list put
+frames_put put _ = []
 
--- what stands below the reply: the frame put, and the events
-abbrev pub below : Option CanFrame → Reply → List ℕ
-below put (Done events) = optional_put put ++ event_lines events
-below put _ = []
+-- the reply, the frame that was put, which is put at the clock at which the call is made, and the events
+abbrev pub told_of : ℕ → Option CanFrame → Reply → Telling
+told_of now put reply = record { reply = reply_line reply; frames = frames_put put reply; times = map (λ (frame : CanFrame). now) (frames_put put reply); events = events_of reply }
 
 abbrev pub called : Segment → Call → Step
-called s call = Ok (Some (applied s call).0, reply_line (applied s call).1 ++ below (frame_put s call) (applied s call).1)
+called s call = Ok (Some (applied s call).0, told_of s.now (frame_put s call) (applied s call).1)
 
 abbrev pub drove : Segment → (from to : Address) → (turns : ℕ) → Step
-drove s from to turns = let d = driven s from to turns in Ok (Some d.segment, drive_lines d.turns (end_of d) d.frames (events_in d.calls))
+drove s from to turns =
+    let d = driven s from to turns in
+    Ok (Some d.segment, record { reply = drove_line d.turns (end_of d); frames = d.frames; times = turn_times turns from to s; events = events_in d.calls })
 
 -- a command to a segment that is there
 abbrev pub on_segment : Segment → Command → Step
 on_segment s (commands.Stations addresses) = Err StationsTwice
 on_segment s (commands.Call call) = called s call
 on_segment s (commands.Drive from to turns) = drove s from to turns
-on_segment s commands.Counts = Ok (Some s, counts_line s.counts)
-on_segment s (commands.Refused cause) = Ok (Some s, line (refusal_text cause))
+on_segment s commands.Counts = Ok (Some s, reply_alone (counts_line s.counts))
+on_segment s (commands.Refused cause) = Ok (Some s, reply_alone (line (refusal_text cause)))
 
 -- until the segment is made, each other command is a fault
 abbrev pub without_segment : Command → Step
@@ -79,7 +84,7 @@ perform (Some s) command = on_segment s command
 
 -- a line without a word is passed over
 unfoldable pub obey_words : Option Segment → List (List ℕ) → Step
-obey_words s [] = Ok (s, [])
+obey_words s [] = Ok (s, reply_alone [])
 obey_words s (name ∷ words) = do
   command ← command_of name words
   perform s command
@@ -91,21 +96,22 @@ obey_line s text = if is_ascii text then obey_words s (words_of text) else Err N
 unfoldable pub numbered_line : Option Segment → ℕ → List ℕ → Step
 numbered_line s n text = if nat_lt 1000000 n || nat_lt 8192 (length text) then Err (limit_fault n) else obey_line s text
 
--- what is printed, and the fault with its line, where there is one
+-- a text, and the fault with its line, where there is one
 pub record Outcome : Type 0 where
   pub text : List ℕ
   pub fault : Option (ℕ × Fault)
 
-abbrev pub then_rest : ℕ → Step → (Option Segment → Outcome) → Outcome
-then_rest n (Ok done) rest = record { text = done.1 ++ (rest done.0).text; fault = (rest done.0).fault }
-then_rest n (Err f) rest = record { text = []; fault = Some (n, f) }
+abbrev pub then_rest : (Telling → List ℕ) → ℕ → Step → (Option Segment → Outcome) → Outcome
+then_rest view n (Ok done) rest = record { text = view done.1 ++ (rest done.0).text; fault = (rest done.0).fault }
+then_rest view n (Err f) rest = record { text = []; fault = Some (n, f) }
 
-unfoldable pub outcome_from : Option Segment → ℕ → List (List ℕ) → Outcome
-outcome_from s n [] = record { text = []; fault = None }
-outcome_from s n (text ∷ texts) = then_rest n (numbered_line s n text) (λ t. outcome_from t (n + 1) texts)
+-- of what each line tells, a text has what a view shows
+unfoldable pub outcome_from : (Telling → List ℕ) → Option Segment → ℕ → List (List ℕ) → Outcome
+outcome_from view s n [] = record { text = []; fault = None }
+outcome_from view s n (text ∷ texts) = then_rest view n (numbered_line s n text) (λ t. outcome_from view t (n + 1) texts)
 
-abbrev pub outcome : List ℕ → Outcome
-outcome script = outcome_from None 1 (lines_of script)
+abbrev pub outcome : (Telling → List ℕ) → List ℕ → Outcome
+outcome view script = outcome_from view None 1 (lines_of script)
 
 -- How the code obeyed a line
 
@@ -113,14 +119,15 @@ abbrev pub or_refused : Told → Bool → Bool
 or_refused Answered earlier = earlier
 or_refused NoMemory earlier = true
 
--- what a step printed
-abbrev pub printed : Step → List ℕ
-printed (Ok done) = done.1
-printed (Err f) = []
+-- what a step told
+abbrev pub told_by : Step → Telling
+told_by (Ok done) = done.1
+told_by (Err f) = reply_alone []
 
--- how a step went, from lines a to b and to the segment new
-abbrev pub Obeyed : Result Told LineError → Option Segment → List ℕ → List ℕ → Step → Type 0
-Obeyed (Ok Answered) new a b step = (step ≡ Ok (new, printed step)) × (b ≡ a ++ printed step)
-Obeyed (Ok NoMemory) new a b step = Unit {0}
-Obeyed (Err (errors.Fault f)) new a b step = step ≡ Err f
-Obeyed (Err errors.OutOfMemory) new a b step = Unit {0}
+-- how a step went, to the segment new and from a page to another
+abbrev pub Obeyed : Bool → Result Told LineError → Option Segment → (old page : Page) → Step → Type 0
+Obeyed logged (Ok Answered) new old page step =
+    (step ≡ Ok (new, told_by step)) × (page.text.items ≡ old.text.items ++ text_of logged (told_by step)) × (page.log.items ≡ old.log.items ++ log_of logged (told_by step))
+Obeyed logged (Ok NoMemory) new old page step = Unit {0}
+Obeyed logged (Err (errors.Fault f)) new old page step = step ≡ Err f
+Obeyed logged (Err errors.OutOfMemory) new old page step = Unit {0}

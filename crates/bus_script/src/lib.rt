@@ -1,9 +1,11 @@
 //! The script language of a segment: a script is read line by line, each line is obeyed, and the reply to it is printed
-//! before the next line is read.
+//! before the next line is read. The frames that are put stand below the replies, or as a log of their own.
 #![tactic(auto)]
 
+mod driving;
 mod obeying;
+mod page;
 mod running;
 
-pub use running::{Ran, run_script};
+pub use running::{Ran, run_logged, run_script};
 pub use script_commands::{Cause, Fault, ScriptFault};

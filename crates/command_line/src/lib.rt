@@ -13,6 +13,8 @@ use std::alloc::{AllocError, Global};
 pub enum Asked {
     /// The script of standard input is run line by line.
     Script,
+    /// It is run so, and the frames that it puts are printed as a log, without the replies.
+    Logged,
     /// It is run by threads, each worker with at most so many turns.
     Live { turns: u64 },
     /// Its two segments are run by threads, with a relay between them.
@@ -29,10 +31,14 @@ const PROGRAM_HELP: &str =
     "The script is read from standard input. The reply to each line is written to
 standard output before the next line is read. What ends the run before the
 script's end, such as a wrong line, is told on standard error.
+With --log, standard output has only the frames that are put, in lines
+(SECONDS.MICROS) bus0 ID#HEX as candump -l writes them, at the time of the
+script's clock. Replies and events are written to standard error.
 
-Example:
+Examples:
   printf '%s\\n' 'stations 21 35' 'open 35 FECA 1785' \\
     'send 21 FF FECA 010203040506070809' 'drive 21 FF 3' | j1939bus
+  j1939bus --log < SCRIPT | j1939bus decode
 
 Status:
   0  the script ran to its end, refused calls included
@@ -122,6 +128,13 @@ fn relay_command<'a>(alloc: Global) -> Result<Command<'a>, AllocError> {
     )
 }
 
+fn log_arg<'a>(alloc: Global) -> Arg<'a> {
+    Arg::new(alloc, "log")
+        .long("log")
+        .action(ArgAction::SetTrue)
+        .help("Prints the frames alone, as a log, and the replies on standard error")
+}
+
 /// Reads the words of a command line, of which the first names the program. What it doesn't take is refused, and so is help, whose
 /// text is the error.
 pub fn read_command_line(alloc: Global, words: &[String]) -> Result<Asked, Error> {
@@ -129,6 +142,8 @@ pub fn read_command_line(alloc: Global, words: &[String]) -> Result<Asked, Error
         .version("0.1.0")
         .about("Runs the script of standard input, and prints the reply to each line")
         .after_help(PROGRAM_HELP)
+        .args_conflicts_with_subcommands(true)
+        .arg(log_arg(alloc))?
         .subcommand(live_command(alloc)?)?
         .subcommand(relay_command(alloc)?)?
         .subcommand(decode_command(alloc)?)?;
@@ -142,6 +157,9 @@ pub fn read_command_line(alloc: Global, words: &[String]) -> Result<Asked, Error
         return Ok(Asked::Relay {
             turns: relay.get_one::<u64>("turns").unwrap_or(TURNS),
         });
+    }
+    if matches.get_flag("log") {
+        return Ok(Asked::Logged);
     }
     match matches.subcommand_matches("decode") {
         Some(decode) => Ok(Asked::Decode(read_decode(alloc, &mut command, decode)?)),

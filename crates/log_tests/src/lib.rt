@@ -9,3 +9,5 @@ mod lines;
 mod listeners;
 #[cfg(test)]
 mod logs;
+#[cfg(test)]
+mod scripts;

@@ -1,5 +1,5 @@
 -- Names of interfaces.
-use Rattle.std.specs.Prelude.{ℕ, ◌-◌, List, [], ◌∷◌, ◌++◌, length, take, replicate, Bool, true, ◌&&◌, ◌||◌, Option, Some, None, ◌==◌, nat_lt, if◌then◌else◌, unwrap_or}
+use Rattle.std.specs.Prelude.{ℕ, ◌-◌, List, [], ◌∷◌, ◌++◌, length, take, replicate, Bool, true, ◌&&◌, ◌||◌, Option, Some, None, ◌==◌, nat_lt, if◌then◌else◌, unwrap_or, codes}
 use Rattle.log_text.specs.Digits.{is_between}
 use Rattle.log_text.specs.Fields.{place_of}
 use Rattle.log_text.specs.declared.iface.Iface.{Iface}
@@ -16,3 +16,7 @@ iface_of name = if length name == 0 || nat_lt 15 (length name) then None else if
 -- up to the first 0
 abbrev pub name_of : Iface → List ℕ
 name_of iface = take (unwrap_or (place_of 0 iface.kept) 15) iface.kept
+
+-- the interface bus0: behind the name the kept bytes are 0
+abbrev pub bus0 : Iface
+bus0 = record { kept = codes "bus0" ++ replicate 12 0 }

@@ -1,6 +1,6 @@
 //! Names of interfaces.
 ghost use Rattle.std.specs.Prelude.{◌≡◌, ℕ, ◌<◌, ◌≤◌, length, MatchResult, Some, None, true, false};
-ghost use Rattle.log_text.specs.Iface.{is_printable, iface_of, name_of};
+ghost use Rattle.log_text.specs.Iface.{is_printable, iface_of, name_of, bus0};
 
 use crate::fields::place_of;
 use thiserror::Error;
@@ -42,6 +42,15 @@ impl Iface {
         let mut kept = [0; 16];
         kept[..name.len()].copy_from_slice(name);
         Ok(Iface { kept })
+    }
+
+    /// The interface `bus0`.
+    pub fn bus0() -> Iface
+        ensures { result ≡ bus0 }
+    {
+        Iface {
+            kept: [b'b', b'u', b's', b'0', 0, 0, 0, 0, 0, 0, 0, 0, 0, 0, 0, 0],
+        }
     }
 
     /// Its name.

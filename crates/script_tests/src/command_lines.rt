@@ -1,4 +1,5 @@
-//! The command line: its name alone runs a script, `live` runs it by threads; whatever else is asked for is answered by a text.
+//! The command line: its name alone runs a script, with `--log` for its frames, `live` runs it by threads; whatever else is asked for is
+//! answered by a text.
 mod logs;
 
 use command_line::{Asked, read_command_line};
@@ -55,6 +56,7 @@ fn asks(rt: &impl Abort, alloc: Global, all: &[&str], expected: &Asked) -> Resul
 fn a_script_is_run_alone_or_by_threads(rt: HostRuntime) -> Result<(), Fail> {
     let alloc = rt.alloc();
     asks(&rt, alloc, &["j1939bus"], &Asked::Script)?;
+    asks(&rt, alloc, &["j1939bus", "--log"], &Asked::Logged)?;
     let live = Asked::Live { turns: 1_000_000 };
     asks(&rt, alloc, &["j1939bus", "live"], &live)?;
     let once = ["j1939bus", "live", "--turns", "1"];
@@ -70,13 +72,20 @@ fn whatever_else_is_asked_for_is_answered_by_a_text(rt: HostRuntime) -> Result<(
     let alloc = rt.alloc();
     tells(&rt, alloc, &["j1939bus", "--version"], "j1939bus 0.1.0")?;
     tells(&rt, alloc, &["j1939bus", "lives"], "'lives'")?;
+    tells(
+        &rt,
+        alloc,
+        &["j1939bus", "--log", "live"],
+        "cannot be used with",
+    )?;
     refuses_turns(&rt, alloc, "0", "invalid value '0'")?;
     refuses_turns(&rt, alloc, "1000000001", "invalid value '1000000001'")
 }
 
 const PROGRAM_HELP: &str = "Runs the script of standard input, and prints the reply to each line
 
-Usage: j1939bus [COMMAND]
+Usage: j1939bus [OPTIONS]
+       j1939bus <COMMAND>
 
 Commands:
   live    Runs the script of standard input by threads, and prints what came of it
@@ -85,16 +94,21 @@ Commands:
   help    Print this message or the help of the given subcommand(s)
 
 Options:
+      --log      Prints the frames alone, as a log, and the replies on standard error
   -h, --help     Print help
   -V, --version  Print version
 
 The script is read from standard input. The reply to each line is written to
 standard output before the next line is read. What ends the run before the
 script's end, such as a wrong line, is told on standard error.
+With --log, standard output has only the frames that are put, in lines
+(SECONDS.MICROS) bus0 ID#HEX as candump -l writes them, at the time of the
+script's clock. Replies and events are written to standard error.
 
-Example:
+Examples:
   printf '%s\\n' 'stations 21 35' 'open 35 FECA 1785' \\
     'send 21 FF FECA 010203040506070809' 'drive 21 FF 3' | j1939bus
+  j1939bus --log < SCRIPT | j1939bus decode
 
 Status:
   0  the script ran to its end, refused calls included

@@ -6,4 +6,6 @@ mod command_lines;
 #[cfg(test)]
 mod exchanges;
 #[cfg(test)]
+mod logged;
+#[cfg(test)]
 mod scripts;

@@ -33,6 +33,22 @@ pub(crate) fn ran(
     run_script(alloc, &mut reader, out)
 }
 
+/// The same of a script whose text isn't known.
+pub(crate) fn ran_once_more(alloc: Global, script: &[u8], out: &mut Vec<u8>) -> Ran {
+    let mut reader = script;
+    let first = run_script(alloc, &mut reader, out);
+    // A vector refuses a write only for want of memory.
+    let refused = first.fault.is_some_and(|fault| {
+        fault.cause == Cause::OutOfMemory || fault.cause == Cause::WriteFailed
+    });
+    if !refused && !first.memory_refused {
+        return first;
+    }
+    out.clear();
+    let mut reader = script;
+    run_script(alloc, &mut reader, out)
+}
+
 /// A script prints a text, and its fault is told by a line.
 pub(crate) fn shows(
     rt: &impl Abort,

@@ -73,6 +73,10 @@ end_text ending.Idle = codes "idle"
 end_text (ending.Refused cause) = refusal_text cause
 end_text ending.OutOfMemory = no_memory
 
--- a drive: its turns and its end, the frames put, what was told
-unfoldable pub drive_lines : ℕ → DriveEnd → List CanFrame → List Event → List ℕ
-drive_lines turns end frames events = line (codes "drove " ++ decimal turns ++ codes " " ++ end_text end) ++ put_lines frames ++ event_lines events
+-- the line of a drive: its turns and its end
+unfoldable pub drove_line : ℕ → DriveEnd → List ℕ
+drove_line turns end = line (codes "drove " ++ decimal turns ++ codes " " ++ end_text end)
+
+-- below it the frames put, then what was told
+abbrev pub drive_lines : ℕ → DriveEnd → List CanFrame → List Event → List ℕ
+drive_lines turns end frames events = drove_line turns end ++ put_lines frames ++ event_lines events

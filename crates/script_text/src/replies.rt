@@ -1,7 +1,7 @@
 //! Replies, and the frames and events that stand below them.
 ghost use Rattle.std.specs.Prelude.{◌≡◌, ◌++◌, OnOk, codes};
 ghost use Rattle.script_text.specs.Parts.{line, port_text};
-ghost use Rattle.script_text.specs.Replies.{message_text, frame_text, given_text, ended_text, outcome_text, refusal_text, end_text, reply_line, put_line, event_line, put_lines, event_lines, drive_lines};
+ghost use Rattle.script_text.specs.Replies.{message_text, frame_text, given_text, ended_text, outcome_text, refusal_text, end_text, reply_line, put_line, event_line, put_lines, event_lines, drove_line, drive_lines};
 
 use crate::parts::{
     put_between, put_decimal, put_hex, put_port, put_spaced, put_text, put_unspaced,
@@ -234,8 +234,9 @@ pub fn print_events(out: &mut Vec<u8>, events: Events) -> Result<(), AllocError>
     }
 }
 
+/// The lines of the events of several calls, one each, in their order.
 #[tactic(auto, using(crate::proofs::EventLines::parts_lines))]
-fn print_parts(out: &mut Vec<u8>, events: EventList) -> Result<(), AllocError>
+pub fn print_told(out: &mut Vec<u8>, events: EventList) -> Result<(), AllocError>
     ensures { OnOk result (out.new.items ≡ out.old.items ++ event_lines events) }
 {
     for part in events.into_parts() {
@@ -255,16 +256,23 @@ fn put_end(out: &mut Vec<u8>, end: DriveEnd) -> Result<(), AllocError>
     }
 }
 
+/// The line of a drive: its turns and how it ended.
+#[tactic(auto, unfolding(crate::specs::Replies::drove_line))]
+pub fn print_drove(out: &mut Vec<u8>, turns: u64, end: DriveEnd) -> Result<(), AllocError>
+    ensures { OnOk result (out.new.items ≡ out.old.items ++ drove_line turns end) }
+{
+    put_text(out, "drove ")?;
+    put_decimal(out, turns)?;
+    put_text(out, " ")?;
+    put_end(out, end)?;
+    put_text(out, "\n")
+}
+
 /// The lines of a drive: its turns and how it ended, the frames that it put, then the events that it told.
-#[tactic(auto, unfolding(crate::specs::Replies::drive_lines))]
 pub fn print_driven(out: &mut Vec<u8>, driven: Driven) -> Result<(), AllocError>
     ensures { OnOk result (out.new.items ≡ out.old.items ++ drive_lines driven.turns driven.end driven.frames driven.events) }
 {
-    put_text(out, "drove ")?;
-    put_decimal(out, driven.turns)?;
-    put_text(out, " ")?;
-    put_end(out, driven.end)?;
-    put_text(out, "\n")?;
+    print_drove(out, driven.turns, driven.end)?;
     print_frames(out, driven.frames.as_slice())?;
-    print_parts(out, driven.events)
+    print_told(out, driven.events)
 }
