@@ -233,7 +233,7 @@ told_logged from to n s u old begun made page put fin x y log below stays h line
     let a : x ≡ old.text.items ++ is_line = lined ∙ (λ i. stays i ++ drove_line (turns i) (ended i)) in
     let b : y ≡ events = under ∙ h.told ∙ ap (λ l. l ++ events) below in
     let t : page.text.items ≡ old.text.items ++ text_of true (told_by (drove s from to n)) =
-    ends ∙ (λ i. a i ++ b i) ∙ append_assoc old.text.items is_line events ∙ ap (λ l. old.text.items ++ (is_line ++ (l ++ events))) (sym (no_frames d.frames)) in
+    ends ∙ (λ i. a i ++ b i) ∙ append_assoc old.text.items is_line events ∙ ap (λ l. old.text.items ++ (l ++ events)) (sym (append-nil is_line) ∙ ap (λ f. is_line ++ f) (sym (no_frames d.frames))) in
     (ap to_step (sym h.segment), t, logs ∙ h.logged ∙ ap (λ l. l ++ turns_log n from to s) log)
 
 pub drove_logged : (from to : Address) (n : ℕ) (s u : Segment) (old begun made page : Page) (put : ℕ) (fin : DriveEnd) (told : Told) (x y : List ℕ)

@@ -25,7 +25,7 @@ returns-in-Err-clause-in_text g c = rw (c.failed-in-Err.ensures, c.read_cause.en
 pub returns-in-Err-obey_line-clause-in_text : goal.returns-in-Err-obey_line-clause-in_text
 returns-in-Err-obey_line-clause-in_text g c =
     let line = c.read_line.new.line.items in
-    rw c.failed-in-Err-obey_line.ensures (rw c.cause_of.ensures (at_error (text_of c.args.logged) _ _ _ line _ _ _ _ _ _ _ _ _ c.in-Err-obey_line.error c.lines.invariant.in_text (reads_as _ _ _ _ line c.in-Ok-Line.field-0-is c.in-Ok-Line.ensures.reads)
+    rw c.failed-in-Err-obey_line.ensures (rw c.cause_of.ensures (at_error (text_of c.args.logged) _ _ _ line _ _ _ _ _ _ c.args.logged _ _ c.in-Err-obey_line.error c.lines.invariant.in_text (reads_as _ _ _ _ line c.in-Ok-Line.field-0-is c.in-Ok-Line.ensures.reads)
     c.if-number-gt-MAX_LINES.false c.in-Ok-Line.ensures.short (rw c.as_slice.ensures.value at c.in-Err-obey_line.ensures)))
 
 pub returns-in_default-clause-in_text : goal.returns-in_default-clause-in_text
@@ -58,7 +58,7 @@ returns-in-Err-clause-in_log g c = rw (c.failed-in-Err.ensures, c.read_cause.ens
 pub returns-in-Err-obey_line-clause-in_log : goal.returns-in-Err-obey_line-clause-in_log
 returns-in-Err-obey_line-clause-in_log g c =
     let line = c.read_line.new.line.items in
-    rw c.failed-in-Err-obey_line.ensures (rw c.cause_of.ensures (at_error (log_of c.args.logged) _ _ _ line _ _ _ _ _ _ _ _ _ c.in-Err-obey_line.error c.lines.invariant.in_log (reads_as _ _ _ _ line c.in-Ok-Line.field-0-is c.in-Ok-Line.ensures.reads)
+    rw c.failed-in-Err-obey_line.ensures (rw c.cause_of.ensures (at_error (log_of c.args.logged) _ _ _ line _ _ _ _ _ _ c.args.logged _ _ c.in-Err-obey_line.error c.lines.invariant.in_log (reads_as _ _ _ _ line c.in-Ok-Line.field-0-is c.in-Ok-Line.ensures.reads)
     c.if-number-gt-MAX_LINES.false c.in-Ok-Line.ensures.short (rw c.as_slice.ensures.value at c.in-Err-obey_line.ensures)))
 
 pub returns-in_default-clause-in_log : goal.returns-in_default-clause-in_log
