@@ -51,6 +51,11 @@ is_waiting node = nat_lt 0 (waiting_at node.segment node.address)
 abbrev pub looks : Node → Call
 looks node = Take node.address true
 
+-- that Take was made; or it isn't refused and found no memory, and the frame waits
+abbrev pub HasLooked : (before after : Node) → Fed → Type 0
+HasLooked before after Taken = Did before (looks before ∷ []) after
+HasLooked before after Waits = IsOk (called before.segment (looks before)) × (after ≡ before)
+
 -- Frames from the bus
 
 -- the frame has the station's own source address
@@ -69,10 +74,14 @@ feed_refusal node frame =
     else if is_queue_full node then Some (Refused refusal.TxFull)
     else as_error (refusal_of (called node.segment (Inject frame)))
 
--- the frame comes on the inner bus, and the station takes it; or it waits there, where the Take isn't refused and finds no memory
+-- a call, and then the Take of the frame that it put; or that frame waits, where the Take found no memory
+abbrev pub DidAndLooked : (before : Node) → Call → (after : Node) → Fed → Type 0
+DidAndLooked before call after Taken = Did before (call ∷ looks before ∷ []) after
+DidAndLooked before call after Waits = Did before (call ∷ []) after × IsOk (called after.segment (looks before))
+
+-- the frame comes on the inner bus, and the station takes it
 abbrev pub IsFed : (before : Node) → CanFrame → (after : Node) → Result Fed NodeError → Type 0
-IsFed before frame after (Ok Taken) = (feed_refusal before frame ≡ None) × Did before (Inject frame ∷ looks before ∷ []) after
-IsFed before frame after (Ok Waits) = (feed_refusal before frame ≡ None) × (Did before (Inject frame ∷ []) after × IsOk (called after.segment (looks before)))
+IsFed before frame after (Ok fed) = (feed_refusal before frame ≡ None) × DidAndLooked before (Inject frame) after fed
 IsFed before frame after (Err error) = IsUndone before (feed_refusal before frame) after error
 
 -- Frames for the bus
@@ -92,6 +101,6 @@ sent_refusal node =
     else as_error (refusal_of (called node.segment (Transmit node.address)))
 
 -- the frame leaves the queue for the inner bus, where the station passes it by
-abbrev pub IsSent : (before after : Node) → Result (Unit {0}) NodeError → Type 0
-IsSent before after (Ok _) = (sent_refusal before ≡ None) × Did before (Transmit before.address ∷ looks before ∷ []) after
+abbrev pub IsSent : (before after : Node) → Result Fed NodeError → Type 0
+IsSent before after (Ok fed) = (sent_refusal before ≡ None) × DidAndLooked before (Transmit before.address) after fed
 IsSent before after (Err error) = IsUndone before (sent_refusal before) after error

@@ -5,7 +5,7 @@ ghost use Rattle.segment_core.specs.Answers.{refusal_of};
 ghost use Rattle.segment_law.specs.Calls.{called};
 ghost use Rattle.segment_law.specs.declared.call.Call.TheVariants.{Transmit};
 ghost use Rattle.one_station.specs.Node.{Did};
-ghost use Rattle.one_station.specs.Answers.{IsAnswered, IsFed, IsSent, looks, is_waiting, feed_refusal, sent_refusal, front_calls};
+ghost use Rattle.one_station.specs.Answers.{IsAnswered, IsFed, IsSent, HasLooked, looks, is_waiting, feed_refusal, sent_refusal, front_calls};
 
 use crate::error::{Fed, NodeError};
 use crate::node::Node;
@@ -29,10 +29,20 @@ impl Node {
         if let Some(error) = self.feed_refusal(&frame) {
             return Err(error);
         }
-        self.make(Call::Inject { frame })?;
+        if let Err(error) = self.make(Call::Inject { frame }) {
+            return Err(error);
+        }
+        Ok(self.look())
+    }
+
+    // The station takes the next frame, where memory is there for it.
+    fn look(&mut self) -> Fed
+        ensures { HasLooked self.old self.new result }
+    {
         match self.settle() {
-            Err(NodeError::OutOfMemory) => Ok(Fed::Waits),
-            _ => Ok(Fed::Taken),
+            Ok(()) => Fed::Taken,
+            Err(NodeError::OutOfMemory) => Fed::Waits,
+            Err(_) => Fed::Taken,
         }
     }
 
@@ -95,20 +105,21 @@ impl Node {
         Ok(self.segment.front(station))
     }
 
-    /// The frame that `front` answered was put on the bus.
+    /// The frame that `front` answered was put on the bus. The station doesn't look at its own frames, and passes it by.
     ///
     /// Refused as `FrameWaits` where one that was fed waits to be looked at, as `NothingToSend` where the transmit queue is empty,
     /// and else as `OutOfMemory` where memory is refused: the call is to be made again then, since the frame isn't to be put twice.
-    pub fn sent(&mut self) -> Result<(), NodeError>
+    pub fn sent(&mut self) -> Result<Fed, NodeError>
         ensures { IsSent self.old self.new result }
     {
         if let Some(error) = self.sent_refusal() {
             return Err(error);
         }
         let station = self.address;
-        self.make(Call::Transmit { station })?;
-        let _passed = self.settle();
-        Ok(())
+        if let Err(error) = self.make(Call::Transmit { station }) {
+            return Err(error);
+        }
+        Ok(self.look())
     }
 
     // Why no frame was put.

@@ -1,0 +1,56 @@
+-- Calls that a node made.
+use Rattle.std.proofs.Common.{◌≡◌, true, List, [], ◌∷◌, ◌++◌, Err, refl, sym, ap, ◌∙◌, subst, append_assoc}
+use Rattle.std.proofs.lemmas.List.{append-nil}
+use Rattle.pgn_ids.specs.declared.address.Address.{Address}
+use Rattle.message_events.specs.declared.event.Event.{Event}
+use Rattle.segment_law.specs.Segment.{Segment}
+use Rattle.segment_law.specs.Calls.{is_call, called, replied, applied, events_of}
+use Rattle.segment_law.specs.Record.{Step, Record, StandsAt}
+use Rattle.segment_law.specs.declared.call.Call.{Call}
+use Rattle.segment_law.specs.declared.refusal.Refusal.{Refusal}
+use Rattle.segment_law.specs.declared.reply.Reply.{Reply}
+use Rattle.segment_law.specs.declared.reply.Reply.TheVariants.{Refused}
+use Rattle.segment_core.proofs.Records.{refused_stands}
+use Rattle.one_station.specs.Node.{Node, makes, makes_all, answered, GoesOn, Did}
+
+-- one call, as the segment answered it
+pub did_one : (before after : Node) (call : Call) (seg : Segment) (reply : Reply) → applied before.segment call ≡ (seg, reply)
+    → after ≡ record before { segment = seg; events = before.events ++ events_of reply }
+    → ((addresses : List Address) (steps : Record) → StandsAt addresses steps before.segment → StandsAt addresses (steps ++ (call, reply) ∷ []) seg)
+    → Did before (call ∷ []) after
+did_one before after call seg reply says is stands = record {
+  node = is ∙ (λ k. record before { segment = (sym says k).0; events = before.events ++ events_of (sym says k).1 });
+  stands = λ addresses steps h.
+      let segment : seg ≡ after.segment = sym (ap (λ (n : Node). n.segment) is) in
+      let P : Segment × Reply → Type 0 = λ p. StandsAt addresses (steps ++ (call, p.1) ∷ []) p.0 in
+      let k : StandsAt addresses (steps ++ (call, (applied before.segment call).1) ∷ []) (applied before.segment call).0 = subst P (sym says) (stands addresses steps h) in
+      let ends : (applied before.segment call).0 ≡ after.segment = ap (λ p. p.0) says ∙ segment in
+      subst (StandsAt addresses (steps ++ (call, (applied before.segment call).1) ∷ [])) ends k;
+}
+
+-- a call that is refused, and changed nothing
+pub did_refused : (before after : Node) (call : Call) (cause : Refusal) → is_call call ≡ true → called before.segment call ≡ Err cause → after ≡ before → Did before (call ∷ []) after
+did_refused before after call cause fit says same =
+    let none : before ≡ record before { segment = before.segment; events = before.events ++ [] } = λ k. record before { events = sym (append-nil before.events) k } in
+    did_one before after call before.segment (Refused cause) (ap (replied before.segment) says) (same ∙ none)
+    (refused_stands before.segment before.segment call cause fit says refl)
+
+-- a call after another
+pub did_then : (a b c : Node) (first second : Call) → Did a (first ∷ []) b → Did b (second ∷ []) c → Did a (first ∷ second ∷ []) c
+did_then a b c first second h k = record {
+  node = k.node ∙ ap (λ (n : Node). makes n second) h.node;
+  stands = λ addresses steps at.
+      let x : Step = (first, (applied a.segment first).1) in
+      let mid : b.segment ≡ (applied a.segment first).0 = ap (λ (n : Node). n.segment) h.node in
+      let later : StandsAt addresses ((steps ++ x ∷ []) ++ (second, (applied b.segment second).1) ∷ []) c.segment = k.stands addresses (steps ++ x ∷ []) (h.stands addresses steps at) in
+      let there : StandsAt addresses ((steps ++ x ∷ []) ++ (second, (applied (applied a.segment first).0 second).1) ∷ []) c.segment =
+          subst (λ (s : Segment). StandsAt addresses ((steps ++ x ∷ []) ++ (second, (applied s second).1) ∷ []) c.segment) mid later in
+      subst (λ (r : Record). StandsAt addresses r c.segment) (append_assoc steps (x ∷ []) ((second, (applied (applied a.segment first).0 second).1) ∷ [])) there;
+}
+
+-- no call
+pub did_none : (node : Node) → Did node [] node
+did_none node = record {
+  node = refl;
+  stands = λ addresses steps h. subst (λ (r : Record). StandsAt addresses r node.segment) (sym (append-nil steps)) h;
+}
