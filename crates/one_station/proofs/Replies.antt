@@ -55,12 +55,12 @@ each_fits : (seg : Segment) → Accepted seg FitsStep
 each_fits seg = record {
   station = λ i st there. record {
     opens = λ a pgn max_len here. tt;
-    closes = λ port here open. tt;
+    closes = λ port here there. tt;
     sends = λ from to pgn bytes here other long short. tt;
     pumps = λ a to here. tt;
     transmits = λ a f here front free. tt;
     takes = λ a room f here next place. tt;
-    repeats = λ a room f here again place. tt;
+    repeats = λ a room f here last place. tt;
     overruns = λ a n here few. tt;
     fires = λ a here. tt;
     cancels = λ from to number here pending. tt;
@@ -121,8 +121,8 @@ passed seg call after reply e fits = by (called seg call) e
 
 -- and its reply fits it
 pub fits : (seg : Segment) (call : Call) (after : Segment) (reply : Reply) → applied seg call ≡ (after, reply) → IsNoRefusal reply → Fits call reply
-fits seg call after reply e no = by (called seg call) refl e
+fits seg call after reply e other = by (called seg call) refl e
   where
     by : (x : Answer) → called seg call ≡ x → replied seg x ≡ (after, reply) → Fits call reply
-    by (Err cause) is e = absurd (subst IsNoRefusal (sym (ap (λ p. p.1) e)) no)
+    by (Err cause) is e = absurd (subst IsNoRefusal (sym (ap (λ p. p.1) e)) other)
     by (Ok step) is e = subst (Fits call) (ap (λ p. p.1) e) (reply_fits seg call step is)

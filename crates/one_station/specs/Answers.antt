@@ -35,10 +35,10 @@ IsAnswered before call after (Err error) = IsStopped (called before.segment call
 
 -- Several calls
 
--- why they aren't made, where nothing but memory may be missing otherwise
-abbrev pub IsUndone : (before : Node) → Option NodeError → (after : Node) → NodeError → Type 0
-IsUndone before cause after OutOfMemory = (cause ≡ None) × (after ≡ before)
-IsUndone before cause after error = (cause ≡ Some error) × (after ≡ before)
+-- none of them was made: for this cause; or, where there is no cause, for want of memory
+abbrev pub IsUndone : Option NodeError → (before after : Node) → NodeError → Type 0
+IsUndone (Some cause) before after error = (error ≡ cause) × (after ≡ before)
+IsUndone None before after error = (error ≡ OutOfMemory) × (after ≡ before)
 
 abbrev pub as_error : Option Refusal → Option NodeError
 as_error cause = option_map (λ refusal. Refused refusal) cause
@@ -82,7 +82,7 @@ DidAndLooked before call after Waits = Did before (call ∷ []) after × IsOk (c
 -- the frame comes on the inner bus, and the station takes it
 abbrev pub IsFed : (before : Node) → CanFrame → (after : Node) → Result Fed NodeError → Type 0
 IsFed before frame after (Ok fed) = (feed_refusal before frame ≡ None) × DidAndLooked before (Inject frame) after fed
-IsFed before frame after (Err error) = IsUndone before (feed_refusal before frame) after error
+IsFed before frame after (Err error) = IsUndone (feed_refusal before frame) before after error
 
 -- Frames for the bus
 
@@ -103,4 +103,4 @@ sent_refusal node =
 -- the frame leaves the queue for the inner bus, where the station passes it by
 abbrev pub IsSent : (before after : Node) → Result Fed NodeError → Type 0
 IsSent before after (Ok fed) = (sent_refusal before ≡ None) × DidAndLooked before (Transmit before.address) after fed
-IsSent before after (Err error) = IsUndone before (sent_refusal before) after error
+IsSent before after (Err error) = IsUndone (sent_refusal before) before after error

@@ -36,13 +36,16 @@ impl Node {
     }
 
     // The station takes the next frame, where memory is there for it.
+    #[tactic(auto, using(crate::proofs::Made::did_refused))]
     fn look(&mut self) -> Fed
         ensures { HasLooked self.old self.new result }
     {
         match self.settle() {
             Ok(()) => Fed::Taken,
             Err(NodeError::OutOfMemory) => Fed::Waits,
-            Err(_) => Fed::Taken,
+            Err(NodeError::Refused(_)) => Fed::Taken,
+            Err(NodeError::FrameWaits) => Fed::Taken,
+            Err(NodeError::ClockPassed) => Fed::Taken,
         }
     }
 

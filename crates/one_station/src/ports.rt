@@ -28,7 +28,9 @@ impl Node {
         match self.segment.apply(open) {
             Ok(Reply::Opened(port)) => Ok(port),
             Ok(Reply::Refused(cause)) => Err(NodeError::Refused(cause)),
-            _ => Err(NodeError::OutOfMemory),
+            Ok(Reply::Sent(_)) => unreachable!(),
+            Ok(Reply::Done(_)) => unreachable!(),
+            Err(_) => Err(NodeError::OutOfMemory),
         }
     }
 
@@ -68,7 +70,9 @@ impl Node {
         match self.segment.apply(send) {
             Ok(Reply::Sent(number)) => Ok(number),
             Ok(Reply::Refused(cause)) => Err(NodeError::Refused(cause)),
-            _ => Err(NodeError::OutOfMemory),
+            Ok(Reply::Opened(_)) => unreachable!(),
+            Ok(Reply::Done(_)) => unreachable!(),
+            Err(_) => Err(NodeError::OutOfMemory),
         }
     }
 
