@@ -49,10 +49,12 @@ pub(crate) fn close(node: &mut Node, port: PortId) -> Result<(), NodeError> {
     }
 }
 
-pub(crate) fn send(node: &mut Node, to: Address, bytes: &[u8]) -> Result<u64, NodeError> {
-    let Ok(pgn) = pgn() else {
-        return Err(NodeError::OutOfMemory);
-    };
+pub(crate) fn send(
+    node: &mut Node,
+    to: Address,
+    pgn: Pgn,
+    bytes: &[u8],
+) -> Result<u64, NodeError> {
     match node.send(to, pgn, bytes) {
         Err(NodeError::OutOfMemory) => node.send(to, pgn, bytes),
         sent => sent,
@@ -166,7 +168,7 @@ pub(crate) fn gives(rt: &impl Abort, node: &mut Node, expected: &[u8]) -> Result
     assert_eq!(rt; room, [0xAA; 12]);
     assert_eq!(rt; node.take_bytes(&mut room), Ok(len));
     assert_eq!(rt; &room[..9], expected);
-    assert_eq!(rt; &room[9..], &[0xAA; 3]);
+    assert_eq!(rt; &room[9..], [0xAA; 3].as_slice());
     Ok(())
 }
 

@@ -31,7 +31,7 @@ const ABORT: Shown = (0x1CEC_3521, [0xFF, 3, 0xFF, 0xFF, 0xFF, 0xCA, 0xFE, 0]);
 // Port 35.1 is open, and 21 sends message 1 of nine bytes.
 fn begins(rt: &impl Abort, a: &mut Node, b: &mut Node, to: Address) -> Result<(), Fail> {
     assert_eq!(rt; open(b, 9)?, PORT);
-    assert_eq!(rt; send(a, to, &NINE), Ok(1));
+    assert_eq!(rt; send(a, to, pgn()?, &NINE), Ok(1));
     Ok(())
 }
 

@@ -22,8 +22,8 @@ fn refuses(rt: &impl Abort, a: &mut Node) -> Result<(), Fail> {
     assert_eq!(rt; settle(a), refused(Refusal::NothingToTake));
     assert_eq!(rt; front(a), Ok(None));
     assert_eq!(rt; sent(a), refused(Refusal::NothingToSend));
-    assert_eq!(rt; send(a, A, &NINE), refused(Refusal::SameStation));
-    assert_eq!(rt; send(a, B, &NINE[..8]), refused(Refusal::TooShort));
+    assert_eq!(rt; send(a, A, pgn()?, &NINE), refused(Refusal::SameStation));
+    assert_eq!(rt; send(a, B, pgn()?, &NINE[..8]), refused(Refusal::TooShort));
     assert_eq!(rt; close(a, PORT), refused(Refusal::NoSuchStation));
     assert_eq!(rt; clock(a, 7), Ok(()));
     assert_eq!(rt; clock(a, 6), Err(NodeError::ClockPassed));
@@ -48,7 +48,7 @@ fn no_address_of_a_node(rt: HostRuntime) {
 
 // A message is cancelled, and then there is none any more.
 fn cancels(rt: &impl Abort, a: &mut Node) -> Result<(), Fail> {
-    assert_eq!(rt; send(a, B, &NINE), Ok(1));
+    assert_eq!(rt; send(a, B, pgn()?, &NINE), Ok(1));
     assert_eq!(rt; cancel(a, B, 1), Ok(()));
     assert_eq!(rt; cancel(a, B, 1), refused(Refusal::NothingToSend));
     ends(rt, a, B, 1, Outcome::Cancelled);
