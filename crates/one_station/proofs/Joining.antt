@@ -1,5 +1,5 @@
 -- The events of one more part.
-use Rattle.std.proofs.Common.{◌≡◌, List, [], ◌∷◌, ◌++◌, refl, sym, ap, ◌∙◌, append_assoc}
+use Rattle.std.proofs.Common.{◌≡◌, List, [], ◌∷◌, ◌++◌, sym, ap, ◌∙◌, append_assoc}
 use Rattle.std.proofs.lemmas.List.{append-nil}
 use Rattle.message_events.specs.declared.event.Event.{Event}
 use Rattle.one_station.specs.declared.told.Part.{Part}

@@ -1,21 +1,17 @@
 -- Calls that a node made.
-use Rattle.std.proofs.Common.{◌≡◌, true, IsOk, List, [], ◌∷◌, ◌++◌, Err, refl, sym, ap, ◌∙◌, subst, append_assoc}
+use Rattle.std.proofs.Common.{◌≡◌, true, List, [], ◌∷◌, ◌++◌, Err, refl, sym, ap, ◌∙◌, subst}
 use Rattle.std.proofs.lemmas.List.{append-nil}
 use Rattle.pgn_ids.specs.declared.address.Address.{Address}
 use Rattle.message_events.specs.declared.event.Event.{Event}
 use Rattle.segment_law.specs.Segment.{Segment}
 use Rattle.segment_law.specs.Calls.{is_call, called, replied, applied, events_of}
-use Rattle.segment_law.specs.Record.{Step, Record, StandsAt}
+use Rattle.segment_law.specs.Record.{Record, StandsAt}
 use Rattle.segment_law.specs.declared.call.Call.{Call}
-use Rattle.segment_law.specs.declared.call.Call.TheVariants.{Take}
 use Rattle.segment_law.specs.declared.refusal.Refusal.{Refusal}
 use Rattle.segment_law.specs.declared.reply.Reply.{Reply}
 use Rattle.segment_law.specs.declared.reply.Reply.TheVariants.{Refused}
 use Rattle.segment_core.proofs.Records.{refused_stands}
-use Rattle.one_station.specs.Node.{Node, makes, makes_all, answered, GoesOn, Did}
-use Rattle.one_station.specs.declared.error.Fed.{Fed}
-use Rattle.one_station.specs.declared.error.Fed.TheVariants.{Taken, Waits}
-use Rattle.one_station.specs.Answers.{looks, HasLooked, DidAndLooked}
+use Rattle.one_station.specs.Node.{Node, Did}
 use Rattle.one_station.proofs.Replies.{refused_for}
 
 abbrev pub node_of : Segment → Address → List Event → Node
@@ -43,26 +39,6 @@ did_refused before after call cause fit says same =
     did_one before after call before.segment (Refused cause) (ap (replied before.segment) says) (same ∙ none)
     (refused_stands before.segment before.segment call cause fit says refl)
 
--- a call after another
-pub did_then : (a b c : Node) (first second : Call) → Did a (first ∷ []) b → Did b (second ∷ []) c → Did a (first ∷ second ∷ []) c
-did_then a b c first second h k = record {
-  node = k.node ∙ ap (λ (n : Node). makes n second) h.node;
-  stands = λ addresses steps at.
-      let x : Step = (first, (applied a.segment first).1) in
-      let mid : b.segment ≡ (applied a.segment first).0 = ap (λ (n : Node). n.segment) h.node in
-      let later : StandsAt addresses ((steps ++ x ∷ []) ++ (second, (applied b.segment second).1) ∷ []) c.segment = k.stands addresses (steps ++ x ∷ []) (h.stands addresses steps at) in
-      let there : StandsAt addresses ((steps ++ x ∷ []) ++ (second, (applied (applied a.segment first).0 second).1) ∷ []) c.segment =
-          subst (λ (s : Segment). StandsAt addresses ((steps ++ x ∷ []) ++ (second, (applied s second).1) ∷ []) c.segment) mid later in
-      subst (λ (r : Record). StandsAt addresses r c.segment) (append_assoc steps (x ∷ []) ((second, (applied (applied a.segment first).0 second).1) ∷ [])) there;
-}
-
--- no call
-pub did_none : (node : Node) → Did node [] node
-did_none node = record {
-  node = refl;
-  stands = λ addresses steps h. subst (λ (r : Record). StandsAt addresses r node.segment) (sym (append-nil steps)) h;
-}
-
 -- a call that the segment refused
 pub make_refused : (now : Node) (segment new : Segment) (address : Address) (events told : List Event) (call : Address → Call) (reply : Reply) (cause : Refusal)
     → node_of segment address events ≡ now → told ≡ events → applied segment (call address) ≡ (new, reply) → reply ≡ Refused cause
@@ -71,15 +47,3 @@ make_refused now segment new address events told call reply cause view same says
     let r : (called segment (call address) ≡ Err cause) × (new ≡ segment) = refused_for segment (call address) new cause (says ∙ ap (λ (x : Reply). (new, x)) is) in
     let P : Node → Type 0 = λ n. (called n.segment (call n.address) ≡ Err cause) × (node_of new address told ≡ n) in
     subst P view (r.0, λ k. node_of (r.1 k) address (same k))
-
--- a call, and a look at what it put
-pub did_and_looked : (a b c : Node) (call : Call) (fed : Fed) → Did a (call ∷ []) b → HasLooked b c fed → b.address ≡ a.address → DidAndLooked a call c fed
-did_and_looked a b c call Taken h k same = did_then a b c call (looks a) h (subst (λ (x : Address). Did b (Take x true ∷ []) c) same k)
-did_and_looked a b c call Waits h k same =
-    let there : c.segment ≡ b.segment = ap (λ (n : Node). n.segment) k.1 in
-    let looked : IsOk (called b.segment (Take a.address true)) = subst (λ (x : Address). IsOk (called b.segment (Take x true))) same k.0 in
-    (subst (Did a (call ∷ [])) (sym k.1) h, subst (λ (s : Segment). IsOk (called s (Take a.address true))) (sym there) looked)
-
--- the address stays
-pub did_keeps : (a b : Node) (call : Call) → Did a (call ∷ []) b → b.address ≡ a.address
-did_keeps a b call h = ap (λ (n : Node). n.address) h.node

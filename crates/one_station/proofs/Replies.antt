@@ -1,9 +1,5 @@
 -- What a call is answered where it isn't refused.
-use Rattle.std.proofs.Common.{◌≡◌, ℕ, List, Some, Ok, Err, IsOk, refl, sym, ap, ◌∙◌, subst}
-use Rattle.std.specs.Prelude.{slice_get}
-use Rattle.port_table.specs.declared.port.PortId.{PortId}
-use Rattle.message_events.specs.declared.event.Event.{Event}
-use Rattle.station_core.specs.Station.{Station}
+use Rattle.std.proofs.Common.{◌≡◌, Ok, Err, IsOk, refl, sym, ap, ◌∙◌, subst}
 use Rattle.segment_law.specs.Segment.{Segment}
 use Rattle.segment_law.specs.Calls.{Answer, called, replied, applied}
 use Rattle.segment_law.specs.declared.call.Call.{Call}
@@ -11,7 +7,7 @@ use Rattle.segment_law.specs.declared.call.Call.TheVariants.{Open, Close, Send, 
 use Rattle.segment_law.specs.declared.refusal.Refusal.{Refusal}
 use Rattle.segment_law.specs.declared.reply.Reply.{Reply}
 use Rattle.segment_law.specs.declared.reply.Reply.TheVariants.{Opened, Sent, Refused, Done}
-use Rattle.record_lemmas.proofs.EachCall.{Holds, OfStation, Accepted, each_called}
+use Rattle.record_lemmas.proofs.EachCall.{Holds, Accepted, each_called}
 
 -- the name of a port, the number of a message, or events
 abbrev pub IsPort : Reply → Type 0

@@ -1,5 +1,5 @@
 -- Events that are taken.
-use Rattle.std.specs.Prelude.{◌≡◌, ℕ, ◌<◌, ◌≤◌, List, [], ◌++◌, length, drop, Option, Some, None, slice_get, Result, Ok, Err}
+use Rattle.std.specs.Prelude.{◌≡◌, ℕ, ◌<◌, List, [], ◌++◌, length, drop, Option, Some, None, slice_get, Result, Ok, Err}
 use Rattle.message_events.specs.declared.event.Event.{Event}
 use Rattle.message_events.specs.declared.event.Event.TheVariants.{Given, Outcome}
 use Rattle.one_station.specs.declared.error.TakeError.{TakeError}

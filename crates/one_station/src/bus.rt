@@ -1,9 +1,6 @@
 //! Frames from the bus and for the bus.
 ghost use Rattle.std.specs.Prelude.{◌≡◌, IfOk, OnOk, OnErr};
 ghost use Rattle.segment_law.specs.Readers.{front_at};
-ghost use Rattle.segment_core.specs.Answers.{refusal_of};
-ghost use Rattle.segment_law.specs.Calls.{called};
-ghost use Rattle.segment_law.specs.declared.call.Call.TheVariants.{Transmit};
 ghost use Rattle.one_station.specs.Node.{Did};
 ghost use Rattle.one_station.specs.Answers.{IsAnswered, IsFed, IsSent, HasLooked, looks, is_waiting, feed_refusal, sent_refusal, front_calls};
 

@@ -1,5 +1,5 @@
 //! What was told: a message that is given at a port, or the outcome of one that was sent.
-ghost use Rattle.std.specs.Prelude.{◌≡◌, ◌++◌, drop, length, slice_get, option_copied, IfOk};
+ghost use Rattle.std.specs.Prelude.{◌≡◌, drop, slice_get, option_copied};
 ghost use Rattle.one_station.specs.Events.{IsTaken, IsCopied, event_bytes};
 
 use crate::error::TakeError;

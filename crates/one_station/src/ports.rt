@@ -1,5 +1,5 @@
 //! Ports, and messages that are sent.
-ghost use Rattle.std.specs.Prelude.{◌≡◌, length, IfOk};
+ghost use Rattle.std.specs.Prelude.{◌≡◌, IfOk};
 ghost use Rattle.segment_law.specs.Calls.{applied};
 ghost use Rattle.segment_law.specs.declared.call.Call.TheVariants.{Open, Close, Send, Cancel};
 ghost use Rattle.segment_law.specs.declared.reply.Reply.TheVariants.{Opened, Sent};

@@ -49,12 +49,7 @@ pub(crate) fn close(node: &mut Node, port: PortId) -> Result<(), NodeError> {
     }
 }
 
-pub(crate) fn send(
-    node: &mut Node,
-    to: Address,
-    pgn: Pgn,
-    bytes: &[u8],
-) -> Result<u64, NodeError> {
+pub(crate) fn send(node: &mut Node, to: Address, pgn: Pgn, bytes: &[u8]) -> Result<u64, NodeError> {
     match node.send(to, pgn, bytes) {
         Err(NodeError::OutOfMemory) => node.send(to, pgn, bytes),
         sent => sent,
@@ -144,12 +139,14 @@ pub(crate) fn ends(
     expected: Outcome,
 ) {
     match node.take_event() {
-        Some(Event::Outcome {
-            to,
-            number,
-            outcome,
-            ..
-        }) => {
+        Some(
+            Event::Outcome {
+                to,
+                number,
+                outcome,
+                ..
+            },
+        ) => {
             assert_eq!(rt; to, destination);
             assert_eq!(rt; number, message);
             assert_eq!(rt; outcome, expected);
@@ -175,12 +172,14 @@ pub(crate) fn gives(rt: &impl Abort, node: &mut Node, expected: &[u8]) -> Result
 // The port and the source of the message that is told next, and how many bytes it has.
 fn given_len(node: &Node) -> Option<(PortId, Address, usize)> {
     match node.next_event() {
-        Some(Event::Given {
-            port,
-            from,
-            bytes,
-            ..
-        }) => Some((*port, *from, bytes.len())),
+        Some(
+            Event::Given {
+                port,
+                from,
+                bytes,
+                ..
+            },
+        ) => Some((*port, *from, bytes.len())),
         _ => None,
     }
 }

@@ -1,4 +1,3 @@
-use Rattle.std.proofs.Common.{◌≡◌}
 use Rattle.one_station.specs.Told.{told_events}
 use Rattle.one_station.proofs.Made.{make_refused}
 use Rattle.one_station.proofs.node.Node.make.Goals as goal
