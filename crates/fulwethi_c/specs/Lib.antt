@@ -1,3 +1,0 @@
-pub mod Held
-pub mod Codes
-pub mod Calls
