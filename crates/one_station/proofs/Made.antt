@@ -1,0 +1,49 @@
+-- Calls that a node made.
+use Rattle.std.proofs.Common.{◌≡◌, true, List, [], ◌∷◌, ◌++◌, Err, refl, sym, ap, ◌∙◌, subst}
+use Rattle.std.proofs.lemmas.List.{append-nil}
+use Rattle.pgn_ids.specs.declared.address.Address.{Address}
+use Rattle.message_events.specs.declared.event.Event.{Event}
+use Rattle.segment_law.specs.Segment.{Segment}
+use Rattle.segment_law.specs.Calls.{is_call, called, replied, applied, events_of}
+use Rattle.segment_law.specs.Record.{Record, StandsAt}
+use Rattle.segment_law.specs.declared.call.Call.{Call}
+use Rattle.segment_law.specs.declared.refusal.Refusal.{Refusal}
+use Rattle.segment_law.specs.declared.reply.Reply.{Reply}
+use Rattle.segment_law.specs.declared.reply.Reply.TheVariants.{Refused}
+use Rattle.segment_core.proofs.Records.{refused_stands}
+use Rattle.one_station.specs.Node.{Node, Did}
+use Rattle.one_station.proofs.Replies.{refused_for}
+
+abbrev pub node_of : Segment → Address → List Event → Node
+node_of segment address events = record { segment = segment; address = address; events = events }
+
+-- one call, as the segment answered it
+pub did_one : (before after : Node) (call : Call) (seg : Segment) (reply : Reply) → applied before.segment call ≡ (seg, reply)
+    → after ≡ record before { segment = seg; events = before.events ++ events_of reply }
+    → ((addresses : List Address) (steps : Record) → StandsAt addresses steps before.segment → StandsAt addresses (steps ++ (call, reply) ∷ []) seg)
+    → Did before (call ∷ []) after
+did_one before after call seg reply says is stands = record {
+  node = is ∙ (λ k. record before { segment = (sym says k).0; events = before.events ++ events_of (sym says k).1 });
+  stands = λ addresses steps h.
+      let segment : seg ≡ after.segment = sym (ap (λ (n : Node). n.segment) is) in
+      let P : Segment × Reply → Type 0 = λ p. StandsAt addresses (steps ++ (call, p.1) ∷ []) p.0 in
+      let k : StandsAt addresses (steps ++ (call, (applied before.segment call).1) ∷ []) (applied before.segment call).0 = subst P (sym says) (stands addresses steps h) in
+      let ends : (applied before.segment call).0 ≡ after.segment = ap (λ p. p.0) says ∙ segment in
+      subst (StandsAt addresses (steps ++ (call, (applied before.segment call).1) ∷ [])) ends k;
+}
+
+-- a call that is refused, and changed nothing
+pub did_refused : (before after : Node) (call : Call) (cause : Refusal) → is_call call ≡ true → called before.segment call ≡ Err cause → after ≡ before → Did before (call ∷ []) after
+did_refused before after call cause fit says same =
+    let none : before ≡ record before { segment = before.segment; events = before.events ++ [] } = λ k. record before { events = sym (append-nil before.events) k } in
+    did_one before after call before.segment (Refused cause) (ap (replied before.segment) says) (same ∙ none)
+    (refused_stands before.segment before.segment call cause fit says refl)
+
+-- a call that the segment refused
+pub make_refused : (now : Node) (segment new : Segment) (address : Address) (events told : List Event) (call : Address → Call) (reply : Reply) (cause : Refusal)
+    → node_of segment address events ≡ now → told ≡ events → applied segment (call address) ≡ (new, reply) → reply ≡ Refused cause
+    → (called now.segment (call now.address) ≡ Err cause) × (node_of new address told ≡ now)
+make_refused now segment new address events told call reply cause view same says is =
+    let r : (called segment (call address) ≡ Err cause) × (new ≡ segment) = refused_for segment (call address) new cause (says ∙ ap (λ (x : Reply). (new, x)) is) in
+    let P : Node → Type 0 = λ n. (called n.segment (call n.address) ≡ Err cause) × (node_of new address told ≡ n) in
+    subst P view (r.0, λ k. node_of (r.1 k) address (same k))

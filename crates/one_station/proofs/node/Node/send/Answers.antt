@@ -1,0 +1,25 @@
+use Rattle.std.proofs.Common.{◌≡◌, ℕ, List, refl, sym, ap, ◌∙◌}
+use Rattle.segment_law.specs.Calls.{applied}
+use Rattle.segment_law.specs.declared.call.Call.TheVariants.{Send}
+use Rattle.segment_law.specs.declared.reply.Reply.TheVariants.{Opened, Done}
+use Rattle.one_station.specs.Told.{told_events}
+use Rattle.one_station.proofs.Made.{make_refused}
+use Rattle.one_station.proofs.Replies.{fits}
+use Rattle.one_station.proofs.node.Node.send.Goals as goal
+
+pub returns-in-Ok-Refused-clause-answered : goal.returns-in-Ok-Refused-clause-answered
+returns-in-Ok-Refused-clause-answered c =
+    let bytes : c.new.result ≡ c.args.bytes.now = c.new.ensures ∙ c.in-Ok.ensures.items in
+    make_refused c.args.self.now c.self.inside.segment c.apply.new.self c.self.inside.address (told_events c.self.inside.told) (told_events c.self.inside.told)
+    (λ a. Send a c.args.to c.args.pgn c.args.bytes.now) c.in-Ok-Refused.field-0 c.in-Ok-Refused.cause c.self.view_is refl
+    (ap (λ (b : List ℕ). applied c.self.inside.segment (Send c.self.inside.address c.args.to c.args.pgn b)) (sym bytes) ∙ c.in-Ok-Refused.ensures.ok) c.in-Ok-Refused.field-0-is
+
+pub unreachable-requires : goal.unreachable-requires
+unreachable-requires c =
+    fits c.self.inside.segment (Send c.self.inside.address c.args.to c.args.pgn c.new.result) c.apply.new.self (Opened c.in-Ok-Opened.field-0-0)
+    (c.in-Ok-Opened.ensures.ok ∙ ap (λ r. (c.apply.new.self, r)) c.in-Ok-Opened.field-0-is) tt
+
+pub unreachable-requires-in-Ok-Done : goal.unreachable-requires-in-Ok-Done
+unreachable-requires-in-Ok-Done c =
+    fits c.self.inside.segment (Send c.self.inside.address c.args.to c.args.pgn c.new.result) c.apply.new.self (Done c.in-Ok-Done.field-0-0)
+    (c.in-Ok-Done.ensures.ok ∙ ap (λ r. (c.apply.new.self, r)) c.in-Ok-Done.field-0-is) tt

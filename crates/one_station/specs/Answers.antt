@@ -1,0 +1,106 @@
+-- How a node answers.
+use Rattle.std.specs.Prelude.{◌≡◌, Bool, true, nat_lt, nat_le, ◌==◌, if◌then◌else◌, List, [], ◌∷◌, Option, Some, None, Result, Ok, Err, IsOk}
+use Rattle.std.specs.Option.{option_map}
+use Rattle.bus_frame.specs.Frames.{CanFrame}
+use Rattle.pgn_ids.specs.Identifier.{meaning_of}
+use Rattle.pgn_ids.specs.declared.address.Address.{Address}
+use Rattle.tx_queue.specs.Queue.{queue_limit}
+use Rattle.segment_law.specs.Segment.{waiting_at}
+use Rattle.segment_law.specs.Calls.{Answer, called}
+use Rattle.segment_law.specs.Readers.{queue_len, front_at, next_pump}
+use Rattle.segment_law.specs.declared.call.Call.{Call}
+use Rattle.segment_law.specs.declared.call.Call.TheVariants.{Pump, Transmit, Take, Inject}
+use Rattle.segment_law.specs.declared.refusal.Refusal.{Refusal}
+use Rattle.segment_law.specs.declared.refusal.Refusal.TheVariants as refusal
+use Rattle.segment_core.specs.Answers.{refusal_of}
+use Rattle.one_station.specs.Node.{Node, Did}
+use Rattle.one_station.specs.declared.error.NodeError.{NodeError}
+use Rattle.one_station.specs.declared.error.NodeError.TheVariants.{Refused, FrameWaits, ClockPassed, OutOfMemory}
+use Rattle.one_station.specs.declared.error.Fed.{Fed}
+use Rattle.one_station.specs.declared.error.Fed.TheVariants.{Taken, Waits}
+
+-- One call of the segment
+
+-- why it isn't made: it is refused for this cause; or, where it isn't refused, for want of memory
+abbrev pub IsStopped : Answer → NodeError → Type 0
+IsStopped answer (Refused cause) = answer ≡ Err cause
+IsStopped answer OutOfMemory = IsOk answer
+IsStopped answer FrameWaits = ⊥
+IsStopped answer ClockPassed = ⊥
+
+-- it was made; or it isn't, and nothing changed
+abbrev pub IsAnswered : {A : Type 0} → (before : Node) → Call → (after : Node) → Result A NodeError → Type 0
+IsAnswered before call after (Ok _) = IsOk (called before.segment call) × Did before (call ∷ []) after
+IsAnswered before call after (Err error) = IsStopped (called before.segment call) error × (after ≡ before)
+
+-- Several calls
+
+-- none of them was made: for this cause; or, where there is no cause, for want of memory
+abbrev pub IsUndone : Option NodeError → (before after : Node) → NodeError → Type 0
+IsUndone (Some cause) before after error = (error ≡ cause) × (after ≡ before)
+IsUndone None before after error = (error ≡ OutOfMemory) × (after ≡ before)
+
+abbrev pub as_error : Option Refusal → Option NodeError
+as_error cause = option_map (λ refusal. Refused refusal) cause
+
+-- a frame waits on the inner bus
+abbrev pub is_waiting : Node → Bool
+is_waiting node = nat_lt 0 (waiting_at node.segment node.address)
+
+-- the station takes the next frame of the inner bus
+abbrev pub looks : Node → Call
+looks node = Take node.address true
+
+-- that Take was made; or it isn't refused and found no memory, and the frame waits
+abbrev pub HasLooked : (before after : Node) → Fed → Type 0
+HasLooked before after Taken = Did before (looks before ∷ []) after
+HasLooked before after Waits = IsOk (called before.segment (looks before)) × (after ≡ before)
+
+-- Frames from the bus
+
+-- the frame has the station's own source address
+abbrev pub is_own : Node → CanFrame → Bool
+is_own node frame = (meaning_of frame.id).from.0 == node.address.0
+
+-- no place is free in the transmit queue
+abbrev pub is_queue_full : Node → Bool
+is_queue_full node = nat_le queue_limit (queue_len node.segment node.address)
+
+-- why a frame isn't fed: the first of its causes
+abbrev pub feed_refusal : Node → CanFrame → Option NodeError
+feed_refusal node frame =
+    if is_waiting node then Some FrameWaits
+    else if is_own node frame then Some (Refused refusal.StationAddress)
+    else if is_queue_full node then Some (Refused refusal.TxFull)
+    else as_error (refusal_of (called node.segment (Inject frame)))
+
+-- a call, and then the Take of the frame that it put; or that frame waits, where the Take found no memory
+abbrev pub DidAndLooked : (before : Node) → Call → (after : Node) → Fed → Type 0
+DidAndLooked before call after Taken = Did before (call ∷ looks before ∷ []) after
+DidAndLooked before call after Waits = Did before (call ∷ []) after × IsOk (called after.segment (looks before))
+
+-- the frame comes on the inner bus, and the station takes it
+abbrev pub IsFed : (before : Node) → CanFrame → (after : Node) → Result Fed NodeError → Type 0
+IsFed before frame after (Ok fed) = (feed_refusal before frame ≡ None) × DidAndLooked before (Inject frame) after fed
+IsFed before frame after (Err error) = IsUndone (feed_refusal before frame) before after error
+
+-- Frames for the bus
+
+-- the frame that is next: one of the queue, or what comes next in the lowest lane that has something to queue
+abbrev pub pump_for_front : Node → Option CanFrame → Option Address → List Call
+pump_for_front node (Some frame) to = []
+pump_for_front node None None = []
+pump_for_front node None (Some to) = Pump node.address to ∷ []
+
+abbrev pub front_calls : Node → List Call
+front_calls node = pump_for_front node (front_at node.segment node.address) (next_pump node.segment node.address)
+
+abbrev pub sent_refusal : Node → Option NodeError
+sent_refusal node =
+    if is_waiting node then Some FrameWaits
+    else as_error (refusal_of (called node.segment (Transmit node.address)))
+
+-- the frame leaves the queue for the inner bus, where the station passes it by
+abbrev pub IsSent : (before after : Node) → Result Fed NodeError → Type 0
+IsSent before after (Ok fed) = (sent_refusal before ≡ None) × DidAndLooked before (Transmit before.address) after fed
+IsSent before after (Err error) = IsUndone (sent_refusal before) before after error

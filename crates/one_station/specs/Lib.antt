@@ -1,0 +1,6 @@
+pub mod Told
+pub mod Node
+pub mod Answers
+pub mod Events
+pub mod NodeFields
+pub mod NodeCode

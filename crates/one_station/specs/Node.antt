@@ -1,0 +1,42 @@
+-- A node: one station, and what it told.
+use Rattle.std.specs.Prelude.{◌≡◌, List, [], ◌∷◌, ◌++◌}
+use Rattle.pgn_ids.specs.declared.address.Address.{Address}
+use Rattle.message_events.specs.declared.event.Event.{Event}
+use Rattle.segment_law.specs.Segment.{Segment, new_segment}
+use Rattle.segment_law.specs.Calls.{applied, events_of}
+use Rattle.segment_law.specs.Record.{Record, StandsAt}
+use Rattle.segment_law.specs.declared.call.Call.{Call}
+
+-- the segment that its station stands on alone, the station's address, and the events that were told and not taken
+pub record Node : Type 0 where
+  pub segment : Segment
+  pub address : Address
+  pub events : List Event
+
+-- nothing was done yet
+abbrev pub new_node : Address → Node
+new_node address = record { segment = new_segment (address ∷ []); address = address; events = [] }
+
+-- a call is made on the segment, and what it tells waits behind the rest
+abbrev pub makes : Node → Call → Node
+makes node call = record node { segment = (applied node.segment call).0; events = node.events ++ events_of (applied node.segment call).1 }
+
+-- calls, one after another
+abbrev pub makes_all : Node → List Call → Node
+makes_all node [] = node
+makes_all node (call ∷ calls) = makes_all (makes node call) calls
+
+-- calls with what each is answered
+abbrev pub answered : Segment → List Call → Record
+answered seg [] = []
+answered seg (call ∷ calls) = (call, (applied seg call).1) ∷ answered (applied seg call).0 calls
+
+-- whatever record the segment stood at, it stands at that record followed by these calls
+abbrev pub GoesOn : (before : Segment) → List Call → (after : Segment) → Type 0
+GoesOn before calls after =
+    (addresses : List Address) (steps : Record) → StandsAt addresses steps before → StandsAt addresses (steps ++ answered before calls) after
+
+-- exactly these calls were made
+pub record Did (before : Node) (calls : List Call) (after : Node) : Type 0 where
+  pub node : after ≡ makes_all before calls
+  pub stands : GoesOn before.segment calls after.segment

@@ -1,0 +1,138 @@
+//! Frames from the bus and for the bus.
+ghost use Rattle.std.specs.Prelude.{◌≡◌, IfOk, OnOk, OnErr};
+ghost use Rattle.segment_law.specs.Readers.{front_at};
+ghost use Rattle.one_station.specs.Node.{Did};
+ghost use Rattle.one_station.specs.Answers.{IsAnswered, IsFed, IsSent, HasLooked, looks, is_waiting, feed_refusal, sent_refusal, front_calls};
+
+use crate::error::{Fed, NodeError};
+use crate::node::Node;
+use bus_frame::Frame;
+use pgn_ids::read_id;
+use segment_core::{Call, Refusal};
+
+/// How many frames the transmit queue holds.
+const QUEUE_LIMIT: usize = 64;
+
+impl Node {
+    /// A frame of another node comes from the bus.
+    ///
+    /// Refused as `FrameWaits` where an earlier one waits to be looked at, as `StationAddress` where the frame has the node's own
+    /// source address, as `TxFull` where the transmit queue has no place for an answer, and else as `OutOfMemory` where memory is
+    /// refused: the frame can be fed again later, and no other before it. With `Fed::Waits` the node has it, and `settle` is to
+    /// follow.
+    pub fn feed(&mut self, frame: Frame) -> Result<Fed, NodeError>
+        ensures { IsFed self.old frame self.new result }
+    {
+        if let Some(error) = self.feed_refusal(&frame) {
+            return Err(error);
+        }
+        if let Err(error) = self.make(Call::Inject { frame }) {
+            return Err(error);
+        }
+        Ok(self.look())
+    }
+
+    // The station takes the next frame, where memory is there for it.
+    #[tactic(auto, using(crate::proofs::Made::did_refused))]
+    fn look(&mut self) -> Fed
+        ensures { HasLooked self.old self.new result }
+    {
+        match self.settle() {
+            Ok(()) => Fed::Taken,
+            Err(NodeError::OutOfMemory) => Fed::Waits,
+            Err(NodeError::Refused(_)) => Fed::Taken,
+            Err(NodeError::FrameWaits) => Fed::Taken,
+            Err(NodeError::ClockPassed) => Fed::Taken,
+        }
+    }
+
+    /// Looks at the frame that waits, since there was no memory for it when it was fed.
+    ///
+    /// Refused as `NothingToTake` where none waits, as `TxFull` where the transmit queue has no place for an answer, and else as
+    /// `OutOfMemory` where memory is refused.
+    pub fn settle(&mut self) -> Result<(), NodeError>
+        ensures { IsAnswered self.old (looks self.old) self.new result }
+    {
+        let station = self.address;
+        self.make(Call::Take {
+            station,
+            room: true,
+        })
+    }
+
+    // Why a frame isn't fed.
+    fn feed_refusal(&self, frame: &Frame) -> Option<NodeError>
+        ensures { result ≡ feed_refusal self.now frame.now }
+    {
+        if self.is_waiting() {
+            return Some(NodeError::FrameWaits);
+        }
+        if read_id(frame.id()).from.0 == self.address.0 {
+            return Some(NodeError::Refused(Refusal::StationAddress));
+        }
+        if self.segment.queue_len(self.address) >= QUEUE_LIMIT {
+            return Some(NodeError::Refused(Refusal::TxFull));
+        }
+        match self.segment.refusal(&Call::Inject { frame: *frame }) {
+            None => None,
+            Some(cause) => Some(NodeError::Refused(cause)),
+        }
+    }
+
+    // Whether a frame waits to be looked at.
+    fn is_waiting(&self) -> bool
+        ensures { result ≡ is_waiting self.now }
+    {
+        self.segment.waiting(self.address) > 0
+    }
+
+    /// The frame that is next for the bus, or none where there is nothing to put now. It stays the next until `sent` says that it
+    /// was put. Where the transmit queue is empty, what comes next in the lowest lane that has something to queue is queued.
+    ///
+    /// Refused as `OutOfMemory` where memory is refused.
+    pub fn front(&mut self) -> Result<Option<Frame>, NodeError>
+        ensures frame { IfOk result (λ frame. frame ≡ front_at self.new.segment self.old.address) }
+        ensures calls { OnOk result (Did self.old (front_calls self.old) self.new) }
+        ensures err { OnErr result (self.new ≡ self.old) }
+    {
+        if let Some(frame) = self.segment.front(self.address) {
+            return Ok(Some(frame));
+        }
+        let station = self.address;
+        if let Some(to) = self.segment.next_pump(station) {
+            self.make(Call::Pump { station, to })?;
+        }
+        Ok(self.segment.front(station))
+    }
+
+    /// The frame that `front` answered was put on the bus. The station doesn't look at its own frames, and passes it by.
+    ///
+    /// Refused as `FrameWaits` where one that was fed waits to be looked at, as `NothingToSend` where the transmit queue is empty,
+    /// and else as `OutOfMemory` where memory is refused: the call is to be made again then, since the frame isn't to be put twice.
+    pub fn sent(&mut self) -> Result<Fed, NodeError>
+        ensures { IsSent self.old self.new result }
+    {
+        if let Some(error) = self.sent_refusal() {
+            return Err(error);
+        }
+        let station = self.address;
+        if let Err(error) = self.make(Call::Transmit { station }) {
+            return Err(error);
+        }
+        Ok(self.look())
+    }
+
+    // Why no frame was put.
+    fn sent_refusal(&self) -> Option<NodeError>
+        ensures { result ≡ sent_refusal self.now }
+    {
+        if self.is_waiting() {
+            return Some(NodeError::FrameWaits);
+        }
+        let station = self.address;
+        match self.segment.refusal(&Call::Transmit { station }) {
+            None => None,
+            Some(cause) => Some(NodeError::Refused(cause)),
+        }
+    }
+}

@@ -1,0 +1,41 @@
+//! Why a call isn't done.
+
+use segment_law::Refusal;
+use thiserror::Error;
+
+/// Why a call on a node isn't done. It changed nothing then, and can be made again.
+#[derive(Clone, Copy, Debug, PartialEq, Eq, Error)]
+pub enum NodeError {
+    /// It is refused for this cause.
+    #[error("the call is refused")]
+    Refused(Refusal),
+    /// A frame that was fed still waits, since the node found no memory to look at it: `settle` comes first.
+    #[error("a frame that was fed waits")]
+    FrameWaits,
+    /// The clock stands at a later tick.
+    #[error("the clock stands at a later tick")]
+    ClockPassed,
+    /// Memory was refused.
+    #[error("out of memory")]
+    OutOfMemory,
+}
+
+/// What came of a frame that the bus carried.
+#[derive(Clone, Copy, Debug, PartialEq, Eq)]
+pub enum Fed {
+    /// The node has looked at it.
+    Taken,
+    /// The node has it, and found no memory to look at it. It isn't fed again: `settle` looks at it.
+    Waits,
+}
+
+/// Why no event is taken. The events that wait stay as they are.
+#[derive(Clone, Copy, Debug, PartialEq, Eq, Error)]
+pub enum TakeError {
+    /// No event waits.
+    #[error("no event waits")]
+    Nothing,
+    /// The bytes of the event are so many, more than the room has places.
+    #[error("the event has more bytes than the room")]
+    TooLittleRoom(usize),
+}

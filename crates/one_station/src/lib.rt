@@ -1,0 +1,18 @@
+//! One station of SAE J1939-21 and ISO 11783-3 for a program that owns the bus, on a controller or behind a CAN socket: frames
+//! and ticks go in, frames and what is told come out. Nothing here waits, reads a clock or starts a thread.
+//!
+//! Each call is a short list of calls on a segment with this one station, and its contract says which: so all that is proved of
+//! lists of calls holds of it.
+#![tactic(auto)]
+
+mod bus;
+mod error;
+mod events;
+mod node;
+mod ports;
+mod time;
+mod told;
+
+pub use error::{Fed, NodeError, TakeError};
+pub use node::Node;
+pub use segment_core::{Bytes, Event, NewRefused, PortId, Refusal};

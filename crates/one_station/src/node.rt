@@ -1,0 +1,106 @@
+//! A node: one station, and what it told.
+ghost use Rattle.std.specs.Prelude.{◌≡◌, ◌<◌, ◌∷◌, ◌↔◌, [], false, IfOk, IfErr, OnOk, IsErrOf};
+ghost use Rattle.std.specs.VecDeque.{deque_len, deque_capacity};
+ghost use Rattle.segment_law.specs.Segment.{are_addresses};
+ghost use Rattle.segment_law.specs.Calls.{called};
+ghost use Rattle.segment_law.specs.Record.{StandsAt};
+ghost use Rattle.one_station.specs.Node.{new_node};
+ghost use Rattle.one_station.specs.Answers.{IsAnswered, IsStopped};
+ghost use Rattle.one_station.specs.Told.{told_events, IsFrontFirst};
+
+use crate::error::NodeError;
+use crate::told::Told;
+use pgn_ids::Address;
+use segment_core::{Call, NewRefused, Reply, Segment};
+use std::alloc::Global;
+use std::marker::Model;
+
+/// One station on a bus that the program owns.
+///
+/// The program gives it each frame that comes from the bus (`feed`) and the time (`clock`, `fire`), and puts each frame that it
+/// has for the bus (`front`, `sent`). What it tells, a message given at a port or the outcome of one that was sent, waits until
+/// it is taken. Nothing changes a node but the calls on it.
+#[derive(Drop)]
+pub struct Node {
+    pub(crate) alloc: Global,
+    pub(crate) segment: Segment,
+    pub(crate) address: Address,
+    pub(crate) told: Told,
+}
+
+impl Model for Node {
+    ghost use Rattle.one_station.specs.Node.{Node};
+    ghost use Rattle.one_station.specs.NodeFields.{node_value, IsNodeInside};
+    ghost use Rattle.one_station.specs.NodeCode.{node_code};
+
+    ghost Value = { Node };
+
+    ghost coded = { node_code };
+
+    ghost view = { node_value };
+
+    ghost invariant = { IsNodeInside };
+}
+
+impl Node {
+    /// A node with this address, 0 to 253 (SAE J1939-81): its clock stands at tick 0, no port is open, and nothing was done yet.
+    ///
+    /// Refused as `BadAddresses` exactly where the address is 254 or 255, and else as `OutOfMemory` where memory is refused.
+    pub fn new(alloc: Global, address: Address) -> Result<Node, NewRefused>
+        ensures ok { IfOk result (λ node. node ≡ new_node address) }
+        ensures bad { IsErrOf result NewRefused.BadAddresses ↔ (are_addresses (address ∷ []) ≡ false) }
+        ensures stands { IfOk result (λ node. StandsAt (address ∷ []) [] node.segment) }
+    {
+        let segment = Segment::new(alloc, &[address])?;
+        Ok(Node {
+            alloc,
+            segment,
+            address,
+            told: Told::new(alloc),
+        })
+    }
+
+    /// Its address.
+    pub fn address(&self) -> Address
+        ensures { result ≡ self.now.address }
+    {
+        self.address
+    }
+
+    /// Makes a call of the segment, and keeps what it tells. Memory is taken only once the call isn't refused, and the place for
+    /// what it tells before it is made.
+    pub(crate) fn make(&mut self, call: Call) -> Result<(), NodeError>
+        ensures { IsAnswered self.old call self.new result }
+    {
+        make_room(&self.segment, &mut self.told, &call)?;
+        match self.segment.apply(call) {
+            Ok(Reply::Refused(cause)) => Err(NodeError::Refused(cause)),
+            Ok(Reply::Done(events)) => {
+                self.told.keep(events);
+                Ok(())
+            }
+            Ok(_) => Ok(()),
+            Err(_) => Err(NodeError::OutOfMemory),
+        }
+    }
+}
+
+// Makes a place for what a call tells, unless the call is refused.
+fn make_room(segment: &Segment, told: &mut Told, call: &Call) -> Result<(), NodeError>
+    requires { IsFrontFirst told.old }
+    ensures events { told_events told.new ≡ told_events told.old }
+    ensures sound { IsFrontFirst told.new }
+    ensures room { OnOk result (deque_len told.new.parts < deque_capacity told.new.parts) }
+    ensures err { IfErr result (λ error. IsStopped (called segment.now call.now) error) }
+{
+    if told.has_room() {
+        return Ok(());
+    }
+    if let Some(cause) = segment.refusal(call) {
+        return Err(NodeError::Refused(cause));
+    }
+    match told.reserve() {
+        Ok(()) => Ok(()),
+        Err(_) => Err(NodeError::OutOfMemory),
+    }
+}

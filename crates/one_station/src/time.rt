@@ -1,0 +1,54 @@
+//! The clock, in ticks of 1 ms, and the timers of the sessions (SAE J1939-21, T1 to T4, Tr and Th).
+ghost use Rattle.std.specs.Prelude.{◌≡◌, ◌<◌, ◌≤◌, ◌-◌, ◌↔◌, IsErrOf, OnErr};
+ghost use Rattle.tick_timers.specs.Due.{IsDueFrom};
+ghost use Rattle.segment_law.specs.declared.call.Call.TheVariants.{Tick, Fire};
+ghost use Rattle.segment_core.specs.Due.{any_due};
+ghost use Rattle.one_station.specs.Answers.{IsAnswered};
+
+use crate::error::NodeError;
+use crate::node::Node;
+use segment_core::Call;
+
+impl Node {
+    /// The tick of 1 ms at which its clock stands.
+    pub fn now(&self) -> u64
+        ensures { result ≡ self.now.segment.now }
+    {
+        self.segment.now()
+    }
+
+    /// The clock goes on to a tick. Timers that are due then are fired by `fire`.
+    ///
+    /// Refused as `ClockPassed` where the clock stands at a later tick, and else as `OutOfMemory` where memory is refused.
+    pub fn clock(&mut self, tick: u64) -> Result<(), NodeError>
+        ensures passed { IsErrOf result NodeError.ClockPassed ↔ (tick < self.old.segment.now) }
+        ensures answered { self.old.segment.now ≤ tick → IsAnswered self.old (Tick (tick - self.old.segment.now)) self.new result }
+        ensures err { OnErr result (self.new ≡ self.old) }
+    {
+        let now = self.segment.now();
+        if tick < now {
+            return Err(NodeError::ClockPassed);
+        }
+        self.make(Call::Tick { n: tick - now })
+    }
+
+    /// Fires the first timer that is due, and so ends what waited too long for a frame, or asks for it. To be called until it is
+    /// refused.
+    ///
+    /// Refused as `NothingDue` where no timer is due, and as `TxFull` where the transmit queue has no place for the frame that it
+    /// may need; and else as `OutOfMemory` where memory is refused.
+    pub fn fire(&mut self) -> Result<(), NodeError>
+        ensures { IsAnswered self.old (Fire self.old.address) self.new result }
+    {
+        let station = self.address;
+        self.make(Call::Fire { station })
+    }
+
+    /// The tick at which the next timer is due: the least at which `fire` has something to fire. None where no timer runs that
+    /// would be due up to the last tick of `u64`.
+    pub fn next_due_at(&self) -> Option<u64>
+        ensures { IsDueFrom (any_due self.now.segment) result }
+    {
+        self.segment.next_due_at()
+    }
+}

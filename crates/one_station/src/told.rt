@@ -1,0 +1,107 @@
+//! What was told and isn't taken yet.
+ghost use Rattle.std.specs.Prelude.{◌≡◌, ◌<◌, ◌++◌, [], drop, slice_get, option_copied, OnOk};
+ghost use Rattle.std.specs.Bool.{OnTrue};
+ghost use Rattle.std.specs.VecDeque.{deque_len, deque_capacity};
+ghost use Rattle.one_station.specs.Told.{told_events, IsFrontFirst};
+
+use segment_core::{Event, Events};
+use std::alloc::{AllocError, Global};
+use std::collections::VecDeque;
+
+/// An event, and those behind it that the same call told.
+#[derive(Drop)]
+pub struct Part {
+    pub(crate) first: Event,
+    pub(crate) rest: Vec<Event>,
+}
+
+/// The events that wait, part by part: one part for each call that told something, as it came, so that only a place for it has
+/// to be there beforehand.
+#[derive(Drop)]
+pub struct Told {
+    pub(crate) front: Option<Part>,
+    pub(crate) parts: VecDeque<Part>,
+}
+
+impl Told {
+    /// Nothing was told. It takes no memory.
+    pub(crate) fn new(alloc: Global) -> Told
+        ensures events { told_events result ≡ [] }
+        ensures sound { IsFrontFirst result }
+    {
+        Told {
+            front: None,
+            parts: VecDeque::new(alloc),
+        }
+    }
+
+    /// Whether there is a place for what one more call tells.
+    pub(crate) fn has_room(&self) -> bool
+        ensures { OnTrue result (deque_len self.now.parts < deque_capacity self.now.parts) }
+    {
+        self.parts.len() < self.parts.capacity()
+    }
+
+    /// Makes a place for what one more call tells.
+    pub(crate) fn reserve(&mut self) -> Result<(), AllocError>
+        ensures front { self.new.front ≡ self.old.front }
+        ensures parts { self.new.parts.items ≡ self.old.parts.items }
+        ensures room { OnOk result (deque_len self.new.parts < deque_capacity self.new.parts) }
+    {
+        self.parts.reserve(1)
+    }
+
+    /// Keeps what a call told, for which there is a place, behind all that waits.
+    #[tactic(auto, using(crate::proofs::Joining::joined_push))]
+    pub(crate) fn keep(&mut self, events: Events)
+        requires sound { IsFrontFirst self.old }
+        requires room { deque_len self.old.parts < deque_capacity self.old.parts }
+        ensures events { told_events self.new ≡ told_events self.old ++ events }
+        ensures sound { IsFrontFirst self.new }
+    {
+        let (first, rest) = events.into_parts();
+        let Some(first) = first else {
+            return;
+        };
+        let part = Part { first, rest };
+        if self.front.is_none() {
+            self.front = Some(part);
+        } else {
+            self.parts.push_back_reserved(part);
+        }
+    }
+
+    /// The event that waits longest.
+    pub(crate) fn next(&self) -> Option<&Event>
+        requires { IsFrontFirst self.now }
+        ensures { option_copied result ≡ slice_get (told_events self.now) 0 }
+    {
+        match &self.front {
+            None => None,
+            Some(part) => Some(&part.first),
+        }
+    }
+
+    /// Takes the event that waits longest.
+    pub(crate) fn take(&mut self) -> Option<Event>
+        requires sound { IsFrontFirst self.old }
+        ensures event { result ≡ slice_get (told_events self.old) 0 }
+        ensures rest { told_events self.new ≡ drop 1 (told_events self.old) }
+        ensures sound { IsFrontFirst self.new }
+    {
+        let Some(part) = self.front.take() else {
+            return None;
+        };
+        let Part { first, mut rest } = part;
+        if rest.is_empty() {
+            self.front = self.parts.pop_front();
+        } else {
+            let second = rest.remove(0);
+            self.front = Some(Part {
+                first: second,
+                rest,
+            });
+        }
+        Some(first)
+    }
+}

@@ -1,0 +1,191 @@
+//! Calls on nodes of which a test only looks at the answer: their contracts are not carried through it. A call that finds no memory
+//! is made again, so a test comes to the same end whichever one allocation is refused.
+use bus_frame::{CanId, Frame};
+use one_station::*;
+use pgn_ids::{Address, Pgn};
+use std::alloc::Global;
+use std::process::Abort;
+use std::test::Fail;
+use tp_wire::Outcome;
+
+pub(crate) const PORT: PortId = PortId {
+    station: B,
+    number: 1,
+};
+
+pub(crate) const A: Address = Address(0x21);
+
+pub(crate) const B: Address = Address(0x35);
+
+pub(crate) type Shown = (u32, [u8; 8]);
+
+pub(crate) fn frame_of(shown: Shown) -> Result<Frame, Fail> {
+    Ok(Frame::full(CanId::new(shown.0)?, shown.1))
+}
+
+pub(crate) fn node(alloc: Global, address: Address) -> Result<Node, Fail> {
+    match Node::new(alloc, address) {
+        Ok(node) => Ok(node),
+        Err(_) => Ok(Node::new(alloc, address)?),
+    }
+}
+
+pub(crate) fn pgn() -> Result<Pgn, Fail> {
+    Ok(Pgn::new(0xFECA)?)
+}
+
+pub(crate) fn open(node: &mut Node, max_len: u32) -> Result<PortId, Fail> {
+    let pgn = pgn()?;
+    match node.open_port(pgn, max_len) {
+        Err(NodeError::OutOfMemory) => Ok(node.open_port(pgn, max_len)?),
+        opened => Ok(opened?),
+    }
+}
+
+pub(crate) fn close(node: &mut Node, port: PortId) -> Result<(), NodeError> {
+    match node.close_port(port) {
+        Err(NodeError::OutOfMemory) => node.close_port(port),
+        closed => closed,
+    }
+}
+
+pub(crate) fn send(node: &mut Node, to: Address, pgn: Pgn, bytes: &[u8]) -> Result<u64, NodeError> {
+    match node.send(to, pgn, bytes) {
+        Err(NodeError::OutOfMemory) => node.send(to, pgn, bytes),
+        sent => sent,
+    }
+}
+
+pub(crate) fn cancel(node: &mut Node, to: Address, number: u64) -> Result<(), NodeError> {
+    match node.cancel(to, number) {
+        Err(NodeError::OutOfMemory) => node.cancel(to, number),
+        cancelled => cancelled,
+    }
+}
+
+pub(crate) fn clock(node: &mut Node, tick: u64) -> Result<(), NodeError> {
+    match node.clock(tick) {
+        Err(NodeError::OutOfMemory) => node.clock(tick),
+        ticked => ticked,
+    }
+}
+
+pub(crate) fn fire(node: &mut Node) -> Result<(), NodeError> {
+    match node.fire() {
+        Err(NodeError::OutOfMemory) => node.fire(),
+        fired => fired,
+    }
+}
+
+pub(crate) fn due(node: &Node) -> Option<u64> {
+    node.next_due_at()
+}
+
+// A frame that found no memory to be looked at is settled.
+pub(crate) fn feed(node: &mut Node, frame: Frame) -> Result<(), NodeError> {
+    let fed = match node.feed(frame) {
+        Err(NodeError::OutOfMemory) => node.feed(frame)?,
+        fed => fed?,
+    };
+    match fed {
+        Fed::Taken => Ok(()),
+        Fed::Waits => node.settle(),
+    }
+}
+
+pub(crate) fn settle(node: &mut Node) -> Result<(), NodeError> {
+    node.settle()
+}
+
+pub(crate) fn front(node: &mut Node) -> Result<Option<Frame>, NodeError> {
+    match node.front() {
+        Err(NodeError::OutOfMemory) => node.front(),
+        front => front,
+    }
+}
+
+pub(crate) fn sent(node: &mut Node) -> Result<Fed, NodeError> {
+    match node.sent() {
+        Err(NodeError::OutOfMemory) => node.sent(),
+        sent => sent,
+    }
+}
+
+// The next frame of a node is this one, and it is put on the bus.
+pub(crate) fn puts(rt: &impl Abort, node: &mut Node, shown: Shown) -> Result<(), Fail> {
+    assert_eq!(rt; front(node)?, Some(frame_of(shown)?));
+    assert_eq!(rt; sent(node), Ok(Fed::Taken));
+    Ok(())
+}
+
+// The same, and the other node is fed it.
+pub(crate) fn carries(
+    rt: &impl Abort,
+    from: &mut Node,
+    to: &mut Node,
+    shown: Shown,
+) -> Result<(), Fail> {
+    puts(rt, from, shown)?;
+    assert_eq!(rt; feed(to, frame_of(shown)?), Ok(()));
+    Ok(())
+}
+
+// The next event is the outcome of this message to a destination, and is taken.
+pub(crate) fn ends(
+    rt: &impl Abort,
+    node: &mut Node,
+    destination: Address,
+    message: u64,
+    expected: Outcome,
+) {
+    match node.take_event() {
+        Some(
+            Event::Outcome {
+                to,
+                number,
+                outcome,
+                ..
+            },
+        ) => {
+            assert_eq!(rt; to, destination);
+            assert_eq!(rt; number, message);
+            assert_eq!(rt; outcome, expected);
+        }
+        _ => panic!(rt; "no outcome is told"),
+    }
+}
+
+// The next event is a message of 21 at port 35.1. It doesn't fit into a room that is too small by one place, and then it is taken.
+pub(crate) fn gives(rt: &impl Abort, node: &mut Node, expected: &[u8]) -> Result<(), Fail> {
+    let mut room = [0xAA; 12];
+    let len = expected.len();
+    assert_eq!(rt; given_len(node), Some((PORT, A, len)));
+    let small = &mut room[..8];
+    assert_eq!(rt; node.take_bytes(small), Err(TakeError::TooLittleRoom(len)));
+    assert_eq!(rt; room, [0xAA; 12]);
+    assert_eq!(rt; node.take_bytes(&mut room), Ok(len));
+    assert_eq!(rt; &room[..9], expected);
+    assert_eq!(rt; &room[9..], [0xAA; 3].as_slice());
+    Ok(())
+}
+
+// The port and the source of the message that is told next, and how many bytes it has.
+fn given_len(node: &Node) -> Option<(PortId, Address, usize)> {
+    match node.next_event() {
+        Some(
+            Event::Given {
+                port,
+                from,
+                bytes,
+                ..
+            },
+        ) => Some((*port, *from, bytes.len())),
+        _ => None,
+    }
+}
+
+// Nothing more is told.
+pub(crate) fn is_quiet(rt: &impl Abort, node: &mut Node) {
+    assert_eq!(rt; node.take_bytes(&mut []), Err(TakeError::Nothing));
+    assert!(rt; node.next_event().is_none());
+}
