@@ -15,15 +15,15 @@ use Rattle.one_station.specs.Answers.{IsStopped}
 least_passes : (test : ℕ → Bool) (n k : ℕ) → least_below test n ≡ Some k → test k ≡ true
 unfolding least_below
 least_passes test zero k e = absurd cc
-least_passes test (suc n) k e = by (least_below test n) refl e
+least_passes test (suc n) k e = by (least_below test n) refl e (λ h. least_passes test n k h)
   where
     here : (b : Bool) → test n ≡ b → found_or None b n ≡ Some k → test k ≡ true
     here true is e = ap test (sym (same_Some n k e)) ∙ is
     here false is e = absurd cc
 
-    by : (o : Option ℕ) → least_below test n ≡ o → found_or o (test n) n ≡ Some k → test k ≡ true
-    by (Some j) is e = least_passes test n k (is ∙ e)
-    by None is e = here (test n) refl e
+    by : (o : Option ℕ) → least_below test n ≡ o → found_or o (test n) n ≡ Some k → (least_below test n ≡ Some k → test k ≡ true) → test k ≡ true
+    by (Some j) is e lower = lower (is ∙ e)
+    by None is e lower = here (test n) refl e
 
 next_passes : (seg : Segment) (a to : Address) → next_pump seg a ≡ Some to → IsOk (called seg (Pump a to))
 next_passes seg a to e = by (least_below (pumps_to seg a) 256) refl e
