@@ -1,3 +1,4 @@
 pub mod Joining
 pub mod Replies
 pub mod Made
+pub mod Fronts

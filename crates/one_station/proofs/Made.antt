@@ -9,7 +9,7 @@ use Rattle.segment_law.specs.Record.{Record, StandsAt}
 use Rattle.segment_law.specs.declared.call.Call.{Call}
 use Rattle.segment_law.specs.declared.refusal.Refusal.{Refusal}
 use Rattle.segment_law.specs.declared.reply.Reply.{Reply}
-use Rattle.segment_law.specs.declared.reply.Reply.TheVariants.{Refused}
+use Rattle.segment_law.specs.declared.reply.Reply.TheVariants.{Refused, Done}
 use Rattle.segment_core.proofs.Records.{refused_stands}
 use Rattle.one_station.specs.Node.{Node, Did}
 use Rattle.one_station.proofs.Replies.{refused_for}
@@ -47,3 +47,13 @@ make_refused now segment new address events told call reply cause view same says
     let r : (called segment (call address) ≡ Err cause) × (new ≡ segment) = refused_for segment (call address) new cause (says ∙ ap (λ (x : Reply). (new, x)) is) in
     let P : Node → Type 0 = λ n. (called n.segment (call n.address) ≡ Err cause) × (node_of new address told ≡ n) in
     subst P view (r.0, λ k. node_of (r.1 k) address (same k))
+
+-- a call that told nothing
+pub did_quietly : (now : Node) (segment new : Segment) (address : Address) (events : List Event) (call : Address → Call)
+    → node_of segment address events ≡ now → applied segment (call address) ≡ (new, Done [])
+    → ((addresses : List Address) (steps : Record) → StandsAt addresses steps segment → StandsAt addresses (steps ++ (call address, Done []) ∷ []) new)
+    → Did now (call now.address ∷ []) (node_of new address events)
+did_quietly now segment new address events call view says stands =
+    let none : node_of new address events ≡ node_of new address (events ++ []) = λ k. node_of new address (sym (append-nil events) k) in
+    subst (λ (n : Node). Did n (call n.address ∷ []) (node_of new address events)) view
+    (did_one (node_of segment address events) (node_of new address events) (call address) new (Done []) says none stands)

@@ -1,6 +1,8 @@
 //! Frames from the bus and for the bus.
-ghost use Rattle.std.specs.Prelude.{◌≡◌, IfOk, OnOk, OnErr};
+ghost use Rattle.std.specs.Prelude.{◌≡◌, ◌∷◌, [], IfOk, IfErr, OnOk, OnErr};
+ghost use Rattle.std.specs.Bool.{OnTrue, OnFalse};
 ghost use Rattle.segment_law.specs.Readers.{front_at};
+ghost use Rattle.one_station.specs.declared.error.NodeError.TheVariants.{OutOfMemory};
 ghost use Rattle.one_station.specs.Node.{Did};
 ghost use Rattle.one_station.specs.Answers.{IsAnswered, IsFed, IsSent, HasLooked, looks, is_waiting, feed_refusal, sent_refusal, front_calls};
 
@@ -37,6 +39,9 @@ impl Node {
     fn look(&mut self) -> Fed
         ensures { HasLooked self.old self.new result }
     {
+        if self.look_in_place() {
+            return Fed::Taken;
+        }
         match self.settle() {
             Ok(()) => Fed::Taken,
             Err(NodeError::OutOfMemory) => Fed::Waits,
@@ -44,6 +49,19 @@ impl Node {
             Err(NodeError::FrameWaits) => Fed::Taken,
             Err(NodeError::ClockPassed) => Fed::Taken,
         }
+    }
+
+    // The station takes the next frame where that tells nothing, as most do, and its own: no memory is asked for what is told.
+    #[tactic(auto, using(crate::proofs::Made::did_quietly))]
+    fn look_in_place(&mut self) -> bool
+        ensures looked { OnTrue result (Did self.old (looks self.old ∷ []) self.new) }
+        ensures other { OnFalse result (self.new ≡ self.old) }
+    {
+        let station = self.address;
+        self.segment.apply_in_place(&Call::Take {
+            station,
+            room: true,
+        })
     }
 
     /// Looks at the frame that waits, since there was no memory for it when it was fed.
@@ -90,9 +108,11 @@ impl Node {
     /// was put. Where the transmit queue is empty, what comes next in the lowest lane that has something to queue is queued.
     ///
     /// Refused as `OutOfMemory` where memory is refused.
+    #[tactic(auto, using(crate::proofs::Fronts::front_memory))]
     pub fn front(&mut self) -> Result<Option<Frame>, NodeError>
         ensures frame { IfOk result (λ frame. frame ≡ front_at self.new.segment self.old.address) }
         ensures calls { OnOk result (Did self.old (front_calls self.old) self.new) }
+        ensures memory { IfErr result (λ error. error ≡ OutOfMemory) }
         ensures err { OnErr result (self.new ≡ self.old) }
     {
         if let Some(frame) = self.segment.front(self.address) {
@@ -100,7 +120,9 @@ impl Node {
         }
         let station = self.address;
         if let Some(to) = self.segment.next_pump(station) {
-            self.make(Call::Pump { station, to })?;
+            if let Err(error) = self.make(Call::Pump { station, to }) {
+                return Err(error);
+            }
         }
         Ok(self.segment.front(station))
     }
