@@ -53,13 +53,14 @@ fn run_once<T: Threads + Wait + Sync, G: Gate + Sync>(
     run_relay(rt, alloc, &mut reader, writer, gate, turns)
 }
 
-// Whether a run ended for want of memory, for which alone a vector refuses a write.
-fn lacked_memory(ran: RelayRan) -> bool {
+// Whether a run may have ended for want of memory, for which alone a vector refuses a write. A relay that finds none stops, and then not
+// all came that was to come, as where the turns ran out.
+fn may_lack_memory(ran: RelayRan) -> bool {
     match ran.fault {
         Some(RelayFault::Script(fault)) => {
             fault.cause == Cause::OutOfMemory || fault.cause == Cause::WriteFailed
         }
-        _ => false,
+        _ => ran.ran_out,
     }
 }
 
@@ -73,7 +74,7 @@ fn run_past<T: Threads + Wait + Sync, G: Gate + Sync>(
 ) -> (RelayRan, Vec<u8>) {
     let mut writer = Vec::new(alloc);
     let ran = run_once(rt, alloc, script, &mut writer, gate, turns);
-    if !lacked_memory(ran) {
+    if !may_lack_memory(ran) {
         return (ran, writer);
     }
     writer.clear();
