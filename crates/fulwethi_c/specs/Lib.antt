@@ -1,0 +1,3 @@
+pub mod Held
+pub mod Codes
+pub mod Calls
