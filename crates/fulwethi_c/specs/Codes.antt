@@ -1,6 +1,9 @@
 -- The codes of answers.
-use Rattle.std.specs.Prelude.{ℕ, Result, Ok, Err}
+use Rattle.std.specs.Prelude.{ℕ, Option, Some, None, Result, Ok, Err}
 use Rattle.segment_law.specs.Refusals.{refusal_number}
+use Rattle.segment_core.specs.declared.segment.NewRefused.{NewRefused}
+use Rattle.segment_core.specs.declared.segment.NewRefused.TheVariants as made
+use Rattle.bus_frame.specs.Frames.{CanFrame}
 use Rattle.one_station.specs.declared.error.NodeError.{NodeError}
 use Rattle.one_station.specs.declared.error.NodeError.TheVariants.{Refused, FrameWaits, ClockPassed, OutOfMemory}
 use Rattle.one_station.specs.declared.error.Fed.{Fed}
@@ -14,7 +17,7 @@ error_code FrameWaits = 66
 error_code ClockPassed = 67
 error_code OutOfMemory = 64
 
-abbrev pub done_code : Result (Unit {0}) NodeError → ℕ
+abbrev pub done_code : {A : Type 0} → Result A NodeError → ℕ
 done_code (Ok _) = 0
 done_code (Err error) = error_code error
 
@@ -27,3 +30,18 @@ abbrev pub taken_code : Result ℕ TakeError → ℕ
 taken_code (Ok len) = 0
 taken_code (Err Nothing) = 65
 taken_code (Err (TooLittleRoom len)) = 68
+
+abbrev pub front_code : Result (Option CanFrame) NodeError → ℕ
+front_code (Ok (Some frame)) = 0
+front_code (Ok None) = 65
+front_code (Err error) = error_code error
+
+-- of what may be there
+abbrev pub found_code : {A : Type 0} → Option A → ℕ
+found_code (Some _) = 0
+found_code None = 65
+
+abbrev pub new_code : Result (Unit {0}) NewRefused → ℕ
+new_code (Ok _) = 0
+new_code (Err made.BadAddresses) = 13
+new_code (Err made.OutOfMemory) = 64

@@ -1,8 +1,8 @@
 //! What a call comes to, as C reads it: 0 where it is done, 1 to 30 the number of its refusal, and these.
 ghost use Rattle.std.specs.Prelude.{◌≡◌};
-ghost use Rattle.fulwethi_c.specs.Codes.{error_code, done_code, fed_code, taken_code};
+ghost use Rattle.fulwethi_c.specs.Codes.{error_code, done_code, fed_code, taken_code, new_code};
 
-use one_station::{Fed, NodeError, TakeError};
+use one_station::{Fed, NewRefused, NodeError, TakeError};
 
 pub(crate) const DONE: u32 = 0;
 
@@ -12,11 +12,14 @@ pub(crate) const NOTHING: u32 = 65;
 
 pub(crate) const FRAME_WAITS: u32 = 66;
 
-pub(crate) const HELD: u32 = 69;
-
 pub(crate) const CLOCK_PASSED: u32 = 67;
 
 pub(crate) const TOO_LITTLE_ROOM: u32 = 68;
+
+pub(crate) const HELD: u32 = 69;
+
+/// The number of the refusal `BadAddresses`.
+const BAD_ADDRESS: u32 = 13;
 
 /// The code of a call that isn't done.
 pub(crate) fn error_code(error: NodeError) -> u32
@@ -59,5 +62,16 @@ pub(crate) fn taken_code(taken: Result<usize, TakeError>) -> u32
         Ok(_) => DONE,
         Err(TakeError::Nothing) => NOTHING,
         Err(TakeError::TooLittleRoom(_)) => TOO_LITTLE_ROOM,
+    }
+}
+
+/// The code of a node that was made, or wasn't.
+pub(crate) fn new_code(made: Result<(), NewRefused>) -> u32
+    ensures { result ≡ new_code made }
+{
+    match made {
+        Ok(()) => DONE,
+        Err(NewRefused::BadAddresses) => BAD_ADDRESS,
+        Err(NewRefused::OutOfMemory) => NO_MEMORY,
     }
 }

@@ -1,45 +1,47 @@
 //! Frames from the bus and for the bus.
-ghost use Rattle.std.specs.Prelude.{IsSome};
+ghost use Rattle.std.specs.Prelude.{◌≡◌, IsSome};
+ghost use Rattle.one_station.specs.Answers.{IsAnswered, IsSent, looks};
+ghost use Rattle.fulwethi_c.specs.Codes.{done_code, fed_code, front_code};
+ghost use Rattle.fulwethi_c.specs.Reads.{read_frame};
+ghost use Rattle.fulwethi_c.specs.Calls.{IsMadeOn, IsFrameFed, IsFront, IsFrameWritten};
 
-use crate::codes::{DONE, NOTHING, done_code, error_code, fed_code};
+use crate::codes::{done_code, fed_code};
 use crate::handle::Handle;
 use crate::parts::Parts;
+use crate::shown::{CFrame, write_frame};
 use bus_frame::{CanId, Frame};
-use one_station::Node;
-
-/// The numbers of the refusals `IdTooLarge` and `DataTooLong`.
-const ID_TOO_LARGE: u32 = 1;
-
-const DATA_TOO_LONG: u32 = 2;
-
-/// A frame.
-#[repr(C)]
-#[derive(Drop)]
-pub struct CFrame {
-    pub id: u32,
-    pub len: u32,
-    pub bytes: [u8; 8],
-}
+use one_station::{Fed, Node, NodeError, Refusal};
 
 /// A frame of another node comes from the bus.
 #[unsafe(no_mangle)]
 pub extern "C" fn fulwethi_raw_feed(of: Handle, id: u32, bytes: &[u8], out: &mut Handle) -> u32
     requires { IsSome of.node }
-    ensures { IsSome out.new.node }
+    ensures { IsMadeOn fed_code (IsFrameFed (read_frame id bytes.now)) of.node out.new.node result }
 {
     let mut held = of.into_parts().into_box();
-    let code = feed(&mut held, id, bytes);
+    let code = fed_code(feed(&mut held, id, bytes));
     *out = Handle::of_parts(Parts::of(held));
     code
 }
 
-fn feed(node: &mut Node, id: u32, bytes: &[u8]) -> u32 {
+fn feed(node: &mut Node, id: u32, bytes: &[u8]) -> Result<Fed, NodeError>
+    ensures { IsFrameFed (read_frame id bytes.now) node.old node.new result }
+{
+    match read_frame(id, bytes) {
+        Ok(frame) => node.feed(frame),
+        Err(cause) => Err(NodeError::Refused(cause)),
+    }
+}
+
+fn read_frame(id: u32, bytes: &[u8]) -> Result<Frame, Refusal>
+    ensures { result ≡ read_frame id bytes.now }
+{
     let Ok(id) = CanId::new(id) else {
-        return ID_TOO_LARGE;
+        return Err(Refusal::IdTooLarge);
     };
     match Frame::new(id, bytes) {
-        Ok(frame) => fed_code(node.feed(frame)),
-        Err(_) => DATA_TOO_LONG,
+        Ok(frame) => Ok(frame),
+        Err(_) => Err(Refusal::DataTooLong),
     }
 }
 
@@ -47,7 +49,7 @@ fn feed(node: &mut Node, id: u32, bytes: &[u8]) -> u32 {
 #[unsafe(no_mangle)]
 pub extern "C" fn fulwethi_raw_settle(of: Handle, out: &mut Handle) -> u32
     requires { IsSome of.node }
-    ensures { IsSome out.new.node }
+    ensures { IsMadeOn done_code (λ before after. IsAnswered before (looks before) after) of.node out.new.node result }
 {
     let mut held = of.into_parts().into_box();
     let code = done_code(held.settle());
@@ -59,34 +61,19 @@ pub extern "C" fn fulwethi_raw_settle(of: Handle, out: &mut Handle) -> u32
 #[unsafe(no_mangle)]
 pub extern "C" fn fulwethi_raw_front(of: Handle, frame: &mut CFrame, out: &mut Handle) -> u32
     requires { IsSome of.node }
-    ensures { IsSome out.new.node }
+    ensures { IsMadeOn front_code (λ before after answer. IsFront before after answer × IsFrameWritten frame.old frame.new answer) of.node out.new.node result }
 {
     let mut held = of.into_parts().into_box();
-    let code = match held.front() {
-        Ok(None) => NOTHING,
-        Ok(Some(next)) => {
-            show(&next, frame);
-            DONE
-        }
-        Err(error) => error_code(error),
-    };
+    let code = write_frame(held.front(), frame);
     *out = Handle::of_parts(Parts::of(held));
     code
-}
-
-fn show(next: &Frame, frame: &mut CFrame) {
-    frame.id = next.id().raw();
-    frame.len = next.bytes().len() as u32;
-    for (to, from) in frame.bytes.iter_mut().zip(next.bytes().iter()) {
-        *to = *from;
-    }
 }
 
 /// That frame was put on the bus.
 #[unsafe(no_mangle)]
 pub extern "C" fn fulwethi_raw_sent(of: Handle, out: &mut Handle) -> u32
     requires { IsSome of.node }
-    ensures { IsSome out.new.node }
+    ensures { IsMadeOn fed_code IsSent of.node out.new.node result }
 {
     let mut held = of.into_parts().into_box();
     let code = fed_code(held.sent());

@@ -2,11 +2,11 @@
 //! over these that take a pointer to the handle.
 #![tactic(auto)]
 
-ghost use Rattle.std.specs.Prelude.{◌≡◌, Some, IsSome};
-ghost use Rattle.segment_law.specs.declared.call.Call.TheVariants.{Fire, Close, Cancel};
-ghost use Rattle.one_station.specs.Answers.{IsAnswered, IsFed, IsSent, looks};
-ghost use Rattle.fulwethi_c.specs.Codes.{done_code, fed_code, taken_code};
-ghost use Rattle.fulwethi_c.specs.Calls.{IsMadeOn};
+ghost use Rattle.std.specs.Prelude.{◌≡◌, IsSome};
+ghost use Rattle.segment_law.specs.declared.call.Call.TheVariants.{Fire};
+ghost use Rattle.one_station.specs.Answers.{IsAnswered};
+ghost use Rattle.fulwethi_c.specs.Codes.{done_code, new_code};
+ghost use Rattle.fulwethi_c.specs.Calls.{IsMadeOn, IsCoded, IsNew, IsClocked};
 
 mod codes;
 mod events;
@@ -14,33 +14,32 @@ mod frames;
 mod handle;
 mod parts;
 mod ports;
+mod shown;
 
-use codes::{DONE, NO_MEMORY, done_code};
+use codes::{done_code, new_code};
 use handle::Handle;
 use one_station::{NewRefused, Node};
 use parts::Parts;
 use pgn_ids::Address;
 use std::alloc::Global;
 
-/// The number of the refusal `BadAddresses`.
-const BAD_ADDRESS: u32 = 13;
-
 /// Makes a node; `out` must own nothing.
 #[unsafe(no_mangle)]
 pub extern "C" fn fulwethi_raw_new(alloc: Global, address: u8, out: &mut Handle) -> u32
-    ensures done { result ≡ 0 → out.new.node ≡ Some (new_node (record { 0 = address })) }
-    ensures else_same { (result ≡ 0 → ⊥) → out.new ≡ out.old }
+    ensures { IsCoded new_code (IsNew (record { 0 = address }) out.old.node out.new.node) result }
 {
-    let node = match Node::new(alloc, Address(address)) {
-        Ok(node) => node,
-        Err(NewRefused::BadAddresses) => return BAD_ADDRESS,
-        Err(NewRefused::OutOfMemory) => return NO_MEMORY,
-    };
+    new_code(make(alloc, Address(address), out))
+}
+
+fn make(alloc: Global, address: Address, out: &mut Handle) -> Result<(), NewRefused>
+    ensures { IsNew address out.old.node out.new.node result }
+{
+    let node = Node::new(alloc, address)?;
     let Ok(held) = Box::new(alloc, node) else {
-        return NO_MEMORY;
+        return Err(NewRefused::OutOfMemory);
     };
     *out = Handle::of_parts(Parts::of(held));
-    DONE
+    Ok(())
 }
 
 /// Frees it.
@@ -55,7 +54,7 @@ pub extern "C" fn fulwethi_raw_free(of: Handle)
 #[unsafe(no_mangle)]
 pub extern "C" fn fulwethi_raw_clock(of: Handle, tick: u64, out: &mut Handle) -> u32
     requires { IsSome of.node }
-    ensures { IsSome out.new.node }
+    ensures { IsMadeOn done_code (IsClocked tick) of.node out.new.node result }
 {
     let mut held = of.into_parts().into_box();
     let code = done_code(held.clock(tick));
