@@ -17,7 +17,11 @@ error_code FrameWaits = 66
 error_code ClockPassed = 67
 error_code OutOfMemory = 64
 
-abbrev pub done_code : {A : Type 0} → Result A NodeError → ℕ
+abbrev pub value_code : {A : Type 0} → Result A NodeError → ℕ
+value_code (Ok _) = 0
+value_code (Err error) = error_code error
+
+abbrev pub done_code : Result (Unit {0}) NodeError → ℕ
 done_code (Ok _) = 0
 done_code (Err error) = error_code error
 

@@ -15,7 +15,7 @@ pub extern "C" fn fulwethi_raw_event(of: Handle, event: &mut CEvent, out: &mut H
     ensures { IsMadeOn found_code (λ before after answer. IsNextEvent before after answer × IsEventWritten event.old event.new answer) of.node out.new.node result }
 {
     let held = of.into_parts().into_box();
-    let code = write_event(held.next_event(), event);
+    let code = write_event(&held, event);
     *out = Handle::of_parts(Parts::of(held));
     code
 }

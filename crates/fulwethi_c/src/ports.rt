@@ -2,7 +2,7 @@
 ghost use Rattle.std.specs.Prelude.{◌≡◌, IsSome};
 ghost use Rattle.segment_law.specs.declared.call.Call.TheVariants.{Close, Cancel};
 ghost use Rattle.one_station.specs.Answers.{IsAnswered};
-ghost use Rattle.fulwethi_c.specs.Codes.{done_code};
+ghost use Rattle.fulwethi_c.specs.Codes.{done_code, value_code};
 ghost use Rattle.fulwethi_c.specs.Reads.{read_pgn};
 ghost use Rattle.fulwethi_c.specs.Calls.{IsMadeOn, IsOpened, IsSending, IsWritten};
 
@@ -23,7 +23,7 @@ pub extern "C" fn fulwethi_raw_open(
     out: &mut Handle,
 ) -> u32
     requires { IsSome of.node }
-    ensures { IsMadeOn done_code (λ before after answer. IsOpened max_len (read_pgn pgn) before after answer × IsWritten (λ id. id.number) port.old port.new answer) of.node out.new.node result }
+    ensures { IsMadeOn value_code (λ before after answer. IsOpened max_len (read_pgn pgn) before after answer × IsWritten (λ id. id.number) port.old port.new answer) of.node out.new.node result }
 {
     let mut held = of.into_parts().into_box();
     let code = write_port(open(&mut held, pgn, max_len), port);
@@ -76,7 +76,7 @@ pub extern "C" fn fulwethi_raw_send(
     out: &mut Handle,
 ) -> u32
     requires { IsSome of.node }
-    ensures { IsMadeOn done_code (λ before after answer. IsSending (record { 0 = to }) bytes.now (read_pgn pgn) before after answer × IsWritten (λ sent. sent) number.old number.new answer) of.node out.new.node result }
+    ensures { IsMadeOn value_code (λ before after answer. IsSending (record { 0 = to }) bytes.now (read_pgn pgn) before after answer × IsWritten (λ sent. sent) number.old number.new answer) of.node out.new.node result }
 {
     let mut held = of.into_parts().into_box();
     let code = write_number(send(&mut held, to, pgn, bytes), number);

@@ -1,12 +1,12 @@
 //! Frames, events and numbers as they are written for C.
-ghost use Rattle.std.specs.Prelude.{◌≡◌, option_copied};
-ghost use Rattle.fulwethi_c.specs.Codes.{done_code, front_code, found_code};
+ghost use Rattle.std.specs.Prelude.{◌≡◌, slice_get};
+ghost use Rattle.fulwethi_c.specs.Codes.{value_code, front_code, found_code};
 ghost use Rattle.fulwethi_c.specs.Shown.{shown_frame, shown_event, outcome_number, outcome_reason};
 ghost use Rattle.fulwethi_c.specs.Calls.{IsWritten, IsTickWritten, IsFrameWritten, IsEventWritten};
 
 use crate::codes::{DONE, NOTHING, error_code};
 use bus_frame::Frame;
-use one_station::{Event, NodeError, PortId};
+use one_station::{Event, Node, NodeError, PortId};
 use tp_wire::Outcome;
 
 /// A frame: its identifier of 29 bits, and `len` bytes, 0 to 8. The other bytes are 0 where a frame is shown.
@@ -34,7 +34,7 @@ pub struct CEvent {
 }
 
 pub(crate) fn write_port(answer: Result<PortId, NodeError>, port: &mut u64) -> u32
-    ensures code { result ≡ done_code answer }
+    ensures code { result ≡ value_code answer }
     ensures written { IsWritten (λ id. id.number) port.old port.new answer }
 {
     match answer {
@@ -47,7 +47,7 @@ pub(crate) fn write_port(answer: Result<PortId, NodeError>, port: &mut u64) -> u
 }
 
 pub(crate) fn write_number(answer: Result<u64, NodeError>, number: &mut u64) -> u32
-    ensures code { result ≡ done_code answer }
+    ensures code { result ≡ value_code answer }
     ensures written { IsWritten (λ sent. sent) number.old number.new answer }
 {
     match answer {
@@ -99,11 +99,11 @@ fn show_frame(next: &Frame) -> CFrame
     }
 }
 
-pub(crate) fn write_event(answer: Option<&Event>, event: &mut CEvent) -> u32
-    ensures code { result ≡ found_code (option_copied answer) }
-    ensures written { IsEventWritten event.old event.new (option_copied answer) }
+pub(crate) fn write_event(node: &Node, event: &mut CEvent) -> u32
+    ensures code { result ≡ found_code (slice_get node.now.events 0) }
+    ensures written { IsEventWritten event.old event.new (slice_get node.now.events 0) }
 {
-    match answer {
+    match node.next_event() {
         Some(next) => {
             *event = show_event(next);
             DONE
