@@ -2,8 +2,8 @@
 ghost use Rattle.std.specs.Prelude.{◌≡◌, Some, IsSome};
 ghost use Rattle.fulwethi_c.specs.Held.{Held, held_coded, held_owns};
 
-use one_station::Node;
 use crate::parts::Parts;
+use one_station::Node;
 use std::alloc::Global;
 use std::marker::Model;
 
