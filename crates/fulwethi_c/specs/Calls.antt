@@ -1,0 +1,121 @@
+-- Calls on the node of a handle.
+use Rattle.std.specs.Prelude.{◌≡◌, ℕ, ◌<◌, ◌≤◌, ◌-◌, ◌↔◌, List, [], ◌∷◌, slice_get, Option, Some, None, Result, Ok, Err, IfOk, OnOk, IfErr, OnErr, IsErrOf}
+use Rattle.std.specs.Prelude.{false}
+use Rattle.bus_frame.specs.Frames.{CanFrame}
+use Rattle.message_events.specs.declared.event.Event.{Event}
+use Rattle.tick_timers.specs.Due.{IsDueFrom}
+use Rattle.pgn_ids.specs.declared.address.Address.{Address}
+use Rattle.port_table.specs.declared.port.PortId.{PortId}
+use Rattle.segment_law.specs.Segment.{are_addresses}
+use Rattle.segment_law.specs.Calls.{applied}
+use Rattle.segment_law.specs.Record.{StandsAt}
+use Rattle.segment_law.specs.Readers.{front_at}
+use Rattle.segment_law.specs.declared.call.Call.TheVariants.{Tick, Open, Send}
+use Rattle.segment_law.specs.declared.reply.Reply.TheVariants.{Opened, Sent}
+use Rattle.segment_law.specs.declared.refusal.Refusal.{Refusal}
+use Rattle.segment_core.specs.declared.segment.NewRefused.{NewRefused}
+use Rattle.segment_core.specs.declared.segment.NewRefused.TheVariants as made
+use Rattle.segment_core.specs.Due.{any_due}
+use Rattle.one_station.specs.Node.{Node, Did, new_node}
+use Rattle.one_station.specs.Answers.{IsAnswered, IsFed, front_calls}
+use Rattle.one_station.specs.Events.{IsTaken}
+use Rattle.one_station.specs.declared.error.Fed.{Fed}
+use Rattle.one_station.specs.declared.error.NodeError.{NodeError}
+use Rattle.one_station.specs.declared.error.NodeError.TheVariants.{Refused, ClockPassed, OutOfMemory}
+use Rattle.one_station.specs.declared.error.TakeError.{TakeError}
+use Rattle.fulwethi_c.specs.declared.shown.CFrame.{CFrame}
+use Rattle.fulwethi_c.specs.declared.shown.CEvent.{CEvent}
+use Rattle.fulwethi_c.specs.Shown.{shown_frame, shown_event}
+
+-- a call was made on the node that the handle had, the handle has the node that it left, and the code is that of its answer
+pub record IsMadeOn {A : Type 0} (code : A → ℕ) (does : (before after : Node) → A → Type 0) (of out : Option Node) (result : ℕ) : Type 0 where
+  pub before : Node
+  pub after : Node
+  pub answer : A
+  pub had : of ≡ Some before
+  pub has : out ≡ Some after
+  pub done : does before after answer
+  pub is_code : result ≡ code answer
+
+-- A new node
+
+-- a call's answer, with its code
+pub record IsCoded {A : Type 0} (code : A → ℕ) (is : A → Type 0) (result : ℕ) : Type 0 where
+  pub answer : A
+  pub done : is answer
+  pub is_code : result ≡ code answer
+
+-- the handle has a new node; or it is as it was, for the address, or else for want of memory
+abbrev pub IsNew : Address → (old new : Option Node) → Result (Unit {0}) NewRefused → Type 0
+IsNew address old new (Ok _) = (new ≡ Some (new_node address)) × StandsAt (address ∷ []) [] (new_node address).segment
+IsNew address old new (Err made.BadAddresses) = (new ≡ old) × (are_addresses (address ∷ []) ≡ false)
+IsNew address old new (Err made.OutOfMemory) = (new ≡ old) × (are_addresses (address ∷ []) ≡ false → ⊥)
+
+-- What is written
+
+-- a number, where there is one; else the place is as it was
+abbrev pub IsWritten : {A : Type 0} → (number : A → ℕ) → (old new : ℕ) → Result A NodeError → Type 0
+IsWritten number old new (Ok value) = new ≡ number value
+IsWritten number old new (Err error) = new ≡ old
+
+abbrev pub IsTickWritten : (old new : ℕ) → Option ℕ → Type 0
+IsTickWritten old new (Some tick) = new ≡ tick
+IsTickWritten old new None = new ≡ old
+
+abbrev pub IsFrameWritten : (old new : CFrame) → Result (Option CanFrame) NodeError → Type 0
+IsFrameWritten old new (Ok (Some frame)) = new ≡ shown_frame frame
+IsFrameWritten old new (Ok None) = new ≡ old
+IsFrameWritten old new (Err error) = new ≡ old
+
+abbrev pub IsEventWritten : (old new : CEvent) → Option Event → Type 0
+IsEventWritten old new (Some event) = new ≡ shown_event event
+IsEventWritten old new None = new ≡ old
+
+-- Ports and messages
+
+-- nothing is done with what isn't a PGN or a frame
+abbrev pub IsUnread : {A : Type 0} → Refusal → (before after : Node) → Result A NodeError → Type 0
+IsUnread cause before after answer = (answer ≡ Err (Refused cause)) × (after ≡ before)
+
+abbrev pub IsOpened : (max_len : ℕ) → Result ℕ Refusal → (before after : Node) → Result PortId NodeError → Type 0
+IsOpened max_len (Err cause) before after answer = IsUnread cause before after answer
+IsOpened max_len (Ok pgn) before after answer =
+    IsAnswered before (Open before.address pgn max_len) after answer
+    × IfOk answer (λ port. (applied before.segment (Open before.address pgn max_len)).1 ≡ Opened port)
+
+abbrev pub IsSending : (to : Address) → (bytes : List ℕ) → Result ℕ Refusal → (before after : Node) → Result ℕ NodeError → Type 0
+IsSending to bytes (Err cause) before after answer = IsUnread cause before after answer
+IsSending to bytes (Ok pgn) before after answer =
+    IsAnswered before (Send before.address to pgn bytes) after answer
+    × IfOk answer (λ number. (applied before.segment (Send before.address to pgn bytes)).1 ≡ Sent number)
+
+-- The clock: it goes on, or it stands later
+
+abbrev pub IsClocked : (tick : ℕ) → (before after : Node) → Result (Unit {0}) NodeError → Type 0
+IsClocked tick before after answer =
+    (IsErrOf answer ClockPassed ↔ (tick < before.segment.now))
+    × ((before.segment.now ≤ tick → IsAnswered before (Tick (tick - before.segment.now)) after answer) × OnErr answer (after ≡ before))
+
+-- Frames
+
+abbrev pub IsFrameFed : Result CanFrame Refusal → (before after : Node) → Result Fed NodeError → Type 0
+IsFrameFed (Err cause) before after answer = IsUnread cause before after answer
+IsFrameFed (Ok frame) before after answer = IsFed before frame after answer
+
+abbrev pub IsFront : (before after : Node) → Result (Option CanFrame) NodeError → Type 0
+IsFront before after answer =
+    IfOk answer (λ frame. frame ≡ front_at after.segment before.address)
+    × (OnOk answer (Did before (front_calls before) after) × (IfErr answer (λ error. error ≡ OutOfMemory) × OnErr answer (after ≡ before)))
+
+-- What was told
+
+abbrev pub IsTakenInto : (room left : List ℕ) → (before after : Node) → Result ℕ TakeError → Type 0
+IsTakenInto room left before after answer = IsTaken before.events room after.events left answer × (after ≡ record before { events = after.events })
+
+-- Readers, which change nothing
+
+abbrev pub IsNextEvent : (before after : Node) → Option Event → Type 0
+IsNextEvent before after answer = (after ≡ before) × (answer ≡ slice_get before.events 0)
+
+abbrev pub IsDueNext : (before after : Node) → Option ℕ → Type 0
+IsDueNext before after answer = (after ≡ before) × IsDueFrom (any_due before.segment) answer

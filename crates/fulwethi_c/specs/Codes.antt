@@ -1,0 +1,51 @@
+-- The codes of answers.
+use Rattle.std.specs.Prelude.{ℕ, Option, Some, None, Result, Ok, Err}
+use Rattle.segment_law.specs.Refusals.{refusal_number}
+use Rattle.segment_core.specs.declared.segment.NewRefused.{NewRefused}
+use Rattle.segment_core.specs.declared.segment.NewRefused.TheVariants as made
+use Rattle.bus_frame.specs.Frames.{CanFrame}
+use Rattle.one_station.specs.declared.error.NodeError.{NodeError}
+use Rattle.one_station.specs.declared.error.NodeError.TheVariants.{Refused, FrameWaits, ClockPassed, OutOfMemory}
+use Rattle.one_station.specs.declared.error.Fed.{Fed}
+use Rattle.one_station.specs.declared.error.Fed.TheVariants.{Taken, Waits}
+use Rattle.one_station.specs.declared.error.TakeError.{TakeError}
+use Rattle.one_station.specs.declared.error.TakeError.TheVariants.{Nothing, TooLittleRoom}
+
+abbrev pub error_code : NodeError → ℕ
+error_code (Refused cause) = refusal_number cause
+error_code FrameWaits = 66
+error_code ClockPassed = 67
+error_code OutOfMemory = 64
+
+abbrev pub value_code : {A : Type 0} → Result A NodeError → ℕ
+value_code (Ok _) = 0
+value_code (Err error) = error_code error
+
+abbrev pub done_code : Result (Unit {0}) NodeError → ℕ
+done_code (Ok _) = 0
+done_code (Err error) = error_code error
+
+abbrev pub fed_code : Result Fed NodeError → ℕ
+fed_code (Ok Taken) = 0
+fed_code (Ok Waits) = 69
+fed_code (Err error) = error_code error
+
+abbrev pub taken_code : Result ℕ TakeError → ℕ
+taken_code (Ok len) = 0
+taken_code (Err Nothing) = 65
+taken_code (Err (TooLittleRoom len)) = 68
+
+abbrev pub front_code : Result (Option CanFrame) NodeError → ℕ
+front_code (Ok (Some frame)) = 0
+front_code (Ok None) = 65
+front_code (Err error) = error_code error
+
+-- of what may be there
+abbrev pub found_code : {A : Type 0} → Option A → ℕ
+found_code (Some _) = 0
+found_code None = 65
+
+abbrev pub new_code : Result (Unit {0}) NewRefused → ℕ
+new_code (Ok _) = 0
+new_code (Err made.BadAddresses) = 13
+new_code (Err made.OutOfMemory) = 64

@@ -1,0 +1,77 @@
+//! What a call comes to, as C reads it: 0 where it is done, 1 to 30 the number of its refusal, and these.
+ghost use Rattle.std.specs.Prelude.{◌≡◌};
+ghost use Rattle.fulwethi_c.specs.Codes.{error_code, done_code, fed_code, taken_code, new_code};
+
+use one_station::{Fed, NewRefused, NodeError, TakeError};
+
+pub(crate) const DONE: u32 = 0;
+
+pub(crate) const NO_MEMORY: u32 = 64;
+
+pub(crate) const NOTHING: u32 = 65;
+
+pub(crate) const FRAME_WAITS: u32 = 66;
+
+pub(crate) const CLOCK_PASSED: u32 = 67;
+
+pub(crate) const TOO_LITTLE_ROOM: u32 = 68;
+
+pub(crate) const HELD: u32 = 69;
+
+/// The number of the refusal `BadAddresses`.
+const BAD_ADDRESS: u32 = 13;
+
+/// The code of a call that isn't done.
+pub(crate) fn error_code(error: NodeError) -> u32
+    ensures { result ≡ error_code error }
+{
+    match error {
+        NodeError::Refused(cause) => cause.number() as u32,
+        NodeError::FrameWaits => FRAME_WAITS,
+        NodeError::ClockPassed => CLOCK_PASSED,
+        NodeError::OutOfMemory => NO_MEMORY,
+    }
+}
+
+/// The code of a call that is done, or isn't.
+pub(crate) fn done_code(done: Result<(), NodeError>) -> u32
+    ensures { result ≡ done_code done }
+{
+    match done {
+        Ok(()) => DONE,
+        Err(error) => error_code(error),
+    }
+}
+
+/// The code of a frame that was fed or put: `HELD` where it waits to be looked at.
+pub(crate) fn fed_code(fed: Result<Fed, NodeError>) -> u32
+    ensures { result ≡ fed_code fed }
+{
+    match fed {
+        Ok(Fed::Taken) => DONE,
+        Ok(Fed::Waits) => HELD,
+        Err(error) => error_code(error),
+    }
+}
+
+/// The code of an event that was taken, or wasn't.
+pub(crate) fn taken_code(taken: Result<usize, TakeError>) -> u32
+    ensures { result ≡ taken_code taken }
+{
+    match taken {
+        Ok(_) => DONE,
+        Err(TakeError::Nothing) => NOTHING,
+        Err(TakeError::TooLittleRoom(_)) => TOO_LITTLE_ROOM,
+    }
+}
+
+/// The code of a node that was made, or wasn't.
+pub(crate) fn new_code(made: Result<(), NewRefused>) -> u32
+    ensures { result ≡ new_code made }
+{
+    match made {
+        Ok(()) => DONE,
+        Err(NewRefused::BadAddresses) => BAD_ADDRESS,
+        Err(NewRefused::OutOfMemory) => NO_MEMORY,
+    }
+}

@@ -1,0 +1,45 @@
+//! What was told, and when a timer is due.
+ghost use Rattle.std.specs.Prelude.{IsSome};
+ghost use Rattle.fulwethi_c.specs.Codes.{found_code, taken_code};
+ghost use Rattle.fulwethi_c.specs.Calls.{IsMadeOn, IsNextEvent, IsEventWritten, IsTakenInto, IsDueNext, IsTickWritten};
+
+use crate::codes::taken_code;
+use crate::handle::Handle;
+use crate::parts::Parts;
+use crate::shown::{CEvent, write_event, write_tick};
+
+/// Shows the event that is told next, which stays.
+#[unsafe(no_mangle)]
+pub extern "C" fn fulwethi_raw_event(of: Handle, event: &mut CEvent, out: &mut Handle) -> u32
+    requires { IsSome of.node }
+    ensures { IsMadeOn found_code (λ before after answer. IsNextEvent before after answer × IsEventWritten event.old event.new answer) of.node out.new.node result }
+{
+    let held = of.into_parts().into_box();
+    let code = write_event(&held, event);
+    *out = Handle::of_parts(Parts::of(held));
+    code
+}
+
+/// Takes the event that is told next, and writes its bytes to the front of the room.
+#[unsafe(no_mangle)]
+pub extern "C" fn fulwethi_raw_take(of: Handle, room: &mut [u8], out: &mut Handle) -> u32
+    requires { IsSome of.node }
+    ensures { IsMadeOn taken_code (IsTakenInto room.old room.new) of.node out.new.node result }
+{
+    let mut held = of.into_parts().into_box();
+    let code = taken_code(held.take_bytes(room));
+    *out = Handle::of_parts(Parts::of(held));
+    code
+}
+
+/// Writes the tick at which the next timer is due.
+#[unsafe(no_mangle)]
+pub extern "C" fn fulwethi_raw_next_due_at(of: Handle, tick: &mut u64, out: &mut Handle) -> u32
+    requires { IsSome of.node }
+    ensures { IsMadeOn found_code (λ before after answer. IsDueNext before after answer × IsTickWritten tick.old tick.new answer) of.node out.new.node result }
+{
+    let held = of.into_parts().into_box();
+    let code = write_tick(held.next_due_at(), tick);
+    *out = Handle::of_parts(Parts::of(held));
+    code
+}

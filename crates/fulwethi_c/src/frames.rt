@@ -1,0 +1,82 @@
+//! Frames from the bus and for the bus.
+ghost use Rattle.std.specs.Prelude.{◌≡◌, IsSome};
+ghost use Rattle.one_station.specs.Answers.{IsAnswered, IsSent, looks};
+ghost use Rattle.fulwethi_c.specs.Codes.{done_code, fed_code, front_code};
+ghost use Rattle.fulwethi_c.specs.Reads.{read_frame};
+ghost use Rattle.fulwethi_c.specs.Calls.{IsMadeOn, IsFrameFed, IsFront, IsFrameWritten};
+
+use crate::codes::{done_code, fed_code};
+use crate::handle::Handle;
+use crate::parts::Parts;
+use crate::shown::{CFrame, write_frame};
+use bus_frame::{CanId, Frame};
+use one_station::{Fed, Node, NodeError, Refusal};
+
+/// A frame of another node comes from the bus.
+#[unsafe(no_mangle)]
+pub extern "C" fn fulwethi_raw_feed(of: Handle, id: u32, bytes: &[u8], out: &mut Handle) -> u32
+    requires { IsSome of.node }
+    ensures { IsMadeOn fed_code (IsFrameFed (read_frame id bytes.now)) of.node out.new.node result }
+{
+    let mut held = of.into_parts().into_box();
+    let code = fed_code(feed(&mut held, id, bytes));
+    *out = Handle::of_parts(Parts::of(held));
+    code
+}
+
+fn feed(node: &mut Node, id: u32, bytes: &[u8]) -> Result<Fed, NodeError>
+    ensures { IsFrameFed (read_frame id bytes.now) node.old node.new result }
+{
+    match read_frame(id, bytes) {
+        Ok(frame) => node.feed(frame),
+        Err(cause) => Err(NodeError::Refused(cause)),
+    }
+}
+
+fn read_frame(id: u32, bytes: &[u8]) -> Result<Frame, Refusal>
+    ensures { result ≡ read_frame id bytes.now }
+{
+    let Ok(id) = CanId::new(id) else {
+        return Err(Refusal::IdTooLarge);
+    };
+    match Frame::new(id, bytes) {
+        Ok(frame) => Ok(frame),
+        Err(_) => Err(Refusal::DataTooLong),
+    }
+}
+
+/// Looks at the frame that waits.
+#[unsafe(no_mangle)]
+pub extern "C" fn fulwethi_raw_settle(of: Handle, out: &mut Handle) -> u32
+    requires { IsSome of.node }
+    ensures { IsMadeOn done_code (λ before after. IsAnswered before (looks before) after) of.node out.new.node result }
+{
+    let mut held = of.into_parts().into_box();
+    let code = done_code(held.settle());
+    *out = Handle::of_parts(Parts::of(held));
+    code
+}
+
+/// The frame that is next for the bus.
+#[unsafe(no_mangle)]
+pub extern "C" fn fulwethi_raw_front(of: Handle, frame: &mut CFrame, out: &mut Handle) -> u32
+    requires { IsSome of.node }
+    ensures { IsMadeOn front_code (λ before after answer. IsFront before after answer × IsFrameWritten frame.old frame.new answer) of.node out.new.node result }
+{
+    let mut held = of.into_parts().into_box();
+    let code = write_frame(held.front(), frame);
+    *out = Handle::of_parts(Parts::of(held));
+    code
+}
+
+/// That frame was put on the bus.
+#[unsafe(no_mangle)]
+pub extern "C" fn fulwethi_raw_sent(of: Handle, out: &mut Handle) -> u32
+    requires { IsSome of.node }
+    ensures { IsMadeOn fed_code IsSent of.node out.new.node result }
+{
+    let mut held = of.into_parts().into_box();
+    let code = fed_code(held.sent());
+    *out = Handle::of_parts(Parts::of(held));
+    code
+}

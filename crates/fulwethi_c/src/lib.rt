@@ -1,0 +1,75 @@
+//! A node of J1939 for C: a handle, which owns the node, goes into each call and comes back by `out`. `fulwethi.h` has functions
+//! over these that take a pointer to the handle.
+#![tactic(auto)]
+
+ghost use Rattle.std.specs.Prelude.{◌≡◌, IsSome};
+ghost use Rattle.segment_law.specs.declared.call.Call.TheVariants.{Fire};
+ghost use Rattle.one_station.specs.Answers.{IsAnswered};
+ghost use Rattle.fulwethi_c.specs.Codes.{done_code, new_code};
+ghost use Rattle.fulwethi_c.specs.Calls.{IsMadeOn, IsCoded, IsNew, IsClocked};
+
+mod codes;
+mod events;
+mod frames;
+mod handle;
+mod parts;
+mod ports;
+mod shown;
+
+use codes::{done_code, new_code};
+use handle::Handle;
+use one_station::{NewRefused, Node};
+use parts::Parts;
+use pgn_ids::Address;
+use std::alloc::Global;
+
+/// Makes a node; `out` must own nothing.
+#[unsafe(no_mangle)]
+pub extern "C" fn fulwethi_raw_new(alloc: Global, address: u8, out: &mut Handle) -> u32
+    ensures { IsCoded new_code (IsNew (record { 0 = address }) out.old.node out.new.node) result }
+{
+    new_code(make(alloc, Address(address), out))
+}
+
+fn make(alloc: Global, address: Address, out: &mut Handle) -> Result<(), NewRefused>
+    ensures { IsNew address out.old.node out.new.node result }
+{
+    let node = Node::new(alloc, address)?;
+    let Ok(held) = Box::new(alloc, node) else {
+        return Err(NewRefused::OutOfMemory);
+    };
+    *out = Handle::of_parts(Parts::of(held));
+    Ok(())
+}
+
+/// Frees it.
+#[unsafe(no_mangle)]
+pub extern "C" fn fulwethi_raw_free(of: Handle)
+    requires { IsSome of.node }
+{
+    drop(of.into_parts().into_box());
+}
+
+/// The clock goes on to a tick.
+#[unsafe(no_mangle)]
+pub extern "C" fn fulwethi_raw_clock(of: Handle, tick: u64, out: &mut Handle) -> u32
+    requires { IsSome of.node }
+    ensures { IsMadeOn done_code (IsClocked tick) of.node out.new.node result }
+{
+    let mut held = of.into_parts().into_box();
+    let code = done_code(held.clock(tick));
+    *out = Handle::of_parts(Parts::of(held));
+    code
+}
+
+/// Fires one timer that is due.
+#[unsafe(no_mangle)]
+pub extern "C" fn fulwethi_raw_fire(of: Handle, out: &mut Handle) -> u32
+    requires { IsSome of.node }
+    ensures { IsMadeOn done_code (λ before after. IsAnswered before (Fire before.address) after) of.node out.new.node result }
+{
+    let mut held = of.into_parts().into_box();
+    let code = done_code(held.fire());
+    *out = Handle::of_parts(Parts::of(held));
+    code
+}

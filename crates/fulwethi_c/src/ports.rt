@@ -1,0 +1,106 @@
+//! Ports and messages.
+ghost use Rattle.std.specs.Prelude.{◌≡◌, IsSome};
+ghost use Rattle.segment_law.specs.declared.call.Call.TheVariants.{Close, Cancel};
+ghost use Rattle.one_station.specs.Answers.{IsAnswered};
+ghost use Rattle.fulwethi_c.specs.Codes.{done_code, value_code};
+ghost use Rattle.fulwethi_c.specs.Reads.{read_pgn};
+ghost use Rattle.fulwethi_c.specs.Calls.{IsMadeOn, IsOpened, IsSending, IsWritten};
+
+use crate::codes::done_code;
+use crate::handle::Handle;
+use crate::parts::Parts;
+use crate::shown::{write_number, write_port};
+use one_station::{Node, NodeError, PortId, Refusal};
+use pgn_ids::{Address, Pgn};
+
+/// Opens a port, and writes its number.
+#[unsafe(no_mangle)]
+pub extern "C" fn fulwethi_raw_open(
+    of: Handle,
+    pgn: u32,
+    max_len: u32,
+    port: &mut u64,
+    out: &mut Handle,
+) -> u32
+    requires { IsSome of.node }
+    ensures { IsMadeOn value_code (λ before after answer. IsOpened max_len (read_pgn pgn) before after answer × IsWritten (λ id. id.number) port.old port.new answer) of.node out.new.node result }
+{
+    let mut held = of.into_parts().into_box();
+    let code = write_port(open(&mut held, pgn, max_len), port);
+    *out = Handle::of_parts(Parts::of(held));
+    code
+}
+
+fn open(node: &mut Node, pgn: u32, max_len: u32) -> Result<PortId, NodeError>
+    ensures { IsOpened max_len (read_pgn pgn) node.old node.new result }
+{
+    match read_pgn(pgn) {
+        Ok(pgn) => node.open_port(pgn, max_len),
+        Err(cause) => Err(NodeError::Refused(cause)),
+    }
+}
+
+fn read_pgn(raw: u32) -> Result<Pgn, Refusal>
+    ensures { result ≡ read_pgn raw }
+{
+    match Pgn::new(raw) {
+        Ok(pgn) => Ok(pgn),
+        Err(_) => Err(Refusal::BadPgn),
+    }
+}
+
+/// Closes a port.
+#[unsafe(no_mangle)]
+pub extern "C" fn fulwethi_raw_close(of: Handle, port: u64, out: &mut Handle) -> u32
+    requires { IsSome of.node }
+    ensures { IsMadeOn done_code (λ before after. IsAnswered before (Close (record { station = before.address; number = port })) after) of.node out.new.node result }
+{
+    let mut held = of.into_parts().into_box();
+    let station = held.address();
+    let code = done_code(held.close_port(PortId {
+        station,
+        number: port,
+    }));
+    *out = Handle::of_parts(Parts::of(held));
+    code
+}
+
+/// Sends a message, and writes its number.
+#[unsafe(no_mangle)]
+pub extern "C" fn fulwethi_raw_send(
+    of: Handle,
+    to: u8,
+    pgn: u32,
+    bytes: &[u8],
+    number: &mut u64,
+    out: &mut Handle,
+) -> u32
+    requires { IsSome of.node }
+    ensures { IsMadeOn value_code (λ before after answer. IsSending (record { 0 = to }) bytes.now (read_pgn pgn) before after answer × IsWritten (λ sent. sent) number.old number.new answer) of.node out.new.node result }
+{
+    let mut held = of.into_parts().into_box();
+    let code = write_number(send(&mut held, to, pgn, bytes), number);
+    *out = Handle::of_parts(Parts::of(held));
+    code
+}
+
+fn send(node: &mut Node, to: u8, pgn: u32, bytes: &[u8]) -> Result<u64, NodeError>
+    ensures { IsSending (record { 0 = to }) bytes.now (read_pgn pgn) node.old node.new result }
+{
+    match read_pgn(pgn) {
+        Ok(pgn) => node.send(Address(to), pgn, bytes),
+        Err(cause) => Err(NodeError::Refused(cause)),
+    }
+}
+
+/// Cancels a message.
+#[unsafe(no_mangle)]
+pub extern "C" fn fulwethi_raw_cancel(of: Handle, to: u8, number: u64, out: &mut Handle) -> u32
+    requires { IsSome of.node }
+    ensures { IsMadeOn done_code (λ before after. IsAnswered before (Cancel before.address (record { 0 = to }) number) after) of.node out.new.node result }
+{
+    let mut held = of.into_parts().into_box();
+    let code = done_code(held.cancel(Address(to), number));
+    *out = Handle::of_parts(Parts::of(held));
+    code
+}

@@ -1,0 +1,134 @@
+/*
+ * fulwethi: one station of SAE J1939-21 and ISO 11783-3 for a program that owns the bus.
+ *
+ * Frames and ticks go in, frames and events come out. No call waits, reads a clock, starts a thread or calls back.
+ *
+ * What a caller upholds:
+ *   - a `struct fulwethi` starts as all zeros (`= {0}`), is made by fulwethi_new, and ends by fulwethi_free;
+ *   - it isn't copied: of two copies, the one that isn't passed is spent by the first call;
+ *   - every call on it is made by the thread that made it, and no two at the same time;
+ *   - a pointer to room for n bytes has n bytes behind it.
+ *
+ * Units: a message is 9 to 1,785 bytes to all (address 255), 9 to 117,440,505 bytes to one node (0 to 253); a tick is 1 ms.
+ */
+#ifndef FULWETHI_H
+#define FULWETHI_H
+
+#include <stddef.h>
+#include <stdint.h>
+
+#ifdef __cplusplus
+extern "C" {
+#endif
+
+struct fulwethi { void *ptr; };
+
+/* A frame: 29 bits of identifier, and 0 to 8 bytes. */
+struct fulwethi_frame { uint32_t id, len; uint8_t bytes[8]; };
+
+/* Kind 1: a message at port `number`, of `len` bytes. Kind 2: the outcome of message `number` to `to`. */
+struct fulwethi_event { uint32_t kind, from, to, pgn; uint64_t number, len; uint32_t outcome, reason; };
+
+enum { FULWETHI_GIVEN = 1, FULWETHI_OUTCOME = 2 };
+
+enum {
+    FULWETHI_ACKNOWLEDGED = 1, FULWETHI_BROADCAST, FULWETHI_ABORTED, FULWETHI_TIMED_OUT, FULWETHI_OVERRUN, FULWETHI_CANCELLED,
+    FULWETHI_UNREACHABLE
+};
+
+/* What a call comes to. A call that isn't done changed nothing, and can be made again. */
+enum {
+    FULWETHI_DONE = 0,
+    /* refused: */
+    FULWETHI_ID_TOO_LARGE = 1, FULWETHI_DATA_TOO_LONG = 2, FULWETHI_BAD_PGN = 3, FULWETHI_TX_FULL = 6, FULWETHI_BUS_FULL = 7,
+    FULWETHI_LANE_FULL = 9, FULWETHI_PORTS_FULL = 11, FULWETHI_NO_SUCH_PORT = 12, FULWETHI_BAD_ADDRESS = 13,
+    FULWETHI_NO_SUCH_STATION = 14, FULWETHI_TOO_SHORT = 15, FULWETHI_TOO_LONG = 16, FULWETHI_SAME_STATION = 17,
+    FULWETHI_NOTHING_TO_TAKE = 18, FULWETHI_NOTHING_DUE = 20, FULWETHI_NOTHING_TO_SEND = 21, FULWETHI_STATION_ADDRESS = 23,
+    /* not done: */
+    FULWETHI_NO_MEMORY = 64, FULWETHI_NOTHING = 65, FULWETHI_FRAME_WAITS = 66, FULWETHI_CLOCK_PASSED = 67,
+    FULWETHI_TOO_LITTLE_ROOM = 68,
+    /* done but for this: the node has the frame, and looks at it when settle is called */
+    FULWETHI_HELD = 69
+};
+
+/* The exports: a handle goes in by value, and comes back by `out`. */
+uint32_t fulwethi_raw_new(uint8_t address, struct fulwethi *out);
+void fulwethi_raw_free(struct fulwethi of);
+uint32_t fulwethi_raw_open(struct fulwethi of, uint32_t pgn, uint32_t max_len, uint64_t *port, struct fulwethi *out);
+uint32_t fulwethi_raw_close(struct fulwethi of, uint64_t port, struct fulwethi *out);
+uint32_t fulwethi_raw_send(struct fulwethi of, uint8_t to, uint32_t pgn, const uint8_t *bytes, size_t len, uint64_t *number, struct fulwethi *out);
+uint32_t fulwethi_raw_cancel(struct fulwethi of, uint8_t to, uint64_t number, struct fulwethi *out);
+uint32_t fulwethi_raw_feed(struct fulwethi of, uint32_t id, const uint8_t *bytes, size_t len, struct fulwethi *out);
+uint32_t fulwethi_raw_settle(struct fulwethi of, struct fulwethi *out);
+uint32_t fulwethi_raw_front(struct fulwethi of, struct fulwethi_frame *frame, struct fulwethi *out);
+uint32_t fulwethi_raw_sent(struct fulwethi of, struct fulwethi *out);
+uint32_t fulwethi_raw_clock(struct fulwethi of, uint64_t tick, struct fulwethi *out);
+uint32_t fulwethi_raw_fire(struct fulwethi of, struct fulwethi *out);
+uint32_t fulwethi_raw_next_due_at(struct fulwethi of, uint64_t *tick, struct fulwethi *out);
+uint32_t fulwethi_raw_event(struct fulwethi of, struct fulwethi_event *event, struct fulwethi *out);
+uint32_t fulwethi_raw_take(struct fulwethi of, uint8_t *room, size_t len, struct fulwethi *out);
+
+/* A station with this address, 0 to 253 (SAE J1939-81), at tick 0. BAD_ADDRESS, NO_MEMORY: nothing was made. */
+static inline uint32_t fulwethi_new(struct fulwethi *node, uint8_t address) { return fulwethi_raw_new(address, node); }
+
+/* Frees it, and what wasn't taken. It is all zeros then, and may be made again. */
+static inline void fulwethi_free(struct fulwethi *node) {
+    if (node->ptr) fulwethi_raw_free(*node);
+    node->ptr = NULL;
+}
+
+/* Opens a port for messages of a PGN (18 bits; of PDU1 with low byte 0) of at most max_len bytes, and writes its number.
+ * BAD_PGN, PORTS_FULL (16 are open), NO_MEMORY. */
+static inline uint32_t fulwethi_open(struct fulwethi *node, uint32_t pgn, uint32_t max_len, uint64_t *port) {
+    return fulwethi_raw_open(*node, pgn, max_len, port, node);
+}
+
+/* Closes a port: nothing is given at it any more. NO_SUCH_PORT, NO_MEMORY. */
+static inline uint32_t fulwethi_close(struct fulwethi *node, uint64_t port) { return fulwethi_raw_close(*node, port, node); }
+
+/* Sends a message, whose bytes are copied, and writes its number, from 1 for each destination. Its frames come by front, its end
+ * by an event. BAD_PGN, NO_SUCH_STATION (254), SAME_STATION, TOO_SHORT, TOO_LONG, LANE_FULL (32 without an outcome), NO_MEMORY. */
+static inline uint32_t fulwethi_send(struct fulwethi *node, uint8_t to, uint32_t pgn, const uint8_t *bytes, size_t len, uint64_t *number) {
+    return fulwethi_raw_send(*node, to, pgn, bytes, len, number, node);
+}
+
+/* Cancels a message that has no outcome yet. NOTHING_TO_SEND (there is none), NO_SUCH_STATION, TX_FULL, NO_MEMORY. */
+static inline uint32_t fulwethi_cancel(struct fulwethi *node, uint8_t to, uint64_t number) {
+    return fulwethi_raw_cancel(*node, to, number, node);
+}
+
+/* Looks at the frame that waits, since there was no memory when it was fed. NOTHING_TO_TAKE (none waits), TX_FULL, NO_MEMORY. */
+static inline uint32_t fulwethi_settle(struct fulwethi *node) { return fulwethi_raw_settle(*node, node); }
+
+/* A frame of another node comes from the bus. STATION_ADDRESS (it has the own source: don't loop own frames back), TX_FULL (put
+ * frames first), FRAME_WAITS (settle first), NO_MEMORY, ID_TOO_LARGE, DATA_TOO_LONG: the node doesn't have it. HELD: the node has
+ * it, and settle is to be called until it is done. */
+static inline uint32_t fulwethi_feed(struct fulwethi *node, const struct fulwethi_frame *frame) {
+    return fulwethi_raw_feed(*node, frame->id, frame->bytes, frame->len, node);
+}
+
+/* The frame that is next for the bus; it stays next until sent. NOTHING: none now. NO_MEMORY. */
+static inline uint32_t fulwethi_front(struct fulwethi *node, struct fulwethi_frame *frame) { return fulwethi_raw_front(*node, frame, node); }
+
+/* That frame was put. NO_MEMORY, FRAME_WAITS (settle first): to be called again, without putting the frame again. */
+static inline uint32_t fulwethi_sent(struct fulwethi *node) { return fulwethi_raw_sent(*node, node); }
+
+/* The clock goes on to a tick of 1 ms. CLOCK_PASSED (it stands later), NO_MEMORY. */
+static inline uint32_t fulwethi_clock(struct fulwethi *node, uint64_t tick) { return fulwethi_raw_clock(*node, tick, node); }
+
+/* Fires one timer that is due; to be called until it isn't done. NOTHING_DUE, TX_FULL (put frames first), NO_MEMORY. */
+static inline uint32_t fulwethi_fire(struct fulwethi *node) { return fulwethi_raw_fire(*node, node); }
+
+/* Writes the tick at which the next timer is due. NOTHING: no timer runs. */
+static inline uint32_t fulwethi_next_due_at(struct fulwethi *node, uint64_t *tick) { return fulwethi_raw_next_due_at(*node, tick, node); }
+
+/* Shows what is told next, with the length of its bytes; it stays. NOTHING: nothing is told. */
+static inline uint32_t fulwethi_event(struct fulwethi *node, struct fulwethi_event *event) { return fulwethi_raw_event(*node, event, node); }
+
+/* Takes what is told next, and writes its bytes to the front of the room. NOTHING, TOO_LITTLE_ROOM: it stays. */
+static inline uint32_t fulwethi_take(struct fulwethi *node, uint8_t *room, size_t len) { return fulwethi_raw_take(*node, room, len, node); }
+
+#ifdef __cplusplus
+}
+#endif
+#endif

@@ -1,0 +1,166 @@
+/* Two stations over a bus in memory that loses and repeats frames.
+ *
+ *   two_stations COUNT       so many messages of 9 to 100,000 bytes, each compared byte for byte
+ *   two_stations memory      a short exchange, with each allocation refused in turn
+ *
+ * A message that isn't acknowledged is sent again. Each one that is given must be one that was sent, none before an earlier one, and
+ * each one that is acknowledged must have been given. Linked with --wrap=malloc and --wrap=realloc. */
+#include "fulwethi.h"
+#include <stdio.h>
+#include <stdlib.h>
+#include <string.h>
+
+enum { A = 0x21, B = 0x35, PGN = 0xEF00, MOST = 100000 };
+
+static unsigned long allocations, refused_at;
+void *__real_malloc(size_t n);
+void *__real_realloc(void *p, size_t n);
+void *__wrap_malloc(size_t n) { return ++allocations == refused_at ? NULL : __real_malloc(n); }
+void *__wrap_realloc(void *p, size_t n) { return ++allocations == refused_at ? NULL : __real_realloc(p, n); }
+
+#define WANT(is) do { if (!(is)) { fprintf(stderr, "line %d: %s\n", __LINE__, #is); exit(1); } } while (0)
+
+static uint64_t seed;
+static uint32_t chance(uint32_t of) {
+    seed = seed * 6364136223846793005u + 1442695040888963407u;
+    return (uint32_t)(seed >> 33) % of;
+}
+
+/* Bytes that the number and the place decide, the number first. */
+static uint8_t byte_of(uint32_t message, size_t place) {
+    if (place < 4) return (uint8_t)(message >> (8 * place));
+    return (uint8_t)(message * 31 + place * 7 + (place >> 8));
+}
+
+static size_t length_of(uint32_t message) {
+    if (message % 100 == 99) return 1786 + message * 997u % (MOST - 1785);
+    return 9 + message * 7919u % 400;
+}
+
+struct run { struct fulwethi node[2]; uint64_t tick; uint32_t lose, repeat, given, acknowledged; int last_given; };
+
+static void feed(struct fulwethi *to, const struct fulwethi_frame *frame) {
+    uint32_t code = fulwethi_feed(to, frame);
+    if (code == FULWETHI_NO_MEMORY) code = fulwethi_feed(to, frame);
+    if (code == FULWETHI_TX_FULL) return; /* lost */
+    if (code == FULWETHI_HELD) code = fulwethi_settle(to);
+    WANT(code == FULWETHI_DONE);
+}
+
+static int carry(struct run *run, int from) {
+    struct fulwethi_frame frame;
+    struct fulwethi *node = &run->node[from];
+    uint32_t code = fulwethi_front(node, &frame);
+    if (code == FULWETHI_NO_MEMORY) code = fulwethi_front(node, &frame);
+    if (code == FULWETHI_NOTHING) return 0;
+    WANT(code == FULWETHI_DONE);
+    if (!run->lose || chance(run->lose)) {
+        feed(&run->node[1 - from], &frame);
+        if (run->repeat && !chance(run->repeat)) feed(&run->node[1 - from], &frame);
+    }
+    code = fulwethi_sent(node);
+    if (code == FULWETHI_NO_MEMORY) code = fulwethi_sent(node);
+    WANT(code == FULWETHI_DONE);
+    return 1;
+}
+
+/* Takes what B was given, and tells how A's message ended; 0 where it has not. */
+static uint32_t told(struct run *run, uint32_t message) {
+    static uint8_t room[MOST];
+    struct fulwethi_event event;
+    uint32_t outcome = 0;
+    while (fulwethi_event(&run->node[1], &event) == FULWETHI_DONE) {
+        WANT(event.kind == FULWETHI_GIVEN && event.from == A && event.to == B && event.pgn == PGN);
+        WANT(fulwethi_take(&run->node[1], room, event.len - 1) == FULWETHI_TOO_LITTLE_ROOM);
+        WANT(fulwethi_take(&run->node[1], room, event.len) == FULWETHI_DONE);
+        uint32_t number = room[0] | room[1] << 8 | room[2] << 16 | (uint32_t)room[3] << 24;
+        WANT(number == message && event.len == length_of(number));
+        for (size_t i = 0; i < event.len; i++) WANT(room[i] == byte_of(number, i));
+        run->given++;
+        run->last_given = (int)number;
+    }
+    while (fulwethi_event(&run->node[0], &event) == FULWETHI_DONE) {
+        WANT(event.kind == FULWETHI_OUTCOME);
+        WANT(fulwethi_take(&run->node[0], room, 0) == FULWETHI_DONE);
+        outcome = event.outcome;
+    }
+    return outcome;
+}
+
+/* Both clocks go on, and what is due is fired. */
+static void wait(struct run *run, uint64_t ticks) {
+    run->tick += ticks;
+    for (int i = 0; i < 2; i++) {
+        uint32_t code = fulwethi_clock(&run->node[i], run->tick);
+        if (code == FULWETHI_NO_MEMORY) code = fulwethi_clock(&run->node[i], run->tick);
+        WANT(code == FULWETHI_DONE);
+        do code = fulwethi_fire(&run->node[i]); while (code == FULWETHI_DONE || code == FULWETHI_NO_MEMORY);
+        WANT(code == FULWETHI_NOTHING_DUE || code == FULWETHI_TX_FULL);
+    }
+}
+
+/* Sends a message until it is acknowledged. */
+static void exchange(struct run *run, uint32_t message) {
+    static uint8_t bytes[MOST];
+    size_t len = length_of(message);
+    uint64_t number;
+    for (size_t i = 0; i < len; i++) bytes[i] = byte_of(message, i);
+    for (int tries = 0; tries < 1000; tries++) {
+        uint32_t outcome = 0, code = fulwethi_send(&run->node[0], B, PGN, bytes, len, &number);
+        if (code == FULWETHI_NO_MEMORY) code = fulwethi_send(&run->node[0], B, PGN, bytes, len, &number);
+        WANT(code == FULWETHI_DONE);
+        while (!outcome) {
+            while (carry(run, 0) + carry(run, 1)) { }
+            outcome = told(run, message);
+            if (!outcome) wait(run, 50);
+        }
+        if (outcome == FULWETHI_ACKNOWLEDGED) {
+            WANT(run->last_given == (int)message);
+            run->acknowledged++;
+            return;
+        }
+    }
+    WANT(!"acknowledged");
+}
+
+static int begin(struct run *run) {
+    uint64_t port;
+    memset(run, 0, sizeof *run);
+    run->last_given = -1;
+    if (fulwethi_new(&run->node[0], A) && fulwethi_new(&run->node[0], A)) return 0;
+    if (fulwethi_new(&run->node[1], B) && fulwethi_new(&run->node[1], B)) return 0;
+    if (fulwethi_open(&run->node[1], PGN, MOST, &port) && fulwethi_open(&run->node[1], PGN, MOST, &port)) return 0;
+    return 1;
+}
+
+static void end(struct run *run) {
+    fulwethi_free(&run->node[0]);
+    fulwethi_free(&run->node[1]);
+}
+
+int main(int count, char **words) {
+    struct run run;
+    if (count != 2) return 2;
+    if (!strcmp(words[1], "memory")) {
+        for (refused_at = 1; ; refused_at++) {
+            allocations = 0;
+            WANT(begin(&run));
+            exchange(&run, 0);
+            exchange(&run, 1);
+            end(&run);
+            if (allocations < refused_at) break;
+        }
+        printf("allocations refused in turn: %lu\n", refused_at - 1);
+        return 0;
+    }
+    uint32_t messages = (uint32_t)atol(words[1]);
+    WANT(begin(&run));
+    seed = 20;
+    run.lose = 20000;
+    run.repeat = 100;
+    for (uint32_t i = 0; i < messages; i++) exchange(&run, i);
+    WANT(run.acknowledged == messages && run.given >= messages);
+    printf("messages %u given %u\n", messages, run.given);
+    end(&run);
+    return 0;
+}
