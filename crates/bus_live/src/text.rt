@@ -4,10 +4,10 @@ ghost use Rattle.segment_shared.specs.Record.{trail};
 ghost use Rattle.bus_live.specs.Ending.{Came, end_text};
 
 use pgn_ids::Address;
+use port_table::PortId;
 use script_runs::{Lost, Told};
 use script_setup::Message;
 use script_text::print_text;
-use segment_core::PortId;
 use segment_report::{are_same, has_run_out, print_clients, print_ports};
 use segment_shared::Live;
 use std::alloc::Global;

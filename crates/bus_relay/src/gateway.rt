@@ -7,9 +7,10 @@ ghost use Rattle.script_setup.specs.Plan.{plan_of, first_plan, port_of};
 ghost use Rattle.bus_relay.specs.Gateway.{plans_of, first_plans, with_second, Done, FewCalls, obeyed_now, obeyed_words, obeyed_line, routed_by, placed_by, not_routed, passage_of, pgn_asked, pgn_of_port, port_pgn, count_to, begins_second, is_out_of_order, ends};
 
 use pgn_ids::{Address, Pgn};
+use port_table::PortId;
 use script_commands::{Fault, LineError, RouteWords, is_ascii, read_route, split_words};
 use script_setup::{Message, Setup};
-use segment_core::{Call, PortId, Refusal};
+use segment_law::{Call, Refusal};
 use segment_shared::{Inbox, Live, Stored};
 use std::alloc::Global;
 use std::mem;

@@ -4,9 +4,9 @@ ghost use Rattle.script_setup.specs.Plan.{plan_of, port_of};
 ghost use Rattle.bus_relay.specs.Parts.{IsPart};
 
 use pgn_ids::Address;
+use port_table::PortId;
 use script_runs::Lost;
 use script_setup::{Message, Setup};
-use segment_core::PortId;
 use segment_shared::{Inbox, Live};
 use segment_threads::{Sender, senders_of};
 use std::alloc::{AllocError, Global};

@@ -8,10 +8,10 @@ ghost use Rattle.bus_relay.specs.Ending.{Came, end_text};
 ghost use Rattle.bus_relay.specs.declared.gateway.Passage.{Passage};
 
 use pgn_ids::Address;
+use port_table::PortId;
 use script_runs::{Lost, Told};
 use script_setup::Message;
 use script_text::{print_relayed, print_text};
-use segment_core::PortId;
 use segment_report::{are_same, has_run_out, print_clients, print_ports};
 use segment_shared::Live;
 use std::alloc::Global;

@@ -1,10 +1,10 @@
 //! What holds of every record at which a segment stands. It speaks of the definitions alone, and a call of it does nothing.
 ghost use Rattle.segment_law.specs.Headline.{HeadlineHolds};
 
-use connection_law::{messages_are_given_once_in_order, outcomes_of_connections_are_true};
-use outcome_law::each_message_has_one_outcome;
-use port_law::{
-    what_is_given_is_to_its_station_or_to_all, what_is_given_is_within_the_life_of_its_port,
+use connection_law::{
+    each_message_has_one_outcome, messages_are_given_once_in_order,
+    outcomes_of_connections_are_true, what_is_given_is_to_its_station_or_to_all,
+    what_is_given_is_within_the_life_of_its_port,
 };
 
 /// A law: for every list of calls on a segment, each port is given the messages of one station to one destination at most once,

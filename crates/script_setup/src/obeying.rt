@@ -7,7 +7,7 @@ ghost use Rattle.script_setup.specs.Plan.{plan_of, Done, FewCalls, is_known, mad
 use crate::setup::{Message, Setup};
 use pgn_ids::{Address, Pgn};
 use script_commands::{Command, Fault, LineError, is_ascii, read_command, split_words};
-use segment_core::{Call, Refusal};
+use segment_law::{Call, Refusal};
 use segment_rings::submit_refusal;
 use segment_shared::{Live, NotMade};
 use std::alloc::Global;

@@ -5,7 +5,7 @@ ghost use Rattle.script_setup.specs.Plan.{plan_of, first_plan, Done, refused_by}
 use pgn_ids::{Address, Pgn};
 use script_commands::LineError;
 use script_text::print_refused;
-use segment_core::Refusal;
+use segment_law::Refusal;
 use segment_shared::{Bytes, Inbox, Live};
 use std::alloc::Global;
 

@@ -22,6 +22,7 @@ mod stop;
 mod taking;
 
 pub use driven::{Driven, EventList, FrameList};
+pub use headline_law::the_headline_holds;
 pub use message_events::Bytes;
 pub use port_table::{PortId, PortSet};
 pub use run::Ran;

@@ -5,10 +5,10 @@ ghost use Rattle.segment_report.specs.Texts.{below, given_lines, port_lines, por
 ghost use Rattle.segment_report.specs.Noted.{count_from, all_noted};
 
 use pgn_ids::Address;
+use port_table::PortId;
 use script_runs::Lost;
 use script_setup::Message;
 use script_text::{print_given, print_outcome, print_port};
-use segment_core::PortId;
 use segment_shared::{Delivery, Live, Note};
 use std::alloc::AllocError;
 
