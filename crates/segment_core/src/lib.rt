@@ -11,6 +11,7 @@ mod drive;
 mod driven;
 mod due;
 mod frames;
+mod image;
 mod places;
 mod ports;
 mod readers;
@@ -22,6 +23,7 @@ mod stop;
 mod taking;
 
 pub use driven::{Driven, EventList, FrameList};
+pub use image::{Image, equal_images_answer_alike};
 pub use message_events::Bytes;
 pub use port_table::{PortId, PortSet};
 pub use run::Ran;
