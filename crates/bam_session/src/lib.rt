@@ -9,5 +9,5 @@ mod incoming;
 mod outgoing;
 mod spending;
 
-pub use incoming::{BamIn, BamStepped};
+pub use incoming::{BamIn, BamInImage, BamStepped};
 pub use outgoing::{BamOut, BamPumped};
