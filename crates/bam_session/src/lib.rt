@@ -10,6 +10,6 @@ mod outgoing;
 mod outgoing_image;
 mod spending;
 
-pub use incoming::{BamIn, BamStepped};
+pub use incoming::{BamIn, BamInImage, BamStepped};
 pub use outgoing::{BamOut, BamPumped};
 pub use outgoing_image::BamOutImage;

@@ -17,6 +17,10 @@ ghost use Rattle.responder.specs.Room.{HasRoom, IsPrepared, IsPreparedToExpire, 
 ghost use Rattle.responder.specs.declared.flow.Flow.{Flow};
 ghost use Rattle.responder.specs.declared.flow.Flow.TheVariants.{Open};
 
+mod image;
+
+pub use image::InStateImage;
+
 use crate::await_packet::AwaitPacket;
 use crate::flow::Flow;
 use crate::holding::Holding;

@@ -16,6 +16,10 @@ ghost use Rattle.responder.specs.States.{announced_at_first, window_end};
 ghost use Rattle.responder.specs.Asking.{asked};
 ghost use Rattle.responder.specs.declared.flow.Flow.TheVariants.{Open};
 
+mod image;
+
+pub(crate) use image::UnfinishedImage;
+
 use crate::finished::Finished;
 use crate::peer::Peer;
 use bus_frame::Frame;

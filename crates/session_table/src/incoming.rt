@@ -9,6 +9,10 @@ ghost use Rattle.responder.specs.declared.flow.Flow.TheVariants.{Held};
 ghost use Rattle.session_table.specs.Quiet.{is_quiet, LacksRoom, GoesOn};
 ghost use Rattle.session_table.specs.Incoming.{kind_of, pgn_of, timer_of};
 
+mod image;
+
+pub use image::IncomingImage;
+
 use crate::key::SessionKind;
 use bam_session::BamIn;
 use pgn_ids::WirePgn;

@@ -19,6 +19,9 @@ ghost use Rattle.tx_queue.specs.Queue.{queue_limit};
 ghost use Rattle.session_table.specs.Refusal.{refusal};
 
 mod due;
+mod image;
+
+pub use image::TableImage;
 
 use crate::MAX_SESSIONS;
 use crate::held::Held;

@@ -12,8 +12,11 @@ ghost use Rattle.station_sessions.specs.Quiet.{LeavesQuietly, receives_quietly, 
 ghost use Rattle.station_sessions.specs.Receiving.{flow_at, received, fired_at, aborted_at, unbound_at, wanted_by};
 
 mod due;
+mod image;
 mod opening;
 mod sources;
+
+pub use image::ReceiversImage;
 
 use crate::steps::{self, Table, quiet};
 use bus_frame::Frame;
