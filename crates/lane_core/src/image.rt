@@ -96,9 +96,7 @@ fn copied(alloc: Global, messages: &VecDeque<Pending>) -> Result<Vec<Pending>, A
 fn is_same(a: &Pending, b: &Pending) -> bool
     ensures { IsTrue result ↔ (a.now ≡ b.now) }
 {
-    a.number == b.number
-        && a.pgn.raw() == b.pgn.raw()
-        && a.bytes.as_slice() == b.bytes.as_slice()
+    a.number == b.number && a.pgn.raw() == b.pgn.raw() && a.bytes.as_slice() == b.bytes.as_slice()
 }
 
 // Whether these are the messages without an outcome.

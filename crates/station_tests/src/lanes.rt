@@ -553,7 +553,14 @@ fn show(rt: &impl Abort, alloc: Global, lane: &mut Lane) -> Result<(), Fail> {
     pumps(rt, alloc, lane, 0, CM_TO_35, &RTS)?;
     let begun = lane.image(alloc)?;
     assert!(rt; is_of(&begun, lane) && !is_of(&pushed, lane));
-    ends_by_abort(rt, cancel(rt, lane, 1), CM_TO_35, abort(250), 1, Outcome::Cancelled)?;
+    ends_by_abort(
+        rt,
+        cancel(rt, lane, 1),
+        CM_TO_35,
+        abort(250),
+        1,
+        Outcome::Cancelled,
+    )?;
     assert!(rt; !is_of(&begun, lane) && !is_of(&new, lane));
     Ok(())
 }
