@@ -12,7 +12,6 @@ ghost use Rattle.bam_session.specs.Shown.{shown};
 mod image;
 
 pub use image::BamInImage;
-
 use pgn_ids::{Address, WirePgn};
 use seg_cut::Join;
 use std::marker::Model;
