@@ -19,8 +19,6 @@ ghost use Rattle.responder.specs.declared.flow.Flow.TheVariants.{Open};
 
 mod image;
 
-pub use image::InStateImage;
-
 use crate::await_packet::AwaitPacket;
 use crate::flow::Flow;
 use crate::holding::Holding;
@@ -28,6 +26,7 @@ use crate::peer::Peer;
 use crate::received::Received;
 use crate::unfinished::Unfinished;
 use bus_frame::Frame;
+pub use image::InStateImage;
 use seg_cut::Join;
 use std::alloc::AllocError;
 use tick_timers::Timer;

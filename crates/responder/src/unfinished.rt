@@ -18,11 +18,10 @@ ghost use Rattle.responder.specs.declared.flow.Flow.TheVariants.{Open};
 
 mod image;
 
-pub(crate) use image::UnfinishedImage;
-
 use crate::finished::Finished;
 use crate::peer::Peer;
 use bus_frame::Frame;
+pub(crate) use image::UnfinishedImage;
 use pgn_ids::WirePgn;
 use seg_cut::{Join, packets};
 use std::alloc::AllocError;

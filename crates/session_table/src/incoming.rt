@@ -11,10 +11,9 @@ ghost use Rattle.session_table.specs.Incoming.{kind_of, pgn_of, timer_of};
 
 mod image;
 
-pub use image::IncomingImage;
-
 use crate::key::SessionKind;
 use bam_session::BamIn;
+pub use image::IncomingImage;
 use pgn_ids::WirePgn;
 use responder::{Flow, InState};
 use tick_timers::Timer;

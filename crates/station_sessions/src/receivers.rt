@@ -16,10 +16,9 @@ mod image;
 mod opening;
 mod sources;
 
-pub use image::ReceiversImage;
-
 use crate::steps::{self, Table, quiet};
 use bus_frame::Frame;
+pub use image::ReceiversImage;
 use message_events::Events;
 use pgn_ids::WirePgn;
 use port_table::{PortSet, PortTable};
