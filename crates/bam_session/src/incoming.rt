@@ -9,6 +9,9 @@ ghost use Rattle.bam_session.specs.States.{is_size, announced, accepted};
 ghost use Rattle.bam_session.specs.Receiving.{Awaits, received, stepped, is_quiet, completes as completes_at};
 ghost use Rattle.bam_session.specs.Shown.{shown};
 
+mod image;
+
+pub use image::BamInImage;
 use pgn_ids::{Address, WirePgn};
 use seg_cut::Join;
 use std::marker::Model;

@@ -7,7 +7,9 @@
 
 mod incoming;
 mod outgoing;
+mod outgoing_image;
 mod spending;
 
-pub use incoming::{BamIn, BamStepped};
+pub use incoming::{BamIn, BamInImage, BamStepped};
 pub use outgoing::{BamOut, BamPumped};
+pub use outgoing_image::BamOutImage;

@@ -20,10 +20,10 @@ use tx_queue::TxQueue;
 
 /// A message to all whose packets are being queued. It must be spent.
 pub struct BamOut {
-    from: Address,
-    len: u32,
-    next: u8,
-    gap: Timer,
+    pub(crate) from: Address,
+    pub(crate) len: u32,
+    pub(crate) next: u8,
+    pub(crate) gap: Timer,
 }
 
 impl Model for BamOut {

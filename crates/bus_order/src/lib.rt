@@ -4,8 +4,10 @@
 #![tactic(auto)]
 
 mod cursor;
+mod image;
 mod laws;
 mod log;
 
+pub use image::BusImage;
 pub use laws::stations_see_the_bus_in_order;
 pub use log::{BusLog, PutError};

@@ -31,9 +31,9 @@ pub enum PutError {
 /// frame that it took or passed over last, at first 0. Frames are dropped by `release` alone.
 #[derive(Debug, Drop)]
 pub struct BusLog {
-    first: u64,
-    kept: VecDeque<Frame>,
-    cursors: Vec<Cursor>,
+    pub(crate) first: u64,
+    pub(crate) kept: VecDeque<Frame>,
+    pub(crate) cursors: Vec<Cursor>,
     rear: Rear,
 }
 

@@ -195,3 +195,32 @@ fn a_station_takes_repeats_and_passes_over(rt: HostRuntime) -> Result<(), Fail> 
     let mut log = new_log(rt.alloc(), 1)?;
     take_repeat_and_pass_over(&rt, &mut log)
 }
+
+fn image_of(alloc: Global, log: &BusLog) -> Result<BusImage, AllocError> {
+    match log.image(alloc) {
+        Ok(image) => Ok(image),
+        Err(_) => log.image(alloc),
+    }
+}
+
+fn is_of(image: &BusImage, log: &BusLog) -> bool {
+    image.is_of(log)
+}
+
+fn show(rt: &impl Abort, alloc: Global, log: &mut BusLog) -> Result<(), Fail> {
+    let new = image_of(alloc, log)?;
+    assert!(rt; is_of(&new, log));
+    assert!(rt; put(log, frame_of(1)?).is_ok());
+    assert!(rt; !is_of(&new, log));
+    let one = image_of(alloc, log)?;
+    assert!(rt; is_of(&one, log));
+    assert!(rt; next(rt, log, 0) == Some(frame_of(1)?));
+    assert!(rt; !is_of(&one, log));
+    Ok(())
+}
+
+#[test]
+fn an_image_has_the_frames_and_the_cursors_of_its_bus(rt: HostRuntime) -> Result<(), Fail> {
+    let mut log = new_log(rt.alloc(), 2)?;
+    show(&rt, rt.alloc(), &mut log)
+}

@@ -74,3 +74,16 @@ fn room_is_one_block(rt: HostRuntime) -> Result<(), Fail> {
     assert_eq!(rt; (join.is_complete(), join.wants_last()), (false, false));
     Ok(())
 }
+
+#[test]
+fn an_image_is_of_a_join_as_it_was(rt: HostRuntime) -> Result<(), Fail> {
+    let mut join = Join::new(rt.alloc(), 9);
+    join.make_room(2)?;
+    let image = join.image(rt.alloc())?;
+    assert!(rt; image.is_of(&join));
+    join.put_inner(&packet(&MESSAGE, 1));
+    assert!(rt; !image.is_of(&join));
+    let image = join.image(rt.alloc())?;
+    assert!(rt; image.is_of(&join) && image.capacity() == 9);
+    Ok(())
+}

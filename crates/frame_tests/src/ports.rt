@@ -140,3 +140,28 @@ fn sixteen_ports(rt: HostRuntime) -> Result<(), Fail> {
     opens(&rt, &mut table, pgn, 9, Err(Refused::PortsFull));
     Ok(())
 }
+
+fn is_of(image: &PortsImage, table: &PortTable) -> bool {
+    image.is_of(table)
+}
+
+fn show(rt: &impl Abort, alloc: Global, table: &mut PortTable, pgn: Pgn) -> Result<(), Fail> {
+    let none = table.image(alloc)?;
+    assert!(rt; is_of(&none, table));
+    opens(rt, table, pgn, 9, Ok(1));
+    assert!(rt; !is_of(&none, table));
+    let one = table.image(alloc)?;
+    assert!(rt; is_of(&one, table));
+    assert!(rt; pause(table, 1) == Ok(()));
+    assert!(rt; !is_of(&one, table));
+    assert!(rt; close(table, 1) == Ok(()));
+    // None is open, as before the first was opened, but one number was used.
+    assert!(rt; !is_of(&none, table));
+    Ok(())
+}
+
+#[test]
+fn an_image_has_the_ports_of_its_table(rt: HostRuntime) -> Result<(), Fail> {
+    let mut table = new_table(rt.alloc())?;
+    show(&rt, rt.alloc(), &mut table, Pgn::new(0xFECA)?)
+}

@@ -67,3 +67,36 @@ fn sixty_four_frames_leave_in_order(rt: HostRuntime) -> Result<(), Fail> {
     fill(&rt, &mut queue)?;
     empty(&rt, &mut queue)
 }
+
+// Made again where no memory is found.
+fn image_of(alloc: Global, queue: &TxQueue) -> Result<QueueImage, AllocError> {
+    match queue.image(alloc) {
+        Ok(image) => Ok(image),
+        Err(_) => queue.image(alloc),
+    }
+}
+
+fn is_of(image: &QueueImage, queue: &TxQueue) -> bool {
+    image.is_of(queue)
+}
+
+fn show(rt: &impl Abort, alloc: Global, queue: &mut TxQueue) -> Result<(), Fail> {
+    let empty = image_of(alloc, queue)?;
+    assert!(rt; is_of(&empty, queue));
+    assert!(rt; push(queue, frame_of(1)?).is_ok());
+    assert!(rt; !is_of(&empty, queue));
+    let one = image_of(alloc, queue)?;
+    assert!(rt; is_of(&one, queue));
+    assert!(rt; push(queue, frame_of(2)?).is_ok());
+    assert!(rt; !is_of(&one, queue));
+    assert!(rt; pop(queue) == Some(frame_of(1)?));
+    // As many frames as then, but another one.
+    assert!(rt; !is_of(&one, queue));
+    Ok(())
+}
+
+#[test]
+fn an_image_has_the_frames_of_its_queue(rt: HostRuntime) -> Result<(), Fail> {
+    let mut queue = new_queue(rt.alloc())?;
+    show(&rt, rt.alloc(), &mut queue)
+}

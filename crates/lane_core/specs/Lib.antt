@@ -9,5 +9,6 @@ pub mod Answer
 pub mod Cancel
 pub mod Overrun
 pub mod LaneFields
+pub mod ImageFields
 pub mod Refused
 pub mod Quiet

@@ -26,7 +26,7 @@ const LANE_LIMIT: usize = 32;
 pub struct Lane {
     pub(crate) from: Address,
     pub(crate) to: Address,
-    sent: u64,
+    pub(crate) sent: u64,
     pub(crate) pending: VecDeque<Pending>,
     pub(crate) place: Place,
     pub(crate) standing: Standing,

@@ -7,6 +7,7 @@ mod cancel;
 mod endings;
 mod fire;
 mod hear;
+mod image;
 mod lane;
 mod message;
 mod overrun;
@@ -17,6 +18,7 @@ mod refused;
 mod spending;
 mod step;
 
+pub use image::LaneImage;
 pub use lane::Lane;
 pub use message::{Pending, longest_to};
 pub use message_events::Bytes;

@@ -2,6 +2,7 @@ pub mod Link
 pub mod LinkFields
 pub mod States
 pub mod StateFields
+pub mod ImageFields
 pub mod Readers
 pub mod Opening
 pub mod Endings

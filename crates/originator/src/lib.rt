@@ -7,6 +7,7 @@ mod await_cts;
 mod await_end;
 mod cts;
 mod endings;
+mod image;
 mod link;
 mod opening;
 mod pump;
@@ -19,6 +20,7 @@ mod timers;
 
 pub use await_cts::AwaitCts;
 pub use await_end::AwaitEnd;
+pub use image::OutImage;
 pub use opening::begin;
 pub use sending::Sending;
 pub use states::{OutOver, OutState, Stepped};

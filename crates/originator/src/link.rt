@@ -1,5 +1,5 @@
 //! The message that a connection carries, and its sender's frames.
-ghost use Rattle.std.specs.Prelude.{◌≡◌, ◌-◌, ◌^◌, ◌<◌, ◌≤◌, true, length};
+ghost use Rattle.std.specs.Prelude.{◌≡◌, ◌-◌, ◌^◌, ◌<◌, ◌≤◌, ◌↔◌, true, length, IsTrue};
 ghost use Rattle.tp_wire.specs.Sizes.{is_size_of};
 ghost use Rattle.pgn_ids.specs.Address.{is_one};
 ghost use Rattle.tp_wire.specs.Rows.{HasNumbers, goes_to};
@@ -89,6 +89,17 @@ impl Link {
         ensures { result ≡ is_of_link self kind pgn }
     {
         self.kind == kind && pgn.clean().raw() == self.pgn.raw()
+    }
+
+    /// Whether it is the same message as another.
+    pub(crate) fn is_same(self, other: Link) -> bool
+        ensures { IsTrue result ↔ (self ≡ other) }
+    {
+        self.kind == other.kind
+            && self.from.0 == other.from.0
+            && self.to.0 == other.to.0
+            && self.pgn.raw() == other.pgn.raw()
+            && self.len == other.len
     }
 
     /// A connection management frame to the destination.

@@ -3,12 +3,14 @@
 //! A table makes the room for its 16 ports when it is made; no other call takes memory.
 #![tactic(auto)]
 
+mod image;
 mod laws;
 mod port;
 mod refused;
 mod set;
 mod table;
 
+pub use image::PortsImage;
 pub use laws::numbers_are_never_used_again;
 pub use port::{Port, PortId};
 pub use refused::Refused;

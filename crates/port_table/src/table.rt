@@ -16,9 +16,9 @@ use std::marker::Model;
 /// The open ports of a station, at most 16, by rising number.
 #[derive(Debug, Drop)]
 pub struct PortTable {
-    station: Address,
-    opened: u64,
-    ports: Vec<Port>,
+    pub(crate) station: Address,
+    pub(crate) opened: u64,
+    pub(crate) ports: Vec<Port>,
 }
 
 impl Model for PortTable {

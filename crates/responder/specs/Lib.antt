@@ -16,3 +16,4 @@ pub mod Holding
 pub mod Steps
 pub mod Room
 pub mod Quiet
+pub mod Image

@@ -17,6 +17,8 @@ ghost use Rattle.responder.specs.Room.{HasRoom, IsPrepared, IsPreparedToExpire, 
 ghost use Rattle.responder.specs.declared.flow.Flow.{Flow};
 ghost use Rattle.responder.specs.declared.flow.Flow.TheVariants.{Open};
 
+mod image;
+
 use crate::await_packet::AwaitPacket;
 use crate::flow::Flow;
 use crate::holding::Holding;
@@ -24,6 +26,7 @@ use crate::peer::Peer;
 use crate::received::Received;
 use crate::unfinished::Unfinished;
 use bus_frame::Frame;
+pub use image::InStateImage;
 use seg_cut::Join;
 use std::alloc::AllocError;
 use tick_timers::Timer;

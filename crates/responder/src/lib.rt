@@ -21,7 +21,7 @@ pub use await_packet::AwaitPacket;
 pub use finished::Finished;
 pub use flow::Flow;
 pub use holding::Holding;
-pub use in_state::{InState, begin};
+pub use in_state::{InState, InStateImage, begin};
 pub use peer::Peer;
 pub use received::Received;
 pub use window::most_packets;

@@ -16,9 +16,12 @@ ghost use Rattle.responder.specs.States.{announced_at_first, window_end};
 ghost use Rattle.responder.specs.Asking.{asked};
 ghost use Rattle.responder.specs.declared.flow.Flow.TheVariants.{Open};
 
+mod image;
+
 use crate::finished::Finished;
 use crate::peer::Peer;
 use bus_frame::Frame;
+pub(crate) use image::UnfinishedImage;
 use pgn_ids::WirePgn;
 use seg_cut::{Join, packets};
 use std::alloc::AllocError;

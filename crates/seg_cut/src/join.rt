@@ -4,6 +4,8 @@ ghost use Rattle.seg_cut.specs.Packets.{packet_count};
 ghost use Rattle.seg_cut.specs.Join.{IsJoin, empty_join, wants, joined, with_room, held};
 ghost use Rattle.seg_cut.specs.Join.{is_complete as is_complete_at, wants_last as wants_last_at};
 
+mod image;
+
 use crate::cut::PACKET_BYTES;
 use std::alloc::{AllocError, Global};
 use std::marker::Model;

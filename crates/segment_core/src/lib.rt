@@ -11,6 +11,7 @@ mod drive;
 mod driven;
 mod due;
 mod frames;
+mod image;
 mod places;
 mod ports;
 mod readers;
@@ -23,6 +24,7 @@ mod taking;
 
 pub use driven::{Driven, EventList, FrameList};
 pub use headline_law::the_headline_holds;
+pub use image::{Image, equal_images_answer_alike};
 pub use message_events::Bytes;
 pub use port_table::{PortId, PortSet};
 pub use run::Ran;

@@ -349,3 +349,38 @@ fn calls_as_one_list(rt: HostRuntime) -> Result<(), Fail> {
     let mut segment = segment(rt.alloc())?;
     run_list(&rt, rt.alloc(), &mut segment)
 }
+
+fn image(segment: &Segment) -> Result<Image, Fail> {
+    Ok(segment.image()?)
+}
+
+fn is_of(image: &Image, segment: &Segment) -> bool {
+    image.is_of(segment)
+}
+
+// An image is no longer that of a segment that was called on, and is that of another one on which the same calls were made.
+fn show(
+    rt: &impl Abort,
+    alloc: Global,
+    segment: &mut Segment,
+    other: &mut Segment,
+) -> Result<(), Fail> {
+    let new = image(segment)?;
+    assert!(rt; is_of(&new, segment) && is_of(&new, other));
+    opens_and_sends(rt, alloc, segment, B)?;
+    assert_eq!(rt; driven(segment, A, B, 3)?.turns, 3);
+    let midway = image(segment)?;
+    assert!(rt; is_of(&midway, segment) && !is_of(&new, segment) && !is_of(&midway, other));
+    opens_and_sends(rt, alloc, other, B)?;
+    assert!(rt; !is_of(&midway, other));
+    assert_eq!(rt; driven(other, A, B, 3)?.turns, 3);
+    assert!(rt; is_of(&midway, other));
+    Ok(())
+}
+
+#[test]
+fn an_image_is_that_of_its_segment(rt: HostRuntime) -> Result<(), Fail> {
+    let mut first = segment(rt.alloc())?;
+    let mut other = segment(rt.alloc())?;
+    show(&rt, rt.alloc(), &mut first, &mut other)
+}

@@ -3,3 +3,4 @@ pub mod Tables
 pub mod Least
 pub mod First
 pub mod Dues
+pub mod Images

@@ -5,3 +5,4 @@ pub mod DueOrder
 pub mod Quiet
 pub mod Refusal
 pub mod Shape
+pub mod Image

@@ -9,8 +9,11 @@ ghost use Rattle.responder.specs.declared.flow.Flow.TheVariants.{Held};
 ghost use Rattle.session_table.specs.Quiet.{is_quiet, LacksRoom, GoesOn};
 ghost use Rattle.session_table.specs.Incoming.{kind_of, pgn_of, timer_of};
 
+mod image;
+
 use crate::key::SessionKind;
 use bam_session::BamIn;
+pub use image::IncomingImage;
 use pgn_ids::WirePgn;
 use responder::{Flow, InState};
 use tick_timers::Timer;

@@ -16,9 +16,9 @@ mod table;
 mod walk;
 
 pub use held::Held;
-pub use incoming::Incoming;
+pub use incoming::{Incoming, IncomingImage};
 pub use key::{Key, SessionKind};
-pub use table::{OpenRefused, SessionTable};
+pub use table::{OpenRefused, SessionTable, TableImage};
 
 /// How many sessions a table holds at most.
 pub const MAX_SESSIONS: usize = 32;

@@ -19,6 +19,7 @@ ghost use Rattle.tx_queue.specs.Queue.{queue_limit};
 ghost use Rattle.session_table.specs.Refusal.{refusal};
 
 mod due;
+mod image;
 
 use crate::MAX_SESSIONS;
 use crate::held::Held;
@@ -27,6 +28,7 @@ use crate::index::{Found, Index, find, find_again, link, unlink};
 use crate::key::Key;
 use crate::place::{Place, Slot, content};
 use crate::walk::{is_above_at, is_due_at, lesser};
+pub use image::TableImage;
 use indexmap::IndexMap;
 use responder::Flow;
 use slab::Slab;

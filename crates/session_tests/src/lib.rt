@@ -10,6 +10,8 @@ mod extended_connections;
 #[cfg(test)]
 mod finished;
 #[cfg(test)]
+mod sent_images;
+#[cfg(test)]
 mod sessions;
 
 #[cfg(test)]

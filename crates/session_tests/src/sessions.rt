@@ -265,3 +265,85 @@ fn a_new_session_takes_the_place(rt: HostRuntime) -> Result<(), Fail> {
     assert_eq!(rt; there, Some((9, SessionKind::Tp, 0xEF00)));
     Ok(())
 }
+
+// The image of what stands at a key, and once more where memory is refused.
+fn image_at(
+    alloc: Global,
+    table: &SessionTable<u8>,
+    key: Key,
+) -> Result<Option<IncomingImage>, AllocError> {
+    let Some((_bound, state)) = table.get(key) else {
+        return Ok(None);
+    };
+    match state.image(alloc) {
+        Ok(image) => Ok(Some(image)),
+        Err(_) => Ok(Some(state.image(alloc)?)),
+    }
+}
+
+fn is_at(image: &IncomingImage, table: &SessionTable<u8>, key: Key) -> bool {
+    match table.get(key) {
+        Some((_bound, state)) => image.is_of(state),
+        None => false,
+    }
+}
+
+fn is_kept_until_a_packet(
+    rt: &impl Abort,
+    table: &mut SessionTable<u8>,
+    key: Key,
+    image: &IncomingImage,
+    queue: &mut TxQueue,
+) {
+    let first = Wire::Packet {
+        kind: Kind::Tp,
+        sequence: 1,
+        bytes: [1, 2, 3, 4, 5, 6, 7],
+    };
+    assert!(rt; is_at(image, table, key));
+    assert!(rt; take_in_place(rt, table, key, &first, 100, queue));
+    assert!(rt; !is_at(image, table, key));
+}
+
+#[test]
+fn an_image_is_of_a_session_as_it_was(rt: HostRuntime) -> Result<(), Fail> {
+    for kind in [SessionKind::Broadcast, SessionKind::Tp] {
+        let mut table = new_table(rt.alloc());
+        let mut queue = TxQueue::new(rt.alloc())?;
+        let key = key(0x80, kind);
+        open(&rt, rt.alloc(), &mut table, key)?;
+        let image = image_at(rt.alloc(), &table, key)?.ok_or("no session")?;
+        is_kept_until_a_packet(&rt, &mut table, key, &image, &mut queue);
+    }
+    Ok(())
+}
+
+// Which keys an image has, and what those that aren't held are bound to.
+fn bound(alloc: Global, table: &SessionTable<u8>) -> Result<Vec<(Key, Option<u8>)>, AllocError> {
+    let image = table.image(alloc)?;
+    let mut bound = Vec::new(alloc);
+    for entry in image.entries() {
+        let to = match &entry.1 {
+            Some((to, _state)) => Some(*to),
+            None => None,
+        };
+        bound.push((entry.0, to))?;
+    }
+    Ok(bound)
+}
+
+#[test]
+fn an_image_has_each_key(rt: HostRuntime) -> Result<(), Fail> {
+    let mut table = new_table(rt.alloc());
+    let keys = [key(0x80, SessionKind::Etp), key(0x90, SessionKind::Tp)];
+    for opened in keys {
+        open(&rt, rt.alloc(), &mut table, opened)?;
+    }
+    let kept = match bound(rt.alloc(), &table) {
+        Ok(kept) => kept,
+        Err(_) => bound(rt.alloc(), &table)?,
+    };
+    let both = [(keys[0], Some(0x80)), (keys[1], Some(0x90))];
+    assert!(rt; kept.as_slice() == both.as_slice());
+    Ok(())
+}

@@ -4,6 +4,7 @@
 
 mod closing;
 mod due;
+mod image;
 mod overruns;
 mod refused;
 mod sending;
@@ -11,6 +12,7 @@ mod station;
 mod taking;
 mod timers;
 
+pub use image::StationImage;
 pub use message_events::{Event, Events, EventsIntoIter, EventsIter};
 pub use refused::{Refused, SendingRefused};
 pub use station::Station;

@@ -6,3 +6,4 @@ pub mod Overruns
 pub mod Dues
 pub mod Resting
 pub mod Marked
+pub mod Imaged

@@ -1,4 +1,5 @@
 pub mod Lanes
 pub mod LaneSlots
+pub mod ImageFields
 pub mod LaneCalls
 pub mod LaneReaders

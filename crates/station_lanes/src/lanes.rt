@@ -18,7 +18,7 @@ pub(crate) const PLACES: usize = 256;
 
 /// Where the lane to one destination is kept, once there is one.
 #[derive(Drop)]
-struct Slot {
+pub(crate) struct Slot {
     lane: Option<Box<Lane>>,
 }
 
@@ -40,7 +40,7 @@ impl Slot {
     }
 
     /// The lane.
-    fn get(&self) -> Option<&Lane>
+    pub(crate) fn get(&self) -> Option<&Lane>
         ensures { option_copied result ≡ self.now }
     {
         match &self.lane {
@@ -69,7 +69,7 @@ impl Slot {
 /// to queue, and which a running timer, is kept beside them, so that the next one is found without looking at all.
 #[derive(Drop)]
 pub struct Lanes {
-    slots: Vec<Slot>,
+    pub(crate) slots: Vec<Slot>,
     ready: AddressSet,
     timed: AddressSet,
 }

@@ -4,9 +4,11 @@
 #![tactic(auto)]
 
 mod due;
+mod image;
 mod lane_calls;
 mod lanes;
 mod outcomes;
 
+pub use image::LanesImage;
 pub use lanes::Lanes;
 pub use outcomes::outcome;

@@ -3,3 +3,4 @@ pub mod Settling
 pub mod InPlace
 pub mod Whole
 pub mod Sources
+pub mod Images

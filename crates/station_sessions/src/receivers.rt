@@ -12,11 +12,13 @@ ghost use Rattle.station_sessions.specs.Quiet.{LeavesQuietly, receives_quietly, 
 ghost use Rattle.station_sessions.specs.Receiving.{flow_at, received, fired_at, aborted_at, unbound_at, wanted_by};
 
 mod due;
+mod image;
 mod opening;
 mod sources;
 
 use crate::steps::{self, Table, quiet};
 use bus_frame::Frame;
+pub use image::ReceiversImage;
 use message_events::Events;
 use pgn_ids::WirePgn;
 use port_table::{PortSet, PortTable};

@@ -539,3 +539,34 @@ fn bytes_are_copied(rt: HostRuntime) -> Result<(), Fail> {
     assert!(rt; copy.as_slice() == M9.as_slice() && copy.len() == 9);
     Ok(())
 }
+
+fn is_of(image: &LaneImage, lane: &Lane) -> bool {
+    image.is_of(lane)
+}
+
+// An image is that of its lane until a message is pushed, begun or ended.
+fn show(rt: &impl Abort, alloc: Global, lane: &mut Lane) -> Result<(), Fail> {
+    let new = lane.image(alloc)?;
+    push(rt, alloc, lane, 1)?;
+    let pushed = lane.image(alloc)?;
+    assert!(rt; is_of(&pushed, lane) && !is_of(&new, lane));
+    pumps(rt, alloc, lane, 0, CM_TO_35, &RTS)?;
+    let begun = lane.image(alloc)?;
+    assert!(rt; is_of(&begun, lane) && !is_of(&pushed, lane));
+    ends_by_abort(
+        rt,
+        cancel(rt, lane, 1),
+        CM_TO_35,
+        abort(250),
+        1,
+        Outcome::Cancelled,
+    )?;
+    assert!(rt; !is_of(&begun, lane) && !is_of(&new, lane));
+    Ok(())
+}
+
+#[test]
+fn an_image_is_that_of_its_lane(rt: HostRuntime) -> Result<(), Fail> {
+    let mut lane = lane_to(&rt, rt.alloc(), Address(0x35));
+    show(&rt, rt.alloc(), &mut lane)
+}

@@ -281,3 +281,37 @@ fn missed_frames_end_each_session(rt: HostRuntime) -> Result<(), Fail> {
     sessions.overrun();
     is_due_as(&rt, &sessions, 750, None)
 }
+
+fn image(sessions: &Receivers) -> Result<ReceiversImage, AllocError> {
+    sessions.image()
+}
+
+fn is_as_it_was(image: &ReceiversImage, sessions: &Receivers) -> bool {
+    image.is_of(sessions)
+}
+
+fn images_differ(
+    rt: &impl Abort,
+    sessions: &mut Receivers,
+    ports: &PortTable,
+    begun: &ReceiversImage,
+) -> Result<(), Fail> {
+    assert!(rt; is_as_it_was(begun, sessions));
+    tells_nothing(rt, sessions, ports, &FIRST)?;
+    assert!(rt; !is_as_it_was(begun, sessions));
+    let going_on = image(sessions)?;
+    assert!(rt; is_as_it_was(&going_on, sessions));
+    ends(rt, sessions, 1)?;
+    assert!(rt; !is_as_it_was(&going_on, sessions));
+    ends(rt, sessions, 2)?;
+    assert!(rt; !is_as_it_was(&going_on, sessions));
+    Ok(())
+}
+
+#[test]
+fn an_image_is_of_the_sessions_as_they_were(rt: HostRuntime) -> Result<(), Fail> {
+    let ports = two_ports(rt.alloc())?;
+    let mut sessions = announce(&rt, rt.alloc(), &ports)?;
+    let begun = image(&sessions)?;
+    images_differ(&rt, &mut sessions, &ports, &begun)
+}

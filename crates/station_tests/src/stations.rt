@@ -527,3 +527,28 @@ fn a_message_is_cancelled(rt: HostRuntime) -> Result<(), Fail> {
     let mut station = new_station(rt.alloc(), A)?;
     begin_and_cancel(&rt, rt.alloc(), &mut station)
 }
+
+fn is_of(image: &StationImage, station: &Station) -> bool {
+    image.is_of(station)
+}
+
+// An image is that of its station until a port is opened, a message sent or a frame queued.
+fn show(rt: &impl Abort, alloc: Global, station: &mut Station) -> Result<(), Fail> {
+    let bare = station.image()?;
+    assert!(rt; is_of(&bare, station));
+    open(station, Pgn::new(FECA)?)?;
+    let opened = station.image()?;
+    assert!(rt; is_of(&opened, station) && !is_of(&bare, station));
+    let number = send(alloc, station, B, &M9)??;
+    let sends = station.image()?;
+    assert!(rt; number == 1 && is_of(&sends, station) && !is_of(&opened, station));
+    pumps(rt, station, None);
+    assert!(rt; !is_of(&sends, station));
+    Ok(())
+}
+
+#[test]
+fn an_image_is_that_of_its_station(rt: HostRuntime) -> Result<(), Fail> {
+    let mut station = new_station(rt.alloc(), A)?;
+    show(&rt, rt.alloc(), &mut station)
+}

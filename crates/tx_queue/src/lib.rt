@@ -4,7 +4,10 @@
 ghost use Rattle.std.specs.Prelude.{◌≡◌, ◌<◌, ◌≤◌, ◌↔◌, [], length, IfOk, IsErr, IsTrue, OnErr, OnOk};
 ghost use Rattle.tx_queue.specs.Queue.{queue_limit, free_places, front, behind, queued};
 
+mod image;
+
 use bus_frame::Frame;
+pub use image::QueueImage;
 use std::alloc::{AllocError, Global};
 use std::collections::VecDeque;
 use std::marker::Model;
