@@ -2,7 +2,7 @@
 //! message).
 //!
 //! The sender's call takes the bytes of the message anew each time, and the receiver's join has its room: no call here
-//! takes memory.
+//! but `BamIn::image` takes memory.
 #![tactic(auto)]
 
 mod incoming;

@@ -1,6 +1,6 @@
 //! The ports of one station, several of them perhaps on one PGN, and the sets of them that sessions are bound to.
 //!
-//! A table makes the room for its 16 ports when it is made; no other call takes memory.
+//! A table makes the room for its 16 ports when it is made; no other call but `image` takes memory.
 #![tactic(auto)]
 
 mod image;
