@@ -110,7 +110,8 @@ static inline uint32_t fulwethi_feed(struct fulwethi *node, const struct fulweth
 /* The frame that is next for the bus; it stays next until sent. NOTHING: none now. NO_MEMORY. */
 static inline uint32_t fulwethi_front(struct fulwethi *node, struct fulwethi_frame *frame) { return fulwethi_raw_front(*node, frame, node); }
 
-/* That frame was put. NO_MEMORY, FRAME_WAITS (settle first): to be called again, without putting the frame again. */
+/* That frame was put. NOTHING_TO_SEND (there was none). NO_MEMORY, FRAME_WAITS (settle first): to be called again, without putting
+ * the frame again. Never HELD: the node passes its own frames by without memory. */
 static inline uint32_t fulwethi_sent(struct fulwethi *node) { return fulwethi_raw_sent(*node, node); }
 
 /* The clock goes on to a tick of 1 ms. CLOCK_PASSED (it stands later), NO_MEMORY. */

@@ -7,7 +7,7 @@ use Rattle.bus_frame.specs.Frames.{CanFrame}
 use Rattle.bus_order.specs.Bus.{Bus, Cursor, start, lowest, bus_len, cursor_at, frame_at, next_frame, frame_again, waiting, put, taken, passed, released}
 use Rattle.bus_order.specs.Kept.{IsSound, IsCursorWithin}
 use Rattle.bus_order.proofs.Cursors.{lowest_each}
-use Rattle.bus_order.proofs.Lists.{slice_get-drop, slice_get-left}
+use Rattle.bus_order.proofs.Lists.{slice_get-drop, slice_get-left, slice_get-right}
 use Rattle.bus_order.proofs.Steps.{sound_moved}
 use Rattle.record_lemmas.proofs.Tests.{on_test}
 
@@ -155,3 +155,11 @@ module _ (b : Bus) (i : ℕ) (f : CanFrame) (s : IsSound b) (l : i < length b.cu
       let p : 0 < (cursor_at b i).place = c.taken q in
       ap (λ o. cond (nat_le b.first (cursor_at b i).place) o None) (slice_get-left b.kept (f ∷ []) ((cursor_at b i).place - b.first) (omega (arith, c.within, c.kept, c.held, s.from_one))))
       (λ _ q. refl) refl
+
+  -- a station that waited for none takes it next
+  pub put_next : waiting b i ≡ 0 → next_frame (put b f) i ≡ Some f
+  put_next none =
+      let c : IsCursor b (cursor_at b i) = is_cursor b i s l in
+      let first : b.first ≤ (cursor_at b i).place + 1 = omega (arith, none, c.within, s.from_one) in
+      let last : (cursor_at b i).place + 1 - b.first ≡ length b.kept + 0 = omega (arith, none, c.within, s.from_one) in
+      rw (le-leb b.first ((cursor_at b i).place + 1) first) (slice_get-right b.kept (f ∷ []) ((cursor_at b i).place + 1 - b.first) 0 last)

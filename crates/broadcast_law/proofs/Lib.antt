@@ -21,6 +21,7 @@ pub mod Good
 pub mod Sends
 pub mod Frames
 pub mod Every
+pub mod Owned
 pub mod AlongRecords
 pub mod Beginning
 pub mod Chosen

@@ -1,4 +1,4 @@
-//! What a port, and a station over all its ports, is given of one station's messages to all.
+//! What a port, and a station over all its ports, is given of one station's messages to all; and whose frames a station queues.
 ghost use Rattle.std.specs.Prelude.{ℕ, ◌<◌, ◌≢◌, List, length};
 ghost use Rattle.pgn_ids.specs.Address.{global_address};
 ghost use Rattle.pgn_ids.specs.declared.address.Address.{Address};
@@ -8,6 +8,7 @@ ghost use Rattle.segment_law.specs.Numbering.{IsChoice, IsLaneNumbering};
 ghost use Rattle.segment_law.specs.Record.{Record, StandsAt};
 ghost use Rattle.segment_law.specs.Segment.{Segment};
 ghost use Rattle.segment_law.specs.Told.{given, sent};
+ghost use Rattle.broadcast_law.specs.Queues.{QueueTheirOwn};
 
 use lane_law::{broadcasts_go_on, given_once_in_order};
 use pgn_ids::identifiers_are_read_back;
@@ -35,5 +36,17 @@ pub fn broadcasts_are_given_once_in_order()
     what_is_written_is_read();
     packet_is_seven_places();
     given_once_in_order();
+    broadcasts_go_on();
+}
+
+/// A law: each frame in the transmit queue of a station has that station's source address.
+///
+/// It holds at every record, whatever the calls were.
+pub fn stations_queue_their_own()
+    ensures { (addresses : List Address) (steps : Record) (seg : Segment) → StandsAt addresses steps seg → QueueTheirOwn seg }
+{
+    identifiers_are_read_back();
+    what_is_written_is_read();
+    packet_is_seven_places();
     broadcasts_go_on();
 }

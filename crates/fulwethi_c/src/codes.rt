@@ -43,7 +43,7 @@ pub(crate) fn done_code(done: Result<(), NodeError>) -> u32
     }
 }
 
-/// The code of a frame that was fed or put: `HELD` where it waits to be looked at.
+/// The code of a frame that was fed: `HELD` where it waits to be looked at.
 pub(crate) fn fed_code(fed: Result<Fed, NodeError>) -> u32
     ensures { result ≡ fed_code fed }
 {

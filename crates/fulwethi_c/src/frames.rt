@@ -69,14 +69,14 @@ pub extern "C" fn fulwethi_raw_front(of: Handle, frame: &mut CFrame, out: &mut H
     code
 }
 
-/// That frame was put on the bus.
+/// That frame was put on the bus. It is never `HELD`: the node passes its own frames by without memory.
 #[unsafe(no_mangle)]
 pub extern "C" fn fulwethi_raw_sent(of: Handle, out: &mut Handle) -> u32
     requires { IsSome of.node }
-    ensures { IsMadeOn fed_code IsSent of.node out.new.node result }
+    ensures { IsMadeOn done_code IsSent of.node out.new.node result }
 {
     let mut held = of.into_parts().into_box();
-    let code = fed_code(held.sent());
+    let code = done_code(held.sent());
     *out = Handle::of_parts(Parts::of(held));
     code
 }

@@ -1,4 +1,4 @@
 pub mod Joining
-pub mod Replies
 pub mod Made
+pub mod Own
 pub mod Fronts

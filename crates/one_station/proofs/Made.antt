@@ -1,5 +1,6 @@
 -- Calls that a node made.
-use Rattle.std.proofs.Common.{◌≡◌, true, List, [], ◌∷◌, ◌++◌, Err, refl, sym, ap, ◌∙◌, subst}
+use Rattle.std.proofs.Common.{◌≡◌, Bool, true, false, List, [], ◌∷◌, ◌++◌, Err, refl, sym, ap, ◌∙◌, subst}
+use Rattle.std.specs.Bool.{OnTrue, OnFalse}
 use Rattle.std.proofs.lemmas.List.{append-nil}
 use Rattle.pgn_ids.specs.declared.address.Address.{Address}
 use Rattle.message_events.specs.declared.event.Event.{Event}
@@ -7,15 +8,36 @@ use Rattle.segment_law.specs.Segment.{Segment}
 use Rattle.segment_law.specs.Calls.{is_call, called, replied, applied, events_of}
 use Rattle.segment_law.specs.Record.{Record, StandsAt}
 use Rattle.segment_law.specs.declared.call.Call.{Call}
+use Rattle.segment_law.specs.declared.call.Call.TheVariants.{Take}
 use Rattle.segment_law.specs.declared.refusal.Refusal.{Refusal}
 use Rattle.segment_law.specs.declared.reply.Reply.{Reply}
 use Rattle.segment_law.specs.declared.reply.Reply.TheVariants.{Refused, Done}
+use Rattle.segment_core.specs.InPlace.{is_quiet, MayLackMemory}
 use Rattle.segment_core.proofs.Records.{refused_stands}
+use Rattle.record_lemmas.proofs.Replies.{refused_for}
 use Rattle.one_station.specs.Node.{Node, Did}
-use Rattle.one_station.proofs.Replies.{refused_for}
+use Rattle.one_station.specs.NodeFields.{IsStood}
+use Rattle.one_station.specs.Answers.{LooksInPlace}
 
 abbrev pub node_of : Segment → Address → List Event → Node
 node_of segment address events = record { segment = segment; address = address; events = events }
+
+-- the segment goes on by a call
+pub stood_on : (address : Address) (before after : Segment) (call : Call) (reply : Reply)
+    → ((addresses : List Address) (steps : Record) → StandsAt addresses steps before → StandsAt addresses (steps ++ (call, reply) ∷ []) after) → IsStood address before → IsStood address after
+stood_on address before after call reply stands (steps, h) = (steps ++ (call, reply) ∷ [], stands (address ∷ []) steps h)
+
+-- or stays, where the call wasn't made in place
+pub stood_in_place : (made : Bool) (address : Address) (before after : Segment) (call : Call)
+    → ((addresses : List Address) (steps : Record) → StandsAt addresses steps before → OnTrue made (StandsAt addresses (steps ++ (call, Done []) ∷ []) after)) → OnFalse made (after ≡ before) → IsStood address before → IsStood address after
+stood_in_place true address before after call stands other (steps, h) = (steps ++ (call, Done []) ∷ [], stands (address ∷ []) steps h)
+stood_in_place false address before after call stands other h = subst (IsStood address) (sym other) h
+
+-- a look that wasn't made in place wants memory, or isn't one that could be
+pub not_in_place : (made : Bool) (now : Node) (segment : Segment) (address : Address) (events : List Event) → node_of segment address events ≡ now
+    → OnFalse made (is_quiet segment (Take address true) ≡ true → MayLackMemory segment (Take address true)) → OnFalse made (LooksInPlace now → ⊥)
+not_in_place true now segment address events view wants = tt
+not_in_place false now segment address events view wants = subst (λ (n : Node). LooksInPlace n → ⊥) view (λ h. h.1 (wants h.0))
 
 -- one call, as the segment answered it
 pub did_one : (before after : Node) (call : Call) (seg : Segment) (reply : Reply) → applied before.segment call ≡ (seg, reply)

@@ -13,6 +13,7 @@ use Rattle.segment_law.specs.declared.call.Call.TheVariants.{Pump, Transmit, Tak
 use Rattle.segment_law.specs.declared.refusal.Refusal.{Refusal}
 use Rattle.segment_law.specs.declared.refusal.Refusal.TheVariants as refusal
 use Rattle.segment_core.specs.Answers.{refusal_of}
+use Rattle.segment_core.specs.InPlace.{is_quiet, MayLackMemory}
 use Rattle.one_station.specs.Node.{Node, Did}
 use Rattle.one_station.specs.declared.error.NodeError.{NodeError}
 use Rattle.one_station.specs.declared.error.NodeError.TheVariants.{Refused, FrameWaits, ClockPassed, OutOfMemory}
@@ -50,6 +51,10 @@ is_waiting node = nat_lt 0 (waiting_at node.segment node.address)
 -- the station takes the next frame of the inner bus
 abbrev pub looks : Node → Call
 looks node = Take node.address true
+
+-- that Take isn't refused, tells nothing, and asks for no memory
+abbrev pub LooksInPlace : Node → Type 0
+LooksInPlace node = (is_quiet node.segment (looks node) ≡ true) × (MayLackMemory node.segment (looks node) → ⊥)
 
 -- that Take was made; or it isn't refused and found no memory, and the frame waits
 abbrev pub HasLooked : (before after : Node) → Fed → Type 0
@@ -101,6 +106,6 @@ sent_refusal node =
     else as_error (refusal_of (called node.segment (Transmit node.address)))
 
 -- the frame leaves the queue for the inner bus, where the station passes it by
-abbrev pub IsSent : (before after : Node) → Result Fed NodeError → Type 0
-IsSent before after (Ok fed) = (sent_refusal before ≡ None) × DidAndLooked before (Transmit before.address) after fed
+abbrev pub IsSent : (before after : Node) → Result (Unit {0}) NodeError → Type 0
+IsSent before after (Ok _) = (sent_refusal before ≡ None) × Did before (Transmit before.address ∷ looks before ∷ []) after
 IsSent before after (Err error) = IsUndone (sent_refusal before) before after error

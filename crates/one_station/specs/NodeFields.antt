@@ -1,4 +1,8 @@
 -- A node as it is kept.
+use Rattle.std.specs.Prelude.{[], ◌∷◌}
+use Rattle.pgn_ids.specs.declared.address.Address.{Address}
+use Rattle.segment_law.specs.Segment.{Segment}
+use Rattle.segment_law.specs.Record.{Record, StandsAt}
 use Rattle.one_station.specs.Node.{Node}
 use Rattle.one_station.specs.Told.{told_events, IsFrontFirst}
 use Rattle.one_station.specs.declared.node.Node.TheInside.{Inside}
@@ -6,5 +10,10 @@ use Rattle.one_station.specs.declared.node.Node.TheInside.{Inside}
 abbrev pub node_value : Inside → Node
 node_value node = record { segment = node.segment; address = node.address; events = told_events node.told }
 
-abbrev pub IsNodeInside : Inside → Type 0
-IsNodeInside node = IsFrontFirst node.told
+-- a segment with this station alone, at which some calls led to it
+abbrev pub IsStood : Address → Segment → Type 0
+IsStood address segment = (steps : Record) × StandsAt (address ∷ []) steps segment
+
+pub record IsNodeInside (node : Inside) : Type 0 where
+  pub front_first : IsFrontFirst node.told
+  pub stood : IsStood node.address node.segment

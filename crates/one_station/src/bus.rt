@@ -1,13 +1,15 @@
 //! Frames from the bus and for the bus.
-ghost use Rattle.std.specs.Prelude.{◌≡◌, ◌∷◌, [], IfOk, IfErr, OnOk, OnErr};
+ghost use Rattle.std.specs.Prelude.{◌≡◌, ◌∷◌, [], false, IfOk, IfErr, OnOk, OnErr};
 ghost use Rattle.std.specs.Bool.{OnTrue, OnFalse};
 ghost use Rattle.segment_law.specs.Readers.{front_at};
+ghost use Rattle.segment_law.specs.declared.call.Call.TheVariants.{Transmit};
 ghost use Rattle.one_station.specs.declared.error.NodeError.TheVariants.{OutOfMemory};
 ghost use Rattle.one_station.specs.Node.{Did};
-ghost use Rattle.one_station.specs.Answers.{IsAnswered, IsFed, IsSent, HasLooked, looks, is_waiting, feed_refusal, sent_refusal, front_calls};
+ghost use Rattle.one_station.specs.Answers.{IsAnswered, IsFed, IsSent, HasLooked, LooksInPlace, looks, is_waiting, feed_refusal, sent_refusal, front_calls};
 
 use crate::error::{Fed, NodeError};
 use crate::node::Node;
+use broadcast_law::stations_queue_their_own;
 use bus_frame::Frame;
 use pgn_ids::read_id;
 use segment_core::{Call, Refusal};
@@ -55,6 +57,7 @@ impl Node {
     #[tactic(auto, using(crate::proofs::Made::did_quietly))]
     fn look_in_place(&mut self) -> bool
         ensures looked { OnTrue result (Did self.old (looks self.old ∷ []) self.new) }
+        ensures wanting { OnFalse result (LooksInPlace self.old → ⊥) }
         ensures other { OnFalse result (self.new ≡ self.old) }
     {
         let station = self.address;
@@ -127,21 +130,45 @@ impl Node {
         Ok(self.segment.front(station))
     }
 
-    /// The frame that `front` answered was put on the bus. The station doesn't look at its own frames, and passes it by.
+    /// The frame that `front` answered was put on the bus. The station doesn't look at its own frames, and passes it by, which takes
+    /// no memory.
     ///
     /// Refused as `FrameWaits` where one that was fed waits to be looked at, as `NothingToSend` where the transmit queue is empty,
     /// and else as `OutOfMemory` where memory is refused: the call is to be made again then, since the frame isn't to be put twice.
-    pub fn sent(&mut self) -> Result<Fed, NodeError>
+    pub fn sent(&mut self) -> Result<(), NodeError>
         ensures { IsSent self.old self.new result }
     {
         if let Some(error) = self.sent_refusal() {
             return Err(error);
         }
-        let station = self.address;
-        if let Err(error) = self.make(Call::Transmit { station }) {
+        if let Err(error) = self.put_own() {
             return Err(error);
         }
-        Ok(self.look())
+        self.pass_by();
+        Ok(())
+    }
+
+    // The first frame of the transmit queue comes on the inner bus. It is the station's own, and leaves a place in the queue.
+    fn put_own(&mut self) -> Result<(), NodeError>
+        requires { is_waiting self.old ≡ false }
+        ensures answered { IsAnswered self.old (Transmit self.old.address) self.new result }
+        ensures own { OnOk result (LooksInPlace self.new) }
+    {
+        // A law, for the last clause: the call does nothing.
+        stations_queue_their_own();
+        let station = self.address;
+        let _at_most_full = self.segment.queue_len(station);
+        self.make(Call::Transmit { station })
+    }
+
+    // The station passes its own frame by.
+    fn pass_by(&mut self)
+        requires { LooksInPlace self.old }
+        ensures { Did self.old (looks self.old ∷ []) self.new }
+    {
+        if !self.look_in_place() {
+            unreachable!();
+        }
     }
 
     // Why no frame was put.

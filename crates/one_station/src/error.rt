@@ -20,7 +20,7 @@ pub enum NodeError {
     OutOfMemory,
 }
 
-/// What came of a frame that the bus carried.
+/// What came of a frame of another node.
 #[derive(Clone, Copy, Debug, PartialEq, Eq)]
 pub enum Fed {
     /// The node has looked at it.

@@ -104,7 +104,7 @@ pub(crate) fn front(node: &mut Node) -> Result<Option<Frame>, NodeError> {
     }
 }
 
-pub(crate) fn sent(node: &mut Node) -> Result<Fed, NodeError> {
+pub(crate) fn sent(node: &mut Node) -> Result<(), NodeError> {
     match node.sent() {
         Err(NodeError::OutOfMemory) => node.sent(),
         sent => sent,
@@ -114,7 +114,7 @@ pub(crate) fn sent(node: &mut Node) -> Result<Fed, NodeError> {
 // The next frame of a node is this one, and it is put on the bus.
 pub(crate) fn puts(rt: &impl Abort, node: &mut Node, shown: Shown) -> Result<(), Fail> {
     assert_eq!(rt; front(node)?, Some(frame_of(shown)?));
-    assert_eq!(rt; sent(node), Ok(Fed::Taken));
+    assert_eq!(rt; sent(node), Ok(()));
     Ok(())
 }
 

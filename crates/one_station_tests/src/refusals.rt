@@ -71,7 +71,7 @@ fn fills(rt: &impl Abort, b: &mut Node, request: Frame) -> Result<(), Fail> {
     }
     assert_eq!(rt; feed(b, request), refused(Refusal::TxFull));
     assert_eq!(rt; front(b)?.is_some(), true);
-    assert_eq!(rt; sent(b), Ok(Fed::Taken));
+    assert_eq!(rt; sent(b), Ok(()));
     assert_eq!(rt; feed(b, request), Ok(()));
     Ok(())
 }

@@ -6,4 +6,5 @@ pub mod Openings
 pub mod Readings
 pub mod Told
 pub mod EachCall
+pub mod Replies
 pub mod AlongRecords

@@ -1,6 +1,7 @@
 //! What a segment answers without a step. No reader takes memory.
-ghost use Rattle.std.specs.Prelude.{◌≡◌, ◌<◌, List, length, slice_get};
+ghost use Rattle.std.specs.Prelude.{◌≡◌, ◌<◌, ◌≤◌, List, length, slice_get};
 ghost use Rattle.pgn_ids.specs.declared.address.Address.{Address as AddressValue};
+ghost use Rattle.tx_queue.specs.Queue.{queue_limit};
 ghost use Rattle.bus_order.specs.Bus.{bus_len, frame_at};
 ghost use Rattle.segment_law.specs.Segment.{has_station, waiting_at};
 ghost use Rattle.segment_law.specs.Readers.{queue_len, front_at, next_pump, is_due, wanted, wanted_with, given_by_take, frame_for, rests, is_idle};
@@ -31,7 +32,8 @@ impl Segment {
 
     /// How many frames wait in a station's transmit queue; 0 where the address isn't a station's.
     pub fn queue_len(&self, station: Address) -> usize
-        ensures { result ≡ queue_len self.now station }
+        ensures value { result ≡ queue_len self.now station }
+        ensures within { result ≤ queue_limit }
     {
         match self.place_of(station) {
             None => 0,

@@ -2,8 +2,8 @@ use Rattle.std.proofs.Common.{refl, ap, ◌∙◌}
 use Rattle.segment_law.specs.declared.call.Call.TheVariants.{Open}
 use Rattle.segment_law.specs.declared.reply.Reply.TheVariants.{Sent, Done}
 use Rattle.one_station.specs.Told.{told_events}
-use Rattle.one_station.proofs.Made.{make_refused}
-use Rattle.one_station.proofs.Replies.{fits}
+use Rattle.record_lemmas.proofs.Replies.{fits}
+use Rattle.one_station.proofs.Made.{make_refused, stood_on}
 use Rattle.one_station.proofs.node.Node.open_port.Goals as goal
 
 pub returns-in-Ok-Refused-clause-answered : goal.returns-in-Ok-Refused-clause-answered
@@ -20,3 +20,15 @@ pub unreachable-requires-in-Ok-Done : goal.unreachable-requires-in-Ok-Done
 unreachable-requires-in-Ok-Done c =
     fits c.self.inside.segment (Open c.self.inside.address c.args.pgn c.args.max_len) c.apply.new.self (Done c.in-Ok-Done.field-0-0)
     (c.in-Ok-Done.ensures.ok ∙ ap (λ r. (c.apply.new.self, r)) c.in-Ok-Done.field-0-is) tt
+
+pub invariant_of-self : goal.invariant_of-self
+invariant_of-self c = record {
+  front_first = c.self.invariant.front_first;
+  stood = stood_on c.self.inside.address c.self.inside.segment c.apply.new.self (Open c.self.inside.address c.args.pgn c.args.max_len) c.in-Ok-Opened.field-0 c.in-Ok-Opened.ensures.stands c.self.invariant.stood;
+}
+
+pub invariant_of-self-in-Ok-Refused : goal.invariant_of-self-in-Ok-Refused
+invariant_of-self-in-Ok-Refused c = record {
+  front_first = c.self.invariant.front_first;
+  stood = stood_on c.self.inside.address c.self.inside.segment c.apply.new.self (Open c.self.inside.address c.args.pgn c.args.max_len) c.in-Ok-Refused.field-0 c.in-Ok-Refused.ensures.stands c.self.invariant.stood;
+}

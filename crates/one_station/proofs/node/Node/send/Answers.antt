@@ -3,8 +3,8 @@ use Rattle.segment_law.specs.Calls.{applied}
 use Rattle.segment_law.specs.declared.call.Call.TheVariants.{Send}
 use Rattle.segment_law.specs.declared.reply.Reply.TheVariants.{Opened, Done}
 use Rattle.one_station.specs.Told.{told_events}
-use Rattle.one_station.proofs.Made.{make_refused}
-use Rattle.one_station.proofs.Replies.{fits}
+use Rattle.record_lemmas.proofs.Replies.{fits}
+use Rattle.one_station.proofs.Made.{make_refused, stood_on}
 use Rattle.one_station.proofs.node.Node.send.Goals as goal
 
 pub returns-in-Ok-Refused-clause-answered : goal.returns-in-Ok-Refused-clause-answered
@@ -23,3 +23,15 @@ pub unreachable-requires-in-Ok-Done : goal.unreachable-requires-in-Ok-Done
 unreachable-requires-in-Ok-Done c =
     fits c.self.inside.segment (Send c.self.inside.address c.args.to c.args.pgn c.new.result) c.apply.new.self (Done c.in-Ok-Done.field-0-0)
     (c.in-Ok-Done.ensures.ok ∙ ap (λ r. (c.apply.new.self, r)) c.in-Ok-Done.field-0-is) tt
+
+pub invariant_of-self : goal.invariant_of-self
+invariant_of-self c = record {
+  front_first = c.self.invariant.front_first;
+  stood = stood_on c.self.inside.address c.self.inside.segment c.apply.new.self (Send c.self.inside.address c.args.to c.args.pgn c.new.result) c.in-Ok-Sent.field-0 c.in-Ok-Sent.ensures.stands c.self.invariant.stood;
+}
+
+pub invariant_of-self-in-Ok-Refused : goal.invariant_of-self-in-Ok-Refused
+invariant_of-self-in-Ok-Refused c = record {
+  front_first = c.self.invariant.front_first;
+  stood = stood_on c.self.inside.address c.self.inside.segment c.apply.new.self (Send c.self.inside.address c.args.to c.args.pgn c.new.result) c.in-Ok-Refused.field-0 c.in-Ok-Refused.ensures.stands c.self.invariant.stood;
+}
