@@ -1,0 +1,4 @@
+mod Packets
+mod Runs
+mod Beginnings
+mod Broadcasts

@@ -1,0 +1,6 @@
+//! What a listener hears of a message that nothing disturbs: that message, and nothing else.
+#![tactic(auto)]
+
+mod laws;
+
+pub use laws::broadcasts_are_heard;
