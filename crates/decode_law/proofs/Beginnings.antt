@@ -24,7 +24,7 @@ use Rattle.log_decode.specs.View.{State}
 use Rattle.log_decode.specs.declared.key.Key.{Key}
 use Rattle.log_decode.specs.declared.told.Told.{Told}
 use Rattle.decode_law.specs.Hearing.{message_key}
-use Rattle.decode_law.proofs.Packets.{On, after}
+use Rattle.decode_law.proofs.Packets.{On, after, none_heard}
 
 abbrev pub Begins : Type 0
 Begins = (message : List ℕ) → IsFrontOf message (empty_join (length message))
@@ -40,15 +40,8 @@ module _ (iface : Iface) (s d : Address) (m : Pending) (begins : Begins) (e : St
   short : nat_lt e.most len ≡ false
   short = grind (arith, nat_tests)
 
-  -- a frame with a meaning
   first_heard : (wire : Wire) → reading f ≡ Some (wire, s, d) → taken e time iface f [] ≡ after e time (wire_taken (record { iface = iface; from = s; to = d }) wire e.most time ([], []))
-  first_heard wire reads =
-      let now : max e.time time ≡ time = omega (arith, later) in
-      let said : frame_taken iface f e.most time ([], []) ≡ wire_taken (record { iface = iface; from = s; to = d }) wire e.most time ([], []) =
-      ap (λ (o : Option (Wire × Address × Address)). elim o as (λ (_ : Option (Wire × Address × Address)). Heard) [ None ↦ ([], []) | Some r ↦ wire_taken (record { iface = iface; from = r.1; to = r.2 }) r.0 e.most time ([], []) ]) reads in
-      ap (λ (t : ℕ). after e t (frame_taken iface f e.most t (silenced t (e.sessions, [])))) now
-      ∙ ap (λ (es : Sessions). after e time (frame_taken iface f e.most time (silenced time (es, [])))) none
-      ∙ ap (after e time) said
+  first_heard wire reads = none_heard iface s d e [] f wire time reads none later
 
   -- the message is under way, and its first packet is the next
   begun : (kind : Kind) → taken e time iface f [] ≡ after e time ((message_key iface s d kind, opened m.pgn len time) ∷ [], []) → On (message_key iface s d kind) m 1 0 (taken e time iface f []).0 (taken e time iface f []).1

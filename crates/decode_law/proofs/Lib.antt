@@ -2,3 +2,5 @@ mod Packets
 mod Runs
 mod Beginnings
 mod Broadcasts
+mod Windows
+mod Connections

@@ -79,7 +79,7 @@ not_silent key s told time soon =
 pub at_key : (key : Key) (s : Session) → session_at key ((key, s) ∷ []) ≡ Some s
 at_key key s = rw (same_refl key) refl
 
-put_key : (key : Key) (s t : Session) → put key t ((key, s) ∷ []) ≡ (key, t) ∷ []
+pub put_key : (key : Key) (s t : Session) → put key t ((key, s) ∷ []) ≡ (key, t) ∷ []
 put_key key s t = rw (same_refl key) refl
 
 without_key : (key : Key) (s : Session) → without key ((key, s) ∷ []) ≡ []
@@ -117,3 +117,15 @@ frame_heard iface from to key s d told f wire time reads is since later soon =
     ap (λ (t : ℕ). after d t (frame_taken iface f d.most t (silenced t (d.sessions, told)))) now
     ∙ ap (λ (h : Heard). after d time (frame_taken iface f d.most time h)) none
     ∙ ap (after d time) (said time ((key, s) ∷ [], told))
+
+-- a frame with a meaning, where nothing is under way
+pub none_heard : (iface : Iface) (from to : Address) (d : State) (told : List Told) (f : CanFrame) (wire : Wire) (time : ℕ) → reading f ≡ Some (wire, from, to) → d.sessions ≡ [] → d.time ≤ time
+    → taken d time iface f told ≡ after d time (wire_taken (record { iface = iface; from = from; to = to }) wire d.most time ([], told))
+none_heard iface from to d told f wire time reads none later =
+    let now : max d.time time ≡ time = omega (arith, later) in
+    let is : silenced time (d.sessions, told) ≡ ([], told) = ap (λ (es : Sessions). silenced time (es, told)) none ∙ (λ i. ([], append-nil told i)) in
+    let said : (h : Heard) → frame_taken iface f d.most time h ≡ wire_taken (record { iface = iface; from = from; to = to }) wire d.most time h = λ h.
+    ap (λ (o : Option (Wire × Address × Address)). elim o as (λ (_ : Option (Wire × Address × Address)). Heard) [ None ↦ h | Some r ↦ wire_taken (record { iface = iface; from = r.1; to = r.2 }) r.0 d.most time h ]) reads in
+    ap (λ (t : ℕ). after d t (frame_taken iface f d.most t (silenced t (d.sessions, told)))) now
+    ∙ ap (λ (h : Heard). after d time (frame_taken iface f d.most time h)) is
+    ∙ ap (after d time) (said ([], told))
