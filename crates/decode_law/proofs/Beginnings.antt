@@ -1,10 +1,9 @@
 -- What a listener with nothing under way hears of an announcement.
-use Rattle.std.proofs.Common.{◌≡◌, ℕ, ◌≤◌, ◌<◌, ◌==◌, nat_lt, nat_le, max, Bool, true, false, not, ◌&&◌, List, [], ◌∷◌, length, Option, Some, None, refl, sym, ap, ◌∙◌, subst, arith}
+use Rattle.std.proofs.Common.{◌≡◌, ℕ, ◌≤◌, ◌==◌, nat_lt, true, false, ◌&&◌, List, [], ◌∷◌, length, Some, refl, sym, ap, ◌∙◌, subst, arith}
 use Rattle.std.proofs.lemmas.Bool.{eq-eqb}
 use Rattle.std.proofs.lemmas.Bool.Decides.{nat_tests}
 use Rattle.bus_frame.specs.Frames.{CanFrame}
 use Rattle.log_text.specs.declared.iface.Iface.{Iface}
-use Rattle.pgn_ids.specs.Pgn.{clean}
 use Rattle.pgn_ids.specs.declared.address.Address.{Address}
 use Rattle.seg_cut.specs.Packets.{packet_count}
 use Rattle.seg_cut.specs.Join.{IsFrontOf, empty_join}
@@ -12,16 +11,13 @@ use Rattle.tp_wire.specs.Reading.{reading}
 use Rattle.tp_wire.specs.Sizes.{is_size_of, IsSizeOf}
 use Rattle.tp_wire.specs.declared.wire.Kind.{Kind}
 use Rattle.tp_wire.specs.declared.wire.Kind.TheVariants.{Tp, Etp}
-use Rattle.tp_wire.specs.declared.wire.CmFrame.{CmFrame}
 use Rattle.tp_wire.specs.declared.wire.CmFrame.TheVariants.{Rts, Bam, EtpRts}
 use Rattle.tp_wire.specs.declared.wire.Wire.{Wire}
 use Rattle.tp_wire.specs.declared.wire.Wire.TheVariants.{Cm}
 use Rattle.lane_core.specs.declared.message.Pending.{Pending}
-use Rattle.log_decode.specs.Decoder.{taken, frame_taken, wire_taken, cm_frame_taken, tp_news, etp_news}
+use Rattle.log_decode.specs.Decoder.{taken, wire_taken, cm_frame_taken}
 use Rattle.log_decode.specs.Session.{opened}
-use Rattle.log_decode.specs.Sessions.{Sessions, Heard, silenced, announced}
 use Rattle.log_decode.specs.View.{State}
-use Rattle.log_decode.specs.declared.key.Key.{Key}
 use Rattle.log_decode.specs.declared.told.Told.{Told}
 use Rattle.decode_law.specs.Hearing.{message_key}
 use Rattle.decode_law.proofs.Packets.{On, after, none_heard}

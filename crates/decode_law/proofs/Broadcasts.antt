@@ -1,5 +1,5 @@
 -- A listener hears a message to all.
-use Rattle.std.proofs.Common.{◌≡◌, ℕ, suc, ◌+◌, ◌-◌, ◌*◌, ◌≤◌, ◌<◌, true, List, [], length, map, Some, refl, sym, ap, ◌∙◌, subst, arith}
+use Rattle.std.proofs.Common.{◌≡◌, ℕ, suc, ◌+◌, ◌-◌, ◌≤◌, ◌<◌, List, [], length, map, Some, refl, ap, ◌∙◌, subst, arith}
 use Rattle.std.specs.List.{range_with_len}
 use Rattle.bus_frame.specs.Frames.{CanFrame}
 use Rattle.log_text.specs.declared.iface.Iface.{Iface}
@@ -45,7 +45,7 @@ module _ (reads : ReadsBack) (seven : Seven) (begins : Begins) (goes_on : GoesOn
       reads (Packet Tp i (packet m.bytes i)) s all (record { numbers = some; widths = seven m.bytes i most; source = h.sender; destination = refl })
       ∙ ap (λ (n : ℕ). Some (Packet Tp i (packet m.bytes n), s, all)) (let x : i ≡ 0 + i = omega arith in x)
 
-  pub broadcast_heard : HearsMessage quiet Tp m s all
+  pub broadcast_heard : HearsMessage (quiet m s all) Tp m s all
   unfolding quiet
   broadcast_heard iface listener none fits = λ time later.
       let size = h.size in

@@ -1,6 +1,8 @@
 -- A listener hears a message to one node.
-use Rattle.std.proofs.Common.{◌≡◌, ℕ, zero, suc, ◌+◌, ◌-◌, ◌*◌, ◌/◌, ◌^◌, ◌≤◌, ◌<◌, ◌==◌, ◌||◌, min, Bool, true, List, [], ◌∷◌, ◌++◌, length, map, Some, refl, sym, ap, ◌∙◌, subst, arith}
+use Rattle.std.proofs.Common.{◌≡◌, ℕ, suc, ◌+◌, ◌-◌, ◌*◌, ◌/◌, ◌^◌, ◌≤◌, ◌<◌, ◌==◌, ◌||◌, min, Bool, true, false, cond, List, [], ◌∷◌, ◌++◌, length, map, Some, refl, sym, ap, ◌∙◌, subst, arith}
 use Rattle.std.specs.Prelude.{flat_map}
+use Rattle.std.proofs.lemmas.Bool.{ltb-true}
+use Rattle.std.proofs.lemmas.Bool.Decides.{nat_tests}
 use Rattle.std.specs.List.{range_with_len}
 use Rattle.bus_frame.specs.Frames.{CanFrame}
 use Rattle.log_text.specs.declared.iface.Iface.{Iface}
@@ -9,11 +11,14 @@ use Rattle.pgn_ids.specs.declared.address.Address.{Address}
 use Rattle.seg_cut.specs.Packets.{packet_count, packet}
 use Rattle.tp_wire.specs.Reading.{reading}
 use Rattle.tp_wire.specs.Rows.{written}
+use Rattle.tp_wire.specs.declared.wire.Kind.{Kind}
 use Rattle.tp_wire.specs.declared.wire.Kind.TheVariants.{Tp, Etp}
 use Rattle.tp_wire.specs.declared.wire.CmFrame.TheVariants.{Rts, Cts, EndOfMsgAck, EtpRts, EtpCts, EtpDpo, EtpEoma}
 use Rattle.tp_wire.specs.declared.wire.Wire.TheVariants.{Cm, Packet}
+use Rattle.tp_wire.specs.Sizes.{IsSizeOf}
+use Rattle.lane_core.specs.Lane.{kind_for}
 use Rattle.lane_core.specs.declared.message.Pending.{Pending}
-use Rattle.segment_law.specs.Quiet.{groups, tp_window, etp_window, quiet_tp, quiet_etp}
+use Rattle.segment_law.specs.Quiet.{groups, tp_window, etp_window, quiet_tp, quiet_etp, quiet_connection, quiet_broadcast, quiet}
 use Rattle.log_decode.specs.Decoder.{taken}
 use Rattle.log_decode.specs.Session.{patience}
 use Rattle.log_decode.specs.View.{State}
@@ -71,8 +76,8 @@ module _ (reads : ReadsBack) (seven : Seven) (begins : Begins) (goes_on : GoesOn
           (subst (λ (n : ℕ). On (message_key iface s d Tp) m (tp_first j) n e said) none o)
           (reads (Cm (Cts (tp_count j) (tp_first j) m.pgn)) d s (record { numbers = tt; widths = h.pgn; source = one; destination = h.sender }))
 
-      abbrev May : ℕ → Type 0
-      May behind = behind ≡ 0
+      abbrev TpMay : ℕ → Type 0
+      TpMay behind = behind ≡ 0
 
       abbrev none : ℕ → ℕ
       none j = 0
@@ -83,7 +88,7 @@ module _ (reads : ReadsBack) (seven : Seven) (begins : Begins) (goes_on : GoesOn
       tp_rest : (j : ℕ) → j + 1 ≡ tp_windows → (tp_first j + tp_count j ≡ last + 1) × (1 ≤ tp_count j)
       tp_rest j is = (omega (arith, is), omega (arith, is))
 
-      tp_tiled : IsTiled iface s d Tp m goes_on ends h.clean tp_windows May tp_first tp_count tp_first none tp_head tp_frame
+      tp_tiled : IsTiled iface s d Tp m goes_on ends h.clean tp_windows TpMay tp_first tp_count tp_first none tp_head tp_frame
       tp_tiled = record {
         starts = λ j. (let x : 0 + tp_first j ≡ tp_first j = omega arith in x);
         from_one = λ j. (let x : 1 ≤ tp_first j = omega arith in x);
@@ -97,22 +102,19 @@ module _ (reads : ReadsBack) (seven : Seven) (begins : Begins) (goes_on : GoesOn
       abbrev tp_all : List CanFrame
       tp_all = flat_map (tp_window m s d) (groups 16 last)
 
-      tp_ack : List CanFrame
-      tp_ack = written (Cm (EndOfMsgAck len last m.pgn)) d.0 s.0 ∷ []
-
       tp_windows_heard : (e : State) (said : List Told) → On (message_key iface s d Tp) m 1 0 e said → Hears (patience d) iface e tp_all said (IsHeard (message_key iface s d Tp) m)
       tp_windows_heard e said o =
           let size = h.size in
           let least = size.0 in
           let some : 0 + suc (tp_windows - 1) ≡ tp_windows = omega (arith, least) in
           let counted : suc (tp_windows - 1) ≡ tp_windows = omega (arith, least) in
-          let same : flat_map (window iface s d Tp m goes_on ends h.clean tp_windows May tp_first tp_count tp_first none tp_head tp_frame) (range_with_len 0 (suc (tp_windows - 1))) ≡ tp_all =
-          ap (λ (n : ℕ). flat_map (window iface s d Tp m goes_on ends h.clean tp_windows May tp_first tp_count tp_first none tp_head tp_frame) (range_with_len 0 n)) counted
+          let same : flat_map (window iface s d Tp m goes_on ends h.clean tp_windows TpMay tp_first tp_count tp_first none tp_head tp_frame) (range_with_len 0 (suc (tp_windows - 1))) ≡ tp_all =
+          ap (λ (n : ℕ). flat_map (window iface s d Tp m goes_on ends h.clean tp_windows TpMay tp_first tp_count tp_first none tp_head tp_frame) (range_with_len 0 n)) counted
           ∙ sym (fused (tp_window m s d) (λ j. (tp_first j, tp_count j)) (range_with_len 0 tp_windows)) in
           subst (λ (fs : List CanFrame). Hears (patience d) iface e fs said (IsHeard (message_key iface s d Tp) m)) same
-          (windows_heard iface s d Tp m goes_on ends h.clean tp_windows May tp_first tp_count tp_first none tp_head tp_frame tp_tiled (tp_windows - 1) 0 0 e said some refl o)
+          (windows_heard iface s d Tp m goes_on ends h.clean tp_windows TpMay tp_first tp_count tp_first none tp_head tp_frame tp_tiled (tp_windows - 1) 0 0 e said some refl o)
 
-    pub tp_heard : HearsMessage quiet_tp Tp m s d
+    pub tp_heard : HearsMessage (quiet_tp m s d) Tp m s d
     tp_heard iface listener none_there fits = λ time later.
         let rts : CanFrame = written (Cm (Rts len last 255 m.pgn)) s.0 d.0 in
         let ack : CanFrame = written (Cm (EndOfMsgAck len last m.pgn)) d.0 s.0 in
@@ -124,3 +126,123 @@ module _ (reads : ReadsBack) (seven : Seven) (begins : Begins) (goes_on : GoesOn
         (hears_so (patience d) iface e (tp_all iface) said (IsHeard (message_key iface s d Tp) m) (λ u v. Hears (patience d) iface u (ack ∷ []) v (IsHeard (message_key iface s d Tp) m))
         (λ u v w. λ then later_on soon. ack_heard iface s d m u v ack then later_on len last w is_ack)
         (tp_windows_heard iface e said (rts_heard iface s d m begins listener rts none_there fits time later 255 h.size is_rts)))
+
+  -- ---- ETP
+
+  module _ (h : IsCarried Etp m s) where
+    abbrev etp_first : ℕ → ℕ
+    etp_first j = 64 * j + 1
+
+    abbrev etp_count : ℕ → ℕ
+    etp_count j = min 64 (last - 64 * j)
+
+    abbrev etp_windows : ℕ
+    etp_windows = (last + 64 - 1) / 64
+
+    abbrev etp_head : ℕ → List CanFrame
+    etp_head j = written (Cm (EtpCts (etp_count j) (etp_first j) m.pgn)) d.0 s.0 ∷ written (Cm (EtpDpo (etp_count j) (etp_first j - 1) m.pgn)) s.0 d.0 ∷ []
+
+    abbrev etp_frame : ℕ → ℕ → CanFrame
+    etp_frame j i = written (Packet Etp i (packet m.bytes (etp_first j + i - 1))) s.0 d.0
+
+    abbrev behind_window : ℕ → ℕ
+    behind_window j = etp_first j - 1
+
+    abbrev one_at : ℕ → ℕ
+    one_at j = 1
+
+    abbrev EtpMay : ℕ → Type 0
+    EtpMay behind = Unit {0}
+
+    -- packet numbers of ETP have three bytes
+    low : (j : ℕ) → j < etp_windows → etp_first j < 2 ^ 24
+    low j inner =
+        let size = h.size in
+        let most = size.1 in
+        omega (arith, inner, most)
+
+    module _ (iface : Iface) where
+      etp_says : (j : ℕ) → Says iface s d Etp m goes_on ends h.clean (behind_window j) (etp_frame j)
+      etp_says j i from fits =
+          let k : etp_first j + i - 1 ≡ behind_window j + i = omega (arith, from) in
+          let most : etp_first j + i - 1 ≤ last = omega (arith, fits, from) in
+          let some : 0 < i = omega (arith, from) in
+          reads (Packet Etp i (packet m.bytes (etp_first j + i - 1))) s d (record { numbers = some; widths = seven m.bytes (etp_first j + i - 1) most; source = h.sender; destination = one })
+          ∙ ap (λ (n : ℕ). Some (Packet Etp i (packet m.bytes n), s, d)) k
+
+      etp_opens : (j behind : ℕ) (e : State) (said : List Told) → j < etp_windows → EtpMay behind → On (message_key iface s d Etp) m (etp_first j) behind e said
+          → Hears (patience d) iface e (etp_head j) said (On (message_key iface s d Etp) m (etp_first j) (behind_window j))
+      etp_opens j behind e said inner may o = λ time later soon. λ then later_on sooner.
+          let cts : CanFrame = written (Cm (EtpCts (etp_count j) (etp_first j) m.pgn)) d.0 s.0 in
+          let dpo : CanFrame = written (Cm (EtpDpo (etp_count j) (etp_first j - 1) m.pgn)) s.0 d.0 in
+          let first : etp_first j < 2 ^ 24 = low j inner in
+          let ahead : etp_first j - 1 < 2 ^ 24 = omega (arith, first) in
+          dpo_on iface s d m (etp_first j) behind (taken e time iface cts said).0 (taken e time iface cts said).1 dpo then later_on sooner (etp_count j) (etp_first j - 1)
+          (etp_cts_on iface s d m (etp_first j) behind e said cts time later soon (etp_count j) (etp_first j) o
+          (reads (Cm (EtpCts (etp_count j) (etp_first j) m.pgn)) d s (record { numbers = first; widths = h.pgn; source = one; destination = h.sender })))
+          (reads (Cm (EtpDpo (etp_count j) (etp_first j - 1) m.pgn)) s d (record { numbers = ahead; widths = h.pgn; source = h.sender; destination = one }))
+
+      etp_full : (j n : ℕ) → j + suc (suc n) ≡ etp_windows → (etp_first (j + 1) ≡ etp_first j + etp_count j) × (etp_first j + etp_count j ≤ last)
+      etp_full j n is = (omega (arith, is), omega (arith, is))
+
+      etp_rest : (j : ℕ) → j + 1 ≡ etp_windows → (etp_first j + etp_count j ≡ last + 1) × (1 ≤ etp_count j)
+      etp_rest j is = (omega (arith, is), omega (arith, is))
+
+      etp_tiled : IsTiled iface s d Etp m goes_on ends h.clean etp_windows EtpMay etp_first etp_count one_at behind_window etp_head etp_frame
+      etp_tiled = record {
+        starts = λ j. (let x : etp_first j - 1 + 1 ≡ etp_first j = omega arith in x);
+        from_one = λ j. (let x : 1 ≤ 1 = omega arith in x);
+        full = etp_full;
+        rest = etp_rest;
+        may = λ j. tt;
+        says = etp_says;
+        opens = etp_opens;
+      }
+
+      abbrev etp_all : List CanFrame
+      etp_all = flat_map (etp_window m s d) (groups 64 last)
+
+      etp_windows_heard : (e : State) (said : List Told) → On (message_key iface s d Etp) m 1 0 e said → Hears (patience d) iface e etp_all said (IsHeard (message_key iface s d Etp) m)
+      etp_windows_heard e said o =
+          let size = h.size in
+          let least = size.0 in
+          let some : 0 + suc (etp_windows - 1) ≡ etp_windows = omega (arith, least) in
+          let counted : suc (etp_windows - 1) ≡ etp_windows = omega (arith, least) in
+          let same : flat_map (window iface s d Etp m goes_on ends h.clean etp_windows EtpMay etp_first etp_count one_at behind_window etp_head etp_frame) (range_with_len 0 (suc (etp_windows - 1))) ≡ etp_all =
+          ap (λ (n : ℕ). flat_map (window iface s d Etp m goes_on ends h.clean etp_windows EtpMay etp_first etp_count one_at behind_window etp_head etp_frame) (range_with_len 0 n)) counted
+          ∙ sym (fused (etp_window m s d) (λ j. (etp_first j, etp_count j)) (range_with_len 0 etp_windows)) in
+          subst (λ (fs : List CanFrame). Hears (patience d) iface e fs said (IsHeard (message_key iface s d Etp) m)) same
+          (windows_heard iface s d Etp m goes_on ends h.clean etp_windows EtpMay etp_first etp_count one_at behind_window etp_head etp_frame etp_tiled (etp_windows - 1) 0 0 e said some tt o)
+
+    pub etp_heard : HearsMessage (quiet_etp m s d) Etp m s d
+    etp_heard iface listener none_there fits = λ time later.
+        let rts : CanFrame = written (Cm (EtpRts len m.pgn)) s.0 d.0 in
+        let ack : CanFrame = written (Cm (EtpEoma len m.pgn)) d.0 s.0 in
+        let is_rts : reading rts ≡ Some (Cm (EtpRts len m.pgn), s, d) = reads (Cm (EtpRts len m.pgn)) s d (record { numbers = tt; widths = h.pgn; source = h.sender; destination = one }) in
+        let is_ack : reading ack ≡ Some (Cm (EtpEoma len m.pgn), d, s) = reads (Cm (EtpEoma len m.pgn)) d s (record { numbers = tt; widths = h.pgn; source = one; destination = h.sender }) in
+        let e : State = (taken listener time iface rts []).0 in
+        let said : List Told = (taken listener time iface rts []).1 in
+        hears_both (patience d) iface e (etp_all iface) (ack ∷ []) said (IsHeard (message_key iface s d Etp) m)
+        (hears_so (patience d) iface e (etp_all iface) said (IsHeard (message_key iface s d Etp) m) (λ u v. Hears (patience d) iface u (ack ∷ []) v (IsHeard (message_key iface s d Etp) m))
+        (λ u v w. λ then later_on soon. eoma_heard iface s d m u v ack then later_on len w is_ack)
+        (etp_windows_heard iface e said (etp_rts_heard iface s d m begins listener rts none_there fits time later h.size is_rts)))
+
+  -- ---- either
+
+  kind_is : (kind : Kind) → IsSizeOf kind len → kind_for len ≡ kind
+  kind_is Tp size = let most = size.1 in grind (arith, nat_tests)
+  kind_is Etp size = let least = size.0 in grind (arith, nat_tests)
+
+  frames_are : (kind : Kind) → IsSizeOf kind len → quiet m s d ≡ quiet_connection kind m s d
+  unfolding quiet
+  frames_are kind size =
+      let below : d.0 < 254 = ltb-true d.0 254 one in
+      let not_all : (d.0 == 255) ≡ false = grind (arith, nat_tests) in
+      ap (λ (b : Bool). cond b (quiet_broadcast m s d) (quiet_connection (kind_for len) m s d)) not_all ∙ ap (λ (k : Kind). quiet_connection k m s d) (kind_is kind size)
+
+  heard_as : (kind : Kind) → IsCarried kind m s → HearsMessage (quiet_connection kind m s d) kind m s d
+  heard_as Tp h = tp_heard h
+  heard_as Etp h = etp_heard h
+
+  pub connection_heard : (kind : Kind) → IsCarried kind m s → HearsMessage (quiet m s d) kind m s d
+  connection_heard kind h = subst (λ (fs : List CanFrame). HearsMessage fs kind m s d) (sym (frames_are kind h.size)) (heard_as kind h)

@@ -1,5 +1,5 @@
 -- What a listener hears of packets that come in their order.
-use Rattle.std.proofs.Common.{◌≡◌, ℕ, zero, suc, ◌+◌, ◌-◌, ◌*◌, ◌<◌, ◌≤◌, ◌==◌, nat_lt, nat_le, max, Bool, true, false, cond, not, ◌&&◌, List, [], ◌∷◌, ◌++◌, length, map, Option, Some, None, option_to_list, refl, sym, ap, ◌∙◌, subst, arith, IsTrue}
+use Rattle.std.proofs.Common.{◌≡◌, ℕ, ◌+◌, ◌-◌, ◌<◌, ◌≤◌, ◌==◌, nat_le, max, true, false, ◌&&◌, List, [], ◌∷◌, ◌++◌, Option, Some, None, refl, sym, ap, ◌∙◌, subst, arith, IsTrue}
 use Rattle.std.specs.Cmp.Lexicographic.{pointwise}
 use Rattle.std.proofs.lemmas.Bool.{eq-eqb}
 use Rattle.std.proofs.lemmas.Bool.Decides.{nat_tests}
@@ -9,16 +9,14 @@ use Rattle.log_text.specs.declared.iface.Iface.{Iface}
 use Rattle.pgn_ids.specs.Pgn.{clean}
 use Rattle.pgn_ids.specs.declared.address.Address.{Address}
 use Rattle.seg_cut.specs.Packets.{packet_count, packet}
-use Rattle.seg_cut.specs.Join.{Join, IsFrontOf, wants, joined, is_complete, with_room}
+use Rattle.seg_cut.specs.Join.{Join, IsFrontOf, wants, joined, is_complete}
 use Rattle.tp_wire.specs.Reading.{reading}
-use Rattle.tp_wire.specs.declared.wire.Kind.{Kind}
 use Rattle.tp_wire.specs.declared.wire.Wire.{Wire}
-use Rattle.tp_wire.specs.declared.wire.Wire.TheVariants.{Cm, Packet}
 use Rattle.lane_core.specs.declared.message.Pending.{Pending}
 use Rattle.log_decode.specs.Decoder.{taken, frame_taken, wire_taken}
-use Rattle.log_decode.specs.Keys.{same_key, key_of, transport_of}
+use Rattle.log_decode.specs.Keys.{same_key}
 use Rattle.log_decode.specs.Session.{patience, packet_heard, accepted, roomy, given_of}
-use Rattle.log_decode.specs.Sessions.{Sessions, Heard, session_at, put, without, ended_at, silenced, silent_entry, heard_at, packet_taken}
+use Rattle.log_decode.specs.Sessions.{Sessions, Heard, session_at, put, without, ended_at, silenced, heard_at, packet_taken}
 use Rattle.log_decode.specs.View.{State}
 use Rattle.log_decode.specs.declared.key.Key.{Key}
 use Rattle.log_decode.specs.declared.key.Transport.{Transport}
@@ -26,7 +24,7 @@ use Rattle.log_decode.specs.declared.key.Transport.TheVariants as transports
 use Rattle.log_decode.specs.declared.session.Session.{Session}
 use Rattle.log_decode.specs.declared.told.Told.{Told}
 use Rattle.log_decode.specs.declared.told.Told.TheVariants.{Given}
-use Rattle.decode_law.specs.Hearing.{Hears, IsHeard}
+use Rattle.decode_law.specs.Hearing.{Hears}
 
 pointwise_refl : (xs : List ℕ) → pointwise (λ a b. a == b) xs xs ≡ true
 pointwise_refl [] = refl

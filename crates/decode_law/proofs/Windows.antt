@@ -2,7 +2,6 @@
 use Rattle.std.proofs.Common.{◌≡◌, ℕ, zero, suc, ◌+◌, ◌-◌, ◌<◌, ◌≤◌, ◌==◌, true, List, [], ◌∷◌, ◌++◌, map, length, Some, refl, sym, ap, ◌∙◌, subst, arith}
 use Rattle.std.proofs.lemmas.Bool.{eq-eqb}
 use Rattle.std.specs.Prelude.{flat_map}
-use Rattle.std.proofs.lemmas.List.{append-nil}
 use Rattle.std.specs.List.{range_with_len}
 use Rattle.bus_frame.specs.Frames.{CanFrame}
 use Rattle.log_text.specs.declared.iface.Iface.{Iface}
@@ -11,17 +10,15 @@ use Rattle.pgn_ids.specs.declared.address.Address.{Address}
 use Rattle.seg_cut.specs.Join.{Join, IsFrontOf}
 use Rattle.seg_cut.specs.Packets.{packet_count}
 use Rattle.tp_wire.specs.Reading.{reading}
-use Rattle.tp_wire.specs.Rows.{cm_pgn}
 use Rattle.tp_wire.specs.declared.wire.Kind.{Kind}
 use Rattle.tp_wire.specs.declared.wire.Kind.TheVariants.{Tp, Etp}
-use Rattle.tp_wire.specs.declared.wire.CmFrame.{CmFrame}
 use Rattle.tp_wire.specs.declared.wire.CmFrame.TheVariants.{Cts, EndOfMsgAck, EtpCts, EtpDpo, EtpEoma}
 use Rattle.tp_wire.specs.declared.wire.Wire.{Wire}
 use Rattle.tp_wire.specs.declared.wire.Wire.TheVariants.{Cm}
 use Rattle.lane_core.specs.declared.message.Pending.{Pending}
-use Rattle.log_decode.specs.Decoder.{taken, frame_taken, wire_taken, cm_frame_taken}
+use Rattle.log_decode.specs.Decoder.{taken, wire_taken, cm_frame_taken}
 use Rattle.log_decode.specs.Session.{patience, renewed}
-use Rattle.log_decode.specs.Sessions.{Sessions, Heard, silenced, heard_at, cm_taken}
+use Rattle.log_decode.specs.Sessions.{heard_at, cm_taken}
 use Rattle.log_decode.specs.View.{State}
 use Rattle.log_decode.specs.declared.key.Key.{Key}
 use Rattle.log_decode.specs.declared.session.Session.{Session}

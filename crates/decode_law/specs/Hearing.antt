@@ -45,6 +45,6 @@ pub record IsHeard (key : Key) (m : Pending) (d : State) (said : List Told) : Ty
   pub told : said ≡ Given key m.pgn m.bytes ∷ []
 
 -- a listener with nothing under way hears just the message whose frames these are
-abbrev pub HearsMessage : (frames : Pending → (s d : Address) → List CanFrame) → (kind : Kind) → (m : Pending) (s d : Address) → Type 0
+abbrev pub HearsMessage : List CanFrame → Kind → Pending → (s d : Address) → Type 0
 HearsMessage frames kind m s d = (iface : Iface) (listener : State) → listener.sessions ≡ [] → length m.bytes ≤ listener.most
-    → HearsAll (patience d) iface listener (frames m s d) [] (IsHeard (message_key iface s d kind) m)
+    → HearsAll (patience d) iface listener frames [] (IsHeard (message_key iface s d kind) m)

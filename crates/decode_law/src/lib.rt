@@ -3,4 +3,4 @@
 
 mod laws;
 
-pub use laws::broadcasts_are_heard;
+pub use laws::{broadcasts_are_heard, connections_are_heard};
