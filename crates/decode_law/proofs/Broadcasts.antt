@@ -1,59 +1,83 @@
--- A listener hears a message to all.
-use Rattle.std.proofs.Common.{◌≡◌, ℕ, suc, ◌+◌, ◌-◌, ◌≤◌, ◌<◌, List, [], length, map, Some, refl, ap, ◌∙◌, subst, arith}
+-- A message to all is heard.
+use Rattle.std.proofs.Common.{◌≡◌, ℕ, suc, ◌+◌, ◌-◌, ◌≤◌, List, [], ◌∷◌, ◌++◌, true, cond, map, length, None, refl, sym, ap, ◌∙◌, subst, arith}
 use Rattle.std.specs.List.{range_with_len}
+use Rattle.std.proofs.lemmas.List.{append-nil}
 use Rattle.bus_frame.specs.Frames.{CanFrame}
 use Rattle.log_text.specs.declared.iface.Iface.{Iface}
+use Rattle.pgn_ids.specs.Pgn.{clean}
 use Rattle.pgn_ids.specs.declared.address.Address.{Address}
-use Rattle.seg_cut.specs.Packets.{packet_count, packet}
-use Rattle.tp_wire.specs.Reading.{reading}
-use Rattle.tp_wire.specs.Rows.{IsRow, written}
+use Rattle.tp_wire.specs.Rows.{written}
+use Rattle.tp_wire.specs.declared.constants.TheConstants.{TP_MAX_SIZE, ETP_MAX_SIZE}
+use Rattle.tp_wire.specs.declared.wire.Kind.{Kind}
 use Rattle.tp_wire.specs.declared.wire.Kind.TheVariants.{Tp}
 use Rattle.tp_wire.specs.declared.wire.CmFrame.TheVariants.{Bam}
-use Rattle.tp_wire.specs.declared.wire.Wire.{Wire}
 use Rattle.tp_wire.specs.declared.wire.Wire.TheVariants.{Cm, Packet}
+use Rattle.seg_cut.specs.Packets.{packet_count, packet}
+use Rattle.lane_core.specs.Lane.{kind_for}
 use Rattle.lane_core.specs.declared.message.Pending.{Pending}
-use Rattle.segment_law.specs.Quiet.{quiet}
-use Rattle.log_decode.specs.Decoder.{taken}
-use Rattle.log_decode.specs.Session.{patience}
-use Rattle.decode_law.specs.Hearing.{Hears, IsCarried, IsHeard, HearsMessage, message_key}
-use Rattle.decode_law.proofs.Packets.{GoesOn, Ends}
-use Rattle.decode_law.proofs.Runs.{Says, packets_end}
-use Rattle.decode_law.proofs.Beginnings.{Begins, bam_heard}
+use Rattle.segment_law.specs.Quiet.{quiet, quiet_broadcast, quiet_connection, is_to_all}
+use Rattle.log_decode.specs.Session.{opened}
+use Rattle.log_decode.specs.Sessions.{session_at}
+use Rattle.log_decode.specs.Decoder.{frame_taken, cm_frame_taken, wire_taken}
+use Rattle.log_decode.specs.View.{State}
+use Rattle.log_decode.specs.declared.told.Told.{Told}
+use Rattle.log_decode.specs.declared.told.Told.TheVariants.{Given}
+use Rattle.decode_law.specs.Hearing.{Log, heard_all, end_of, IsSendable, IsLogOf, IsHeard, kind_to}
+use Rattle.decode_law.proofs.Steps.{Laws, Case, key_with, key, with_one, Stands, Over, begins, whole}
+use Rattle.decode_law.proofs.Announcements.{tp_opens}
+use Rattle.decode_law.proofs.Frames.{meaning}
+use Rattle.decode_law.proofs.Walks.{packets_end}
 
--- what is written is read back
-abbrev pub ReadsBack : Type 0
-ReadsBack = (wire : Wire) (from to : Address) → IsRow wire from.0 to.0 → reading (written wire from.0 to.0) ≡ Some (wire, from, to)
+module _ (laws : Laws) (m : Pending) (s d : Address) (h : IsSendable m s d) (to_all : is_to_all d ≡ true) where
+  abbrev len : ℕ
+  len = length m.bytes
 
--- a packet has seven bytes
-abbrev pub Seven : Type 0
-Seven = (message : List ℕ) (k : ℕ) → k ≤ packet_count (length message) → length (packet message k) ≡ 7
+  abbrev frames : ℕ → CanFrame
+  frames k = written (Packet Tp k (packet m.bytes k)) s.0 d.0
 
-abbrev pub all : Address
-all = record { 0 = 255 }
+  kind_is : kind_to m d ≡ Tp
+  kind_is = ap (λ b. cond b Tp (kind_for len)) to_all
 
-module _ (reads : ReadsBack) (seven : Seven) (begins : Begins) (goes_on : GoesOn) (ends : Ends) (m : Pending) (s : Address) (h : IsCarried Tp m s) where
-  abbrev last : ℕ
-  last = packet_count (length m.bytes)
+  short : len ≤ TP_MAX_SIZE
+  short = subst (λ b. len ≤ cond b TP_MAX_SIZE ETP_MAX_SIZE) to_all h.most
 
-  abbrev frame : ℕ → CanFrame
-  frame i = written (Packet Tp i (packet m.bytes i)) s.0 255
-
-  says : (iface : Iface) → Says iface s all Tp m goes_on ends h.clean 0 frame
-  says iface i from fits =
-      let most : i ≤ last = omega (arith, fits) in
-      let some : 0 < i = omega (arith, from) in
-      reads (Packet Tp i (packet m.bytes i)) s all (record { numbers = some; widths = seven m.bytes i most; source = h.sender; destination = refl })
-      ∙ ap (λ (n : ℕ). Some (Packet Tp i (packet m.bytes n), s, all)) (let x : i ≡ 0 + i = omega arith in x)
-
-  pub broadcast_heard : HearsMessage (quiet m s all) Tp m s all
+  quiet_is : quiet m s d ≡ quiet_broadcast m s d
   unfolding quiet
-  broadcast_heard iface listener none fits = λ time later.
-      let size = h.size in
-      let least = size.0 in
-      let count : suc (last - 1) ≡ last = omega (arith, least) in
-      let whole : 0 + 1 + (last - 1) ≡ last = omega (arith, least) in
-      let bam : CanFrame = written (Cm (Bam (length m.bytes) last m.pgn)) s.0 255 in
-      let is_bam : reading bam ≡ Some (Cm (Bam (length m.bytes) last m.pgn), s, all) = reads (Cm (Bam (length m.bytes) last m.pgn)) s all (record { numbers = tt; widths = h.pgn; source = h.sender; destination = refl }) in
-      subst (λ (n : ℕ). Hears (patience all) iface (taken listener time iface bam []).0 (map frame (range_with_len 1 n)) (taken listener time iface bam []).1 (IsHeard (message_key iface s all Tp) m)) count
-      (packets_end iface s all Tp m goes_on ends h.clean 0 frame (says iface) (last - 1) 1 (taken listener time iface bam []).0 (taken listener time iface bam []).1 (omega arith)
-      (bam_heard iface s all m begins listener bam none fits time later size is_bam) whole)
+  quiet_is = ap (λ b. cond b (quiet_broadcast m s d) (quiet_connection (kind_for len) m s d)) to_all
+
+  module _ (l : State) (iface : Iface) (log : Log) (told : List Told) (g : IsLogOf l iface m s d log) where
+    abbrev c : Case
+    c = record {
+      m = m; s = s; d = d; kind = Tp; iface = iface; most = l.most; others = l.sessions; told = told;
+      total = heard_all l iface log told;
+      until = end_of l.time log;
+      sendable = h;
+      carries = λ sequence bytes. h.destination;
+      room = g.room;
+      free = subst (λ kind. session_at (key_with iface s d kind) l.sessions ≡ None) kind_is g.free;
+    }
+
+    opens : (now : ℕ) → frame_taken iface (written (Cm (Bam len (packet_count len) m.pgn)) s.0 d.0) l.most now (l.sessions, told) ≡ (with_one laws c (opened m.pgn len now), told)
+    unfolding wire_taken cm_frame_taken
+    opens now =
+        meaning laws c (Cm (Bam len (packet_count len) m.pgn)) s d now (l.sessions, told) (record { numbers = tt; widths = h.pgn; source = h.source; destination = to_all })
+        ∙ tp_opens (key laws c) l.sessions told m.pgn len l.most now c.free g.room h.least short
+
+    stands : Stands laws c 1 0 (map frames (range_with_len 1 (packet_count len)) ++ [])
+    stands =
+        begins laws c (written (Cm (Bam len (packet_count len) m.pgn)) s.0 d.0) (map frames (range_with_len 1 (packet_count len)) ++ []) l.time log
+        (g.frames ∙ quiet_is ∙ ap (λ fs. written (Cm (Bam len (packet_count len) m.pgn)) s.0 d.0 ∷ fs) (sym (append-nil (map frames (range_with_len 1 (packet_count len))))))
+        g.times g.others refl refl opens
+
+    over : Over laws c []
+    over =
+        let n : ℕ = packet_count len - 1 in
+        let some : packet_count len ≡ suc n = omega (arith, h.least) in
+        let same : (i : ℕ) → 1 ≤ i → frames i ≡ written (Packet Tp i (packet m.bytes (0 + i))) s.0 d.0 = λ i from_first. (let e : i ≡ 0 + i = omega arith in ap (λ k. written (Packet Tp i (packet m.bytes k)) s.0 d.0) e) in
+        packets_end laws c 0 frames same n 1 [] (omega arith) (omega (arith, some)) (subst (λ k. Stands laws c 1 0 (map frames (range_with_len 1 k) ++ [])) some stands)
+
+    heard : heard_all l iface log told ≡ (record { most = l.most; time = end_of l.time log; sessions = l.sessions }, told ++ Given (key_with iface s d (kind_to m d)) (clean m.pgn) m.bytes ∷ [])
+    heard = whole laws c over ∙ ap (λ (kind : Kind). (let after : State = record { most = l.most; time = end_of l.time log; sessions = l.sessions } in (after, told ++ Given (key_with iface s d kind) (clean m.pgn) m.bytes ∷ []))) (sym kind_is)
+
+  pub broadcast_heard : IsHeard m s d
+  broadcast_heard l iface log told g = heard l iface log told g

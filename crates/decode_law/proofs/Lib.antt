@@ -1,6 +1,9 @@
-mod Packets
-mod Runs
-mod Beginnings
+mod Entries
+mod Steps
+mod Frames
+mod Announcements
+mod Walks
 mod Broadcasts
+mod Managing
 mod Windows
 mod Connections

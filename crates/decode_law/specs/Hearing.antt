@@ -1,50 +1,83 @@
--- What a listener to a recorded bus hears of the frames of a message (SAE J1939-21; ISO 11783-3).
-use Rattle.std.specs.Prelude.{◌≡◌, ℕ, ◌-◌, ◌<◌, ◌≤◌, ◌^◌, List, [], ◌∷◌, length, true}
+-- What a listener to a recorded bus hears of a message that nothing disturbs.
+use Rattle.std.specs.Prelude.{◌≡◌, ℕ, ◌+◌, ◌<◌, ◌≤◌, ◌^◌, true, false, List, [], ◌∷◌, ◌++◌, All, map, length, None, ⊤, if◌then◌else◌}
 use Rattle.bus_frame.specs.Frames.{CanFrame}
 use Rattle.log_text.specs.declared.iface.Iface.{Iface}
 use Rattle.pgn_ids.specs.Address.{is_one}
 use Rattle.pgn_ids.specs.Pgn.{clean}
 use Rattle.pgn_ids.specs.declared.address.Address.{Address}
-use Rattle.tp_wire.specs.Sizes.{IsSizeOf}
+use Rattle.tp_wire.specs.Rows.{one_or_all}
+use Rattle.tp_wire.specs.declared.constants.TheConstants.{MIN_SIZE}
 use Rattle.tp_wire.specs.declared.wire.Kind.{Kind}
+use Rattle.tp_wire.specs.declared.wire.Kind.TheVariants.{Tp}
+use Rattle.lane_core.specs.Lane.{kind_for, longest_to}
 use Rattle.lane_core.specs.declared.message.Pending.{Pending}
-use Rattle.log_decode.specs.Decoder.{taken}
+use Rattle.segment_law.specs.Quiet.{is_to_all, quiet}
 use Rattle.log_decode.specs.Keys.{transport_of}
-use Rattle.log_decode.specs.Session.{patience}
+use Rattle.log_decode.specs.Session.{patience, is_silent}
+use Rattle.log_decode.specs.Sessions.{Sessions, session_at}
+use Rattle.log_decode.specs.Decoder.{taken}
 use Rattle.log_decode.specs.View.{State}
 use Rattle.log_decode.specs.declared.key.Key.{Key}
 use Rattle.log_decode.specs.declared.told.Told.{Told}
 use Rattle.log_decode.specs.declared.told.Told.TheVariants.{Given}
 
--- frames come on an interface, one after another, each at its time: not before the one before it, and later by less than `wait`. Whatever
--- these times are, what is under way at the end and what was told are so
-abbrev pub Hears : (wait : ℕ) → Iface → State → List CanFrame → List Told → (State → List Told → Type 0) → Type 0
-Hears wait iface d [] told Holds = Holds d told
-Hears wait iface d (f ∷ fs) told Holds =
-    (time : ℕ) → d.time ≤ time → time - d.time < wait → Hears wait iface (taken d time iface f told).0 fs (taken d time iface f told).1 Holds
+-- frames in their order, each with its time in microseconds
+abbrev pub Log : Type 0
+Log = List (ℕ × CanFrame)
 
--- the first of them comes at any time
-abbrev pub HearsAll : (wait : ℕ) → Iface → State → List CanFrame → List Told → (State → List Told → Type 0) → Type 0
-HearsAll wait iface d [] told Holds = Holds d told
-HearsAll wait iface d (f ∷ fs) told Holds = (time : ℕ) → d.time ≤ time → Hears wait iface (taken d time iface f told).0 fs (taken d time iface f told).1 Holds
+-- a listener takes them one after another, all of them of one interface
+abbrev pub heard_all : State → Iface → Log → List Told → State × List Told
+heard_all l iface [] told = (l, told)
+heard_all l iface (f ∷ fs) told = heard_all (taken l f.0 iface f.1 told).0 iface fs (taken l f.0 iface f.1 told).1
 
--- a message that a transport carries from one node to another or to all
-pub record IsCarried (kind : Kind) (m : Pending) (s : Address) : Type 0 where
-  pub sender : is_one s.0 ≡ true
+abbrev pub frames_in : Log → List CanFrame
+frames_in log = map (λ f. f.1) log
+
+-- the time of the last of them, or that before them where there is none
+abbrev pub end_of : (time : ℕ) → Log → ℕ
+end_of time [] = time
+end_of time (f ∷ fs) = end_of f.0 fs
+
+-- each comes no earlier than the one before it, and less than so long after it
+abbrev pub ComeWithin : (wait time : ℕ) → Log → Type 0
+ComeWithin wait time [] = ⊤
+ComeWithin wait time (f ∷ fs) = (time ≤ f.0) × (f.0 < time + wait) × ComeWithin wait f.0 fs
+
+-- the first may come at any time from this one on
+abbrev pub ComeInTime : (wait time : ℕ) → Log → Type 0
+ComeInTime wait time [] = ⊤
+ComeInTime wait time (f ∷ fs) = (time ≤ f.0) × ComeWithin wait f.0 fs
+
+-- none of these messages under way is silent at this time
+abbrev pub NoneSilent : (now : ℕ) → Sessions → Type 0
+NoneSilent now sessions = All (λ e. is_silent e.0.to e.1 now ≡ false) sessions
+
+-- a message that a station may send: a field of 18 bits for its PGN, a size that a transport carries to the destination, from one
+-- node to another or to all
+pub record IsSendable (m : Pending) (s d : Address) : Type 0 where
   pub pgn : m.pgn < 2 ^ 18
-  pub clean : clean m.pgn ≡ m.pgn
-  pub size : IsSizeOf kind (length m.bytes)
+  pub least : MIN_SIZE ≤ length m.bytes
+  pub most : length m.bytes ≤ longest_to d.0
+  pub source : is_one s.0 ≡ true
+  pub destination : one_or_all d.0 ≡ true
 
--- that of a message
-abbrev pub message_key : Iface → (s d : Address) → Kind → Key
-message_key iface s d kind = record { iface = iface; from = s; to = d; transport = transport_of kind }
+-- the transport that carries it
+abbrev pub kind_to : Pending → (d : Address) → Kind
+kind_to m d = if is_to_all d then Tp else kind_for (length m.bytes)
 
--- just this message was told, and nothing is under way
-pub record IsHeard (key : Key) (m : Pending) (d : State) (said : List Told) : Type 0 where
-  pub sessions : d.sessions ≡ []
-  pub told : said ≡ Given key m.pgn m.bytes ∷ []
+-- what tells it apart from others under way
+abbrev pub key_for : Iface → Pending → (s d : Address) → Key
+key_for iface m s d = record { iface = iface; from = s; to = d; transport = transport_of (kind_to m d) }
 
--- a listener with nothing under way hears just the message whose frames these are
-abbrev pub HearsMessage : List CanFrame → Kind → Pending → (s d : Address) → Type 0
-HearsMessage frames kind m s d = (iface : Iface) (listener : State) → listener.sessions ≡ [] → length m.bytes ≤ listener.most
-    → HearsAll (patience d) iface listener frames [] (IsHeard (message_key iface s d kind) m)
+-- a listener, and a log of the frames of one undisturbed message, in time for it and for all else under way
+pub record IsLogOf (l : State) (iface : Iface) (m : Pending) (s d : Address) (log : Log) : Type 0 where
+  pub frames : frames_in log ≡ quiet m s d
+  pub room : length m.bytes ≤ l.most
+  pub free : session_at (key_for iface m s d) l.sessions ≡ None
+  pub times : ComeInTime (patience d) l.time log
+  pub others : All (λ f. NoneSilent f.0 l.sessions) log
+
+-- it tells that the message was given and nothing else, and has under way what it had before
+abbrev pub IsHeard : Pending → (s d : Address) → Type 0
+IsHeard m s d = (l : State) (iface : Iface) (log : Log) (told : List Told) → IsLogOf l iface m s d log
+    → heard_all l iface log told ≡ (record l { time = end_of l.time log }, told ++ Given (key_for iface m s d) (clean m.pgn) m.bytes ∷ [])

@@ -1,6 +1,6 @@
-//! What a listener hears of a message that nothing disturbs: that message, and nothing else.
+//! The law of a listener to a recorded bus: a message that nothing disturbs is heard as it was sent.
 #![tactic(auto)]
 
 mod laws;
 
-pub use laws::{broadcasts_are_heard, connections_are_heard};
+pub use laws::undisturbed_messages_are_heard;
