@@ -45,10 +45,17 @@ module _ (laws : Laws) (m : Pending) (s d : Address) (h : IsSendable m s d) (to_
   unfolding quiet
   quiet_is = ap (λ b. cond b (quiet_broadcast m s d) (quiet_connection (kind_for len) m s d)) to_all
 
-  module _ (l : State) (iface : Iface) (log : Log) (told : List Told) (g : IsLogOf l iface m s d log) where
+  module _ (l : State) (iface : Iface) (log : Log) (told : List Told) (g : IsLogOf (quiet m s d) l iface m s d log) where
     abbrev c : Case
     c = record {
-      m = m; s = s; d = d; kind = Tp; iface = iface; most = l.most; others = l.sessions; told = told;
+      m = m;
+      s = s;
+      d = d;
+      kind = Tp;
+      iface = iface;
+      most = l.most;
+      others = l.sessions;
+      told = told;
       total = heard_all l iface log told;
       until = end_of l.time log;
       sendable = h;
@@ -66,7 +73,7 @@ module _ (laws : Laws) (m : Pending) (s d : Address) (h : IsSendable m s d) (to_
     stands : Stands laws c 1 0 (map frames (range_with_len 1 (packet_count len)) ++ [])
     stands =
         begins laws c (written (Cm (Bam len (packet_count len) m.pgn)) s.0 d.0) (map frames (range_with_len 1 (packet_count len)) ++ []) l.time log
-        (g.frames ∙ quiet_is ∙ ap (λ fs. written (Cm (Bam len (packet_count len) m.pgn)) s.0 d.0 ∷ fs) (sym (append-nil (map frames (range_with_len 1 (packet_count len))))))
+        (g.frames_are ∙ quiet_is ∙ ap (λ fs. written (Cm (Bam len (packet_count len) m.pgn)) s.0 d.0 ∷ fs) (sym (append-nil (map frames (range_with_len 1 (packet_count len))))))
         g.times g.others refl refl opens
 
     over : Over laws c []

@@ -56,10 +56,17 @@ module _ (laws : Laws) (m : Pending) (s d : Address) (h : IsSendable m s d) (to_
   carried Tp sequence bytes = h.destination
   carried Etp sequence bytes = own
 
-  module _ (l : State) (iface : Iface) (log : Log) (told : List Told) (g : IsLogOf l iface m s d log) where
+  module _ (l : State) (iface : Iface) (log : Log) (told : List Told) (g : IsLogOf (quiet m s d) l iface m s d log) where
     abbrev case_of : (kind : Kind) → kind_for len ≡ kind → Case
     case_of kind is = record {
-      m = m; s = s; d = d; kind = kind; iface = iface; most = l.most; others = l.sessions; told = told;
+      m = m;
+      s = s;
+      d = d;
+      kind = kind;
+      iface = iface;
+      most = l.most;
+      others = l.sessions;
+      told = told;
       total = heard_all l iface log told;
       until = end_of l.time log;
       sendable = h;
@@ -90,7 +97,7 @@ module _ (laws : Laws) (m : Pending) (s d : Address) (h : IsSendable m s d) (to_
           ∙ tp_opens (key laws c) l.sessions told m.pgn len l.most now c.free g.room h.least short
 
       stands : Stands laws c 1 0 (flat_map (tp_window m s d) (groups 16 (packet_count len)) ++ ack ∷ [])
-      stands = begins laws c rts (flat_map (tp_window m s d) (groups 16 (packet_count len)) ++ ack ∷ []) l.time log (g.frames ∙ quiet_is Tp is) g.times g.others refl refl opens
+      stands = begins laws c rts (flat_map (tp_window m s d) (groups 16 (packet_count len)) ++ ack ∷ []) l.time log (g.frames_are ∙ quiet_is Tp is) g.times g.others refl refl opens
 
       tp_heard : Hears Tp
       tp_heard = whole laws c (passes laws c ack [] (λ now told. ack_passes laws c own refl len (packet_count len) now told) (tp_windows laws c own (omega (arith, h.least)) refl (ack ∷ []) stands))
@@ -114,7 +121,7 @@ module _ (laws : Laws) (m : Pending) (s d : Address) (h : IsSendable m s d) (to_
           ∙ etp_opens (key laws ce) l.sessions told m.pgn len l.most now ce.free g.room long most
 
       etp_stands : Stands laws ce 1 0 (flat_map (etp_window m s d) (groups 64 (packet_count len)) ++ etp_ack ∷ [])
-      etp_stands = begins laws ce etp_rts (flat_map (etp_window m s d) (groups 64 (packet_count len)) ++ etp_ack ∷ []) l.time log (g.frames ∙ quiet_is Etp is) g.times g.others refl refl etp_begins
+      etp_stands = begins laws ce etp_rts (flat_map (etp_window m s d) (groups 64 (packet_count len)) ++ etp_ack ∷ []) l.time log (g.frames_are ∙ quiet_is Etp is) g.times g.others refl refl etp_begins
 
       etp_heard : Hears Etp
       etp_heard = whole laws ce (passes laws ce etp_ack [] (λ now told. etp_ack_passes laws ce own refl len now told) (etp_windows laws ce own (omega (arith, h.least)) refl (omega (arith, most)) (etp_ack ∷ []) etp_stands))

@@ -7,3 +7,4 @@ mod Broadcasts
 mod Managing
 mod Windows
 mod Connections
+mod Drives

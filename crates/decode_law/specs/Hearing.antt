@@ -11,7 +11,10 @@ use Rattle.tp_wire.specs.declared.wire.Kind.{Kind}
 use Rattle.tp_wire.specs.declared.wire.Kind.TheVariants.{Tp}
 use Rattle.lane_core.specs.Lane.{kind_for, longest_to}
 use Rattle.lane_core.specs.declared.message.Pending.{Pending}
-use Rattle.segment_law.specs.Quiet.{is_to_all, quiet}
+use Rattle.segment_law.specs.Segment.{Segment}
+use Rattle.segment_law.specs.Record.{Record, StandsAt}
+use Rattle.segment_law.specs.Drive.{driven}
+use Rattle.segment_law.specs.Quiet.{is_to_all, quiet, IsQuiet}
 use Rattle.log_decode.specs.Keys.{transport_of}
 use Rattle.log_decode.specs.Session.{patience, is_silent}
 use Rattle.log_decode.specs.Sessions.{Sessions, session_at}
@@ -69,15 +72,24 @@ kind_to m d = if is_to_all d then Tp else kind_for (length m.bytes)
 abbrev pub key_for : Iface → Pending → (s d : Address) → Key
 key_for iface m s d = record { iface = iface; from = s; to = d; transport = transport_of (kind_to m d) }
 
--- a listener, and a log of the frames of one undisturbed message, in time for it and for all else under way
-pub record IsLogOf (l : State) (iface : Iface) (m : Pending) (s d : Address) (log : Log) : Type 0 where
-  pub frames : frames_in log ≡ quiet m s d
+-- a listener, and a log of these frames of a message, in time for it and for all else under way
+pub record IsLogOf (frames : List CanFrame) (l : State) (iface : Iface) (m : Pending) (s d : Address) (log : Log) : Type 0 where
+  pub frames_are : frames_in log ≡ frames
   pub room : length m.bytes ≤ l.most
   pub free : session_at (key_for iface m s d) l.sessions ≡ None
   pub times : ComeInTime (patience d) l.time log
   pub others : All (λ f. NoneSilent f.0 l.sessions) log
 
--- it tells that the message was given and nothing else, and has under way what it had before
-abbrev pub IsHeard : Pending → (s d : Address) → Type 0
-IsHeard m s d = (l : State) (iface : Iface) (log : Log) (told : List Told) → IsLogOf l iface m s d log
+-- of these frames every listener tells that the message was given and nothing else, and has under way what it had before
+abbrev pub AreHeardAs : List CanFrame → Pending → (s d : Address) → Type 0
+AreHeardAs frames m s d = (l : State) (iface : Iface) (log : Log) (told : List Told) → IsLogOf frames l iface m s d log
     → heard_all l iface log told ≡ (record l { time = end_of l.time log }, told ++ Given (key_for iface m s d) (clean m.pgn) m.bytes ∷ [])
+
+-- so are the frames of one undisturbed message
+abbrev pub IsHeard : Pending → (s d : Address) → Type 0
+IsHeard m s d = AreHeardAs (quiet m s d) m s d
+
+-- and those that a drive puts, from a segment at a record that is quiet for this message
+abbrev pub DrivesAreHeard : Type 0
+DrivesAreHeard = (addresses : List Address) (steps : Record) (seg : Segment) (s d : Address) (m : Pending)
+    → StandsAt addresses steps seg → IsQuiet seg s d m → AreHeardAs (driven seg s d (length (quiet m s d))).frames m s d

@@ -3,4 +3,4 @@
 
 mod laws;
 
-pub use laws::undisturbed_messages_are_heard;
+pub use laws::{undisturbed_drives_are_heard, undisturbed_messages_are_heard};
