@@ -69,7 +69,11 @@ pub fn read_line<R: Read>(reader: &mut R, line: &mut Vec<u8>) -> Result<LineRead
 }
 
 /// Reads the next line into `line`, without its line feed: it may have up to `most` bytes.
-pub fn read_line_up_to<R: Read>(most: usize, reader: &mut R, line: &mut Vec<u8>) -> Result<LineRead, ReadError>
+pub fn read_line_up_to<R: Read>(
+    most: usize,
+    reader: &mut R,
+    line: &mut Vec<u8>,
+) -> Result<LineRead, ReadError>
     ensures short { length line.new.items ≤ most }
     ensures reads { IfOk result (λ read. Known (R.remaining reader.old) (R.remaining reader.new) (λ all rest.
         ReadsLineUpTo most read line.new.items all rest)) }
