@@ -15,6 +15,12 @@ time_of seconds micros = if length seconds == 0 || not (length micros == 6) then
   m ← numeral_from 10 0 micros
   if nat_lt (s * 1000000 + m) (2 ^ 64) then Some (s * 1000000 + m) else None)
 
+-- the seconds and the microseconds of a time, with a point between them
+unfoldable pub time_word : List ℕ → Option ℕ
+time_word word = do
+  halves ← cut_at 46 word
+  time_of halves.0 halves.1
+
 -- R, T or nothing: whether the frame was received or sent
 abbrev pub is_mark : List ℕ → Bool
 is_mark [] = true

@@ -1,6 +1,6 @@
 //! What a line of a log shows.
 ghost use Rattle.std.specs.Prelude.{◌≡◌, MatchResult, Some, None};
-ghost use Rattle.log_text.specs.Line.{time_of, is_mark, is_ended, is_other, long_frame, frame_line, behind_time, timed_line, log_line};
+ghost use Rattle.log_text.specs.Line.{time_of, time_word, is_mark, is_ended, is_other, long_frame, frame_line, behind_time, timed_line, log_line};
 
 use crate::digits::{frame, numeral};
 use crate::fields::{cut_at, next_word};
@@ -47,6 +47,16 @@ fn time(seconds: &[u8], micros: &[u8]) -> Option<u64>
     let seconds = numeral(10, seconds)?;
     let micros = numeral(10, micros)?;
     seconds.checked_mul(SECOND)?.checked_add(micros)
+}
+
+/// A time in microseconds, of a word `SECONDS.MICROS`. None where a half of it isn't digits, the microseconds aren't six of them, or the time
+/// isn't below 2^64 microseconds.
+#[tactic(auto, unfolding(crate::specs::Line::time_word))]
+pub fn read_time(word: &[u8]) -> Option<u64>
+    ensures { result ≡ time_word word.now }
+{
+    let (seconds, micros) = cut_at(b'.', word)?;
+    time(seconds, micros)
 }
 
 /// Whether a word behind a frame says that it was received or sent, or there is none.

@@ -9,7 +9,7 @@ mod command;
 mod ending;
 mod fault;
 mod route;
-mod values;
+pub mod values;
 mod words;
 
 pub use addresses::Addresses;

@@ -1,4 +1,4 @@
-//! What the words of a command mean: addresses, numbers, ports and data.
+//! What the words of a command mean: addresses, numbers, ports and data. A word that isn't what its place asks for is a bad one.
 ghost use Rattle.std.specs.Prelude.{◌≡◌, ◌≤◌, ◌<◌, ◌-◌, ◌^◌, IfOk};
 ghost use Rattle.std.specs.Str.{bytes_eq};
 ghost use Rattle.script_commands.specs.Words.{texts};
@@ -15,21 +15,21 @@ use std::alloc::{AllocError, Global};
 const BAD_WORD: LineError = LineError::Fault(Fault::BadWord);
 
 /// A command has fewer or more words than its form.
-pub(crate) const WRONG_NUMBER: LineError = LineError::Fault(Fault::WrongNumberOfWords);
+pub const WRONG_NUMBER: LineError = LineError::Fault(Fault::WrongNumberOfWords);
 
 /// The most bytes that `fill` makes: one more than a message may have.
 const MOST_FILLED: u64 = 117_440_506;
 
 /// Whether a word is this name.
-pub(crate) fn is(word: &[u8], name: &str) -> bool
+pub fn is(word: &[u8], name: &str) -> bool
     ensures { result ≡ bytes_eq word.now name.now }
 {
     word == name.as_bytes()
 }
 
-/// A decimal number up to a bound.
+/// A decimal number up to a bound. Any other word is a bad one.
 #[tactic(auto, unfolding(crate::specs::Values::bounded_word))]
-pub(crate) fn bounded(most: u64, word: &[u8]) -> Result<u64, LineError>
+pub fn bounded(most: u64, word: &[u8]) -> Result<u64, LineError>
     ensures value { Gives (λ n. n) result (number_of most word.now) }
     ensures within { IfOk result (λ n. n ≤ most) }
 {
@@ -39,15 +39,15 @@ pub(crate) fn bounded(most: u64, word: &[u8]) -> Result<u64, LineError>
     }
 }
 
-/// A decimal number.
-pub(crate) fn number(word: &[u8]) -> Result<u64, LineError>
+/// A decimal number below 2^64. Any other word is a bad one.
+pub fn number(word: &[u8]) -> Result<u64, LineError>
     ensures { Gives (λ n. n) result (number_of (2 ^ 64 - 1) word.now) }
 {
     bounded(u64::MAX, word)
 }
 
-/// An address, of at most two digits.
-pub(crate) fn address(word: &[u8]) -> Result<Address, LineError>
+/// An address, of at most two hexadecimal digits. Any other word is a bad one.
+pub fn address(word: &[u8]) -> Result<Address, LineError>
     ensures { Gives (λ a. a) result (address_of word.now) }
 {
     match hex(2, word) {
@@ -56,8 +56,9 @@ pub(crate) fn address(word: &[u8]) -> Result<Address, LineError>
     }
 }
 
-/// The number of a PGN, of at most five digits.
-pub(crate) fn pgn(word: &[u8]) -> Result<u32, LineError>
+/// The number of a PGN, of at most five hexadecimal digits: whether it is one that a message can have is not asked. Any other word is a bad
+/// one.
+pub fn pgn(word: &[u8]) -> Result<u32, LineError>
     ensures { Gives (λ n. n) result (pgn_of word.now) }
 {
     match hex(5, word) {
@@ -134,9 +135,10 @@ pub(crate) fn data_word(alloc: Global, word: &[u8]) -> Result<Bytes, LineError>
     }
 }
 
-/// The bytes of a message: data, or `fill` and how many.
+/// The bytes of a message: data in pairs of hexadecimal digits, or `fill` and how many, up to 117,440,506. Of no word and of more than two
+/// the number is wrong, and any other words are bad. It fails otherwise only where memory is refused.
 #[tactic(auto, unfolding(crate::specs::Values::payload_of))]
-pub(crate) fn payload(alloc: Global, words: &[&[u8]]) -> Result<Bytes, LineError>
+pub fn payload(alloc: Global, words: &[&[u8]]) -> Result<Bytes, LineError>
     ensures { Gives (λ b. b) result (payload_of (texts words.now)) }
 {
     match words {

@@ -4,7 +4,7 @@ use Rattle.std.proofs.lemmas.List.{append-nil, take-append-drop}
 use Rattle.std.specs.Io.KnownBytes.{Keeps, Consumes, Appends}
 use Rattle.std.proofs.Math.Seq.{take-add}
 use Rattle.text_lines.specs.Known.{TakesByte, Known, IsFront}
-use Rattle.text_lines.specs.Lines.{ReadsLine, lines_of}
+use Rattle.text_lines.specs.Lines.{ReadsLineUpTo, lines_of}
 use Rattle.text_lines.specs.declared.lines.LineRead.TheVariants.{End, Line, TooLong}
 use Rattle.text_lines.proofs.LineFronts.{NoFeed, last_line, ended_line, long_line}
 
@@ -16,40 +16,40 @@ consumes_more (Some all) (Some rest) None line x p q = q
 consumes_more (Some all) (Some rest) (Some left) line x p q = p ∙ ap (λ r. line ++ r) q ∙ sym (append_assoc line (x ∷ []) left)
 
 -- the end, with nothing read
-pub reads_end : (a b c : Option (List ℕ)) (line : List ℕ) → line ≡ [] → Consumes a b line → TakesByte b c None → Known a c (ReadsLine End line)
-reads_end None b c line e p q = tt
-reads_end (Some all) None c line e p q = absurd p
-reads_end (Some all) (Some rest) None line e p q = absurd q.1
-reads_end (Some all) (Some rest) (Some left) line e p q =
+pub reads_end : (most : ℕ) (a b c : Option (List ℕ)) (line : List ℕ) → line ≡ [] → Consumes a b line → TakesByte b c None → Known a c (ReadsLineUpTo most End line)
+reads_end most None b c line e p q = tt
+reads_end most (Some all) None c line e p q = absurd p
+reads_end most (Some all) (Some rest) None line e p q = absurd q.1
+reads_end most (Some all) (Some rest) (Some left) line e p q =
     let h : all ≡ [] = cc in rw h refl
 
 -- the end, after some bytes
-pub reads_last : (a b c : Option (List ℕ)) (line : List ℕ) → NoFeed line → 0 < length line → Consumes a b line → TakesByte b c None → Known a c (ReadsLine Line line)
-reads_last None b c line f h p q = tt
-reads_last (Some all) None c line f h p q = absurd p
-reads_last (Some all) (Some rest) None line f h p q = absurd q.1
-reads_last (Some all) (Some rest) (Some left) line f h p q =
+pub reads_last : (most : ℕ) (a b c : Option (List ℕ)) (line : List ℕ) → NoFeed line → 0 < length line → Consumes a b line → TakesByte b c None → Known a c (ReadsLineUpTo most Line line)
+reads_last most None b c line f h p q = tt
+reads_last most (Some all) None c line f h p q = absurd p
+reads_last most (Some all) (Some rest) None line f h p q = absurd q.1
+reads_last most (Some all) (Some rest) (Some left) line f h p q =
     let e : all ≡ line = p ∙ ap (λ r. line ++ r) q.0 ∙ append-nil line in
     let l : left ≡ [] = q.1 ∙ q.0 in
     rw (e, l) (last_line line f h)
 
 -- a line feed
-pub reads_line : (a b c : Option (List ℕ)) (line : List ℕ) → NoFeed line → Consumes a b line → TakesByte b c (Some 10) → Known a c (ReadsLine Line line)
-reads_line None b c line f p q = tt
-reads_line (Some all) None c line f p q = absurd p
-reads_line (Some all) (Some rest) None line f p q = q
-reads_line (Some all) (Some rest) (Some left) line f p q =
+pub reads_line : (most : ℕ) (a b c : Option (List ℕ)) (line : List ℕ) → NoFeed line → Consumes a b line → TakesByte b c (Some 10) → Known a c (ReadsLineUpTo most Line line)
+reads_line most None b c line f p q = tt
+reads_line most (Some all) None c line f p q = absurd p
+reads_line most (Some all) (Some rest) None line f p q = q
+reads_line most (Some all) (Some rest) (Some left) line f p q =
     let e : all ≡ line ++ 10 ∷ left = p ∙ ap (λ r. line ++ r) q in
     rw e (ended_line line left f)
 
 -- a byte too much
-pub reads_long : (a b c : Option (List ℕ)) (line : List ℕ) (x : ℕ) → NoFeed (line ++ x ∷ []) → length line ≡ 8192 → Consumes a b line → TakesByte b c (Some x) → Known a c (ReadsLine TooLong line)
-reads_long None b c line x f h p q = tt
-reads_long (Some all) None c line x f h p q = absurd p
-reads_long (Some all) (Some rest) None line x f h p q = q
-reads_long (Some all) (Some rest) (Some left) line x f h p q =
+pub reads_long : (most : ℕ) (a b c : Option (List ℕ)) (line : List ℕ) (x : ℕ) → NoFeed (line ++ x ∷ []) → length line ≡ most → Consumes a b line → TakesByte b c (Some x) → Known a c (ReadsLineUpTo most TooLong line)
+reads_long most None b c line x f h p q = tt
+reads_long most (Some all) None c line x f h p q = absurd p
+reads_long most (Some all) (Some rest) None line x f h p q = q
+reads_long most (Some all) (Some rest) (Some left) line x f h p q =
     let e : all ≡ (line ++ x ∷ []) ++ left = consumes_more (Some all) (Some rest) (Some left) line x p q in
-    let n : 8192 < length (line ++ x ∷ []) = simp length-append (omega arith) in
+    let n : most < length (line ++ x ∷ []) = simp length-append (omega arith) in
     let l = long_line (line ++ x ∷ []) left f (omega arith) in
     (l.0, l.1, ap lines_of e ∙ l.2, omega (arith, l.3, n))
 

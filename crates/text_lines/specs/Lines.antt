@@ -12,8 +12,12 @@ abbrev pub lines_of : List ℕ → List (List ℕ)
 lines_of [] = []
 lines_of (b ∷ bs) = if b == 10 then [] ∷ lines_of bs else before_lines b (lines_of bs)
 
--- what was read is the first line of all, rest being left; or that line is too long
+-- what was read is the first line of all, rest being left; or that line has more bytes than most
+abbrev pub ReadsLineUpTo : ℕ → LineRead → List ℕ → List ℕ → List ℕ → Type 0
+ReadsLineUpTo most End line all rest = lines_of all ≡ []
+ReadsLineUpTo most Line line all rest = lines_of all ≡ line ∷ lines_of rest
+ReadsLineUpTo most TooLong line all rest = (long : List ℕ) × (others : List (List ℕ)) × (lines_of all ≡ long ∷ others) × (most < length long)
+
+-- a line of a script
 abbrev pub ReadsLine : LineRead → List ℕ → List ℕ → List ℕ → Type 0
-ReadsLine End line all rest = lines_of all ≡ []
-ReadsLine Line line all rest = lines_of all ≡ line ∷ lines_of rest
-ReadsLine TooLong line all rest = (long : List ℕ) × (others : List (List ℕ)) × (lines_of all ≡ long ∷ others) × (8192 < length long)
+ReadsLine read line all rest = ReadsLineUpTo 8192 read line all rest

@@ -3,7 +3,7 @@ ghost use Rattle.std.specs.Prelude.{◌≡◌, ◌<◌, ◌≤◌, length, IfOk,
 ghost use Rattle.std.specs.Io.KnownBytes.{Keeps};
 ghost use Rattle.text_lines.specs.declared.lines.ReadError.TheVariants.{OutOfMemory};
 ghost use Rattle.text_lines.specs.Known.{TakesByte, Known};
-ghost use Rattle.text_lines.specs.Lines.{ReadsLine};
+ghost use Rattle.text_lines.specs.Lines.{ReadsLine, ReadsLineUpTo};
 
 use std::alloc::AllocFailed;
 use std::io::{ErrorKind, Read};
@@ -56,14 +56,27 @@ fn next_byte<R: Read>(reader: &mut R) -> Result<Option<u8>, ReadError>
     Err(ReadError::Failed)
 }
 
-/// The most bytes that a line may have.
+/// The most bytes that a line of a script may have.
 const MAX_LINE: usize = 8192;
 
-/// Reads the next line into `line`, without its line feed.
+/// Reads the next line of a script into `line`, without its line feed: it may have up to 8,192 bytes.
 pub fn read_line<R: Read>(reader: &mut R, line: &mut Vec<u8>) -> Result<LineRead, ReadError>
     ensures short { length line.new.items ≤ 8192 }
     ensures reads { IfOk result (λ read. Known (R.remaining reader.old) (R.remaining reader.new) (λ all rest.
         ReadsLine read line.new.items all rest)) }
+{
+    read_line_up_to(MAX_LINE, reader, line)
+}
+
+/// Reads the next line into `line`, without its line feed: it may have up to `most` bytes.
+pub fn read_line_up_to<R: Read>(
+    most: usize,
+    reader: &mut R,
+    line: &mut Vec<u8>,
+) -> Result<LineRead, ReadError>
+    ensures short { length line.new.items ≤ most }
+    ensures reads { IfOk result (λ read. Known (R.remaining reader.old) (R.remaining reader.new) (λ all rest.
+        ReadsLineUpTo most read line.new.items all rest)) }
 {
     line.clear();
     loop {
@@ -76,7 +89,7 @@ pub fn read_line<R: Read>(reader: &mut R, line: &mut Vec<u8>) -> Result<LineRead
         if byte == b'\n' {
             return Ok(LineRead::Line);
         }
-        if line.len() == MAX_LINE {
+        if line.len() == most {
             return Ok(LineRead::TooLong);
         }
         line.push(byte)?;
