@@ -16,10 +16,14 @@ run_by _ = None
 unfoldable pub run_of : CanFrame → Option Run
 run_of frame = run_by (reading frame)
 
--- the arrow of an open run
-unfoldable pub run_arrow : Option Run → List ℕ
+-- the arrow of a run
+unfoldable pub arrow_of_run : Run → List ℕ
+arrow_of_run r = arrow_line r.from r.to (packet_words r.first r.last)
+
+-- and that of one that is open, where one is
+abbrev pub run_arrow : Option Run → List ℕ
 run_arrow None = []
-run_arrow (Some r) = arrow_line r.from r.to (packet_words r.first r.last)
+run_arrow (Some r) = arrow_of_run r
 
 -- whether a packet goes on with a run
 abbrev pub goes_on : Option Run → Run → Bool

@@ -43,7 +43,7 @@ fn run_of(frame: &Frame) -> Option<Run>
     }
 }
 
-#[tactic(auto, unfolding(crate::specs::Runs::run_arrow, crate::specs::Words::arrow_line))]
+#[tactic(auto, unfolding(crate::specs::Runs::arrow_of_run, crate::specs::Words::arrow_line))]
 fn draw_run(out: &mut Vec<u8>, run: Option<Run>) -> Result<(), AllocError>
     ensures { OnOk result (out.new.items ≡ out.old.items ++ run_arrow run) }
 {
