@@ -39,7 +39,7 @@ Step = Result (Option Segment × Telling) Fault
 -- the segment is made, or its addresses are refused
 abbrev pub made : List Address → Step
 made addresses =
-    if are_addresses addresses then Ok (Some (new_segment addresses), reply_alone (line (codes "done")))
+    if are_addresses addresses then Ok (Some (new_segment addresses), record (reply_alone (line (codes "done"))) { stations = addresses })
     else Ok (None, reply_alone (line (refusal_text BadAddresses)))
 
 -- the frame that a call puts on the bus where it is done
@@ -55,7 +55,7 @@ frames_put put _ = []
 
 -- the reply, the frame that was put, which is put at the clock at which the call is made, and the events
 abbrev pub told_of : ℕ → Option CanFrame → Reply → Telling
-told_of now put reply = record { reply = reply_line reply; frames = frames_put put reply; times = map (λ (frame : CanFrame). now) (frames_put put reply); events = events_of reply }
+told_of now put reply = record { reply = reply_line reply; stations = []; frames = frames_put put reply; times = map (λ (frame : CanFrame). now) (frames_put put reply); events = events_of reply }
 
 abbrev pub called : Segment → Call → Step
 called s call = Ok (Some (applied s call).0, told_of s.now (frame_put s call) (applied s call).1)
@@ -63,7 +63,7 @@ called s call = Ok (Some (applied s call).0, told_of s.now (frame_put s call) (a
 abbrev pub drove : Segment → (from to : Address) → (turns : ℕ) → Step
 drove s from to turns =
     let d = driven s from to turns in
-    Ok (Some d.segment, record { reply = drove_line d.turns (end_of d); frames = d.frames; times = turn_times turns from to s; events = events_in d.calls })
+    Ok (Some d.segment, record { reply = drove_line d.turns (end_of d); stations = []; frames = d.frames; times = turn_times turns from to s; events = events_in d.calls })
 
 -- a command to a segment that is there
 abbrev pub on_segment : Segment → Command → Step

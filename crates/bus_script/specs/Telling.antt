@@ -2,21 +2,24 @@
 use Rattle.std.specs.Prelude.{ℕ, ◌*◌, ◌-◌, ◌^◌, List, [], ◌++◌, flat_map, min, Bool, true, false, if◌then◌else◌}
 use Rattle.std.specs.List.{zip}
 use Rattle.bus_frame.specs.Frames.{CanFrame}
+use Rattle.pgn_ids.specs.declared.address.Address.{Address}
 use Rattle.message_events.specs.declared.event.Event.{Event}
 use Rattle.log_text.specs.Iface.{bus0}
 use Rattle.log_text.specs.Written.{log_text}
 use Rattle.script_text.specs.Parts.{line}
 use Rattle.script_text.specs.Replies.{put_line, event_lines}
 
--- the line of the reply, the frames that were put, the clock at which each of them was put, and the events
+-- the line of the reply, the stations where the segment was made, the frames that were put, the clock at which each of them was put, and
+-- the events
 pub record Telling : Type 0 where
   pub reply : List ℕ
+  pub stations : List Address
   pub frames : List CanFrame
   pub times : List ℕ
   pub events : List Event
 
 abbrev pub reply_alone : List ℕ → Telling
-reply_alone reply = record { reply = reply; frames = []; times = []; events = [] }
+reply_alone reply = record { reply = reply; stations = []; frames = []; times = []; events = [] }
 
 -- a tick is a thousand microseconds; the last time of a log is that of 2 ^ 64 - 1 microseconds
 abbrev pub log_time : ℕ → ℕ

@@ -2,10 +2,12 @@
 #![tactic(auto)]
 
 mod decode;
+mod draw;
 
 use clap::{Arg, ArgAction, Command, Error, value_parser};
 pub use decode::OfLog;
 use decode::{decode_command, read_decode};
+use draw::draw_command;
 use std::alloc::{AllocError, Global};
 
 /// What a command line asks for.
@@ -15,6 +17,8 @@ pub enum Asked {
     Script,
     /// It is run so, and the frames that it puts are printed as a log, without the replies.
     Logged,
+    /// It is run so, and drawn as a sequence diagram.
+    Drawn,
     /// It is run by threads, each worker with at most so many turns.
     Live { turns: u64 },
     /// Its two segments are run by threads, with a relay between them.
@@ -146,7 +150,8 @@ pub fn read_command_line(alloc: Global, words: &[String]) -> Result<Asked, Error
         .arg(log_arg(alloc))?
         .subcommand(live_command(alloc)?)?
         .subcommand(relay_command(alloc)?)?
-        .subcommand(decode_command(alloc)?)?;
+        .subcommand(decode_command(alloc)?)?
+        .subcommand(draw_command(alloc))?;
     let matches = command.try_get_matches_from_mut(words)?;
     if let Some(live) = matches.subcommand_matches("live") {
         return Ok(Asked::Live {
@@ -157,6 +162,9 @@ pub fn read_command_line(alloc: Global, words: &[String]) -> Result<Asked, Error
         return Ok(Asked::Relay {
             turns: relay.get_one::<u64>("turns").unwrap_or(TURNS),
         });
+    }
+    if matches.subcommand_matches("draw").is_some() {
+        return Ok(Asked::Drawn);
     }
     if matches.get_flag("log") {
         return Ok(Asked::Logged);

@@ -1,5 +1,5 @@
 //! `j1939bus` reads a script on standard input and prints the replies to its lines, or with `--log` the frames that it puts, as the log
-//! of a bus; `j1939bus live` runs it by threads and prints what came of it; `j1939bus relay` runs two segments so, with a relay between
+//! of a bus; `j1939bus draw` draws it as a sequence diagram; `j1939bus live` runs it by threads and prints what came of it; `j1939bus relay` runs two segments so, with a relay between
 //! them; `j1939bus decode` reads the log of a bus and prints its messages (SAE J1939-21, ISO 11783-3).
 //!
 //! It ends with status 0 where the script or log was read to its end, refused calls included, with 1 at a wrong line, a read or
@@ -12,6 +12,7 @@ use bus_live::{Gate, run_live};
 use bus_relay::run_relay;
 use bus_script::{run_logged, run_script};
 use command_line::{Asked, OfLog, read_command_line};
+use script_drawing::draw_script;
 use std::alloc::{AllocError, Global};
 use std::io;
 use std::io::{BufReader, BufWriter};
@@ -41,6 +42,18 @@ fn log<R: Input + Print + Eprint + AllocGlobal>(
     let mut writer = BufWriter::new(alloc, io::writer(rt))?;
     let mut replies = BufWriter::new(alloc, io::writer(errors))?;
     let ran = run_logged(alloc, &mut reader, &mut writer, &mut replies);
+    if let Some(fault) = ran.fault {
+        eprintln!(rt; "{fault}")?;
+    }
+    Ok(ExitCode::from(ran.status()))
+}
+
+/// Runs the script of standard input, and prints the drawing of it.
+fn draw<R: Input + Print + Eprint + AllocGlobal>(rt: &R) -> io::Result<ExitCode> {
+    let alloc = rt.alloc();
+    let mut reader = BufReader::new(alloc, rt.reader())?;
+    let mut writer = BufWriter::new(alloc, io::writer(rt))?;
+    let ran = draw_script(alloc, &mut reader, &mut writer);
     if let Some(fault) = ran.fault {
         eprintln!(rt; "{fault}")?;
     }
@@ -120,6 +133,7 @@ fn main(rt: HostRuntime) -> anyhow::Result<ExitCode> {
     match read_command_line(alloc, words.as_slice()) {
         Ok(Asked::Script) => Ok(run(&rt)?),
         Ok(Asked::Logged) => Ok(log(&rt, &rt.stderr())?),
+        Ok(Asked::Drawn) => Ok(draw(&rt)?),
         Ok(Asked::Live { turns }) => Ok(live(&rt, turns)?),
         Ok(Asked::Relay { turns }) => Ok(relay(&rt, turns)?),
         Ok(Asked::Decode(asked)) => Ok(decode(&rt, &asked)?),

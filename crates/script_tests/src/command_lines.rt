@@ -57,6 +57,7 @@ fn a_script_is_run_alone_or_by_threads(rt: HostRuntime) -> Result<(), Fail> {
     let alloc = rt.alloc();
     asks(&rt, alloc, &["j1939bus"], &Asked::Script)?;
     asks(&rt, alloc, &["j1939bus", "--log"], &Asked::Logged)?;
+    asks(&rt, alloc, &["j1939bus", "draw"], &Asked::Drawn)?;
     let live = Asked::Live { turns: 1_000_000 };
     asks(&rt, alloc, &["j1939bus", "live"], &live)?;
     let once = ["j1939bus", "live", "--turns", "1"];

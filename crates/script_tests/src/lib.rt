@@ -4,6 +4,8 @@
 #[cfg(test)]
 mod command_lines;
 #[cfg(test)]
+mod drawn;
+#[cfg(test)]
 mod exchanges;
 #[cfg(test)]
 mod logged;

@@ -1,0 +1,69 @@
+-- What a frame means, in words, and the lines of a drawing (Mermaid, a sequence diagram).
+use Rattle.std.specs.Prelude.{ℕ, List, ◌++◌, length, codes, Option, Some, None, ◌==◌, if◌then◌else◌}
+use Rattle.std.specs.Fmt.{decimal}
+use Rattle.bus_frame.specs.Frames.{CanFrame}
+use Rattle.pgn_ids.specs.Identifier.{meaning_of}
+use Rattle.pgn_ids.specs.declared.address.Address.{Address}
+use Rattle.log_text.specs.Digits.{digits}
+use Rattle.tp_wire.specs.Reading.{reading}
+use Rattle.tp_wire.specs.declared.wire.CmFrame.{CmFrame}
+use Rattle.tp_wire.specs.declared.wire.CmFrame.TheVariants.{Rts, Cts, EndOfMsgAck, Bam, Abort, EtpRts, EtpCts, EtpDpo, EtpEoma, EtpAbort}
+use Rattle.tp_wire.specs.declared.wire.Wire.{Wire}
+use Rattle.tp_wire.specs.declared.wire.Wire.TheVariants.{Cm, Packet, Request, Ack}
+
+abbrev pub line : List ℕ → List ℕ
+line text = text ++ codes "\n"
+
+-- a participant: a node by its address in two hexadecimal digits, or all
+unfoldable pub name_of : Address → List ℕ
+name_of a = if a.0 == 255 then codes "all" else digits 16 2 a.0
+
+-- an arrow between two participants, with its words
+unfoldable pub arrow_line : (from to : Address) → List ℕ → List ℕ
+arrow_line from to words = line (codes "  " ++ name_of from ++ codes "->>" ++ name_of to ++ codes ": " ++ words)
+
+-- how many bytes, in how many packets
+abbrev pub size_words : (size packets : ℕ) → List ℕ
+size_words size packets = decimal size ++ codes " bytes in " ++ decimal packets ++ codes " packets"
+
+-- so many packets, behind a number or from one on
+abbrev pub from_words : (packets from : ℕ) → List ℕ
+from_words packets from = decimal packets ++ codes " packets from " ++ decimal from
+
+-- a CTS that grants no packet is a hold
+abbrev pub grant_words : (granted next : ℕ) → List ℕ
+grant_words granted next = if granted == 0 then codes "hold" else codes "CTS " ++ from_words granted next
+
+unfoldable pub management_words : CmFrame → List ℕ
+management_words (Rts size packets most pgn) = codes "RTS " ++ size_words size packets
+management_words (Cts granted next pgn) = grant_words granted next
+management_words (EndOfMsgAck size packets pgn) = codes "end of message"
+management_words (Bam size packets pgn) = codes "BAM " ++ size_words size packets
+management_words (Abort reason pgn) = codes "abort " ++ decimal reason
+management_words (EtpRts size pgn) = codes "RTS " ++ decimal size ++ codes " bytes"
+management_words (EtpCts granted next pgn) = grant_words granted next
+management_words (EtpDpo packets offset pgn) = codes "DPO " ++ from_words packets offset
+management_words (EtpEoma size pgn) = codes "end of message"
+management_words (EtpAbort reason pgn) = codes "abort " ++ decimal reason
+
+-- packets with these numbers, which follow on one another
+abbrev pub packet_words : (first last : ℕ) → List ℕ
+packet_words first last = if first == last then codes "packet " ++ decimal first else codes "packets " ++ decimal first ++ codes " to " ++ decimal last
+
+unfoldable pub words_of : Wire → List ℕ
+words_of (Cm frame) = management_words frame
+words_of (Packet kind sequence bytes) = packet_words sequence sequence
+words_of (Request pgn) = codes "Request"
+words_of (Ack control address pgn) = codes "Acknowledgement"
+
+-- other traffic and malformed frames: the PGN of the identifier, and how many bytes
+unfoldable pub other_arrow : CanFrame → List ℕ
+other_arrow frame = arrow_line (meaning_of frame.id).from (meaning_of frame.id).to (codes "frame " ++ digits 16 5 (meaning_of frame.id).pgn ++ codes ", " ++ decimal (length frame.bytes) ++ codes " bytes")
+
+-- the arrow of a frame that was read so
+abbrev pub arrow_by : CanFrame → Option (Wire × Address × Address) → List ℕ
+arrow_by frame (Some (wire, from, to)) = arrow_line from to (words_of wire)
+arrow_by frame None = other_arrow frame
+
+unfoldable pub arrow_of : CanFrame → List ℕ
+arrow_of frame = arrow_by frame (reading frame)

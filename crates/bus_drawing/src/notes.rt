@@ -1,0 +1,232 @@
+//! The beginning of a drawing, and the notes of what is told.
+ghost use Rattle.std.specs.Prelude.{◌≡◌, ◌++◌, OnOk, flat_map, codes};
+ghost use Rattle.script_text.specs.Replies.{outcome_text};
+ghost use Rattle.bus_drawing.specs.Words.{name_of};
+ghost use Rattle.bus_drawing.specs.Notes.{participant_line, heading, opening, note_over, note_line, port_words, pgn_words, length_words, message_words, given_words, outcome_words, event_note, notes};
+
+use crate::words::{put_decimal, put_name, put_pgn, put_text};
+use log_text::put_digits;
+use message_events::{Bytes, Event, Events};
+use pgn_ids::{Address, Pgn};
+use port_table::PortId;
+use segment_core::EventList;
+use std::alloc::AllocError;
+use tp_wire::Outcome;
+
+#[tactic(auto, unfolding(crate::specs::Notes::participant_line))]
+fn draw_participant(out: &mut Vec<u8>, station: Address) -> Result<(), AllocError>
+    ensures { OnOk result (out.new.items ≡ out.old.items ++ participant_line station) }
+{
+    put_text(out, "  participant ")?;
+    put_name(out, station)?;
+    put_text(out, "\n")
+}
+
+fn draw_participants(out: &mut Vec<u8>, stations: &[Address]) -> Result<(), AllocError>
+    ensures { OnOk result (out.new.items ≡ out.old.items ++ flat_map participant_line stations.now) }
+{
+    for station in stations {
+        draw_participant(out, *station)?;
+    }
+    Ok(())
+}
+
+#[tactic(auto, unfolding(crate::specs::Notes::heading))]
+fn put_heading(out: &mut Vec<u8>) -> Result<(), AllocError>
+    ensures { OnOk result (out.new.items ≡ out.old.items ++ heading) }
+{
+    put_text(out, "sequenceDiagram\n")
+}
+
+/// The beginning of a drawing: its kind, and its stations as participants in this order. Nothing where there is no station.
+pub fn draw_opening(out: &mut Vec<u8>, stations: &[Address]) -> Result<(), AllocError>
+    ensures { OnOk result (out.new.items ≡ out.old.items ++ opening stations.now) }
+{
+    if stations.is_empty() {
+        return Ok(());
+    }
+    put_heading(out)?;
+    draw_participants(out, stations)
+}
+
+fn put_port(out: &mut Vec<u8>, port: PortId) -> Result<(), AllocError>
+    ensures { OnOk result (out.new.items ≡ out.old.items ++ port_words port) }
+{
+    put_digits(out, 16, 2, u64::from(port.station.0))?;
+    put_text(out, ".")?;
+    put_decimal(out, port.number)
+}
+
+#[tactic(auto, unfolding(crate::specs::Notes::pgn_words))]
+fn put_pgn_words(out: &mut Vec<u8>, pgn: Pgn) -> Result<(), AllocError>
+    ensures { OnOk result (out.new.items ≡ out.old.items ++ pgn_words pgn) }
+{
+    put_text(out, ", PGN ")?;
+    put_pgn(out, pgn)
+}
+
+#[tactic(auto, unfolding(crate::specs::Notes::length_words))]
+fn put_length(out: &mut Vec<u8>, bytes: u64) -> Result<(), AllocError>
+    ensures { OnOk result (out.new.items ≡ out.old.items ++ length_words bytes) }
+{
+    put_text(out, ", ")?;
+    put_decimal(out, bytes)?;
+    put_text(out, " bytes")
+}
+
+fn put_message(out: &mut Vec<u8>, pgn: Pgn, bytes: &Bytes) -> Result<(), AllocError>
+    ensures { OnOk result (out.new.items ≡ out.old.items ++ message_words pgn bytes.now) }
+{
+    put_pgn_words(out, pgn)?;
+    put_length(out, bytes.len() as u64)
+}
+
+#[tactic(auto, unfolding(crate::specs::Notes::given_words))]
+fn put_given(
+    out: &mut Vec<u8>,
+    port: PortId,
+    from: Address,
+    pgn: Pgn,
+    bytes: &Bytes,
+) -> Result<(), AllocError>
+    ensures { OnOk result (out.new.items ≡ out.old.items ++ given_words port from pgn bytes.now) }
+{
+    put_text(out, "given ")?;
+    put_port(out, port)?;
+    put_text(out, " from ")?;
+    put_name(out, from)?;
+    put_message(out, pgn, bytes)
+}
+
+fn put_outcome(out: &mut Vec<u8>, outcome: Outcome) -> Result<(), AllocError>
+    ensures { OnOk result (out.new.items ≡ out.old.items ++ outcome_text outcome) }
+{
+    match outcome {
+        Outcome::Acknowledged => put_text(out, "Acknowledged"),
+        Outcome::Broadcast => put_text(out, "Broadcast"),
+        Outcome::Aborted(reason) => {
+            put_text(out, "Aborted ")?;
+            put_decimal(out, u64::from(reason))
+        }
+        Outcome::TimedOut => put_text(out, "TimedOut"),
+        Outcome::Overrun => put_text(out, "Overrun"),
+        Outcome::Cancelled => put_text(out, "Cancelled"),
+        Outcome::Unreachable => put_text(out, "Unreachable"),
+    }
+}
+
+#[tactic(auto, unfolding(crate::specs::Notes::outcome_words))]
+fn put_ended(
+    out: &mut Vec<u8>,
+    to: Address,
+    number: u64,
+    outcome: Outcome,
+) -> Result<(), AllocError>
+    ensures { OnOk result (out.new.items ≡ out.old.items ++ outcome_words to number outcome) }
+{
+    put_decimal(out, number)?;
+    put_text(out, " to ")?;
+    put_name(out, to)?;
+    put_text(out, " ")?;
+    put_outcome(out, outcome)
+}
+
+#[tactic(auto, unfolding(crate::specs::Notes::note_over))]
+fn put_note_over(out: &mut Vec<u8>) -> Result<(), AllocError>
+    ensures { OnOk result (out.new.items ≡ out.old.items ++ note_over) }
+{
+    put_text(out, "  Note over ")
+}
+
+/// The beginning of a note, up to its words.
+fn put_place(out: &mut Vec<u8>, at: Address) -> Result<(), AllocError>
+    ensures { OnOk result (out.new.items ≡ out.old.items ++ (note_over ++ name_of at ++ codes ": ")) }
+{
+    put_note_over(out)?;
+    put_name(out, at)?;
+    put_text(out, ": ")
+}
+
+fn draw_given(
+    out: &mut Vec<u8>,
+    port: PortId,
+    from: Address,
+    pgn: Pgn,
+    bytes: &Bytes,
+) -> Result<(), AllocError>
+    ensures { OnOk result (out.new.items ≡ out.old.items ++ note_line port.station (given_words port from pgn bytes.now)) }
+{
+    put_place(out, port.station)?;
+    put_given(out, port, from, pgn, bytes)?;
+    put_text(out, "\n")
+}
+
+fn draw_outcome(
+    out: &mut Vec<u8>,
+    from: Address,
+    to: Address,
+    number: u64,
+    outcome: Outcome,
+) -> Result<(), AllocError>
+    ensures { OnOk result (out.new.items ≡ out.old.items ++ note_line from (outcome_words to number outcome)) }
+{
+    put_place(out, from)?;
+    put_ended(out, to, number, outcome)?;
+    put_text(out, "\n")
+}
+
+/// The note of an event.
+#[tactic(auto, unfolding(crate::specs::Notes::event_note))]
+fn draw_event(out: &mut Vec<u8>, event: &Event) -> Result<(), AllocError>
+    ensures { OnOk result (out.new.items ≡ out.old.items ++ event_note event.now) }
+{
+    match event {
+        Event::Given {
+            port,
+            from,
+            pgn,
+            bytes,
+            ..
+        } => draw_given(out, *port, *from, *pgn, bytes),
+        Event::Outcome {
+            from,
+            to,
+            number,
+            outcome,
+        } => draw_outcome(out, *from, *to, *number, *outcome),
+    }
+}
+
+fn draw_each(out: &mut Vec<u8>, events: &[Event]) -> Result<(), AllocError>
+    ensures { OnOk result (out.new.items ≡ out.old.items ++ notes events.now) }
+{
+    for event in events {
+        draw_event(out, event)?;
+    }
+    Ok(())
+}
+
+/// The notes of the events of one call, in their order: what a port was given, at its station; an outcome, at the sender.
+pub fn draw_told(out: &mut Vec<u8>, events: Events) -> Result<(), AllocError>
+    ensures { OnOk result (out.new.items ≡ out.old.items ++ notes events) }
+{
+    let (first, rest) = events.into_parts();
+    match first {
+        None => draw_each(out, rest.as_slice()),
+        Some(event) => {
+            draw_event(out, &event)?;
+            draw_each(out, rest.as_slice())
+        }
+    }
+}
+
+/// The notes of the events of several calls, in their order.
+#[tactic(auto, using(crate::proofs::EventNotes::parts_notes))]
+pub fn draw_each_told(out: &mut Vec<u8>, events: EventList) -> Result<(), AllocError>
+    ensures { OnOk result (out.new.items ≡ out.old.items ++ notes events) }
+{
+    for part in events.into_parts() {
+        draw_told(out, part)?;
+    }
+    Ok(())
+}

@@ -1,0 +1,30 @@
+//! The words of `draw`.
+use clap::Command;
+use std::alloc::Global;
+
+const DRAW_HELP: &str =
+    "The script is read from standard input. What each line puts on the bus is
+written to standard output before the next line is read, as the text of a
+Mermaid sequence diagram, as GitHub draws it: the stations as participants, an
+arrow for each frame, with one for packets that follow on one another, and a
+note for each message that a port is given and for each outcome. Replies aren't
+drawn. What ends the run before the script's end, such as a wrong line, is told
+on standard error.
+
+Example:
+  printf '%s\\n' 'stations 21 35' 'open 35 FECA 1785' \\
+    'send 21 FF FECA 010203040506070809' 'drive 21 FF 3' | j1939bus draw
+
+Status:
+  0  the script ran to its end, refused calls included
+  1  a line is wrong, or standard input or output failed
+  2  the command line is refused, or asks for help
+
+docs/SCRIPTS.md describes the language.";
+
+/// The command as it is parsed, with its help.
+pub(crate) fn draw_command<'a>(alloc: Global) -> Command<'a> {
+    Command::new(alloc, "draw")
+        .about("Runs the script of standard input, and draws it as a sequence diagram")
+        .after_help(DRAW_HELP)
+}

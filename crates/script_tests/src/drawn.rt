@@ -1,0 +1,115 @@
+//! Scripts that are drawn: the three exchanges of a broadcast, a connection and an extended one, with the exact text of their drawings.
+use bus_script::{Cause, Ran};
+use script_drawing::draw_script;
+use std::alloc::Global;
+use std::io;
+use std::io::{Error, ErrorKind, Write};
+use std::process::Abort;
+use std::test::Fail;
+
+/// Draws a script; once more where memory was refused.
+fn drawn(alloc: Global, script: &str, out: &mut Vec<u8>) -> Ran {
+    let mut reader = script.as_bytes();
+    let first = draw_script(alloc, &mut reader, out);
+    // A vector refuses a write only for want of memory.
+    let refused = first.fault.is_some_and(|fault| {
+        fault.cause == Cause::OutOfMemory || fault.cause == Cause::WriteFailed
+    });
+    if !refused && !first.memory_refused {
+        return first;
+    }
+    out.clear();
+    let mut reader = script.as_bytes();
+    draw_script(alloc, &mut reader, out)
+}
+
+/// The drawing of a script is this text.
+fn draws(rt: &impl Abort, alloc: Global, script: &str, text: &str) -> Result<(), Fail> {
+    let mut out = Vec::new(alloc);
+    let ran = drawn(alloc, script, &mut out);
+    assert!(rt; ran.fault.is_none());
+    assert_eq!(rt; out.as_slice(), text.as_bytes());
+    Ok(())
+}
+
+const BROADCAST: &str = "stations 35 21\n\
+open 35 FECA 1785\n\
+send 21 FF FECA 010203040506070809\n\
+drive 21 FF 3\n\
+inject 18FEF100 0102\n";
+
+const BROADCAST_DRAWN: &str = "sequenceDiagram\n\
+\x20\x20participant 35\n\
+\x20\x20participant 21\n\
+\x20\x2021->>all: BAM 9 bytes in 2 packets\n\
+\x20\x2021->>all: packets 1 to 2\n\
+\x20\x20Note over 21: 1 to all Broadcast\n\
+\x20\x20Note over 35: given 35.1 from 21, PGN 0FECA, 9 bytes\n\
+\x20\x2000->>all: frame 0FEF1, 2 bytes\n";
+
+#[test]
+fn a_broadcast_is_drawn(rt: HostRuntime) -> Result<(), Fail> {
+    draws(&rt, rt.alloc(), BROADCAST, BROADCAST_DRAWN)
+}
+
+const CONNECTION: &str = "stations 21 35\n\
+open 35 FECA 1785\n\
+send 21 35 FECA fill 20\n\
+drive 21 35 100\n";
+
+const CONNECTION_DRAWN: &str = "sequenceDiagram\n\
+\x20\x20participant 21\n\
+\x20\x20participant 35\n\
+\x20\x2021->>35: RTS 20 bytes in 3 packets\n\
+\x20\x2035->>21: CTS 3 packets from 1\n\
+\x20\x2021->>35: packets 1 to 3\n\
+\x20\x2035->>21: end of message\n\
+\x20\x20Note over 35: given 35.1 from 21, PGN 0FECA, 20 bytes\n\
+\x20\x20Note over 21: 1 to 35 Acknowledged\n";
+
+#[test]
+fn a_connection_is_drawn(rt: HostRuntime) -> Result<(), Fail> {
+    draws(&rt, rt.alloc(), CONNECTION, CONNECTION_DRAWN)
+}
+
+const EXTENDED: &str = "stations 21 35\n\
+open 35 FECA 1786\n\
+send 21 35 FECA fill 1786\n\
+drive 21 35 5\n";
+
+const EXTENDED_DRAWN: &str = "sequenceDiagram\n\
+\x20\x20participant 21\n\
+\x20\x20participant 35\n\
+\x20\x2021->>35: RTS 1786 bytes\n\
+\x20\x2035->>21: CTS 16 packets from 1\n\
+\x20\x2021->>35: DPO 16 packets from 0\n\
+\x20\x2021->>35: packets 1 to 2\n";
+
+#[test]
+fn an_extended_exchange_is_drawn(rt: HostRuntime) -> Result<(), Fail> {
+    draws(&rt, rt.alloc(), EXTENDED, EXTENDED_DRAWN)
+}
+
+/// A writer that fails.
+#[derive(Drop)]
+struct Broken {}
+
+impl Write for Broken {
+    fn write(&mut self, _bytes: &[u8]) -> io::Result<usize> {
+        Err(Error::from(ErrorKind::Other))
+    }
+
+    fn flush(&mut self) -> io::Result<()> {
+        Ok(())
+    }
+}
+
+#[test]
+fn a_write_that_fails_ends_a_drawing(rt: HostRuntime) -> Result<(), Fail> {
+    let mut reader = BROADCAST.as_bytes();
+    let ran = draw_script(rt.alloc(), &mut reader, &mut Broken {});
+    // Where memory was refused before, that is told.
+    assert!(rt; ran.fault.is_some_and(|fault| fault.line == 1));
+    assert_eq!(rt; ran.status(), 1);
+    Ok(())
+}
