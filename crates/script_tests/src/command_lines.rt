@@ -92,6 +92,7 @@ Commands:
   live    Runs the script of standard input by threads, and prints what came of it
   relay   Runs two segments by threads, and relays from a port of the first to the second
   decode  Prints the messages of the log of standard input, put together of their packets
+  draw    Runs the script of standard input, and draws it as a sequence diagram
   help    Print this message or the help of the given subcommand(s)
 
 Options:

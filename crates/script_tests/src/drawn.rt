@@ -1,4 +1,4 @@
-//! Scripts that are drawn: the three exchanges of a broadcast, a connection and an extended one, with the exact text of their drawings.
+//! Scripts that are drawn: a broadcast, a connection and an extended one, with the exact text of their drawings.
 use bus_script::{Cause, Ran};
 use script_drawing::draw_script;
 use std::alloc::Global;
@@ -75,28 +75,40 @@ fn a_connection_is_drawn(rt: HostRuntime) -> Result<(), Fail> {
 const EXTENDED: &str = "stations 21 35\n\
 open 35 FECA 1786\n\
 send 21 35 FECA fill 1786\n\
-drive 21 35 5\n";
+drive 21 35 1000\n";
 
 const EXTENDED_DRAWN: &str = "sequenceDiagram\n\
 \x20\x20participant 21\n\
 \x20\x20participant 35\n\
 \x20\x2021->>35: RTS 1786 bytes\n\
-\x20\x2035->>21: CTS 16 packets from 1\n\
-\x20\x2021->>35: DPO 16 packets from 0\n\
-\x20\x2021->>35: packets 1 to 2\n";
+\x20\x2035->>21: CTS 64 packets from 1\n\
+\x20\x2021->>35: DPO 64 packets from 0\n\
+\x20\x2021->>35: packets 1 to 64\n\
+\x20\x2035->>21: CTS 64 packets from 65\n\
+\x20\x2021->>35: DPO 64 packets from 64\n\
+\x20\x2021->>35: packets 1 to 64\n\
+\x20\x2035->>21: CTS 64 packets from 129\n\
+\x20\x2021->>35: DPO 64 packets from 128\n\
+\x20\x2021->>35: packets 1 to 64\n\
+\x20\x2035->>21: CTS 64 packets from 193\n\
+\x20\x2021->>35: DPO 64 packets from 192\n\
+\x20\x2021->>35: packets 1 to 64\n\
+\x20\x2035->>21: end of message\n\
+\x20\x20Note over 35: given 35.1 from 21, PGN 0FECA, 1786 bytes\n\
+\x20\x20Note over 21: 1 to 35 Acknowledged\n";
 
 #[test]
 fn an_extended_exchange_is_drawn(rt: HostRuntime) -> Result<(), Fail> {
     draws(&rt, rt.alloc(), EXTENDED, EXTENDED_DRAWN)
 }
 
-/// A writer that fails.
+/// Refuses each write.
 #[derive(Drop)]
-struct Broken {}
+struct Full {}
 
-impl Write for Broken {
-    fn write(&mut self, _bytes: &[u8]) -> io::Result<usize> {
-        Err(Error::from(ErrorKind::Other))
+impl Write for Full {
+    fn write(&mut self, _buf: &[u8]) -> io::Result<usize> {
+        Err(Error::from(ErrorKind::StorageFull))
     }
 
     fn flush(&mut self) -> io::Result<()> {
@@ -107,8 +119,7 @@ impl Write for Broken {
 #[test]
 fn a_write_that_fails_ends_a_drawing(rt: HostRuntime) -> Result<(), Fail> {
     let mut reader = BROADCAST.as_bytes();
-    let ran = draw_script(rt.alloc(), &mut reader, &mut Broken {});
-    // Where memory was refused before, that is told.
+    let ran = draw_script(rt.alloc(), &mut reader, &mut Full {});
     assert!(rt; ran.fault.is_some_and(|fault| fault.line == 1));
     assert_eq!(rt; ran.status(), 1);
     Ok(())
