@@ -2,8 +2,7 @@
 use clap::Command;
 use std::alloc::Global;
 
-const DRAW_HELP: &str =
-    "The script is read from standard input. What each line puts on the bus is
+const DRAW_HELP: &str = "The script is read from standard input. What each line puts on the bus is
 written to standard output before the next line is read, as the text of a
 Mermaid sequence diagram, as GitHub draws it: the stations as participants, an
 arrow for each frame, with one for packets that follow on one another, and a
