@@ -1,6 +1,7 @@
 //! `j1939bus` reads a script on standard input and prints the replies to its lines, or with `--log` the frames that it puts, as the log
-//! of a bus; `j1939bus draw` draws it as a sequence diagram; `j1939bus live` runs it by threads and prints what came of it; `j1939bus relay` runs two segments so, with a relay between
-//! them; `j1939bus decode` reads the log of a bus and prints its messages (SAE J1939-21, ISO 11783-3).
+//! of a bus; `j1939bus draw` draws it as a sequence diagram; `j1939bus live` runs it by threads and prints what came of it;
+//! `j1939bus relay` runs two segments so, with a relay between them; `j1939bus decode` reads the log of a bus and prints its messages
+//! (SAE J1939-21, ISO 11783-3).
 //!
 //! It ends with status 0 where the script or log was read to its end, refused calls included, with 1 at a wrong line, a read or
 //! write fault, which standard error tells, with 2 where the command line is refused or asks for help, and with 3 where the turns
