@@ -1,0 +1,77 @@
+-- What a line does.
+use Rattle.std.specs.Prelude.{◌≡◌, ℕ, ◌+◌, ◌^◌, List, [], ◌++◌, Bool, true, Option, Some, None, Result, Ok, Err, codes}
+use Rattle.std.specs.Fmt.{decimal}
+use Rattle.script_commands.specs.Values.{◌>>=◌}
+use Rattle.script_commands.specs.declared.fault.Fault.{Fault}
+use Rattle.script_commands.specs.declared.fault.LineError.{LineError}
+use Rattle.script_commands.specs.declared.fault.LineError.TheVariants as errors
+use Rattle.script_text.specs.Parts.{line}
+use Rattle.script_text.specs.Replies.{refusal_text}
+use Rattle.script_text.specs.Counts.{counts_line}
+use Rattle.segment_law.specs.Readers.{queue_len}
+use Rattle.segment_law.specs.declared.call.Call.TheVariants as calls
+use Rattle.node_lines.specs.Lines.{node_line}
+use Rattle.node_lines.specs.declared.line.NodeLine.{NodeLine}
+use Rattle.node_lines.specs.declared.line.NodeLine.TheVariants.{Passed, Frame, Now, Command}
+use Rattle.node_lines.specs.declared.command.NodeCommand.{NodeCommand}
+use Rattle.node_lines.specs.declared.command.NodeCommand.TheVariants.{Send, Open, Close, Pause, Resume, Cancel, Counts, State, Refused}
+use Rattle.bus_node.specs.Node.{Node, cleared, told, asked}
+use Rattle.bus_node.specs.Putting.{heard}
+use Rattle.bus_node.specs.Time.{due_below, settled, at_time}
+use Rattle.bus_node.specs.declared.acting.Told.{Told}
+use Rattle.bus_node.specs.declared.acting.Told.TheVariants.{Answered, NoMemory}
+
+abbrev pub due_text : Option ℕ → List ℕ
+due_text None = codes "none"
+due_text (Some tick) = decimal tick
+
+-- the tick at which the clock stands, how many frames wait to be put, and the tick at which the next timer is due
+unfoldable pub state_line : Node → List ℕ
+state_line n = line (codes "state " ++ decimal n.segment.now ++ codes " " ++ decimal (queue_len n.segment n.station) ++ codes " " ++ due_text (due_below (2 ^ 64) n.segment))
+
+-- a command to the station
+unfoldable pub commanded : Node → NodeCommand → Node
+commanded n (Send to pgn bytes) = asked n (calls.Send n.station to pgn bytes)
+commanded n (Open pgn max_len) = asked n (calls.Open n.station pgn max_len)
+commanded n (Close number) = asked n (calls.Close (record { station = n.station; number = number }))
+commanded n (Pause number) = asked n (calls.Pause (record { station = n.station; number = number }))
+commanded n (Resume number) = asked n (calls.Resume (record { station = n.station; number = number }))
+commanded n (Cancel to number) = asked n (calls.Cancel n.station to number)
+commanded n Counts = told n (counts_line n.segment.counts)
+commanded n State = told n (state_line n)
+commanded n (Refused cause) = told n (line (refusal_text cause))
+
+-- the time that a line says
+abbrev pub time_in : NodeLine → Option ℕ
+time_in (Frame time frame) = time
+time_in (Now time) = Some time
+time_in Passed = None
+time_in (Command command) = None
+
+abbrev pub acted : Node → NodeLine → Node
+acted n Passed = n
+acted n (Now time) = n
+acted n (Frame time frame) = heard n frame
+acted n (Command command) = commanded n command
+
+-- the time goes on to that of the line, then it is acted on, then all is done that is to be done at that tick
+unfoldable pub obeyed : Node → NodeLine → Node
+obeyed n meant = settled (acted (at_time n (time_in meant)) meant)
+
+unfoldable pub obey_line : Node → List ℕ → Result Node Fault
+obey_line n text = do
+  meant ← node_line text
+  Ok (obeyed (cleared n) meant)
+
+-- How the code obeyed a line
+
+abbrev pub or_refused : Told → Bool → Bool
+or_refused Answered earlier = earlier
+or_refused NoMemory earlier = true
+
+-- a step went to the node new
+abbrev pub Obeyed : Result Told LineError → Node → Result Node Fault → Type 0
+Obeyed (Ok Answered) new step = step ≡ Ok new
+Obeyed (Ok NoMemory) new step = Unit {0}
+Obeyed (Err (errors.Fault f)) new step = step ≡ Err f
+Obeyed (Err errors.OutOfMemory) new step = Unit {0}

@@ -1,0 +1,52 @@
+-- Frames that the node puts on the bus, and those that the bus shows.
+use Rattle.std.specs.Prelude.{ℕ, ◌+◌, ◌*◌, ◌-◌, ◌^◌, min, Bool, true, ◌&&◌, ◌==◌, nat_lt, if◌then◌else◌, List, [], ◌∷◌, ◌++◌, length, remove, position, Option, Some, None, unwrap_or, codes}
+use Rattle.std.specs.Str.{bytes_eq}
+use Rattle.bus_frame.specs.Frames.{CanFrame}
+use Rattle.pgn_ids.specs.Identifier.{meaning_of}
+use Rattle.log_text.specs.Written.{log_text}
+use Rattle.log_text.specs.declared.iface.Iface.{Iface}
+use Rattle.script_text.specs.Parts.{line}
+use Rattle.segment_law.specs.declared.call.Call.TheVariants.{Transmit, Take, Inject}
+use Rattle.bus_node.specs.Node.{Node, told, called}
+
+-- within 64 bits
+abbrev pub plus : ℕ → ℕ → ℕ
+plus a b = min (a + b) (2 ^ 64 - 1)
+
+-- the time of a tick: a thousand microseconds each from the first time on
+abbrev pub time_of : Node → ℕ
+time_of n = plus (unwrap_or n.start 0) (min (n.segment.now * 1000) (2 ^ 64 - 1))
+
+-- a frame that was put, as a line of a log behind the word put
+unfoldable pub put_line : ℕ → Iface → CanFrame → List ℕ
+put_line time iface frame = line (codes "put " ++ log_text time iface frame)
+
+-- the last 256 frames that were put and not shown since
+abbrev pub remembered : List CanFrame → CanFrame → List CanFrame
+remembered frames frame = (if length frames == 256 then remove frames 0 else frames) ++ frame ∷ []
+
+abbrev pub with_put : Node → CanFrame → Node
+with_put n frame = record n { unseen = remembered n.unseen frame; text = n.text ++ put_line (time_of n) n.iface frame }
+
+-- the first frame of the queue is put, and the station passes it by
+unfoldable pub putting : Node → CanFrame → Node
+putting n frame = with_put (called (called n (Transmit n.station)) (Take n.station true)) frame
+
+abbrev pub same_frame : CanFrame → CanFrame → Bool
+same_frame a b = a.id == b.id && bytes_eq a.bytes b.bytes
+
+-- another node has the same address: that is told once in a thousand ticks at most
+abbrev pub conflicting : Node → Node
+conflicting n =
+    if nat_lt n.segment.now n.silent_until then n
+    else record n { silent_until = plus n.segment.now 1000; text = n.text ++ line (codes "address conflict") }
+
+-- a frame with the node's own address is one that it put, or another node's
+unfoldable pub own : Node → CanFrame → Node
+own n frame = elim (position (λ put. same_frame put frame) n.unseen) [ None ↦ conflicting n | Some i ↦ record n { unseen = remove n.unseen i } ]
+
+-- any other comes to the station
+unfoldable pub heard : Node → CanFrame → Node
+heard n frame =
+    if (meaning_of frame.id).from.0 == n.station.0 then own n frame
+    else called (called n (Inject frame)) (Take n.station true)

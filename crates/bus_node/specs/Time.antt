@@ -1,0 +1,88 @@
+-- How the time goes on, and what is done meanwhile without a command.
+use Rattle.std.specs.Prelude.{◌≡◌, ℕ, zero, suc, ◌+◌, ◌-◌, ◌/◌, ◌^◌, min, Bool, true, false, ◌&&◌, nat_lt, if◌then◌else◌, Option, Some, None, unwrap_or}
+use Rattle.bus_frame.specs.Frames.{CanFrame}
+use Rattle.pgn_ids.specs.declared.address.Address.{Address}
+use Rattle.station_lanes.specs.LaneReaders.{least_below}
+use Rattle.segment_law.specs.Segment.{Segment}
+use Rattle.segment_law.specs.Calls.{called as called_on}
+use Rattle.segment_law.specs.Readers.{front_at, next_pump}
+use Rattle.segment_law.specs.declared.call.Call.TheVariants.{Pump, Tick, Fire}
+use Rattle.segment_law.specs.declared.refusal.Refusal.{Refusal}
+use Rattle.segment_law.specs.declared.refusal.Refusal.TheVariants.{NotYet}
+use Rattle.segment_core.specs.Answers.{refusal_of}
+use Rattle.segment_core.specs.Due.{any_due}
+use Rattle.bus_node.specs.Node.{Node, called}
+use Rattle.bus_node.specs.Putting.{putting}
+
+-- the tick at which the next timer is due, where it is one below the end
+abbrev pub due_below : ℕ → Segment → Option ℕ
+due_below end seg = least_below (any_due seg) end
+
+abbrev pub is_not_yet : Option Refusal → Bool
+is_not_yet (Some NotYet) = true
+is_not_yet _ = false
+
+-- the next frame of a broadcast waits for its time
+abbrev pub is_pacing : Node → Bool
+is_pacing n = is_not_yet (refusal_of (called_on n.segment (Pump n.station record { 0 = 255 })))
+
+-- the tick up to which the clock goes on at once: while a broadcast waits, the next one
+abbrev pub horizon : ℕ → Node → ℕ
+horizon target n = if is_pacing n && nat_lt n.segment.now target then n.segment.now + 1 else target
+
+-- the clock goes on to a tick
+abbrev pub at_tick : ℕ → Node → Node
+at_tick tick n = called n (Tick (tick - n.segment.now))
+
+-- the clock goes on to a timer, which fires, or to the horizon; none where it stands there
+abbrev pub waited : ℕ → Node → Option Node
+waited end n = elim (due_below (end + 1) n.segment) [
+  | Some tick ↦ Some (called (at_tick tick n) (Fire n.station))
+  | None ↦ if nat_lt n.segment.now end then Some (at_tick end n) else None
+]
+
+-- a lane that has something to queue queues it; where none has, time goes on
+abbrev pub pumped : ℕ → Node → Option Address → Option Node
+pumped target n (Some to) = Some (called n (Pump n.station to))
+pumped target n None = waited (horizon target n) n
+
+-- a frame that waits is put before anything else
+abbrev pub fronted : ℕ → Node → Option CanFrame → Option Node
+fronted target n (Some frame) = Some (putting n frame)
+fronted target n None = pumped target n (next_pump n.segment n.station)
+
+-- what comes next up to a tick, until there is nothing
+unfoldable pub step : ℕ → Node → Option Node
+step target n = fronted target n (front_at n.segment n.station)
+
+-- so many steps at most
+unfoldable pub go_on : ℕ → ℕ → Node → Node
+go_on zero target n = n
+go_on (suc more) target n = elim (step target n) [ None ↦ n | Some m ↦ go_on more target m ]
+
+-- how many steps the time of a line makes at most, and as many what is done of it
+abbrev pub most_steps : ℕ
+most_steps = 1000000
+
+-- all that is to be done at the tick is done
+unfoldable pub settled : Node → Node
+settled n = go_on most_steps n.segment.now n
+
+-- the first time that is seen is that of tick 0
+abbrev pub started : Node → ℕ → Node
+started n time = elim n.start [ None ↦ record n { start = Some time } | Some start ↦ n ]
+
+-- the tick of a time
+abbrev pub tick_at : Node → ℕ → ℕ
+tick_at n time = (time - unwrap_or n.start time) / 1000
+
+-- where the line says a time, the clock goes on to its tick
+unfoldable pub at_time : Node → Option ℕ → Node
+at_time n None = n
+at_time n (Some time) = go_on most_steps (tick_at (started n time) time) (started n time)
+
+-- How the code makes a step
+
+abbrev pub Stepped : Bool → (before after : Node) → Option Node → Type 0
+Stepped true before after step = step ≡ Some after
+Stepped false before after step = (step ≡ None) × (after ≡ before)

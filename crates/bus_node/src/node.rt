@@ -1,0 +1,109 @@
+//! A node, and the calls on its station.
+ghost use Rattle.std.specs.Prelude.{◌≡◌, ◌∷◌, ◌++◌, ◌↔◌, [], false, IfOk, OnOk, IsErrOf};
+ghost use Rattle.segment_law.specs.Segment.{are_addresses};
+ghost use Rattle.segment_law.specs.Calls.{events_of};
+ghost use Rattle.script_text.specs.Replies.{event_lines, reply_line};
+ghost use Rattle.bus_node.specs.Node.{new_node, cleared, called, asked};
+
+use bus_frame::Frame;
+use log_text::Iface;
+use pgn_ids::Address;
+use script_text::{print_events, print_reply};
+use segment_core::{Call, NewRefused, Reply, Segment};
+use std::alloc::{AllocError, Global};
+use std::marker::Model;
+
+/// One station on a real bus, what it remembers of that bus, and what a line has told so far.
+#[derive(Drop)]
+pub struct Node {
+    pub(crate) segment: Segment,
+    pub(crate) station: Address,
+    /// The interface that the frames which it puts are shown on.
+    pub(crate) iface: Iface,
+    /// The first time that was seen, in microseconds: that of tick 0.
+    pub(crate) start: Option<u64>,
+    /// The frames that it put and that the bus hasn't shown since, at most 256, the oldest first.
+    pub(crate) unseen: Vec<Frame>,
+    /// The tick before which no conflict of addresses is told.
+    pub(crate) silent_until: u64,
+    pub(crate) text: Vec<u8>,
+}
+
+impl Model for Node {
+    ghost use Rattle.bus_node.specs.Node.{Node};
+    ghost use Rattle.bus_node.specs.NodeFields.{node_value};
+    ghost use Rattle.bus_node.specs.NodeCode.{node_code};
+
+    ghost Value = { Node };
+
+    ghost coded = { node_code };
+
+    ghost view = { node_value };
+}
+
+impl Node {
+    /// A node with a station of this address, 0 to 253, whose frames are shown on an interface: its clock stands at tick 0, no port is open,
+    /// and nothing was done yet.
+    ///
+    /// Refused as `BadAddresses` exactly where the address is 254 or 255, and else as `OutOfMemory` where memory is refused.
+    pub fn new(alloc: Global, address: Address, iface: Iface) -> Result<Node, NewRefused>
+        ensures ok { IfOk result (λ node. node ≡ new_node address iface) }
+        ensures bad { IsErrOf result NewRefused.BadAddresses ↔ (are_addresses (address ∷ []) ≡ false) }
+    {
+        let segment = Segment::new(alloc, &[address])?;
+        Ok(Node {
+            segment,
+            station: address,
+            iface,
+            start: None,
+            unseen: Vec::new(alloc),
+            silent_until: 0,
+            text: Vec::new(alloc),
+        })
+    }
+
+    /// What the line before told was written.
+    pub(crate) fn clear(&mut self)
+        ensures { self.new ≡ cleared self.old }
+    {
+        self.text.clear();
+    }
+
+    /// What a line told.
+    pub(crate) fn text(&self) -> &[u8]
+        ensures { result.now ≡ self.now.text }
+    {
+        self.text.as_slice()
+    }
+
+    // What a call told stands behind the rest.
+    fn tell(&mut self, reply: Reply) -> Result<(), AllocError>
+        ensures { OnOk result (self.new ≡ record self.old { text = self.old.text ++ event_lines (events_of reply) }) }
+    {
+        match reply {
+            Reply::Opened(_) => Ok(()),
+            Reply::Sent(_) => Ok(()),
+            Reply::Refused(_) => Ok(()),
+            Reply::Done(events) => print_events(&mut self.text, events),
+        }
+    }
+
+    /// A call is made, and what it tells is told.
+    #[tactic(auto, unfolding(crate::specs::Node::called))]
+    pub(crate) fn call(&mut self, call: Call) -> Result<(), AllocError>
+        ensures { OnOk result (self.new ≡ called self.old call) }
+    {
+        let reply = self.segment.apply(call)?;
+        self.tell(reply)
+    }
+
+    /// A command makes a call: its reply is told, and then what the call tells.
+    #[tactic(auto, unfolding(crate::specs::Node::asked))]
+    pub(crate) fn ask(&mut self, call: Call) -> Result<(), AllocError>
+        ensures { OnOk result (self.new ≡ asked self.old call) }
+    {
+        let reply = self.segment.apply(call)?;
+        print_reply(&mut self.text, &reply)?;
+        self.tell(reply)
+    }
+}

@@ -1,0 +1,134 @@
+//! Frames that the node puts on the bus, and those that the bus shows.
+ghost use Rattle.std.specs.Prelude.{◌≡◌, ◌++◌, OnOk, position};
+ghost use Rattle.bus_node.specs.Putting.{time_of, put_line, remembered, with_put, putting, same_frame, conflicting, own, heard};
+
+use crate::node::Node;
+use bus_frame::Frame;
+use log_text::{Iface, put_log_line};
+use pgn_ids::read_id;
+use script_text::print_text;
+use segment_core::Call;
+use std::alloc::AllocError;
+
+/// How many microseconds a tick has.
+const TICK: u64 = 1000;
+
+/// How many ticks pass at least from one conflict that is told to the next.
+const BETWEEN_CONFLICTS: u64 = 1000;
+
+/// How many of the frames that it put a node remembers.
+const MOST_REMEMBERED: usize = 256;
+
+#[tactic(auto, unfolding(crate::specs::Putting::put_line))]
+fn print_put(
+    text: &mut Vec<u8>,
+    time: u64,
+    iface: &Iface,
+    frame: &Frame,
+) -> Result<(), AllocError>
+    ensures { OnOk result (text.new.items ≡ text.old.items ++ put_line time iface.now frame.now) }
+{
+    text.extend_from_slice(b"put ")?;
+    put_log_line(text, time, iface, frame)?;
+    text.push(b'\n')?;
+    Ok(())
+}
+
+fn is_same(a: &Frame, b: &Frame) -> bool
+    ensures { result ≡ same_frame a.now b.now }
+{
+    a.id().raw() == b.id().raw() && a.bytes() == b.bytes()
+}
+
+/// The place of the oldest frame that is the same.
+fn place_of(frames: &[Frame], frame: &Frame) -> Option<usize>
+    ensures { result ≡ position (λ put. same_frame put frame.now) frames.now }
+{
+    frames.iter().position(|put| is_same(put, frame))
+}
+
+fn remember(frames: &mut Vec<Frame>, frame: Frame) -> Result<(), AllocError>
+    ensures { OnOk result (frames.new.items ≡ remembered frames.old.items frame) }
+{
+    if frames.len() == MOST_REMEMBERED {
+        let _oldest = frames.remove(0);
+    }
+    frames.push(frame)?;
+    Ok(())
+}
+
+impl Node {
+    // The time at which its clock stands.
+    fn time(&self) -> u64
+        ensures { result ≡ time_of self.now }
+    {
+        self.start
+            .unwrap_or(0)
+            .saturating_add(self.segment.now().saturating_mul(TICK))
+    }
+
+    // A frame was put: it is told, and remembered.
+    fn note_put(&mut self, frame: Frame) -> Result<(), AllocError>
+        ensures { OnOk result (self.new ≡ with_put self.old frame) }
+    {
+        let time = self.time();
+        print_put(&mut self.text, time, &self.iface, &frame)?;
+        remember(&mut self.unseen, frame)
+    }
+
+    /// The first frame of the queue is put on the bus.
+    #[tactic(auto, unfolding(crate::specs::Putting::putting))]
+    pub(crate) fn put(&mut self, frame: Frame) -> Result<(), AllocError>
+        ensures { OnOk result (self.new ≡ putting self.old frame) }
+    {
+        let station = self.station;
+        self.call(Call::Transmit { station })?;
+        self.call(Call::Take {
+            station,
+            room: true,
+        })?;
+        self.note_put(frame)
+    }
+
+    // Another node has the same address.
+    fn conflict(&mut self) -> Result<(), AllocError>
+        ensures { OnOk result (self.new ≡ conflicting self.old) }
+    {
+        let now = self.segment.now();
+        if now < self.silent_until {
+            return Ok(());
+        }
+        self.silent_until = now.saturating_add(BETWEEN_CONFLICTS);
+        print_text(&mut self.text, "address conflict")
+    }
+
+    // A frame with the node's own address was seen.
+    #[tactic(auto, unfolding(crate::specs::Putting::own))]
+    fn see_own(&mut self, frame: &Frame) -> Result<(), AllocError>
+        ensures { OnOk result (self.new ≡ own self.old frame.now) }
+    {
+        match place_of(self.unseen.as_slice(), frame) {
+            None => self.conflict(),
+            Some(place) => {
+                let _shown = self.unseen.remove(place);
+                Ok(())
+            }
+        }
+    }
+
+    /// A frame was seen on the bus.
+    #[tactic(auto, unfolding(crate::specs::Putting::heard))]
+    pub(crate) fn hear(&mut self, frame: Frame) -> Result<(), AllocError>
+        ensures { OnOk result (self.new ≡ heard self.old frame) }
+    {
+        let station = self.station;
+        if read_id(frame.id()).from.0 == station.0 {
+            return self.see_own(&frame);
+        }
+        self.call(Call::Inject { frame })?;
+        self.call(Call::Take {
+            station,
+            room: true,
+        })
+    }
+}

@@ -1,0 +1,159 @@
+//! How the time goes on, and what is done meanwhile without a command.
+ghost use Rattle.std.specs.Prelude.{◌≡◌, ◌+◌, ◌<◌, ◌≤◌, ◌^◌, IfOk, OnOk};
+ghost use Rattle.bus_node.specs.Time.{due_below, is_not_yet, is_pacing, horizon, at_tick, waited, pumped, step, go_on, most_steps, settled, started, tick_at, at_time, Stepped};
+
+use crate::node::Node;
+use pgn_ids::Address;
+use segment_core::{Call, Refusal, Segment};
+use std::alloc::AllocError;
+
+/// How many microseconds a tick has.
+const TICK: u64 = 1000;
+
+/// How many steps the time of a line makes at most, and as many what is done of it.
+const MOST_STEPS: u64 = 1_000_000;
+
+fn is_not_yet(cause: Option<Refusal>) -> bool
+    ensures { result ≡ is_not_yet cause }
+{
+    match cause {
+        Some(Refusal::NotYet) => true,
+        _ => false,
+    }
+}
+
+/// The tick at which the next timer is due, where it is none above the last.
+#[tactic(auto, using(crate::proofs::Dues::due_is_below, crate::proofs::Dues::due_is_above, crate::proofs::Dues::none_is_due))]
+pub(crate) fn due_up_to(segment: &Segment, last: u64) -> Option<u64>
+    ensures { result ≡ due_below (last + 1) segment.now }
+{
+    match segment.next_due_at() {
+        None => None,
+        Some(tick) => {
+            if tick > last {
+                return None;
+            }
+            Some(tick)
+        }
+    }
+}
+
+impl Node {
+    // Whether the next frame of a broadcast waits for its time.
+    fn is_pacing(&self) -> bool
+        ensures { result ≡ is_pacing self.now }
+    {
+        let station = self.station;
+        let to = Address::GLOBAL;
+        is_not_yet(self.segment.refusal(&Call::Pump { station, to }))
+    }
+
+    // The tick up to which the clock goes on at once.
+    fn horizon(&self, target: u64) -> u64
+        ensures { result ≡ horizon target self.now }
+    {
+        let now = self.segment.now();
+        if self.is_pacing() && now < target {
+            return now + 1;
+        }
+        target
+    }
+
+    // The clock goes on to a tick.
+    fn go_to(&mut self, tick: u64) -> Result<(), AllocError>
+        ensures { OnOk result (self.new ≡ at_tick tick self.old) }
+    {
+        let n = tick.saturating_sub(self.segment.now());
+        self.call(Call::Tick { n })
+    }
+
+    // The clock goes on to a timer, which fires, or to the last tick.
+    fn wait(&mut self, last: u64) -> Result<bool, AllocError>
+        ensures { IfOk result (λ went_on. Stepped went_on self.old self.new (waited last self.old)) }
+    {
+        let station = self.station;
+        if let Some(tick) = due_up_to(&self.segment, last) {
+            self.go_to(tick)?;
+            self.call(Call::Fire { station })?;
+            return Ok(true);
+        }
+        if self.segment.now() >= last {
+            return Ok(false);
+        }
+        self.go_to(last)?;
+        Ok(true)
+    }
+
+    // What comes next up to a tick: whether there was anything.
+    #[tactic(auto, unfolding(crate::specs::Time::step))]
+    fn step(&mut self, target: u64) -> Result<bool, AllocError>
+        ensures { IfOk result (λ went_on. Stepped went_on self.old self.new (step target self.old)) }
+    {
+        let station = self.station;
+        if let Some(frame) = self.segment.front(station) {
+            self.put(frame)?;
+            return Ok(true);
+        }
+        if let Some(to) = self.segment.next_pump(station) {
+            self.call(Call::Pump { station, to })?;
+            return Ok(true);
+        }
+        let last = self.horizon(target);
+        self.wait(last)
+    }
+
+    // All that comes up to a tick.
+    fn go_on(&mut self, target: u64) -> Result<(), AllocError>
+        ensures { OnOk result (self.new ≡ go_on most_steps target self.old) }
+    {
+        let mut left = MOST_STEPS;
+        while left > 0 {
+            if !self.step(target)? {
+                return Ok(());
+            }
+            left -= 1;
+        }
+        Ok(())
+    }
+
+    /// All that is to be done at this tick.
+    #[tactic(auto, unfolding(crate::specs::Time::settled))]
+    pub(crate) fn settle(&mut self) -> Result<(), AllocError>
+        ensures { OnOk result (self.new ≡ settled self.old) }
+    {
+        let now = self.segment.now();
+        self.go_on(now)
+    }
+
+    // The first time that is seen is that of tick 0.
+    fn start_at(&mut self, time: u64)
+        ensures { self.new ≡ started self.old time }
+    {
+        match self.start {
+            Some(_) => {}
+            None => {
+                self.start = Some(time);
+            }
+        }
+    }
+
+    // The tick of a time.
+    fn tick_at(&self, time: u64) -> u64
+        ensures { result ≡ tick_at self.now time }
+    {
+        time.saturating_sub(self.start.unwrap_or(time)) / TICK
+    }
+
+    /// Where a line says a time, the clock goes on to its tick, and what comes up to there is done.
+    #[tactic(auto, unfolding(crate::specs::Time::at_time))]
+    pub(crate) fn pass_time(&mut self, time: Option<u64>) -> Result<(), AllocError>
+        ensures { OnOk result (self.new ≡ at_time self.old time) }
+    {
+        let Some(time) = time else {
+            return Ok(());
+        };
+        self.start_at(time);
+        let target = self.tick_at(time);
+        self.go_on(target)
+    }
+}
