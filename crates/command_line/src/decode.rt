@@ -94,7 +94,7 @@ pub(crate) fn decode_command<'a>(alloc: Global) -> Result<Command<'a>, AllocErro
 }
 
 /// The number that hexadecimal digits write, where it is at most `most`.
-fn hexadecimal(word: &str, most: u32) -> Option<u32> {
+pub(crate) fn hexadecimal(word: &str, most: u32) -> Option<u32> {
     if !word.as_bytes().first()?.is_ascii_hexdigit() {
         return None;
     }

@@ -3,11 +3,14 @@
 
 mod decode;
 mod draw;
+mod node;
 
 use clap::{Arg, ArgAction, Command, Error, value_parser};
 pub use decode::OfLog;
 use decode::{decode_command, read_decode};
 use draw::draw_command;
+pub use node::OfNode;
+use node::{node_command, read_node};
 use std::alloc::{AllocError, Global};
 
 /// What a command line asks for.
@@ -23,6 +26,8 @@ pub enum Asked {
     Live { turns: u64 },
     /// Its two segments are run by threads, with a relay between them.
     Relay { turns: u64 },
+    /// It is a station on the bus whose frames are read from standard input.
+    Node(OfNode),
     /// The messages of the log of standard input are printed.
     Decode(OfLog),
 }
@@ -151,7 +156,8 @@ pub fn read_command_line(alloc: Global, words: &[String]) -> Result<Asked, Error
         .subcommand(live_command(alloc)?)?
         .subcommand(relay_command(alloc)?)?
         .subcommand(decode_command(alloc)?)?
-        .subcommand(draw_command(alloc))?;
+        .subcommand(draw_command(alloc))?
+        .subcommand(node_command(alloc)?)?;
     let matches = command.try_get_matches_from_mut(words)?;
     if let Some(live) = matches.subcommand_matches("live") {
         return Ok(Asked::Live {
@@ -168,6 +174,9 @@ pub fn read_command_line(alloc: Global, words: &[String]) -> Result<Asked, Error
     }
     if matches.get_flag("log") {
         return Ok(Asked::Logged);
+    }
+    if let Some(node) = matches.subcommand_matches("node") {
+        return Ok(Asked::Node(read_node(alloc, &mut command, node)?));
     }
     match matches.subcommand_matches("decode") {
         Some(decode) => Ok(Asked::Decode(read_decode(alloc, &mut command, decode)?)),

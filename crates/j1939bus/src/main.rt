@@ -1,7 +1,7 @@
 //! `j1939bus` reads a script on standard input and prints the replies to its lines, or with `--log` the frames that it puts, as the log
 //! of a bus; `j1939bus draw` draws it as a sequence diagram; `j1939bus live` runs it by threads and prints what came of it;
-//! `j1939bus relay` runs two segments so, with a relay between them; `j1939bus decode` reads the log of a bus and prints its messages
-//! (SAE J1939-21, ISO 11783-3).
+//! `j1939bus relay` runs two segments so, with a relay between them; `j1939bus decode` reads the log of a bus and prints its messages;
+//! `j1939bus node` is a station on the bus whose log it reads while it runs (SAE J1939-21, ISO 11783-3).
 //!
 //! It ends with status 0 where the script or log was read to its end, refused calls included, with 1 at a wrong line, a read or
 //! write fault, which standard error tells, with 2 where the command line is refused or asks for help, and with 3 where the turns
@@ -10,9 +10,12 @@
 
 use bus_decode::{Options, Wanted, run_decode};
 use bus_live::{Gate, run_live};
+use bus_node::{Node, run_node};
 use bus_relay::run_relay;
 use bus_script::{run_logged, run_script};
-use command_line::{Asked, OfLog, read_command_line};
+use command_line::{Asked, OfLog, OfNode, read_command_line};
+use log_text::Iface;
+use pgn_ids::Address;
 use script_drawing::draw_script;
 use std::alloc::{AllocError, Global};
 use std::io;
@@ -128,6 +131,26 @@ fn decode<R: Input + Print + Eprint + AllocGlobal>(rt: &R, asked: &OfLog) -> io:
     Ok(ExitCode::from(decoded.status()))
 }
 
+/// Is a station on the bus whose frames standard input has.
+fn node<R: Input + Print + Eprint + AllocGlobal>(rt: &R, asked: &OfNode) -> io::Result<ExitCode> {
+    let alloc = rt.alloc();
+    let Ok(iface) = Iface::new(asked.interface.as_str().as_bytes()) else {
+        eprintln!(rt; "error: an interface has a name of 1 to 15 printable characters")?;
+        return Ok(ExitCode::from(2));
+    };
+    let Ok(mut station) = Node::new(alloc, Address(asked.address), iface) else {
+        eprintln!(rt; "out of memory")?;
+        return Ok(ExitCode::from(1));
+    };
+    let mut reader = BufReader::new(alloc, rt.reader())?;
+    let mut writer = BufWriter::new(alloc, io::writer(rt))?;
+    let ran = run_node(alloc, &mut station, &mut reader, &mut writer);
+    if let Some(fault) = ran.fault {
+        eprintln!(rt; "{fault}")?;
+    }
+    Ok(ExitCode::from(ran.status()))
+}
+
 fn main(rt: HostRuntime) -> anyhow::Result<ExitCode> {
     let alloc = rt.alloc();
     let words: Vec<String> = std::env::args(&rt)?.collect(alloc)?;
@@ -138,6 +161,7 @@ fn main(rt: HostRuntime) -> anyhow::Result<ExitCode> {
         Ok(Asked::Live { turns }) => Ok(live(&rt, turns)?),
         Ok(Asked::Relay { turns }) => Ok(relay(&rt, turns)?),
         Ok(Asked::Decode(asked)) => Ok(decode(&rt, &asked)?),
+        Ok(Asked::Node(asked)) => Ok(node(&rt, &asked)?),
         Err(error) => {
             eprint!(rt; "{error}")?;
             Ok(ExitCode::from(2))
