@@ -1,0 +1,189 @@
+//! Dialogues with another node, line by line.
+use bus_node::{Node, run_node};
+use log_text::Iface;
+use pgn_ids::Address;
+use std::alloc::{AllocError, Global};
+use std::process::Abort;
+use std::test::Fail;
+
+// A node of address 21 on can0.
+fn node(rt: &impl Abort, alloc: Global) -> Result<Node, Fail> {
+    let iface = Iface::new(b"can0").expect(rt, "a name");
+    match Node::new(alloc, Address(0x21), iface) {
+        Ok(node) => Ok(node),
+        Err(_) => Err(Fail::from(AllocError)),
+    }
+}
+
+// The lines tell this. The test ends where memory is refused.
+fn tells(
+    rt: &impl Abort,
+    alloc: Global,
+    node: &mut Node,
+    lines: &[u8],
+    expected: &[u8],
+) -> Result<(), Fail> {
+    let mut reader = lines;
+    let mut out = Vec::new(alloc);
+    let ran = run_node(alloc, node, &mut reader, &mut out);
+    if ran.memory_refused || ran.fault.is_some() {
+        return Err(Fail::from(AllocError));
+    }
+    assert_eq!(rt; ran.status(), 0);
+    assert_eq!(rt; out.as_slice(), expected);
+    Ok(())
+}
+
+// Another node announces twenty bytes, and the node grants three packets.
+fn is_announced(rt: &impl Abort, alloc: Global, node: &mut Node) -> Result<(), Fail> {
+    tells(rt, alloc, node, b"open FECA 1785", b"opened 21.1\n")?;
+    tells(
+        rt,
+        alloc,
+        node,
+        b"(1700000000.000000) can0 1CEC2135#10140003FFCAFE00",
+        b"put (1700000000.000000) can0 1CEC3521#110301FFFFCAFE00\n",
+    )?;
+    tells(
+        rt,
+        alloc,
+        node,
+        b"(1700000000.000100) can0 1CEC3521#110301FFFFCAFE00",
+        b"",
+    )
+}
+
+// The packets come, and the node acknowledges the last.
+fn is_sent_packets(rt: &impl Abort, alloc: Global, node: &mut Node) -> Result<(), Fail> {
+    tells(
+        rt,
+        alloc,
+        node,
+        b"(1700000000.010000) can0 1CEB2135#0101020304050607\n(1700000000.020000) can0 1CEB2135#0208090A0B0C0D0E",
+        b"",
+    )?;
+    tells(
+        rt,
+        alloc,
+        node,
+        b"(1700000000.030999) can0 1CEB2135#030F1011121314FF",
+        b"  given 21.1 35 21 0FECA 20 0102030405060708090A0B0C0D0E0F1011121314\nput (1700000000.030000) can0 1CEC3521#13140003FFCAFE00\n",
+    )
+}
+
+#[test]
+fn a_message_is_received(rt: HostRuntime) -> Result<(), Fail> {
+    let alloc = rt.alloc();
+    let mut node = node(&rt, alloc)?;
+    is_announced(&rt, alloc, &mut node)?;
+    is_sent_packets(&rt, alloc, &mut node)?;
+    tells(&rt, alloc, &mut node, b"state", b"state 30 0 none\n")
+}
+
+#[test]
+fn a_message_is_sent(rt: HostRuntime) -> Result<(), Fail> {
+    let alloc = rt.alloc();
+    let mut node = node(&rt, alloc)?;
+    tells(
+        &rt,
+        alloc,
+        &mut node,
+        b"send 35 EF00 fill 9",
+        b"sent 1\nput (0000000000.000000) can0 1CEC3521#10090002FF00EF00\n",
+    )?;
+    tells(
+        &rt,
+        alloc,
+        &mut node,
+        b"now 5.000000\n(5.010000) can0 1CEC2135#110201FFFF00EF00",
+        b"put (0000000005.010000) can0 1CEB3521#0101020304050607\nput (0000000005.010000) can0 1CEB3521#020809FFFFFFFFFF\n",
+    )?;
+    tells(
+        &rt,
+        alloc,
+        &mut node,
+        b"(5.020000) can0 1CEC2135#13090002FF00EF00",
+        b"  outcome 21 35 1 Acknowledged\n",
+    )
+}
+
+#[test]
+fn a_timer_fires_at_its_tick(rt: HostRuntime) -> Result<(), Fail> {
+    let alloc = rt.alloc();
+    let mut node = node(&rt, alloc)?;
+    tells(
+        &rt,
+        alloc,
+        &mut node,
+        b"now 7.000000\nsend 35 EF00 fill 9\nstate",
+        b"sent 1\nput (0000000007.000000) can0 1CEC3521#10090002FF00EF00\nstate 0 0 1250\n",
+    )?;
+    tells(
+        &rt,
+        alloc,
+        &mut node,
+        b"now 8.300000",
+        b"  outcome 21 35 1 TimedOut\nput (0000000008.250000) can0 1CEC3521#FF03FFFFFF00EF00\n",
+    )
+}
+
+#[test]
+fn a_broadcast_keeps_its_pace(rt: HostRuntime) -> Result<(), Fail> {
+    let alloc = rt.alloc();
+    let mut node = node(&rt, alloc)?;
+    tells(
+        &rt,
+        alloc,
+        &mut node,
+        b"now 7.000000\nsend FF FECA fill 9",
+        b"sent 1\nput (0000000007.000000) can0 1CECFF21#20090002FFCAFE00\n",
+    )?;
+    tells(
+        &rt,
+        alloc,
+        &mut node,
+        b"now 7.120000",
+        b"put (0000000007.050000) can0 1CEBFF21#0101020304050607\n  outcome 21 FF 1 Broadcast\nput (0000000007.100000) can0 1CEBFF21#020809FFFFFFFFFF\n",
+    )
+}
+
+#[test]
+fn another_node_with_the_address_is_told(rt: HostRuntime) -> Result<(), Fail> {
+    let alloc = rt.alloc();
+    let mut node = node(&rt, alloc)?;
+    tells(
+        &rt,
+        alloc,
+        &mut node,
+        b"(1.000000) can0 18FECA21#00",
+        b"address conflict\n",
+    )?;
+    tells(&rt, alloc, &mut node, b"(1.999999) can0 18FECA21#00", b"")?;
+    tells(
+        &rt,
+        alloc,
+        &mut node,
+        b"(2.000000) can0 18FECA21#00",
+        b"address conflict\n",
+    )
+}
+
+#[test]
+fn commands_are_answered(rt: HostRuntime) -> Result<(), Fail> {
+    let alloc = rt.alloc();
+    let mut node = node(&rt, alloc)?;
+    tells(
+        &rt,
+        alloc,
+        &mut node,
+        b"open FECA 9\npause 1\nresume 1\nclose 1\nclose 1",
+        b"opened 21.1\ndone\ndone\ndone\nrefused 12 NoSuchPort\n",
+    )?;
+    tells(
+        &rt,
+        alloc,
+        &mut node,
+        b"cancel 35 1\n\nopen FFFFF 9",
+        b"refused 21 NothingToSend\nrefused 3 BadPgn\n",
+    )
+}

@@ -1,0 +1,92 @@
+//! Readers and writers that fail, and wrong lines.
+use bus_node::{Node, run_node};
+use log_text::Iface;
+use pgn_ids::Address;
+use script_commands::{Cause, Fault};
+use std::alloc::{AllocError, Global};
+use std::io;
+use std::io::{Error, ErrorKind, Read, Write};
+use std::test::Fail;
+
+// A node of address 21 on bus0.
+fn node(alloc: Global) -> Result<Node, Fail> {
+    match Node::new(alloc, Address(0x21), Iface::bus0()) {
+        Ok(node) => Ok(node),
+        Err(_) => Err(Fail::from(AllocError)),
+    }
+}
+
+/// Gives its text, and fails where it ends.
+#[derive(Drop)]
+struct Breaking<'a> {
+    text: &'a [u8],
+}
+
+impl Read for Breaking<'_> {
+    fn read(&mut self, buf: &mut [u8]) -> io::Result<usize> {
+        if self.text.is_empty() {
+            return Err(Error::from(ErrorKind::Other));
+        }
+        self.text.read(buf)
+    }
+}
+
+#[test]
+fn a_failed_read_ends_the_run(rt: HostRuntime) -> Result<(), Fail> {
+    let alloc = rt.alloc();
+    let mut node = node(alloc)?;
+    let mut reader = Breaking {
+        text: b"open FECA 9\nco",
+    };
+    let mut out = Vec::new(alloc);
+    let ran = run_node(alloc, &mut node, &mut reader, &mut out);
+    let fault = ran.fault.expect(&rt, "a fault");
+    if fault.cause != Cause::OutOfMemory && !ran.memory_refused {
+        assert_eq!(rt; fault.cause, Cause::ReadFailed);
+        assert_eq!(rt; fault.line, 2);
+        assert_eq!(rt; ran.status(), 1);
+        assert_eq!(rt; out.as_slice(), b"opened 21.1\n".as_slice());
+    }
+    Ok(())
+}
+
+/// Takes no write.
+#[derive(Drop)]
+struct Refusing;
+
+impl Write for Refusing {
+    fn write(&mut self, _buf: &[u8]) -> io::Result<usize> {
+        Err(Error::from(ErrorKind::StorageFull))
+    }
+
+    fn flush(&mut self) -> io::Result<()> {
+        Ok(())
+    }
+}
+
+#[test]
+fn a_failed_write_ends_the_run(rt: HostRuntime) -> Result<(), Fail> {
+    let alloc = rt.alloc();
+    let mut node = node(alloc)?;
+    let ran = run_node(alloc, &mut node, &mut b"\ncounts".as_slice(), &mut Refusing);
+    let fault = ran.fault.expect(&rt, "a fault");
+    if fault.cause != Cause::OutOfMemory && !ran.memory_refused {
+        assert_eq!(rt; fault.cause, Cause::WriteFailed);
+        assert_eq!(rt; fault.line, 2);
+    }
+    Ok(())
+}
+
+#[test]
+fn a_wrong_line_ends_the_run(rt: HostRuntime) -> Result<(), Fail> {
+    let alloc = rt.alloc();
+    let mut node = node(alloc)?;
+    let mut out = Vec::new(alloc);
+    let ran = run_node(alloc, &mut node, &mut b"\nstop".as_slice(), &mut out);
+    let fault = ran.fault.expect(&rt, "a fault");
+    if fault.cause != Cause::OutOfMemory {
+        assert_eq!(rt; fault.cause, Cause::Fault(Fault::UnknownCommand));
+        assert_eq!(rt; fault.line, 2);
+    }
+    Ok(())
+}
