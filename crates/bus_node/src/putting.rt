@@ -20,12 +20,7 @@ const BETWEEN_CONFLICTS: u64 = 1000;
 const MOST_REMEMBERED: usize = 256;
 
 #[tactic(auto, unfolding(crate::specs::Putting::put_line))]
-fn print_put(
-    text: &mut Vec<u8>,
-    time: u64,
-    iface: &Iface,
-    frame: &Frame,
-) -> Result<(), AllocError>
+fn print_put(text: &mut Vec<u8>, time: u64, iface: &Iface, frame: &Frame) -> Result<(), AllocError>
     ensures { OnOk result (text.new.items ≡ text.old.items ++ put_line time iface.now frame.now) }
 {
     text.extend_from_slice(b"put ")?;

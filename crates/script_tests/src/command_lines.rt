@@ -2,7 +2,7 @@
 //! answered by a text.
 mod logs;
 
-use command_line::{Asked, read_command_line};
+use command_line::{Asked, OfNode, read_command_line};
 use std::alloc::{AllocError, Global};
 use std::process::Abort;
 use std::test::Fail;
@@ -64,6 +64,16 @@ fn a_script_is_run_alone_or_by_threads(rt: HostRuntime) -> Result<(), Fail> {
     asks(&rt, alloc, &once, &Asked::Live { turns: 1 })
 }
 
+#[test]
+fn a_node_is_asked_for_by_its_address(rt: HostRuntime) -> Result<(), Fail> {
+    let alloc = rt.alloc();
+    let node = Asked::Node(OfNode {
+        address: 0x2A,
+        interface: format!(in alloc; "can0")?,
+    });
+    asks(&rt, alloc, &["j1939bus", "node", "2a"], &node)
+}
+
 fn refuses_turns(rt: &impl Abort, alloc: Global, turns: &str, told: &str) -> Result<(), Fail> {
     tells(rt, alloc, &["j1939bus", "live", "--turns", turns], told)
 }
@@ -93,6 +103,7 @@ Commands:
   relay   Runs two segments by threads, and relays from a port of the first to the second
   decode  Prints the messages of the log of standard input, put together of their packets
   draw    Runs the script of standard input, and draws it as a sequence diagram
+  node    Is one station on a real bus, whose frames are read from standard input
   help    Print this message or the help of the given subcommand(s)
 
 Options:
