@@ -1,3 +1,5 @@
 pub mod Dues
+pub mod Lanes
+pub mod Resting
 pub mod Steps
 pub mod RunSteps

@@ -1,5 +1,5 @@
 -- One step of so many.
-use Rattle.std.proofs.Common.{◌≡◌, ℕ, zero, suc, ◌+◌, ◌-◌, ◌<◌, Bool, true, false, Option, Some, None, refl, sym, ◌∙◌, ap, subst, arith}
+use Rattle.std.proofs.Common.{◌≡◌, ℕ, zero, suc, ◌-◌, ◌<◌, Bool, true, false, Option, Some, None, sym, ◌∙◌, ap, subst, arith}
 use Rattle.bus_node.specs.Node.{Node}
 use Rattle.bus_node.specs.Time.{step, go_on, Stepped}
 

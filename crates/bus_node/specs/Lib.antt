@@ -1,3 +1,4 @@
+pub mod Rests
 pub mod Node
 pub mod NodeFields
 pub mod NodeCode

@@ -1,5 +1,5 @@
 -- Frames that the node puts on the bus, and those that the bus shows.
-use Rattle.std.specs.Prelude.{ℕ, ◌+◌, ◌*◌, ◌-◌, ◌^◌, min, Bool, true, ◌&&◌, ◌==◌, nat_lt, if◌then◌else◌, List, [], ◌∷◌, ◌++◌, length, remove, position, Option, Some, None, unwrap_or, codes}
+use Rattle.std.specs.Prelude.{ℕ, ◌*◌, ◌-◌, ◌^◌, min, Bool, true, ◌&&◌, ◌==◌, nat_lt, if◌then◌else◌, List, [], ◌∷◌, ◌++◌, length, remove, position, Some, None, unwrap_or, codes}
 use Rattle.std.specs.Str.{bytes_eq}
 use Rattle.bus_frame.specs.Frames.{CanFrame}
 use Rattle.pgn_ids.specs.Identifier.{meaning_of}
@@ -7,11 +7,8 @@ use Rattle.log_text.specs.Written.{log_text}
 use Rattle.log_text.specs.declared.iface.Iface.{Iface}
 use Rattle.script_text.specs.Parts.{line}
 use Rattle.segment_law.specs.declared.call.Call.TheVariants.{Transmit, Take, Inject}
-use Rattle.bus_node.specs.Node.{Node, told, called}
-
--- within 64 bits
-abbrev pub plus : ℕ → ℕ → ℕ
-plus a b = min (a + b) (2 ^ 64 - 1)
+use Rattle.bus_node.specs.Rests.{plus}
+use Rattle.bus_node.specs.Node.{Node, called}
 
 -- the time of a tick: a thousand microseconds each from the first time on
 abbrev pub time_of : Node → ℕ

@@ -1,16 +1,18 @@
 -- How the time goes on, and what is done meanwhile without a command.
-use Rattle.std.specs.Prelude.{◌≡◌, ℕ, zero, suc, ◌+◌, ◌-◌, ◌/◌, ◌^◌, min, Bool, true, false, ◌&&◌, nat_lt, if◌then◌else◌, Option, Some, None, unwrap_or}
+use Rattle.std.specs.Prelude.{◌≡◌, ℕ, zero, suc, ◌+◌, ◌-◌, ◌/◌, Bool, true, false, ◌&&◌, not, nat_lt, if◌then◌else◌, Option, Some, None, unwrap_or}
+use Rattle.std.specs.Option.{option_map}
 use Rattle.bus_frame.specs.Frames.{CanFrame}
 use Rattle.pgn_ids.specs.declared.address.Address.{Address}
 use Rattle.station_lanes.specs.LaneReaders.{least_below}
 use Rattle.segment_law.specs.Segment.{Segment}
 use Rattle.segment_law.specs.Calls.{called as called_on}
-use Rattle.segment_law.specs.Readers.{front_at, next_pump}
+use Rattle.segment_law.specs.Readers.{front_at, pumps_to}
 use Rattle.segment_law.specs.declared.call.Call.TheVariants.{Pump, Tick, Fire}
 use Rattle.segment_law.specs.declared.refusal.Refusal.{Refusal}
 use Rattle.segment_law.specs.declared.refusal.Refusal.TheVariants.{NotYet}
 use Rattle.segment_core.specs.Answers.{refusal_of}
 use Rattle.segment_core.specs.Due.{any_due}
+use Rattle.bus_node.specs.Rests.{is_at_rest, wakes}
 use Rattle.bus_node.specs.Node.{Node, called}
 use Rattle.bus_node.specs.Putting.{putting}
 
@@ -26,9 +28,17 @@ is_not_yet _ = false
 abbrev pub is_pacing : Node → Bool
 is_pacing n = is_not_yet (refusal_of (called_on n.segment (Pump n.station record { 0 = 255 })))
 
--- the tick up to which the clock goes on at once: while a broadcast waits, the next one
+-- the tick up to which the clock goes on at once: while a broadcast waits, the next one, else the first at which a destination no longer rests
 abbrev pub horizon : ℕ → Node → ℕ
-horizon target n = if is_pacing n && nat_lt n.segment.now target then n.segment.now + 1 else target
+horizon target n = if is_pacing n && nat_lt n.segment.now target then n.segment.now + 1 else wakes n.segment.now target n.rests
+
+-- a frame can be queued to a destination, and it doesn't rest
+abbrev pub may_pump : Node → (to : ℕ) → Bool
+may_pump n to = pumps_to n.segment n.station to && not (is_at_rest n.rests n.segment.now to)
+
+-- the lowest such destination
+abbrev pub next_lane : Node → Option Address
+next_lane n = option_map (λ to. record { 0 = to }) (least_below (may_pump n) 256)
 
 -- the clock goes on to a tick
 abbrev pub at_tick : ℕ → Node → Node
@@ -41,7 +51,7 @@ waited end n = elim (due_below (end + 1) n.segment) [
   | None ↦ if nat_lt n.segment.now end then Some (at_tick end n) else None
 ]
 
--- a lane that has something to queue queues it; where none has, time goes on
+-- what may be queued to a destination is; where nothing may, time goes on
 abbrev pub pumped : ℕ → Node → Option Address → Option Node
 pumped target n (Some to) = Some (called n (Pump n.station to))
 pumped target n None = waited (horizon target n) n
@@ -49,7 +59,7 @@ pumped target n None = waited (horizon target n) n
 -- a frame that waits is put before anything else
 abbrev pub fronted : ℕ → Node → Option CanFrame → Option Node
 fronted target n (Some frame) = Some (putting n frame)
-fronted target n None = pumped target n (next_pump n.segment n.station)
+fronted target n None = pumped target n (next_lane n)
 
 -- what comes next up to a tick, until there is nothing
 unfoldable pub step : ℕ → Node → Option Node

@@ -5,7 +5,7 @@ ghost use Rattle.script_text.specs.Parts.{line};
 ghost use Rattle.script_text.specs.Replies.{refusal_text};
 ghost use Rattle.script_text.specs.Counts.{counts_line};
 ghost use Rattle.bus_node.specs.Node.{told};
-ghost use Rattle.bus_node.specs.Acting.{due_text, state_line, commanded, time_in, acted, obeyed, obey_line, or_refused, Obeyed};
+ghost use Rattle.bus_node.specs.Acting.{due_text, first_of, next_due, state_line, commanded, time_in, acted, obeyed, obey_line, or_refused, Obeyed};
 
 use crate::node::Node;
 use crate::time::due_up_to;
@@ -56,6 +56,21 @@ fn put_due(out: &mut Vec<u8>, due: Option<u64>) -> Result<(), AllocError>
     }
 }
 
+/// The earlier of a tick, if there is one, and another, of which the last says none.
+fn first_of(due: Option<u64>, wake: u64) -> Option<u64>
+    ensures { result ≡ first_of due wake }
+{
+    match due {
+        Some(tick) => Some(tick.min(wake)),
+        None => {
+            if wake == u64::MAX {
+                return None;
+            }
+            Some(wake)
+        }
+    }
+}
+
 /// The time that a line says, in microseconds.
 fn time_in(line: &NodeLine) -> Option<u64>
     ensures { result ≡ time_in line.now }
@@ -69,12 +84,20 @@ fn time_in(line: &NodeLine) -> Option<u64>
 }
 
 impl Node {
+    // The tick at which the next timer is due or a destination no longer rests.
+    fn next_due(&self) -> Option<u64>
+        ensures { result ≡ next_due self.now }
+    {
+        let wake = self.rests.wakes(self.segment.now(), u64::MAX);
+        first_of(due_up_to(&self.segment, u64::MAX), wake)
+    }
+
     // The line of its state.
     #[tactic(auto, unfolding(crate::specs::Acting::state_line))]
     fn print_state(&mut self) -> Result<(), AllocError>
         ensures { OnOk result (self.new ≡ told self.old (state_line self.old)) }
     {
-        let due = due_up_to(&self.segment, u64::MAX);
+        let due = self.next_due();
         self.text.extend_from_slice(b"state ")?;
         put_decimal(&mut self.text, self.segment.now())?;
         self.text.push(b' ')?;

@@ -5,6 +5,7 @@
 mod acting;
 mod node;
 mod putting;
+mod rests;
 mod running;
 mod time;
 

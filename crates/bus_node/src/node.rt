@@ -3,8 +3,9 @@ ghost use Rattle.std.specs.Prelude.{◌≡◌, ◌∷◌, ◌++◌, ◌↔◌, [
 ghost use Rattle.segment_law.specs.Segment.{are_addresses};
 ghost use Rattle.segment_law.specs.Calls.{events_of};
 ghost use Rattle.script_text.specs.Replies.{event_lines, reply_line};
-ghost use Rattle.bus_node.specs.Node.{new_node, cleared, called, asked};
+ghost use Rattle.bus_node.specs.Node.{new_node, cleared, rested_by, called, asked};
 
+use crate::rests::Rests;
 use bus_frame::Frame;
 use log_text::Iface;
 use pgn_ids::Address;
@@ -20,6 +21,9 @@ pub struct Node {
     pub(crate) station: Address,
     /// The interface that the frames which it puts are shown on.
     pub(crate) iface: Iface,
+    /// For how many ticks a destination rests after a connection to it failed.
+    pub(crate) quiet: u64,
+    pub(crate) rests: Rests,
     /// The first time that was seen, in microseconds: that of tick 0.
     pub(crate) start: Option<u64>,
     /// The frames that it put and that the bus hasn't shown since, at most 256, the oldest first.
@@ -43,11 +47,16 @@ impl Model for Node {
 
 impl Node {
     /// A node with a station of this address, 0 to 253, whose frames are shown on an interface: its clock stands at tick 0, no port is open,
-    /// and nothing was done yet.
+    /// and nothing was done yet. After a connection to a destination failed, nothing of a message is sent to it for `quiet` ticks.
     ///
     /// Refused as `BadAddresses` exactly where the address is 254 or 255, and else as `OutOfMemory` where memory is refused.
-    pub fn new(alloc: Global, address: Address, iface: Iface) -> Result<Node, NewRefused>
-        ensures ok { IfOk result (λ node. node ≡ new_node address iface) }
+    pub fn new(
+        alloc: Global,
+        address: Address,
+        iface: Iface,
+        quiet: u64,
+    ) -> Result<Node, NewRefused>
+        ensures ok { IfOk result (λ node. node ≡ new_node address iface quiet) }
         ensures bad { IsErrOf result NewRefused.BadAddresses ↔ (are_addresses (address ∷ []) ≡ false) }
     {
         let segment = Segment::new(alloc, &[address])?;
@@ -55,6 +64,8 @@ impl Node {
             segment,
             station: address,
             iface,
+            quiet,
+            rests: Rests::none(),
             start: None,
             unseen: Vec::new(alloc),
             silent_until: 0,
@@ -76,15 +87,19 @@ impl Node {
         self.text.as_slice()
     }
 
-    // What a call told stands behind the rest.
+    // What a call told stands behind the rest, and the destinations of connections that failed rest.
     fn tell(&mut self, reply: Reply) -> Result<(), AllocError>
-        ensures { OnOk result (self.new ≡ record self.old { text = self.old.text ++ event_lines (events_of reply) }) }
+        ensures { OnOk result (self.new ≡ record self.old { rests = rested_by self.old self.old.segment reply; text = self.old.text ++ event_lines (events_of reply) }) }
     {
         match reply {
             Reply::Opened(_) => Ok(()),
             Reply::Sent(_) => Ok(()),
             Reply::Refused(_) => Ok(()),
-            Reply::Done(events) => print_events(&mut self.text, events),
+            Reply::Done(events) => {
+                let until = self.segment.now().saturating_add(self.quiet);
+                self.rests.rest_after(until, &events);
+                print_events(&mut self.text, events)
+            }
         }
     }
 

@@ -1,6 +1,6 @@
 //! How the time goes on, and what is done meanwhile without a command.
 ghost use Rattle.std.specs.Prelude.{◌≡◌, ◌+◌, ◌<◌, ◌≤◌, ◌^◌, IfOk, OnOk};
-ghost use Rattle.bus_node.specs.Time.{due_below, is_not_yet, is_pacing, horizon, at_tick, waited, pumped, step, go_on, most_steps, settled, started, tick_at, at_time, Stepped};
+ghost use Rattle.bus_node.specs.Time.{due_below, is_not_yet, is_pacing, horizon, may_pump, next_lane, at_tick, waited, pumped, step, go_on, most_steps, settled, started, tick_at, at_time, Stepped};
 
 use crate::node::Node;
 use pgn_ids::Address;
@@ -56,7 +56,49 @@ impl Node {
         if self.is_pacing() && now < target {
             return now + 1;
         }
-        target
+        self.rests.wakes(now, target)
+    }
+
+    // Whether a frame can be queued to a destination that doesn't rest.
+    fn may_pump(&self, to: Address) -> bool
+        ensures { result ≡ may_pump self.now to.0 }
+    {
+        let station = self.station;
+        let refusal = self.segment.refusal(&Call::Pump { station, to });
+        refusal.is_none() && !self.rests.is_at_rest(self.segment.now(), to)
+    }
+
+    // The lowest of them all, where the lowest that a frame can be queued to rests.
+    fn lane_awake(&self) -> Option<Address>
+        ensures { result ≡ next_lane self.now }
+    {
+        let mut number = 0u8;
+        loop {
+            let to = Address(number);
+            if self.may_pump(to) {
+                return Some(to);
+            }
+            if number == u8::MAX {
+                return None;
+            }
+            number += 1;
+        }
+    }
+
+    // The lowest destination that a frame can be queued to and that doesn't rest.
+    #[tactic(auto, using(crate::proofs::Lanes::next_none, crate::proofs::Lanes::next_awake))]
+    fn next_lane(&self) -> Option<Address>
+        ensures { result ≡ next_lane self.now }
+    {
+        match self.segment.next_pump(self.station) {
+            None => None,
+            Some(to) => {
+                if self.rests.is_at_rest(self.segment.now(), to) {
+                    return self.lane_awake();
+                }
+                Some(to)
+            }
+        }
     }
 
     // The clock goes on to a tick.
@@ -94,7 +136,7 @@ impl Node {
             self.put(frame)?;
             return Ok(true);
         }
-        if let Some(to) = self.segment.next_pump(station) {
+        if let Some(to) = self.next_lane() {
             self.call(Call::Pump { station, to })?;
             return Ok(true);
         }

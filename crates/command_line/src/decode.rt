@@ -19,10 +19,10 @@ pub struct OfLog {
 }
 
 /// The longest message that a transport carries, in bytes.
-const MOST: u32 = 117_440_505;
+pub(crate) const MOST: u32 = 117_440_505;
 
 /// The highest number of 18 bits.
-const PGN_MOST: u32 = 0x3_FFFF;
+pub(crate) const PGN_MOST: u32 = 0x3_FFFF;
 
 /// The highest address, which as a destination is all.
 const ADDRESS_MOST: u32 = 0xFF;

@@ -9,7 +9,7 @@ use clap::{Arg, ArgAction, Command, Error, value_parser};
 pub use decode::OfLog;
 use decode::{decode_command, read_decode};
 use draw::draw_command;
-pub use node::OfNode;
+pub use node::{OfNode, OfPort};
 use node::{node_command, read_node};
 use std::alloc::{AllocError, Global};
 

@@ -1,8 +1,17 @@
 //! The words of `node`.
-use crate::decode::hexadecimal;
+use crate::decode::{MOST, PGN_MOST, hexadecimal};
 use clap::error::ErrorKind;
-use clap::{Arg, ArgAction, ArgMatches, Command, Error};
+use clap::{Arg, ArgAction, ArgMatches, Command, Error, value_parser};
 use std::alloc::{AllocError, Global};
+
+/// A port that a node opens before it reads a line.
+#[derive(Clone, Copy, Debug, PartialEq, Eq)]
+pub struct OfPort {
+    /// The PGN of its messages, of 18 bits.
+    pub pgn: u32,
+    /// The longest message that it takes, in bytes.
+    pub most: u32,
+}
 
 /// Which node is asked for.
 #[derive(Debug, PartialEq, Eq, Drop)]
@@ -11,10 +20,17 @@ pub struct OfNode {
     pub address: u8,
     /// The interface that is named with the frames which it puts.
     pub interface: String,
+    /// The ports that are open before a line is read, in their order.
+    pub ports: Vec<OfPort>,
+    /// For how many milliseconds nothing is queued to a destination after a connection to it failed.
+    pub quiet: u64,
 }
 
 /// The highest address of a node.
 const ADDRESS_MOST: u32 = 0xFD;
+
+/// The quiet after a failed connection where none is named, in milliseconds.
+const QUIET: u64 = 700;
 
 /// The interface where none is named.
 const INTERFACE: &str = "can0";
@@ -29,7 +45,7 @@ lines of these commands:
   close N, pause N, resume N, cancel TO N, counts, state
 What a line makes the station put on the bus is written as put and a line of a
 log, what it is given and how its messages end as in a script, before the next
-line is read.
+line is read. A port of --port is open before the first line.
 
 Example:
   printf '%s\\n' 'open FECA 1785' 'send 21 FECA 010203040506070809' \\
@@ -53,11 +69,57 @@ pub(crate) fn node_command<'a>(alloc: Global) -> Result<Command<'a>, AllocError>
         .value_name("NAME")
         .action(ArgAction::Set)
         .help("Interface that is named with the frames put [default: can0]");
+    let ports = Arg::new(alloc, "port")
+        .long("port")
+        .value_name("PGN[:MAX]")
+        .action(ArgAction::Append)
+        .help("Opens a port first, as the line open PGN MAX does [default MAX: 117440505]");
+    let quiet = Arg::new(alloc, "quiet")
+        .long("quiet")
+        .value_name("MS")
+        .action(ArgAction::Set)
+        .value_parser(value_parser!(u64).range(0..=10_000))
+        .help("Milliseconds of rest after a failed connection, 0 to 10000 [default: 700]");
     Command::new(alloc, "node")
         .about("Is one station on a real bus, whose frames are read from standard input")
         .after_help(NODE_HELP)
         .arg(address)?
-        .arg(interface)
+        .arg(interface)?
+        .arg(ports)?
+        .arg(quiet)
+}
+
+/// The port that a word writes, where it is one.
+fn port(word: &str) -> Option<OfPort> {
+    let Some((pgn, most)) = word.split_once(':') else {
+        return Some(OfPort {
+            pgn: hexadecimal(word, PGN_MOST)?,
+            most: MOST,
+        });
+    };
+    Some(OfPort {
+        pgn: hexadecimal(pgn, PGN_MOST)?,
+        most: most.parse::<u32>().ok()?,
+    })
+}
+
+/// The ports that are named; where a word writes none, that word is refused.
+fn ports<'a>(
+    alloc: Global,
+    command: &mut Command<'a>,
+    matches: &ArgMatches<'a>,
+) -> Result<Vec<OfPort>, Error> {
+    let mut ports = Vec::new(alloc);
+    for word in matches.get_strs("port").unwrap_or(&[]) {
+        let Some(port) = port(*word) else {
+            let text = format!(in alloc;
+                "invalid value '{word}' for '--port': not a PGN of up to 3FFFF, hexadecimal, with :MAX bytes or without"
+            )?;
+            return Err(command.error(ErrorKind::ValueValidation, text.as_str())?);
+        };
+        ports.push(port)?;
+    }
+    Ok(ports)
 }
 
 /// What its words ask for.
@@ -77,6 +139,8 @@ pub(crate) fn read_node<'a>(
     Ok(OfNode {
         address,
         interface: format!(in alloc; "{name}")?,
+        ports: ports(alloc, command, matches)?,
+        quiet: matches.get_one::<u64>("quiet").unwrap_or(QUIET),
     })
 }
 

@@ -13,7 +13,7 @@ use bus_live::{Gate, run_live};
 use bus_node::{Node, run_node};
 use bus_relay::run_relay;
 use bus_script::{run_logged, run_script};
-use command_line::{Asked, OfLog, OfNode, read_command_line};
+use command_line::{Asked, OfLog, OfNode, OfPort, read_command_line};
 use log_text::Iface;
 use pgn_ids::Address;
 use script_drawing::draw_script;
@@ -131,6 +131,17 @@ fn decode<R: Input + Print + Eprint + AllocGlobal>(rt: &R, asked: &OfLog) -> io:
     Ok(ExitCode::from(decoded.status()))
 }
 
+/// The lines that open a node's ports.
+fn opening(alloc: Global, ports: &[OfPort]) -> Result<Vec<u8>, AllocError> {
+    let mut lines = Vec::new(alloc);
+    for port in ports {
+        let OfPort { pgn, most } = *port;
+        let line = format!(in alloc; "open {pgn:X} {most}\n")?;
+        lines.extend_from_slice(line.as_bytes())?;
+    }
+    Ok(lines)
+}
+
 /// Is a station on the bus whose frames standard input has.
 fn node<R: Input + Print + Eprint + AllocGlobal>(rt: &R, asked: &OfNode) -> io::Result<ExitCode> {
     let alloc = rt.alloc();
@@ -138,12 +149,19 @@ fn node<R: Input + Print + Eprint + AllocGlobal>(rt: &R, asked: &OfNode) -> io::
         eprintln!(rt; "error: an interface has a name of 1 to 15 printable characters")?;
         return Ok(ExitCode::from(2));
     };
-    let Ok(mut station) = Node::new(alloc, Address(asked.address), iface) else {
+    let Ok(mut station) = Node::new(alloc, Address(asked.address), iface, asked.quiet) else {
         eprintln!(rt; "out of memory")?;
         return Ok(ExitCode::from(1));
     };
     let mut reader = BufReader::new(alloc, rt.reader())?;
     let mut writer = BufWriter::new(alloc, io::writer(rt))?;
+    let lines = opening(alloc, asked.ports.as_slice())?;
+    let mut opened = lines.as_slice();
+    let ran = run_node(alloc, &mut station, &mut opened, &mut writer);
+    if let Some(fault) = ran.fault {
+        eprintln!(rt; "{fault}")?;
+        return Ok(ExitCode::from(ran.status()));
+    }
     let ran = run_node(alloc, &mut station, &mut reader, &mut writer);
     if let Some(fault) = ran.fault {
         eprintln!(rt; "{fault}")?;

@@ -9,7 +9,7 @@ use std::test::Fail;
 // A node of address 21 on can0.
 fn node(rt: &impl Abort, alloc: Global) -> Result<Node, Fail> {
     let iface = Iface::new(b"can0").expect(rt, "a name");
-    match Node::new(alloc, Address(0x21), iface) {
+    match Node::new(alloc, Address(0x21), iface, 700) {
         Ok(node) => Ok(node),
         Err(_) => Err(Fail::from(AllocError)),
     }
@@ -185,5 +185,54 @@ fn commands_are_answered(rt: HostRuntime) -> Result<(), Fail> {
         &mut node,
         b"cancel 35 1\n\nopen FFFFF 9",
         b"refused 21 NothingToSend\nrefused 3 BadPgn\n",
+    )
+}
+
+// A message to 35 is begun, another to it waits, and 35 aborts the first. The lane is in doubt then: a Request comes first.
+fn is_aborted(rt: &impl Abort, alloc: Global, node: &mut Node) -> Result<(), Fail> {
+    tells(rt, alloc, node, b"now 1700000000.000000", b"")?;
+    tells(
+        rt,
+        alloc,
+        node,
+        b"send 35 FECA 010203040506070809",
+        b"sent 1\nput (1700000000.000000) can0 1CEC3521#10090002FFCAFE00\n",
+    )?;
+    tells(
+        rt,
+        alloc,
+        node,
+        b"send 35 FECB 010203040506070809",
+        b"sent 2\n",
+    )?;
+    tells(
+        rt,
+        alloc,
+        node,
+        b"(1700000000.010000) can0 1CEC2135#FF01FFFFFFCAFE00",
+        b"  outcome 21 35 1 Aborted 1\n",
+    )
+}
+
+#[test]
+fn nothing_is_sent_for_a_while_after_a_failed_connection(rt: HostRuntime) -> Result<(), Fail> {
+    let alloc = rt.alloc();
+    let mut node = node(&rt, alloc)?;
+    is_aborted(&rt, alloc, &mut node)?;
+    tells(&rt, alloc, &mut node, b"state", b"state 10 0 710\n")?;
+    tells(
+        &rt,
+        alloc,
+        &mut node,
+        b"send 36 FECA 010203040506070809",
+        b"sent 1\nput (1700000000.010000) can0 1CEC3621#10090002FFCAFE00\n",
+    )?;
+    tells(&rt, alloc, &mut node, b"now 1700000000.709999", b"")?;
+    tells(
+        &rt,
+        alloc,
+        &mut node,
+        b"now 1700000000.720000",
+        b"put (1700000000.710000) can0 18EA3521#00EC00\n",
     )
 }

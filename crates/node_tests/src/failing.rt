@@ -10,7 +10,7 @@ use std::test::Fail;
 
 // A node of address 21 on bus0.
 fn node(alloc: Global) -> Result<Node, Fail> {
-    match Node::new(alloc, Address(0x21), Iface::bus0()) {
+    match Node::new(alloc, Address(0x21), Iface::bus0(), 0) {
         Ok(node) => Ok(node),
         Err(_) => Err(Fail::from(AllocError)),
     }

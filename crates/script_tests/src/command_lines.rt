@@ -2,7 +2,7 @@
 //! answered by a text.
 mod logs;
 
-use command_line::{Asked, OfNode, read_command_line};
+use command_line::{Asked, OfNode, OfPort, read_command_line};
 use std::alloc::{AllocError, Global};
 use std::process::Abort;
 use std::test::Fail;
@@ -70,8 +70,46 @@ fn a_node_is_asked_for_by_its_address(rt: HostRuntime) -> Result<(), Fail> {
     let node = Asked::Node(OfNode {
         address: 0x2A,
         interface: format!(in alloc; "can0")?,
+        ports: Vec::new(alloc),
+        quiet: 700,
     });
     asks(&rt, alloc, &["j1939bus", "node", "2a"], &node)
+}
+
+#[test]
+fn a_node_is_asked_for_with_its_ports_and_its_quiet(rt: HostRuntime) -> Result<(), Fail> {
+    let alloc = rt.alloc();
+    let mut ports = Vec::new(alloc);
+    ports.push(OfPort {
+        pgn: 0xFECA,
+        most: 117_440_505,
+    })?;
+    ports.push(OfPort {
+        pgn: 0xEF00,
+        most: 1785,
+    })?;
+    let node = Asked::Node(OfNode {
+        address: 0x2A,
+        interface: format!(in alloc; "vcan0")?,
+        ports,
+        quiet: 0,
+    });
+    let words = [
+        "j1939bus",
+        "node",
+        "--port",
+        "FECA",
+        "--port",
+        "ef00:1785",
+        "--quiet",
+        "0",
+        "2A",
+        "--interface",
+        "vcan0",
+    ];
+    asks(&rt, alloc, &words, &node)?;
+    let word = ["j1939bus", "node", "2A", "--port", "FECA:"];
+    tells(&rt, alloc, &word, "'FECA:' for '--port'")
 }
 
 fn refuses_turns(rt: &impl Abort, alloc: Global, turns: &str, told: &str) -> Result<(), Fail> {

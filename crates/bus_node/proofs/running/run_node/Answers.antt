@@ -1,4 +1,4 @@
-use Rattle.bus_node.proofs.RunSteps.{at_end, at_fault, at_line, at_no_line, at_error, at_write, faulty_long, faulty_line, too_many, keeps_same, reads_as, was_told}
+use Rattle.bus_node.proofs.RunSteps.{at_end, at_fault, at_line, at_error, at_write, faulty_long, faulty_line, too_many, keeps_same, reads_as, was_told}
 use Rattle.bus_node.proofs.running.run_node.Goals as goal
 
 pub returns-in-Ok-End : goal.returns-in-Ok-End
