@@ -131,7 +131,7 @@ fn run<R: Threads + Wait + Sync, G: Gate + Sync>(
     let (live, ends, drained) = run_threads(
         rt,
         alloc,
-        live,
+        live.into_live(),
         stations.as_slice(),
         inboxes,
         messages.as_slice(),

@@ -12,6 +12,7 @@ use Rattle.segment_shared.specs.declared.call.Stored.{Stored}
 use Rattle.segment_shared.specs.declared.report.ClientReport.{ClientReport}
 use Rattle.segment_shared.specs.declared.report.InboxReport.{InboxReport}
 use Rattle.segment_shared.specs.LiveView.{LiveView}
+use Rattle.segment_shared.proofs.Uncut.{left_uncut}
 use Rattle.segment_shared.specs.Record.{accepted, given, notes_of, trail}
 use Rattle.segment_shared.specs.Reports.{AreClientReports, AreInboxReports}
 use Rattle.segment_shared.proofs.Prefixes.{prefix_length}
@@ -73,26 +74,26 @@ none_next r rs h = by (nat_lt 0 (length r.left.items)) h
 Accounted : LiveView → ClientEnd → List ClientReport → Type 0
 Accounted v c rs = (left : List Submission) × (c.submitted ≡ accepted c.id v.calls ++ left) × (none_left rs ≡ true → left ≡ [])
 
-last_client : (v : LiveView) (cs : List ClientEnd) (c : ClientEnd) (rs : List ClientReport) → AreClientReports v (cs ++ c ∷ []) rs → Accounted v c rs
+last_client : (v : LiveView) (cs : List ClientEnd) (c : ClientEnd) (rs : List ClientReport) → v.pieces ≡ [] → AreClientReports v (cs ++ c ∷ []) rs → Accounted v c rs
 unfolding Accounted
-last_client v [] c [] h = absurd h
-last_client v [] c (r ∷ rs) h = (r.left.items, h.0.left, none_first r rs)
-last_client v (d ∷ cs) c [] h = absurd h
-last_client v (d ∷ cs) c (r ∷ rs) h = let rest = last_client v cs c rs h.1 in (rest.0, rest.1, λ e. rest.2 (none_next r rs e))
+last_client v [] c [] uncut h = absurd h
+last_client v [] c (r ∷ rs) uncut h = (r.left.items, left_uncut v c r uncut h.0, none_first r rs)
+last_client v (d ∷ cs) c [] uncut h = absurd h
+last_client v (d ∷ cs) c (r ∷ rs) uncut h = let rest = last_client v cs c rs uncut h.1 in (rest.0, rest.1, λ e. rest.2 (none_next r rs e))
 
-accounts : (a : LiveView) (cs ds : List ClientEnd) (c : ClientEnd) (rs : List ClientReport) → AreClientReports a ds rs → ds ≡ cs ++ c ∷ [] → Accounted a c rs
-accounts a cs ds c rs reports ends = last_client a cs c rs (subst (λ (xs : List ClientEnd). AreClientReports a xs rs) ends reports)
+accounts : (a : LiveView) (cs ds : List ClientEnd) (c : ClientEnd) (rs : List ClientReport) → a.pieces ≡ [] → AreClientReports a ds rs → ds ≡ cs ++ c ∷ [] → Accounted a c rs
+accounts a cs ds c rs uncut reports ends = last_client a cs c rs uncut (subst (λ (xs : List ClientEnd). AreClientReports a xs rs) ends reports)
 
-pub at_client : (a : LiveView) (calls : List Stored) (cs ds : List ClientEnd) (c : ClientEnd) (rs : List ClientReport) → calls ≡ a.calls → AreClientReports a ds rs → ds ≡ cs ++ c ∷ [] → IsPrefix (accepted c.id calls) c.submitted
+pub at_client : (a : LiveView) (calls : List Stored) (cs ds : List ClientEnd) (c : ClientEnd) (rs : List ClientReport) → a.pieces ≡ [] → calls ≡ a.calls → AreClientReports a ds rs → ds ≡ cs ++ c ∷ [] → IsPrefix (accepted c.id calls) c.submitted
 unfolding Accounted
-at_client a calls cs ds c rs same_calls reports ends =
-    let told = accounts a cs ds c rs reports ends in
+at_client a calls cs ds c rs uncut same_calls reports ends =
+    let told = accounts a cs ds c rs uncut reports ends in
     (told.0, ap (λ (xs : List Stored). accepted c.id xs ++ told.0) same_calls ∙ sym told.1)
 
-pub at_all_accepted : (a : LiveView) (calls : List Stored) (cs ds : List ClientEnd) (c : ClientEnd) (rs us : List ClientReport) (all : Bool) → calls ≡ a.calls → AreClientReports a ds rs → ds ≡ cs ++ c ∷ [] → all ≡ none_left us → us ≡ rs → all ≡ true → accepted c.id calls ≡ c.submitted
+pub at_all_accepted : (a : LiveView) (calls : List Stored) (cs ds : List ClientEnd) (c : ClientEnd) (rs us : List ClientReport) (all : Bool) → a.pieces ≡ [] → calls ≡ a.calls → AreClientReports a ds rs → ds ≡ cs ++ c ∷ [] → all ≡ none_left us → us ≡ rs → all ≡ true → accepted c.id calls ≡ c.submitted
 unfolding Accounted
-at_all_accepted a calls cs ds c rs us all same_calls reports ends is same is_all =
-    let told = accounts a cs ds c rs reports ends in
+at_all_accepted a calls cs ds c rs us all uncut same_calls reports ends is same is_all =
+    let told = accounts a cs ds c rs uncut reports ends in
     let none : told.0 ≡ [] = told.2 (ap none_left (sym same) ∙ sym is ∙ is_all) in
     ap (λ (xs : List Stored). accepted c.id xs) same_calls ∙ sym (told.1 ∙ ap (λ (ss : List Submission). accepted c.id a.calls ++ ss) none ∙ append-nil (accepted c.id a.calls))
 

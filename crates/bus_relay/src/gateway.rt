@@ -9,9 +9,9 @@ ghost use Rattle.bus_relay.specs.Gateway.{plans_of, first_plans, with_second, Do
 use pgn_ids::{Address, Pgn};
 use port_table::PortId;
 use script_commands::{Fault, LineError, RouteWords, is_ascii, read_route, split_words};
-use script_setup::{Message, Setup};
+use script_setup::{Message, Setup, Uncut};
 use segment_law::{Call, Refusal};
-use segment_shared::{Inbox, Live, Stored};
+use segment_shared::{Inbox, Stored};
 use std::alloc::Global;
 use std::mem;
 
@@ -169,7 +169,7 @@ fn refuse(alloc: Global, gateway: &mut Gateway, cause: Refusal) -> Result<(), Li
 }
 
 // Where a route leads to the second segment, or why it leads nowhere.
-fn passage_of(first: &Setup, second: &Live, words: RouteWords) -> Result<Passage, Refusal>
+fn passage_of(first: &Setup, second: &Uncut, words: RouteWords) -> Result<Passage, Refusal>
     ensures { result ≡ passage_of (plan_of first.now) second.now.addresses words }
 {
     let Some(pgn) = port_pgn(first, words.port) else {

@@ -34,7 +34,7 @@ pub(crate) fn part_of(setup: Setup) -> Result<Part, Lost>
         return Err(Lost::NotThisSegment);
     };
     Ok(Part {
-        live,
+        live: live.into_live(),
         inboxes,
         messages,
     })

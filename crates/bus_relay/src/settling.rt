@@ -22,6 +22,7 @@ use std::alloc::{AllocError, Global};
 fn report(live: &mut Live, clients: Vec<Client>, inboxes: Vec<Inbox>) -> Result<Report, Lost>
     ensures clients { IfOk result (λ r. AreClientReports live.old clients.items r.clients.items) }
     ensures inboxes { IfOk result (λ r. AreInboxReports live.old inboxes.items r.inboxes.items) }
+    ensures cuts { IfOk result (λ r. r.cuts ≡ length live.old.pieces) }
     ensures addresses { OnOk result (live.new.addresses ≡ live.old.addresses) }
     ensures calls { OnOk result (live.new.calls ≡ live.old.calls) }
 {
@@ -76,6 +77,10 @@ fn report_far(live: &mut Live, ends: Ends, client: Client) -> Result<bool, Lost>
     let Ends { clients, inboxes } = ends;
     let clients = with_last(clients, client)?;
     let told = report(live, clients, inboxes)?;
+    // Of a segment that was cut, nothing is told of what was accepted before.
+    if told.cuts > 0 {
+        return Err(Lost::NotThisSegment);
+    }
     let is_all = is_none_left(told.clients.as_slice());
     Ok(is_all)
 }

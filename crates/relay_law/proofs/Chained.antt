@@ -13,6 +13,7 @@ use Rattle.segment_rings.specs.Ends.{ClientEnd, InboxEnd, new_client_end, new_in
 use Rattle.segment_shared.specs.declared.report.ClientReport.{ClientReport}
 use Rattle.segment_shared.specs.declared.report.InboxReport.{InboxReport}
 use Rattle.segment_shared.specs.LiveView.{LiveView}
+use Rattle.segment_shared.proofs.Uncut.{left_uncut}
 use Rattle.segment_shared.specs.Record.{accepted, given, trail}
 use Rattle.port_relay.specs.declared.relaying.Relayed.{Relayed}
 use Rattle.port_relay.specs.Working.{relayed_to}
@@ -51,7 +52,7 @@ module _ (to : Address) (near far : LiveView) (i : InboxEnd) (c : ClientEnd) (x 
   taken = accepted c.id far.calls
 
   submitted_all : map delivered relayed ≡ map submitted taken ++ map submitted y.left.items
-  submitted_all = sym (same_messages to h.fed.relayed) ∙ ap (λ ss. map submitted ss) (sym h.fed.submits ∙ h.client.left) ∙ map-append submitted taken y.left.items
+  submitted_all = sym (same_messages to h.fed.relayed) ∙ ap (λ ss. map submitted ss) (sym h.fed.submits ∙ left_uncut far c y h.uncut h.client) ∙ map-append submitted taken y.left.items
 
   module _ (p : PortId) where
     abbrev got : List Message

@@ -1,5 +1,5 @@
 -- Two segments, and a client of the second that relays feed from an inbox of the first.
-use Rattle.std.specs.Prelude.{◌≡◌, ℕ, Bool, List, map, filter}
+use Rattle.std.specs.Prelude.{◌≡◌, ℕ, Bool, List, [], map, filter}
 use Rattle.pgn_ids.specs.declared.address.Address.{Address}
 use Rattle.port_table.specs.declared.port.PortId.{PortId}
 use Rattle.segment_law.specs.Headline.{Headline, IsStationOf}
@@ -47,7 +47,7 @@ RelaysFeed = (to : Address) (limit : ℕ) (i j : InboxEnd) (c d : ClientEnd) (r 
 abbrev pub IsOnlySender : LiveView → ClientEnd → (to : Address) → Type 0
 IsOnlySender v c to = told.sent (trail v.addresses v.calls).steps c.station to ≡ map submitted (accepted c.id v.calls)
 
--- a first segment with a report on an inbox, and a second one with a report on a client that is fed from it
+-- a first segment with a report on an inbox, and a second one, of which nothing was cut, with a report on a client that is fed from it
 pub record IsGateway (to : Address) (near far : LiveView) (i : InboxEnd) (c : ClientEnd) (x : InboxReport) (y : ClientReport) : Type 0 where
   pub near_headline : Headline near.addresses (trail near.addresses near.calls).steps
   pub far_headline : Headline far.addresses (trail far.addresses far.calls).steps
@@ -55,6 +55,7 @@ pub record IsGateway (to : Address) (near far : LiveView) (i : InboxEnd) (c : Cl
   pub client : IsClientReport far c y
   pub station : IsStationOf far.addresses c.station
   pub only : IsOnlySender far c to
+  pub uncut : far.pieces ≡ []
   pub fed : IsFed to i c
 
 -- what port p of the second segment was given of the client's lane: a choice of what the first segment gave to the inbox; and of one

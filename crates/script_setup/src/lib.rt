@@ -4,6 +4,8 @@
 
 mod obeying;
 mod setup;
+mod uncut;
 
 pub use obeying::{obey_line, obey_words};
 pub use setup::{Message, Setup};
+pub use uncut::Uncut;

@@ -5,11 +5,12 @@ ghost use Rattle.script_commands.specs.Words.{texts};
 ghost use Rattle.script_setup.specs.Plan.{plan_of, Done, FewCalls, is_known, made_by, opened_by, sent_by, called_by, value_refused, performed_by, counted_by, obeyed_words, obeyed_line};
 
 use crate::setup::{Message, Setup};
+use crate::uncut::Uncut;
 use pgn_ids::{Address, Pgn};
 use script_commands::{Command, Fault, LineError, is_ascii, read_command, split_words};
 use segment_law::{Call, Refusal};
 use segment_rings::submit_refusal;
-use segment_shared::{Live, NotMade};
+use segment_shared::NotMade;
 use std::alloc::Global;
 
 /// The most stations of a script, and the most lines that ask for a message.
@@ -27,7 +28,7 @@ fn make(alloc: Global, setup: &mut Setup, addresses: &[Address]) -> Result<(), L
     if setup.live.is_some() {
         return Err(LineError::Fault(Fault::StationsTwice));
     }
-    match Live::new(alloc, addresses) {
+    match Uncut::new(alloc, addresses) {
         Ok(live) => {
             setup.live = Some(live);
             Ok(())

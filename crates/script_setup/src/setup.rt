@@ -2,11 +2,12 @@
 ghost use Rattle.std.specs.Prelude.{◌≡◌};
 ghost use Rattle.script_setup.specs.Plan.{plan_of, first_plan, Done, refused_by};
 
+use crate::uncut::Uncut;
 use pgn_ids::{Address, Pgn};
 use script_commands::LineError;
 use script_text::print_refused;
 use segment_law::Refusal;
-use segment_shared::{Bytes, Inbox, Live};
+use segment_shared::{Bytes, Inbox};
 use std::alloc::Global;
 
 /// A message that the thread of a station is to submit.
@@ -22,7 +23,7 @@ pub struct Message {
 /// of what was refused.
 #[derive(Drop)]
 pub struct Setup {
-    pub live: Option<Live>,
+    pub live: Option<Uncut>,
     pub inboxes: Vec<Inbox>,
     pub sends: u64,
     pub messages: Vec<Message>,

@@ -2,14 +2,15 @@
 //! list of all that went through it.
 //!
 //! A client pushes submissions and pops notes; its seat is the other end of both rings. An inbox pops deliveries; its door
-//! pushes them. Nothing above this crate sees a ring. Nothing here takes a lock; only `outcome` and `receive` wait, for so many
-//! turns at most.
+//! pushes them. An outlet has both ends of its ring, so that contracts see all that a struct gave away. Nothing above this crate
+//! sees a ring. Nothing here takes a lock; only `outcome` and `receive` wait, for so many turns at most.
 #![tactic(auto)]
 
 mod buffer;
 mod client;
 mod door;
 mod inbox;
+mod outlet;
 mod seat;
 mod words;
 
@@ -17,5 +18,6 @@ pub use buffer::Buffer;
 pub use client::{Client, SubmitRefused, submit_refusal};
 pub use door::{Door, Doorway};
 pub use inbox::Inbox;
+pub use outlet::Outlet;
 pub use seat::{Offer, Seat};
 pub use words::{Delivery, Note, RING_PLACES, Submission};

@@ -114,7 +114,7 @@ impl Seat {
     /// Takes the submission in front.
     pub fn take(&mut self) -> Submission
         requires waits { 0 < length self.old.ahead }
-        requires room { length self.old.popped < 2 ^ 32 }
+        requires room { length self.old.popped + 1 < 2 ^ 64 }
         ensures front { self.old.ahead ≡ result ∷ self.new.ahead }
         ensures same { self.new ≡ popped_one self.old result self.new.ahead }
     {

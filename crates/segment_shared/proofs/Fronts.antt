@@ -1,5 +1,5 @@
 -- What is found at a client's seat is what the segment shows of this client: its lists are those of the seats, place by place.
-use Rattle.std.proofs.Common.{◌≡◌, ℕ, ◌<◌, ◌≤◌, List, [], length, map, get_or, false, Option, None, sym, ◌∙◌, ap, subst, inl, inr, arith, Bool}
+use Rattle.std.proofs.Common.{◌≡◌, ℕ, ◌<◌, ◌≤◌, List, [], length, map, get_or, false, Option, None, sym, ◌∙◌, ap, subst, inl, inr, arith}
 use Rattle.std.proofs.lemmas.List.{length-map, get_or-map}
 use Rattle.std.specs.Prelude.{slice_index, ◌⊎◌}
 use Rattle.pgn_ids.specs.declared.address.Address.{Address}
@@ -10,7 +10,7 @@ use Rattle.segment_shared.specs.declared.call.Stored.{Stored}
 use Rattle.segment_shared.specs.declared.call.Owed.{Owed}
 use Rattle.segment_shared.specs.declared.offer.Front.TheVariants as front
 use Rattle.segment_shared.specs.Record.{owed_by}
-use Rattle.segment_shared.specs.LiveView.{ClientView, live_view, client_of, seat_seen, seat_free}
+use Rattle.segment_shared.specs.LiveView.{ClientView, live_view, client_of, seat_seen, seat_free, Kept}
 use Rattle.segment_shared.specs.Offers.{IsWaiting, IsEmptyAt, WaitsAt, IsFrontIn, IsCauseFor, LacksRoomToSend}
 
 -- room was made for notes that are kept
@@ -28,18 +28,18 @@ same_seat-spare a b c h e m =
       spare = omega (arith, h.spare, m);
     }
 
-module _ (stopped : Bool) (addresses : List Address) (xs : List Stored) (ts : List SeatView) (ds : List DoorView) (k : ℕ) (s : SeatView) (l : k < length ts) where
+module _ (keeps : Kept) (addresses : List Address) (xs : List Stored) (ts : List SeatView) (ds : List DoorView) (k : ℕ) (s : SeatView) (l : k < length ts) where
   own : (v : ClientView) → get_or (map client_of ts) k v ≡ client_of (get_or ts k s)
   own v = get_or-map client_of ts k s v l
 
   seen : get_or (map seat_seen ts) k [] ≡ (get_or ts k s).ahead
   seen = get_or-map seat_seen ts k s [] l
 
-  pub empty_at : ((get_or ts k s).active ≡ false) ⊎ (length (get_or ts k s).ahead ≡ 0) → IsEmptyAt (live_view stopped addresses xs ts ds) k
+  pub empty_at : ((get_or ts k s).active ≡ false) ⊎ (length (get_or ts k s).ahead ≡ 0) → IsEmptyAt (live_view keeps addresses xs ts ds) k
   empty_at (inl e) = inr (inl (λ v. ap (λ (u : ClientView). u.active) (own v) ∙ e))
   empty_at (inr e) = inr (inr (ap length seen ∙ e))
 
-  pub waits_at : IsWaiting (get_or ts k s) → WaitsAt (live_view stopped addresses xs ts ds) k
+  pub waits_at : IsWaiting (get_or ts k s) → WaitsAt (live_view keeps addresses xs ts ds) k
   waits_at h = record {
     within = rw length-map l;
     active = λ v. ap (λ (u : ClientView). u.active) (own v) ∙ h.0;
@@ -50,22 +50,22 @@ module _ (stopped : Bool) (addresses : List Address) (xs : List Stored) (ts : Li
   free_is = get_or-map seat_free ts k s 0 l
 
 -- past the last seat there is no client
-pub none_at : (stopped : Bool) (addresses : List Address) (xs : List Stored) (ts : List SeatView) (ds : List DoorView) (k : ℕ) → length ts ≤ k → IsEmptyAt (live_view stopped addresses xs ts ds) k
-none_at stopped addresses xs ts ds k l = inl (rw length-map l)
+pub none_at : (keeps : Kept) (addresses : List Address) (xs : List Stored) (ts : List SeatView) (ds : List DoorView) (k : ℕ) → length ts ≤ k → IsEmptyAt (live_view keeps addresses xs ts ds) k
+none_at keeps addresses xs ts ds k l = inl (rw length-map l)
 
 -- nothing but memory is lacking for the submission in front
 
-module _ (st : Segment) (xs : List Stored) (ws : List Owed) (k : ℕ) where
+module _ (st : Segment) (n : ℕ) (ws : List Owed) (k : ℕ) where
   -- a submission waits, for which the segment has this cause to refuse it, or none
-  pub found_cause : (ts : List SeatView) (owed stored : ℕ) (o c : Option Cause) → owed ≡ owed_by k ws → length xs < 1000000 → IsFrontIn ts k owed stored front.Waits → ((s : SeatView) → IsCauseFor st (get_or ts k s) o) → o ≡ c
-      → IsFrontIn ts k (owed_by k ws) (length xs) front.Waits × ((s : SeatView) → IsCauseFor st (get_or ts k s) c)
-  found_cause ts owed stored o c n few f h is = (
-    (few, λ s. ((f.1 s).0, subst (λ (w : ℕ). w < (get_or ts k s).free) n (f.1 s).1)),
+  pub found_cause : (ts : List SeatView) (owed stored : ℕ) (o c : Option Cause) → owed ≡ owed_by k ws → n < 1000000 → IsFrontIn ts k owed stored front.Waits → ((s : SeatView) → IsCauseFor st (get_or ts k s) o) → o ≡ c
+      → IsFrontIn ts k (owed_by k ws) n front.Waits × ((s : SeatView) → IsCauseFor st (get_or ts k s) c)
+  found_cause ts owed stored o c same few f h is = (
+    (few, λ s. ((f.1 s).0, subst (λ (w : ℕ). w < (get_or ts k s).free) same (f.1 s).1)),
     λ s. subst (λ (u : Option Cause). IsCauseFor st (get_or ts k s) u) is (h s),
   )
 
   -- room was made for its note
-  pub lacks_kept : (ts us : List SeatView) → ((s : SeatView) → get_or us k s ≡ with_spare (get_or ts k s) (get_or us k s).spare) → LacksRoomToSend st xs ws ts k → LacksRoomToSend st xs ws us k
+  pub lacks_kept : (ts us : List SeatView) → ((s : SeatView) → get_or us k s ≡ with_spare (get_or ts k s) (get_or us k s).spare) → LacksRoomToSend st n ws ts k → LacksRoomToSend st n ws us k
   lacks_kept ts us e r = (
     (r.0.0, λ s. subst (λ (u : SeatView). IsWaiting u × (owed_by k ws < u.free)) (sym (e s)) (r.0.1 s)),
     λ s. subst (λ (u : SeatView). IsCauseFor st u None) (sym (e s)) (r.1 s),

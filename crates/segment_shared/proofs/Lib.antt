@@ -6,6 +6,8 @@ pub mod Doors
 pub mod Buffers
 pub mod Preparing
 pub mod Holding
+pub mod Pieces
+pub mod Replays
 pub mod Laws
 pub mod Fronts
 pub mod Sending
@@ -16,3 +18,4 @@ pub mod Applying
 pub mod Quiet
 pub mod Closings
 pub mod Openings
+pub mod Uncut

@@ -1,7 +1,6 @@
 -- A call that tells nothing: it is stored, and no ring changes.
-use Rattle.std.proofs.Common.{◌≡◌, ℕ, ◌<◌, Bool, true, false, List, [], ◌∷◌, ◌++◌, length, map, None, refl, sym, ap, ◌∙◌, subst}
+use Rattle.std.proofs.Common.{◌≡◌, ◌<◌, true, List, [], ◌∷◌, ◌++◌, length, map, None, refl, sym, ap, ◌∙◌, subst, ◌+◌, ◌^◌}
 use Rattle.pgn_ids.specs.declared.address.Address.{Address}
-use Rattle.port_table.specs.declared.port.PortId.{PortId}
 use Rattle.segment_law.specs.Segment.{Segment}
 use Rattle.segment_law.specs.Record.{StandsAt}
 use Rattle.segment_law.specs.declared.call.Call.{Call}
@@ -14,7 +13,7 @@ use Rattle.segment_shared.specs.declared.call.WorkerCall.{WorkerCall}
 use Rattle.segment_shared.specs.Words.{call_of}
 use Rattle.segment_shared.specs.Record.{trail}
 use Rattle.segment_shared.specs.Facts.{IdsFrom, HaveRoom, OwedWithin, note_all, give_all, Holds}
-use Rattle.segment_shared.specs.LiveView.{stored, live_view, client_of, port_of, Applied}
+use Rattle.segment_shared.specs.LiveView.{stored, live_view, client_of, port_of, Applied, Kept}
 use Rattle.segment_shared.proofs.Seats.{note_all_none}
 use Rattle.segment_shared.proofs.Doors.{give_all_none}
 use Rattle.segment_shared.proofs.Telling.{ports_untold, clients_untold}
@@ -22,7 +21,7 @@ use Rattle.segment_shared.proofs.Applying.{spares_none}
 use Rattle.segment_shared.proofs.Holding.{holds-tell}
 
 pub holds_untold : (addresses : List Address) (st next : Segment) (xs : List Stored) (ws : List Owed) (ss : List SeatView) (ds : List DoorView) (call : Call)
-    → Holds addresses st xs ws ss ds → length xs < 1000000 → reply_of st call ≡ Done [] → next ≡ left_by st call
+    → Holds addresses st xs ws ss ds → length xs + 1 < 2 ^ 64 → reply_of st call ≡ Done [] → next ≡ left_by st call
     → StandsAt addresses ((trail addresses xs).steps ++ (call, Done []) ∷ []) next → Follows st call next (Done [])
     → Holds addresses next (xs ++ stored None call ∷ []) ws ss ds
 holds_untold addresses st next xs ws ss ds call h few r left stands f =
@@ -34,13 +33,14 @@ holds_untold addresses st next xs ws ss ds call h few r left stands f =
     subst (λ (u : List DoorView). Holds addresses next (xs ++ stored None call ∷ []) ws ss u) d
     (subst (λ (u : List SeatView). Holds addresses next (xs ++ stored None call ∷ []) ws u (give_all [] ds)) s told)
 
-pub applied_untold : (stopped : Bool) (addresses : List Address) (st : Segment) (xs : List Stored) (ss : List SeatView) (ds : List DoorView) (call : WorkerCall) → st ≡ (trail addresses xs).state
+pub applied_untold : (keeps : Kept) (addresses : List Address) (st : Segment) (xs : List Stored) (ss : List SeatView) (ds : List DoorView) (call : WorkerCall) → st ≡ (trail addresses xs).state
     → reply_of st (call_of call true) ≡ Done []
-    → Applied (live_view stopped addresses xs ss ds) (live_view stopped addresses (xs ++ stored None (call_of call true) ∷ []) ss ds) call (Done []) true
-applied_untold stopped addresses st xs ss ds call at r = record {
+    → Applied (live_view keeps addresses xs ss ds) (live_view keeps addresses (xs ++ stored None (call_of call true) ∷ []) ss ds) call (Done []) true
+applied_untold keeps addresses st xs ss ds call at r = record {
   reply = sym r ∙ ap (λ (s : Segment). reply_of s (call_of call true)) at;
   addresses = refl;
   stopped = refl;
+  pieces = refl;
   calls = refl;
   clients = sym (clients_untold 0 (map client_of ss));
   ports = sym (ports_untold (map port_of ds));

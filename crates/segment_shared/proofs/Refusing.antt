@@ -1,5 +1,5 @@
 -- Why a call would be refused doesn't hang on whether there is room for what it gives.
-use Rattle.std.proofs.Common.{◌≡◌, ℕ, ◌<◌, Bool, true, false, List, length, Option, Some, None, Ok, Err, IsOk, refl, sym, ◌∙◌, subst}
+use Rattle.std.proofs.Common.{◌≡◌, ℕ, ◌<◌, Bool, true, false, List, Option, Some, None, Ok, Err, IsOk, refl, sym, ◌∙◌, subst}
 use Rattle.std.specs.Prelude.{slice_get}
 use Rattle.bus_frame.specs.Frames.{CanFrame}
 use Rattle.pgn_ids.specs.declared.address.Address.{Address}
@@ -14,7 +14,8 @@ use Rattle.segment_shared.specs.declared.call.Stored.{Stored}
 use Rattle.segment_rings.specs.Views.{SeatView, DoorView}
 use Rattle.segment_shared.specs.Words.{call_of}
 use Rattle.segment_shared.specs.Record.{trail}
-use Rattle.segment_shared.specs.LiveView.{live_view, LacksMemory}
+use Rattle.segment_shared.specs.Past.{count_since}
+use Rattle.segment_shared.specs.LiveView.{live_view, LacksMemory, Kept}
 
 at_same : (st : Segment) (a : Address) (f g : ℕ → Station → Answer) → ((i : ℕ) (s : Station) → refusal_of (f i s) ≡ refusal_of (g i s)) → refusal_of (at_address st a f) ≡ refusal_of (at_address st a g)
 at_same st a f g h = placed (place_of st a)
@@ -65,9 +66,9 @@ room_no_cause st (Pause q) r t = refl
 room_no_cause st (Resume q) r t = refl
 
 -- where the segment doesn't refuse a call, nothing but memory may be lacking
-pub lacks_memory : (stopped : Bool) (addresses : List Address) (st : Segment) (xs : List Stored) (ss : List SeatView) (ds : List DoorView) (call : WorkerCall) (o : Option Refusal) → st ≡ (trail addresses xs).state → length xs < 1000000
-    → o ≡ None → ((room : Bool) → o ≡ refusal_of (called st (call_of call room))) → LacksMemory (live_view stopped addresses xs ss ds) call
-lacks_memory stopped addresses st xs ss ds call o at few none e = record {
+pub lacks_memory : (keeps : Kept) (addresses : List Address) (st : Segment) (xs : List Stored) (ss : List SeatView) (ds : List DoorView) (call : WorkerCall) (o : Option Refusal) → st ≡ (trail addresses xs).state → count_since keeps.pieces xs < 1000000
+    → o ≡ None → ((room : Bool) → o ≡ refusal_of (called st (call_of call room))) → LacksMemory (live_view keeps addresses xs ss ds) call
+lacks_memory keeps addresses st xs ss ds call o at few none e = record {
   few = few;
   passes = λ room. subst (λ (s : Segment). refusal_of (called s (call_of call room)) ≡ None) at (sym (e room) ∙ none);
 }

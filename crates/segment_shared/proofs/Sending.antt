@@ -1,5 +1,5 @@
 -- A client's message was stored.
-use Rattle.std.proofs.Common.{◌≡◌, ◌≢◌, ℕ, zero, suc, ◌+◌, ◌<◌, ◌==◌, true, false, cond, List, [], ◌∷◌, ◌++◌, length, map, set, get_or, Some, None, refl, sym, ◌∙◌, ap, subst, arith, append-nil, length-set, zero-add, Bool}
+use Rattle.std.proofs.Common.{◌≡◌, ◌≢◌, ℕ, zero, suc, ◌+◌, ◌<◌, ◌==◌, true, false, cond, List, [], ◌∷◌, ◌++◌, length, map, set, get_or, Some, None, refl, sym, ◌∙◌, ap, subst, arith, append-nil, length-set, zero-add, ◌^◌}
 use Rattle.std.proofs.lemmas.List.{length_push, length-map, get_or-map, map-set}
 use Rattle.std.specs.Prelude.{slice_index}
 use mathlib.Core.List.{IsPrefix}
@@ -20,7 +20,8 @@ use Rattle.segment_shared.specs.declared.call.Stored.{Stored}
 use Rattle.segment_shared.specs.declared.call.Owed.{Owed}
 use Rattle.segment_shared.specs.Record.{accepted, owed_by, settle_notes, settle_owed, owe, Trail, trail, step}
 use Rattle.segment_shared.specs.Facts.{IdsFrom, HaveRoom, OwedWithin, PopsAccepted, PushesNotes, PushesGiven, Holds, NotedWithin}
-use Rattle.segment_shared.specs.LiveView.{ClientView, live_view, stored, client_of, port_of, seat_seen, seat_free}
+use Rattle.segment_shared.specs.Past.{count_since}
+use Rattle.segment_shared.specs.LiveView.{ClientView, live_view, stored, client_of, port_of, seat_seen, seat_free, Kept}
 use Rattle.segment_shared.specs.Offers.{send_call, owed_for, popped_client, SentFor, RefusedSend, IsCauseFor, LacksRoomToSend, LacksMemoryFor}
 use Rattle.segment_shared.proofs.Doors.{known-more, each-more}
 use Rattle.segment_shared.proofs.Fronts.{waits_at, free_is}
@@ -99,7 +100,7 @@ popped_at n zero xs (s ∷ ss) d l j h = let e : s.id ≡ n + 0 = omega (arith, 
 popped_at n (suc i) xs (s ∷ ss) d l j h = let e : n + 1 + i ≡ n + suc i = omega arith in popped_at (n + 1) i xs ss d (omega arith) j.1 h.1 ∙ ap (λ c. accepted c xs) e
 
 pub holds-send : (addresses : List Address) (st next : Segment) (xs : List Stored) (ws : List Owed) (ss : List SeatView) (ds : List DoorView) (k number : ℕ) (x : Submission) (a : List Submission) (s : SeatView)
-    → Holds addresses st xs ws ss ds → k < length ss → length xs < 1000000 → s ≡ get_or ss k s → owed_by k ws < s.free → owed_by k ws < s.spare
+    → Holds addresses st xs ws ss ds → k < length ss → length xs + 1 < 2 ^ 64 → s ≡ get_or ss k s → owed_by k ws < s.free → owed_by k ws < s.spare
     → reply_of st (send_call s.station x) ≡ Sent number → next ≡ left_by st (send_call s.station x)
     → StandsAt addresses ((trail addresses xs).steps ++ (send_call s.station x, Sent number) ∷ []) next → Follows st (send_call s.station x) next (Sent number)
     → Holds addresses next (xs ++ stored (Some k) (send_call s.station x) ∷ []) (ws ++ owed_for k s x number ∷ []) (set ss k (popped_one s x a)) ds
@@ -139,16 +140,17 @@ holds-send addresses st next xs ws ss ds k number x a s h l few at free spare r 
       noted = rw (length-set ss k (popped_one s x a)) (subst (λ (u : List (ℕ × Note)). NotedWithin (length ss) u) nts h.noted);
     }
 
-pub sent_for : (stopped : Bool) (addresses : List Address) (st : Segment) (xs : List Stored) (ss : List SeatView) (ts : List SeatView) (ds es : List DoorView) (k number : ℕ) (x : Submission) (a : List Submission) (s : SeatView)
+pub sent_for : (keeps : Kept) (addresses : List Address) (st : Segment) (xs : List Stored) (ss : List SeatView) (ts : List SeatView) (ds es : List DoorView) (k number : ℕ) (x : Submission) (a : List Submission) (s : SeatView)
     → st ≡ (trail addresses xs).state → k < length ts → s ≡ get_or ts k s → map client_of ts ≡ map client_of ss → map port_of es ≡ map port_of ds → s.active ≡ true → reply_of st (send_call s.station x) ≡ Sent number
-    → SentFor (live_view stopped addresses xs ss ds) (live_view stopped addresses (xs ++ stored (Some k) (send_call s.station x) ∷ []) (set ts k (popped_one s x a)) es) k number x
-sent_for stopped addresses st xs ss ts ds es k number x a s is l at cs ps act r =
+    → SentFor (live_view keeps addresses xs ss ds) (live_view keeps addresses (xs ++ stored (Some k) (send_call s.station x) ∷ []) (set ts k (popped_one s x a)) es) k number x
+sent_for keeps addresses st xs ss ts ds es k number x a s is l at cs ps act r =
     let own : (v : ClientView) → get_or (map client_of ss) k v ≡ client_of s = λ v. ap (λ (u : List ClientView). get_or u k v) (sym cs) ∙ get_or-map client_of ts k s v l ∙ ap client_of (sym at) in
     record {
       within = rw (← cs, length-map) l;
       active = λ v. ap (λ (u : ClientView). u.active) (own v) ∙ act;
       addresses = refl;
       stopped = refl;
+      pieces = refl;
       clients = λ v. map-set client_of ts k (popped_one s x a) ∙ ap (λ (u : List ClientView). set u k (client_of (popped_one s x a))) cs ∙ ap (λ (u : ClientView). set (map client_of ss) k (popped_client u x)) (sym (own v));
       calls = λ v. ap (λ (u : ClientView). xs ++ stored (Some k) (send_call u.station x) ∷ []) (sym (own v));
       reply = λ v. sym (ap (λ (u : Segment). reply_of u (send_call s.station x)) (sym is) ∙ r) ∙ ap (λ (u : ClientView). reply_of (trail addresses xs).state (send_call u.station x)) (sym (own v));
@@ -158,10 +160,10 @@ sent_for stopped addresses st xs ss ts ds es k number x a s is l at cs ps act r 
 pub same_front : (x y : Submission) (ahead rest : List Submission) → IsPrefix (x ∷ []) ahead → ahead ≡ y ∷ rest → x ≡ y
 same_front x y ahead rest p e = let q : x ∷ p.0 ≡ ahead = p.1 in cc
 
-pub refused_send : (stopped : Bool) (addresses : List Address) (st : Segment) (xs : List Stored) (ss ts : List SeatView) (ds es : List DoorView) (k : ℕ) (x : Submission) (s : SeatView) (r : Reply)
-    → st ≡ (trail addresses xs).state → k < length ts → s ≡ get_or ts k s → map client_of ts ≡ map client_of ss → length xs < 1000000 → IsPrefix (x ∷ []) s.ahead → r ≡ reply_of st (send_call s.station x)
-    → RefusedSend (live_view stopped addresses xs ss ds) (live_view stopped addresses xs ts es) k r
-refused_send stopped addresses st xs ss ts ds es k x s r is l at cs few front e =
+pub refused_send : (keeps : Kept) (addresses : List Address) (st : Segment) (xs : List Stored) (ss ts : List SeatView) (ds es : List DoorView) (k : ℕ) (x : Submission) (s : SeatView) (r : Reply)
+    → st ≡ (trail addresses xs).state → k < length ts → s ≡ get_or ts k s → map client_of ts ≡ map client_of ss → count_since keeps.pieces xs < 1000000 → IsPrefix (x ∷ []) s.ahead → r ≡ reply_of st (send_call s.station x)
+    → RefusedSend (live_view keeps addresses xs ss ds) (live_view keeps addresses xs ts es) k r
+refused_send keeps addresses st xs ss ts ds es k x s r is l at cs few front e =
     let own : (v : ClientView) → get_or (map client_of ss) k v ≡ client_of s = λ v. ap (λ (u : List ClientView). get_or u k v) (sym cs) ∙ get_or-map client_of ts k s v l ∙ ap client_of (sym at) in
     let seen : get_or (map seat_seen ts) k [] ≡ s.ahead = get_or-map seat_seen ts k s [] l ∙ ap seat_seen (sym at) in
     record {
@@ -176,18 +178,18 @@ pub send_answer : (from : Address) (x : Submission) (call : Call) (r : Reply) �
 send_answer from x call r e k = subst (λ (c : Call). IsAnsweredBy c r) e k
 
 -- nothing but memory is lacking to send the submission in front
-pub lacks_memory_for : (stopped : Bool) (addresses : List Address) (st : Segment) (xs : List Stored) (ws : List Owed) (ss ts : List SeatView) (ds es : List DoorView) (k : ℕ) (s : SeatView) → st ≡ (trail addresses xs).state → ws ≡ (trail addresses xs).owed
-    → k < length ts → map client_of ts ≡ map client_of ss → LacksRoomToSend st xs ws ts k → LacksMemoryFor (live_view stopped addresses xs ss ds) (live_view stopped addresses xs ts es) k
-lacks_memory_for stopped addresses st xs ws ss ts ds es k s is owes l cs r =
+pub lacks_memory_for : (keeps : Kept) (addresses : List Address) (st : Segment) (xs : List Stored) (ws : List Owed) (ss ts : List SeatView) (ds es : List DoorView) (k : ℕ) (s : SeatView) → st ≡ (trail addresses xs).state → ws ≡ (trail addresses xs).owed
+    → k < length ts → map client_of ts ≡ map client_of ss → LacksRoomToSend st (count_since keeps.pieces xs) ws ts k → LacksMemoryFor (live_view keeps addresses xs ss ds) (live_view keeps addresses xs ts es) k
+lacks_memory_for keeps addresses st xs ws ss ts ds es k s is owes l cs r =
     let t = get_or ts k s in
     let cause : IsCauseFor st t None = r.1 s in
     let own : (v : ClientView) → get_or (map client_of ss) k v ≡ client_of t = λ v. ap (λ (u : List ClientView). get_or u k v) (sym cs) ∙ get_or-map client_of ts k s v l in
     let seen : get_or (map seat_seen ts) k [] ≡ t.ahead = get_or-map seat_seen ts k s [] l in
-    let f : slice_index (map seat_free ts) k ≡ t.free = free_is stopped addresses xs ts es k s l in
+    let f : slice_index (map seat_free ts) k ≡ t.free = free_is keeps addresses xs ts es k s l in
     let o : owed_by k ws ≡ owed_by k (trail addresses xs).owed = ap (owed_by k) owes in
     record {
       few = r.0.0;
-      waits = waits_at stopped addresses xs ts es k s l (r.0.1 s).0;
+      waits = waits_at keeps addresses xs ts es k s l (r.0.1 s).0;
       place = omega (arith, f, o, (r.0.1 s).1);
       x = cause.0;
       front = subst (λ (u : List Submission). IsPrefix (cause.0 ∷ []) u) (sym seen) cause.1;

@@ -26,6 +26,8 @@ use Rattle.segment_shared.specs.Words.{call_of, wanted_by}
 use Rattle.segment_shared.specs.Places.{times}
 use Rattle.segment_shared.specs.Record.{accepted, given, notes_of, settle_notes, trail}
 use Rattle.segment_shared.specs.Facts.{HasNotes}
+use Rattle.segment_shared.specs.declared.calls.Piece.{Piece}
+use Rattle.segment_shared.specs.Past.{count_since, since, HasPast}
 
 -- popped, noted: what went out of the client's submissions and into its notes
 pub record ClientView : Type 0 where
@@ -39,10 +41,12 @@ pub record PortView : Type 0 where
   pub active : Bool
   pub pushed : List Delivery
 
--- the stations' addresses, the stored calls, the clients by their ids, the ports in the order of opening; and of the rings:
--- the submissions that are seen, and the places that are known to be free; stopped: the workers are to end
+-- the stations' addresses, the pieces that were handed out, all calls that were made, the clients by their ids, the ports in the order
+-- of opening; and of the rings: the submissions that are seen, and the places that are known to be free; stopped: the workers are
+-- to end
 pub record LiveView : Type 0 where
   pub addresses : List Address
+  pub pieces : List Piece
   pub calls : List Stored
   pub clients : List ClientView
   pub ports : List PortView
@@ -66,17 +70,33 @@ seat_free s = s.free
 abbrev pub door_free : DoorView → ℕ
 door_free d = d.free
 
-abbrev pub live_view : (stopped : Bool) → List Address → List Stored → List SeatView → List DoorView → LiveView
-live_view stopped addresses xs ss ds = record {
+-- what most calls leave as it is
+pub record Kept : Type 0 where
+  pub stopped : Bool
+  pub pieces : List Piece
+
+abbrev pub keep : (stopped : Bool) → List Piece → Kept
+keep stopped pieces = record { stopped = stopped; pieces = pieces }
+
+abbrev pub live_view : Kept → List Address → List Stored → List SeatView → List DoorView → LiveView
+live_view same addresses xs ss ds = record {
   addresses = addresses;
+  pieces = same.pieces;
   calls = xs;
   clients = map client_of ss;
   ports = map port_of ds;
   seen = map seat_seen ss;
   note_free = map seat_free ss;
   port_free = map door_free ds;
-  stopped = stopped;
+  stopped = same.stopped;
 }
+
+-- how many calls are stored since the last cut, and which
+abbrev pub stored_calls : LiveView → ℕ
+stored_calls v = count_since v.pieces v.calls
+
+abbrev pub since_cut : LiveView → List Stored
+since_cut v = since v.pieces v.calls
 
 -- the same, but its workers are to end
 abbrev pub halted : LiveView → LiveView
@@ -86,6 +106,7 @@ halted v = record v { stopped = true }
 pub record SameLive (a b : LiveView) : Type 0 where
   pub addresses : b.addresses ≡ a.addresses
   pub stopped : b.stopped ≡ a.stopped
+  pub pieces : b.pieces ≡ a.pieces
   pub calls : b.calls ≡ a.calls
   pub clients : b.clients ≡ a.clients
   pub ports : b.ports ≡ a.ports
@@ -131,6 +152,7 @@ pub record Applied (a b : LiveView) (call : WorkerCall) (r : Reply) (with_room :
   pub reply : r ≡ reply_of (trail a.addresses a.calls).state (call_of call with_room)
   pub addresses : b.addresses ≡ a.addresses
   pub stopped : b.stopped ≡ a.stopped
+  pub pieces : b.pieces ≡ a.pieces
   pub calls : b.calls ≡ calls_after r a.calls (stored None (call_of call with_room))
   pub clients : b.clients ≡ told_clients a r
   pub ports : b.ports ≡ map (port_after (events_of r)) a.ports
@@ -139,7 +161,7 @@ pub record Applied (a b : LiveView) (call : WorkerCall) (r : Reply) (with_room :
 
 -- nothing but memory is lacking: one more call can be stored, and the segment doesn't refuse it
 pub record LacksMemory (a : LiveView) (call : WorkerCall) : Type 0 where
-  pub few : length a.calls < 1000000
+  pub few : stored_calls a < 1000000
   pub passes : (room : Bool) → refusal_of (called (trail a.addresses a.calls).state (call_of call room)) ≡ None
 
 abbrev pub new_client : Address → ClientView
@@ -158,13 +180,14 @@ pub record Attached (a b : LiveView) (station : Address) (c : ClientEnd) : Type 
   pub client : c ≡ new_client_end (length a.clients) station
   pub addresses : b.addresses ≡ a.addresses
   pub stopped : b.stopped ≡ a.stopped
+  pub pieces : b.pieces ≡ a.pieces
   pub calls : b.calls ≡ a.calls
   pub clients : b.clients ≡ a.clients ++ new_client station ∷ []
   pub ports : b.ports ≡ a.ports
 
 -- what went through the rings is what the stored calls say
 pub record Laws (v : LiveView) : Type 0 where
-  pub few : length v.calls ≤ 1000000
+  pub past : HasPast v.pieces v.calls
   pub stands : StandsAt v.addresses (trail v.addresses v.calls).steps (trail v.addresses v.calls).state
   pub popped : (c : ℕ) (x : ClientView) → c < length v.clients → (slice_index_or v.clients c x).popped ≡ accepted c v.calls
   pub noted : (c : ℕ) (x : ClientView) → c < length v.clients → HasNotes (slice_index_or v.clients c x).active (slice_index_or v.clients c x).noted (notes_of c (trail v.addresses v.calls).noted)
@@ -176,9 +199,9 @@ new_port_view p = record { port = p; active = true; pushed = [] }
 -- why a port isn't opened: the segment refuses the Open, or else no more calls can be stored; or for want of memory, where
 -- neither holds
 abbrev pub IsOpenCause : LiveView → (station : Address) → (pgn max_len : ℕ) → NotMade → Type 0
-IsOpenCause a station pgn max_len not_made.OutOfMemory = (refusal_of (called (trail a.addresses a.calls).state (Open station pgn max_len)) ≡ None) × (length a.calls < 1000000)
+IsOpenCause a station pgn max_len not_made.OutOfMemory = (refusal_of (called (trail a.addresses a.calls).state (Open station pgn max_len)) ≡ None) × (stored_calls a < 1000000)
 IsOpenCause a station pgn max_len (not_made.Refused c) = (Refused c ≡ reply_of (trail a.addresses a.calls).state (Open station pgn max_len))
-    ⊎ ((c ≡ TraceFull) × (refusal_of (called (trail a.addresses a.calls).state (Open station pgn max_len)) ≡ None) × (1000000 ≤ length a.calls))
+    ⊎ ((c ≡ TraceFull) × (refusal_of (called (trail a.addresses a.calls).state (Open station pgn max_len)) ≡ None) × (1000000 ≤ stored_calls a))
 
 -- the Open was added, and the inbox is of the port that it opened
 pub record OpenedFor (a b : LiveView) (station : Address) (pgn max_len : ℕ) (i : InboxEnd) : Type 0 where
@@ -186,6 +209,7 @@ pub record OpenedFor (a b : LiveView) (station : Address) (pgn max_len : ℕ) (i
   pub reply : Opened i.port ≡ reply_of (trail a.addresses a.calls).state (Open station pgn max_len)
   pub addresses : b.addresses ≡ a.addresses
   pub stopped : b.stopped ≡ a.stopped
+  pub pieces : b.pieces ≡ a.pieces
   pub calls : b.calls ≡ a.calls ++ stored None (Open station pgn max_len) ∷ []
   pub clients : b.clients ≡ a.clients
   pub ports : b.ports ≡ a.ports ++ new_port_view i.port ∷ []

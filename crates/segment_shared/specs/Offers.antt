@@ -23,7 +23,7 @@ use Rattle.segment_shared.specs.declared.offer.Front.TheVariants as front
 use Rattle.segment_shared.specs.declared.offer.Ready.{Ready}
 use Rattle.segment_shared.specs.declared.offer.Ready.TheVariants as ready
 use Rattle.segment_shared.specs.Record.{owed_by, trail}
-use Rattle.segment_shared.specs.LiveView.{ClientView, LiveView, SameLive, stored}
+use Rattle.segment_shared.specs.LiveView.{ClientView, LiveView, SameLive, stored, stored_calls}
 
 -- a submission of the seat is seen in front, and is taken
 abbrev pub IsWaiting : SeatView → Type 0
@@ -47,18 +47,18 @@ IsSendOf s call = (x : Submission) × IsPrefix (x ∷ []) s.ahead × (call ≡ s
 abbrev pub IsCauseFor : Segment → SeatView → Option Cause → Type 0
 IsCauseFor st s cause = (x : Submission) × IsPrefix (x ∷ []) s.ahead × (cause ≡ refusal_of (called st (send_call s.station x)))
 
--- whether the front submission of client k can be sent, and by which call
-abbrev pub IsReadyToSend : Segment → List Stored → List Owed → List SeatView → ℕ → Ready → Type 0
-IsReadyToSend st xs ws ss k ready.Empty = IsFrontIn ss k (owed_by k ws) (length xs) front.Empty
-IsReadyToSend st xs ws ss k ready.Owed = IsFrontIn ss k (owed_by k ws) (length xs) front.Owed
-IsReadyToSend st xs ws ss k ready.Full = IsFrontIn ss k (owed_by k ws) (length xs) front.Full
-IsReadyToSend st xs ws ss k (ready.NotSent c) = IsFrontIn ss k (owed_by k ws) (length xs) front.Waits × ((s : SeatView) → IsCauseFor st (slice_index_or ss k s) (Some c))
-IsReadyToSend st xs ws ss k (ready.Send call) = ((length xs < 1000000) × ((s : SeatView) → IsWaiting (slice_index_or ss k s) × (owed_by k ws < (slice_index_or ss k s).free) × (owed_by k ws < (slice_index_or ss k s).spare)))
+-- whether the front submission of client k can be sent where so many calls are stored, and by which call
+abbrev pub IsReadyToSend : Segment → (stored : ℕ) → List Owed → List SeatView → ℕ → Ready → Type 0
+IsReadyToSend st stored ws ss k ready.Empty = IsFrontIn ss k (owed_by k ws) stored front.Empty
+IsReadyToSend st stored ws ss k ready.Owed = IsFrontIn ss k (owed_by k ws) stored front.Owed
+IsReadyToSend st stored ws ss k ready.Full = IsFrontIn ss k (owed_by k ws) stored front.Full
+IsReadyToSend st stored ws ss k (ready.NotSent c) = IsFrontIn ss k (owed_by k ws) stored front.Waits × ((s : SeatView) → IsCauseFor st (slice_index_or ss k s) (Some c))
+IsReadyToSend st stored ws ss k (ready.Send call) = ((stored < 1000000) × ((s : SeatView) → IsWaiting (slice_index_or ss k s) × (owed_by k ws < (slice_index_or ss k s).free) × (owed_by k ws < (slice_index_or ss k s).spare)))
     × ((s : SeatView) → IsSendOf (slice_index_or ss k s) call)
 
 -- nothing but memory is lacking
-abbrev pub LacksRoomToSend : Segment → List Stored → List Owed → List SeatView → ℕ → Type 0
-LacksRoomToSend st xs ws ss k = IsFrontIn ss k (owed_by k ws) (length xs) front.Waits × ((s : SeatView) → IsCauseFor st (slice_index_or ss k s) None)
+abbrev pub LacksRoomToSend : Segment → (stored : ℕ) → List Owed → List SeatView → ℕ → Type 0
+LacksRoomToSend st stored ws ss k = IsFrontIn ss k (owed_by k ws) stored front.Waits × ((s : SeatView) → IsCauseFor st (slice_index_or ss k s) None)
 
 abbrev pub HasSpace : ℕ → ℕ → Ready → Type 0
 HasSpace n m ready.Empty = Unit {0}
@@ -97,6 +97,7 @@ pub record SentFor (a b : LiveView) (c n : ℕ) (x : Submission) : Type 0 where
   pub active : (v : ClientView) → (slice_index_or a.clients c v).active ≡ true
   pub addresses : b.addresses ≡ a.addresses
   pub stopped : b.stopped ≡ a.stopped
+  pub pieces : b.pieces ≡ a.pieces
   pub clients : (v : ClientView) → b.clients ≡ slice_set a.clients c (popped_client (slice_index_or a.clients c v) x)
   pub calls : (v : ClientView) → b.calls ≡ a.calls ++ stored (Some c) (send_call (slice_index_or a.clients c v).station x) ∷ []
   pub reply : (v : ClientView) → Sent n ≡ reply_of (trail a.addresses a.calls).state (send_call (slice_index_or a.clients c v).station x)
@@ -104,19 +105,19 @@ pub record SentFor (a b : LiveView) (c n : ℕ) (x : Submission) : Type 0 where
 
 -- the segment refused the Send of the submission that is seen in front
 pub record RefusedSend (a b : LiveView) (c : ℕ) (r : Reply) : Type 0 where
-  pub few : length a.calls < 1000000
+  pub few : stored_calls a < 1000000
   pub x : Submission
   pub front : IsPrefix (x ∷ []) (slice_index_or b.seen c [])
   pub reply : (v : ClientView) → r ≡ reply_of (trail a.addresses a.calls).state (send_call (slice_index_or a.clients c v).station x)
 
 -- why a submission was refused: no more calls can be stored, or else the segment refuses its Send
 abbrev pub IsCause : LiveView → LiveView → ℕ → Reply → Type 0
-IsCause a b c r = ((r ≡ Refused TraceFull) × (1000000 ≤ length a.calls)) ⊎ RefusedSend a b c r
+IsCause a b c r = ((r ≡ Refused TraceFull) × (1000000 ≤ stored_calls a)) ⊎ RefusedSend a b c r
 
 -- nothing but memory is lacking to send the submission that is seen in front: calls can be stored, its note has a place, and the
 -- segment doesn't refuse its Send
 pub record LacksMemoryFor (a b : LiveView) (c : ℕ) : Type 0 where
-  pub few : length a.calls < 1000000
+  pub few : stored_calls a < 1000000
   pub waits : WaitsAt b c
   pub place : owed_by c (trail a.addresses a.calls).owed < slice_index b.note_free c
   pub x : Submission

@@ -16,7 +16,7 @@ use Rattle.segment_shared.specs.declared.refused.Accepted.{Accepted}
 use Rattle.segment_shared.specs.declared.refused.Accepted.TheVariants as accepted
 use Rattle.segment_shared.specs.declared.turns.Turn.{Turn}
 use Rattle.segment_shared.specs.Record.{trail}
-use Rattle.segment_shared.specs.LiveView.{ClientView, LiveView, SameLive, Applied, LacksMemory}
+use Rattle.segment_shared.specs.LiveView.{ClientView, LiveView, SameLive, Applied, LacksMemory, stored_calls}
 use Rattle.segment_shared.specs.Offers.{AcceptedAs, LacksMemoryFor}
 
 abbrev pub state_of : LiveView → Segment
@@ -78,7 +78,7 @@ after_accept t (accepted.Sent n) = one_more t
 
 -- a call was made and answered so; without a place to store it, it is refused and changes nothing
 abbrev pub IsAnswered : LiveView → LiveView → WorkerCall → Reply → Type 0
-IsAnswered a b call r = ((1000000 ≤ length a.calls) × (r ≡ Refused TraceFull) × (b ≡ a)) ⊎ ((length a.calls < 1000000) × ((room : Bool) × Applied a b call r room))
+IsAnswered a b call r = ((1000000 ≤ stored_calls a) × (r ≡ Refused TraceFull) × (b ≡ a)) ⊎ ((stored_calls a < 1000000) × ((room : Bool) × Applied a b call r room))
 
 -- one call: it is answered, or memory is lacking and nothing changes
 abbrev pub Makes : WorkerCall → Point → Point → Type 0

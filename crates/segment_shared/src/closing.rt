@@ -7,7 +7,6 @@ ghost use Rattle.segment_rings.specs.Views.{DoorView, closed_door};
 use crate::call::Stored;
 use crate::compare::{begins, copy_deliveries};
 use crate::live::Live;
-use crate::offer::MOST_CALLS;
 use crate::places::door_of;
 use crate::refused::NotMade;
 use crate::step::make;
@@ -52,7 +51,7 @@ impl Live {
     ghost use mathlib.Core.List.{IsPrefix};
     ghost use Rattle.segment_rings.specs.Ends.{with_room_kept};
     ghost use Rattle.segment_shared.specs.Record.{trail, given};
-    ghost use Rattle.segment_shared.specs.LiveView.{PortView, SameLive};
+    ghost use Rattle.segment_shared.specs.LiveView.{PortView, SameLive, stored_calls};
     ghost use Rattle.segment_shared.specs.Reports.{ClosedFor, IsCloseCause};
 
     /// Closes the port of an inbox, and hands out what the port was given and the inbox did not receive. No later call gives
@@ -72,7 +71,7 @@ impl Live {
         if !begins(inbox.received(), self.doors[k].deliveries()) {
             return Err(NotMade::Refused(Refusal::NotThisSegment));
         }
-        if self.calls.len() >= MOST_CALLS {
+        if self.calls.is_full() {
             return Err(NotMade::Refused(Refusal::TraceFull));
         }
         match self.shut(k, inbox) {
@@ -86,7 +85,7 @@ impl Live {
         requires within { k < length self.old.ports }
         requires port { (p : PortView) → (slice_index_or self.old.ports k p).port ≡ inbox.old.port }
         requires begins { IsPrefix inbox.old.received (given inbox.old.port (trail self.old.addresses self.old.calls).events) }
-        requires few { length self.old.calls < 1000000 }
+        requires few { stored_calls self.old < 1000000 }
         ensures closed { IfOk result (λ r. ClosedFor self.old self.new inbox.old inbox.new r) }
         ensures err { OnErr result (SameLive self.old self.new) }
         ensures kept { OnErr result (inbox.new ≡ with_room_kept inbox.old inbox.new.spare) }
@@ -95,7 +94,7 @@ impl Live {
         let rest = rest_after(self.alloc, inbox.received(), self.doors[k].deliveries())?;
         let kept = copy_deliveries(self.alloc, rest.as_slice())?;
         inbox.reserve(kept.len())?;
-        self.calls.reserve(1)?;
+        self.calls.reserve()?;
         match make(&mut self.segment, Call::Close { port })? {
             Reply::Done(events) => {
                 let _told = tell(

@@ -3,7 +3,8 @@ ghost use Rattle.std.specs.Prelude.{◌≡◌, ◌≤◌, map, true};
 ghost use Rattle.segment_shared.specs.LiveView.{is_station_of, clients_at, client_of};
 
 use crate::call::{Owed, Stored, WorkerCall};
-use crate::offer::{MOST_CALLS, Ready, make_ready, store};
+use crate::calls::Calls;
+use crate::offer::{Ready, make_ready, store};
 use crate::places::{Found, door_of, find_places};
 use crate::refused::{Accepted, NotMade};
 use crate::step::{make, make_in_place, refusal_for};
@@ -20,12 +21,14 @@ use std::marker::Model;
 pub const MOST_CLIENTS: usize = 16;
 
 /// A segment, the calls that were made on it, and the far ends of its clients' and ports' rings.
+///
+/// Contracts see all calls that were made; in memory are those since the last cut.
 #[derive(Drop)]
 pub struct Live {
     pub(crate) alloc: Global,
     pub(crate) addresses: Vec<Address>,
     pub(crate) segment: Segment,
-    pub(crate) calls: Vec<Stored>,
+    pub(crate) calls: Calls,
     pub(crate) owed: Vec<Owed>,
     pub(crate) seats: Vec<Seat>,
     pub(crate) doors: Vec<Door>,
@@ -33,14 +36,15 @@ pub struct Live {
 }
 
 impl Model for Live {
-    ghost use Rattle.segment_shared.specs.LiveView.{LiveView, live_view};
+    ghost use Rattle.segment_shared.specs.LiveView.{LiveView, live_view, keep};
     ghost use Rattle.segment_shared.specs.Facts.{Holds};
+    ghost use Rattle.segment_shared.specs.Past.{IsCutImage};
 
     ghost Value = { LiveView };
 
-    ghost view = { λ s. live_view s.stopped s.addresses.items s.calls.items s.seats.items s.doors.items };
+    ghost view = { λ s. live_view (keep s.stopped s.calls.pieces) s.addresses.items s.calls.items s.seats.items s.doors.items };
 
-    ghost invariant = { λ s. Holds s.addresses.items s.segment s.calls.items s.owed.items s.seats.items s.doors.items };
+    ghost invariant = { λ s. Holds s.addresses.items s.segment s.calls.items s.owed.items s.seats.items s.doors.items × IsCutImage s.addresses.items s.calls.pieces s.calls.image };
 }
 
 impl Live {
@@ -51,7 +55,7 @@ impl Live {
     ghost use Rattle.segment_law.specs.declared.reply.Reply.TheVariants.{Refused, Done};
     ghost use Rattle.segment_law.specs.declared.refusal.Refusal.TheVariants.{TraceFull};
     ghost use Rattle.segment_shared.specs.Record.{trail, accepted, given, notes_of};
-    ghost use Rattle.segment_shared.specs.LiveView.{ClientView, live_view, halted, SameLive, Applied, LacksMemory, Attached, Laws, OpenedFor, IsOpenCause};
+    ghost use Rattle.segment_shared.specs.LiveView.{ClientView, live_view, keep, stored_calls, since_cut, halted, SameLive, Applied, LacksMemory, Attached, Laws, OpenedFor, IsOpenCause};
     ghost use Rattle.segment_shared.specs.Offers.{AcceptedAs, LacksMemoryFor};
     ghost use Rattle.segment_shared.specs.Refusals.{IsAnsweredBy, making_refusal, attaching_refusal};
     ghost use Rattle.std.specs.Result.{result_err};
@@ -62,7 +66,7 @@ impl Live {
     /// Refused as `BadAddresses` exactly where there is no address, one twice, one above 253 or more than 32, and else as
     /// `OutOfMemory` where memory is refused.
     pub fn new(alloc: Global, addresses: &[Address]) -> Result<Live, NotMade>
-        ensures ok { IfOk result (λ live. live ≡ live_view false addresses.now [] [] []) }
+        ensures ok { IfOk result (λ live. live ≡ live_view (keep false []) addresses.now [] [] []) }
         ensures refused { IsAnsweredBy (making_refusal addresses.now) (result_err result) }
     {
         let segment = match Segment::new(alloc, addresses) {
@@ -73,11 +77,12 @@ impl Live {
         let Ok(addresses) = Vec::from_slice(alloc, addresses) else {
             return Err(NotMade::OutOfMemory);
         };
+        let calls = Calls::new(alloc)?;
         Ok(Live {
             alloc,
             addresses,
             segment,
-            calls: Vec::new(alloc),
+            calls,
             owed: Vec::new(alloc),
             seats: Vec::new(alloc),
             doors: Vec::new(alloc),
@@ -106,8 +111,9 @@ impl Live {
         ensures laws { Laws self.now }
         ensures headline { Headline self.now.addresses (trail self.now.addresses self.now.calls).steps }
     {
-        // A law, for the last clause: the call does nothing.
+        // Laws, for the clauses: the calls do nothing.
         the_headline_holds();
+        self.calls.laws();
         let _segment = &self.segment;
     }
 
@@ -125,11 +131,11 @@ impl Live {
         is_station(self.addresses.as_slice(), address)
     }
 
-    /// The stored calls.
+    /// The calls that are stored since the last cut.
     pub fn calls(&self) -> &[Stored]
-        ensures { result.now ≡ self.now.calls }
+        ensures { result.now ≡ since_cut self.now }
     {
-        self.calls.as_slice()
+        self.calls.stored()
     }
 
     /// Makes a call, and gives and notes what it tells. `room` is false only where a ring that the call needs has no place
@@ -138,12 +144,12 @@ impl Live {
     /// Refused where no more calls can be stored, and then where the segment refuses the call. Want of memory is answered
     /// only for a call that isn't refused. A refused call and want of memory change nothing.
     pub fn apply(&mut self, call: WorkerCall) -> Result<Reply, AllocError>
-        ensures full { 1000000 ≤ length self.old.calls → (result ≡ Ok (Refused TraceFull)) × (self.new ≡ self.old) }
-        ensures applied { length self.old.calls < 1000000 → IfOk result (λ r. (room : Bool) × Applied self.old self.new call r room) }
+        ensures full { 1000000 ≤ stored_calls self.old → (result ≡ Ok (Refused TraceFull)) × (self.new ≡ self.old) }
+        ensures applied { stored_calls self.old < 1000000 → IfOk result (λ r. (room : Bool) × Applied self.old self.new call r room) }
         ensures err { OnErr result (SameLive self.old self.new) }
         ensures not_refused { OnErr result (LacksMemory self.old call) }
     {
-        if self.calls.len() >= MOST_CALLS {
+        if self.calls.is_full() {
             return Ok(Reply::Refused(Refusal::TraceFull));
         }
         if self.apply_in_place(&call) {
@@ -156,11 +162,11 @@ impl Live {
     // nothing.
     #[inline]
     fn apply_in_place(&mut self, call: &WorkerCall) -> bool
-        requires { length self.old.calls < 1000000 }
+        requires { stored_calls self.old < 1000000 }
         ensures applied { OnTrue result (Applied self.old self.new call.now (Done []) true) }
         ensures other { OnFalse result (self.new ≡ self.old) }
     {
-        if self.calls.len() >= self.calls.capacity() {
+        if !self.calls.has_room() {
             return false;
         }
         let asked = call.with_room(true);
@@ -177,7 +183,7 @@ impl Live {
     // Any other call.
     #[inline(never)]
     fn apply_telling(&mut self, call: WorkerCall) -> Result<Reply, AllocError>
-        requires { length self.old.calls < 1000000 }
+        requires { stored_calls self.old < 1000000 }
         ensures applied { IfOk result (λ r. (room : Bool) × Applied self.old self.new call r room) }
         ensures err { OnErr result (SameLive self.old self.new) }
         ensures not_refused { OnErr result (LacksMemory self.old call) }
@@ -185,7 +191,7 @@ impl Live {
         if let Some(refusal) = refusal_for(&self.segment, &call) {
             return Ok(Reply::Refused(refusal));
         }
-        self.calls.reserve(1)?;
+        self.calls.reserve()?;
         let wanted = wanted_of(&self.segment, &call);
         let Found { room, buffers } = find_places(self.alloc, &mut self.doors, &wanted)?;
         match make(&mut self.segment, call.with_room(room))? {
@@ -283,11 +289,11 @@ impl Live {
             Some(refusal) => return Err(NotMade::Refused(refusal)),
             None => {}
         }
-        if self.calls.len() >= MOST_CALLS {
+        if self.calls.is_full() {
             return Err(NotMade::Refused(Refusal::TraceFull));
         }
         let doorway = Doorway::new(self.alloc)?;
-        self.calls.reserve(1)?;
+        self.calls.reserve()?;
         self.doors.reserve(1)?;
         let call = Call::Open {
             station,

@@ -4,10 +4,12 @@ ghost use Rattle.segment_rings.specs.Views.{SeatView, with_spare};
 ghost use Rattle.segment_rings.specs.declared.words.Submission.{Submission};
 ghost use Rattle.segment_shared.specs.Record.{owed_by};
 ghost use Rattle.segment_shared.specs.Facts.{SameSeats};
+ghost use Rattle.segment_shared.specs.Past.{count_since};
 ghost use Rattle.segment_shared.specs.Offers.{IsFrontIn, IsSendOf, IsCauseFor, IsReadyToSend, LacksRoomToSend, HasSpace, IsStored};
 ghost use Rattle.segment_shared.specs.declared.offer.Front.TheVariants as front;
 
 use crate::call::{Owed, Stored};
+use crate::calls::Calls;
 use segment_core::{Call, Refusal, Segment};
 use segment_rings::{Offer, Seat, Submission};
 use std::alloc::{AllocError, Global};
@@ -116,19 +118,22 @@ pub(crate) enum Ready {
 pub(crate) fn make_ready(
     alloc: Global,
     segment: &Segment,
-    calls: &mut Vec<Stored>,
+    calls: &mut Calls,
     owed: &mut Vec<Owed>,
     seats: &mut Vec<Seat>,
     k: usize,
 ) -> Result<Ready, AllocError>
     requires { k < length seats.old.items }
     ensures calls { calls.new.items ≡ calls.old.items }
+    ensures pieces { calls.new.pieces ≡ calls.old.pieces }
+    ensures image { calls.new.image ≡ calls.old.image }
     ensures owed { owed.new.items ≡ owed.old.items }
     ensures seats { SameSeats seats.old.items seats.new.items }
-    ensures ready { IfOk result (λ r. IsReadyToSend segment.now calls.old.items owed.old.items seats.new.items k r) }
-    ensures space { IfOk result (λ r. HasSpace (vec_len calls.new) (vec_capacity calls.new) r × HasSpace (vec_len owed.new) (vec_capacity owed.new) r) }
+    ensures ready { IfOk result (λ r. IsReadyToSend segment.now (count_since calls.old.pieces calls.old.items) owed.old.items seats.new.items k r) }
+    ensures space { IfOk result (λ r. HasSpace 0 calls.new.spare r × HasSpace (vec_len owed.new) (vec_capacity owed.new) r) }
+    ensures few { IfOk result (λ r. HasSpace (length calls.old.items + 1) (2 ^ 64) r) }
     ensures count { length seats.new.items ≡ length seats.old.items }
-    ensures err { OnErr result (LacksRoomToSend segment.now calls.old.items owed.old.items seats.new.items k) }
+    ensures err { OnErr result (LacksRoomToSend segment.now (count_since calls.old.pieces calls.old.items) owed.old.items seats.new.items k) }
 {
     let count = count_owed(owed.as_slice(), k as u64);
     match look(seats, k, count, calls.len()) {
@@ -139,7 +144,7 @@ pub(crate) fn make_ready(
             if let Some(refusal) = front_refusal(segment, seats.as_slice(), k) {
                 return Ok(Ready::NotSent(refusal));
             }
-            calls.reserve(1)?;
+            calls.reserve()?;
             owed.reserve(1)?;
             keep_notes(seats, k, count + 1)?;
             let call = send_of(alloc, seats.as_slice(), k)?;
@@ -150,7 +155,7 @@ pub(crate) fn make_ready(
 
 /// Takes the front submission and stores its Send, for which there is space.
 pub(crate) fn store(
-    calls: &mut Vec<Stored>,
+    calls: &mut Calls,
     owed: &mut Vec<Owed>,
     seats: &mut Vec<Seat>,
     k: usize,
@@ -158,10 +163,13 @@ pub(crate) fn store(
 )
     requires within { k < length seats.old.items }
     requires waits { (s : SeatView) → 0 < length (slice_index_or seats.old.items k s).ahead }
-    requires few { (s : SeatView) → length (slice_index_or seats.old.items k s).popped < 2 ^ 32 }
-    requires calls { vec_len calls.old < vec_capacity calls.old }
+    requires few { (s : SeatView) → length (slice_index_or seats.old.items k s).popped + 1 < 2 ^ 64 }
+    requires calls { 0 < calls.old.spare }
+    requires stored { count_since calls.old.pieces calls.old.items < 1000000 }
     requires owed { vec_len owed.old < vec_capacity owed.old }
-    ensures { (s : SeatView) → (x : Submission) × IsStored (slice_index_or seats.old.items k s) k number x calls.old.items calls.new.items owed.old.items owed.new.items seats.old.items seats.new.items }
+    ensures stored { (s : SeatView) → (x : Submission) × IsStored (slice_index_or seats.old.items k s) k number x calls.old.items calls.new.items owed.old.items owed.new.items seats.old.items seats.new.items }
+    ensures pieces { calls.new.pieces ≡ calls.old.pieces }
+    ensures image { calls.new.image ≡ calls.old.image }
 {
     let seat = &mut seats[k];
     let station = seat.station();

@@ -1,5 +1,6 @@
 //! Threads on one segment, and what clients, ports and workers do on one thread.
 mod limits;
+mod pieces;
 mod steps;
 mod threads;
 

@@ -168,7 +168,16 @@ fn fill_calls(
     accepts(rt, live, sender, Accepted::Refused(full))?;
     assert!(rt; close(live, inbox)? == Err(full));
     is_unopened(rt, live, R, full)?;
-    is_unopened(rt, live, Address(0x50), Refusal::NoSuchStation)
+    is_unopened(rt, live, Address(0x50), Refusal::NoSuchStation)?;
+    goes_on_after_a_cut(rt, live, sender)
+}
+
+// What was refused is done once the calls are handed out.
+fn goes_on_after_a_cut(rt: &impl Abort, live: &mut Live, sender: &Client) -> Result<(), Fail> {
+    let piece = live.cut()?;
+    assert_eq!(rt; piece.calls.len(), MOST_CALLS);
+    assert!(rt; refused(live, WorkerCall::Tick { n: 0 })?.is_none());
+    accepts(rt, live, sender, Accepted::Sent(1))
 }
 
 fn fill_calls_of(rt: &impl Abort, alloc: Global, live: &mut Live) -> Result<(), Fail> {

@@ -1,4 +1,4 @@
-use Rattle.std.proofs.Common.{◌≡◌, ◌+◌, ◌<◌, [], ◌∷◌, ◌++◌, length, map, get_or, refl, sym, ap, ◌∙◌, arith, subst, inl, inr, true, false, Some, None, IsOk}
+use Rattle.std.proofs.Common.{◌≡◌, ◌+◌, ◌<◌, [], ◌∷◌, ◌++◌, length, map, get_or, refl, sym, ap, ◌∙◌, arith, subst, inl, inr, true, false, Some, None, IsOk, ◌^◌}
 use Rattle.std.proofs.lemmas.List.{get_or_default}
 use Rattle.segment_law.specs.Record.{StandsAt}
 use Rattle.segment_law.specs.Calls.{called}
@@ -9,9 +9,10 @@ use Rattle.reply_law.specs.Replies.{reply_of, left_by, IsRefusal, IsAnsweredBy, 
 use Rattle.segment_rings.specs.Views.{SeatView, new_seat}
 use Rattle.segment_shared.specs.declared.offer.Ready.{Ready}
 use Rattle.segment_shared.specs.Record.{owed_by, trail}
+use Rattle.segment_shared.specs.Past.{count_since}
 use Rattle.segment_shared.specs.Facts.{Holds}
-use Rattle.segment_shared.specs.LiveView.{seat_free}
-use Rattle.segment_shared.specs.Offers.{IsReadyToSend, IsCauseFor, LacksRoomToSend, send_call}
+use Rattle.segment_shared.specs.LiveView.{seat_free, keep}
+use Rattle.segment_shared.specs.Offers.{IsReadyToSend, IsCauseFor, LacksRoomToSend, HasSpace, send_call}
 use Rattle.segment_shared.proofs.Trails.{accepted_le}
 use Rattle.segment_shared.proofs.Doors.{same_doors-refl}
 use Rattle.segment_shared.proofs.Fronts.{empty_at, waits_at, free_is}
@@ -25,10 +26,10 @@ abbrev nobody : SeatView
 nobody = new_seat 0 (record { 0 = 0 }) 0 0
 
 pub invariant_of-self : goal.invariant_of-self
-invariant_of-self c = rw (c.make_ready.ensures.calls, c.make_ready.ensures.owed) (holds-same _ _ _ _ _ _ _ _ c.make_ready.ensures.seats (same_doors-refl _) c.self.invariant)
+invariant_of-self c = rw (c.make_ready.ensures.calls, c.make_ready.ensures.pieces, c.make_ready.ensures.image, c.make_ready.ensures.owed) (holds-same _ _ _ _ _ _ _ _ c.make_ready.ensures.seats (same_doors-refl _) c.self.invariant.0, c.self.invariant.1)
 
 pub returns-in_err-make_ready-clause-err : goal.returns-in_err-make_ready-clause-err
-returns-in_err-make_ready-clause-err c = rw (← c.self.view_is, c.make_ready.ensures.calls) (on_err _ (same_live _ _ _ _ _ _ _ c.make_ready.ensures.seats (same_doors-refl _)))
+returns-in_err-make_ready-clause-err c = rw (← c.self.view_is, c.make_ready.ensures.calls, c.make_ready.ensures.pieces) (on_err _ (same_live _ _ _ _ _ _ _ c.make_ready.ensures.seats (same_doors-refl _)))
 
 pub returns-in_err-make_ready-clause-not_refused : goal.returns-in_err-make_ready-clause-not_refused
 returns-in_err-make_ready-clause-not_refused c =
@@ -42,8 +43,8 @@ returns-in_err-make_ready-clause-not_refused c =
     let k = c.args.client in
     let l : k < length ss = omega (arith, c.self.inside.seats.ok.0, c.len.ensures) in
     let l' : k < length ts = omega (arith, c.make_ready.ensures.count) in
-    let lacks : LacksRoomToSend st xs ws ts k = c.in_err-make_ready.ensures.err in
-    rw (← c.self.view_is, c.make_ready.ensures.calls) (on_err _ (lacks_memory_for c.self.inside.stopped addrs st xs ws ss ts ds ds k nobody c.self.invariant.at c.self.invariant.owes l' (clients-same ss ts c.make_ready.ensures.seats) lacks))
+    let lacks : LacksRoomToSend st (count_since c.self.inside.calls.pieces xs) ws ts k = c.in_err-make_ready.ensures.err in
+    rw (← c.self.view_is, c.make_ready.ensures.calls, c.make_ready.ensures.pieces) (on_err _ (lacks_memory_for (keep c.self.inside.stopped c.self.inside.calls.pieces) addrs st xs ws ss ts ds ds k nobody c.self.invariant.0.at c.self.invariant.0.owes l' (clients-same ss ts c.make_ready.ensures.seats) lacks))
 
 pub returns-in_err-number-in-Send-clause-not_refused : goal.returns-in_err-number-in-Send-clause-not_refused
 returns-in_err-number-in-Send-clause-not_refused c =
@@ -58,32 +59,32 @@ returns-in_err-number-in-Send-clause-not_refused c =
     let d = nobody in
     let l : k < length ss = omega (arith, c.self.inside.seats.ok.0, c.len.ensures) in
     let l' : k < length ts = omega (arith, c.make_ready.ensures.count) in
-    let r = subst (λ (u : Ready). IsReadyToSend st xs ws ts k u) c.in-Send.is c.in_ok-make_ready.ensures.ready in
+    let r = subst (λ (u : Ready). IsReadyToSend st (count_since c.self.inside.calls.pieces xs) ws ts k u) c.in-Send.is c.in_ok-make_ready.ensures.ready in
     let passes : IsOk (called st c.in-Send.call) = c.in_err-number-in-Send.ensures.not_refused in
     let cause : (s : SeatView) → IsCauseFor st (get_or ts k s) None = λ s. let q = r.1 s in (q.0, q.1, no_cause (called st (send_call (get_or ts k s).station q.0)) (subst (λ (u : Call). IsOk (called st u)) q.2 passes)) in
-    let lacks : LacksRoomToSend st xs ws ts k = ((r.0.0, λ s. ((r.0.1 s).0, (r.0.1 s).1)), cause) in
-    rw (← c.self.view_is, c.make_ready.ensures.calls) (on_err _ (lacks_memory_for c.self.inside.stopped addrs st xs ws ss ts ds ds k nobody c.self.invariant.at c.self.invariant.owes l' (clients-same ss ts c.make_ready.ensures.seats) lacks))
+    let lacks : LacksRoomToSend st (count_since c.self.inside.calls.pieces xs) ws ts k = ((r.0.0, λ s. ((r.0.1 s).0, (r.0.1 s).1)), cause) in
+    rw (← c.self.view_is, c.make_ready.ensures.calls, c.make_ready.ensures.pieces) (on_err _ (lacks_memory_for (keep c.self.inside.stopped c.self.inside.calls.pieces) addrs st xs ws ss ts ds ds k nobody c.self.invariant.0.at c.self.invariant.0.owes l' (clients-same ss ts c.make_ready.ensures.seats) lacks))
 
 pub invariant_of-self-in-Empty : goal.invariant_of-self-in-Empty
-invariant_of-self-in-Empty c = rw (c.make_ready.ensures.calls, c.make_ready.ensures.owed) (holds-same _ _ _ _ _ _ _ _ c.make_ready.ensures.seats (same_doors-refl _) c.self.invariant)
+invariant_of-self-in-Empty c = rw (c.make_ready.ensures.calls, c.make_ready.ensures.pieces, c.make_ready.ensures.image, c.make_ready.ensures.owed) (holds-same _ _ _ _ _ _ _ _ c.make_ready.ensures.seats (same_doors-refl _) c.self.invariant.0, c.self.invariant.1)
 
 pub invariant_of-self-in-Owed : goal.invariant_of-self-in-Owed
-invariant_of-self-in-Owed c = rw (c.make_ready.ensures.calls, c.make_ready.ensures.owed) (holds-same _ _ _ _ _ _ _ _ c.make_ready.ensures.seats (same_doors-refl _) c.self.invariant)
+invariant_of-self-in-Owed c = rw (c.make_ready.ensures.calls, c.make_ready.ensures.pieces, c.make_ready.ensures.image, c.make_ready.ensures.owed) (holds-same _ _ _ _ _ _ _ _ c.make_ready.ensures.seats (same_doors-refl _) c.self.invariant.0, c.self.invariant.1)
 
 pub invariant_of-self-in-Full : goal.invariant_of-self-in-Full
-invariant_of-self-in-Full c = rw (c.make_ready.ensures.calls, c.make_ready.ensures.owed) (holds-same _ _ _ _ _ _ _ _ c.make_ready.ensures.seats (same_doors-refl _) c.self.invariant)
+invariant_of-self-in-Full c = rw (c.make_ready.ensures.calls, c.make_ready.ensures.pieces, c.make_ready.ensures.image, c.make_ready.ensures.owed) (holds-same _ _ _ _ _ _ _ _ c.make_ready.ensures.seats (same_doors-refl _) c.self.invariant.0, c.self.invariant.1)
 
 pub invariant_of-self-in_err-number-in-Send : goal.invariant_of-self-in_err-number-in-Send
-invariant_of-self-in_err-number-in-Send c = rw (c.in_err-number-in-Send.ensures.err, c.make_ready.ensures.calls, c.make_ready.ensures.owed) (holds-same _ _ _ _ _ _ _ _ c.make_ready.ensures.seats (same_doors-refl _) c.self.invariant)
+invariant_of-self-in_err-number-in-Send c = rw (c.in_err-number-in-Send.ensures.err, c.make_ready.ensures.calls, c.make_ready.ensures.pieces, c.make_ready.ensures.image, c.make_ready.ensures.owed) (holds-same _ _ _ _ _ _ _ _ c.make_ready.ensures.seats (same_doors-refl _) c.self.invariant.0, c.self.invariant.1)
 
 pub returns-in_err-number-in-Send-clause-err : goal.returns-in_err-number-in-Send-clause-err
-returns-in_err-number-in-Send-clause-err c = rw (← c.self.view_is, c.make_ready.ensures.calls) (on_err _ (same_live _ _ _ _ _ _ _ c.make_ready.ensures.seats (same_doors-refl _)))
+returns-in_err-number-in-Send-clause-err c = rw (← c.self.view_is, c.make_ready.ensures.calls, c.make_ready.ensures.pieces) (on_err _ (same_live _ _ _ _ _ _ _ c.make_ready.ensures.seats (same_doors-refl _)))
 
 pub invariant_of-self-in-Refused : goal.invariant_of-self-in-Refused
 invariant_of-self-in-Refused c =
-    let f = c.in_ok-number-in-Send.ensures.follows c.self.inside.addresses.items (trail c.self.inside.addresses.items c.self.inside.calls.items).steps c.self.invariant.stands in
+    let f = c.in_ok-number-in-Send.ensures.follows c.self.inside.addresses.items (trail c.self.inside.addresses.items c.self.inside.calls.items).steps c.self.invariant.0.stands in
     let same = f.refused (subst IsRefusal (sym c.in-Refused.is) tt) in
-    rw (same, c.make_ready.ensures.calls, c.make_ready.ensures.owed) (holds-same _ _ _ _ _ _ _ _ c.make_ready.ensures.seats (same_doors-refl _) c.self.invariant)
+    rw (same, c.make_ready.ensures.calls, c.make_ready.ensures.pieces, c.make_ready.ensures.image, c.make_ready.ensures.owed) (holds-same _ _ _ _ _ _ _ _ c.make_ready.ensures.seats (same_doors-refl _) c.self.invariant.0, c.self.invariant.1)
 
 pub returns-in-Empty-clause-accepted : goal.returns-in-Empty-clause-accepted
 returns-in-Empty-clause-accepted c =
@@ -97,8 +98,8 @@ returns-in-Empty-clause-accepted c =
     let d = nobody in
     let l : k < length ss = omega (arith, c.self.inside.seats.ok.0, c.len.ensures) in
     let l' : k < length ts = omega (arith, c.make_ready.ensures.count) in
-    let r = subst (λ (u : Ready). IsReadyToSend c.self.inside.segment xs ws ts k u) c.in-Empty.is c.in_ok-make_ready.ensures.ready in
-    rw (← c.self.view_is, c.make_ready.ensures.calls) (same_live _ _ _ _ _ _ _ c.make_ready.ensures.seats (same_doors-refl _), empty_at c.self.inside.stopped addrs xs ts ds k d l' (r d))
+    let r = subst (λ (u : Ready). IsReadyToSend c.self.inside.segment (count_since c.self.inside.calls.pieces xs) ws ts k u) c.in-Empty.is c.in_ok-make_ready.ensures.ready in
+    rw (← c.self.view_is, c.make_ready.ensures.calls, c.make_ready.ensures.pieces) (same_live _ _ _ _ _ _ _ c.make_ready.ensures.seats (same_doors-refl _), empty_at (keep c.self.inside.stopped c.self.inside.calls.pieces) addrs xs ts ds k d l' (r d))
 
 pub returns-in-Owed-clause-accepted : goal.returns-in-Owed-clause-accepted
 returns-in-Owed-clause-accepted c =
@@ -112,10 +113,10 @@ returns-in-Owed-clause-accepted c =
     let d = nobody in
     let l : k < length ss = omega (arith, c.self.inside.seats.ok.0, c.len.ensures) in
     let l' : k < length ts = omega (arith, c.make_ready.ensures.count) in
-    let r = subst (λ (u : Ready). IsReadyToSend c.self.inside.segment xs ws ts k u) c.in-Owed.is c.in_ok-make_ready.ensures.ready in
-    let f : get_or (map seat_free ts) k 0 ≡ (get_or ts k d).free = free_is c.self.inside.stopped addrs xs ts ds k d l' in
-    let o : owed_by k ws ≡ owed_by k (trail addrs xs).owed = ap (owed_by k) c.self.invariant.owes in
-    rw (← c.self.view_is, c.make_ready.ensures.calls) (same_live _ _ _ _ _ _ _ c.make_ready.ensures.seats (same_doors-refl _), waits_at c.self.inside.stopped addrs xs ts ds k d l' (r d).0, omega (arith, f, o, (r d).1))
+    let r = subst (λ (u : Ready). IsReadyToSend c.self.inside.segment (count_since c.self.inside.calls.pieces xs) ws ts k u) c.in-Owed.is c.in_ok-make_ready.ensures.ready in
+    let f : get_or (map seat_free ts) k 0 ≡ (get_or ts k d).free = free_is (keep c.self.inside.stopped c.self.inside.calls.pieces) addrs xs ts ds k d l' in
+    let o : owed_by k ws ≡ owed_by k (trail addrs xs).owed = ap (owed_by k) c.self.invariant.0.owes in
+    rw (← c.self.view_is, c.make_ready.ensures.calls, c.make_ready.ensures.pieces) (same_live _ _ _ _ _ _ _ c.make_ready.ensures.seats (same_doors-refl _), waits_at (keep c.self.inside.stopped c.self.inside.calls.pieces) addrs xs ts ds k d l' (r d).0, omega (arith, f, o, (r d).1))
 
 pub returns-in-Full-clause-accepted : goal.returns-in-Full-clause-accepted
 returns-in-Full-clause-accepted c =
@@ -129,10 +130,10 @@ returns-in-Full-clause-accepted c =
     let d = nobody in
     let l : k < length ss = omega (arith, c.self.inside.seats.ok.0, c.len.ensures) in
     let l' : k < length ts = omega (arith, c.make_ready.ensures.count) in
-    let r = subst (λ (u : Ready). IsReadyToSend c.self.inside.segment xs ws ts k u) c.in-Full.is c.in_ok-make_ready.ensures.ready in
-    let f : get_or (map seat_free ts) k 0 ≡ (get_or ts k d).free = free_is c.self.inside.stopped addrs xs ts ds k d l' in
-    let o : owed_by k ws ≡ owed_by k (trail addrs xs).owed = ap (owed_by k) c.self.invariant.owes in
-    rw (← c.self.view_is, c.make_ready.ensures.calls) (same_live _ _ _ _ _ _ _ c.make_ready.ensures.seats (same_doors-refl _), waits_at c.self.inside.stopped addrs xs ts ds k d l' (r.1 d).0, omega (arith, f, o, (r.1 d).1), inl (refl, r.0))
+    let r = subst (λ (u : Ready). IsReadyToSend c.self.inside.segment (count_since c.self.inside.calls.pieces xs) ws ts k u) c.in-Full.is c.in_ok-make_ready.ensures.ready in
+    let f : get_or (map seat_free ts) k 0 ≡ (get_or ts k d).free = free_is (keep c.self.inside.stopped c.self.inside.calls.pieces) addrs xs ts ds k d l' in
+    let o : owed_by k ws ≡ owed_by k (trail addrs xs).owed = ap (owed_by k) c.self.invariant.0.owes in
+    rw (← c.self.view_is, c.make_ready.ensures.calls, c.make_ready.ensures.pieces) (same_live _ _ _ _ _ _ _ c.make_ready.ensures.seats (same_doors-refl _), waits_at (keep c.self.inside.stopped c.self.inside.calls.pieces) addrs xs ts ds k d l' (r.1 d).0, omega (arith, f, o, (r.1 d).1), inl (refl, r.0))
 
 pub returns-in-Refused-clause-accepted : goal.returns-in-Refused-clause-accepted
 returns-in-Refused-clause-accepted c =
@@ -146,19 +147,19 @@ returns-in-Refused-clause-accepted c =
     let d = nobody in
     let l : k < length ss = omega (arith, c.self.inside.seats.ok.0, c.len.ensures) in
     let l' : k < length ts = omega (arith, c.make_ready.ensures.count) in
-    let r = subst (λ (u : Ready). IsReadyToSend c.self.inside.segment xs ws ts k u) c.in-Send.is c.in_ok-make_ready.ensures.ready in
-    let f : get_or (map seat_free ts) k 0 ≡ (get_or ts k d).free = free_is c.self.inside.stopped addrs xs ts ds k d l' in
-    let o : owed_by k ws ≡ owed_by k (trail addrs xs).owed = ap (owed_by k) c.self.invariant.owes in
+    let r = subst (λ (u : Ready). IsReadyToSend c.self.inside.segment (count_since c.self.inside.calls.pieces xs) ws ts k u) c.in-Send.is c.in_ok-make_ready.ensures.ready in
+    let f : get_or (map seat_free ts) k 0 ≡ (get_or ts k d).free = free_is (keep c.self.inside.stopped c.self.inside.calls.pieces) addrs xs ts ds k d l' in
+    let o : owed_by k ws ≡ owed_by k (trail addrs xs).owed = ap (owed_by k) c.self.invariant.0.owes in
     let st = c.self.inside.segment in
     let s = get_or ts k d in
     let q = r.1 d in
     let e = sym c.in-Refused.is ∙ c.in_ok-number-in-Send.ensures.reply ∙ ap (reply_of st) q.2 in
     let at : s ≡ get_or ts k s = get_or_default ts k d s l' in
-    rw (← c.self.view_is, c.make_ready.ensures.calls) (
+    rw (← c.self.view_is, c.make_ready.ensures.calls, c.make_ready.ensures.pieces) (
       same_live _ _ _ _ _ _ _ c.make_ready.ensures.seats (same_doors-refl _),
-      waits_at c.self.inside.stopped addrs xs ts ds k d l' (r.0.1 d).0,
+      waits_at (keep c.self.inside.stopped c.self.inside.calls.pieces) addrs xs ts ds k d l' (r.0.1 d).0,
       omega (arith, f, o, (r.0.1 d).1),
-      inr (refused_send c.self.inside.stopped addrs st xs ss ts ds ds k q.0 s _ c.self.invariant.at l' at (clients-same ss ts c.make_ready.ensures.seats) r.0.0 q.1 e),
+      inr (refused_send (keep c.self.inside.stopped c.self.inside.calls.pieces) addrs st xs ss ts ds ds k q.0 s _ c.self.invariant.0.at l' at (clients-same ss ts c.make_ready.ensures.seats) r.0.0 q.1 e),
     )
 
 pub store-requires-clause-few : goal.store-requires-clause-few
@@ -166,17 +167,18 @@ store-requires-clause-few c s =
     let k = c.args.client in
     let xs = c.self.inside.calls.items in
     let ts = c.make_ready.new.seats.items in
-    let h : Holds _ _ xs _ ts _ = holds-same _ _ _ _ _ _ _ _ c.make_ready.ensures.seats (same_doors-refl _) c.self.invariant in
+    let h : Holds _ _ xs _ ts _ = holds-same _ _ _ _ _ _ _ _ c.make_ready.ensures.seats (same_doors-refl _) c.self.invariant.0 in
     let l : k < length c.self.inside.seats.items = omega (arith, c.self.inside.seats.ok.0, c.len.ensures) in
     let l' : k < length ts = omega (arith, c.make_ready.ensures.count) in
     let e = ap length (popped_at 0 k xs ts s l' h.ids h.pops) in
-    omega (arith, e, accepted_le (0 + k) xs, h.few)
+    let fits : length xs + 1 < 2 ^ 64 = subst (λ (u : Ready). HasSpace (length xs + 1) (2 ^ 64) u) c.in-Send.is c.in_ok-make_ready.ensures.few in
+    omega (arith, e, accepted_le (0 + k) xs, fits)
 
 pub unreachable-requires : goal.unreachable-requires
 unreachable-requires c =
-    let r = subst (λ (u : Ready). IsReadyToSend c.self.inside.segment c.self.inside.calls.items c.self.inside.owed.items c.make_ready.new.seats.items c.args.client u) c.in-Send.is c.in_ok-make_ready.ensures.ready in
+    let r = subst (λ (u : Ready). IsReadyToSend c.self.inside.segment (count_since c.self.inside.calls.pieces c.self.inside.calls.items) c.self.inside.owed.items c.make_ready.new.seats.items c.args.client u) c.in-Send.is c.in_ok-make_ready.ensures.ready in
     let q = r.1 nobody in
-    let f = c.in_ok-number-in-Send.ensures.follows c.self.inside.addresses.items (trail c.self.inside.addresses.items c.self.inside.calls.items).steps c.self.invariant.stands in
+    let f = c.in_ok-number-in-Send.ensures.follows c.self.inside.addresses.items (trail c.self.inside.addresses.items c.self.inside.calls.items).steps c.self.invariant.0.stands in
     let k = subst (λ (x : Call). IsAnsweredBy x (Opened c.in-Opened.field-0)) q.2 (subst (IsAnsweredBy c.in-Send.call) c.in-Opened.is f.kind) in
     let no : false ≡ true = k in
     cc
@@ -192,12 +194,12 @@ invariant_of-self-in-Sent c =
     let ds = c.self.inside.doors.items in
     let d = nobody in
     let s = get_or ts k d in
-    let h : Holds addrs st xs ws ts ds = holds-same _ _ _ _ _ _ _ _ c.make_ready.ensures.seats (same_doors-refl _) c.self.invariant in
+    let h : Holds addrs st xs ws ts ds = holds-same _ _ _ _ _ _ _ _ c.make_ready.ensures.seats (same_doors-refl _) c.self.invariant.0 in
     let l : k < length c.self.inside.seats.items = omega (arith, c.self.inside.seats.ok.0, c.len.ensures) in
     let l' : k < length ts = omega (arith, c.make_ready.ensures.count) in
-    let r = subst (λ (u : Ready). IsReadyToSend c.self.inside.segment xs ws ts k u) c.in-Send.is c.in_ok-make_ready.ensures.ready in
+    let r = subst (λ (u : Ready). IsReadyToSend c.self.inside.segment (count_since c.self.inside.calls.pieces xs) ws ts k u) c.in-Send.is c.in_ok-make_ready.ensures.ready in
     let q = r.1 d in
-    let e = c.store.ensures d in
+    let e = c.store.ensures.stored d in
     let x = e.0 in
     let same : q.0 ≡ x = same_front q.0 x s.ahead e.1.rest q.1 e.1.front in
     let call : c.in-Send.call ≡ send_call s.station x = q.2 ∙ ap (send_call s.station) same in
@@ -211,7 +213,8 @@ invariant_of-self-in-Sent c =
     let f : Follows st (send_call s.station x) c.make.new.segment (Sent c.in-Sent.number) =
     subst (λ (u : Reply). Follows st (send_call s.station x) c.make.new.segment u) c.in-Sent.is (subst (λ (u : Call). Follows st u c.make.new.segment c.in_ok-number-in-Send.field-0) call f0) in
     let at : s ≡ get_or ts k s = get_or_default ts k d s l' in
-    rw (e.1.calls, e.1.owed, e.1.seats, c.make_ready.ensures.calls, c.make_ready.ensures.owed) (holds-send addrs st c.make.new.segment xs ws ts ds k c.in-Sent.number x e.1.rest s h l' r.0.0 at (r.0.1 d).1 (r.0.1 d).2 rep aft stands f)
+    let fits : length xs + 1 < 2 ^ 64 = subst (λ (u : Ready). HasSpace (length xs + 1) (2 ^ 64) u) c.in-Send.is c.in_ok-make_ready.ensures.few in
+    rw (e.1.calls, e.1.owed, e.1.seats, c.store.ensures.pieces, c.store.ensures.image, c.make_ready.ensures.calls, c.make_ready.ensures.pieces, c.make_ready.ensures.image, c.make_ready.ensures.owed) (holds-send addrs st c.make.new.segment xs ws ts ds k c.in-Sent.number x e.1.rest s h l' fits at (r.0.1 d).1 (r.0.1 d).2 rep aft stands f, c.self.invariant.1)
 
 pub returns-in-Sent-clause-accepted : goal.returns-in-Sent-clause-accepted
 returns-in-Sent-clause-accepted c =
@@ -227,27 +230,27 @@ returns-in-Sent-clause-accepted c =
     let s = get_or ts k d in
     let l : k < length ss = omega (arith, c.self.inside.seats.ok.0, c.len.ensures) in
     let l' : k < length ts = omega (arith, c.make_ready.ensures.count) in
-    let r = subst (λ (u : Ready). IsReadyToSend c.self.inside.segment xs ws ts k u) c.in-Send.is c.in_ok-make_ready.ensures.ready in
+    let r = subst (λ (u : Ready). IsReadyToSend c.self.inside.segment (count_since c.self.inside.calls.pieces xs) ws ts k u) c.in-Send.is c.in_ok-make_ready.ensures.ready in
     let q = r.1 d in
-    let e = c.store.ensures d in
+    let e = c.store.ensures.stored d in
     let x = e.0 in
     let same : q.0 ≡ x = same_front q.0 x s.ahead e.1.rest q.1 e.1.front in
     let call : c.in-Send.call ≡ send_call s.station x = q.2 ∙ ap (send_call s.station) same in
     let rep : reply_of st (send_call s.station x) ≡ Sent c.in-Sent.number = ap (reply_of st) (sym call) ∙ sym c.in_ok-number-in-Send.ensures.reply ∙ c.in-Sent.is in
     let at : s ≡ get_or ts k s = get_or_default ts k d s l' in
-    rw (← c.self.view_is, e.1.calls, e.1.seats, c.make_ready.ensures.calls) (x, sent_for c.self.inside.stopped addrs st xs ss ts ds ds k c.in-Sent.number x e.1.rest s c.self.invariant.at l' at (clients-same ss ts c.make_ready.ensures.seats) refl (r.0.1 d).0.0 rep)
+    rw (← c.self.view_is, e.1.calls, e.1.seats, c.store.ensures.pieces, c.make_ready.ensures.calls, c.make_ready.ensures.pieces) (x, sent_for (keep c.self.inside.stopped c.self.inside.calls.pieces) addrs st xs ss ts ds ds k c.in-Sent.number x e.1.rest s c.self.invariant.0.at l' at (clients-same ss ts c.make_ready.ensures.seats) refl (r.0.1 d).0.0 rep)
 
 pub unreachable-requires-in-Done : goal.unreachable-requires-in-Done
 unreachable-requires-in-Done c =
-    let r = subst (λ (u : Ready). IsReadyToSend c.self.inside.segment c.self.inside.calls.items c.self.inside.owed.items c.make_ready.new.seats.items c.args.client u) c.in-Send.is c.in_ok-make_ready.ensures.ready in
+    let r = subst (λ (u : Ready). IsReadyToSend c.self.inside.segment (count_since c.self.inside.calls.pieces c.self.inside.calls.items) c.self.inside.owed.items c.make_ready.new.seats.items c.args.client u) c.in-Send.is c.in_ok-make_ready.ensures.ready in
     let q = r.1 nobody in
-    let f = c.in_ok-number-in-Send.ensures.follows c.self.inside.addresses.items (trail c.self.inside.addresses.items c.self.inside.calls.items).steps c.self.invariant.stands in
+    let f = c.in_ok-number-in-Send.ensures.follows c.self.inside.addresses.items (trail c.self.inside.addresses.items c.self.inside.calls.items).steps c.self.invariant.0.stands in
     let k = subst (λ (x : Call). IsAnsweredBy x (Done c.in-Done.field-0)) q.2 (subst (IsAnsweredBy c.in-Send.call) c.in-Done.is f.kind) in
     let no : true ≡ false = k.1 in
     cc
 
 pub invariant_of-self-in-NotSent : goal.invariant_of-self-in-NotSent
-invariant_of-self-in-NotSent c = rw (c.make_ready.ensures.calls, c.make_ready.ensures.owed) (holds-same _ _ _ _ _ _ _ _ c.make_ready.ensures.seats (same_doors-refl _) c.self.invariant)
+invariant_of-self-in-NotSent c = rw (c.make_ready.ensures.calls, c.make_ready.ensures.pieces, c.make_ready.ensures.image, c.make_ready.ensures.owed) (holds-same _ _ _ _ _ _ _ _ c.make_ready.ensures.seats (same_doors-refl _) c.self.invariant.0, c.self.invariant.1)
 
 pub returns-in-NotSent-clause-accepted : goal.returns-in-NotSent-clause-accepted
 returns-in-NotSent-clause-accepted c =
@@ -262,16 +265,16 @@ returns-in-NotSent-clause-accepted c =
     let d = nobody in
     let l : k < length ss = omega (arith, c.self.inside.seats.ok.0, c.len.ensures) in
     let l' : k < length ts = omega (arith, c.make_ready.ensures.count) in
-    let r = subst (λ (u : Ready). IsReadyToSend st xs ws ts k u) c.in-NotSent.is c.in_ok-make_ready.ensures.ready in
-    let f : get_or (map seat_free ts) k 0 ≡ (get_or ts k d).free = free_is c.self.inside.stopped addrs xs ts ds k d l' in
-    let o : owed_by k ws ≡ owed_by k (trail addrs xs).owed = ap (owed_by k) c.self.invariant.owes in
+    let r = subst (λ (u : Ready). IsReadyToSend st (count_since c.self.inside.calls.pieces xs) ws ts k u) c.in-NotSent.is c.in_ok-make_ready.ensures.ready in
+    let f : get_or (map seat_free ts) k 0 ≡ (get_or ts k d).free = free_is (keep c.self.inside.stopped c.self.inside.calls.pieces) addrs xs ts ds k d l' in
+    let o : owed_by k ws ≡ owed_by k (trail addrs xs).owed = ap (owed_by k) c.self.invariant.0.owes in
     let s = get_or ts k d in
     let q : IsCauseFor st s (Some c.in-NotSent.refusal) = r.1 d in
     let e : Refused c.in-NotSent.refusal ≡ reply_of st (send_call s.station q.0) = refused_reply st c.in-NotSent.refusal (called st (send_call s.station q.0)) q.2 in
     let at : s ≡ get_or ts k s = get_or_default ts k d s l' in
-    rw (← c.self.view_is, c.make_ready.ensures.calls) (
+    rw (← c.self.view_is, c.make_ready.ensures.calls, c.make_ready.ensures.pieces) (
       same_live _ _ _ _ _ _ _ c.make_ready.ensures.seats (same_doors-refl _),
-      waits_at c.self.inside.stopped addrs xs ts ds k d l' (r.0.1 d).0,
+      waits_at (keep c.self.inside.stopped c.self.inside.calls.pieces) addrs xs ts ds k d l' (r.0.1 d).0,
       omega (arith, f, o, (r.0.1 d).1),
-      inr (refused_send c.self.inside.stopped addrs st xs ss ts ds ds k q.0 s _ c.self.invariant.at l' at (clients-same ss ts c.make_ready.ensures.seats) r.0.0 q.1 e),
+      inr (refused_send (keep c.self.inside.stopped c.self.inside.calls.pieces) addrs st xs ss ts ds ds k q.0 s _ c.self.invariant.0.at l' at (clients-same ss ts c.make_ready.ensures.seats) r.0.0 q.1 e),
     )

@@ -1,4 +1,5 @@
-use Rattle.std.proofs.Common.{◌≡◌, ◌<◌, List, [], ◌∷◌, ◌++◌, length, map, true, false, None, refl, sym, ap, ◌∙◌, subst}
+use Rattle.segment_shared.specs.Past.{count_since}
+use Rattle.std.proofs.Common.{◌≡◌, ◌<◌, List, [], ◌∷◌, ◌++◌, length, map, true, false, None, refl, sym, ap, ◌∙◌, subst, ◌^◌, ◌+◌}
 use Rattle.segment_law.specs.Calls.{called}
 use Rattle.segment_law.specs.Record.{StandsAt}
 use Rattle.segment_law.specs.declared.call.Call.{Call}
@@ -13,7 +14,7 @@ use Rattle.segment_shared.specs.Words.{call_of, wanted_by}
 use Rattle.segment_shared.specs.Record.{settle_notes, settle_owed, trail}
 use Rattle.segment_shared.specs.Facts.{IdsFrom, HaveRoom, OwedWithin, note_all, Holds, give_all}
 use Rattle.segment_shared.specs.Places.{IsFound}
-use Rattle.segment_shared.specs.LiveView.{LiveView, stored, port_of, SparesClosed}
+use Rattle.segment_shared.specs.LiveView.{LiveView, stored, port_of, SparesClosed, keep, stored_calls}
 use Rattle.segment_shared.proofs.Applying.{applied_as, refused_as, told_as, given_as, found_false}
 use Rattle.segment_shared.proofs.Doors.{apart-same, give_all_unplaced}
 use Rattle.segment_shared.proofs.Openings.{refused_reply}
@@ -23,19 +24,19 @@ use Rattle.segment_shared.proofs.Holding.{holds-same, holds-tell, same_seats-ref
 use Rattle.segment_shared.proofs.live.Live.apply_telling.Goals as goal
 
 pub invariant_of-self-in_err-room : goal.invariant_of-self-in_err-room
-invariant_of-self-in_err-room c = rw c.reserve.ensures.items (holds-same _ _ _ _ _ _ _ _ (same_seats-refl _) c.find_places.ensures.same c.self.invariant)
+invariant_of-self-in_err-room c = rw (c.reserve.ensures.items, c.reserve.ensures.pieces, c.reserve.ensures.image) (holds-same _ _ _ _ _ _ _ _ (same_seats-refl _) c.find_places.ensures.same c.self.invariant.0, c.self.invariant.1)
 
 pub returns-in_err-room-clause-err : goal.returns-in_err-room-clause-err
-returns-in_err-room-clause-err c = rw (← c.self.view_is, c.reserve.ensures.items) (on_err _ (same_live _ _ _ _ _ _ _ (same_seats-refl _) c.find_places.ensures.same))
+returns-in_err-room-clause-err c = rw (← c.self.view_is, c.reserve.ensures.items, c.reserve.ensures.pieces) (on_err _ (same_live _ _ _ _ _ _ _ (same_seats-refl _) c.find_places.ensures.same))
 
 pub invariant_of-self-in_err-events : goal.invariant_of-self-in_err-events
-invariant_of-self-in_err-events c = rw (c.in_err-events.ensures.err, c.reserve.ensures.items) (holds-same _ _ _ _ _ _ _ _ (same_seats-refl _) c.find_places.ensures.same c.self.invariant)
+invariant_of-self-in_err-events c = rw (c.in_err-events.ensures.err, c.reserve.ensures.items, c.reserve.ensures.pieces, c.reserve.ensures.image) (holds-same _ _ _ _ _ _ _ _ (same_seats-refl _) c.find_places.ensures.same c.self.invariant.0, c.self.invariant.1)
 
 pub returns-in_err-events-clause-err : goal.returns-in_err-events-clause-err
-returns-in_err-events-clause-err c = rw (← c.self.view_is, c.reserve.ensures.items) (on_err _ (same_live _ _ _ _ _ _ _ (same_seats-refl _) c.find_places.ensures.same))
+returns-in_err-events-clause-err c = rw (← c.self.view_is, c.reserve.ensures.items, c.reserve.ensures.pieces) (on_err _ (same_live _ _ _ _ _ _ _ (same_seats-refl _) c.find_places.ensures.same))
 
 pub tell-told-requires-clause-apart : goal.tell-told-requires-clause-apart
-tell-told-requires-clause-apart c = apart-same _ _ c.find_places.ensures.same c.self.invariant.apart
+tell-told-requires-clause-apart c = apart-same _ _ c.find_places.ensures.same c.self.invariant.0.apart
 
 pub tell-told-requires-clause-takes : goal.tell-told-requires-clause-takes
 tell-told-requires-clause-takes c =
@@ -48,7 +49,7 @@ tell-told-requires-clause-takes c =
     let bs = c.in_ok-room.field-0.buffers.items in
     let es = c.in-Done.events in
     let found : IsFound (wanted_by st call) ds room bs = subst (λ (x : Wanted). IsFound x ds room bs) c.wanted_of-wanted.ensures c.in_ok-room.ensures.found in
-    let f0 = c.in_ok-events.ensures.follows addrs steps c.self.invariant.stands in
+    let f0 = c.in_ok-events.ensures.follows addrs steps c.self.invariant.0.stands in
     let f : Follows st (call_of call room) c.make.new.segment (Done es) = subst (λ (u : Reply). Follows st (call_of call room) c.make.new.segment u) c.in-Done.is (subst (λ (u : Call). Follows st u c.make.new.segment c.in_ok-events.field-0) c.with_room.ensures f0) in
     (found_ready st call room es ds bs found f.ports f.fits).0
 
@@ -63,7 +64,7 @@ tell-told-requires-clause-enough c =
     let bs = c.in_ok-room.field-0.buffers.items in
     let es = c.in-Done.events in
     let found : IsFound (wanted_by st call) ds room bs = subst (λ (x : Wanted). IsFound x ds room bs) c.wanted_of-wanted.ensures c.in_ok-room.ensures.found in
-    let f0 = c.in_ok-events.ensures.follows addrs steps c.self.invariant.stands in
+    let f0 = c.in_ok-events.ensures.follows addrs steps c.self.invariant.0.stands in
     let f : Follows st (call_of call room) c.make.new.segment (Done es) = subst (λ (u : Reply). Follows st (call_of call room) c.make.new.segment u) c.in-Done.is (subst (λ (u : Call). Follows st u c.make.new.segment c.in_ok-events.field-0) c.with_room.ensures f0) in
     (found_ready st call room es ds bs found f.ports f.fits).1
 
@@ -80,13 +81,15 @@ invariant_of-self-in-Done c =
     let call = call_of c.args.call room in
     let next = c.make.new.segment in
     let steps = (trail addrs xs).steps in
-    let h : Holds addrs st xs ws ss ds = holds-same _ _ _ _ _ _ _ _ (same_seats-refl ss) c.find_places.ensures.same c.self.invariant in
-    let few : length xs < 1000000 = subst (λ (v : LiveView). length v.calls < 1000000) (sym c.self.view_is) c.requires in
+    let h : Holds addrs st xs ws ss ds = holds-same _ _ _ _ _ _ _ _ (same_seats-refl ss) c.find_places.ensures.same c.self.invariant.0 in
+    let few : length xs + 1 < 2 ^ 64 = c.reserve.ensures.few (subst (λ (v : LiveView). stored_calls v < 1000000) (sym c.self.view_is) c.requires) in
+    let pieces : c.push_reserved.new.self.pieces ≡ c.self.inside.calls.pieces = c.push_reserved.ensures.pieces ∙ c.reserve.ensures.pieces in
+    let image : c.push_reserved.new.self.image ≡ c.self.inside.calls.image = c.push_reserved.ensures.image ∙ c.reserve.ensures.image in
     let rep : reply_of st call ≡ Done es = ap (reply_of st) (sym c.with_room.ensures) ∙ sym c.in_ok-events.ensures.reply ∙ c.in-Done.is in
     let left : next ≡ left_by st call = c.in_ok-events.ensures.after ∙ ap (left_by st) c.with_room.ensures in
-    let stands0 = c.in_ok-events.ensures.stands addrs steps c.self.invariant.stands in
+    let stands0 = c.in_ok-events.ensures.stands addrs steps c.self.invariant.0.stands in
     let stands : StandsAt addrs (steps ++ (call, Done es) ∷ []) next = subst (λ (u : Reply). StandsAt addrs (steps ++ (call, u) ∷ []) next) c.in-Done.is (subst (λ (u : Call). StandsAt addrs (steps ++ (u, c.in_ok-events.field-0) ∷ []) next) c.with_room.ensures stands0) in
-    let f0 = c.in_ok-events.ensures.follows addrs steps c.self.invariant.stands in
+    let f0 = c.in_ok-events.ensures.follows addrs steps c.self.invariant.0.stands in
     let f : Follows st call next (Done es) = subst (λ (u : Reply). Follows st call next u) c.in-Done.is (subst (λ (u : Call). Follows st u next c.in_ok-events.field-0) c.with_room.ensures f0) in
     let seats : c.tell-told.new.seats.items ≡ note_all (settle_notes ws es) ss = c.tell-told.ensures.seats in
     let owed : c.tell-told.new.owed.items ≡ settle_owed ws es = c.tell-told.ensures.owed in
@@ -95,14 +98,14 @@ invariant_of-self-in-Done c =
     let ids = subst (IdsFrom 0) seats c.tell-told.ensures.ids in
     let rm = subst (λ (u : List SeatView). HaveRoom (settle_owed ws es) u) seats (subst (λ (u : List Owed). HaveRoom u c.tell-told.new.seats.items) owed c.tell-told.ensures.room) in
     let within = subst (λ (u : List SeatView). OwedWithin (length u) (settle_owed ws es)) seats (subst (λ (u : List Owed). OwedWithin (length c.tell-told.new.seats.items) u) owed c.tell-told.ensures.within) in
-    rw (calls, owed, seats, doors) (holds-tell addrs st next xs ws ss ds call es h few rep left stands f ids rm within)
+    rw (calls, pieces, image, owed, seats, doors) (holds-tell addrs st next xs ws ss ds call es h few rep left stands f ids rm within, c.self.invariant.1)
 
 pub invariant_of-self-in-Refused-1 : goal.invariant_of-self-in-Refused-1
 invariant_of-self-in-Refused-1 c =
     let addrs = c.self.inside.addresses.items in
-    let f0 = c.in_ok-events.ensures.follows addrs (trail addrs c.self.inside.calls.items).steps c.self.invariant.stands in
+    let f0 = c.in_ok-events.ensures.follows addrs (trail addrs c.self.inside.calls.items).steps c.self.invariant.0.stands in
     let same = f0.refused (subst IsRefusal (sym c.in-Refused.is) tt) in
-    rw (same, c.reserve.ensures.items) (holds-same _ _ _ _ _ _ _ _ (same_seats-refl _) c.find_places.ensures.same c.self.invariant)
+    rw (same, c.reserve.ensures.items, c.reserve.ensures.pieces, c.reserve.ensures.image) (holds-same _ _ _ _ _ _ _ _ (same_seats-refl _) c.find_places.ensures.same c.self.invariant.0, c.self.invariant.1)
 
 pub returns-in-Done-clause-applied : goal.returns-in-Done-clause-applied
 returns-in-Done-clause-applied c =
@@ -122,14 +125,14 @@ returns-in-Done-clause-applied c =
     let rep : Done es ≡ reply_of st call = sym c.in-Done.is ∙ c.in_ok-events.ensures.reply ∙ ap (reply_of st) c.with_room.ensures in
     let calls : c.push_reserved.new.self.items ≡ xs ++ stored None call ∷ [] = c.push_reserved.ensures.items ∙ ap (λ (u : List Stored). u ++ stored None c.with_room-in-Done.result ∷ []) c.reserve.ensures.items ∙ ap (λ (u : Call). xs ++ stored None u ∷ []) c.with_room-in-Done.ensures in
     let found : IsFound (wanted_by st c.args.call) ds room bs = subst (λ (x : Wanted). IsFound x ds room bs) c.wanted_of-wanted.ensures c.in_ok-room.ensures.found in
-    let f0 = c.in_ok-events.ensures.follows addrs (trail addrs xs).steps c.self.invariant.stands in
+    let f0 = c.in_ok-events.ensures.follows addrs (trail addrs xs).steps c.self.invariant.0.stands in
     let f : Follows st call next (Done es) = subst (λ (u : Reply). Follows st call next u) c.in-Done.is (subst (λ (u : Call). Follows st u next c.in_ok-events.field-0) c.with_room.ensures f0) in
     let same : room ≡ false → c.tell-told.new.doors.items ≡ ds = λ none. c.tell-told.ensures.doors ∙ give_all_unplaced es ds (none_given st c.args.call room es none f.ports) in
     let kept : map port_of ds ≡ map port_of ds0 = ports-same ds0 ds c.find_places.ensures.same in
-    let clients = told_as c.self.inside.stopped addrs xs ws ss c.tell-told.new.seats.items ds0 es c.self.invariant.ids c.self.invariant.owes c.tell-told.ensures.seats in
+    let clients = told_as (keep c.self.inside.stopped c.self.inside.calls.pieces) addrs xs ws ss c.tell-told.new.seats.items ds0 es c.self.invariant.0.ids c.self.invariant.0.owes c.tell-told.ensures.seats in
     let ports = given_as es ds0 ds c.tell-told.new.doors.items kept c.tell-told.ensures.doors in
     let closed = subst (SparesClosed es) kept (found_ready st c.args.call room es ds bs found f.ports f.fits).2 in
-    rw (← c.self.view_is, told) (room, applied_as c.self.inside.stopped addrs st xs _ ss _ ds0 ds _ c.args.call (Done es) room bs c.self.invariant.at rep calls found same clients ports closed)
+    rw (← c.self.view_is, told, c.push_reserved.ensures.pieces, c.reserve.ensures.pieces) (room, applied_as (keep c.self.inside.stopped c.self.inside.calls.pieces) addrs st xs _ ss _ ds0 ds _ c.args.call (Done es) room bs c.self.invariant.0.at rep calls found same clients ports closed)
 
 pub returns-in-Refused-clause-applied : goal.returns-in-Refused-clause-applied
 returns-in-Refused-clause-applied c =
@@ -143,8 +146,8 @@ returns-in-Refused-clause-applied c =
     let bs = c.in_ok-room.field-0.buffers.items in
     let rep : Refused c.in-Refused.refusal ≡ reply_of st (call_of c.args.call room) = sym c.in-Refused.is ∙ c.in_ok-events.ensures.reply ∙ ap (reply_of st) c.with_room.ensures in
     let found : IsFound (wanted_by st c.args.call) ds room bs = subst (λ (x : Wanted). IsFound x ds room bs) c.wanted_of-wanted.ensures c.in_ok-room.ensures.found in
-    rw (← c.self.view_is, c.reserve.ensures.items)
-    (room, refused_as c.self.inside.stopped addrs st xs ss ss ds0 ds c.args.call c.in-Refused.refusal room c.self.invariant.at rep refl (ports-same ds0 ds c.find_places.ensures.same) (found_false c.self.inside.stopped addrs st xs xs ss ss ds0 ds c.args.call room bs c.self.invariant.at found))
+    rw (← c.self.view_is, c.reserve.ensures.items, c.reserve.ensures.pieces)
+    (room, refused_as (keep c.self.inside.stopped c.self.inside.calls.pieces) addrs st xs ss ss ds0 ds c.args.call c.in-Refused.refusal room c.self.invariant.0.at rep refl (ports-same ds0 ds c.find_places.ensures.same) (found_false (keep c.self.inside.stopped c.self.inside.calls.pieces) addrs st xs xs ss ss ds0 ds c.args.call room bs c.self.invariant.0.at found))
 
 pub returns-in-Some-clause-applied : goal.returns-in-Some-clause-applied
 returns-in-Some-clause-applied c =
@@ -154,22 +157,22 @@ returns-in-Some-clause-applied c =
     let ss = c.self.inside.seats.items in
     let ds = c.self.inside.doors.items in
     let rep : Refused c.in-Some.refusal ≡ reply_of st (call_of c.args.call true) = refused_reply st c.in-Some.refusal (called st (call_of c.args.call true)) (sym c.in-Some.is ∙ c.refusal_for.ensures true) in
-    rw (← c.self.view_is) (true, refused_as c.self.inside.stopped addrs st xs ss ss ds ds c.args.call c.in-Some.refusal true c.self.invariant.at rep refl refl (λ none. absurd (cc)))
+    rw (← c.self.view_is) (true, refused_as (keep c.self.inside.stopped c.self.inside.calls.pieces) addrs st xs ss ss ds ds c.args.call c.in-Some.refusal true c.self.invariant.0.at rep refl refl (λ none. absurd (cc)))
 
 pub returns-in_err-reserve-clause-not_refused : goal.returns-in_err-reserve-clause-not_refused
 returns-in_err-reserve-clause-not_refused c =
     let i = c.self.inside in
-    let few : length i.calls.items < 1000000 = subst (λ (v : LiveView). length v.calls < 1000000) (sym c.self.view_is) c.requires in
-    rw (← c.self.view_is) (on_err _ (lacks_memory c.self.inside.stopped i.addresses.items i.segment i.calls.items i.seats.items i.doors.items c.args.call c.refusal_for.result c.self.invariant.at few c.in_default.is c.refusal_for.ensures))
+    let few : count_since i.calls.pieces i.calls.items < 1000000 = subst (λ (v : LiveView). stored_calls v < 1000000) (sym c.self.view_is) c.requires in
+    rw (← c.self.view_is) (on_err _ (lacks_memory (keep c.self.inside.stopped c.self.inside.calls.pieces) i.addresses.items i.segment i.calls.items i.seats.items i.doors.items c.args.call c.refusal_for.result c.self.invariant.0.at few c.in_default.is c.refusal_for.ensures))
 
 pub returns-in_err-room-clause-not_refused : goal.returns-in_err-room-clause-not_refused
 returns-in_err-room-clause-not_refused c =
     let i = c.self.inside in
-    let few : length i.calls.items < 1000000 = subst (λ (v : LiveView). length v.calls < 1000000) (sym c.self.view_is) c.requires in
-    rw (← c.self.view_is) (on_err _ (lacks_memory c.self.inside.stopped i.addresses.items i.segment i.calls.items i.seats.items i.doors.items c.args.call c.refusal_for.result c.self.invariant.at few c.in_default.is c.refusal_for.ensures))
+    let few : count_since i.calls.pieces i.calls.items < 1000000 = subst (λ (v : LiveView). stored_calls v < 1000000) (sym c.self.view_is) c.requires in
+    rw (← c.self.view_is) (on_err _ (lacks_memory (keep c.self.inside.stopped c.self.inside.calls.pieces) i.addresses.items i.segment i.calls.items i.seats.items i.doors.items c.args.call c.refusal_for.result c.self.invariant.0.at few c.in_default.is c.refusal_for.ensures))
 
 pub returns-in_err-events-clause-not_refused : goal.returns-in_err-events-clause-not_refused
 returns-in_err-events-clause-not_refused c =
     let i = c.self.inside in
-    let few : length i.calls.items < 1000000 = subst (λ (v : LiveView). length v.calls < 1000000) (sym c.self.view_is) c.requires in
-    rw (← c.self.view_is) (on_err _ (lacks_memory c.self.inside.stopped i.addresses.items i.segment i.calls.items i.seats.items i.doors.items c.args.call c.refusal_for.result c.self.invariant.at few c.in_default.is c.refusal_for.ensures))
+    let few : count_since i.calls.pieces i.calls.items < 1000000 = subst (λ (v : LiveView). stored_calls v < 1000000) (sym c.self.view_is) c.requires in
+    rw (← c.self.view_is) (on_err _ (lacks_memory (keep c.self.inside.stopped c.self.inside.calls.pieces) i.addresses.items i.segment i.calls.items i.seats.items i.doors.items c.args.call c.refusal_for.result c.self.invariant.0.at few c.in_default.is c.refusal_for.ensures))

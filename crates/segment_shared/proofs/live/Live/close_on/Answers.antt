@@ -1,4 +1,4 @@
-use Rattle.std.proofs.Common.{◌≡◌, ◌<◌, ◌≤◌, List, length, refl, sym, ap, ◌∙◌, subst, inl, inr, arith}
+use Rattle.std.proofs.Common.{◌≡◌, ◌<◌, ◌≤◌, List, refl, sym, ap, ◌∙◌, subst, inl, inr}
 use Rattle.std.specs.Prelude.{IsTrue}
 use mathlib.Core.List.{IsPrefix}
 use Rattle.port_table.specs.declared.port.PortId.{PortId}
@@ -7,7 +7,8 @@ use Rattle.segment_rings.specs.Views.{DoorView}
 use Rattle.segment_shared.specs.Record.{given, trail}
 use Rattle.segment_shared.specs.Facts.{NoneAt}
 use Rattle.segment_shared.specs.Places.{IsPlaceIn}
-use Rattle.segment_shared.specs.LiveView.{live_view}
+use Rattle.segment_shared.specs.Past.{count_since}
+use Rattle.segment_shared.specs.LiveView.{live_view, keep}
 use Rattle.segment_shared.specs.Reports.{InboxAgrees}
 use Rattle.segment_shared.proofs.Closings.{inbox_agrees}
 use Rattle.segment_shared.proofs.Laws.{pushed_at, no_port}
@@ -30,7 +31,7 @@ returns-then-not-begins-clause-refused c =
     let i = c.args.inbox.now in
     let here : IsPlaceIn ds c.port.result k = subst (λ (u : List DoorView). IsPlaceIn u c.port.result k) c.as_slice.ensures.value c.in-Some.ensures in
     let d = c.index.result.now in
-    let is : c.deliveries.result.now ≡ given i.port es = c.deliveries.ensures ∙ ap (λ (x : DoorView). x.pushed) c.index.ensures ∙ pushed_at k es ds d here.0 c.self.invariant.gives ∙ ap (λ (q : PortId). given q es) (here.1 d ∙ c.port.ensures) in
+    let is : c.deliveries.result.now ≡ given i.port es = c.deliveries.ensures ∙ ap (λ (x : DoorView). x.pushed) c.index.ensures ∙ pushed_at k es ds d here.0 c.self.invariant.0.gives ∙ ap (λ (q : PortId). given q es) (here.1 d ∙ c.port.ensures) in
     rw (← c.self.view_is) (inl (
       refl,
       λ a.
@@ -40,8 +41,8 @@ returns-then-not-begins-clause-refused c =
           cc,
     ))
 
-pub returns-then-len-ge-MOST_CALLS-clause-refused : goal.returns-then-len-ge-MOST_CALLS-clause-refused
-returns-then-len-ge-MOST_CALLS-clause-refused c =
+pub returns-then-is_full-clause-refused : goal.returns-then-is_full-clause-refused
+returns-then-is_full-clause-refused c =
     let addrs = c.self.inside.addresses.items in
     let xs = c.self.inside.calls.items in
     let ss = c.self.inside.seats.items in
@@ -51,11 +52,11 @@ returns-then-len-ge-MOST_CALLS-clause-refused c =
     let i = c.args.inbox.now in
     let here : IsPlaceIn ds c.port.result k = subst (λ (u : List DoorView). IsPlaceIn u c.port.result k) c.as_slice.ensures.value c.in-Some.ensures in
     let d = c.index.result.now in
-    let is : c.deliveries.result.now ≡ given i.port es = c.deliveries.ensures ∙ ap (λ (x : DoorView). x.pushed) c.index.ensures ∙ pushed_at k es ds d here.0 c.self.invariant.gives ∙ ap (λ (q : PortId). given q es) (here.1 d ∙ c.port.ensures) in
+    let is : c.deliveries.result.now ≡ given i.port es = c.deliveries.ensures ∙ ap (λ (x : DoorView). x.pushed) c.index.ensures ∙ pushed_at k es ds d here.0 c.self.invariant.0.gives ∙ ap (λ (q : PortId). given q es) (here.1 d ∙ c.port.ensures) in
     let b : IsPrefix c.received.result.now c.deliveries.result.now = c.begins.ensures.0 c.if-not-begins.false in
     let begun : IsPrefix i.received (given i.port es) = subst (IsPrefix i.received) is (subst (λ (u : List Delivery). IsPrefix u c.deliveries.result.now) c.received.ensures b) in
-    let agrees : InboxAgrees (live_view c.self.inside.stopped addrs xs ss ds) i = inbox_agrees c.self.inside.stopped addrs xs ss ds k i here.0 (λ e. here.1 e ∙ c.port.ensures) begun in
-    let full : 1000000 ≤ length xs = omega (arith, c.self.inside.calls.ok.0, c.len.ensures, c.if-len-ge-MOST_CALLS.true) in
+    let agrees : InboxAgrees (live_view (keep c.self.inside.stopped c.self.inside.calls.pieces) addrs xs ss ds) i = inbox_agrees (keep c.self.inside.stopped c.self.inside.calls.pieces) addrs xs ss ds k i here.0 (λ e. here.1 e ∙ c.port.ensures) begun in
+    let full : 1000000 ≤ count_since c.self.inside.calls.pieces xs = c.is_full.ensures.full c.if-is_full.true in
     rw (← c.self.view_is) (inr (refl, agrees, full))
 
 pub returns-in-Err-clause-refused : goal.returns-in-Err-clause-refused
@@ -69,11 +70,11 @@ returns-in-Err-clause-refused c =
     let i = c.args.inbox.now in
     let here : IsPlaceIn ds c.port.result k = subst (λ (u : List DoorView). IsPlaceIn u c.port.result k) c.as_slice.ensures.value c.in-Some.ensures in
     let d = c.index.result.now in
-    let is : c.deliveries.result.now ≡ given i.port es = c.deliveries.ensures ∙ ap (λ (x : DoorView). x.pushed) c.index.ensures ∙ pushed_at k es ds d here.0 c.self.invariant.gives ∙ ap (λ (q : PortId). given q es) (here.1 d ∙ c.port.ensures) in
+    let is : c.deliveries.result.now ≡ given i.port es = c.deliveries.ensures ∙ ap (λ (x : DoorView). x.pushed) c.index.ensures ∙ pushed_at k es ds d here.0 c.self.invariant.0.gives ∙ ap (λ (q : PortId). given q es) (here.1 d ∙ c.port.ensures) in
     let b : IsPrefix c.received.result.now c.deliveries.result.now = c.begins.ensures.0 c.if-not-begins.false in
     let begun : IsPrefix i.received (given i.port es) = subst (IsPrefix i.received) is (subst (λ (u : List Delivery). IsPrefix u c.deliveries.result.now) c.received.ensures b) in
-    let agrees : InboxAgrees (live_view c.self.inside.stopped addrs xs ss ds) i = inbox_agrees c.self.inside.stopped addrs xs ss ds k i here.0 (λ e. here.1 e ∙ c.port.ensures) begun in
-    let few : length xs < 1000000 = omega (arith, c.self.inside.calls.ok.0, c.len.ensures, c.if-len-ge-MOST_CALLS.false) in
+    let agrees : InboxAgrees (live_view (keep c.self.inside.stopped c.self.inside.calls.pieces) addrs xs ss ds) i = inbox_agrees (keep c.self.inside.stopped c.self.inside.calls.pieces) addrs xs ss ds k i here.0 (λ e. here.1 e ∙ c.port.ensures) begun in
+    let few : count_since c.self.inside.calls.pieces xs < 1000000 = c.is_full.ensures.few c.if-is_full.false in
     rw (← c.self.view_is) (agrees, few)
 
 pub shut-requires-clause-begins : goal.shut-requires-clause-begins
@@ -87,6 +88,6 @@ shut-requires-clause-begins c =
     let i = c.args.inbox.now in
     let here : IsPlaceIn ds c.port.result k = subst (λ (u : List DoorView). IsPlaceIn u c.port.result k) c.as_slice.ensures.value c.in-Some.ensures in
     let d = c.index.result.now in
-    let is : c.deliveries.result.now ≡ given i.port es = c.deliveries.ensures ∙ ap (λ (x : DoorView). x.pushed) c.index.ensures ∙ pushed_at k es ds d here.0 c.self.invariant.gives ∙ ap (λ (q : PortId). given q es) (here.1 d ∙ c.port.ensures) in
+    let is : c.deliveries.result.now ≡ given i.port es = c.deliveries.ensures ∙ ap (λ (x : DoorView). x.pushed) c.index.ensures ∙ pushed_at k es ds d here.0 c.self.invariant.0.gives ∙ ap (λ (q : PortId). given q es) (here.1 d ∙ c.port.ensures) in
     let b : IsPrefix c.received.result.now c.deliveries.result.now = c.begins.ensures.0 c.if-not-begins.false in
     rw (← c.self.view_is) (subst (IsPrefix i.received) is (subst (λ (u : List Delivery). IsPrefix u c.deliveries.result.now) c.received.ensures b))

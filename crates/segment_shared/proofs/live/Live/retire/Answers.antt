@@ -18,6 +18,7 @@ loop-client-preserved c =
     record {
       addresses = c.retire_client.ensures.addresses ∙ c.loop-client.invariant.addresses;
       stopped = c.retire_client.ensures.stopped ∙ c.loop-client.invariant.stopped;
+      pieces = c.retire_client.ensures.pieces ∙ c.loop-client.invariant.pieces;
       calls = c.retire_client.ensures.calls ∙ c.loop-client.invariant.calls;
       clients = c.retire_client.ensures.clients ∙ ap (λ (u : List ClientView). gone u c.id.result) c.loop-client.invariant.clients ∙ ap (λ (k : ℕ). gone (gone_clients (take i cs) vs) k) c.id.ensures
           ∙ sym (gone_clients-more (take i cs) x vs) ∙ ap (λ (u : List ClientEnd). gone_clients u vs) (sym more);
@@ -35,6 +36,7 @@ loop-inbox-preserved c =
     record {
       addresses = c.retire_port.ensures.addresses ∙ c.loop-inbox.invariant.addresses;
       stopped = c.retire_port.ensures.stopped ∙ c.loop-inbox.invariant.stopped;
+      pieces = c.retire_port.ensures.pieces ∙ c.loop-inbox.invariant.pieces;
       calls = c.retire_port.ensures.calls ∙ c.loop-inbox.invariant.calls;
       clients = c.retire_port.ensures.clients ∙ c.loop-inbox.invariant.clients;
       ports = c.retire_port.ensures.ports ∙ ap (λ (u : List PortView). map (closing c.port.result) u) c.loop-inbox.invariant.ports ∙ ap (λ (q : PortId). map (closing q) (gone_ports (take i is) ps)) c.port.ensures

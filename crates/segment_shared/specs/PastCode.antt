@@ -1,0 +1,22 @@
+-- How lists of calls with their pieces are told apart.
+use Rattle.std.specs.Prelude.{ℕ, List, Option, refl}
+use Rattle.std.specs.Coded.{Coded, code_by, coded×, coded_ℕ, coded_list, coded_option}
+use Rattle.segment_law.specs.Segment.{Segment}
+use Rattle.segment_core.specs.SegmentCode.{segment_code}
+use Rattle.segment_shared.specs.declared.call.Stored.{Stored}
+use Rattle.segment_shared.specs.contracts.call.Stored as stored
+use Rattle.segment_shared.specs.declared.calls.Piece.{Piece}
+use Rattle.segment_shared.specs.contracts.calls.Piece as piece
+use Rattle.segment_shared.specs.Past.{CallsView}
+
+abbrev Parts : Type 0
+Parts = List Piece × (List Stored × (Option Segment × ℕ))
+
+-- they are told apart by their parts
+abbrev pub calls_code : Coded CallsView
+calls_code =
+    code_by Parts
+    (coded× (coded_list ((piece.the_row).coded)) (coded× (coded_list ((stored.the_row).coded)) (coded× (coded_option segment_code) coded_ℕ)))
+    (λ c. (c.pieces, (c.items, (c.image, c.spare))))
+    (λ p. record { pieces = p.0; items = p.1.0; image = p.1.1.0; spare = p.1.1.1 })
+    (λ _. refl)
