@@ -9,7 +9,7 @@ use crate::options::Options;
 use log_decode::Decoder;
 use std::alloc::Global;
 use std::fmt;
-use std::io::{Read, Write};
+use std::io::{BufRead, Write};
 use text_lines::{LineRead, ReadError, read_line, tell};
 
 /// What is wrong with a line of a log, in the order in which it is looked for.
@@ -135,7 +135,7 @@ fn end_run<W: Write>(
 ///
 /// Unless it reports a failed read or write or refused memory, exactly the text of the log was written, and counts and fault are those of
 /// the log. Where it reports one of these, a front of that text was written.
-pub fn run_decode<R: Read, W: Write>(
+pub fn run_decode<R: BufRead, W: Write>(
     alloc: Global,
     options: &Options,
     reader: &mut R,

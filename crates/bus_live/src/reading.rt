@@ -7,11 +7,11 @@ ghost use Rattle.bus_live.specs.Ending.{planned};
 use script_commands::{Cause, Fault, MAX_LINES, ScriptFault, cause_of, limit_fault, read_cause};
 use script_setup::{Setup, obey_line};
 use std::alloc::Global;
-use std::io::Read;
+use std::io::BufRead;
 use text_lines::{LineRead, read_line};
 
 /// Reads a script to its end, or to its first fault, and does what its lines ask for.
-pub(crate) fn read_script<R: Read>(
+pub(crate) fn read_script<R: BufRead>(
     alloc: Global,
     reader: &mut R,
     setup: &mut Setup,

@@ -7,7 +7,7 @@ use crate::node::Node;
 use node_lines::next_line;
 use script_commands::{Cause, Fault, ScriptFault, cause_of, read_cause};
 use std::alloc::Global;
-use std::io::{Read, Write};
+use std::io::{BufRead, Write};
 use text_lines::{LineRead, tell};
 
 /// How a run ended.
@@ -48,7 +48,7 @@ fn failed(line: u64, cause: Cause, memory_refused: bool) -> Ran
 /// Unless it reports a failed read or write or refused memory, exactly the text of the input was written, and the fault is the input's. Where
 /// it reports a failed read or write, or memory that was refused outside a line's calls and in none, a front of that text was written. A
 /// line that finds no memory prints `no memory`, the run goes on, and then nothing is promised of the text.
-pub fn run_node<R: Read, W: Write>(
+pub fn run_node<R: BufRead, W: Write>(
     alloc: Global,
     node: &mut Node,
     reader: &mut R,

@@ -6,12 +6,12 @@ ghost use Rattle.bus_relay.specs.Gateway.{plans_of, first_plans, planned, text_o
 use crate::gateway::{Gateway, obey_line};
 use script_commands::{Cause, Fault, MAX_LINES, ScriptFault, cause_of, limit_fault, read_cause};
 use std::alloc::Global;
-use std::io::Read;
+use std::io::BufRead;
 use text_lines::{LineRead, read_line};
 
 /// Reads a script to its end, or to its first fault, and does what its lines ask for. A script that ends before it has two segments has
 /// its fault behind its last line.
-pub(crate) fn read_script<R: Read>(
+pub(crate) fn read_script<R: BufRead>(
     alloc: Global,
     reader: &mut R,
     gateway: &mut Gateway,

@@ -11,7 +11,7 @@ use crate::page::Page;
 use script_commands::{Cause, Fault, MAX_LINES, ScriptFault, cause_of, limit_fault, read_cause};
 use std::alloc::Global;
 use std::io;
-use std::io::{Read, Write};
+use std::io::{BufRead, Write};
 use text_lines::{LineRead, read_line, tell};
 
 /// How a script ended.
@@ -59,7 +59,7 @@ fn tell_page<T: Write, L: Write>(text: &mut T, log: &mut L, page: &Page) -> Resu
 }
 
 /// Runs a script, and writes what its lines tell: the frames to `log` where they are logged, and all the rest to `text`.
-fn run_lines<R: Read, T: Write, L: Write>(
+fn run_lines<R: BufRead, T: Write, L: Write>(
     alloc: Global,
     logged: bool,
     reader: &mut R,
@@ -112,7 +112,7 @@ fn run_lines<R: Read, T: Write, L: Write>(
 /// Unless the run reports a failed read or write or refused memory, exactly the text of the script was written, and the fault is
 /// the script's. Where it reports a failed read or write, or memory that was refused outside a call and in none, a front of that
 /// text was written. A call that finds no memory prints `no memory`, the run goes on, and then nothing is promised of the text.
-pub fn run_script<R: Read, W: Write>(alloc: Global, reader: &mut R, writer: &mut W) -> Ran
+pub fn run_script<R: BufRead, W: Write>(alloc: Global, reader: &mut R, writer: &mut W) -> Ran
     ensures { IfSome (R.remaining reader.old) (λ script.
         Ended result (W.contents writer.old) (W.contents writer.new) (outcome whole script)) }
 {
@@ -125,7 +125,7 @@ pub fn run_script<R: Read, W: Write>(alloc: Global, reader: &mut R, writer: &mut
 /// What a line tells is written and flushed before the next line is read, its frames first.
 ///
 /// What is promised of the one text of `run_script` is promised of each of the two.
-pub fn run_logged<R: Read, W: Write, E: Write>(
+pub fn run_logged<R: BufRead, W: Write, E: Write>(
     alloc: Global,
     reader: &mut R,
     writer: &mut W,

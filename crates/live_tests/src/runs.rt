@@ -1,7 +1,7 @@
 //! Scripts run by threads.
 use bus_live::{Cause, Gate, LiveFault, LiveRan, run_live};
 use std::alloc::Global;
-use std::io::{Error, ErrorKind, Read, Write};
+use std::io::{BufReader, Error, ErrorKind, Read, Write};
 use std::sync::Wait;
 use std::sync::atomic::{AtomicU64, Ordering};
 use std::test::Fail;
@@ -244,7 +244,8 @@ impl Read for Broken {
 fn failed_read_is_told(rt: HostRuntime) -> Result<(), Fail> {
     let alloc = rt.alloc();
     let mut text = Vec::new(alloc);
-    let ran = run_live(&rt, alloc, &mut Broken {}, &mut text, &OpenGate {}, 1);
+    let mut reader = BufReader::new(alloc, Broken {})?;
+    let ran = run_live(&rt, alloc, &mut reader, &mut text, &OpenGate {}, 1);
     assert_eq!(rt; ran.status(), 1);
     assert!(rt; text.is_empty());
     let line = line_of(alloc, ran)?;

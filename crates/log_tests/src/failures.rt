@@ -2,7 +2,7 @@
 use bus_decode::{Cause, Counts, Decoded, Options, Wanted, run_decode};
 use std::alloc::Global;
 use std::io;
-use std::io::{Error, ErrorKind, Read, Write};
+use std::io::{BufRead, BufReader, Error, ErrorKind, Read, Write};
 use std::test::Fail;
 
 fn all(alloc: Global) -> Options {
@@ -16,7 +16,7 @@ fn all(alloc: Global) -> Options {
 }
 
 /// Reads a log; what that promises is no business of a test's proof.
-fn read<R: Read, W: Write>(alloc: Global, reader: &mut R, writer: &mut W) -> Decoded {
+fn read<R: BufRead, W: Write>(alloc: Global, reader: &mut R, writer: &mut W) -> Decoded {
     run_decode(alloc, &all(alloc), reader, writer)
 }
 
@@ -61,9 +61,10 @@ const THREE: &str =
 #[test]
 fn a_failed_read_ends_the_log(rt: HostRuntime) -> Result<(), Fail> {
     let alloc = rt.alloc();
-    let mut reader = Breaking {
+    let breaking = Breaking {
         text: b"\n(1.000000) can0 18FEF10",
     };
+    let mut reader = BufReader::new(alloc, breaking)?;
     let decoded = read(alloc, &mut reader, &mut io::sink());
     let fault = decoded.fault.expect(&rt, "a fault");
     if fault.cause != Cause::OutOfMemory {

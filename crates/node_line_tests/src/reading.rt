@@ -2,7 +2,7 @@
 use node_lines::next_line;
 use std::alloc::AllocError;
 use std::io;
-use std::io::{Error, ErrorKind, Read};
+use std::io::{BufRead, BufReader, Error, ErrorKind, Read};
 use std::process::Abort;
 use std::test::Fail;
 use text_lines::{LineRead, ReadError};
@@ -23,7 +23,7 @@ impl Read for Breaking<'_> {
 }
 
 // The next line is this one. The test ends where memory is refused.
-fn reads<R: Read>(
+fn reads<R: BufRead>(
     rt: &impl Abort,
     reader: &mut R,
     line: &mut Vec<u8>,
@@ -51,7 +51,7 @@ fn lines_are_read_up_to_the_end(rt: HostRuntime) -> Result<(), Fail> {
 #[test]
 fn a_failed_read_is_told(rt: HostRuntime) -> Result<(), Fail> {
     let mut line = Vec::new(rt.alloc());
-    let mut reader = Breaking { text: b"now\n" };
+    let mut reader = BufReader::new(rt.alloc(), Breaking { text: b"now\n" })?;
     reads(&rt, &mut reader, &mut line, b"now")?;
     assert!(rt; next_line(&mut reader, &mut line) == Err(ReadError::Failed));
     Ok(())

@@ -5,7 +5,7 @@ use pgn_ids::Address;
 use script_commands::{Cause, Fault};
 use std::alloc::{AllocError, Global};
 use std::io;
-use std::io::{Error, ErrorKind, Read, Write};
+use std::io::{BufReader, Error, ErrorKind, Read, Write};
 use std::test::Fail;
 
 // A node of address 21 on bus0.
@@ -35,9 +35,10 @@ impl Read for Breaking<'_> {
 fn a_failed_read_ends_the_run(rt: HostRuntime) -> Result<(), Fail> {
     let alloc = rt.alloc();
     let mut node = node(alloc)?;
-    let mut reader = Breaking {
+    let breaking = Breaking {
         text: b"open FECA 9\nco",
     };
+    let mut reader = BufReader::new(alloc, breaking)?;
     let mut out = Vec::new(alloc);
     let ran = run_node(alloc, &mut node, &mut reader, &mut out);
     let fault = ran.fault.expect(&rt, "a fault");

@@ -8,7 +8,7 @@ use crate::obeying::{Told, obey_line};
 use bus_script::Ran;
 use script_commands::{Cause, Fault, MAX_LINES, ScriptFault, cause_of, limit_fault, read_cause};
 use std::alloc::Global;
-use std::io::{Read, Write};
+use std::io::{BufRead, Write};
 use text_lines::{LineRead, read_line, tell};
 
 impl Told {
@@ -39,7 +39,7 @@ fn failed(line: u64, cause: Cause, memory_refused: bool) -> Ran
 /// Unless the run reports a failed read or write or refused memory, exactly the drawing of the script was written, and the fault is
 /// the script's. Where it reports a failed read or write, or memory that was refused outside a call and in none, a front of that
 /// text was written. A call that finds no memory draws nothing, the run goes on, and then nothing is promised of the text.
-pub fn draw_script<R: Read, W: Write>(alloc: Global, reader: &mut R, writer: &mut W) -> Ran
+pub fn draw_script<R: BufRead, W: Write>(alloc: Global, reader: &mut R, writer: &mut W) -> Ran
     ensures { IfSome (R.remaining reader.old) (λ script.
         Ended result (W.contents writer.old) (W.contents writer.new) (outcome drawing_of script)) }
 {

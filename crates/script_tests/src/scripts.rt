@@ -4,7 +4,7 @@ use bus_script::{Cause, Ran, ScriptFault, run_script};
 use std::alloc::Global;
 use std::cell::Cell;
 use std::io;
-use std::io::{Error, ErrorKind, Read, Write};
+use std::io::{BufReader, Error, ErrorKind, Read, Write};
 use std::process::Abort;
 use std::test::Fail;
 
@@ -355,9 +355,10 @@ impl Read for Breaking<'_> {
 fn a_failed_read_ends_the_script(rt: HostRuntime) -> Result<(), Fail> {
     let alloc = rt.alloc();
     let mut out = many(alloc, b' ', 0)?;
-    let mut reader = Breaking {
+    let breaking = Breaking {
         text: b"stations 21\ntick 5\nti",
     };
+    let mut reader = BufReader::new(alloc, breaking)?;
     let ran = run_script(alloc, &mut reader, &mut out);
     let fault = ran.fault.expect(&rt, "a fault");
     if fault.cause != Cause::OutOfMemory {
@@ -458,10 +459,11 @@ impl Write for Answering<'_> {
 #[test]
 fn a_reply_is_flushed_before_the_next_line_is_read(rt: HostRuntime) -> Result<(), Fail> {
     let owed = Cell::new(0);
-    let mut reader = Asking {
+    let asking = Asking {
         text: b"stations 21\ntick 5\ntick 6\n",
         owed: &owed,
     };
+    let mut reader = BufReader::new(rt.alloc(), asking)?;
     let mut writer = Answering { owed: &owed };
     let ran = run_script(rt.alloc(), &mut reader, &mut writer);
     let refused = ran

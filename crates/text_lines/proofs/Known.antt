@@ -1,56 +1,64 @@
 -- Known bytes over several calls: what each of them took or wrote stands one behind the other.
-use Rattle.std.proofs.Common.{take, drop, ◌+◌, ◌≡◌, ℕ, ◌<◌, List, [], ◌∷◌, ◌++◌, length, Option, Some, None, refl, sym, ◌∙◌, ap, append_assoc, arith, length-append}
+use Rattle.std.proofs.Common.{take, drop, ◌+◌, ◌≤◌, IfSome, ◌≡◌, ℕ, ◌<◌, List, [], ◌∷◌, ◌++◌, length, Option, Some, None, refl, sym, ◌∙◌, ap, append_assoc, arith}
 use Rattle.std.proofs.lemmas.List.{append-nil, take-append-drop}
-use Rattle.std.specs.Io.KnownBytes.{Keeps, Consumes, Appends}
+use Rattle.std.specs.Io.{StartsWith}
+use Rattle.std.specs.Io.BufRead.{DropsConsumable}
+use Rattle.std.specs.Io.KnownBytes.{Keeps, Consumes, IsAtEnd, Appends}
+use Rattle.std.proofs.BufReadLemmas.{Consumes_shown}
 use Rattle.std.proofs.Math.Seq.{take-add}
-use Rattle.text_lines.specs.Known.{TakesByte, Known, IsFront}
-use Rattle.text_lines.specs.Lines.{ReadsLineUpTo, lines_of}
+use Rattle.text_lines.specs.Known.{Known, IsFront}
+use Rattle.text_lines.specs.Lines.{ReadsLineUpTo, NoFeed, lines_of}
 use Rattle.text_lines.specs.declared.lines.LineRead.TheVariants.{End, Line, TooLong}
-use Rattle.text_lines.proofs.LineFronts.{NoFeed, last_line, ended_line, long_line}
+use Rattle.text_lines.proofs.LineFronts.{no_feed_more, last_line, ended_line, long_line}
 
--- one byte more
-pub consumes_more : (a b c : Option (List ℕ)) (line : List ℕ) (x : ℕ) → Consumes a b line → TakesByte b c (Some x) → Consumes a c (line ++ x ∷ [])
-consumes_more None b c line x p q = tt
-consumes_more (Some all) None c line x p q = absurd p
-consumes_more (Some all) (Some rest) None line x p q = q
-consumes_more (Some all) (Some rest) (Some left) line x p q = p ∙ ap (λ r. line ++ r) q ∙ sym (append_assoc line (x ∷ []) left)
+-- a part more
+pub consumes_more : (a b c : Option (List ℕ)) (line part : List ℕ) → Consumes a b line → Consumes b c part → Consumes a c (line ++ part)
+consumes_more None b c line part p q = tt
+consumes_more (Some all) None c line part p q = absurd p
+consumes_more (Some all) (Some rest) None line part p q = q
+consumes_more (Some all) (Some rest) (Some left) line part p q = p ∙ ap (λ r. line ++ r) q ∙ sym (append_assoc line part left)
+
+-- what was shown and then consumed
+pub takes_shown : (a b c : Option (List ℕ)) (limit : Option ℕ) (shown : List ℕ) (n : ℕ) → n ≤ length shown
+    → IfSome a (λ xs. StartsWith xs shown) → IfSome a (λ xs. length shown ≡ 0 → xs ≡ []) → Keeps a b × IfSome a (λ _. IfSome limit (λ k. length shown ≤ k))
+    → DropsConsumable b c limit n → Consumes a c (take n shown)
+takes_shown a b c limit shown n within front end kept drops = (Consumes_shown a b c limit shown n within front end kept.0 kept.1 drops).0
 
 -- the end, with nothing read
-pub reads_end : (most : ℕ) (a b c : Option (List ℕ)) (line : List ℕ) → line ≡ [] → Consumes a b line → TakesByte b c None → Known a c (ReadsLineUpTo most End line)
-reads_end most None b c line e p q = tt
-reads_end most (Some all) None c line e p q = absurd p
-reads_end most (Some all) (Some rest) None line e p q = absurd q.1
-reads_end most (Some all) (Some rest) (Some left) line e p q =
+pub reads_end : (most : ℕ) (a b c : Option (List ℕ)) (line : List ℕ) → line ≡ [] → Consumes a b line → IsAtEnd b → Keeps b c → Known a c (ReadsLineUpTo most End line)
+reads_end most None b c line e p q k = tt
+reads_end most (Some all) None c line e p q k = absurd p
+reads_end most (Some all) (Some rest) None line e p q k = absurd k
+reads_end most (Some all) (Some rest) (Some left) line e p q k =
     let h : all ≡ [] = cc in rw h refl
 
 -- the end, after some bytes
-pub reads_last : (most : ℕ) (a b c : Option (List ℕ)) (line : List ℕ) → NoFeed line → 0 < length line → Consumes a b line → TakesByte b c None → Known a c (ReadsLineUpTo most Line line)
-reads_last most None b c line f h p q = tt
-reads_last most (Some all) None c line f h p q = absurd p
-reads_last most (Some all) (Some rest) None line f h p q = absurd q.1
-reads_last most (Some all) (Some rest) (Some left) line f h p q =
-    let e : all ≡ line = p ∙ ap (λ r. line ++ r) q.0 ∙ append-nil line in
-    let l : left ≡ [] = q.1 ∙ q.0 in
+pub reads_last : (most : ℕ) (a b c : Option (List ℕ)) (line : List ℕ) → NoFeed line → 0 < length line → Consumes a b line → IsAtEnd b → Keeps b c → Known a c (ReadsLineUpTo most Line line)
+reads_last most None b c line f h p q k = tt
+reads_last most (Some all) None c line f h p q k = absurd p
+reads_last most (Some all) (Some rest) None line f h p q k = absurd k
+reads_last most (Some all) (Some rest) (Some left) line f h p q k =
+    let e : all ≡ line = p ∙ ap (λ r. line ++ r) q ∙ append-nil line in
+    let l : left ≡ [] = k ∙ q in
     rw (e, l) (last_line line f h)
 
 -- a line feed
-pub reads_line : (most : ℕ) (a b c : Option (List ℕ)) (line : List ℕ) → NoFeed line → Consumes a b line → TakesByte b c (Some 10) → Known a c (ReadsLineUpTo most Line line)
-reads_line most None b c line f p q = tt
-reads_line most (Some all) None c line f p q = absurd p
-reads_line most (Some all) (Some rest) None line f p q = q
-reads_line most (Some all) (Some rest) (Some left) line f p q =
-    let e : all ≡ line ++ 10 ∷ left = p ∙ ap (λ r. line ++ r) q in
-    rw e (ended_line line left f)
+pub reads_line : (most : ℕ) (a b c : Option (List ℕ)) (line part : List ℕ) → NoFeed line → NoFeed part → Consumes a b line → Consumes b c (part ++ 10 ∷ []) → Known a c (ReadsLineUpTo most Line (line ++ part))
+reads_line most None b c line part f g p q = tt
+reads_line most (Some all) None c line part f g p q = absurd p
+reads_line most (Some all) (Some rest) None line part f g p q = q
+reads_line most (Some all) (Some rest) (Some left) line part f g p q =
+    let e : all ≡ (line ++ part) ++ 10 ∷ left = p ∙ ap (λ r. line ++ r) (q ∙ append_assoc part (10 ∷ []) left) ∙ sym (append_assoc line part (10 ∷ left)) in
+    rw e (ended_line (line ++ part) left (no_feed_more line part f g))
 
--- a byte too much
-pub reads_long : (most : ℕ) (a b c : Option (List ℕ)) (line : List ℕ) (x : ℕ) → NoFeed (line ++ x ∷ []) → length line ≡ most → Consumes a b line → TakesByte b c (Some x) → Known a c (ReadsLineUpTo most TooLong line)
-reads_long most None b c line x f h p q = tt
-reads_long most (Some all) None c line x f h p q = absurd p
-reads_long most (Some all) (Some rest) None line x f h p q = q
-reads_long most (Some all) (Some rest) (Some left) line x f h p q =
-    let e : all ≡ (line ++ x ∷ []) ++ left = consumes_more (Some all) (Some rest) (Some left) line x p q in
-    let n : most < length (line ++ x ∷ []) = simp length-append (omega arith) in
-    let l = long_line (line ++ x ∷ []) left f (omega arith) in
+-- too many bytes
+pub reads_long : (most : ℕ) (a b c : Option (List ℕ)) (line part : List ℕ) → NoFeed line → NoFeed part → most < length (line ++ part) → Consumes a b line → Consumes b c part → Known a c (ReadsLineUpTo most TooLong line)
+reads_long most None b c line part f g n p q = tt
+reads_long most (Some all) None c line part f g n p q = absurd p
+reads_long most (Some all) (Some rest) None line part f g n p q = q
+reads_long most (Some all) (Some rest) (Some left) line part f g n p q =
+    let e : all ≡ (line ++ part) ++ left = consumes_more (Some all) (Some rest) (Some left) line part p q in
+    let l = long_line (line ++ part) left (no_feed_more line part f g) (omega (arith, n)) in
     (l.0, l.1, ap lines_of e ∙ l.2, omega (arith, l.3, n))
 
 -- a part more was written

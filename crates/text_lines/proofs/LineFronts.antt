@@ -1,15 +1,35 @@
 -- The first line of a text that begins with a front of no line feed.
-use Rattle.std.proofs.Common.{◌≡◌, ◌≢◌, ℕ, ◌<◌, ◌≤◌, List, [], ◌∷◌, ◌++◌, length, refl, ap, arith}
-use Rattle.std.proofs.lemmas.Bool.{ne_eqb}
-use Rattle.text_lines.specs.Lines.{lines_of, before_lines}
+use Rattle.std.proofs.Common.{◌≡◌, ℕ, suc, ◌+◌, ◌<◌, ◌≤◌, Bool, true, false, cond, eqb, eqb-true, List, [], ◌∷◌, ◌++◌, length, take, refl, ap, arith}
+use Rattle.std.proofs.lemmas.Bool.{ne_eqb, eqb-false}
+use Rattle.text_lines.specs.Lines.{before_feed, NoFeed, lines_of, before_lines}
 
-abbrev pub NoFeed : List ℕ → Type 0
-NoFeed [] = Unit {0}
-NoFeed (b ∷ bs) = (b ≢ 10) × NoFeed bs
+pub no_feed_more : (line part : List ℕ) → NoFeed line → NoFeed part → NoFeed (line ++ part)
+no_feed_more [] part f h = h
+no_feed_more (b ∷ bs) part f h = (f.0, no_feed_more bs part f.1 h)
 
-pub no_feed_more : (line : List ℕ) (x : ℕ) → NoFeed line → x ≢ 10 → NoFeed (line ++ x ∷ [])
-no_feed_more [] x f h = (h, tt)
-no_feed_more (b ∷ bs) x f h = (f.0, no_feed_more bs x f.1 h)
+-- before the first line feed there is none
+no_feed_by : (is : Bool) (b : ℕ) (bs : List ℕ) → eqb b 10 ≡ is → NoFeed (take (before_feed bs) bs) → NoFeed (take (cond is 0 (before_feed bs + 1)) (b ∷ bs))
+no_feed_by true b bs e f = tt
+no_feed_by false b bs e f =
+    let one : before_feed bs + 1 ≡ suc (before_feed bs) = omega arith in
+    rw one (eqb-false _ _ e, f)
+
+pub no_feed_before : (bytes : List ℕ) → NoFeed (take (before_feed bytes) bytes)
+no_feed_before [] = tt
+no_feed_before (b ∷ bs) = no_feed_by (eqb b 10) b bs refl (no_feed_before bs)
+
+-- and where not all bytes stand before it, it comes next
+feed_by : (is : Bool) (b : ℕ) (bs : List ℕ) → eqb b 10 ≡ is → (before_feed bs < length bs → take (before_feed bs + 1) bs ≡ take (before_feed bs) bs ++ 10 ∷ [])
+    → cond is 0 (before_feed bs + 1) < length (b ∷ bs) → take (cond is 0 (before_feed bs + 1) + 1) (b ∷ bs) ≡ take (cond is 0 (before_feed bs + 1)) (b ∷ bs) ++ 10 ∷ []
+feed_by true b bs e f n = ap (λ x. x ∷ []) (eqb-true _ _ e)
+feed_by false b bs e f n =
+    let one : before_feed bs + 1 ≡ suc (before_feed bs) = omega arith in
+    let more : suc (before_feed bs) + 1 ≡ suc (before_feed bs + 1) = omega arith in
+    rw one (rw more (ap (λ l. b ∷ l) (f (omega (arith, n)))))
+
+pub feed_behind : (bytes : List ℕ) → before_feed bytes < length bytes → take (before_feed bytes + 1) bytes ≡ take (before_feed bytes) bytes ++ 10 ∷ []
+feed_behind [] h = absurd (omega arith)
+feed_behind (b ∷ bs) h = feed_by (eqb b 10) b bs refl (feed_behind bs) h
 
 pub last_line : (line : List ℕ) → NoFeed line → 0 < length line → lines_of line ≡ line ∷ []
 last_line [] f h = absurd (omega arith)

@@ -1,5 +1,5 @@
 -- The lines of a text: each ends by a line feed, the last one also by the end of the text.
-use Rattle.std.specs.Prelude.{◌≡◌, ℕ, ◌<◌, List, [], ◌∷◌, length, ◌==◌, if◌then◌else◌}
+use Rattle.std.specs.Prelude.{◌≡◌, ◌≢◌, ℕ, ◌+◌, ◌<◌, List, [], ◌∷◌, length, ◌==◌, if◌then◌else◌, ⊤}
 use Rattle.text_lines.specs.declared.lines.LineRead.{LineRead}
 use Rattle.text_lines.specs.declared.lines.LineRead.TheVariants.{End, Line, TooLong}
 
@@ -11,6 +11,16 @@ before_lines b (line ∷ lines) = (b ∷ line) ∷ lines
 abbrev pub lines_of : List ℕ → List (List ℕ)
 lines_of [] = []
 lines_of (b ∷ bs) = if b == 10 then [] ∷ lines_of bs else before_lines b (lines_of bs)
+
+-- how many bytes stand before the first line feed
+abbrev pub before_feed : List ℕ → ℕ
+before_feed [] = 0
+before_feed (b ∷ bs) = if b == 10 then 0 else before_feed bs + 1
+
+-- none of them is a line feed
+abbrev pub NoFeed : List ℕ → Type 0
+NoFeed [] = ⊤
+NoFeed (b ∷ bs) = (b ≢ 10) × NoFeed bs
 
 -- what was read is the first line of all, rest being left; or that line has more bytes than most
 abbrev pub ReadsLineUpTo : ℕ → LineRead → List ℕ → List ℕ → List ℕ → Type 0

@@ -1,12 +1,11 @@
 //! Lines of a reader, one held at a time.
-ghost use Rattle.std.specs.Prelude.{◌≡◌, ◌<◌, ◌≤◌, length, IfOk, OnErr};
-ghost use Rattle.std.specs.Io.KnownBytes.{Keeps};
+ghost use Rattle.std.specs.Prelude.{◌≡◌, ◌≤◌, length, IfOk};
 ghost use Rattle.text_lines.specs.declared.lines.ReadError.TheVariants.{OutOfMemory};
-ghost use Rattle.text_lines.specs.Known.{TakesByte, Known};
-ghost use Rattle.text_lines.specs.Lines.{ReadsLine, ReadsLineUpTo};
+ghost use Rattle.text_lines.specs.Known.{TakesPart, Known};
+ghost use Rattle.text_lines.specs.Lines.{before_feed, ReadsLine, ReadsLineUpTo};
 
-use std::alloc::AllocFailed;
-use std::io::{ErrorKind, Read};
+use std::alloc::AllocError;
+use std::io::{BufRead, ErrorKind};
 
 /// Why no line was read.
 #[derive(Clone, Copy, Debug, PartialEq, Eq)]
@@ -28,39 +27,79 @@ pub enum LineRead {
     TooLong,
 }
 
-impl<T: Drop> From<AllocFailed<T>> for ReadError {
+impl From<AllocError> for ReadError {
     ghost from_gives = { λ _ e. e ≡ OutOfMemory };
 
-    fn from(_e: AllocFailed<T>) -> ReadError {
+    fn from(_: AllocError) -> ReadError {
         ReadError::OutOfMemory
     }
 }
 
-/// The next byte, or none at the end. A failed read takes nothing.
-fn next_byte<R: Read>(reader: &mut R) -> Result<Option<u8>, ReadError>
-    ensures ok { IfOk result (λ byte. TakesByte (R.remaining reader.old) (R.remaining reader.new) byte) }
-    ensures err { OnErr result (Keeps (R.remaining reader.old) (R.remaining reader.new)) }
+/// What was taken of a reader.
+#[derive(Clone, Copy, Debug, PartialEq, Eq)]
+pub(crate) enum Part {
+    /// Bytes of a line that goes on.
+    More,
+    /// The rest of a line, and its line feed.
+    Feed,
+    /// Nothing, at the end.
+    End,
+    /// More bytes than the line may have.
+    TooLong,
+}
+
+/// How many bytes stand before the first line feed.
+fn before_feed(bytes: &[u8]) -> usize
+    ensures value { result ≡ before_feed bytes.now }
+    ensures within { result ≤ length bytes.now }
 {
-    let mut buf = [0u8; 1];
-    for _ in 0..u64::MAX {
-        match reader.read(&mut buf) {
-            Ok(0) => return Ok(None),
-            Ok(_) => return Ok(Some(buf[0])),
-            Err(e) => {
-                if e.kind() != ErrorKind::Interrupted {
-                    return Err(ReadError::Failed);
-                }
-            }
+    for (at, byte) in bytes.iter().enumerate() {
+        if *byte == b'\n' {
+            return at;
         }
     }
-    Err(ReadError::Failed)
+    bytes.len()
+}
+
+/// Takes what the reader holds of a line, and puts it behind what the line has.
+fn take_part<R: BufRead>(most: usize, reader: &mut R, line: &mut Vec<u8>) -> Result<Part, ReadError>
+    requires { length line.old.items ≤ most }
+    ensures short { length line.new.items ≤ most }
+    ensures takes { IfOk result (λ part. TakesPart most part (R.remaining reader.old) (R.remaining reader.new) line.old.items line.new.items) }
+{
+    let held = match reader.fill_buf() {
+        Ok(held) => held,
+        Err(e) => {
+            return if e.kind() == ErrorKind::Interrupted {
+                Ok(Part::More)
+            } else {
+                Err(ReadError::Failed)
+            };
+        }
+    };
+    let count = held.len();
+    if count == 0 {
+        return Ok(Part::End);
+    }
+    let len = before_feed(held);
+    if len > most - line.len() {
+        reader.consume(len);
+        return Ok(Part::TooLong);
+    }
+    line.extend_from_slice(&held[..len])?;
+    if len == count {
+        reader.consume(len);
+        return Ok(Part::More);
+    }
+    reader.consume(len + 1);
+    Ok(Part::Feed)
 }
 
 /// The most bytes that a line of a script may have.
 const MAX_LINE: usize = 8192;
 
 /// Reads the next line of a script into `line`, without its line feed: it may have up to 8,192 bytes.
-pub fn read_line<R: Read>(reader: &mut R, line: &mut Vec<u8>) -> Result<LineRead, ReadError>
+pub fn read_line<R: BufRead>(reader: &mut R, line: &mut Vec<u8>) -> Result<LineRead, ReadError>
     ensures short { length line.new.items ≤ 8192 }
     ensures reads { IfOk result (λ read. Known (R.remaining reader.old) (R.remaining reader.new) (λ all rest.
         ReadsLine read line.new.items all rest)) }
@@ -69,7 +108,7 @@ pub fn read_line<R: Read>(reader: &mut R, line: &mut Vec<u8>) -> Result<LineRead
 }
 
 /// Reads the next line into `line`, without its line feed: it may have up to `most` bytes.
-pub fn read_line_up_to<R: Read>(
+pub fn read_line_up_to<R: BufRead>(
     most: usize,
     reader: &mut R,
     line: &mut Vec<u8>,
@@ -79,19 +118,18 @@ pub fn read_line_up_to<R: Read>(
         ReadsLineUpTo most read line.new.items all rest)) }
 {
     line.clear();
-    loop {
-        let Some(byte) = next_byte(reader)? else {
-            if line.is_empty() {
-                return Ok(LineRead::End);
+    for _ in 0..u64::MAX {
+        match take_part(most, reader, line)? {
+            Part::More => {}
+            Part::Feed => return Ok(LineRead::Line),
+            Part::TooLong => return Ok(LineRead::TooLong),
+            Part::End => {
+                if line.is_empty() {
+                    return Ok(LineRead::End);
+                }
+                return Ok(LineRead::Line);
             }
-            return Ok(LineRead::Line);
-        };
-        if byte == b'\n' {
-            return Ok(LineRead::Line);
         }
-        if line.len() == most {
-            return Ok(LineRead::TooLong);
-        }
-        line.push(byte)?;
     }
+    Err(ReadError::Failed)
 }

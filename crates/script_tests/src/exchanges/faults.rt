@@ -4,7 +4,7 @@ use crate::scripts::ran;
 use bus_script::{Cause, Fault, Ran, run_script};
 use std::alloc::Global;
 use std::io;
-use std::io::{Error, ErrorKind, Read, Write};
+use std::io::{BufReader, Error, ErrorKind, Read, Write};
 use std::test::Fail;
 
 /// Faults of a fourth line; of several the first in their order is told.
@@ -110,11 +110,14 @@ impl Read for FailsOnce<'_> {
 fn run_failing(alloc: Global, reads_before: u64, kind: ErrorKind, out: &mut Vec<u8>) -> Ran {
     for _ in 0..2 {
         out.clear();
-        let mut reader = FailsOnce {
+        let failing = FailsOnce {
             text: LINES,
             reads_before,
             has_failed: false,
             kind,
+        };
+        let Ok(mut reader) = BufReader::new(alloc, failing) else {
+            continue;
         };
         let ran = run_script(alloc, &mut reader, out);
         if !found_no_memory(&ran) {
