@@ -4,7 +4,7 @@ use Rattle.std.specs.Fmt.{decimal}
 use Rattle.bus_frame.specs.Frames.{CanFrame}
 use Rattle.pgn_ids.specs.Identifier.{meaning_of}
 use Rattle.pgn_ids.specs.declared.address.Address.{Address}
-use Rattle.log_text.specs.Digits.{digits, unspaced}
+use Rattle.text_digits.specs.Digits.{digits, unspaced}
 use Rattle.log_text.specs.Iface.{name_of}
 use Rattle.log_text.specs.Written.{time_text}
 use Rattle.log_text.specs.declared.iface.Iface.{Iface}

@@ -1,40 +1,14 @@
 //! What is printed of a log.
 ghost use Rattle.std.specs.Prelude.{◌≡◌, ◌++◌, OnOk};
-ghost use Rattle.std.specs.Fmt.{decimal};
-ghost use Rattle.log_text.specs.Digits.{unspaced};
 ghost use Rattle.bus_decode.specs.Text.{place_text, address_text, pgn_text, ends_text, way_text, message_text, cause_text, abort_text, loss_text, told_line, told_lines, single_line};
 
 use crate::options::Options;
 use bus_frame::Frame;
 use log_decode::{Cause, Told};
-use log_text::{Iface, put_digits, put_time};
+use log_text::{Iface, put_time};
 use pgn_ids::{Address, Pgn, read_id};
 use std::alloc::AllocError;
-use std::io::Write;
-
-fn put_text(out: &mut Vec<u8>, text: &str) -> Result<(), AllocError>
-    ensures { OnOk result (out.new.items ≡ out.old.items ++ text.now) }
-{
-    out.extend_from_slice(text.as_bytes())
-}
-
-fn put_decimal(out: &mut Vec<u8>, n: u64) -> Result<(), AllocError>
-    ensures { OnOk result (out.new.items ≡ out.old.items ++ decimal n) }
-{
-    match write!(out, "{n}") {
-        Ok(()) => Ok(()),
-        Err(_) => Err(AllocError),
-    }
-}
-
-fn put_bytes(out: &mut Vec<u8>, bytes: &[u8]) -> Result<(), AllocError>
-    ensures { OnOk result (out.new.items ≡ out.old.items ++ unspaced bytes.now) }
-{
-    for byte in bytes {
-        put_digits(out, 16, 2, u64::from(*byte))?;
-    }
-    Ok(())
-}
+use text_digits::{put_bytes, put_decimal, put_digits, put_text};
 
 /// Where and when something was seen: the time, the interface, and what it is.
 fn put_place(out: &mut Vec<u8>, now: u64, iface: &Iface, what: &str) -> Result<(), AllocError>

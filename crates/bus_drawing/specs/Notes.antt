@@ -3,7 +3,7 @@ use Rattle.std.specs.Prelude.{ℕ, List, [], ◌++◌, ◌==◌, if◌then◌els
 use Rattle.std.specs.Fmt.{decimal}
 use Rattle.pgn_ids.specs.declared.address.Address.{Address}
 use Rattle.port_table.specs.declared.port.PortId.{PortId}
-use Rattle.log_text.specs.Digits.{digits}
+use Rattle.text_digits.specs.Digits.{digits}
 use Rattle.message_events.specs.declared.event.Event.{Event}
 use Rattle.message_events.specs.declared.event.Event.TheVariants as events
 use Rattle.tp_wire.specs.declared.outcome.Outcome.{Outcome}

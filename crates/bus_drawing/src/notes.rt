@@ -4,13 +4,13 @@ ghost use Rattle.script_text.specs.Replies.{outcome_text};
 ghost use Rattle.bus_drawing.specs.Words.{name_of};
 ghost use Rattle.bus_drawing.specs.Notes.{participant_line, heading, opening, note_over, note_line, port_words, pgn_words, length_words, message_words, given_words, outcome_words, event_note, notes};
 
-use crate::words::{put_decimal, put_name, put_pgn, put_text};
-use log_text::put_digits;
+use crate::words::{put_name, put_pgn};
 use message_events::{Bytes, Event, Events};
 use pgn_ids::{Address, Pgn};
 use port_table::PortId;
 use segment_core::EventList;
 use std::alloc::AllocError;
+use text_digits::{put_decimal, put_digits, put_text};
 use tp_wire::Outcome;
 
 #[tactic(auto, unfolding(crate::specs::Notes::participant_line))]

@@ -3,10 +3,11 @@ ghost use Rattle.std.specs.Prelude.{◌≡◌, ◌++◌, OnOk, IfOk};
 ghost use Rattle.bus_drawing.specs.Words.{arrow_line, packet_words};
 ghost use Rattle.bus_drawing.specs.Runs.{run_by, run_of, run_arrow, goes_on, longer, open_after, drawn_at, arrows};
 
-use crate::words::{draw_frame, put_ends, put_packets, put_text};
+use crate::words::{draw_frame, put_ends, put_packets};
 use bus_frame::Frame;
 use pgn_ids::Address;
 use std::alloc::AllocError;
+use text_digits::put_text;
 use tp_wire::{Wire, read};
 
 /// Packets from one source to one destination whose sequence numbers follow on one another.

@@ -1,30 +1,14 @@
 //! What a frame means, in words.
 ghost use Rattle.std.specs.Prelude.{◌≡◌, ◌++◌, OnOk, codes};
 ghost use Rattle.std.specs.Fmt.{decimal};
-ghost use Rattle.log_text.specs.Digits.{digits};
+ghost use Rattle.text_digits.specs.Digits.{digits};
 ghost use Rattle.bus_drawing.specs.Words.{name_of, size_words, from_words, grant_words, management_words, packet_words, words_of, arrow_line, other_arrow, arrow_of};
 
 use bus_frame::Frame;
-use log_text::put_digits;
 use pgn_ids::{Address, Pgn, read_id};
 use std::alloc::AllocError;
-use std::io::Write;
+use text_digits::{put_decimal, put_digits, put_text};
 use tp_wire::{CmFrame, Wire, read};
-
-pub(crate) fn put_text(out: &mut Vec<u8>, text: &str) -> Result<(), AllocError>
-    ensures { OnOk result (out.new.items ≡ out.old.items ++ text.now) }
-{
-    out.extend_from_slice(text.as_bytes())
-}
-
-pub(crate) fn put_decimal(out: &mut Vec<u8>, n: u64) -> Result<(), AllocError>
-    ensures { OnOk result (out.new.items ≡ out.old.items ++ decimal n) }
-{
-    match write!(out, "{n}") {
-        Ok(()) => Ok(()),
-        Err(_) => Err(AllocError),
-    }
-}
 
 pub(crate) fn put_pgn(out: &mut Vec<u8>, pgn: Pgn) -> Result<(), AllocError>
     ensures { OnOk result (out.new.items ≡ out.old.items ++ digits 16 5 pgn) }

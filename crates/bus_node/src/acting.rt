@@ -1,6 +1,5 @@
 //! What a line does.
 ghost use Rattle.std.specs.Prelude.{◌≡◌, ◌+◌, ◌^◌, ◌++◌, OnOk};
-ghost use Rattle.std.specs.Fmt.{decimal};
 ghost use Rattle.script_text.specs.Parts.{line};
 ghost use Rattle.script_text.specs.Replies.{refusal_text};
 ghost use Rattle.script_text.specs.Counts.{counts_line};
@@ -15,7 +14,7 @@ use script_commands::LineError;
 use script_text::{print_counts, print_refused, print_text};
 use segment_core::{Call, Refusal};
 use std::alloc::{AllocError, Global};
-use std::io::Write;
+use text_digits::put_decimal;
 
 /// How a line was obeyed.
 #[derive(Clone, Copy, Debug, PartialEq, Eq)]
@@ -35,15 +34,6 @@ impl Told {
             Told::Answered => earlier,
             Told::NoMemory => true,
         }
-    }
-}
-
-fn put_decimal(out: &mut Vec<u8>, n: u64) -> Result<(), AllocError>
-    ensures { OnOk result (out.new.items ≡ out.old.items ++ decimal n) }
-{
-    match write!(out, "{n}") {
-        Ok(()) => Ok(()),
-        Err(_) => Err(AllocError),
     }
 }
 

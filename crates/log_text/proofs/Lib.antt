@@ -1,4 +1,3 @@
-pub mod More
 pub mod Pairs
 pub mod DigitsBack
 pub mod FieldsBack

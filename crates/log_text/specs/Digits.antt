@@ -1,5 +1,5 @@
 -- Digits, and the numbers and data that they write.
-use Rattle.std.specs.Prelude.{ℕ, zero, suc, ◌+◌, ◌-◌, ◌*◌, ◌/◌, ◌%◌, ◌^◌, List, [], ◌∷◌, ◌++◌, length, flat_map, Bool, ◌&&◌, Option, Some, None, nat_lt, nat_le, if◌then◌else◌, option_and_then}
+use Rattle.std.specs.Prelude.{ℕ, ◌+◌, ◌-◌, ◌*◌, ◌^◌, List, [], ◌∷◌, length, Bool, ◌&&◌, Option, Some, None, nat_lt, nat_le, if◌then◌else◌, option_and_then}
 use Rattle.bus_frame.specs.Frames.{CanFrame}
 
 infixl 10 ◌>>=◌
@@ -45,16 +45,3 @@ abbrev pub data_of : ℕ → List ℕ → Option CanFrame
 data_of id digits = if nat_lt 16 (length digits) then None else (do
   bytes ← pairs_of digits
   Some (record { id = id; bytes = bytes }))
-
--- the digit of a value, in upper case
-abbrev pub digit_char : ℕ → ℕ
-digit_char n = if nat_lt n 10 then 48 + n else 55 + n
-
--- a number in so many digits of a base
-abbrev pub digits : (base width n : ℕ) → List ℕ
-digits base zero n = []
-digits base (suc width) n = digits base width (n / base) ++ digit_char (n % base) ∷ []
-
--- bytes with no space between them
-abbrev pub unspaced : List ℕ → List ℕ
-unspaced bytes = flat_map (λ b. digits 16 2 b) bytes

@@ -1,7 +1,7 @@
 -- How a line of a log is written: (SECONDS.MICROS) IFACE ID#HEX.
 use Rattle.std.specs.Prelude.{ℕ, ◌/◌, ◌%◌, ◌^◌, ◌<◌, ◌≤◌, List, [], ◌∷◌, ◌++◌, length, nat_lt, if◌then◌else◌, ⊤}
 use Rattle.bus_frame.specs.Frames.{CanFrame}
-use Rattle.log_text.specs.Digits.{digits, unspaced}
+use Rattle.text_digits.specs.Digits.{digits, unspaced}
 use Rattle.log_text.specs.Iface.{name_of}
 use Rattle.log_text.specs.declared.iface.Iface.{Iface}
 

@@ -15,4 +15,4 @@ mod writing;
 pub use iface::{BadName, Iface};
 pub use laws::written_lines_are_read_back;
 pub use line::{LogLine, NotLogLine, read_log_line, read_time};
-pub use writing::{put_digits, put_log_line, put_time};
+pub use writing::{put_log_line, put_time};

@@ -1,34 +1,12 @@
 //! Lines of a log, written.
-ghost use Rattle.std.specs.Prelude.{◌≡◌, ℕ, ◌<◌, ◌≤◌, ◌++◌, ◌^◌, OnOk};
-ghost use Rattle.log_text.specs.Digits.{digit_char, digits, unspaced};
+ghost use Rattle.std.specs.Prelude.{◌≡◌, ◌++◌, OnOk};
 ghost use Rattle.log_text.specs.Written.{time_text, frame_text, log_text};
 
 use crate::iface::Iface;
 use crate::line::SECOND;
 use bus_frame::Frame;
 use std::alloc::AllocError;
-
-fn digit_char(n: u8) -> u8
-    requires { n < 16 }
-    ensures { result ≡ digit_char n }
-{
-    if n < 10 { b'0' + n } else { b'A' + (n - 10) }
-}
-
-/// Puts a number in so many digits of a base, the last ones where it has more, behind what `out` holds. The base is 2 to 16. It fails only
-/// where memory is refused.
-pub fn put_digits(out: &mut Vec<u8>, base: u64, width: u8, n: u64) -> Result<(), AllocError>
-    requires least { 2 ≤ base }
-    requires most { base ≤ 16 }
-    ensures { OnOk result (out.new.items ≡ out.old.items ++ digits base width n) }
-{
-    if width == 0 {
-        return Ok(());
-    }
-    put_digits(out, base, width - 1, n / base)?;
-    out.push(digit_char((n % base) as u8))?;
-    Ok(())
-}
+use text_digits::{put_bytes, put_digits};
 
 /// From here on seconds have more than ten digits.
 const TEN_DIGITS: u64 = 10_000_000_000;
@@ -46,15 +24,6 @@ pub fn put_time(out: &mut Vec<u8>, time: u64) -> Result<(), AllocError>
     out.push(b'.')?;
     put_digits(out, 10, 6, time % SECOND)?;
     out.push(b')')?;
-    Ok(())
-}
-
-fn put_bytes(out: &mut Vec<u8>, bytes: &[u8]) -> Result<(), AllocError>
-    ensures { OnOk result (out.new.items ≡ out.old.items ++ unspaced bytes.now) }
-{
-    for byte in bytes {
-        put_digits(out, 16, 2, u64::from(*byte))?;
-    }
     Ok(())
 }
 

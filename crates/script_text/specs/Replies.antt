@@ -14,7 +14,8 @@ use Rattle.segment_law.specs.declared.end.DriveEnd.TheVariants as ending
 use Rattle.segment_law.specs.declared.refusal.Refusal.{Refusal}
 use Rattle.segment_law.specs.declared.reply.Reply.{Reply}
 use Rattle.segment_law.specs.declared.reply.Reply.TheVariants.{Opened, Sent, Refused, Done}
-use Rattle.script_text.specs.Parts.{hex, port_text, between, spaced, unspaced, line}
+use Rattle.text_digits.specs.Digits.{digits, unspaced}
+use Rattle.script_text.specs.Parts.{port_text, between, spaced, line}
 
 abbrev pub refusal_text : Refusal → List ℕ
 refusal_text cause = codes "refused " ++ decimal (refusal_number cause) ++ codes " " ++ refusal_name cause
@@ -27,7 +28,7 @@ reply_line (Done events) = line (codes "done")
 
 -- an identifier, and the bytes behind it
 abbrev pub frame_text : CanFrame → List ℕ
-frame_text frame = hex 8 frame.id ++ spaced frame.bytes
+frame_text frame = digits 16 8 frame.id ++ spaced frame.bytes
 
 -- a frame put on the bus
 unfoldable pub put_line : CanFrame → List ℕ
@@ -38,7 +39,7 @@ put_lines frames = flat_map put_line frames
 
 -- the PGN of a message, its length in bytes, its bytes
 abbrev pub message_text : ℕ → List ℕ → List ℕ
-message_text pgn bytes = hex 5 pgn ++ codes " " ++ decimal (length bytes) ++ codes " " ++ unspaced bytes
+message_text pgn bytes = digits 16 5 pgn ++ codes " " ++ decimal (length bytes) ++ codes " " ++ unspaced bytes
 
 -- a message given at a port
 unfoldable pub given_text : PortId → (from to : Address) → ℕ → List ℕ → List ℕ

@@ -2,9 +2,9 @@
 ghost use Rattle.std.specs.Prelude.{◌≡◌, ◌++◌, OnOk};
 ghost use Rattle.script_text.specs.Counts.{counted, frame_counts, ended_counts, given_up_counts, counts_line, relayed_line};
 
-use crate::parts::{put_decimal, put_text};
 use segment_core::Counts;
 use std::alloc::AllocError;
+use text_digits::{put_decimal, put_text};
 
 fn put_count(out: &mut Vec<u8>, name: &str, n: u64) -> Result<(), AllocError>
     ensures { OnOk result (out.new.items ≡ out.old.items ++ counted name.now n) }

@@ -3,15 +3,14 @@ ghost use Rattle.std.specs.Prelude.{◌≡◌, ◌++◌, OnOk, codes};
 ghost use Rattle.script_text.specs.Parts.{line, port_text};
 ghost use Rattle.script_text.specs.Replies.{message_text, frame_text, given_text, ended_text, outcome_text, refusal_text, end_text, reply_line, put_line, event_line, put_lines, event_lines, drove_line, drive_lines};
 
-use crate::parts::{
-    put_between, put_decimal, put_hex, put_port, put_spaced, put_text, put_unspaced,
-};
+use crate::parts::{put_between, put_port, put_spaced};
 use bus_frame::Frame;
 use message_events::Bytes;
 use pgn_ids::{Address, Pgn};
 use port_table::PortId;
 use segment_core::{DriveEnd, Driven, Event, EventList, Events, Refusal, Reply};
 use std::alloc::AllocError;
+use text_digits::{put_bytes, put_decimal, put_digits, put_text};
 use tp_wire::Outcome;
 
 fn put_refusal(out: &mut Vec<u8>, cause: Refusal) -> Result<(), AllocError>
@@ -63,7 +62,7 @@ pub fn print_reply(out: &mut Vec<u8>, reply: &Reply) -> Result<(), AllocError>
 fn put_frame(out: &mut Vec<u8>, frame: &Frame) -> Result<(), AllocError>
     ensures { OnOk result (out.new.items ≡ out.old.items ++ frame_text frame.now) }
 {
-    put_hex(out, 8, frame.id().raw())?;
+    put_digits(out, 16, 8, u64::from(frame.id().raw()))?;
     put_spaced(out, frame.bytes())
 }
 
@@ -89,11 +88,11 @@ fn print_frames(out: &mut Vec<u8>, frames: &[Frame]) -> Result<(), AllocError>
 fn put_message(out: &mut Vec<u8>, pgn: Pgn, bytes: &Bytes) -> Result<(), AllocError>
     ensures { OnOk result (out.new.items ≡ out.old.items ++ message_text pgn bytes.now) }
 {
-    put_hex(out, 5, pgn.raw())?;
+    put_digits(out, 16, 5, u64::from(pgn.raw()))?;
     put_text(out, " ")?;
     put_decimal(out, bytes.len() as u64)?;
     put_text(out, " ")?;
-    put_unspaced(out, bytes.as_slice())
+    put_bytes(out, bytes.as_slice())
 }
 
 /// The line of a port.

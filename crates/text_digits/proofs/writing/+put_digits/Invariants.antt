@@ -1,4 +1,4 @@
-use Rattle.log_text.proofs.writing.+put_digits.Given as goal
+use Rattle.text_digits.proofs.writing.+put_digits.Given as goal
 
 abbrev pub decreases-put_digits : goal.decreases-put_digits
 decreases-put_digits l = l.width

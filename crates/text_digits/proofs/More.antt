@@ -1,6 +1,6 @@
 -- One digit more.
 use Rattle.std.proofs.Common.{List, sym, ◌∙◌, ap, append_assoc, ◌≡◌, ◌≢◌, ℕ, zero, suc, ◌-◌, ◌/◌, ◌%◌, [], ◌∷◌, ◌++◌, refl, arith}
-use Rattle.log_text.specs.Digits.{digits, digit_char}
+use Rattle.text_digits.specs.Digits.{digits, digit_char}
 
 pub digits_more : (base width n : ℕ) → width ≢ 0 → digits base width n ≡ digits base (width - 1) (n / base) ++ digit_char (n % base) ∷ []
 digits_more base zero n h = absurd (h refl)

@@ -1,4 +1,0 @@
-use Rattle.script_text.proofs.parts.+put_hex.Given as goal
-
-abbrev pub decreases-put_hex : goal.decreases-put_hex
-decreases-put_hex l = l.width

@@ -1,0 +1,8 @@
+//! Text behind what a buffer holds: words, decimal numbers, numbers in so many digits of a base, and bytes in hexadecimal digits.
+//!
+//! Each call fails only where memory is refused, and may have put a part of the text then.
+#![tactic(auto)]
+
+mod writing;
+
+pub use writing::{put_byte, put_bytes, put_decimal, put_digits, put_text};
