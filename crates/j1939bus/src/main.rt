@@ -8,7 +8,7 @@
 //! of the threads ran out.
 #![tactic(auto)]
 
-use bus_decode::{Options, Wanted, run_decode};
+use bus_decode::{Decoded, Options, Wanted, run_decode};
 use bus_live::{Gate, run_live};
 use bus_node::{Node, run_node};
 use bus_relay::run_relay;
@@ -16,13 +16,16 @@ use bus_script::{run_logged, run_script};
 use command_line::{Asked, OfLog, OfNode, OfPort, read_command_line};
 use log_text::Iface;
 use pgn_ids::Address;
+use read_progress::Progress;
 use script_drawing::draw_script;
 use std::alloc::{AllocError, Global};
-use std::io;
-use std::io::{BufReader, BufWriter};
+use std::io::{BufReader, BufWriter, IsTerminal};
 use std::process::ExitCode;
+use std::rt::Files;
 use std::sync::Wait;
 use std::thread::Threads;
+use std::time::Clock;
+use std::{fs, io};
 
 /// Runs the script of standard input.
 fn run<R: Input + Print + Eprint + AllocGlobal>(rt: &R) -> io::Result<ExitCode> {
@@ -110,8 +113,45 @@ fn wanted(alloc: Global, named: &[u32]) -> Result<Wanted, AllocError> {
     Ok(wanted)
 }
 
+/// How many bytes standard input has, where it is a file and standard error a terminal.
+fn size_to_tell<R: Files>(rt: &R, errors: &io::Stderr) -> Option<u64> {
+    if !errors.is_terminal() {
+        return None;
+    }
+    let metadata = fs::metadata(rt, "/dev/stdin").ok()?;
+    if metadata.is_file() {
+        Some(metadata.len())
+    } else {
+        None
+    }
+}
+
+/// Prints the messages of a log. While a file is read for more than a second, a terminal shows how far it is.
+fn decode_all<R: Input + Print + AllocGlobal + Files + Clock>(
+    rt: &R,
+    errors: &io::Stderr,
+    options: &Options,
+) -> io::Result<Decoded> {
+    let alloc = rt.alloc();
+    let mut writer = BufWriter::new(alloc, io::writer(rt))?;
+    let Some(size) = size_to_tell(rt, errors) else {
+        let mut reader = BufReader::new(alloc, rt.reader())?;
+        return Ok(run_decode(alloc, options, &mut reader, &mut writer));
+    };
+    let progress = Progress::new(alloc, rt.reader(), rt, io::writer(errors), size)?;
+    let mut reader = BufReader::new(alloc, progress)?;
+    let decoded = run_decode(alloc, options, &mut reader, &mut writer);
+    // What was told of the way makes room for what is told of the end.
+    eprint!(errors; "\r\x1b[K")?;
+    Ok(decoded)
+}
+
 /// Prints the messages of the log of standard input.
-fn decode<R: Input + Print + Eprint + AllocGlobal>(rt: &R, asked: &OfLog) -> io::Result<ExitCode> {
+fn decode<R: Input + Print + Eprint + AllocGlobal + Files + Clock>(
+    rt: &R,
+    errors: &io::Stderr,
+    asked: &OfLog,
+) -> io::Result<ExitCode> {
     let alloc = rt.alloc();
     let options = Options {
         pgns: wanted(alloc, asked.pgns.as_slice())?,
@@ -120,9 +160,7 @@ fn decode<R: Input + Print + Eprint + AllocGlobal>(rt: &R, asked: &OfLog) -> io:
         most: asked.most,
         singles: asked.singles,
     };
-    let mut reader = BufReader::new(alloc, rt.reader())?;
-    let mut writer = BufWriter::new(alloc, io::writer(rt))?;
-    let decoded = run_decode(alloc, &options, &mut reader, &mut writer);
+    let decoded = decode_all(rt, errors, &options)?;
     if let Some(fault) = decoded.fault {
         eprintln!(rt; "{fault}")?;
     }
@@ -178,7 +216,7 @@ fn main(rt: HostRuntime) -> anyhow::Result<ExitCode> {
         Ok(Asked::Drawn) => Ok(draw(&rt)?),
         Ok(Asked::Live { turns }) => Ok(live(&rt, turns)?),
         Ok(Asked::Relay { turns }) => Ok(relay(&rt, turns)?),
-        Ok(Asked::Decode(asked)) => Ok(decode(&rt, &asked)?),
+        Ok(Asked::Decode(asked)) => Ok(decode(&rt, &rt.stderr(), &asked)?),
         Ok(Asked::Node(asked)) => Ok(node(&rt, &asked)?),
         Err(error) => {
             eprint!(rt; "{error}")?;

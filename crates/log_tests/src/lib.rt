@@ -10,4 +10,6 @@ mod listeners;
 #[cfg(test)]
 mod logs;
 #[cfg(test)]
+mod progress;
+#[cfg(test)]
 mod scripts;

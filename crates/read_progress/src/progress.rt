@@ -1,0 +1,108 @@
+//! A reader and what it tells.
+ghost use Rattle.std.specs.Prelude.{◌≡◌, ◌++◌, IfOk, OnOk};
+ghost use Rattle.read_progress.specs.Text.{progress_text};
+
+use std::alloc::{AllocError, Global};
+use std::io;
+use std::io::{Read, Write};
+use std::time::{Clock, Duration, Instant};
+use text_digits::{put_decimal, put_text};
+use text_lines::tell;
+
+/// For how many milliseconds nothing is told.
+const PATIENCE: u64 = 1_000;
+
+/// For how many milliseconds what was told stands.
+const STEP: u64 = 200;
+
+/// How many bytes a megabyte has.
+const MEGABYTE: u64 = 1_000_000;
+
+/// A reader of so many bytes that tells on a writer how many of them it has read, once it has read for more than a second, and then up to
+/// five times a second.
+///
+/// What is told stands on one line, each text in the place of the one before, and the last one stays there. Where the writer fails, the
+/// clock can't be read or memory is refused, nothing is told, and reading goes on.
+#[derive(Drop)]
+pub struct Progress<'a, R, C, W> {
+    alloc: Global,
+    inner: R,
+    clock: &'a C,
+    writer: W,
+    /// How many bytes there are, and how many of them were read.
+    size: u64,
+    done: u64,
+    /// When it began, and for how long it has to read until it tells again.
+    start: Instant,
+    due: Duration,
+}
+
+/// Puts what is told of so many bytes read of all behind what `out` holds.
+fn put_progress(out: &mut Vec<u8>, done: u64, size: u64) -> Result<(), AllocError>
+    ensures { OnOk result (out.new.items ≡ out.old.items ++ progress_text done size) }
+{
+    put_text(out, "\rread ")?;
+    put_decimal(out, done / MEGABYTE)?;
+    put_text(out, " of ")?;
+    put_decimal(out, size / MEGABYTE)?;
+    put_text(out, " MB")
+}
+
+impl<'a, R: Read + Drop, C: Clock, W: Write + Drop> Progress<'a, R, C, W> {
+    /// A reader of what `inner` has, of which nothing was read yet. It fails only where the clock can't be read.
+    pub fn new(
+        alloc: Global,
+        inner: R,
+        clock: &'a C,
+        writer: W,
+        size: u64,
+    ) -> io::Result<Progress<'a, R, C, W>>
+        ensures inner { IfOk result (λ progress. progress.inner ≡ inner) }
+        ensures size { IfOk result (λ progress. progress.size ≡ size) }
+        ensures unread { IfOk result (λ progress. progress.done ≡ 0) }
+    {
+        let start = Instant::now(clock)?;
+        Ok(Progress {
+            alloc,
+            inner,
+            clock,
+            writer,
+            size,
+            done: 0,
+            start,
+            due: Duration::from_millis(PATIENCE),
+        })
+    }
+
+    // Tells how far it has come, where that is due.
+    fn tell(&mut self)
+        ensures { self.new.inner ≡ self.old.inner }
+    {
+        let Ok(passed) = self.start.elapsed(self.clock) else {
+            return;
+        };
+        if passed < self.due {
+            return;
+        }
+        let Some(due) = passed.checked_add(Duration::from_millis(STEP)) else {
+            return;
+        };
+        self.due = due;
+        let mut line = Vec::new(self.alloc);
+        let Ok(()) = put_progress(&mut line, self.done, self.size) else {
+            return;
+        };
+        let _told = tell(&mut self.writer, line.as_slice());
+    }
+}
+
+impl<R: Read + Drop, C: Clock, W: Write + Drop> Read for Progress<'_, R, C, W> {
+    ghost remaining = { λ progress. R.remaining progress.inner };
+
+    fn read(&mut self, buf: &mut [u8]) -> io::Result<usize> {
+        let n = self.inner.read(buf)?;
+        self.done = self.done.saturating_add(n as u64);
+        self.tell();
+        Ok(n)
+    }
+}
