@@ -1,0 +1,28 @@
+//! A station at address 21 on can0. Standard input has the frames of the bus, as `candump -L` prints them, and commands for the station;
+//! standard output has the frames that it puts, the replies, and what it is told.
+#![tactic(auto)]
+
+use anyhow::Result;
+use bus_node::{Node, run_node};
+use log_text::Iface;
+use pgn_ids::Address;
+use std::io;
+use std::io::{BufReader, BufWriter};
+use std::process::ExitCode;
+
+const STATION: Address = Address(0x21);
+
+/// After a connection failed, nothing is sent to its destination for so many milliseconds.
+const QUIET: u64 = 700;
+
+fn main(rt: HostRuntime) -> Result<ExitCode> {
+    let alloc = rt.alloc();
+    let mut node = Node::new(alloc, STATION, Iface::new(b"can0")?, QUIET)?;
+    let mut reader = BufReader::new(alloc, rt.reader())?;
+    let mut writer = BufWriter::new(alloc, io::writer(&rt))?;
+    let ran = run_node(alloc, &mut node, &mut reader, &mut writer);
+    if let Some(fault) = ran.fault {
+        eprintln!(&rt; "{fault}")?;
+    }
+    Ok(ExitCode::from(ran.status()))
+}
