@@ -1,7 +1,7 @@
 //! A script run by threads.
-ghost use Rattle.std.specs.Prelude.{◌≡◌, IfSome, IfOk, map};
+ghost use Rattle.std.specs.Prelude.{◌≡◌, IfSome, IfOk};
 ghost use Rattle.segment_shared.specs.LiveView.{LiveView};
-ghost use Rattle.script_setup.specs.Plan.{plan_of, port_of};
+ghost use Rattle.script_setup.specs.Plan.{plan_of};
 ghost use Rattle.bus_live.specs.Ending.{Came, CameTo, Ended, planned};
 
 use crate::reading::read_script;
@@ -10,11 +10,11 @@ use pgn_ids::Address;
 use port_table::PortId;
 use script_commands::Cause;
 use script_runs::{LiveRan, Lost, Told, failed, lost_by};
-use script_setup::{Message, Setup};
+use script_setup::{Message, Setup, ports_of};
 use segment_shared::{Gate, Inbox, Live, SharedSegment, finish};
 use segment_threads::{Board, Ends, Pace, Party, Sender, gather, senders_of, spawn_segment, watch};
 use std::alloc::{AllocError, Global};
-use std::io::{Read, Write};
+use std::io::{BufRead, Write};
 use std::sync::Wait;
 use std::thread;
 use std::thread::Threads;
@@ -150,16 +150,6 @@ fn run<R: Threads + Wait + Sync, G: Gate + Sync>(
     Ok(told)
 }
 
-fn ports_of(alloc: Global, inboxes: &[Inbox]) -> Result<Vec<PortId>, AllocError>
-    ensures { IfOk result (λ ports. ports.items ≡ map port_of inboxes.now) }
-{
-    let mut ports = Vec::new(alloc);
-    for inbox in inboxes {
-        ports.push(inbox.port())?;
-    }
-    Ok(ports)
-}
-
 /// Reads a script of `stations`, `open` and `send` lines, runs it by threads, each worker with at most so many turns, and
 /// writes what the ports were given and how the messages ended.
 ///
@@ -171,7 +161,7 @@ fn ports_of(alloc: Global, inboxes: &[Inbox]) -> Result<Vec<PortId>, AllocError>
 /// a front of that was written.
 ///
 /// Nothing is promised of which calls the threads make.
-pub fn run_live<T: Threads + Wait + Sync, R: Read, W: Write, G: Gate + Sync>(
+pub fn run_live<T: Threads + Wait + Sync, R: BufRead, W: Write, G: Gate + Sync>(
     rt: &T,
     alloc: Global,
     reader: &mut R,

@@ -22,7 +22,7 @@ use Rattle.port_relay.specs.declared.relaying.Relayed.{Relayed}
 use Rattle.bus_relay.specs.declared.gateway.Passage.{Passage}
 use Rattle.bus_relay.specs.declared.carrying.Carried.{Carried}
 use Rattle.bus_relay.specs.declared.text.Carriage.{Carriage}
-use Rattle.bus_relay.specs.Carriages.{HasCarried, IsBy, place_of, none_left, port_given, client_sent, IsCarried, IsCarriedWhole}
+use Rattle.bus_relay.specs.Carriages.{HasCarried, IsBy, place_of, none_left, port_given, IsCarried, IsCarriedWhole}
 
 -- Ends that were new, behind one relay
 

@@ -1,8 +1,9 @@
 -- The threads left two segments of the stations and ports that were set up.
-use Rattle.std.proofs.Common.{◌≡◌, ℕ, List, Bool, Option, Some, sym, subst, ap, ◌∙◌, map, option_map}
+use Rattle.std.proofs.Common.{◌≡◌, ℕ, List, Bool, Option, Some, Result, Ok, Err, IfOk, sym, subst, map, option_map}
 use Rattle.pgn_ids.specs.declared.address.Address.{Address}
 use Rattle.port_table.specs.declared.port.PortId.{PortId}
 use Rattle.segment_shared.specs.declared.call.Stored.{Stored}
+use Rattle.script_runs.specs.declared.ending.Told.{Told}
 use Rattle.script_setup.specs.Plan.{Plan, plan_of, record_of, port_of}
 use Rattle.script_setup.specs.declared.setup.Message.{Message}
 use Rattle.script_setup.specs.declared.setup.Setup.{Setup}
@@ -21,6 +22,13 @@ at_told near far here there ports opened sent messages o ran_out text e f k m ca
     let at_far : CameOf here there ports sent o ran_out text = subst (λ (xs : List Address). CameOf here xs ports sent o ran_out text) f at_near in
     let at_ports : CameOf here there opened sent o ran_out text = subst (λ (ps : List PortId). CameOf here there ps sent o ran_out text) k at_far in
     subst (λ (ms : List Message). CameOf here there opened ms o ran_out text) m at_ports
+
+-- where it ended well
+pub at_end : {E : Type 0} (r : Result Told E) (near far here there : List Address) (ports opened : List PortId) (sent messages : List Message) (o : Option Passage)
+    → near ≡ here → far ≡ there → ports ≡ opened → sent ≡ messages → IfOk r (λ told. CameOf near far ports sent o told.ran_out told.text.items)
+    → IfOk r (λ told. CameOf here there opened messages o told.ran_out told.text.items)
+at_end (Ok told) near far here there ports opened sent messages o e f k m came = at_told near far here there ports opened sent messages o told.ran_out told.text.items e f k m came
+at_end (Err lost) near far here there ports opened sent messages o e f k m came = tt
 
 abbrev Made : Type 0
 Made = Option (List Address × List Stored)

@@ -1,5 +1,5 @@
 -- A line opens one port at most, so that fewer calls are stored than lines were read.
-use Rattle.std.proofs.Common.{◌≡◌, ℕ, ◌+◌, List, [], ◌∷◌, Option, Some, None, Ok, Err, Bool, true, false, cond, refl, subst}
+use Rattle.std.proofs.Common.{◌≡◌, ℕ, ◌+◌, List, [], ◌∷◌, Option, Some, None, Ok, Err, Bool, true, false, cond, subst}
 use Rattle.std.specs.Str.{bytes_eq}
 use Rattle.std.specs.Prelude.{codes, Result}
 use Rattle.pgn_ids.specs.declared.address.Address.{Address}
@@ -18,7 +18,7 @@ use Rattle.script_setup.proofs.Growing as setups
 use Rattle.bus_relay.specs.declared.gateway.Passage.{Passage}
 use Rattle.bus_relay.specs.declared.gateway.Routing.{Routing}
 use Rattle.bus_relay.specs.declared.gateway.Routing.TheVariants as routings
-use Rattle.bus_relay.specs.Gateway.{Plans, Step, goes_on, obeyed_now, with_second, not_routed, passage_of, routed, route_by, routed_by, begins_second, is_out_of_order, placed_by, named_by, ordered_by, obeyed_words, obeyed_line}
+use Rattle.bus_relay.specs.Gateway.{Plans, Step, goes_on, obeyed_now, with_second, passage_of, routed, route_by, routed_by, begins_second, is_out_of_order, placed_by, named_by, ordered_by, obeyed_words, obeyed_line}
 
 abbrev Below : Step → ℕ → Type 0
 Below (Ok q) n = CallsBelow q.now.made n

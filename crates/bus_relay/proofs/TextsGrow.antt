@@ -1,5 +1,5 @@
 -- What is printed of refused lines only grows, with each line.
-use Rattle.std.proofs.Common.{◌≡◌, ℕ, List, [], ◌∷◌, Option, Some, None, Ok, Err, Bool, true, false, cond, refl}
+use Rattle.std.proofs.Common.{ℕ, List, [], ◌∷◌, Option, Some, None, Ok, Err, Bool, true, false, cond, refl}
 use Rattle.std.specs.Str.{bytes_eq}
 use Rattle.std.specs.Prelude.{codes, Result}
 use Rattle.pgn_ids.specs.declared.address.Address.{Address}
@@ -14,7 +14,6 @@ use Rattle.script_commands.specs.declared.fault.Fault.TheVariants.{NoStations, U
 use Rattle.script_commands.specs.declared.route.RouteWords.{RouteWords}
 use Rattle.script_text.specs.Parts.{line}
 use Rattle.script_text.specs.Replies.{refusal_text}
-use Rattle.script_runs.specs.Reading.{Begins}
 use Rattle.script_runs.proofs.ScriptsRead.{all_of, Grows}
 use Rattle.script_setup.specs.Plan as setup
 use Rattle.script_setup.specs.Plan.{Plan}

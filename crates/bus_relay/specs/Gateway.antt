@@ -1,5 +1,5 @@
 -- What the lines of a script set up for two segments and the relay between them, line by line.
-use Rattle.std.specs.Prelude.{◌≡◌, ℕ, ◌+◌, ◌==◌, List, [], ◌∷◌, Bool, true, false, ◌||◌, ◌&&◌, not, cond, Option, Some, None, Result, Ok, Err, if◌then◌else◌, option_map, is_some, codes}
+use Rattle.std.specs.Prelude.{ℕ, ◌+◌, ◌==◌, List, [], ◌∷◌, Bool, ◌||◌, ◌&&◌, not, cond, Option, Some, None, Result, Ok, Err, if◌then◌else◌, option_map, is_some, codes}
 use Rattle.std.specs.Str.{bytes_eq}
 use Rattle.pgn_ids.specs.Address.{is_one}
 use Rattle.pgn_ids.specs.declared.address.Address.{Address}
@@ -19,8 +19,6 @@ use Rattle.script_commands.specs.declared.fault.Fault.{Fault}
 use Rattle.script_commands.specs.declared.fault.Fault.TheVariants.{NotAscii, UnknownCommand, NoStations}
 use Rattle.script_commands.specs.declared.fault.LineError.{LineError}
 use Rattle.script_commands.specs.Words.{is_ascii}
-use Rattle.script_text.specs.Parts.{line}
-use Rattle.script_text.specs.Replies.{refusal_text}
 use Rattle.script_runs.specs.Reading as script
 use Rattle.script_runs.specs.Reading.{Grammar, Planned, planned_by}
 use Rattle.script_setup.specs.Plan as setup

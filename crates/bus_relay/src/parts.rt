@@ -6,7 +6,7 @@ ghost use Rattle.bus_relay.specs.Parts.{IsPart};
 use pgn_ids::Address;
 use port_table::PortId;
 use script_runs::Lost;
-use script_setup::{Message, Setup};
+use script_setup::{Message, Setup, ports_of};
 use segment_shared::{Inbox, Live};
 use segment_threads::{Sender, senders_of};
 use std::alloc::{AllocError, Global};
@@ -40,15 +40,25 @@ pub(crate) fn part_of(setup: Setup) -> Result<Part, Lost>
     })
 }
 
-/// The ports of inboxes, in their order.
-pub(crate) fn ports_of(alloc: Global, inboxes: &[Inbox]) -> Result<Vec<PortId>, AllocError>
-    ensures { IfOk result (λ ports. ports.items ≡ map port_of inboxes.now) }
+/// The stations of two segments, and the ports of the second one's inboxes.
+#[derive(Drop)]
+pub(crate) struct Names {
+    pub(crate) near: Vec<Address>,
+    pub(crate) far: Vec<Address>,
+    pub(crate) ports: Vec<PortId>,
+}
+
+/// What the text of two segments names.
+pub(crate) fn names_of(alloc: Global, near: &Part, far: &Part) -> Result<Names, AllocError>
+    ensures near { IfOk result (λ names. names.near.items ≡ near.now.live.addresses) }
+    ensures far { IfOk result (λ names. names.far.items ≡ far.now.live.addresses) }
+    ensures ports { IfOk result (λ names. names.ports.items ≡ map port_of far.now.inboxes.items) }
 {
-    let mut ports = Vec::new(alloc);
-    for inbox in inboxes {
-        ports.push(inbox.port())?;
-    }
-    Ok(ports)
+    Ok(Names {
+        near: Vec::from_slice(alloc, near.live.addresses())?,
+        far: Vec::from_slice(alloc, far.live.addresses())?,
+        ports: ports_of(alloc, far.inboxes.as_slice())?,
+    })
 }
 
 /// What the threads of a segment begin with: it, the addresses of its stations, a client of each with its messages, and the inboxes.

@@ -5,20 +5,21 @@ ghost use Rattle.bus_relay.specs.Gateway.{plans_of, planned, passage_in};
 ghost use Rattle.bus_relay.specs.Ending.{CameOf, CameTo, Ended};
 
 use crate::gateway::{Gateway, Passage, Routing};
-use crate::parts::{Part, part_of, ports_of, start_of};
+use crate::parts::{Part, names_of, part_of, start_of};
 use crate::reading::read_script;
 use crate::settling::tell_end;
-use crate::threads::run_threads;
+use crate::threads::{Left, run_threads};
 use script_commands::Cause;
 use script_runs::{LiveRan, Lost, Told, failed, lost_by};
 use segment_shared::Gate;
 use std::alloc::Global;
-use std::io::{Read, Write};
+use std::io::{BufRead, Write};
 use std::sync::Wait;
 use std::thread::Threads;
 use text_lines::tell;
 
-// Runs two segments, with a relay between them where there is a passage.
+// Runs two segments, with a relay between them where there is a passage. Each way out that has a segment drops all that it holds, which the
+// proof pays for, so that there are few of them.
 fn run_both<R: Threads + Wait + Sync, G: Gate + Sync>(
     rt: &R,
     alloc: Global,
@@ -30,6 +31,7 @@ fn run_both<R: Threads + Wait + Sync, G: Gate + Sync>(
 ) -> Result<Told, Lost>
     ensures { IfOk result (λ told. CameOf near.live.addresses far.live.addresses (map port_of far.inboxes.items) near.messages.items passage told.ran_out told.text.items) }
 {
+    let names = names_of(alloc, &near, &far)?;
     let Part {
         live,
         inboxes,
@@ -40,34 +42,32 @@ fn run_both<R: Threads + Wait + Sync, G: Gate + Sync>(
         inboxes: far_inboxes,
         messages: far_messages,
     } = far;
-    let stations = Vec::from_slice(alloc, live.addresses())?;
-    let far_stations = Vec::from_slice(alloc, far_live.addresses())?;
-    let ports = ports_of(alloc, far_inboxes.as_slice())?;
-    let here = start_of(
-        alloc,
-        live,
-        stations.as_slice(),
-        inboxes,
-        messages.as_slice(),
-    )?;
+    let stations = names.near.as_slice();
+    let far_stations = names.far.as_slice();
+    let here = start_of(alloc, live, stations, inboxes, messages.as_slice())?;
     let there = start_of(
         alloc,
         far_live,
-        far_stations.as_slice(),
+        far_stations,
         far_inboxes,
         far_messages.as_slice(),
     )?;
-    let left = run_threads(rt, alloc, here, there, passage, gate, turns)?;
-    let told = tell_end(
+    let Left {
+        mut near,
+        mut far,
+        handed,
+    } = run_threads(rt, alloc, here, there, passage, gate, turns)?;
+    tell_end(
         alloc,
-        left,
-        stations.as_slice(),
-        far_stations.as_slice(),
-        ports.as_slice(),
+        &mut near,
+        &mut far,
+        handed,
+        stations,
+        far_stations,
+        names.ports.as_slice(),
         messages.as_slice(),
         passage,
-    )?;
-    Ok(told)
+    )
 }
 
 fn passage_in(routing: Routing) -> Option<Passage>
@@ -121,7 +121,7 @@ fn run<R: Threads + Wait + Sync, G: Gate + Sync>(
 ///
 /// To the gate the workers have numbers from 0 on: the stations of the first segment in the order of their line, its bus, the same of
 /// the second, and then the relay's worker that receives and the one that submits.
-pub fn run_relay<T: Threads + Wait + Sync, R: Read, W: Write, G: Gate + Sync>(
+pub fn run_relay<T: Threads + Wait + Sync, R: BufRead, W: Write, G: Gate + Sync>(
     rt: &T,
     alloc: Global,
     reader: &mut R,

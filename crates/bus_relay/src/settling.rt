@@ -9,7 +9,7 @@ ghost use Rattle.bus_relay.specs.Ending.{CameOf};
 use crate::carrying::{Account, Carried, check_passage};
 use crate::gateway::Passage;
 use crate::text::{Carriage, Settled, text_of};
-use crate::threads::{Handed, Left};
+use crate::threads::Handed;
 use pgn_ids::Address;
 use port_table::PortId;
 use script_runs::{Lost, Told};
@@ -212,7 +212,9 @@ fn settle(
 /// `NotThisSegment` where one of them isn't of its segment or the relay isn't that of the passage, `OutOfMemory` where memory was refused.
 pub(crate) fn tell_end(
     alloc: Global,
-    left: Left,
+    near: &mut Live,
+    far: &mut Live,
+    handed: Handed,
     near_stations: &[Address],
     far_stations: &[Address],
     ports: &[PortId],
@@ -221,11 +223,6 @@ pub(crate) fn tell_end(
 ) -> Result<Told, Lost>
     ensures { IfOk result (λ told. CameOf near_stations.now far_stations.now ports.now messages.now passage told.ran_out told.text.items) }
 {
-    let Left {
-        mut near,
-        mut far,
-        handed,
-    } = left;
     let Handed {
         near: near_ends,
         far: far_ends,
@@ -233,8 +230,8 @@ pub(crate) fn tell_end(
         drained,
     } = handed;
     let settled = settle(
-        &mut near,
-        &mut far,
+        near,
+        far,
         near_ends,
         far_ends,
         carried,
@@ -243,8 +240,8 @@ pub(crate) fn tell_end(
     )?;
     let told = text_of(
         alloc,
-        &near,
-        &far,
+        near,
+        far,
         near_stations,
         far_stations,
         ports,

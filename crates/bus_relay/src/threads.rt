@@ -185,6 +185,22 @@ fn run_sides<'a, R: Threads + Wait + Sync, G: Gate + Sync>(
     Ok(handed)
 }
 
+// Runs two shared segments by threads, with a relay where there is a passage.
+fn run_shared<'a, R: Threads + Wait + Sync, G: Gate + Sync>(
+    rt: &R,
+    alloc: Global,
+    near: Side<'a>,
+    far: Side<'a>,
+    passage: Option<Passage>,
+    gate: &G,
+    turns: u64,
+) -> Result<Handed, Lost> {
+    let (inboxes, senders, carrying) = carrying_of(alloc, near.inboxes, far.senders, passage)?;
+    let near_side = side_of(near.party, near.senders, inboxes);
+    let far_side = side_of(far.party, senders, far.inboxes);
+    run_sides(rt, alloc, near_side, far_side, carrying, gate, turns)
+}
+
 /// Runs two segments by threads, with a relay where there is a passage.
 pub(crate) fn run_threads<'a, R: Threads + Wait + Sync, G: Gate + Sync>(
     rt: &R,
@@ -207,12 +223,19 @@ pub(crate) fn run_threads<'a, R: Threads + Wait + Sync, G: Gate + Sync>(
         senders: far_senders,
         inboxes: far_inboxes,
     } = far;
-    let (inboxes, far_senders, carrying) = carrying_of(alloc, inboxes, far_senders, passage)?;
     let shared = SharedSegment::share(live);
     let far_shared = SharedSegment::share(far_live);
-    let near_side = side_of(&shared, stations, senders, inboxes);
-    let far_side = side_of(&far_shared, far_stations, far_senders, far_inboxes);
-    let handed = run_sides(rt, alloc, near_side, far_side, carrying, gate, turns)?;
+    let party = Party {
+        shared: &shared,
+        stations,
+    };
+    let far_party = Party {
+        shared: &far_shared,
+        stations: far_stations,
+    };
+    let near_side = side_of(party, senders, inboxes);
+    let far_side = side_of(far_party, far_senders, far_inboxes);
+    let handed = run_shared(rt, alloc, near_side, far_side, passage, gate, turns)?;
     Ok(Left {
         near: shared.into_live(),
         far: far_shared.into_live(),
@@ -220,14 +243,9 @@ pub(crate) fn run_threads<'a, R: Threads + Wait + Sync, G: Gate + Sync>(
     })
 }
 
-fn side_of<'a>(
-    shared: &'a SharedSegment,
-    stations: &'a [Address],
-    senders: Vec<Sender>,
-    inboxes: Vec<Inbox>,
-) -> Side<'a> {
+fn side_of<'a>(party: Party<'a>, senders: Vec<Sender>, inboxes: Vec<Inbox>) -> Side<'a> {
     Side {
-        party: Party { shared, stations },
+        party,
         senders,
         inboxes,
     }

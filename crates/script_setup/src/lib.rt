@@ -7,5 +7,5 @@ mod setup;
 mod uncut;
 
 pub use obeying::{obey_line, obey_words};
-pub use setup::{Message, Setup};
+pub use setup::{Message, Setup, ports_of};
 pub use uncut::Uncut;

@@ -1,14 +1,15 @@
 //! What the lines of a script set up.
-ghost use Rattle.std.specs.Prelude.{◌≡◌};
-ghost use Rattle.script_setup.specs.Plan.{plan_of, first_plan, Done, refused_by};
+ghost use Rattle.std.specs.Prelude.{◌≡◌, IfOk, map};
+ghost use Rattle.script_setup.specs.Plan.{plan_of, first_plan, port_of, Done, refused_by};
 
 use crate::uncut::Uncut;
 use pgn_ids::{Address, Pgn};
+use port_table::PortId;
 use script_commands::LineError;
 use script_text::print_refused;
 use segment_law::Refusal;
 use segment_shared::{Bytes, Inbox};
-use std::alloc::Global;
+use std::alloc::{AllocError, Global};
 
 /// A message that the thread of a station is to submit.
 #[derive(Debug, Drop)]
@@ -53,4 +54,15 @@ impl Setup {
         self.refused.extend_from_slice(line.as_slice())?;
         Ok(())
     }
+}
+
+/// The ports of inboxes, in their order. It fails only where memory is refused.
+pub fn ports_of(alloc: Global, inboxes: &[Inbox]) -> Result<Vec<PortId>, AllocError>
+    ensures { IfOk result (λ ports. ports.items ≡ map port_of inboxes.now) }
+{
+    let mut ports = Vec::new(alloc);
+    for inbox in inboxes {
+        ports.push(inbox.port())?;
+    }
+    Ok(ports)
 }
