@@ -39,7 +39,7 @@ fn a_failed_read_ends_the_run(rt: HostRuntime) -> Result<(), Fail> {
         text: b"open FECA 9\nco",
     };
     let mut reader = BufReader::new(alloc, breaking)?;
-    let mut out = Vec::new(alloc);
+    let mut out = Vec::with_capacity(alloc, 64)?;
     let ran = run_node(alloc, &mut node, &mut reader, &mut out);
     let fault = ran.fault.expect(&rt, "a fault");
     if fault.cause != Cause::OutOfMemory && !ran.memory_refused {
