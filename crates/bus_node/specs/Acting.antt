@@ -18,6 +18,7 @@ use Rattle.node_lines.specs.declared.command.NodeCommand.TheVariants.{Send, Open
 use Rattle.bus_node.specs.Rests.{wakes}
 use Rattle.bus_node.specs.Node.{Node, cleared, told, asked}
 use Rattle.bus_node.specs.Putting.{heard}
+use Rattle.bus_node.specs.LaneCounts.{lanes_in_doubt, lanes_pending, lane_counts_text}
 use Rattle.bus_node.specs.Time.{due_below, settled, at_time}
 use Rattle.bus_node.specs.declared.acting.Told.{Told}
 use Rattle.bus_node.specs.declared.acting.Told.TheVariants.{Answered, NoMemory}
@@ -35,9 +36,10 @@ first_of (Some tick) wake = Some (min tick wake)
 abbrev pub next_due : Node → Option ℕ
 next_due n = first_of (due_below (2 ^ 64) n.segment) (wakes n.segment.now (2 ^ 64 - 1) n.rests)
 
--- the tick at which the clock stands, how many frames wait to be put, and the tick at which something is due
+-- the tick at which the clock stands, how many frames wait to be put, and the tick at which something is due; how many lanes are in doubt,
+-- and how many have a message that waits or is under way
 unfoldable pub state_line : Node → List ℕ
-state_line n = line (codes "state " ++ decimal n.segment.now ++ codes " " ++ decimal (queue_len n.segment n.station) ++ codes " " ++ due_text (next_due n))
+state_line n = line (codes "state " ++ decimal n.segment.now ++ codes " " ++ decimal (queue_len n.segment n.station) ++ codes " " ++ due_text (next_due n) ++ lane_counts_text (lanes_in_doubt n) (lanes_pending n))
 
 -- a command to the station
 unfoldable pub commanded : Node → NodeCommand → Node

@@ -4,6 +4,7 @@ pub mod NodeFields
 pub mod NodeCode
 pub mod Putting
 pub mod Time
+pub mod LaneCounts
 pub mod Acting
 pub mod Outcome
 pub mod Ending

@@ -4,6 +4,7 @@ ghost use Rattle.script_text.specs.Parts.{line};
 ghost use Rattle.script_text.specs.Replies.{refusal_text};
 ghost use Rattle.script_text.specs.Counts.{counts_line};
 ghost use Rattle.bus_node.specs.Node.{told};
+ghost use Rattle.bus_node.specs.LaneCounts.{lane_counts_text};
 ghost use Rattle.bus_node.specs.Acting.{due_text, first_of, next_due, state_line, commanded, time_in, acted, obeyed, obey_line, or_refused, Obeyed};
 
 use crate::node::Node;
@@ -73,6 +74,17 @@ fn time_in(line: &NodeLine) -> Option<u64>
     }
 }
 
+// The counts of lanes, each behind a blank.
+#[tactic(auto, unfolding(crate::specs::LaneCounts::lane_counts_text))]
+fn put_lane_counts(out: &mut Vec<u8>, doubted: u64, pending: u64) -> Result<(), AllocError>
+    ensures { OnOk result (out.new.items ≡ out.old.items ++ lane_counts_text doubted pending) }
+{
+    out.push(b' ')?;
+    put_decimal(out, doubted)?;
+    out.push(b' ')?;
+    put_decimal(out, pending)
+}
+
 impl Node {
     // The tick at which the next timer is due or a destination no longer rests.
     fn next_due(&self) -> Option<u64>
@@ -88,12 +100,15 @@ impl Node {
         ensures { OnOk result (self.new ≡ told self.old (state_line self.old)) }
     {
         let due = self.next_due();
+        let doubted = self.lanes_in_doubt();
+        let pending = self.lanes_pending();
         self.text.extend_from_slice(b"state ")?;
         put_decimal(&mut self.text, self.segment.now())?;
         self.text.push(b' ')?;
         put_decimal(&mut self.text, self.segment.queue_len(self.station) as u64)?;
         self.text.push(b' ')?;
         put_due(&mut self.text, due)?;
+        put_lane_counts(&mut self.text, doubted, pending)?;
         self.text.push(b'\n')?;
         Ok(())
     }

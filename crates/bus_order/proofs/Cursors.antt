@@ -7,7 +7,7 @@ use Rattle.bus_order.specs.Bus.{Cursor, start, lowest}
 use Rattle.bus_order.specs.Rear.{IsRear}
 use Rattle.bus_order.specs.declared.cursor.Rear.{Rear}
 
-abbrev lowest_from : ℕ → List Cursor → ℕ
+abbrev pub lowest_from : ℕ → List Cursor → ℕ
 lowest_from least cs = fold (λ least other. min least other.place) least cs
 
 lowest_from_start : (least : ℕ) (cs : List Cursor) → lowest_from least cs ≤ least

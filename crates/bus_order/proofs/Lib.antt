@@ -2,3 +2,4 @@ pub mod Cursors
 pub mod Steps
 pub mod Lists
 pub mod Order
+pub mod Abreast

@@ -73,7 +73,7 @@ sound_moved bus i to s h on within repeats = record {
 }
 
 -- the lowest cursor is not past the newest frame
-lowest_within : (len : ℕ) (cursors : List Cursor) → All (IsCursorWithin len) cursors → lowest cursors ≤ len
+pub lowest_within : (len : ℕ) (cursors : List Cursor) → All (IsCursorWithin len) cursors → lowest cursors ≤ len
 lowest_within len [] each = omega arith
 lowest_within len (c ∷ cs) each =
     let h : IsCursorWithin len c = each zero start (omega arith) in

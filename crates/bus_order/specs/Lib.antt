@@ -5,3 +5,4 @@ pub mod LogFields
 pub mod Calls
 pub mod Seen
 pub mod Order
+pub mod Abreast

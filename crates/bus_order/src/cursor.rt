@@ -1,5 +1,5 @@
 //! The cursors of the stations, and those furthest behind.
-ghost use Rattle.std.specs.Prelude.{◌≡◌, ◌<◌, ◌≤◌, ◌==◌, length, slice_set, slice_index_or};
+ghost use Rattle.std.specs.Prelude.{◌≡◌, ◌<◌, ◌≤◌, ◌==◌, length, replicate, slice_set, slice_index_or};
 ghost use Rattle.bus_order.specs.Bus.{start};
 ghost use Rattle.bus_order.specs.Rear.{IsRear};
 
@@ -49,6 +49,14 @@ pub(crate) fn rear_of(cursors: &[Cursor]) -> Rear
         .fold(first.place, |least, other| least.min(other.place));
     let count = cursors.iter().filter(|c| c.place == place).count();
     Rear { place, count }
+}
+
+/// Moves all cursors to one place.
+#[inline]
+pub(crate) fn bring_all(cursors: &mut [Cursor], to: Cursor)
+    ensures { cursors.new ≡ replicate (length cursors.old) to }
+{
+    cursors.fill(to);
 }
 
 /// Moves a cursor on, and says which are furthest behind then. All are looked at only where the last one of them left.

@@ -1,12 +1,13 @@
 //! The log of a bus.
-ghost use Rattle.std.specs.Prelude.{◌≡◌, ◌+◌, ◌<◌, ◌≤◌, ◌↔◌, length, drop, IfOk, OnOk, OnErr, OnSome, IfNone, IsErrOf, IsSome, IsTrue, slice_set};
+ghost use Rattle.std.specs.Prelude.{◌≡◌, ℕ, true, replicate, ◌+◌, ◌<◌, ◌≤◌, ◌↔◌, length, drop, IfOk, OnOk, OnErr, OnSome, IfNone, IsErrOf, IsSome, IsTrue, slice_set};
 ghost use Rattle.std.specs.Bool.{OnTrue, OnFalse};
 ghost use Rattle.std.specs.Option.{option_copied};
 ghost use Rattle.std.specs.VecDeque.{deque_capacity};
-ghost use Rattle.bus_order.specs.Bus.{new_bus, bus_len, cursor_at, frame_at, next_frame, frame_again, waiting, is_full, put, taken, passed, released};
+ghost use Rattle.bus_order.specs.Bus.{new_bus, bus_len, lowest, cursor_at, frame_at, next_frame, frame_again, waiting, is_full, put, taken, passed, released};
 ghost use Rattle.bus_order.specs.Kept.{HoldsAhead, IsSound};
+ghost use Rattle.bus_order.specs.Abreast.{are_abreast, passed_first};
 
-use crate::cursor::{Cursor, Rear, move_cursor};
+use crate::cursor::{Cursor, Rear, bring_all, move_cursor};
 use bus_frame::Frame;
 use std::alloc::{AllocError, Global};
 use std::collections::VecDeque;
@@ -230,6 +231,73 @@ impl BusLog {
         };
         self.move_to(cursor, to);
         self.release();
+    }
+
+    /// Whether the stations are abreast: just the newest frame waits for each.
+    #[inline]
+    #[tactic(auto, using(crate::proofs::Abreast::one_waits))]
+    pub fn are_abreast(&self) -> bool
+        ensures value { result ≡ are_abreast self.now }
+        ensures each { OnTrue result ((i : ℕ) → i < length self.now.cursors → waiting self.now i ≡ 1) }
+        ensures sound { IsSound self.now }
+    {
+        let newest = self.len();
+        if self.rear.place >= newest {
+            return false;
+        }
+        newest - self.rear.place == 1 && self.rear.count == self.stations()
+    }
+
+    /// The first n of the stations, which are abreast, take the newest frame, each as by `pass`.
+    #[inline]
+    pub fn pass_first(&mut self, n: usize)
+        requires n { n ≤ length self.old.cursors }
+        requires abreast { are_abreast self.old ≡ true }
+        ensures passed { self.new ≡ passed_first n self.old }
+        ensures holds { HoldsAhead self.new }
+    {
+        if n == self.stations() {
+            return self.pass_all();
+        }
+        let _sound = self.len();
+        for cursor in 0..n {
+            self.pass(cursor);
+        }
+    }
+
+    // All of them do. They stay abreast, so none of them is looked at.
+    fn pass_all(&mut self)
+        requires abreast { are_abreast self.old ≡ true }
+        ensures passed { self.new ≡ passed_first (length self.old.cursors) self.old }
+        ensures holds { HoldsAhead self.new }
+    {
+        if self.stations() == 0 {
+            return;
+        }
+        let to = Cursor {
+            place: self.at(0).place + 1,
+            repeatable: true,
+        };
+        self.bring_to(to);
+        self.release()
+    }
+
+    // Moves all cursors, of which there are some, on to one place, at most to that of the newest frame.
+    #[inline]
+    fn bring_to(&mut self, to: Cursor)
+        requires some { 0 < length self.old.cursors }
+        requires on { lowest self.old.cursors ≤ to.place }
+        requires within { to.place ≤ bus_len self.old }
+        requires repeats { IsTrue to.repeatable → 0 < to.place }
+        ensures moved { self.new ≡ record self.old { cursors = replicate (length self.old.cursors) to } }
+        ensures holds { HoldsAhead self.new }
+    {
+        let count = self.stations();
+        bring_all(&mut self.cursors, to);
+        self.rear = Rear {
+            place: to.place,
+            count,
+        };
     }
 
     /// A station passes over the next n frames, which may be none: false exactly where fewer wait for it, and then

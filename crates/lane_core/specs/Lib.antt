@@ -12,3 +12,4 @@ pub mod LaneFields
 pub mod ImageFields
 pub mod Refused
 pub mod Quiet
+pub mod Sight

@@ -15,6 +15,7 @@ mod place;
 mod probe;
 mod pump;
 mod refused;
+mod sight;
 mod spending;
 mod step;
 
@@ -25,4 +26,5 @@ pub use message_events::Bytes;
 pub use place::UnderWay;
 pub use probe::{Standing, Token};
 pub use refused::{PumpRefused, PushRefused};
+pub use sight::LaneSight;
 pub use step::{Ended, LaneStep};

@@ -77,7 +77,7 @@ fn a_message_is_received(rt: HostRuntime) -> Result<(), Fail> {
     let mut node = node(&rt, alloc)?;
     is_announced(&rt, alloc, &mut node)?;
     is_sent_packets(&rt, alloc, &mut node)?;
-    tells(&rt, alloc, &mut node, b"state", b"state 30 0 none\n")
+    tells(&rt, alloc, &mut node, b"state", b"state 30 0 none 0 0\n")
 }
 
 #[test]
@@ -116,7 +116,7 @@ fn a_timer_fires_at_its_tick(rt: HostRuntime) -> Result<(), Fail> {
         alloc,
         &mut node,
         b"now 7.000000\nsend 35 EF00 fill 9\nstate",
-        b"sent 1\nput (0000000007.000000) can0 1CEC3521#10090002FF00EF00\nstate 0 0 1250\n",
+        b"sent 1\nput (0000000007.000000) can0 1CEC3521#10090002FF00EF00\nstate 0 0 1250 0 1\n",
     )?;
     tells(
         &rt,
@@ -219,7 +219,7 @@ fn nothing_is_sent_for_a_while_after_a_failed_connection(rt: HostRuntime) -> Res
     let alloc = rt.alloc();
     let mut node = node(&rt, alloc)?;
     is_aborted(&rt, alloc, &mut node)?;
-    tells(&rt, alloc, &mut node, b"state", b"state 10 0 710\n")?;
+    tells(&rt, alloc, &mut node, b"state", b"state 10 0 710 1 1\n")?;
     tells(
         &rt,
         alloc,

@@ -13,5 +13,6 @@ pub mod Sweeps
 pub mod Running
 pub mod Steps
 pub mod Turns
+pub mod Together
 pub mod Undisturbed
 pub mod Dues

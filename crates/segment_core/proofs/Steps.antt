@@ -17,7 +17,9 @@ use Rattle.bus_order.specs.Kept.{IsSound}
 use Rattle.bus_order.proofs.Steps.{sound_moved, sound_released, released_len}
 use Rattle.lane_core.specs.declared.refused.PumpRefused.{PumpRefused}
 use Rattle.lane_core.specs.declared.refused.PumpRefused.TheVariants as pump
-use Rattle.station_lanes.specs.LaneReaders.{refusal_at, missing_at}
+use Rattle.lane_core.specs.Sight.{sight_of, nothing_seen}
+use Rattle.lane_core.specs.declared.sight.LaneSight.{LaneSight}
+use Rattle.station_lanes.specs.LaneReaders.{refusal_at, missing_at, sight_at}
 use Rattle.message_events.specs.declared.event.Event.{Event}
 use Rattle.station_core.specs.Station.{Station, new_station}
 use Rattle.std.specs.Ordering.{nat_cmp}
@@ -355,3 +357,8 @@ pub nothing_missing : (seg : Segment) (a : Address) (to now : ℕ) → place_of 
 nothing_missing seg a to now none =
     let st : station_at seg a ≡ new_station a = ap (λ (o : Option ℕ). unwrap_or (elim o as (λ (_ : Option ℕ). Option Station) [ None ↦ None | Some k ↦ slice_get seg.stations k ]) (new_station a)) none in
     sym (ap (λ (s : Station). missing_at s.lanes to now) st ∙ ap (λ (o : Option Lane). elim o as (λ (_ : Option Lane). ℕ) [ None ↦ 0 | Some lane ↦ missing lane now ]) (get-empty {X = Lane} nat_cmp to))
+
+pub nothing_seen_at : (seg : Segment) (a : Address) (to : ℕ) → place_of seg a ≡ None → nothing_seen ≡ sight_at (station_at seg a).lanes to
+nothing_seen_at seg a to none =
+    let st : station_at seg a ≡ new_station a = ap (λ (o : Option ℕ). unwrap_or (elim o as (λ (_ : Option ℕ). Option Station) [ None ↦ None | Some k ↦ slice_get seg.stations k ]) (new_station a)) none in
+    sym (ap (λ (s : Station). sight_at s.lanes to) st ∙ ap (λ (o : Option Lane). elim o as (λ (_ : Option Lane). LaneSight) [ None ↦ nothing_seen | Some lane ↦ sight_of lane ]) (get-empty {X = Lane} nat_cmp to))

@@ -1,5 +1,5 @@
 -- The calls that a segment makes in place: those that are not refused, tell nothing, begin nothing and end nothing.
-use Rattle.std.specs.Prelude.{ℕ, ⊤, Bool, true, false, if◌then◌else◌, Option, Some, None, is_ok}
+use Rattle.std.specs.Prelude.{ℕ, ⊤, Bool, false, if◌then◌else◌, Option, Some, None, is_ok}
 use Rattle.bus_frame.specs.Frames.{CanFrame}
 use Rattle.bus_order.specs.Bus.{next_frame}
 use Rattle.pgn_ids.specs.declared.address.Address.{Address}

@@ -8,6 +8,7 @@ pub mod Joined
 pub mod Runs
 pub mod Transmits
 pub mod Drives
+pub mod Abreast
 pub mod Undisturbed
 pub mod Due
 pub mod Promise

@@ -84,7 +84,9 @@ impl Segment {
     {
         self.turn_puts(from, to, course)?;
         let count = self.station_count();
-        for place in 0..count {
+        // As a rule one frame waits for each station: it is read once for all.
+        let first = self.take_abreast();
+        for place in first..count {
             let station = self.address_at(place);
             self.take_all(station, course)?;
         }

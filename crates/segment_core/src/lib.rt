@@ -3,6 +3,7 @@
 //! What each call does is said by `segment_law`, whose types of calls, replies and refusals are shown here too.
 #![tactic(auto)]
 
+mod abreast;
 mod call;
 mod clock;
 mod counting;
@@ -25,6 +26,7 @@ mod taking;
 pub use driven::{Driven, EventList, FrameList};
 pub use headline_law::the_headline_holds;
 pub use image::{Image, equal_images_answer_alike};
+pub use lane_core::LaneSight;
 pub use message_events::Bytes;
 pub use port_table::{PortId, PortSet};
 pub use run::Ran;

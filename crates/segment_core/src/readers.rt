@@ -4,12 +4,13 @@ ghost use Rattle.pgn_ids.specs.declared.address.Address.{Address as AddressValue
 ghost use Rattle.tx_queue.specs.Queue.{queue_limit};
 ghost use Rattle.bus_order.specs.Bus.{bus_len, frame_at};
 ghost use Rattle.segment_law.specs.Segment.{has_station, waiting_at};
-ghost use Rattle.segment_law.specs.Readers.{queue_len, front_at, next_pump, is_due, wanted, wanted_with, given_by_take, frame_for, rests, is_idle};
+ghost use Rattle.segment_law.specs.Readers.{lane_seen, queue_len, front_at, next_pump, is_due, wanted, wanted_with, given_by_take, frame_for, rests, is_idle};
 ghost use Rattle.segment_law.specs.Record.{Record, StandsAt};
 ghost use Rattle.reader_law.specs.Counting.{counts_over};
 
 use crate::segment::Segment;
 use bus_frame::Frame;
+use lane_core::LaneSight;
 use pgn_ids::Address;
 use port_table::PortSet;
 use segment_law::Counts;
@@ -82,6 +83,17 @@ impl Segment {
         match self.place_of(station) {
             None => None,
             Some(place) => self.stations[place].front(),
+        }
+    }
+
+    /// What is seen of a station's lane to a destination: how many messages wait or are under way, and whether it is in doubt after one
+    /// that failed. Nothing where the address isn't a station's.
+    pub fn lane(&self, station: Address, to: Address) -> LaneSight
+        ensures { result ≡ lane_seen self.now station to }
+    {
+        match self.place_of(station) {
+            None => LaneSight::nothing(),
+            Some(place) => self.stations[place].lane(to),
         }
     }
 

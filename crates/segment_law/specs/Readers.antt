@@ -6,10 +6,12 @@ use Rattle.bus_frame.specs.Frames.{CanFrame}
 use Rattle.pgn_ids.specs.declared.address.Address.{Address}
 use Rattle.tx_queue.specs.Queue.{front}
 use Rattle.bus_order.specs.Bus.{next_frame, frame_again}
+use Rattle.lane_core.specs.declared.sight.LaneSight.{LaneSight}
 use Rattle.station_lanes.specs.LaneReaders.{least_below, pumping_lane}
 use Rattle.message_events.specs.declared.event.Event.{Event}
 use Rattle.message_events.specs.declared.event.Event.TheVariants as event
 use Rattle.station_core.specs.Station.{Station}
+use Rattle.station_core.specs.Sending as sending
 use Rattle.station_core.specs.Taking as taking
 use Rattle.station_core.specs.Timers as timers
 use Rattle.segment_law.specs.Segment.{Segment, place_of, station_of, station_at, waiting_at}
@@ -22,6 +24,10 @@ queue_len seg a = length (station_at seg a).queue
 
 abbrev pub front_at : Segment → Address → Option CanFrame
 front_at seg a = front (station_at seg a).queue
+
+-- what is seen of its lane to a destination
+abbrev pub lane_seen : Segment → (a to : Address) → LaneSight
+lane_seen seg a to = sending.lane_seen (station_at seg a) to
 
 -- a pump to this destination would not be refused
 abbrev pub pumps_to : Segment → Address → ℕ → Bool

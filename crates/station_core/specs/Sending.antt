@@ -4,15 +4,20 @@ use Rattle.tx_queue.specs.Queue.{free_places}
 use Rattle.std.specs.FinMap as map
 use Rattle.pgn_ids.specs.declared.address.Address.{Address}
 use Rattle.lane_core.specs.Lane.{Lane, pushed}
+use Rattle.lane_core.specs.declared.sight.LaneSight.{LaneSight}
 use Rattle.lane_core.specs.Pump as lane-pump
 use Rattle.lane_core.specs.Cancel as lane-cancel
 use Rattle.station_lanes.specs.LaneCalls.{lane_to}
-use Rattle.station_lanes.specs.LaneReaders.{pumping_lane}
+use Rattle.station_lanes.specs.LaneReaders.{pumping_lane, sight_at}
 use Rattle.station_core.specs.Station.{Station, StationStep, by_lane}
 
 -- the lane to a destination; before the first message it is as a new one
 abbrev pub lane_of : Station → (to : Address) → Lane
 lane_of st to = lane_to st.address st.lanes to.0
+
+-- what is seen of it
+abbrev pub lane_seen : Station → (to : Address) → LaneSight
+lane_seen st to = sight_at st.lanes to.0
 
 -- a message is sent
 abbrev pub sent : Station → (to : Address) → (pgn : ℕ) → List ℕ → Station

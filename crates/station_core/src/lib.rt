@@ -5,6 +5,7 @@
 mod closing;
 mod due;
 mod image;
+mod in_place;
 mod overruns;
 mod refused;
 mod sending;

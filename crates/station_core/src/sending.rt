@@ -10,12 +10,12 @@ ghost use Rattle.station_lanes.specs.LaneReaders.{missing_at, is_pending_at};
 ghost use Rattle.std.specs.Bool.{OnTrue, OnFalse};
 ghost use Rattle.station_core.specs.Station.{quietly};
 ghost use Rattle.station_core.specs.Quiet.{pumps_in_place};
-ghost use Rattle.station_core.specs.Sending.{lane_of, sent, next_pump, pumped, cancelled};
+ghost use Rattle.station_core.specs.Sending.{lane_of, lane_seen, sent, next_pump, pumped, cancelled};
 ghost use Rattle.station_core.specs.Refusals.{IsAnswered, message_refusal as message_refusal_of, sending_refusal, pumping_refusal, cancelling_refusal};
 
 use crate::refused::{Refused, SendingRefused, by_lane};
 use crate::station::{Station, enqueue};
-use lane_core::{PushRefused, longest_to};
+use lane_core::{LaneSight, PushRefused, longest_to};
 use message_events::{Bytes, Events};
 use pgn_ids::{Address, Pgn};
 use station_lanes::outcome;
@@ -47,6 +47,13 @@ fn message_refusal(from: Address, to: Address, len: usize) -> Option<Refused>
 }
 
 impl Station {
+    /// What is seen of its lane to a destination.
+    pub fn lane(&self, to: Address) -> LaneSight
+        ensures { result ≡ lane_seen self.now to }
+    {
+        self.lanes.sight(to)
+    }
+
     /// Sends a message: it stands behind the others of its lane, whose number of it is given. The lane is made with the
     /// first message to its destination.
     ///

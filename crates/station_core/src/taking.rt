@@ -1,18 +1,13 @@
 //! Frames that are taken, row by row (SAE J1939-21; ISO 11783-3).
 ghost use Rattle.std.specs.Prelude.{◌≡◌, ◌<◌, ◌+◌, ◌++◌, true, false, None, length, IfOk, OnErr};
-ghost use Rattle.std.specs.Bool.{OnTrue, OnFalse};
 ghost use Rattle.std.specs.Result.{result_err};
 ghost use Rattle.pgn_ids.specs.Address.{is_one};
 ghost use Rattle.tp_wire.specs.Rows.{comes_from};
 ghost use Rattle.tp_wire.specs.declared.wire.Wire.TheVariants.{Cm};
-ghost use Rattle.tp_wire.specs.Heard.{meant};
 ghost use Rattle.tx_queue.specs.Queue.{queue_limit, option_frames};
 ghost use Rattle.station_lanes.specs.LaneCalls.{outcome_of};
 ghost use Rattle.station_sessions.specs.Opening.{key_of};
 ghost use Rattle.station_core.specs.Refusals.{IsAnswered, taking_refusal};
-ghost use Rattle.station_sessions.specs.Quiet.{ReceivesLackingRoom};
-ghost use Rattle.station_core.specs.Station.{quietly};
-ghost use Rattle.station_core.specs.Quiet.{takes_quietly, LacksRoom, cm_quiet, CmLacksRoom, session_quiet, lane_quiet};
 ghost use Rattle.station_core.specs.Taking.{packet_kind as packet_kind_of, in_opening, in_session, in_lane, abort_taken, cm_taken, answer, request_taken, ack_taken, wire_taken, is_meant_for, looks_at as looks_at_frame, is_malformed_for, wanted, wire_wanted, taken};
 
 use crate::refused::Refused;
@@ -26,13 +21,13 @@ use session_table::{Key, SessionKind};
 use station_lanes::outcome;
 use station_sessions::Told;
 use std::alloc::AllocError;
-use tp_wire::{CmFrame, Heard, Kind, Wire, is_transport, read, read_in_place, write};
+use tp_wire::{CmFrame, Kind, Wire, is_transport, read, write};
 
 /// The control byte of the Acknowledgement that a station sends: positive.
 const POSITIVE: u8 = 1;
 
-// The kind of the session that a data packet belongs to.
-fn packet_kind(kind: Kind, to: Address) -> SessionKind
+/// The kind of the session that a data packet belongs to.
+pub(crate) fn packet_kind(kind: Kind, to: Address) -> SessionKind
     ensures { result ≡ packet_kind_of kind to }
 {
     match kind {
@@ -64,9 +59,9 @@ impl Station {
         self.is_meant(&read_id(frame.id()))
     }
 
-    // Whether it looks at a frame whose identifier says this.
+    /// Whether it looks at a frame whose identifier says this.
     #[inline(always)]
-    fn is_meant(&self, meaning: &IdMeaning) -> bool
+    pub fn is_meant(&self, meaning: &IdMeaning) -> bool
         ensures { result ≡ is_meant_for self.now meaning.now }
     {
         meaning.from != self.address
@@ -111,88 +106,6 @@ impl Station {
             return Some(Refused::TxFull);
         }
         None
-    }
-
-    /// Takes a frame where the station stands, at tick `now`, if that tells nothing and ends nothing: a frame that it doesn't
-    /// look at, a packet in the middle of a message, the last one of a window, which grants the next, a DPO, and the CTS that a
-    /// lane awaits. Any other frame is left to `take`, and changes nothing; so is one whose window finds no memory. `room` is
-    /// that of the step. Its queue has a free place, as `take_refusal` tells.
-    #[inline]
-    pub fn take_in_place(&mut self, frame: &Frame, room: bool, now: u64) -> bool
-        requires { taking_refusal self.old ≡ None }
-        ensures quiet { OnTrue result (takes_quietly self.old frame.now room ≡ true) }
-        ensures wanting { OnFalse result (takes_quietly self.old frame.now room ≡ true → LacksRoom self.old frame.now room) }
-        ensures step { OnTrue result (taken self.old frame.now room now ≡ quietly self.new) }
-        ensures well_formed { OnTrue result (is_malformed_for self.old frame.now ≡ false) }
-        ensures other { OnFalse result (self.new ≡ self.old) }
-    {
-        let meaning = read_id(frame.id());
-        if !self.is_meant(&meaning) {
-            return true;
-        }
-        let Some((heard, from, to)) = read_in_place(frame, &meaning) else {
-            return false;
-        };
-        match &heard {
-            Heard::Packet { kind, .. } => {
-                let kind = packet_kind(*kind, to);
-                self.session_in_place(kind, from, &heard, room, now)
-            }
-            Heard::Cm(frame) => self.cm_in_place(frame, from, room, now),
-            _ => false,
-        }
-    }
-
-    // The same of a connection management frame.
-    #[inline(never)]
-    fn cm_in_place(&mut self, frame: &CmFrame, from: Address, room: bool, now: u64) -> bool
-        requires { length self.old.queue < queue_limit }
-        ensures quiet { OnTrue result (cm_quiet self.old frame.now from room ≡ true) }
-        ensures wanting { OnFalse result (cm_quiet self.old frame.now from room ≡ true → CmLacksRoom self.old frame.now from room) }
-        ensures step { OnTrue result (cm_taken self.old frame.now from room now ≡ quietly self.new) }
-        ensures other { OnFalse result (self.new ≡ self.old) }
-    {
-        let heard = Heard::Cm(*frame);
-        match frame {
-            CmFrame::Cts { .. } => self.lane_in_place(from, &heard, now),
-            CmFrame::EtpCts { .. } => self.lane_in_place(from, &heard, now),
-            CmFrame::EtpDpo { .. } => {
-                self.session_in_place(SessionKind::Etp, from, &heard, room, now)
-            }
-            _ => false,
-        }
-    }
-
-    // The incoming session of this kind from the source takes a frame in place.
-    #[inline(always)]
-    fn session_in_place(
-        &mut self,
-        kind: SessionKind,
-        from: Address,
-        heard: &Heard<'_>,
-        room: bool,
-        now: u64,
-    ) -> bool
-        requires { length self.old.queue < queue_limit }
-        ensures quiet { OnTrue result (session_quiet self.old (key_of from kind) (meant heard.now) room ≡ true) }
-        ensures wanting { OnFalse result (session_quiet self.old (key_of from kind) (meant heard.now) room ≡ true
-            → ReceivesLackingRoom self.old.ports (key_of from kind) (meant heard.now) room self.old.sessions) }
-        ensures step { OnTrue result (in_session self.old (key_of from kind) (meant heard.now) room now ≡ quietly self.new) }
-        ensures other { OnFalse result (self.new ≡ self.old) }
-    {
-        let key = Key { source: from, kind };
-        self.sessions
-            .take_in_place(&self.ports, key, heard, room, now, &mut self.queue)
-    }
-
-    // The lane to the source does.
-    #[inline(always)]
-    fn lane_in_place(&mut self, from: Address, heard: &Heard<'_>, now: u64) -> bool
-        ensures value { result ≡ lane_quiet self.old from (meant heard.now) }
-        ensures step { OnTrue result (in_lane self.old from (meant heard.now) now ≡ quietly self.new) }
-        ensures other { OnFalse result (self.new ≡ self.old) }
-    {
-        self.lanes.take_in_place(from, heard, now)
     }
 
     /// Takes a frame at tick `now`: the same call takes a frame again. `room` says whether each port of the set has room for

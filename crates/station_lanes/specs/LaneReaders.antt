@@ -8,6 +8,8 @@ use Rattle.lane_core.specs.Quiet.{hears_quietly, pumps_quietly}
 use Rattle.lane_core.specs.Pump.{missing, pump_refusal, is_ready}
 use Rattle.lane_core.specs.Overrun.{overrun}
 use Rattle.lane_core.specs.Cancel.{numbered, queues_abort}
+use Rattle.lane_core.specs.Sight.{sight_of, nothing_seen}
+use Rattle.lane_core.specs.declared.sight.LaneSight.{LaneSight}
 use Rattle.lane_core.specs.declared.place.UnderWay.{UnderWay}
 use Rattle.lane_core.specs.declared.place.UnderWay.TheVariants.{Connection}
 use Rattle.lane_core.specs.declared.refused.PumpRefused.{PumpRefused}
@@ -83,6 +85,10 @@ count_below test (suc n) = count_below test n + (if test n then 1 else 0)
 -- a message to a destination has no outcome
 abbrev pub is_waiting_at : Lanes → (to : ℕ) → Bool
 is_waiting_at lanes to = elim (map.get lanes to) [ None ↦ false | Some lane ↦ nat_lt 0 (length lane.pending) ]
+
+-- what is seen of the lane to a destination
+abbrev pub sight_at : Lanes → (to : ℕ) → LaneSight
+sight_at lanes to = elim (map.get lanes to) [ None ↦ nothing_seen | Some lane ↦ sight_of lane ]
 
 -- a pump to a destination queues a frame
 abbrev pub is_pumping : Lanes → (now to : ℕ) → Bool

@@ -16,12 +16,12 @@ ghost use Rattle.tp_wire.specs.Heard.{meant};
 ghost use Rattle.originator.specs.Pump.{most_frames};
 ghost use Rattle.std.specs.Bool.{OnTrue, OnFalse};
 ghost use Rattle.station_lanes.specs.LaneCalls.{stepped_lanes, step_at, lane_to};
-ghost use Rattle.station_lanes.specs.LaneReaders.{refusal_at, pumping_lane, missing_at, is_pending_at, queues_abort_at, is_due_at, hears_quietly_at, pumps_quietly_at, due_lane, overrun_lanes, overrun_events, is_waiting_at, count_below, HasNoConnection};
+ghost use Rattle.station_lanes.specs.LaneReaders.{refusal_at, pumping_lane, missing_at, is_pending_at, queues_abort_at, is_due_at, hears_quietly_at, pumps_quietly_at, due_lane, overrun_lanes, overrun_events, is_waiting_at, count_below, sight_at, HasNoConnection};
 ghost use Rattle.std.specs.Option.{option_map};
 
 use crate::lanes::{Lanes, PLACES};
 use crate::outcomes::{append, outcome};
-use lane_core::{Ended, Lane, LaneStep, PumpRefused, PushRefused};
+use lane_core::{Ended, Lane, LaneSight, LaneStep, PumpRefused, PushRefused};
 use message_events::{Bytes, Events};
 use pgn_ids::{Address, Pgn, WirePgn};
 use std::alloc::{AllocError, Global};
@@ -151,6 +151,16 @@ impl Lanes {
             from = usize::from(to.0) + 1;
         }
         None
+    }
+
+    /// What is seen of the lane to a destination.
+    pub fn sight(&self, to: Address) -> LaneSight
+        ensures { result ≡ sight_at self.now to.0 }
+    {
+        match self.get(to) {
+            None => LaneSight::nothing(),
+            Some(lane) => lane.sight(),
+        }
     }
 
     /// How many ticks are missing at tick `now` until the next frame of a broadcast to a destination may be queued.

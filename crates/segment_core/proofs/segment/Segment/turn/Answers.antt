@@ -2,6 +2,7 @@ use Rattle.std.proofs.Common.{◌≡◌, Err, sym, rules}
 use Rattle.segment_core.specs.Joined.{joined}
 use Rattle.segment_law.specs.Drive.{turn}
 use Rattle.segment_core.proofs.Steps.{gone_by}
+use Rattle.segment_core.proofs.Together.{swept}
 use Rattle.segment_core.proofs.Turns.{turn_stops, sweeping_begins, sweeping_goes, sweeping_stops, sweeping_ends}
 use Rattle.segment_core.proofs.segment.Segment.turn.Goals as goal
 
@@ -15,8 +16,10 @@ returns-in_err-turn_puts c = λ start d h.
 
 pub loop-place-init : goal.loop-place-init
 loop-place-init c =
-    sweeping_begins c.args.from c.args.to c.args.self.now c.args.course.now.frames.items c.args.course.now.parts.items c.station_count-count.result
-    c.turn_puts.new.self c.turn_puts.new.course.frames.items c.turn_puts.new.course.parts.items (sym c.station_count-count.ensures) (λ start d h. c.in_ok-turn_puts.ensures start d h)
+    swept c.take_abreast-first.result c.turn_puts.new.self c.take_abreast-first.new.self c.take_abreast-first.ensures
+    c.args.from c.args.to c.args.self.now c.args.course.now.frames.items c.args.course.now.parts.items c.station_count-count.result c.turn_puts.new.course.frames.items c.turn_puts.new.course.parts.items
+    (sweeping_begins c.args.from c.args.to c.args.self.now c.args.course.now.frames.items c.args.course.now.parts.items c.station_count-count.result
+    c.turn_puts.new.self c.turn_puts.new.course.frames.items c.turn_puts.new.course.parts.items (sym c.station_count-count.ensures) (λ start d h. c.in_ok-turn_puts.ensures start d h))
 
 pub loop-place-preserved : goal.loop-place-preserved
 loop-place-preserved c =

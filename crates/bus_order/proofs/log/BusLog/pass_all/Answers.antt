@@ -1,0 +1,14 @@
+use Rattle.std.proofs.Common.{◌≡◌, ◌<◌, ◌+◌, ◌∙◌, true, refl, sym, ap, length, replicate, arith}
+use Rattle.bus_order.specs.Bus.{lowest, released}
+use Rattle.bus_order.proofs.Abreast.{passed_all, stand_abreast}
+use Rattle.bus_order.proofs.log.BusLog.pass_all.Goals as goal
+
+pub returns-clause-passed : goal.returns-clause-passed
+returns-clause-passed c =
+    let bus = c.args.self.now in
+    let n = length bus.cursors in
+    let some : 0 < n = omega (arith, c.if-stations-eq0.false, c.stations.ensures) in
+    let place : c.to.inside.place ≡ lowest bus.cursors = ap (λ x. x.place) c.to.view_is ∙ ap (λ x. x.place) c.at.ensures.value ∙ (stand_abreast bus c.requires.abreast).each 0 some in
+    c.release.ensures.released
+    ∙ ap released (c.bring_to.ensures.moved ∙ (λ i. record bus { cursors = replicate n (record { place = place i + 1; repeatable = true }) }))
+    ∙ sym (passed_all n bus c.at.ensures.sound c.requires.abreast refl some)

@@ -1,0 +1,98 @@
+//! The newest frame, taken by the stations that are abreast before it: it is read once for all of them.
+ghost use Rattle.std.specs.Prelude.{◌≡◌, ◌≤◌, length, Some};
+ghost use Rattle.std.specs.Bool.{OnTrue, OnFalse};
+ghost use Rattle.std.specs.Option.{option_map};
+ghost use Rattle.pgn_ids.specs.Identifier.{meaning_of};
+ghost use Rattle.tp_wire.specs.Reading.{reading};
+ghost use Rattle.tp_wire.specs.Heard.{meant_between};
+ghost use Rattle.segment_core.specs.Places.{place_in};
+ghost use Rattle.segment_core.specs.Abreast.{TakesInPlace, FirstTake, FirstPass};
+
+use crate::places::Places;
+use crate::segment::Segment;
+use bus_frame::Frame;
+use pgn_ids::{Address, IdMeaning, read_id};
+use station_core::Station;
+use tp_wire::{Heard, read_in_place};
+
+// Whether the station with an address stands at this place.
+#[inline(always)]
+fn stands_at(places: &Places, address: Address, place: usize) -> bool
+    requires { length places.now.by_address ≡ 256 }
+    ensures { OnTrue result (place_in places.now address ≡ Some place) }
+{
+    match places.get(address) {
+        Some(there) => there == place,
+        None => false,
+    }
+}
+
+// The station at a place takes a frame with room where that tells nothing and ends nothing; else nothing changes.
+#[inline(always)]
+fn take_one(
+    station: &mut Station,
+    place: usize,
+    places: &Places,
+    frame: &Frame,
+    meaning: &IdMeaning,
+    heard: &Option<(Heard<'_>, Address, Address)>,
+    now: u64,
+) -> bool
+    requires places { length places.now.by_address ≡ 256 }
+    requires meaning { meaning.now ≡ meaning_of frame.now.id }
+    requires heard { option_map meant_between heard.now ≡ reading frame.now }
+    ensures step { OnTrue result (TakesInPlace station.old place places.now frame.now now station.new) }
+    ensures other { OnFalse result (station.new ≡ station.old) }
+{
+    if !stands_at(places, station.address(), place) {
+        return false;
+    }
+    if let Some(_cause) = station.take_refusal() {
+        return false;
+    }
+    if !station.is_meant(meaning) {
+        return true;
+    }
+    match heard {
+        Some((heard, from, to)) => station.hear_in_place(heard, *from, *to, true, now),
+        None => false,
+    }
+}
+
+// The first of the stations do, up to one that doesn't: how many. The frame is read once for all of them.
+#[inline(always)]
+fn take_first(stations: &mut [Station], places: &Places, frame: &Frame, now: u64) -> usize
+    requires { length places.now.by_address ≡ 256 }
+    ensures few { result ≤ length stations.old }
+    ensures steps { FirstTake result places.now frame.now now stations.old stations.new }
+{
+    let meaning = read_id(frame.id());
+    let heard = read_in_place(frame, &meaning);
+    let count = stations.len();
+    for place in 0..count {
+        let station = &mut stations[place];
+        if !take_one(station, place, places, frame, &meaning, &heard, now) {
+            return place;
+        }
+    }
+    count
+}
+
+impl Segment {
+    /// Where the stations are abreast, the first of them take the newest frame with room, as by `take_in_place`, up to one that
+    /// wants more than that: how many do. None do where the stations aren't abreast.
+    pub(crate) fn take_abreast(&mut self) -> usize
+        ensures { FirstPass result self.old self.new }
+    {
+        if !self.bus.are_abreast() {
+            return 0;
+        }
+        let Some(frame) = self.bus.frame(self.bus.len()) else {
+            return 0;
+        };
+        let now = self.clock.now();
+        let taken = take_first(&mut self.stations, &self.places, &frame, now);
+        self.bus.pass_first(taken);
+        taken
+    }
+}
