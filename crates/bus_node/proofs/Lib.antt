@@ -2,4 +2,4 @@ pub mod Dues
 pub mod Lanes
 pub mod Resting
 pub mod Steps
-pub mod RunSteps
+pub mod LinesTold

@@ -20,8 +20,8 @@ use Rattle.bus_node.specs.Node.{Node, cleared, told, asked}
 use Rattle.bus_node.specs.Putting.{heard}
 use Rattle.bus_node.specs.LaneCounts.{lanes_in_doubt, lanes_pending, lane_counts_text}
 use Rattle.bus_node.specs.Time.{due_below, settled, at_time}
-use Rattle.bus_node.specs.declared.acting.Told.{Told}
-use Rattle.bus_node.specs.declared.acting.Told.TheVariants.{Answered, NoMemory}
+use Rattle.line_runs.specs.declared.running.Told.{Told}
+use Rattle.line_runs.specs.declared.running.Told.TheVariants.{Answered, NoMemory}
 
 abbrev pub due_text : Option ℕ → List ℕ
 due_text None = codes "none"
@@ -76,10 +76,6 @@ obey_line n text = do
   Ok (obeyed (cleared n) meant)
 
 -- How the code obeyed a line
-
-abbrev pub or_refused : Told → Bool → Bool
-or_refused Answered earlier = earlier
-or_refused NoMemory earlier = true
 
 -- a step went to the node new
 abbrev pub Obeyed : Result Told LineError → Node → Result Node Fault → Type 0

@@ -7,4 +7,3 @@ pub mod Time
 pub mod LaneCounts
 pub mod Acting
 pub mod Outcome
-pub mod Ending

@@ -5,10 +5,11 @@ ghost use Rattle.script_text.specs.Replies.{refusal_text};
 ghost use Rattle.script_text.specs.Counts.{counts_line};
 ghost use Rattle.bus_node.specs.Node.{told};
 ghost use Rattle.bus_node.specs.LaneCounts.{lane_counts_text};
-ghost use Rattle.bus_node.specs.Acting.{due_text, first_of, next_due, state_line, commanded, time_in, acted, obeyed, obey_line, or_refused, Obeyed};
+ghost use Rattle.bus_node.specs.Acting.{due_text, first_of, next_due, state_line, commanded, time_in, acted, obeyed, obey_line, Obeyed};
 
 use crate::node::Node;
 use crate::time::due_up_to;
+use line_runs::Told;
 use node_lines::{NodeCommand, NodeLine, read_node_line};
 use port_table::PortId;
 use script_commands::LineError;
@@ -16,27 +17,6 @@ use script_text::{print_counts, print_refused, print_text};
 use segment_core::{Call, Refusal};
 use std::alloc::{AllocError, Global};
 use text_digits::put_decimal;
-
-/// How a line was obeyed.
-#[derive(Clone, Copy, Debug, PartialEq, Eq)]
-pub(crate) enum Told {
-    /// What it tells stands in the node's text.
-    Answered,
-    /// There was no memory for it, and `no memory` is printed.
-    NoMemory,
-}
-
-impl Told {
-    /// Whether this or an earlier line found no memory.
-    pub(crate) fn or_refused(self, earlier: bool) -> bool
-        ensures { result ≡ or_refused self earlier }
-    {
-        match self {
-            Told::Answered => earlier,
-            Told::NoMemory => true,
-        }
-    }
-}
 
 fn put_due(out: &mut Vec<u8>, due: Option<u64>) -> Result<(), AllocError>
     ensures { OnOk result (out.new.items ≡ out.old.items ++ due_text due) }
@@ -100,15 +80,14 @@ impl Node {
         ensures { OnOk result (self.new ≡ told self.old (state_line self.old)) }
     {
         let due = self.next_due();
-        let doubted = self.lanes_in_doubt();
-        let pending = self.lanes_pending();
+        let lanes = self.lane_counts();
         self.text.extend_from_slice(b"state ")?;
         put_decimal(&mut self.text, self.segment.now())?;
         self.text.push(b' ')?;
         put_decimal(&mut self.text, self.segment.queue_len(self.station) as u64)?;
         self.text.push(b' ')?;
         put_due(&mut self.text, due)?;
-        put_lane_counts(&mut self.text, doubted, pending)?;
+        put_lane_counts(&mut self.text, lanes.doubted, lanes.pending)?;
         self.text.push(b'\n')?;
         Ok(())
     }
@@ -201,7 +180,7 @@ impl Node {
 
     /// Obeys a line. What it tells is then the node's text.
     #[tactic(auto, unfolding(crate::specs::Acting::obey_line))]
-    pub(crate) fn obey_line(&mut self, alloc: Global, line: &[u8]) -> Result<Told, LineError>
+    pub(crate) fn act_on(&mut self, alloc: Global, line: &[u8]) -> Result<Told, LineError>
         ensures { Obeyed result self.new (obey_line self.old line.now) }
     {
         self.clear();

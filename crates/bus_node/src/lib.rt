@@ -8,7 +8,9 @@ mod node;
 mod putting;
 mod rests;
 mod running;
+mod telling;
 mod time;
 
+pub use line_runs::Ran;
 pub use node::Node;
-pub use running::{Ran, run_node};
+pub use running::run_node;

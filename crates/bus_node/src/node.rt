@@ -81,7 +81,7 @@ impl Node {
     }
 
     /// What a line told.
-    pub(crate) fn text(&self) -> &[u8]
+    pub(crate) fn told(&self) -> &[u8]
         ensures { result.now ≡ self.now.text }
     {
         self.text.as_slice()

@@ -1,4 +1,3 @@
-pub mod Written
 pub mod Splits
 pub mod Logs
-pub mod RunSteps
+pub mod Shown

@@ -1,5 +1,5 @@
 -- Frames in a log and in a text, and a drive that logs them turn by turn.
-use Rattle.std.proofs.Common.{◌≡◌, ◌≢◌, Bool, ◌≤◌, ◌<◌, ◌+◌, ◌-◌, ◌^◌, ℕ, zero, suc, min, true, false, List, [], ◌∷◌, ◌++◌, map, Option, Some, None, Ok, refl, sym, ◌∙◌, ap, subst, append_assoc, arith, unwrap_or}
+use Rattle.std.proofs.Common.{◌≡◌, ◌≢◌, ◌≤◌, ◌<◌, ◌+◌, ◌-◌, ◌^◌, ℕ, zero, suc, min, List, [], ◌∷◌, ◌++◌, map, Option, Some, None, Ok, refl, sym, ◌∙◌, ap, subst, append_assoc, arith, unwrap_or}
 use Rattle.std.specs.List.{flat_map, zip}
 use Rattle.std.proofs.lemmas.List.{append-nil}
 use Rattle.std.proofs.lemmas.Grind.{flat_map-append}
@@ -11,26 +11,17 @@ use Rattle.segment_law.specs.Record.{Record}
 use Rattle.segment_law.specs.Drive.{Driven, driven, end_of, events_in}
 use Rattle.segment_law.specs.declared.end.DriveEnd.{DriveEnd}
 use Rattle.segment_law.specs.declared.end.DriveEnd.TheVariants as end
+use Rattle.segment_law.specs.declared.reply.Reply.{Reply}
 use Rattle.segment_core.specs.Drives.{IsDriven}
 use Rattle.segment_core.specs.declared.driven.Driven as ran
-use Rattle.script_text.specs.Replies.{event_line, event_lines, drove_line, drive_lines}
-use Rattle.bus_script.specs.Telling.{log_line, log_at, frame_in_text, frame_in_log, text_of, log_of}
+use Rattle.script_text.specs.Replies.{event_line, event_lines, drove_line}
+use Rattle.bus_script.specs.Telling.{Telling, log_line, log_at, put_at, without_frames, frames_alone}
 use Rattle.bus_script.specs.Turns.{turn_times, turns_log}
-use Rattle.bus_script.specs.Script.{Step, told_by, drove, Obeyed}
+use Rattle.bus_script.specs.Script.{Step, told_by, told_of, frames_put, drove, Obeyed}
 use Rattle.bus_script.specs.Driving.{told_at, HasDriven}
-use Rattle.bus_script.specs.declared.page.Page.{Page}
-use Rattle.bus_script.specs.declared.obeying.Told.{Told}
+use Rattle.bus_script.specs.declared.parted.Parted.{Parted}
+use Rattle.line_runs.specs.declared.running.Told.{Told}
 use Rattle.bus_script.proofs.Splits.{before, IsFair, split_more, split_end, one_most, one_fair}
-
--- logged frames don't stand in the text
-pub no_frames : (frames : List CanFrame) → flat_map (frame_in_text true) frames ≡ []
-no_frames [] = refl
-no_frames (f ∷ fs) = no_frames fs
-
--- and without a log none has them
-pub no_log : (puts : List (ℕ × CanFrame)) → flat_map (frame_in_log false) puts ≡ []
-no_log [] = refl
-no_log (p ∷ ps) = no_log ps
 
 abbrev pub all_at : ℕ → List CanFrame → List ℕ
 all_at now frames = map (λ (frame : CanFrame). now) frames
@@ -39,15 +30,15 @@ zip_more : (now : ℕ) (fs gs : List CanFrame) (ts : List ℕ) → zip (all_at n
 zip_more now [] gs ts = refl
 zip_more now (f ∷ fs) gs ts = ap (λ (ps : List (ℕ × CanFrame)). (now, f) ∷ ps) (zip_more now fs gs ts)
 
-log_same : (now : ℕ) (fs : List CanFrame) → flat_map (frame_in_log true) (zip (all_at now fs) fs) ≡ log_at now fs
+log_same : (now : ℕ) (fs : List CanFrame) → flat_map put_at (zip (all_at now fs) fs) ≡ log_at now fs
 log_same now [] = refl
 log_same now (f ∷ fs) = ap (λ l. log_line now f ++ l) (log_same now fs)
 
-log_more : (now : ℕ) (fs gs : List CanFrame) (ts : List ℕ) → flat_map (frame_in_log true) (zip (all_at now fs ++ ts) (fs ++ gs)) ≡ log_at now fs ++ flat_map (frame_in_log true) (zip ts gs)
+log_more : (now : ℕ) (fs gs : List CanFrame) (ts : List ℕ) → flat_map put_at (zip (all_at now fs ++ ts) (fs ++ gs)) ≡ log_at now fs ++ flat_map put_at (zip ts gs)
 log_more now fs gs ts =
-    ap (flat_map (frame_in_log true)) (zip_more now fs gs ts)
-    ∙ flat_map-append (frame_in_log true) (zip (all_at now fs) fs) (zip ts gs)
-    ∙ ap (λ l. l ++ flat_map (frame_in_log true) (zip ts gs)) (log_same now fs)
+    ap (flat_map put_at) (zip_more now fs gs ts)
+    ∙ flat_map-append put_at (zip (all_at now fs) fs) (zip ts gs)
+    ∙ ap (λ l. l ++ flat_map put_at (zip ts gs)) (log_same now fs)
 
 events_more : (xs ys : Record) → event_lines (events_in (xs ++ ys)) ≡ event_lines (events_in xs) ++ event_lines (events_in ys)
 events_more [] ys = refl
@@ -70,20 +61,19 @@ ended_some None h = absurd (h refl)
 ended_some (Some c) h = (c, refl)
 
 -- a step was told
-abbrev pub IsTold : Bool → Option Segment → (old page : Page) → Step → Type 0
-IsTold logged new old page step =
-    (step ≡ Ok (new, told_by step)) × (page.text.items ≡ old.text.items ++ text_of logged (told_by step)) × (page.log.items ≡ old.log.items ++ log_of logged (told_by step))
+abbrev pub IsTold : (Telling → List ℕ) → Option Segment → (old text : List ℕ) → Step → Type 0
+IsTold view new old text step = (step ≡ Ok (new, told_by step)) × (text ≡ old ++ view (told_by step))
 
 -- how a drive that was told ended
-was_driven : (logged : Bool) (fin : DriveEnd) (told : Told) (new : Option Segment) (old page : Page) (step : Step) → told ≡ told_at fin → (fin ≢ end.OutOfMemory → IsTold logged new old page step)
-    → Obeyed logged (Ok told) new old page step
-was_driven logged end.Turns told new old page step e h = subst (λ t. Obeyed logged (Ok t) new old page step) (sym e) (h (λ q. cc))
-was_driven logged end.Idle told new old page step e h = subst (λ t. Obeyed logged (Ok t) new old page step) (sym e) (h (λ q. cc))
-was_driven logged (end.Refused c) told new old page step e h = subst (λ t. Obeyed logged (Ok t) new old page step) (sym e) (h (λ q. cc))
-was_driven logged end.OutOfMemory told new old page step e h = subst (λ t. Obeyed logged (Ok t) new old page step) (sym e) tt
+pub was_driven : (view : Telling → List ℕ) (fin : DriveEnd) (told : Told) (new : Option Segment) (old text : List ℕ) (step : Step) → told ≡ told_at fin → (fin ≢ end.OutOfMemory → IsTold view new old text step)
+    → Obeyed view (Ok told) new old text step
+was_driven view end.Turns told new old text step e h = subst (λ t. Obeyed view (Ok t) new old text step) (sym e) (h (λ q. cc))
+was_driven view end.Idle told new old text step e h = subst (λ t. Obeyed view (Ok t) new old text step) (sym e) (h (λ q. cc))
+was_driven view (end.Refused c) told new old text step e h = subst (λ t. Obeyed view (Ok t) new old text step) (sym e) (h (λ q. cc))
+was_driven view end.OutOfMemory told new old text step e h = subst (λ t. Obeyed view (Ok t) new old text step) (sym e) tt
 
 -- one turn: its frames and events are told, and all were put at its clock
-pub was_turn : (d : Driven) (seg : Segment) (old page : Page) (done : ran.Driven) (now : ℕ) (frames : List CanFrame) → IsDriven d seg done → now ≡ seg.now → frames ≡ done.frames
+pub was_turn : (d : Driven) (seg : Segment) (old page : Parted) (done : ran.Driven) (now : ℕ) (frames : List CanFrame) → IsDriven d seg done → now ≡ seg.now → frames ≡ done.frames
     → page.log.items ≡ old.log.items ++ log_at now frames → page.below.items ≡ old.below.items ++ event_lines done.events
     → HasDriven d (log_at seg.now d.frames) seg old page (done.turns, done.end)
 was_turn d seg old page done now frames h clock shown log below =
@@ -97,7 +87,7 @@ was_turn d seg old page done now frames h clock shown log below =
     }
 
 -- the loop's invariant: what was done so far, and then what the rest of the turns does, is what all of them do
-pub record Goes (from to : Address) (n k made : ℕ) (s t : Segment) (old page : Page) : Type 0 where
+pub record Goes (from to : Address) (n k made : ℕ) (s t : Segment) (old page : Parted) : Type 0 where
   pub most : made + k ≤ n
   pub text : page.text.items ≡ old.text.items
   pub segment : (driven t from to k).segment ≡ (driven s from to n).segment
@@ -106,11 +96,11 @@ pub record Goes (from to : Address) (n k made : ℕ) (s t : Segment) (old page :
   pub logged : page.log.items ++ turns_log k from to t ≡ old.log.items ++ turns_log n from to s
   pub told : page.below.items ++ event_lines (events_in (driven t from to k).calls) ≡ old.below.items ++ event_lines (events_in (driven s from to n).calls)
 
-pub goes_start : (from to : Address) (n : ℕ) (s : Segment) (page : Page) → Goes from to n n 0 s s page page
+pub goes_start : (from to : Address) (n : ℕ) (s : Segment) (page : Parted) → Goes from to n n 0 s s page page
 goes_start from to n s page = record { most = omega arith; text = refl; segment = refl; turns = omega arith; ended = refl; logged = refl; told = refl }
 
 -- with no turn left
-pub goes_done : (from to : Address) (n k made : ℕ) (s t : Segment) (old page : Page) → k ≡ 0 → Goes from to n k made s t old page
+pub goes_done : (from to : Address) (n k made : ℕ) (s t : Segment) (old page : Parted) → k ≡ 0 → Goes from to n k made s t old page
     → HasDriven (driven s from to n) (turns_log n from to s) t old page (made, end.Turns)
 unfolding driven
 goes_done from to n k made s t old page z goes =
@@ -132,7 +122,7 @@ log_on from to m t u s e =
     let a : turn_times (suc m) from to t ≡ all_at d.segment.now d.frames ++ turn_times m from to d.segment =
     ap (λ (o : Option DriveEnd). all_at d.segment.now d.frames ++ elim o as (λ (_ : Option DriveEnd). List ℕ) [ None ↦ turn_times m from to d.segment | Some cause ↦ [] ]) e in
     let b : (driven t from to (suc m)).frames ≡ d.frames ++ (driven d.segment from to m).frames = ap (λ (x : Driven). x.frames) (split_more from to m t e) in
-    let c : turns_log (suc m) from to t ≡ flat_map (frame_in_log true) (zip (all_at d.segment.now d.frames ++ turn_times m from to d.segment) (d.frames ++ (driven d.segment from to m).frames)) = λ i. flat_map (frame_in_log true) (zip (a i) (b i)) in
+    let c : turns_log (suc m) from to t ≡ flat_map put_at (zip (all_at d.segment.now d.frames ++ turn_times m from to d.segment) (d.frames ++ (driven d.segment from to m).frames)) = λ i. flat_map put_at (zip (a i) (b i)) in
     c ∙ log_more d.segment.now d.frames (driven d.segment from to m).frames (turn_times m from to d.segment)
     ∙ ap (λ (v : Segment). log_at v.now d.frames ++ turns_log m from to v) (sym s)
 
@@ -144,7 +134,7 @@ log_end from to m t u c s e =
     ap (λ (o : Option DriveEnd). all_at d.segment.now d.frames ++ elim o as (λ (_ : Option DriveEnd). List ℕ) [ None ↦ turn_times m from to d.segment | Some cause ↦ [] ]) e
     ∙ append-nil (all_at d.segment.now d.frames) in
     let b : (driven t from to (suc m)).frames ≡ d.frames = ap (λ (x : Driven). x.frames) (split_end from to m t c e) in
-    let f : turns_log (suc m) from to t ≡ flat_map (frame_in_log true) (zip (all_at d.segment.now d.frames) d.frames) = λ i. flat_map (frame_in_log true) (zip (a i) (b i)) in
+    let f : turns_log (suc m) from to t ≡ flat_map put_at (zip (all_at d.segment.now d.frames) d.frames) = λ i. flat_map put_at (zip (a i) (b i)) in
     f ∙ log_same d.segment.now d.frames ∙ ap (λ (v : Segment). log_at v.now d.frames) (sym s)
 
 -- a count that can't pass its type
@@ -152,7 +142,7 @@ no_cut : (made put n : ℕ) → made + put ≤ n → n < 2 ^ 64 → min (made + 
 no_cut made put n h l = omega (arith, h, l)
 
 -- after a turn
-on_by : (from to : Address) (n m made put : ℕ) (s t u : Segment) (old page after : Page) (fin : DriveEnd) → Goes from to n (suc m) made s t old page → n < 2 ^ 64 → after.text.items ≡ page.text.items
+on_by : (from to : Address) (n m made put : ℕ) (s t u : Segment) (old page after : Parted) (fin : DriveEnd) → Goes from to n (suc m) made s t old page → n < 2 ^ 64 → after.text.items ≡ page.text.items
     → HasDriven (driven t from to 1) (log_at u.now (driven t from to 1).frames) u page after (put, fin) → fin ≡ end.Turns
     → Goes from to n m (min (made + put) (2 ^ 64 - 1)) s u old after
 on_by from to n m made put s t u old page after fin g l same x stays =
@@ -179,7 +169,7 @@ on_by from to n m made put s t u old page after fin g l same x stays =
     }
 
 -- after a turn that ended the drive
-end_by : (from to : Address) (n m made put : ℕ) (s t u : Segment) (old page after : Page) (fin : DriveEnd) → Goes from to n (suc m) made s t old page → n < 2 ^ 64
+end_by : (from to : Address) (n m made put : ℕ) (s t u : Segment) (old page after : Parted) (fin : DriveEnd) → Goes from to n (suc m) made s t old page → n < 2 ^ 64
     → HasDriven (driven t from to 1) (log_at u.now (driven t from to 1).frames) u page after (put, fin) → fin ≢ end.Turns
     → HasDriven (driven s from to n) (turns_log n from to s) u old after (min (made + put) (2 ^ 64 - 1), fin)
 end_by from to n m made put s t u old page after fin g l x stops =
@@ -203,7 +193,7 @@ end_by from to n m made put s t u old page after fin g l x stops =
 
 -- the same of any number of turns left above 0
 
-pub goes_on_by : (from to : Address) (n k made put : ℕ) (s t u : Segment) (old page after : Page) (fin : DriveEnd) → 0 < k → Goes from to n k made s t old page → n < 2 ^ 64 → after.text.items ≡ page.text.items
+pub goes_on_by : (from to : Address) (n k made put : ℕ) (s t u : Segment) (old page after : Parted) (fin : DriveEnd) → 0 < k → Goes from to n k made s t old page → n < 2 ^ 64 → after.text.items ≡ page.text.items
     → (fin ≢ end.OutOfMemory → HasDriven (driven t from to 1) (log_at u.now (driven t from to 1).frames) u page after (put, fin)) → fin ≡ end.Turns
     → Goes from to n (k - 1) (min (made + put) (2 ^ 64 - 1)) s u old after
 goes_on_by from to n zero made put s t u old page after fin h g l same has stays = absurd (omega (arith, h))
@@ -212,57 +202,44 @@ goes_on_by from to n (suc m) made put s t u old page after fin h g l same has st
     let found : fin ≢ end.OutOfMemory = λ q. (let bad : end.Turns ≡ end.OutOfMemory = sym stays ∙ q in cc) in
     subst (λ j. Goes from to n j (min (made + put) (2 ^ 64 - 1)) s u old after) e (on_by from to n m made put s t u old page after fin g l same (has found) stays)
 
-pub goes_end_by : (from to : Address) (n k made put : ℕ) (s t u : Segment) (old page after : Page) (fin : DriveEnd) → 0 < k → Goes from to n k made s t old page → n < 2 ^ 64
+pub goes_end_by : (from to : Address) (n k made put : ℕ) (s t u : Segment) (old page after : Parted) (fin : DriveEnd) → 0 < k → Goes from to n k made s t old page → n < 2 ^ 64
     → HasDriven (driven t from to 1) (log_at u.now (driven t from to 1).frames) u page after (put, fin) → fin ≢ end.Turns
     → HasDriven (driven s from to n) (turns_log n from to s) u old after (min (made + put) (2 ^ 64 - 1), fin)
 goes_end_by from to n zero made put s t u old page after fin h g l x stops = absurd (omega (arith, h))
 goes_end_by from to n (suc m) made put s t u old page after fin h g l x stops = end_by from to n m made put s t u old page after fin g l x stops
 
 -- the whole drive, turn by turn: its line, and below it its events
-told_logged : (from to : Address) (n : ℕ) (s u : Segment) (old begun made page : Page) (put : ℕ) (fin : DriveEnd) (x y : List ℕ) → begun.log.items ≡ old.log.items → begun.below.items ≡ [] → made.text.items ≡ old.text.items
-    → HasDriven (driven s from to n) (turns_log n from to s) u begun made (put, fin)
-    → x ≡ made.text.items ++ drove_line put fin → y ≡ made.below.items → page.text.items ≡ x ++ y → page.log.items ≡ made.log.items
-    → IsTold true (Some u) old page (drove s from to n)
-told_logged from to n s u old begun made page put fin x y log below stays h lined under ends logs =
+pub text_driven : (from to : Address) (n : ℕ) (s u : Segment) (begun made : Parted) (old text : List ℕ) (put : ℕ) (fin : DriveEnd) (told : Told) (x y : List ℕ)
+    → begun.text.items ≡ old → begun.below.items ≡ [] → made.text.items ≡ begun.text.items
+    → (fin ≢ end.OutOfMemory → HasDriven (driven s from to n) (turns_log n from to s) u begun made (put, fin))
+    → x ≡ made.text.items ++ drove_line put fin → y ≡ made.below.items → text ≡ x ++ y → told ≡ told_at fin
+    → Obeyed without_frames (Ok told) (Some u) old text (drove s from to n)
+text_driven from to n s u begun made old text put fin told x y start below same has lined under ends e =
+    was_driven without_frames fin told (Some u) old text (drove s from to n) e (λ found.
+    let h = has found in
     let d : Driven = driven s from to n in
     let events : List ℕ = event_lines (events_in d.calls) in
     let is_line : List ℕ = drove_line d.turns (end_of d) in
     let to_step : Segment → Step = λ v. Ok (Some v, told_by (drove s from to n)) in
+    let stays : made.text.items ≡ old = same ∙ start in
     let turns : put ≡ d.turns = h.turns in
     let ended : fin ≡ end_of d = h.ended in
-    let a : x ≡ old.text.items ++ is_line = lined ∙ (λ i. stays i ++ drove_line (turns i) (ended i)) in
+    let a : x ≡ old ++ is_line = lined ∙ (λ i. stays i ++ drove_line (turns i) (ended i)) in
     let b : y ≡ events = under ∙ h.told ∙ ap (λ l. l ++ events) below in
-    let t : page.text.items ≡ old.text.items ++ text_of true (told_by (drove s from to n)) =
-    ends ∙ (λ i. a i ++ b i) ∙ append_assoc old.text.items is_line events ∙ ap (λ l. old.text.items ++ (l ++ events)) (sym (append-nil is_line) ∙ ap (λ f. is_line ++ f) (sym (no_frames d.frames))) in
-    (ap to_step (sym h.segment), t, logs ∙ h.logged ∙ ap (λ l. l ++ turns_log n from to s) log)
+    (ap to_step (sym h.segment), ends ∙ (λ i. a i ++ b i) ∙ append_assoc old is_line events))
 
-pub drove_logged : (from to : Address) (n : ℕ) (s u : Segment) (old begun made page : Page) (put : ℕ) (fin : DriveEnd) (told : Told) (x y : List ℕ)
-    → begun.text.items ≡ old.text.items → begun.log.items ≡ old.log.items → begun.below.items ≡ [] → made.text.items ≡ begun.text.items
+-- and its log
+pub log_driven : (from to : Address) (n : ℕ) (s u : Segment) (begun made : Parted) (old log : List ℕ) (put : ℕ) (fin : DriveEnd) (told : Told)
+    → begun.log.items ≡ old
     → (fin ≢ end.OutOfMemory → HasDriven (driven s from to n) (turns_log n from to s) u begun made (put, fin))
-    → x ≡ made.text.items ++ drove_line put fin → y ≡ made.below.items → page.text.items ≡ x ++ y → page.log.items ≡ made.log.items → told ≡ told_at fin
-    → (logged : Bool) → logged ≡ true → Obeyed logged (Ok told) (Some u) old page (drove s from to n)
-drove_logged from to n s u old begun made page put fin told x y text log below same has lined under ends logs e logged is =
-    subst (λ b. Obeyed b (Ok told) (Some u) old page (drove s from to n)) (sym is)
-    (was_driven true fin told (Some u) old page (drove s from to n) e (λ found. told_logged from to n s u old begun made page put fin x y log below (same ∙ text) (has found) lined under ends logs))
-
--- the same at once
-told_plain : (from to : Address) (n : ℕ) (s u : Segment) (old page : Page) (done : ran.Driven) → IsDriven (driven s from to n) u done
-    → page.text.items ≡ old.text.items ++ drive_lines done.turns done.end done.frames done.events → page.log.items ≡ old.log.items
-    → IsTold false (Some u) old page (drove s from to n)
-told_plain from to n s u old page done h lined same =
-    let d : Driven = driven s from to n in
+    → log ≡ made.log.items → told ≡ told_at fin
+    → Obeyed frames_alone (Ok told) (Some u) old log (drove s from to n)
+log_driven from to n s u begun made old log put fin told start has logs e =
+    was_driven frames_alone fin told (Some u) old log (drove s from to n) e (λ found.
+    let h = has found in
     let to_step : Segment → Step = λ v. Ok (Some v, told_by (drove s from to n)) in
-    let turns : done.turns ≡ d.turns = h.turns in
-    let ended : done.end ≡ end_of d = h.end in
-    let frames : done.frames ≡ d.frames = h.frames in
-    let events : done.events ≡ events_in d.calls = h.events in
-    let none : flat_map (frame_in_log false) (zip (turn_times n from to s) d.frames) ≡ [] = no_log (zip (turn_times n from to s) d.frames) in
-    (ap to_step (sym h.segment), lined ∙ (λ i. old.text.items ++ drive_lines (turns i) (ended i) (frames i) (events i)), same ∙ sym (append-nil old.log.items) ∙ ap (λ l. old.log.items ++ l) (sym none))
+    (ap to_step (sym h.segment), logs ∙ h.logged ∙ ap (λ l. l ++ turns_log n from to s) start))
 
-pub drove_plain : (from to : Address) (n : ℕ) (s u : Segment) (old page : Page) (done : ran.Driven) (told : Told)
-    → (done.end ≢ end.OutOfMemory → IsDriven (driven s from to n) u done)
-    → page.text.items ≡ old.text.items ++ drive_lines done.turns done.end done.frames done.events → page.log.items ≡ old.log.items → told ≡ told_at done.end
-    → (logged : Bool) → logged ≡ false → Obeyed logged (Ok told) (Some u) old page (drove s from to n)
-drove_plain from to n s u old page done told has lined same e logged is =
-    subst (λ b. Obeyed b (Ok told) (Some u) old page (drove s from to n)) (sym is)
-    (was_driven false done.end told (Some u) old page (drove s from to n) e (λ found. told_plain from to n s u old page done (has found) lined same))
+-- a call's frame, at the tick of the call
+pub same_time : (now : ℕ) (put : Option CanFrame) (reply : Reply) → log_at now (frames_put put reply) ≡ frames_alone (told_of now put reply)
+same_time now put reply = sym (log_same now (frames_put put reply))

@@ -2,4 +2,3 @@ pub mod Telling
 pub mod Turns
 pub mod Script
 pub mod Driving
-pub mod Ending

@@ -1,5 +1,5 @@
 -- What a script tells, line by line, up to its fault.
-use Rattle.std.specs.Prelude.{◌≡◌, ℕ, ◌+◌, List, [], ◌∷◌, ◌++◌, length, map, Bool, true, ◌||◌, Option, Some, None, Result, Ok, Err, nat_lt, if◌then◌else◌, option_to_list, codes}
+use Rattle.std.specs.Prelude.{◌≡◌, ℕ, List, [], ◌∷◌, ◌++◌, map, Option, Some, None, Result, Ok, Err, if◌then◌else◌, option_to_list}
 use Rattle.bus_frame.specs.Frames.{CanFrame}
 use Rattle.pgn_ids.specs.declared.address.Address.{Address}
 use Rattle.segment_law.specs.Segment.{Segment, are_addresses, new_segment}
@@ -14,23 +14,20 @@ use Rattle.segment_law.specs.declared.reply.Reply.TheVariants.{Done}
 use Rattle.script_commands.specs.Words.{words_of}
 use Rattle.script_commands.specs.Values.{◌>>=◌}
 use Rattle.script_commands.specs.Commands.{command_of}
-use Rattle.script_commands.specs.Faults.{limit_fault}
 use Rattle.script_commands.specs.declared.fault.Fault.{Fault}
 use Rattle.script_commands.specs.declared.fault.Fault.TheVariants.{NotAscii, NoStations, StationsTwice}
 use Rattle.script_commands.specs.declared.command.Command.{Command}
 use Rattle.script_commands.specs.declared.command.Command.TheVariants as commands
 use Rattle.script_commands.specs.declared.fault.LineError.{LineError}
 use Rattle.script_commands.specs.declared.fault.LineError.TheVariants as errors
-use Rattle.script_text.specs.Parts.{line}
-use Rattle.script_text.specs.Replies.{refusal_text, reply_line, drove_line}
-use Rattle.script_text.specs.Counts.{counts_line}
-use Rattle.text_lines.specs.Lines.{lines_of}
+use Rattle.script_text.specs.Replies.{reply_line, drove_line}
 use Rattle.script_commands.specs.Words.{is_ascii}
-use Rattle.bus_script.specs.Telling.{Telling, reply_alone, text_of, log_of}
+use Rattle.bus_script.specs.Telling.{Telling, reply_alone, made_of, refused_by, counted}
 use Rattle.bus_script.specs.Turns.{turn_times}
-use Rattle.bus_script.specs.declared.page.Page.{Page}
-use Rattle.bus_script.specs.declared.obeying.Told.{Told}
-use Rattle.bus_script.specs.declared.obeying.Told.TheVariants.{Answered, NoMemory}
+use Rattle.line_runs.specs.Limits.{script_limits}
+use Rattle.line_runs.specs.Outcome as lines
+use Rattle.line_runs.specs.declared.running.Told.{Told}
+use Rattle.line_runs.specs.declared.running.Told.TheVariants.{Answered, NoMemory}
 
 -- the segment afterwards, where there is one, and what is told
 abbrev pub Step : Type 0
@@ -39,8 +36,8 @@ Step = Result (Option Segment × Telling) Fault
 -- the segment is made, or its addresses are refused
 abbrev pub made : List Address → Step
 made addresses =
-    if are_addresses addresses then Ok (Some (new_segment addresses), record (reply_alone (line (codes "done"))) { stations = addresses })
-    else Ok (None, reply_alone (line (refusal_text BadAddresses)))
+    if are_addresses addresses then Ok (Some (new_segment addresses), made_of addresses)
+    else Ok (None, refused_by BadAddresses)
 
 -- the frame that a call puts on the bus where it is done
 abbrev pub frame_put : Segment → Call → Option CanFrame
@@ -70,8 +67,8 @@ abbrev pub on_segment : Segment → Command → Step
 on_segment s (commands.Stations addresses) = Err StationsTwice
 on_segment s (commands.Call call) = called s call
 on_segment s (commands.Drive from to turns) = drove s from to turns
-on_segment s commands.Counts = Ok (Some s, reply_alone (counts_line s.counts))
-on_segment s (commands.Refused cause) = Ok (Some s, reply_alone (line (refusal_text cause)))
+on_segment s commands.Counts = Ok (Some s, counted s.counts)
+on_segment s (commands.Refused cause) = Ok (Some s, refused_by cause)
 
 -- until the segment is made, each other command is a fault
 abbrev pub without_segment : Command → Step
@@ -92,42 +89,27 @@ obey_words s (name ∷ words) = do
 unfoldable pub obey_line : Option Segment → List ℕ → Step
 obey_line s text = if is_ascii text then obey_words s (words_of text) else Err NotAscii
 
--- line n of a script, within the limits
-unfoldable pub numbered_line : Option Segment → ℕ → List ℕ → Step
-numbered_line s n text = if nat_lt 1000000 n || nat_lt 8192 (length text) then Err (limit_fault n) else obey_line s text
-
--- a text, and the fault with its line, where there is one
-pub record Outcome : Type 0 where
-  pub text : List ℕ
-  pub fault : Option (ℕ × Fault)
-
-abbrev pub then_rest : (Telling → List ℕ) → ℕ → Step → (Option Segment → Outcome) → Outcome
-then_rest view n (Ok done) rest = record { text = view done.1 ++ (rest done.0).text; fault = (rest done.0).fault }
-then_rest view n (Err f) rest = record { text = []; fault = Some (n, f) }
-
 -- of what each line tells, a text has what a view shows
-unfoldable pub outcome_from : (Telling → List ℕ) → Option Segment → ℕ → List (List ℕ) → Outcome
-outcome_from view s n [] = record { text = []; fault = None }
-outcome_from view s n (text ∷ texts) = then_rest view n (numbered_line s n text) (λ t. outcome_from view t (n + 1) texts)
+abbrev pub shown_by : (Telling → List ℕ) → Step → Result (Option Segment × List ℕ) Fault
+shown_by view (Ok done) = Ok (done.0, view done.1)
+shown_by view (Err f) = Err f
 
-abbrev pub outcome : (Telling → List ℕ) → List ℕ → Outcome
-outcome view script = outcome_from view None 1 (lines_of script)
+abbrev pub told_in : (Telling → List ℕ) → lines.Steps (Option Segment)
+told_in view s line = shown_by view (obey_line s line)
+
+abbrev pub outcome : (Telling → List ℕ) → List ℕ → lines.Outcome
+outcome view script = lines.outcome script_limits (told_in view) None script
 
 -- How the code obeyed a line
-
-abbrev pub or_refused : Told → Bool → Bool
-or_refused Answered earlier = earlier
-or_refused NoMemory earlier = true
 
 -- what a step told
 abbrev pub told_by : Step → Telling
 told_by (Ok done) = done.1
 told_by (Err f) = reply_alone []
 
--- how a step went, to the segment new and from a page to another
-abbrev pub Obeyed : Bool → Result Told LineError → Option Segment → (old page : Page) → Step → Type 0
-Obeyed logged (Ok Answered) new old page step =
-    (step ≡ Ok (new, told_by step)) × (page.text.items ≡ old.text.items ++ text_of logged (told_by step)) × (page.log.items ≡ old.log.items ++ log_of logged (told_by step))
-Obeyed logged (Ok NoMemory) new old page step = Unit {0}
-Obeyed logged (Err (errors.Fault f)) new old page step = step ≡ Err f
-Obeyed logged (Err errors.OutOfMemory) new old page step = Unit {0}
+-- how a step went, to the segment new and from a text to another
+abbrev pub Obeyed : (Telling → List ℕ) → Result Told LineError → Option Segment → (old text : List ℕ) → Step → Type 0
+Obeyed view (Ok Answered) new old text step = (step ≡ Ok (new, told_by step)) × (text ≡ old ++ view (told_by step))
+Obeyed view (Ok NoMemory) new old text step = Unit {0}
+Obeyed view (Err (errors.Fault f)) new old text step = step ≡ Err f
+Obeyed view (Err errors.OutOfMemory) new old text step = Unit {0}

@@ -1,5 +1,5 @@
 -- What a line of a script tells, and where it stands: in one text, or the frames in a log and the rest in a text.
-use Rattle.std.specs.Prelude.{ℕ, ◌*◌, ◌-◌, ◌^◌, List, [], ◌++◌, flat_map, min, Bool, true, false, if◌then◌else◌}
+use Rattle.std.specs.Prelude.{ℕ, ◌*◌, ◌-◌, ◌^◌, List, [], ◌++◌, flat_map, min, codes}
 use Rattle.std.specs.List.{zip}
 use Rattle.bus_frame.specs.Frames.{CanFrame}
 use Rattle.pgn_ids.specs.declared.address.Address.{Address}
@@ -7,7 +7,10 @@ use Rattle.message_events.specs.declared.event.Event.{Event}
 use Rattle.log_text.specs.Iface.{bus0}
 use Rattle.log_text.specs.Written.{log_text}
 use Rattle.script_text.specs.Parts.{line}
-use Rattle.script_text.specs.Replies.{put_line, event_lines}
+use Rattle.segment_law.specs.declared.refusal.Refusal.{Refusal}
+use Rattle.segment_law.specs.declared.counts.Counts.{Counts}
+use Rattle.script_text.specs.Replies.{refusal_text, put_lines, event_lines}
+use Rattle.script_text.specs.Counts.{counts_line}
 
 -- the line of the reply, the stations where the segment was made, the frames that were put, the clock at which each of them was put, and
 -- the events
@@ -21,6 +24,16 @@ pub record Telling : Type 0 where
 abbrev pub reply_alone : List ℕ → Telling
 reply_alone reply = record { reply = reply; stations = []; frames = []; times = []; events = [] }
 
+-- the segment was made of these stations
+abbrev pub made_of : List Address → Telling
+made_of addresses = record (reply_alone (line (codes "done"))) { stations = addresses }
+
+abbrev pub refused_by : Refusal → Telling
+refused_by cause = reply_alone (line (refusal_text cause))
+
+abbrev pub counted : Counts → Telling
+counted counts = reply_alone (counts_line counts)
+
 -- a tick is a thousand microseconds; the last time of a log is that of 2 ^ 64 - 1 microseconds
 abbrev pub log_time : ℕ → ℕ
 log_time now = min (now * 1000) (2 ^ 64 - 1)
@@ -33,28 +46,20 @@ log_line now frame = line (log_text (log_time now) bus0 frame)
 abbrev pub log_at : ℕ → List CanFrame → List ℕ
 log_at now frames = flat_map (log_line now) frames
 
--- a frame stands among the replies where there is no log
-abbrev pub frame_in_text : Bool → CanFrame → List ℕ
-frame_in_text logged frame = if logged then [] else put_line frame
-
-abbrev pub frame_in_log : Bool → ℕ × CanFrame → List ℕ
-frame_in_log logged put = if logged then log_line put.0 put.1 else []
-
--- the text: the reply, below it the frames, unless they are logged, then the events
-abbrev pub text_of : Bool → Telling → List ℕ
-text_of logged told = told.reply ++ flat_map (frame_in_text logged) told.frames ++ event_lines told.events
-
--- the log: each frame at its time
-abbrev pub log_of : Bool → Telling → List ℕ
-log_of logged told = flat_map (frame_in_log logged) (zip told.times told.frames)
-
--- all in one text
+-- all in one text: the reply, below it the frames, then the events
 abbrev pub whole : Telling → List ℕ
-whole = text_of false
+whole told = told.reply ++ put_lines told.frames ++ event_lines told.events
 
--- the frames alone, and all the rest
+-- the frames alone, each at its time, and all the rest
+abbrev pub put_at : ℕ × CanFrame → List ℕ
+put_at put = log_line put.0 put.1
+
 abbrev pub frames_alone : Telling → List ℕ
-frames_alone = log_of true
+frames_alone told = flat_map put_at (zip told.times told.frames)
 
 abbrev pub without_frames : Telling → List ℕ
-without_frames = text_of true
+without_frames told = told.reply ++ event_lines told.events
+
+-- where no log is kept
+abbrev pub nothing : Telling → List ℕ
+nothing told = []

@@ -1,11 +1,11 @@
 -- The times of the frames that a drive puts.
-use Rattle.std.specs.Prelude.{ℕ, zero, suc, List, [], ◌++◌, map, flat_map, true, Some, None}
+use Rattle.std.specs.Prelude.{ℕ, zero, suc, List, [], ◌++◌, map, flat_map, Some, None}
 use Rattle.std.specs.List.{zip}
 use Rattle.bus_frame.specs.Frames.{CanFrame}
 use Rattle.pgn_ids.specs.declared.address.Address.{Address}
 use Rattle.segment_law.specs.Segment.{Segment}
 use Rattle.segment_law.specs.Drive.{Driven, driven}
-use Rattle.bus_script.specs.Telling.{frame_in_log}
+use Rattle.bus_script.specs.Telling.{put_at}
 
 -- nothing comes behind a turn that ended the drive
 abbrev pub unless_ended : Driven → List ℕ → List ℕ
@@ -20,4 +20,4 @@ turn_times (suc more) from to s =
 
 -- the log of a drive
 abbrev pub turns_log : ℕ → (from to : Address) → Segment → List ℕ
-turns_log turns from to s = flat_map (frame_in_log true) (zip (turn_times turns from to s) (driven s from to turns).frames)
+turns_log turns from to s = flat_map put_at (zip (turn_times turns from to s) (driven s from to turns).frames)

@@ -1,22 +1,23 @@
-//! A lane is driven: at once, or turn by turn where the frames are logged, each at the clock of its turn.
-ghost use Rattle.std.specs.Prelude.{◌≡◌, ◌≢◌, ◌++◌, Bool, true, false, Some, IfOk, OnOk};
+//! A lane is driven turn by turn, so that each frame is logged at the clock of its turn.
+ghost use Rattle.std.specs.Prelude.{◌≡◌, ◌≢◌, ◌++◌, Some, IfOk, OnOk};
 ghost use Rattle.segment_law.specs.Drive.{driven};
 ghost use Rattle.segment_law.specs.declared.end.DriveEnd.TheVariants as end;
-ghost use Rattle.bus_script.specs.Telling.{log_at};
+ghost use Rattle.bus_script.specs.Telling.{log_at, without_frames, frames_alone};
 ghost use Rattle.bus_script.specs.Turns.{turns_log};
 ghost use Rattle.bus_script.specs.Driving.{told_at, HasDriven};
 ghost use Rattle.bus_script.specs.Script.{Obeyed, drove};
 
-use crate::obeying::Told;
-use crate::page::{Page, print_logged};
+use crate::logging::print_logged;
+use crate::parted::Parted;
+use line_runs::Told;
 use pgn_ids::Address;
 use script_commands::LineError;
-use script_text::{print_driven, print_drove, print_told};
+use script_text::{print_drove, print_told};
 use segment_core::{DriveEnd, Segment};
 use std::alloc::AllocError;
 
 /// A drive for which memory was wanting is told as such.
-fn told_at(ended: DriveEnd) -> Told
+pub(crate) fn told_at(ended: DriveEnd) -> Told
     ensures { result ≡ told_at ended }
 {
     match ended {
@@ -32,7 +33,7 @@ fn log_turn(
     segment: &mut Segment,
     from: Address,
     to: Address,
-    page: &mut Page,
+    page: &mut Parted,
 ) -> Result<(u64, DriveEnd), AllocError>
     ensures text { page.new.text.items ≡ page.old.text.items }
     ensures drove { IfOk result (λ done. done.1 ≢ end.OutOfMemory
@@ -50,7 +51,7 @@ fn log_turns(
     from: Address,
     to: Address,
     turns: u64,
-    page: &mut Page,
+    page: &mut Parted,
 ) -> Result<(u64, DriveEnd), AllocError>
     ensures text { page.new.text.items ≡ page.old.text.items }
     ensures drove { IfOk result (λ done. done.1 ≢ end.OutOfMemory
@@ -82,29 +83,14 @@ pub(crate) fn drive_logged(
     from: Address,
     to: Address,
     turns: u64,
-    page: &mut Page,
+    page: &mut Parted,
 ) -> Result<Told, LineError>
-    ensures { (logged : Bool) → logged ≡ true → Obeyed logged result (Some segment.new) page.old page.new (drove segment.old from to turns) }
+    ensures text { Obeyed without_frames result (Some segment.new) page.old.text.items page.new.text.items (drove segment.old from to turns) }
+    ensures log { Obeyed frames_alone result (Some segment.new) page.old.log.items page.new.log.items (drove segment.old from to turns) }
 {
     page.below.clear();
     let (made, ended) = log_turns(segment, from, to, turns, page)?;
     print_drove(&mut page.text, made, ended)?;
     put_bytes(&mut page.text, page.below.as_slice())?;
     Ok(told_at(ended))
-}
-
-/// A lane is driven at once.
-pub(crate) fn drive(
-    segment: &mut Segment,
-    from: Address,
-    to: Address,
-    turns: u64,
-    page: &mut Page,
-) -> Result<Told, LineError>
-    ensures { (logged : Bool) → logged ≡ false → Obeyed logged result (Some segment.new) page.old page.new (drove segment.old from to turns) }
-{
-    let driven = segment.drive(from, to, turns);
-    let told = told_at(driven.end);
-    print_driven(&mut page.text, driven)?;
-    Ok(told)
 }

@@ -3,9 +3,16 @@
 #![tactic(auto)]
 
 mod driving;
+mod logging;
 mod obeying;
-mod page;
+mod parted;
 mod running;
+mod script;
+mod sheet;
+mod whole;
 
-pub use running::{Ran, run_logged, run_script};
+pub use line_runs::{Ran, Told};
+pub use running::{run_logged, run_script};
+pub use script::run_on;
 pub use script_commands::{Cause, Fault, ScriptFault};
+pub use sheet::Sheet;

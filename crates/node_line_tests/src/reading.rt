@@ -1,11 +1,11 @@
 //! Lines read one after another, up to a reader that fails.
-use node_lines::next_line;
+use line_runs::{Limits, next_line};
+use script_commands::Cause;
 use std::alloc::AllocError;
 use std::io;
 use std::io::{BufRead, BufReader, Error, ErrorKind, Read};
 use std::process::Abort;
 use std::test::Fail;
-use text_lines::{LineRead, ReadError};
 
 /// Gives its text, and fails where it ends.
 #[derive(Drop)]
@@ -22,16 +22,17 @@ impl Read for Breaking<'_> {
     }
 }
 
-// The next line is this one. The test ends where memory is refused.
+// The line of this number is this one. The test ends where memory is refused.
 fn reads<R: BufRead>(
     rt: &impl Abort,
+    number: u64,
     reader: &mut R,
     line: &mut Vec<u8>,
     expected: &[u8],
 ) -> Result<(), Fail> {
-    match next_line(reader, line) {
-        Err(ReadError::OutOfMemory) => return Err(Fail::from(AllocError)),
-        read => assert!(rt; read == Ok(LineRead::Line)),
+    match next_line(&Limits::of_script(), number, reader, line) {
+        Err(Cause::OutOfMemory) => return Err(Fail::from(AllocError)),
+        read => assert!(rt; read == Ok(true)),
     }
     assert!(rt; line.as_slice() == expected);
     Ok(())
@@ -41,10 +42,10 @@ fn reads<R: BufRead>(
 fn lines_are_read_up_to_the_end(rt: HostRuntime) -> Result<(), Fail> {
     let mut line = Vec::new(rt.alloc());
     let mut reader: &[u8] = b"counts\n\nstate";
-    reads(&rt, &mut reader, &mut line, b"counts")?;
-    reads(&rt, &mut reader, &mut line, b"")?;
-    reads(&rt, &mut reader, &mut line, b"state")?;
-    assert!(rt; next_line(&mut reader, &mut line) == Ok(LineRead::End));
+    reads(&rt, 1, &mut reader, &mut line, b"counts")?;
+    reads(&rt, 2, &mut reader, &mut line, b"")?;
+    reads(&rt, 3, &mut reader, &mut line, b"state")?;
+    assert!(rt; next_line(&Limits::of_script(), 4, &mut reader, &mut line) == Ok(false));
     Ok(())
 }
 
@@ -52,7 +53,8 @@ fn lines_are_read_up_to_the_end(rt: HostRuntime) -> Result<(), Fail> {
 fn a_failed_read_is_told(rt: HostRuntime) -> Result<(), Fail> {
     let mut line = Vec::new(rt.alloc());
     let mut reader = BufReader::new(rt.alloc(), Breaking { text: b"now\n" })?;
-    reads(&rt, &mut reader, &mut line, b"now")?;
-    assert!(rt; next_line(&mut reader, &mut line) == Err(ReadError::Failed));
+    reads(&rt, 1, &mut reader, &mut line, b"now")?;
+    let failed = Err(Cause::ReadFailed);
+    assert!(rt; next_line(&Limits::of_script(), 2, &mut reader, &mut line) == failed);
     Ok(())
 }

@@ -6,8 +6,6 @@
 
 mod command;
 mod line;
-mod reading;
 
 pub use command::NodeCommand;
 pub use line::{NodeLine, read_node_line};
-pub use reading::{MAX_NODE_LINE, next_line};

@@ -1,7 +1,7 @@
 //! A script, drawn: it is read and obeyed line by line, and what each line puts and tells is drawn before the next line is read.
 #![tactic(auto)]
 
-mod obeying;
+mod drawing;
 mod running;
 
 pub use bus_script::Ran;

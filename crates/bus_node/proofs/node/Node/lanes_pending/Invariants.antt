@@ -1,7 +1,0 @@
-use Rattle.std.proofs.Common.{◌≡◌, ◌≤◌}
-use Rattle.station_lanes.specs.LaneReaders.{count_below}
-use Rattle.bus_node.specs.LaneCounts.{has_pending}
-use Rattle.bus_node.proofs.node.Node.lanes_pending.Given as goal
-
-abbrev pub invariant-loop-to : goal.invariant-loop-to
-invariant-loop-to l = (l.count ≡ count_below (has_pending l.self) l.to) × (l.count ≤ l.to)

@@ -1,0 +1,47 @@
+-- What an input tells, line by line, up to its fault.
+use Rattle.std.specs.Prelude.{◌≡◌, ℕ, ◌+◌, List, [], ◌∷◌, ◌++◌, Bool, true, Option, Some, None, Result, Ok, Err}
+use Rattle.text_lines.specs.Lines.{lines_of}
+use Rattle.script_commands.specs.declared.fault.Fault.{Fault}
+use Rattle.script_commands.specs.declared.fault.LineError.{LineError}
+use Rattle.script_commands.specs.declared.fault.LineError.TheVariants as errors
+use Rattle.line_runs.specs.Limits.{above, unless_above}
+use Rattle.line_runs.specs.declared.limits.Limits.{Limits}
+use Rattle.line_runs.specs.declared.running.Told.{Told}
+use Rattle.line_runs.specs.declared.running.Told.TheVariants.{Answered, NoMemory}
+
+-- what a line leaves of a state, and the text that it tells, or what is wrong with it
+abbrev pub Steps : Type 0 → Type 0
+Steps S = S → List ℕ → Result (S × List ℕ) Fault
+
+-- line n of an input, within the limits
+abbrev pub numbered_line : {S : Type 0} → Limits → Steps S → S → ℕ → List ℕ → Result (S × List ℕ) Fault
+numbered_line m step s n line = unless_above (above m n line) (step s line)
+
+-- a text, and the fault with its line, where there is one
+pub record Outcome : Type 0 where
+  pub text : List ℕ
+  pub fault : Option (ℕ × Fault)
+
+abbrev pub then_rest : {S : Type 0} → ℕ → Result (S × List ℕ) Fault → (S → Outcome) → Outcome
+then_rest n (Ok done) rest = record { text = done.1 ++ (rest done.0).text; fault = (rest done.0).fault }
+then_rest n (Err f) rest = record { text = []; fault = Some (n, f) }
+
+unfoldable pub outcome_from : {S : Type 0} → Limits → Steps S → S → ℕ → List (List ℕ) → Outcome
+outcome_from m step s n [] = record { text = []; fault = None }
+outcome_from m step s n (line ∷ lines) = then_rest n (numbered_line m step s n line) (λ t. outcome_from m step t (n + 1) lines)
+
+abbrev pub outcome : {S : Type 0} → Limits → Steps S → S → List ℕ → Outcome
+outcome m step s input = outcome_from m step s 1 (lines_of input)
+
+-- How the code obeyed a line
+
+abbrev pub or_refused : Told → Bool → Bool
+or_refused Answered earlier = earlier
+or_refused NoMemory earlier = true
+
+-- how a step went, to the state new and with the text that it told
+abbrev pub Obeyed : {S : Type 0} → Result Told LineError → (new : S) → (text : List ℕ) → Result (S × List ℕ) Fault → Type 0
+Obeyed (Ok Answered) new text step = step ≡ Ok (new, text)
+Obeyed (Ok NoMemory) new text step = Unit {0}
+Obeyed (Err (errors.Fault f)) new text step = step ≡ Err f
+Obeyed (Err errors.OutOfMemory) new text step = Unit {0}

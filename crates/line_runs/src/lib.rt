@@ -1,0 +1,8 @@
+//! An input that is read line by line, within limits, and each line obeyed before the next one is read.
+#![tactic(auto)]
+
+mod limits;
+mod running;
+
+pub use limits::{Limits, next_line};
+pub use running::{Obeyer, Ran, Told, run_lines};

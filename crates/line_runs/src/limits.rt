@@ -1,0 +1,61 @@
+//! The next line of an input, within limits.
+ghost use Rattle.std.specs.Prelude.{◌≡◌, ◌≤◌, true, IfOk};
+ghost use Rattle.line_runs.specs.Limits.{script_limits, limit_fault, Read};
+
+use script_commands::{Cause, Fault, read_cause};
+use std::io::BufRead;
+use text_lines::{LineRead, read_line_up_to};
+
+/// The most lines that an input may have, and the most bytes that a line may have.
+#[derive(Clone, Copy, Debug, PartialEq, Eq)]
+pub struct Limits {
+    pub lines: u64,
+    pub bytes: usize,
+}
+
+impl Limits {
+    /// Those of a script: 1,000,000 lines of 8,192 bytes.
+    pub fn of_script() -> Limits
+        ensures { result ≡ script_limits }
+    {
+        Limits {
+            lines: 1_000_000,
+            bytes: 8192,
+        }
+    }
+}
+
+/// The fault of a line that is too long.
+fn limit_fault(limits: &Limits, number: u64) -> Fault
+    ensures { result ≡ limit_fault limits.now number }
+{
+    if number > limits.lines {
+        Fault::TooManyLines
+    } else {
+        Fault::LineTooLong
+    }
+}
+
+/// Reads the line of this number into `line`, without its line feed, and says whether there was one. Lines count from 1. It fails at a line
+/// that is above the limits, where the reader fails, and where memory is refused.
+#[tactic(auto, using(crate::proofs::Above::within))]
+pub fn next_line<R: BufRead>(
+    limits: &Limits,
+    number: u64,
+    reader: &mut R,
+    line: &mut Vec<u8>,
+) -> Result<bool, Cause>
+    ensures few { IfOk result (λ is_line. is_line ≡ true → number ≤ limits.now.lines) }
+    ensures read { Read limits.now number result line.new.items (R.remaining reader.old) (R.remaining reader.new) }
+{
+    match read_line_up_to(limits.bytes, reader, line) {
+        Ok(LineRead::End) => return Ok(false),
+        Ok(LineRead::TooLong) => return Err(Cause::Fault(limit_fault(limits, number))),
+        Ok(LineRead::Line) => {}
+        Err(error) => return Err(read_cause(error)),
+    }
+    if number > limits.lines {
+        return Err(Cause::Fault(Fault::TooManyLines));
+    }
+    Ok(true)
+}
