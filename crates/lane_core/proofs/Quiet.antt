@@ -21,7 +21,7 @@ use Rattle.lane_core.specs.Endings.{still, after_step}
 use Rattle.lane_core.specs.Hear.{heard_by}
 use Rattle.lane_core.specs.Pump.{pumped_by, after_packet, front_bytes}
 use Rattle.lane_core.specs.LaneFields.{CarriesFront, IsCalm}
-use Rattle.lane_core.specs.Quiet.{IsOfLength, KeepsMessage, pumps_quietly, pumped_on, hears_quietly, HearsOn}
+use Rattle.lane_core.specs.Quiet.{IsOfLength, KeepsMessage, goes_on, pumped_on, hears_quietly, HearsOn}
 
 pub of_length : (from to : ℕ) (u : UnderWay) (m : Pending) (messages : List Pending) → CarriesFront from to u (m ∷ messages) → IsOfLength u (length m.bytes)
 of_length from to Nothing m messages h = tt
@@ -29,7 +29,7 @@ of_length from to (Broadcast s) m messages h = sym h.1
 of_length from to (Connection s) m messages h = sym (ap (λ l. l.len) h.1)
 
 -- without a message nothing is under way
-pub none_quiet : (from to now : ℕ) (u : UnderWay) → CarriesFront from to u [] → pumps_quietly u now ≡ false
+pub none_quiet : (from to now : ℕ) (u : UnderWay) → CarriesFront from to u [] → goes_on u now ≡ false
 none_quiet from to now Nothing h = refl
 none_quiet from to now (Broadcast s) h = absurd h
 none_quiet from to now (Connection s) h = absurd h
@@ -70,7 +70,7 @@ module _ (lane : Lane) (now : ℕ) where
   packet s false false e = absurd cc
 
   -- what is under way goes on, and nothing ends
-  pub pumped_so : (u : UnderWay) → pumps_quietly u now ≡ true → pumped_by u lane now ≡ pumped_so_by u (front_bytes lane.pending)
+  pub pumped_so : (u : UnderWay) → goes_on u now ≡ true → pumped_by u lane now ≡ pumped_so_by u (front_bytes lane.pending)
   pumped_so Nothing e = absurd cc
   pumped_so (Broadcast s) e = packet s (is_due s.gap now) (s.next == packet_count s.len) e
   pumped_so (Connection s) e = refl

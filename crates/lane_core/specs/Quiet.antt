@@ -25,11 +25,17 @@ KeepsMessage (Broadcast s) (Broadcast t) = t.len ≡ s.len
 KeepsMessage (Connection s) (Connection t) = link_of t ≡ link_of s
 KeepsMessage _ _ = ⊥
 
--- a pump that ends nothing and begins nothing
+-- by a pump what is under way goes on, and doesn't end
+abbrev pub goes_on : UnderWay → (now : ℕ) → Bool
+goes_on Nothing now = false
+goes_on (Broadcast s) now = bam.pumps_quietly s now
+goes_on (Connection s) now = true
+
+-- a pump that ends nothing: where nothing is under way, a message begins, or the lane asks first
 abbrev pub pumps_quietly : UnderWay → (now : ℕ) → Bool
-pumps_quietly Nothing now = false
-pumps_quietly (Broadcast s) now = bam.pumps_quietly s now
-pumps_quietly (Connection s) now = true
+pumps_quietly Nothing now = true
+pumps_quietly (Broadcast s) now = goes_on (Broadcast s) now
+pumps_quietly (Connection s) now = goes_on (Connection s) now
 
 -- what it leaves under way, and the frames that are queued
 abbrev pub pumped_on : UnderWay → (bytes : List ℕ) → (now : ℕ) → UnderWay × List CanFrame

@@ -4,7 +4,7 @@ ghost use Rattle.std.specs.Bool.{OnTrue, OnFalse};
 ghost use Rattle.tx_queue.specs.Queue.{queue_limit};
 ghost use Rattle.tp_wire.specs.Heard.{meant};
 ghost use Rattle.originator.specs.Pump.{most_frames};
-ghost use Rattle.lane_core.specs.Quiet.{IsOfLength, KeepsMessage, pumps_quietly, pumped_on, hears_quietly, HearsOn};
+ghost use Rattle.lane_core.specs.Quiet.{IsOfLength, KeepsMessage, goes_on, pumped_on, hears_quietly, HearsOn};
 ghost use Rattle.lane_core.specs.declared.place.UnderWay.{UnderWay};
 ghost use Rattle.lane_core.specs.declared.place.UnderWay.TheVariants.{Nothing};
 
@@ -75,7 +75,7 @@ impl Place {
     pub(crate) fn pump_in_place(&mut self, bytes: &[u8], now: u64, queue: &mut TxQueue) -> bool
         requires message { IsOfLength self.old (length bytes.now) }
         requires places { length queue.old + most_frames ≤ queue_limit }
-        ensures value { result ≡ pumps_quietly self.old now }
+        ensures value { result ≡ goes_on self.old now }
         ensures state { OnTrue result (self.new ≡ (pumped_on self.old bytes.now now).0) }
         ensures queued { OnTrue result (queue.new ≡ queue.old ++ (pumped_on self.old bytes.now now).1) }
         ensures same { KeepsMessage self.old self.new }

@@ -1,5 +1,5 @@
 //! What a lane queues when it is pumped.
-ghost use Rattle.std.specs.Prelude.{◌≡◌, ◌+◌, ◌≤◌, ◌++◌, false, length, Some, None};
+ghost use Rattle.std.specs.Prelude.{◌≡◌, ◌+◌, ◌<◌, ◌≤◌, ◌++◌, false, length, Some, None};
 ghost use Rattle.std.specs.Bool.{OnTrue, OnFalse};
 ghost use Rattle.tx_queue.specs.Queue.{queue_limit};
 ghost use Rattle.originator.specs.Pump.{most_frames};
@@ -101,8 +101,8 @@ impl Lane {
         ended
     }
 
-    /// Queues what comes next of what is under way at tick `now` behind the frames of a queue, if that ends nothing and begins
-    /// nothing. Any other pump is left to `pump`, and changes nothing.
+    /// The same, faster, of a pump that ends no message. The last packet of a broadcast, and one that waits for its gap, are left to
+    /// `pump`, and change nothing.
     #[inline]
     #[tactic(auto, using(crate::proofs::Quiet::pumped_so, crate::proofs::Quiet::none_quiet, crate::proofs::Quiet::of_length, crate::proofs::Quiet::carries_on, crate::proofs::Quiet::calm_on))]
     pub fn pump_in_place(&mut self, now: u64, queue: &mut TxQueue) -> bool
@@ -114,6 +114,10 @@ impl Lane {
         ensures other { OnFalse result (self.new ≡ self.old) }
         ensures kept { OnFalse result (queue.new ≡ queue.old) }
     {
+        if let UnderWay::Nothing = self.place.content() {
+            self.pump_idle(now, queue);
+            return true;
+        }
         let bytes = match self.pending.front() {
             None => return false,
             Some(message) => message.bytes.as_slice(),
@@ -129,7 +133,7 @@ impl Lane {
         ensures step { step_left result ≡ (pumped_lane self.old now).1 }
     {
         match self.take_under_way() {
-            UnderWay::Nothing => self.pump_idle(now),
+            UnderWay::Nothing => unreachable!(),
             UnderWay::Broadcast(state) => self.pump_broadcast(state, now),
             UnderWay::Connection(state) => {
                 let _over = state.overrun();
@@ -138,19 +142,25 @@ impl Lane {
         }
     }
 
-    /// Nothing is under way: the front message begins, or the lane asks first.
-    fn pump_idle(&mut self, now: u64) -> LaneStep
-        requires { self.old.under_way ≡ Nothing }
+    /// Nothing is under way: the front message begins, or the lane asks first. That ends nothing.
+    #[inline(never)]
+    fn pump_idle(&mut self, now: u64, queue: &mut TxQueue)
+        requires nothing { self.old.under_way ≡ Nothing }
+        requires place { length queue.old < queue_limit }
         ensures lane { self.new ≡ (idle_pumped self.old.standing self.old.pending self.old now).0 }
-        ensures step { step_left result ≡ (idle_pumped self.old.standing self.old.pending self.old now).1 }
+        ensures queued { queue.new ≡ queue.old ++ (idle_pumped self.old.standing self.old.pending self.old now).1.frames }
+        ensures ended { (idle_pumped self.old.standing self.old.pending self.old now).1.ended ≡ None }
     {
         if self.pending.is_empty() {
-            return LaneStep::none();
+            return;
         }
-        match self.standing {
+        let step = match self.standing {
             Standing::Settled => self.begin(now),
             Standing::InDoubt => self.probe(1, now),
             Standing::Probing { .. } => LaneStep::none(),
+        };
+        if let Some(frame) = step.frame {
+            queue.push_free(frame);
         }
     }
 

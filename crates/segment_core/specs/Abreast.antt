@@ -12,7 +12,7 @@ use Rattle.segment_core.specs.Places.{place_in, ArePlaces}
 use Rattle.segment_core.specs.Drives.{IsFollowed}
 use Rattle.segment_core.specs.declared.places.Places.{Places}
 
--- the station that has this place takes a frame, tells nothing and ends nothing
+-- the station that has this place takes a frame and tells nothing
 pub record TakesInPlace (before : Station) (place : ℕ) (places : Places) (frame : CanFrame) (now : ℕ) (after : Station) : Type 0 where
   pub own : is_one before.address.0 ≡ true
   pub placed : place_in places before.address ≡ Some place

@@ -1,4 +1,4 @@
--- The calls that a segment makes in place: those that are not refused, tell nothing, begin nothing and end nothing.
+-- The calls that a segment makes in place: the Pumps, Takes, Transmits and Ticks that are not refused and tell nothing.
 use Rattle.std.specs.Prelude.{ℕ, ⊤, Bool, false, if◌then◌else◌, Option, Some, None, is_ok}
 use Rattle.bus_frame.specs.Frames.{CanFrame}
 use Rattle.bus_order.specs.Bus.{next_frame}
@@ -32,7 +32,7 @@ is_quiet seg (Transmit a) = is_ok (called seg (Transmit a))
 is_quiet seg (Tick n) = is_ok (called seg (Tick n))
 is_quiet seg call = false
 
--- a frame that wants memory: the packets of a window, where they are announced or begin
+-- a frame that wants memory: a session that opens, and the packets of a window, where they are announced or begin
 abbrev pub TakeLacksRoom : Option Station → Option CanFrame → (room : Bool) → Type 0
 TakeLacksRoom (Some st) (Some frame) room = LacksRoom st frame room
 TakeLacksRoom _ _ room = ⊥

@@ -1,10 +1,11 @@
 //! The newest frame, taken by the stations that are abreast before it: it is read once for all of them.
-ghost use Rattle.std.specs.Prelude.{◌≡◌, ◌≤◌, length, Some};
+ghost use Rattle.std.specs.Prelude.{◌≡◌, ◌≤◌, length, true, Some, IfSome};
 ghost use Rattle.std.specs.Bool.{OnTrue, OnFalse};
 ghost use Rattle.std.specs.Option.{option_map};
 ghost use Rattle.pgn_ids.specs.Identifier.{meaning_of};
 ghost use Rattle.tp_wire.specs.Reading.{reading};
-ghost use Rattle.tp_wire.specs.Heard.{meant_between};
+ghost use Rattle.tp_wire.specs.Heard.{meant, meant_between};
+ghost use Rattle.tp_wire.specs.Rows.{comes_from};
 ghost use Rattle.segment_core.specs.Places.{place_in};
 ghost use Rattle.segment_core.specs.Abreast.{TakesInPlace, FirstTake, FirstPass};
 
@@ -13,7 +14,7 @@ use crate::segment::Segment;
 use bus_frame::Frame;
 use pgn_ids::{Address, IdMeaning, read_id};
 use station_core::Station;
-use tp_wire::{Heard, read_in_place};
+use tp_wire::{Heard, is_transport, read_in_place};
 
 // Whether the station with an address stands at this place.
 #[inline(always)]
@@ -27,7 +28,7 @@ fn stands_at(places: &Places, address: Address, place: usize) -> bool
     }
 }
 
-// The station at a place takes a frame with room where that tells nothing and ends nothing; else nothing changes.
+// The station at a place takes a frame with room where that tells nothing; else nothing changes.
 #[inline(always)]
 fn take_one(
     station: &mut Station,
@@ -41,6 +42,7 @@ fn take_one(
     requires places { length places.now.by_address ≡ 256 }
     requires meaning { meaning.now ≡ meaning_of frame.now.id }
     requires heard { option_map meant_between heard.now ≡ reading frame.now }
+    requires source { IfSome heard.now (λ h. comes_from (meant h.0) h.1.0 ≡ true) }
     ensures step { OnTrue result (TakesInPlace station.old place places.now frame.now now station.new) }
     ensures other { OnFalse result (station.new ≡ station.old) }
 {
@@ -55,7 +57,7 @@ fn take_one(
     }
     match heard {
         Some((heard, from, to)) => station.hear_in_place(heard, *from, *to, true, now),
-        None => false,
+        None => !is_transport(frame),
     }
 }
 

@@ -83,9 +83,9 @@ impl Segment {
         }
     }
 
-    /// Makes a call where that tells nothing and ends nothing, as most do, and answers whether it did: faster than `apply`, since
-    /// no reply is made. Any other call is left to `apply`, and changes nothing, one that is refused or finds no memory among
-    /// them.
+    /// Makes a Pump, a Take, a Transmit or a Tick that tells nothing, as most do, and answers whether it did: faster than `apply`,
+    /// since no reply is made. Any other call is left to `apply`, and changes nothing, one that is refused or finds no memory
+    /// among them.
     #[inline]
     pub fn apply_in_place(&mut self, call: &Call) -> bool
         ensures quiet { OnTrue result (is_quiet self.old call.now ≡ true) }
@@ -101,7 +101,7 @@ impl Segment {
         self.call_in_place(call)
     }
 
-    // Makes a call where that tells nothing and ends nothing; any other changes nothing.
+    // Makes a Pump, a Take, a Transmit or a Tick that tells nothing; any other call changes nothing.
     #[inline]
     #[tactic(auto, unfolding(segment_law::specs::Calls::called))]
     fn call_in_place(&mut self, call: &Call) -> bool

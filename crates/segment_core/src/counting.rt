@@ -85,15 +85,10 @@ impl Segment {
         ensures reply { result ≡ Done events }
         ensures counts { self.new ≡ record self.old { counts = counted self.old.counts events } }
     {
-        if events.is_empty() {
-            return self.done();
+        if let Some(first) = events.get(0) {
+            count_event(&mut self.counts, first);
+            count_all(&mut self.counts, events.rest());
         }
-        let (first, rest) = events.into_parts();
-        let Some(first) = first else {
-            return self.done();
-        };
-        count_event(&mut self.counts, &first);
-        count_all(&mut self.counts, &rest);
-        Reply::Done(Events::all(first, rest))
+        Reply::Done(events)
     }
 }

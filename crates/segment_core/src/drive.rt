@@ -88,7 +88,7 @@ impl Segment {
         let first = self.take_abreast();
         for place in first..count {
             let station = self.address_at(place);
-            self.take_all(station, course)?;
+            self.take_all(station, place == first, course)?;
         }
         Ok(())
     }
@@ -183,25 +183,37 @@ impl Segment {
         Ok(())
     }
 
-    // A station takes until no frame waits for it.
-    fn take_all(&mut self, station: Address, course: &mut Course) -> Result<(), Stop>
+    // A station takes until no frame waits for it. The first frame may have been tried in place before.
+    fn take_all(
+        &mut self,
+        station: Address,
+        is_tried: bool,
+        course: &mut Course,
+    ) -> Result<(), Stop>
         ensures took { (start : State) (d : Drive) → IsCourse None start d self.old course.old → Went start (takes_all station d) self.new course.new result }
         ensures addresses { OnOk result (addresses_of self.new ≡ addresses_of self.old) }
     {
         let left = self.left(station);
+        let mut is_tried = is_tried;
         for _ in 0..left {
-            self.take_next(station, course)?;
+            self.take_next(station, is_tried, course)?;
+            is_tried = false;
         }
         Ok(())
     }
 
-    // A station takes the next frame, with room: where it can, in place.
-    fn take_next(&mut self, station: Address, course: &mut Course) -> Result<(), Stop>
+    // A station takes the next frame, with room: where it can, in place, unless that was tried.
+    fn take_next(
+        &mut self,
+        station: Address,
+        is_tried: bool,
+        course: &mut Course,
+    ) -> Result<(), Stop>
         requires { IsFollowed self.old }
         ensures took { (start : State) (d : Drive) → IsCourse None start d self.old course.old → Went start (makes d (Take station true)) self.new course.new result }
         ensures taken { OnOk result (HasTaken station self.old self.new) }
     {
-        if self.take_in_place(station, true) {
+        if !is_tried && self.take_in_place(station, true) {
             return Ok(());
         }
         self.take_one(station, course)

@@ -49,7 +49,7 @@ impl Segment {
         }
     }
 
-    /// Queues what comes next in a lane where that ends no message and begins none; any other pump changes nothing.
+    /// Queues what comes next in a lane where that ends no message; any other pump changes nothing.
     #[tactic(auto, using(crate::proofs::Stations::call_laws))]
     pub(crate) fn pump_in_place(&mut self, station: Address, to: Address) -> bool
         ensures value { result ≡ pump_quiet (station_of self.old station) to self.old.now }

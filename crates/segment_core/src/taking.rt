@@ -37,7 +37,7 @@ impl Segment {
         Ok(self.looked(looked))
     }
 
-    /// A station takes the next frame of the bus where that tells nothing and ends nothing. Any other frame is left to `take`,
+    /// A station takes the next frame of the bus where that tells nothing. Any other frame is left to `take`,
     /// and changes nothing; so is one that `take` refuses.
     #[inline]
     pub(crate) fn take_in_place(&mut self, station: Address, room: bool) -> bool

@@ -2,6 +2,8 @@
 ghost use Rattle.std.specs.Prelude.{◌≡◌, ◌<◌, true, false, None, length};
 ghost use Rattle.std.specs.Bool.{OnTrue, OnFalse};
 ghost use Rattle.tp_wire.specs.Heard.{meant};
+ghost use Rattle.tp_wire.specs.Rows.{comes_from};
+ghost use Rattle.tp_wire.specs.declared.wire.Wire.TheVariants.{Cm};
 ghost use Rattle.tx_queue.specs.Queue.{queue_limit};
 ghost use Rattle.station_sessions.specs.Opening.{key_of};
 ghost use Rattle.station_sessions.specs.Quiet.{ReceivesLackingRoom};
@@ -15,13 +17,14 @@ use crate::taking::packet_kind;
 use bus_frame::Frame;
 use pgn_ids::{Address, read_id};
 use session_table::{Key, SessionKind};
-use tp_wire::{CmFrame, Heard, read_in_place};
+use tp_wire::{CmFrame, Heard, is_transport, read_in_place};
 
 impl Station {
-    /// Takes a frame where the station stands, at tick `now`, if that tells nothing and ends nothing: a frame that it doesn't
-    /// look at, a packet in the middle of a message, the last one of a window, which grants the next, a DPO, and the CTS that a
-    /// lane awaits. Any other frame is left to `take`, and changes nothing; so is one whose window finds no memory. `room` is
-    /// that of the step. Its queue has a free place, as `take_refusal` tells.
+    /// Takes a frame where the station stands, at tick `now`, if that tells nothing: a frame that it doesn't look at or that is
+    /// of other traffic, an RTS or a BAM, a packet in the middle of a message, the last one of a window, which grants the next, a
+    /// DPO, the CTS that a lane awaits, a Request and an Acknowledgement. Any other frame is left to `take`, and changes nothing;
+    /// so is one whose session or window finds no memory. `room` is that of the step. Its queue has a free place, as `take_refusal`
+    /// tells.
     #[inline]
     pub fn take_in_place(&mut self, frame: &Frame, room: bool, now: u64) -> bool
         requires { taking_refusal self.old ≡ None }
@@ -36,7 +39,7 @@ impl Station {
             return true;
         }
         let Some((heard, from, to)) = read_in_place(frame, &meaning) else {
-            return false;
+            return !is_transport(frame);
         };
         self.hear_in_place(&heard, from, to, room, now)
     }
@@ -51,7 +54,8 @@ impl Station {
         room: bool,
         now: u64,
     ) -> bool
-        requires { taking_refusal self.old ≡ None }
+        requires place { taking_refusal self.old ≡ None }
+        requires source { comes_from (meant heard.now) from.0 ≡ true }
         ensures quiet { OnTrue result (wire_quiet self.old (meant heard.now) from to room ≡ true) }
         ensures wanting { OnFalse result (wire_quiet self.old (meant heard.now) from to room ≡ true → WireLacksRoom self.old (meant heard.now) from to room) }
         ensures step { OnTrue result (wire_taken self.old (meant heard.now) from to room now ≡ quietly self.new) }
@@ -63,14 +67,22 @@ impl Station {
                 self.session_in_place(kind, from, heard, room, now)
             }
             Heard::Cm(frame) => self.cm_in_place(frame, from, room, now),
-            _ => false,
+            Heard::Request { pgn } => {
+                self.take_request(from, to, *pgn);
+                true
+            }
+            Heard::Ack { address, pgn, .. } => {
+                self.take_ack(from, to, *address, *pgn);
+                true
+            }
         }
     }
 
     // The same of a connection management frame.
     #[inline(never)]
     fn cm_in_place(&mut self, frame: &CmFrame, from: Address, room: bool, now: u64) -> bool
-        requires { length self.old.queue < queue_limit }
+        requires place { length self.old.queue < queue_limit }
+        requires source { comes_from (Cm frame.now) from.0 ≡ true }
         ensures quiet { OnTrue result (cm_quiet self.old frame.now from room ≡ true) }
         ensures wanting { OnFalse result (cm_quiet self.old frame.now from room ≡ true → CmLacksRoom self.old frame.now from room) }
         ensures step { OnTrue result (cm_taken self.old frame.now from room now ≡ quietly self.new) }
@@ -78,6 +90,9 @@ impl Station {
     {
         let heard = Heard::Cm(*frame);
         match frame {
+            CmFrame::Rts { .. } | CmFrame::Bam { .. } | CmFrame::EtpRts { .. } => {
+                self.take_opening(frame, from, room, now).is_ok()
+            }
             CmFrame::Cts { .. } => self.lane_in_place(from, &heard, now),
             CmFrame::EtpCts { .. } => self.lane_in_place(from, &heard, now),
             CmFrame::EtpDpo { .. } => {

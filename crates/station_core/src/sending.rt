@@ -153,8 +153,8 @@ impl Station {
         Ok(Events::of(self.alloc, outcome(self.address, to, ended)))
     }
 
-    /// The same, faster, of a pump that ends no message and begins none, as most do. It answers false, and has changed nothing, where
-    /// the pump is left to `pump`, one that is refused among them.
+    /// The same, faster, of a pump that ends no message, as all do but that of a broadcast's last packet. It answers false, and has
+    /// changed nothing, where the pump is left to `pump`, one that is refused among them.
     pub fn pump_in_place(&mut self, to: Address, now: u64) -> bool
         ensures value { result ≡ pumps_in_place self.old to now }
         ensures free { OnTrue result (pumping_refusal self.old to now ≡ None) }

@@ -1,5 +1,5 @@
 //! Frames that are taken, row by row (SAE J1939-21; ISO 11783-3).
-ghost use Rattle.std.specs.Prelude.{◌≡◌, ◌<◌, ◌+◌, ◌++◌, true, false, None, length, IfOk, OnErr};
+ghost use Rattle.std.specs.Prelude.{◌≡◌, ◌<◌, ◌+◌, ◌++◌, true, false, None, length, IfOk, OnOk, OnErr};
 ghost use Rattle.std.specs.Result.{result_err};
 ghost use Rattle.pgn_ids.specs.Address.{is_one};
 ghost use Rattle.tp_wire.specs.Rows.{comes_from};
@@ -7,6 +7,7 @@ ghost use Rattle.tp_wire.specs.declared.wire.Wire.TheVariants.{Cm};
 ghost use Rattle.tx_queue.specs.Queue.{queue_limit, option_frames};
 ghost use Rattle.station_lanes.specs.LaneCalls.{outcome_of};
 ghost use Rattle.station_sessions.specs.Opening.{key_of};
+ghost use Rattle.station_core.specs.Station.{quietly};
 ghost use Rattle.station_core.specs.Refusals.{IsAnswered, taking_refusal};
 ghost use Rattle.station_core.specs.Taking.{packet_kind as packet_kind_of, in_opening, in_session, in_lane, abort_taken, cm_taken, answer, request_taken, ack_taken, wire_taken, is_meant_for, looks_at as looks_at_frame, is_malformed_for, wanted, wire_wanted, taken};
 
@@ -185,14 +186,15 @@ impl Station {
     {
         let wire = Wire::Cm(frame);
         match &frame {
-            CmFrame::Rts { .. } => self.take_opening(&frame, from, room, now),
+            CmFrame::Rts { .. } | CmFrame::Bam { .. } | CmFrame::EtpRts { .. } => {
+                self.take_opening(&frame, from, room, now)?;
+                Ok(Events::none(self.alloc))
+            }
             CmFrame::Cts { .. } => Ok(self.take_in_lane(from, &wire, now)),
             CmFrame::EndOfMsgAck { .. } => Ok(self.take_in_lane(from, &wire, now)),
-            CmFrame::Bam { .. } => self.take_opening(&frame, from, room, now),
             CmFrame::Abort { pgn, .. } => {
                 Ok(self.take_abort(SessionKind::Tp, from, *pgn, &wire, now))
             }
-            CmFrame::EtpRts { .. } => self.take_opening(&frame, from, room, now),
             CmFrame::EtpCts { .. } => Ok(self.take_in_lane(from, &wire, now)),
             CmFrame::EtpDpo { .. } => {
                 self.take_in_session(SessionKind::Etp, from, &wire, room, now)
@@ -204,24 +206,25 @@ impl Station {
         }
     }
 
-    /// A frame that opens a session, an RTS or a BAM.
-    fn take_opening(
+    /// A frame that opens a session, an RTS or a BAM. It tells nothing.
+    #[inline(never)]
+    pub(crate) fn take_opening(
         &mut self,
         frame: &CmFrame,
         from: Address,
         room: bool,
         now: u64,
-    ) -> Result<Events, AllocError>
+    ) -> Result<(), AllocError>
         requires source { is_one from.0 ≡ true }
         requires place { length self.old.queue < queue_limit }
-        ensures ok { IfOk result (λ events. in_opening self.old frame.now from room now ≡ record { station = self.new; events = events }) }
+        ensures ok { OnOk result (in_opening self.old frame.now from room now ≡ quietly self.new) }
         ensures err { OnErr result (self.new ≡ self.old) }
     {
-        let Told { frame, events } = self
+        let frame = self
             .sessions
             .open(self.address, &self.ports, frame, from, room, now)?;
         enqueue_option(&mut self.queue, frame);
-        Ok(events)
+        Ok(())
     }
 
     /// The incoming session of this kind from the source makes its step.
@@ -280,7 +283,8 @@ impl Station {
     }
 
     /// A Request to the own address is answered.
-    fn take_request(&mut self, from: Address, to: Address, pgn: WirePgn)
+    #[inline(never)]
+    pub(crate) fn take_request(&mut self, from: Address, to: Address, pgn: WirePgn)
         requires { length self.old.queue < queue_limit }
         ensures { self.new ≡ request_taken self.old from to pgn }
     {
@@ -303,7 +307,8 @@ impl Station {
     }
 
     /// An Acknowledgement to the own address, or of an own Request, is for the lane to its source.
-    fn take_ack(&mut self, from: Address, to: Address, address: Address, pgn: WirePgn)
+    #[inline(never)]
+    pub(crate) fn take_ack(&mut self, from: Address, to: Address, address: Address, pgn: WirePgn)
         ensures { self.new ≡ ack_taken self.old from to address pgn }
     {
         if address == self.address || to == self.address {

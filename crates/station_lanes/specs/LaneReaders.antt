@@ -30,7 +30,7 @@ is_pending_at lanes to number = elim (map.get lanes to) [ None ↦ false | Some 
 abbrev pub hears_quietly_at : Lanes → (to : ℕ) → Wire → Bool
 hears_quietly_at lanes to wire = elim (map.get lanes to) [ None ↦ false | Some lane ↦ hears_quietly lane.under_way wire ]
 
--- a pump to a destination ends nothing and begins nothing
+-- there is a lane to a destination, and its pump ends nothing
 abbrev pub pumps_quietly_at : Lanes → (to now : ℕ) → Bool
 pumps_quietly_at lanes to now = elim (map.get lanes to) [ None ↦ false | Some lane ↦ pumps_quietly lane.under_way now ]
 

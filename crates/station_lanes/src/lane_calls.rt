@@ -188,7 +188,7 @@ impl Lanes {
         ended
     }
 
-    /// The same where that ends no message and begins none. Any other pump is left to `pump`, and changes nothing.
+    /// The same where that ends no message. Any other pump is left to `pump`, and changes nothing.
     #[tactic(auto, using(crate::proofs::LaneLaws::pumped_quiet_laws))]
     pub fn pump_in_place(&mut self, to: Address, now: u64, queue: &mut TxQueue) -> bool
         requires { length queue.old + most_frames ≤ queue_limit }

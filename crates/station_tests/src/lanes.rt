@@ -269,26 +269,26 @@ fn broadcast_three(rt: &impl Abort, alloc: Global, lane: &mut Lane) -> Result<()
     pumps(rt, alloc, lane, 101, 0x1CEC_FF21, &ANNOUNCEMENT)
 }
 
-// A pump that ends nothing and begins nothing queues this frame where the lane stands.
+// A pump that ends nothing queues this frame where the lane stands.
 fn is_pumped_in_place(
     alloc: Global,
     lane: &mut Lane,
     now: u64,
-    packet: &[u8],
+    id: u32,
+    bytes: &[u8],
 ) -> Result<bool, Fail> {
     let mut queue = TxQueue::new(alloc)?;
     let is_pumped = lane.pump_in_place(now, &mut queue);
-    Ok(is_pumped && queue.pop() == Some(frame(0x1CEB_FF21, packet)?))
+    Ok(is_pumped && queue.pop() == Some(frame(id, bytes)?))
 }
 
-// Of a message to all of two packets that is the first one alone.
+// Of a message to all of two packets that are its announcement and its first packet.
 fn pumps_in_place(rt: &impl Abort, alloc: Global, lane: &mut Lane) -> Result<(), Fail> {
     pushes(rt, alloc, lane, 1)?;
-    assert!(rt; !is_pumped_in_place(alloc, lane, 0, &FIRST)?);
-    pumps(rt, alloc, lane, 0, 0x1CEC_FF21, &ANNOUNCEMENT)?;
-    assert!(rt; !is_pumped_in_place(alloc, lane, 49, &FIRST)?);
-    assert!(rt; is_pumped_in_place(alloc, lane, 50, &FIRST)?);
-    assert!(rt; !is_pumped_in_place(alloc, lane, 100, &LAST)?);
+    assert!(rt; is_pumped_in_place(alloc, lane, 0, 0x1CEC_FF21, &ANNOUNCEMENT)?);
+    assert!(rt; !is_pumped_in_place(alloc, lane, 49, 0x1CEB_FF21, &FIRST)?);
+    assert!(rt; is_pumped_in_place(alloc, lane, 50, 0x1CEB_FF21, &FIRST)?);
+    assert!(rt; !is_pumped_in_place(alloc, lane, 100, 0x1CEB_FF21, &LAST)?);
     let ended = pump(rt, alloc, lane, 100, &[frame(0x1CEB_FF21, &LAST)?])?;
     assert!(rt; is_end(ended, 1, Outcome::Broadcast));
     Ok(())

@@ -334,6 +334,9 @@ fn play_all(rt: &impl Abort, alloc: Global, turns: &[Turn]) -> Result<(), Fail> 
 
 const IS_TAKEN: Turn = Turn::Answers(RTS_OF_80, RTS, CTS);
 
+/// An identifier of node 80 that is of no transport.
+const OTHER_TRAFFIC: u32 = 0x18FE_F180;
+
 /// A packet out of order, which would abort a session.
 const NO_SESSION: Turn = Turn::IsSilent(PACKET_OF_80, [0x03; 8]);
 
@@ -342,8 +345,10 @@ fn a_message_is_given(rt: HostRuntime) -> Result<(), Fail> {
     let last = [2, 8, 9, 0xFF, 0xFF, 0xFF, 0xFF, 0xFF];
     let end = [0x13, 0x09, 0x00, 0x02, 0xFF, 0xCA, 0xFE, 0x00];
     let turns = [
-        Turn::IsLeftInPlace(RTS_OF_80, RTS),
-        IS_TAKEN,
+        Turn::IsTakenInPlace(OTHER_TRAFFIC, RTS),
+        Turn::IsLeftInPlace(PACKET_OF_80, [0; 8]),
+        Turn::IsTakenInPlace(RTS_OF_80, RTS),
+        Turn::Pops(CTS),
         Turn::IsTakenInPlace(PACKET_OF_80, [1, 1, 2, 3, 4, 5, 6, 7]),
         Turn::IsLeftInPlace(PACKET_OF_80, last),
         Turn::Wants(PACKET_OF_80, last, (1, 9)),
@@ -438,10 +443,9 @@ fn pumps(rt: &impl Abort, station: &mut Station, refused: Option<Refused>) {
     }
 }
 
-// The first packet of a message to all is queued where the station stands; its announcement and its last packet aren't.
+// The announcement of a message to all and its first packet are queued where the station stands; its last packet isn't.
 fn pumps_in_place(rt: &impl Abort, station: &mut Station) -> Result<(), Fail> {
-    assert!(rt; !station.pump_in_place(Address::GLOBAL, 0));
-    assert!(rt; pump(station, Address::GLOBAL, 0)?.is_empty());
+    assert!(rt; station.pump_in_place(Address::GLOBAL, 0) && station.queue_len() == 1);
     assert!(rt; !station.pump_in_place(Address::GLOBAL, 49) && station.queue_len() == 1);
     assert!(rt; station.pump_in_place(Address::GLOBAL, 50) && station.queue_len() == 2);
     assert!(rt; !station.pump_in_place(Address::GLOBAL, 100) && station.queue_len() == 2);

@@ -1,8 +1,9 @@
 //! What a frame that is taken means, where it stands.
-ghost use Rattle.std.specs.Prelude.{◌≡◌, false, ◌==◌};
+ghost use Rattle.std.specs.Prelude.{◌≡◌, true, false, ◌==◌, IfSome};
 ghost use Rattle.std.specs.Option.{option_map};
 ghost use Rattle.pgn_ids.specs.Identifier.{meaning_of};
 ghost use Rattle.tp_wire.specs.Groups.{tp_dt, etp_dt};
+ghost use Rattle.tp_wire.specs.Rows.{comes_from};
 ghost use Rattle.tp_wire.specs.Reading.{reading, packet_of, between};
 ghost use Rattle.tp_wire.specs.Heard.{meant, meant_between};
 
@@ -45,7 +46,8 @@ fn packet_between(
     to: Address,
     bytes: &[u8],
 ) -> Option<(Heard<'_>, Address, Address)>
-    ensures { option_map meant_between result ≡ between from to (packet_of kind bytes.now) }
+    ensures meaning { option_map meant_between result ≡ between from to (packet_of kind bytes.now) }
+    ensures source { IfSome result (λ r. comes_from (meant r.0) r.1.0 ≡ true) }
 {
     let [sequence, _, _, _, _, _, _, _] = bytes else {
         return None;
@@ -76,7 +78,8 @@ fn packet_between(
 fn read_other(frame: &Frame) -> Option<(Heard<'_>, Address, Address)>
     requires tp { ((meaning_of frame.now.id).pgn == tp_dt) ≡ false }
     requires etp { ((meaning_of frame.now.id).pgn == etp_dt) ≡ false }
-    ensures { option_map meant_between result ≡ reading frame.now }
+    ensures meaning { option_map meant_between result ≡ reading frame.now }
+    ensures source { IfSome result (λ r. comes_from (meant r.0) r.1.0 ≡ true) }
 {
     let (wire, from, to) = read(frame)?;
     let heard = match wire {
@@ -105,7 +108,8 @@ pub fn read_in_place<'a>(
     meaning: &IdMeaning,
 ) -> Option<(Heard<'a>, Address, Address)>
     requires { meaning.now ≡ meaning_of frame.now.id }
-    ensures { option_map meant_between result ≡ reading frame.now }
+    ensures meaning { option_map meant_between result ≡ reading frame.now }
+    ensures source { IfSome result (λ r. comes_from (meant r.0) r.1.0 ≡ true) }
 {
     match meaning.pgn.raw() {
         TP_DT => packet_between(Kind::Tp, meaning.from, meaning.to, frame.bytes()),

@@ -1,9 +1,8 @@
 //! Sessions that open (SAE J1939-21, TP.CM_RTS, TP.CM_BAM; ISO 11783-3, ETP.CM_RTS).
-ghost use Rattle.std.specs.Prelude.{◌≡◌, ◌≤◌, ◌<◌, true, None, IfOk, IsOk, OnErr};
+ghost use Rattle.std.specs.Prelude.{◌≡◌, ◌≤◌, ◌<◌, true, None, [], IfOk, IsOk, OnErr};
 ghost use Rattle.pgn_ids.specs.Address.{is_one};
 ghost use Rattle.session_table.specs.declared.TheConstants.{MAX_SESSIONS};
-ghost use Rattle.station_sessions.specs.Receiving.{goes_on_at, ended_at};
-ghost use Rattle.station_sessions.specs.Opening.{is_tp_size as is_tp_size_of, is_etp_size as is_etp_size_of, refusal as refusal_of, whole_join as whole_join_of, others_than, rts_received, bam_received, opening_received};
+ghost use Rattle.station_sessions.specs.Opening.{is_tp_size as is_tp_size_of, is_etp_size as is_etp_size_of, refusal as refusal_of, whole_join as whole_join_of, rts_received, bam_received, opening_received};
 ghost use Rattle.seg_cut.specs.Join.{held};
 ghost use Rattle.seg_cut.specs.Packets.{packet_count};
 ghost use Rattle.responder.specs.Room.{first_join as first_join_of};
@@ -12,8 +11,7 @@ ghost use Rattle.tp_wire.specs.declared.constants.TheConstants.{ETP_MAX_WINDOW};
 ghost use Rattle.tp_wire.specs.Sizes.{IsSizeOf};
 ghost use Rattle.tp_wire.specs.declared.wire.Kind.TheVariants.{Tp, Etp};
 
-use super::{Receivers, Told, flow};
-use crate::steps::quiet;
+use super::{Receivers, flow};
 use bam_session::BamIn;
 use bus_frame::Frame;
 use pgn_ids::{Address, WirePgn};
@@ -94,32 +92,8 @@ fn first_join(alloc: Global, kind: Kind, size: u32, flow: Flow) -> Result<Join, 
 }
 
 impl Receivers {
-    /// Opens a session for a set, where there are less than 32 others, with a frame to be queued. An error changes nothing.
-    fn open_session(
-        &mut self,
-        key: Key,
-        set: PortSet,
-        state: Incoming,
-        frame: Option<Frame>,
-    ) -> Result<Told, AllocError>
-        requires few { others_than self.old key < MAX_SESSIONS }
-        ensures ok { IfOk result (λ told. goes_on_at key set self.old state frame ≡ record { sessions = self.new; frame = told.frame; events = told.events }) }
-        ensures err { OnErr result (self.new ≡ self.old) }
-    {
-        self.put(key, set, state)?;
-        Ok(quiet(self.alloc, frame))
-    }
-
-    /// Ends the session of a key, with a frame to be queued.
-    fn refuse_session(&mut self, key: Key, frame: Option<Frame>) -> Told
-        ensures { ended_at key self.old frame ≡ record { sessions = self.new; frame = result.frame; events = result.events } }
-    {
-        self.end(key);
-        quiet(self.alloc, frame)
-    }
-
     /// Takes an RTS of a kind, of which a CTS may grant `most` packets: its session opens with a CTS or a hold, or it is answered
-    /// by an abort.
+    /// by an abort, which is handed out.
     fn take_rts(
         &mut self,
         own: Address,
@@ -132,13 +106,13 @@ impl Receivers {
         pgn: WirePgn,
         room: bool,
         now: u64,
-    ) -> Result<Told, AllocError>
+    ) -> Result<Option<Frame>, AllocError>
         requires own { is_one own.0 ≡ true }
         requires source { is_one from.0 ≡ true }
         requires size { is_size ≡ true → IsSizeOf kind size }
         requires some { 0 < most }
         requires narrow { most ≤ ETP_MAX_WINDOW }
-        ensures ok { IfOk result (λ told. rts_received own ports.now kind is_size from size most pgn room now self.old ≡ record { sessions = self.new; frame = told.frame; events = told.events }) }
+        ensures ok { IfOk result (λ queued. rts_received own ports.now kind is_size from size most pgn room now self.old ≡ record { sessions = self.new; frame = queued; events = [] }) }
         ensures err { OnErr result (self.new ≡ self.old) }
     {
         let key = Key {
@@ -149,12 +123,16 @@ impl Receivers {
         let peer = Peer::new(from, own, pgn);
         let others = self.others(key);
         match refusal(is_size, room, &set, others) {
-            Some(reason) => Ok(self.refuse_session(key, Some(peer.abort(kind, reason)))),
+            Some(reason) => {
+                self.end(key);
+                Ok(Some(peer.abort(kind, reason)))
+            }
             None => {
                 let flow = flow(ports, &set);
                 let join = first_join(self.alloc, kind, size, flow)?;
                 let (state, frame) = begin(kind, peer, most, join, flow, now);
-                self.open_session(key, set, Incoming::Connection(state), Some(frame))
+                self.put(key, set, Incoming::Connection(state))?;
+                Ok(Some(frame))
             }
         }
     }
@@ -169,8 +147,8 @@ impl Receivers {
         pgn: WirePgn,
         room: bool,
         now: u64,
-    ) -> Result<Told, AllocError>
-        ensures ok { IfOk result (λ told. bam_received ports.now from size packet_count pgn room now self.old ≡ record { sessions = self.new; frame = told.frame; events = told.events }) }
+    ) -> Result<Option<Frame>, AllocError>
+        ensures ok { IfOk result (λ queued. bam_received ports.now from size packet_count pgn room now self.old ≡ record { sessions = self.new; frame = queued; events = [] }) }
         ensures err { OnErr result (self.new ≡ self.old) }
     {
         let key = Key {
@@ -180,11 +158,15 @@ impl Receivers {
         let set = ports.find(pgn.clean(), u32::from(size));
         let others = self.others(key);
         match refusal(is_tp_size(size, packet_count), room, &set, others) {
-            Some(_) => Ok(self.refuse_session(key, None)),
+            Some(_) => {
+                self.end(key);
+                Ok(None)
+            }
             None => {
                 let join = whole_join(self.alloc, u32::from(size))?;
                 let state = BamIn::begin(from, pgn, join, now);
-                self.open_session(key, set, Incoming::Broadcast(state), None)
+                self.put(key, set, Incoming::Broadcast(state))?;
+                Ok(None)
             }
         }
     }
@@ -192,7 +174,7 @@ impl Receivers {
     /// A frame that opens a session is taken by the station of address `own` at tick `now`: an RTS or a BAM of another node.
     /// Any other is passed over. The new session takes the place of an older one of its kind from the same source, which ends
     /// without an abort, also where the new one is refused. It opens for the ports that receive its message; a connection is
-    /// answered by a CTS, a hold or an abort. `room` says whether there is room for it.
+    /// answered by a CTS, a hold or an abort, which is handed out. `room` says whether there is room for it. Nothing is told.
     ///
     /// Want of memory changes nothing.
     pub fn open(
@@ -203,10 +185,10 @@ impl Receivers {
         from: Address,
         room: bool,
         now: u64,
-    ) -> Result<Told, AllocError>
+    ) -> Result<Option<Frame>, AllocError>
         requires own { is_one own.0 ≡ true }
         requires source { is_one from.0 ≡ true }
-        ensures ok { IfOk result (λ told. opening_received own ports.now frame.now from room now self.old ≡ record { sessions = self.new; frame = told.frame; events = told.events }) }
+        ensures ok { IfOk result (λ queued. opening_received own ports.now frame.now from room now self.old ≡ record { sessions = self.new; frame = queued; events = [] }) }
         ensures err { OnErr result (self.new ≡ self.old) }
     {
         match frame {
@@ -250,7 +232,7 @@ impl Receivers {
                     now,
                 )
             }
-            _ => Ok(quiet(self.alloc, None)),
+            _ => Ok(None),
         }
     }
 }
