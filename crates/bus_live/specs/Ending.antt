@@ -6,22 +6,14 @@ use Rattle.segment_law.specs.Headline.{Headline}
 use Rattle.segment_shared.specs.Record.{Trail, trail}
 use Rattle.segment_shared.specs.declared.call.Stored.{Stored}
 use Rattle.segment_shared.specs.LiveView.{LiveView, Laws}
-use Rattle.script_commands.specs.declared.fault.Fault.{Fault}
 use Rattle.script_text.specs.Parts.{line}
-use Rattle.script_runs.specs.Reading.{Grammar, Planned, planned_by}
+use Rattle.script_runs.specs.Reading.{Planned, planned_by}
 use Rattle.script_runs.specs.Ending.{EndedBy}
 use Rattle.script_runs.specs.declared.ending.LiveRan.{LiveRan}
-use Rattle.script_setup.specs.Plan.{Plan, first_plan, obeyed_line, text_of}
+use Rattle.script_setup.specs.Plan.{Plan, first_plan, grammar, text_of}
 use Rattle.script_setup.specs.declared.setup.Message.{Message}
 use Rattle.segment_report.specs.Texts.{below, ports_at, clients_at}
 use Rattle.segment_report.specs.Noted.{all_noted}
-
--- a script may end behind each of its lines
-abbrev pub ends_well : Plan → Option Fault
-ends_well p = None
-
-abbrev pub grammar : Grammar Plan
-grammar = record { step = obeyed_line; ends = ends_well; text = text_of }
 
 abbrev pub planned : List ℕ → Planned Plan
 planned script = planned_by grammar first_plan script

@@ -2,7 +2,6 @@
 //! bus, and one watches for the end.
 #![tactic(auto)]
 
-mod reading;
 mod running;
 mod text;
 

@@ -4,12 +4,11 @@ ghost use Rattle.segment_shared.specs.LiveView.{LiveView};
 ghost use Rattle.script_setup.specs.Plan.{plan_of};
 ghost use Rattle.bus_live.specs.Ending.{Came, CameTo, Ended, planned};
 
-use crate::reading::read_script;
 use crate::text::text_of;
 use pgn_ids::Address;
 use port_table::PortId;
 use script_commands::Cause;
-use script_runs::{LiveRan, Lost, Told, failed, lost_by};
+use script_runs::{LiveRan, Lost, Told, failed, lost_by, read_script};
 use script_setup::{Message, Setup, ports_of};
 use segment_shared::{Gate, Inbox, Live, SharedSegment, finish};
 use segment_threads::{Board, Ends, Pace, Party, Sender, gather, senders_of, spawn_segment, watch};

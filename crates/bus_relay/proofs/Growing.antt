@@ -18,7 +18,7 @@ use Rattle.script_setup.proofs.Growing as setups
 use Rattle.bus_relay.specs.declared.gateway.Passage.{Passage}
 use Rattle.bus_relay.specs.declared.gateway.Routing.{Routing}
 use Rattle.bus_relay.specs.declared.gateway.Routing.TheVariants as routings
-use Rattle.bus_relay.specs.Gateway.{Plans, Step, goes_on, obeyed_now, with_second, passage_of, routed, route_by, routed_by, begins_second, is_out_of_order, placed_by, named_by, ordered_by, obeyed_words, obeyed_line}
+use Rattle.bus_relay.specs.Gateway.{Plans, Step, goes_on, obeyed_now, with_second, passage_of, routed, route_by, routed_by, begins_second, is_out_of_order, placed_by, named_by, ordered_by, obeyed_words, obeyed_line, HasRoom}
 
 abbrev Below : Step → ℕ → Type 0
 Below (Ok q) n = CallsBelow q.now.made n
@@ -94,5 +94,5 @@ line p text n h = by (is_ascii text)
     by false = tt
 
 -- after a line that was obeyed
-pub calls-below : (p q : Plans) (text : List ℕ) (n : ℕ) → CallsBelow p.now.made n → obeyed_line p text ≡ Ok q → CallsBelow q.now.made (n + 1)
-calls-below p q text n h e = subst (λ (s : Step). Below s (n + 1)) e (line p text n h)
+pub room_after : (p q : Plans) (text : List ℕ) (n : ℕ) → HasRoom p n → obeyed_line p text ≡ Ok q → HasRoom q (n + 1)
+room_after p q text n h e = subst (λ (s : Step). Below s (n + 1)) e (line p text n h)

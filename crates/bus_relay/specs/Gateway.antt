@@ -162,6 +162,10 @@ planned script = planned_by grammar first_plans script
 abbrev pub Done : Result (Unit {0}) LineError → Plans → Plans → Step → Type 0
 Done result p q step = script.Done text_of result p q step
 
--- so few calls are stored that one more can be
+-- fewer calls are stored than lines up to line n may store
+abbrev pub HasRoom : Plans → ℕ → Type 0
+HasRoom p n = CallsBelow p.now.made n
+
+-- so few that one more can be
 abbrev pub FewCalls : Plans → Type 0
-FewCalls p = CallsBelow p.now.made 1000000
+FewCalls p = HasRoom p 1000000

@@ -4,7 +4,7 @@ ghost use Rattle.std.specs.Str.{bytes_eq};
 ghost use Rattle.segment_law.specs.Told.{same_port};
 ghost use Rattle.script_commands.specs.Words.{texts};
 ghost use Rattle.script_setup.specs.Plan.{plan_of, first_plan, port_of};
-ghost use Rattle.bus_relay.specs.Gateway.{plans_of, first_plans, with_second, Done, FewCalls, obeyed_now, obeyed_words, obeyed_line, routed_by, placed_by, not_routed, passage_of, pgn_asked, pgn_of_port, port_pgn, count_to, begins_second, is_out_of_order, ends};
+ghost use Rattle.bus_relay.specs.Gateway.{plans_of, first_plans, with_second, Done, FewCalls, obeyed_now, obeyed_words, obeyed_line, routed_by, placed_by, not_routed, passage_of, pgn_asked, pgn_of_port, port_pgn, count_to, begins_second, is_out_of_order};
 
 use pgn_ids::{Address, Pgn};
 use port_table::PortId;
@@ -65,8 +65,8 @@ impl Gateway {
         self.before = Some(first);
     }
 
-    // Whether the second segment has begun.
-    fn has_first(&self) -> bool
+    /// Whether the second segment has begun.
+    pub(crate) fn has_first(&self) -> bool
         ensures { result ≡ is_some (plans_of self.now).before }
     {
         match &self.before {
@@ -75,24 +75,14 @@ impl Gateway {
         }
     }
 
-    // Whether the segment that is set up now has its stations.
-    fn is_made(&self) -> bool
+    /// Whether the segment that is set up now has its stations.
+    pub(crate) fn is_made(&self) -> bool
         ensures { result ≡ is_some (plans_of self.now).now.made }
     {
         match &self.here.live {
             Some(_) => true,
             None => false,
         }
-    }
-
-    /// What is wrong where the script ends here: a script has two segments.
-    pub(crate) fn wrong_end(&self) -> Option<Fault>
-        ensures { result ≡ ends (plans_of self.now) }
-    {
-        if self.has_first() && self.is_made() {
-            return None;
-        }
-        Some(Fault::NoStations)
     }
 }
 

@@ -6,7 +6,7 @@ mod carrying;
 mod gateway;
 mod pacing;
 mod parts;
-mod reading;
+mod planning;
 mod running;
 mod settling;
 mod text;

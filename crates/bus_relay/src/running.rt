@@ -6,11 +6,10 @@ ghost use Rattle.bus_relay.specs.Ending.{CameOf, CameTo, Ended};
 
 use crate::gateway::{Gateway, Passage, Routing};
 use crate::parts::{Part, names_of, part_of, start_of};
-use crate::reading::read_script;
 use crate::settling::tell_end;
 use crate::threads::{Left, run_threads};
 use script_commands::Cause;
-use script_runs::{LiveRan, Lost, Told, failed, lost_by};
+use script_runs::{LiveRan, Lost, Told, failed, lost_by, read_script};
 use segment_shared::Gate;
 use std::alloc::Global;
 use std::io::{BufRead, Write};

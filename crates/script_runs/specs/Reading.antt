@@ -1,7 +1,6 @@
 -- A script that is read to its end, or to its first fault. Its lines set up a plan, each by one step; text is what is printed of
 -- refused lines, and ends what is wrong with a script that ends at a plan.
-use Rattle.std.specs.Prelude.{◌≡◌, ℕ, ◌+◌, List, [], ◌∷◌, ◌++◌, length, ◌||◌, Option, Some, None, Result, Ok, Err, nat_lt, if◌then◌else◌}
-use Rattle.script_commands.specs.Faults.{limit_fault}
+use Rattle.std.specs.Prelude.{◌≡◌, ℕ, ◌+◌, ◌≤◌, List, [], ◌∷◌, ◌++◌, Option, Some, None, Result, Ok, Err}
 use Rattle.script_commands.specs.declared.fault.Fault.{Fault}
 use Rattle.script_commands.specs.declared.fault.LineError.{LineError}
 use Rattle.script_commands.specs.declared.fault.LineError.TheVariants as errors
@@ -9,6 +8,7 @@ use Rattle.text_lines.specs.Lines.{lines_of}
 use Rattle.script_commands.specs.declared.ending.Cause.{Cause}
 use Rattle.script_commands.specs.declared.ending.Cause.TheVariants as causes
 use Rattle.script_commands.specs.declared.ending.ScriptFault.{ScriptFault}
+use Rattle.line_runs.specs.Limits.{script_limits, above, unless_above}
 
 -- what a line leaves of a plan, or what is wrong with it; and the same of a script's end
 pub record Grammar (P : Type 0) : Type 0 where
@@ -17,8 +17,8 @@ pub record Grammar (P : Type 0) : Type 0 where
   pub text : P → List ℕ
 
 -- line n of a script, within the limits
-unfoldable pub numbered_line : {P : Type 0} → Grammar P → P → ℕ → List ℕ → Result P Fault
-numbered_line g p n text = if nat_lt 1000000 n || nat_lt 8192 (length text) then Err (limit_fault n) else g.step p text
+abbrev pub numbered_line : {P : Type 0} → Grammar P → P → ℕ → List ℕ → Result P Fault
+numbered_line g p n text = unless_above (above script_limits n text) (g.step p text)
 
 -- what is set up, and the fault with its line, where there is one
 pub record Planned (P : Type 0) : Type 0 where
@@ -41,6 +41,26 @@ planned_from g p n (text ∷ texts) = then_rest p n (numbered_line g p n text) (
 abbrev pub planned_by : {P : Type 0} → Grammar P → P → List ℕ → Planned P
 planned_by g p script = planned_from g p 1 (lines_of script)
 
+-- What holds of each line
+
+-- after a line that was obeyed there is room from the next line on, and where there is room from a line on there is from a later one
+abbrev pub RoomAfter : (P : Type 0) → Grammar P → (P → ℕ → Type 0) → Type 0
+RoomAfter P g HasRoom = (p q : P) (line : List ℕ) (n : ℕ) → HasRoom p n → g.step p line ≡ Ok q → HasRoom q (n + 1)
+
+abbrev pub RoomBefore : (P : Type 0) → (P → ℕ → Type 0) → Type 0
+RoomBefore P HasRoom = (p : P) (n : ℕ) → n ≤ 1000000 → HasRoom p n → HasRoom p 1000000
+
+-- the second text is the first, and more
+abbrev pub Begins : List ℕ → List ℕ → Type 0
+Begins a b = (more : List ℕ) × (b ≡ a ++ more)
+
+abbrev pub Grows : {P : Type 0} → (P → List ℕ) → P → Result P Fault → Type 0
+Grows text p (Ok q) = Begins (text p) (text q)
+Grows text p (Err f) = Unit {0}
+
+abbrev pub EachGrows : (P : Type 0) → Grammar P → Type 0
+EachGrows P g = (p : P) (line : List ℕ) → Grows g.text p (g.step p line)
+
 -- How the code read a script
 
 -- how a step went, from plan p to plan q: a line that isn't obeyed prints nothing
@@ -48,10 +68,6 @@ abbrev pub Done : {P : Type 0} → (P → List ℕ) → Result (Unit {0}) LineEr
 Done text (Ok u) p q step = step ≡ Ok q
 Done text (Err (errors.Fault f)) p q step = (step ≡ Err f) × (text q ≡ text p)
 Done text (Err errors.OutOfMemory) p q step = text q ≡ text p
-
--- the second text is the first, and more
-abbrev pub Begins : List ℕ → List ℕ → Type 0
-Begins a b = (more : List ℕ) × (b ≡ a ++ more)
 
 -- what was printed of refused lines when a line ended the reading: all of it at a fault of the script, else its beginning
 abbrev pub IsCut : {P : Type 0} → (P → List ℕ) → ℕ → Cause → P → Planned P → Type 0

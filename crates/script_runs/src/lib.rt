@@ -3,5 +3,7 @@
 #![tactic(auto)]
 
 mod ending;
+mod reading;
 
 pub use ending::{LiveFault, LiveRan, Lost, Told, failed, lost_by};
+pub use reading::{Planner, read_script};

@@ -22,7 +22,7 @@ use Rattle.script_commands.specs.declared.fault.Fault.TheVariants.{BadWord, NoSt
 use Rattle.script_commands.specs.declared.command.Command.{Command}
 use Rattle.script_commands.specs.declared.command.Command.TheVariants as commands
 use Rattle.script_setup.specs.declared.setup.Message.{Message}
-use Rattle.script_setup.specs.Plan.{Plan, Step, refused_by, made_by, answered, opened_by, message_refusal, submitted, sent_by, called_by, value_refused, performed_by, counted_by, is_known, obeyed_words, obeyed_line, CallsBelow}
+use Rattle.script_setup.specs.Plan.{Plan, Step, refused_by, made_by, answered, opened_by, message_refusal, submitted, sent_by, called_by, value_refused, performed_by, counted_by, is_known, obeyed_words, obeyed_line, CallsBelow, HasRoom}
 
 abbrev Made : Type 0
 Made = Option (List Address × List Stored)
@@ -136,9 +136,5 @@ line p text n h = by (is_ascii text)
     by false = tt
 
 -- after a line that was obeyed
-pub calls-below : (p q : Plan) (text : List ℕ) (n : ℕ) → CallsBelow p.made n → obeyed_line p text ≡ Ok q → CallsBelow q.made (n + 1)
-calls-below p q text n h e = subst (λ (s : Step). StepBelow s (n + 1)) e (line p text n h)
-
-pub few_calls : (o : Made) (n : ℕ) → n ≤ 1000000 → CallsBelow o n → CallsBelow o 1000000
-few_calls None n l h = tt
-few_calls (Some m) n l h = omega (arith, l, h)
+pub room_after : (p q : Plan) (text : List ℕ) (n : ℕ) → HasRoom p n → obeyed_line p text ≡ Ok q → HasRoom q (n + 1)
+room_after p q text n h e = subst (λ (s : Step). StepBelow s (n + 1)) e (line p text n h)

@@ -24,16 +24,15 @@ use Rattle.script_commands.specs.declared.command.Command.TheVariants as command
 use Rattle.script_text.specs.Parts.{line}
 use Rattle.script_text.specs.Replies.{refusal_text}
 use Rattle.script_setup.specs.declared.setup.Message.{Message}
-use Rattle.script_setup.specs.Plan.{Plan, Step, refused_by, made_by, answered, opened_by, message_refusal, submitted, sent_by, called_by, value_refused, performed_by, counted_by, is_known, obeyed_words, obeyed_line}
-use Rattle.script_runs.specs.Reading.{Begins}
+use Rattle.script_setup.specs.Plan.{Plan, text_of, Step, refused_by, made_by, answered, opened_by, message_refusal, submitted, sent_by, called_by, value_refused, performed_by, counted_by, is_known, obeyed_words, obeyed_line}
+use Rattle.script_runs.specs.Reading as script
 use Rattle.script_runs.proofs.ScriptsRead.{all_of}
 
 abbrev Made : Type 0
 Made = Option (List Address × List Stored)
 
 abbrev pub Grows : Plan → Step → Type 0
-Grows p (Ok q) = Begins p.text q.text
-Grows p (Err f) = Unit {0}
+Grows p s = script.Grows text_of p s
 
 refused : (p : Plan) (cause : Refusal) → Grows p (refused_by p cause)
 refused p cause = (line (refusal_text cause), refl)

@@ -135,6 +135,13 @@ obeyed_words p (name ∷ words) = if is_known name then (do
 unfoldable pub obeyed_line : Plan → List ℕ → Step
 obeyed_line p text = if is_ascii text then obeyed_words p (words_of text) else Err NotAscii
 
+-- a script may end behind each of its lines
+abbrev pub ends_well : Plan → Option Fault
+ends_well p = None
+
+abbrev pub grammar : script.Grammar Plan
+grammar = record { step = obeyed_line; ends = ends_well; text = text_of }
+
 -- How the code obeyed a line
 
 -- how a step went, from plan p to plan q
@@ -146,6 +153,10 @@ abbrev pub CallsBelow : Option (List Address × List Stored) → ℕ → Type 0
 CallsBelow None n = Unit {0}
 CallsBelow (Some m) n = length m.1 < n
 
+-- fewer calls are stored than lines up to line n may store
+abbrev pub HasRoom : Plan → ℕ → Type 0
+HasRoom p n = CallsBelow p.made n
+
 -- so few that one more can be
 abbrev pub FewCalls : Plan → Type 0
-FewCalls p = CallsBelow p.made 1000000
+FewCalls p = HasRoom p 1000000

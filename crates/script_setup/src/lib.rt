@@ -3,9 +3,10 @@
 #![tactic(auto)]
 
 mod obeying;
+mod planning;
 mod setup;
 mod uncut;
 
-pub use obeying::{obey_line, obey_words};
+pub use obeying::obey_words;
 pub use setup::{Message, Setup, ports_of};
 pub use uncut::Uncut;

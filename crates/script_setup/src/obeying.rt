@@ -185,7 +185,7 @@ pub fn obey_words(alloc: Global, setup: &mut Setup, words: &[&[u8]]) -> Result<(
 
 /// Does what a line asks for, as `obey_words` does; before all else a byte above 127 is a fault.
 #[tactic(auto, unfolding(crate::specs::Plan::obeyed_line))]
-pub fn obey_line(alloc: Global, setup: &mut Setup, line: &[u8]) -> Result<(), LineError>
+pub(crate) fn obey_line(alloc: Global, setup: &mut Setup, line: &[u8]) -> Result<(), LineError>
     requires { FewCalls (plan_of setup.old) }
     ensures { Done result (plan_of setup.old) (plan_of setup.new) (obeyed_line (plan_of setup.old) line.now) }
 {
