@@ -2,7 +2,7 @@
 use Rattle.std.proofs.Common.{◌≡◌, ℕ, zero, suc, ◌+◌, ◌-◌, ◌*◌, ◌/◌, ◌%◌, ◌^◌, ◌<◌, ◌≤◌, List, [], ◌∷◌, ◌++◌, length, Bool, true, false, Option, Some, None, refl, sym, ◌∙◌, ap, arith, length-append, nat_lt, nat_le}
 use Rattle.std.proofs.lemmas.Bool.Decides.{nat_tests}
 use Rattle.log_text.specs.Written.{AreBytes}
-use Rattle.log_text.specs.Digits.{◌>>=◌, digit_of, put_digit, numeral_from, pair_of, pairs_of}
+use Rattle.text_digits.specs.Numerals.{◌>>=◌, digit_of, put_digit, numeral_from, pair_of, pairs_of}
 use Rattle.text_digits.specs.Digits.{digit_char, digits, unspaced}
 
 low_digit : (b : ℕ) → 48 ≤ b → b ≤ 57 → digit_of b ≡ Some (b - 48)

@@ -3,7 +3,7 @@ use Rattle.std.proofs.Common.{◌≡◌, ◌≢◌, ℕ, zero, suc, ◌+◌, ◌
 use Rattle.std.proofs.lemmas.Bool.{ne_eqb}
 use Rattle.std.proofs.lemmas.Bool.Decides.{nat_tests}
 use Rattle.std.specs.Prelude.{◌==◌, ◌/◌, ◌%◌}
-use Rattle.log_text.specs.Digits.{◌>>=◌}
+use Rattle.text_digits.specs.Numerals.{◌>>=◌}
 use Rattle.text_digits.specs.Digits.{digits}
 use Rattle.log_text.specs.Fields.{place_of, cut_at, spaces_in, word_len, next_word}
 use Rattle.log_text.proofs.DigitsBack.{char_from}

@@ -2,7 +2,7 @@
 use Rattle.std.proofs.Common.{◌≡◌, ℕ, suc, ◌-◌, ◌<◌, ◌≤◌, List, [], ◌∷◌, ◌++◌, length, take, Bool, true, false, Option, Some, None, refl, sym, ◌∙◌, ap, arith, is_some, unwrap_or, true≢false, nat_lt, nat_le, ◌&&◌, ◌||◌, if◌then◌else◌}
 use Rattle.std.specs.Prelude.{replicate, ◌==◌}
 use Rattle.std.proofs.lemmas.Bool.Decides.{nat_tests}
-use Rattle.log_text.specs.Digits.{is_between}
+use Rattle.text_digits.specs.Numerals.{is_between}
 use Rattle.log_text.specs.Fields.{place_of}
 use Rattle.log_text.specs.Iface.{is_printable, iface_of, name_of}
 use Rattle.log_text.specs.declared.iface.Iface.{Iface}

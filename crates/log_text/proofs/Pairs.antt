@@ -6,7 +6,8 @@ use Rattle.bus_frame.specs.Frames.{CanFrame}
 use Rattle.log_text.specs.Fields.{next_word}
 use Rattle.log_text.specs.Screen.{byte_of, bytes_in}
 use Rattle.std.proofs.lemmas.Bool.Decides.{nat_tests}
-use Rattle.log_text.specs.Digits.{pairs_of, pair_of, data_of}
+use Rattle.text_digits.specs.Numerals.{pairs_of, pair_of}
+use Rattle.log_text.specs.Digits.{data_of}
 
 no_bytes : (s : List ℕ) → length s ≡ 0 → s ≡ []
 no_bytes [] h = refl

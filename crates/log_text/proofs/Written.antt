@@ -4,7 +4,8 @@ use Rattle.std.specs.Prelude.{◌==◌}
 use Rattle.std.proofs.lemmas.Bool.{ne_eqb}
 use Rattle.std.proofs.lemmas.Bool.Decides.{nat_tests}
 use Rattle.bus_frame.specs.Frames.{CanFrame}
-use Rattle.log_text.specs.Digits.{◌>>=◌, numeral_from, data_of}
+use Rattle.text_digits.specs.Numerals.{◌>>=◌, numeral_from}
+use Rattle.log_text.specs.Digits.{data_of}
 use Rattle.text_digits.specs.Digits.{digits, digit_char, unspaced}
 use Rattle.log_text.specs.Fields.{cut_at, next_word}
 use Rattle.log_text.specs.Iface.{iface_of, name_of}

@@ -1,6 +1,6 @@
 -- Fields of a line: what stands between marks and spaces.
 use Rattle.std.specs.Prelude.{ℕ, ◌+◌, List, [], ◌∷◌, length, take, drop, Option, Some, None, ◌==◌, if◌then◌else◌, option_map, unwrap_or}
-use Rattle.log_text.specs.Digits.{◌>>=◌}
+use Rattle.text_digits.specs.Numerals.{◌>>=◌}
 
 -- the place of the first byte of this value, from 0
 abbrev pub place_of : ℕ → List ℕ → Option ℕ

@@ -1,6 +1,6 @@
 -- Names of interfaces.
 use Rattle.std.specs.Prelude.{ℕ, ◌-◌, List, [], ◌∷◌, ◌++◌, length, take, replicate, Bool, true, ◌&&◌, ◌||◌, Option, Some, None, ◌==◌, nat_lt, if◌then◌else◌, unwrap_or, codes}
-use Rattle.log_text.specs.Digits.{is_between}
+use Rattle.text_digits.specs.Numerals.{is_between}
 use Rattle.log_text.specs.Fields.{place_of}
 use Rattle.log_text.specs.declared.iface.Iface.{Iface}
 

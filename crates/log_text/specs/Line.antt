@@ -1,6 +1,7 @@
 -- What a line of a log shows, in the form (SECONDS.MICROS) IFACE ID#HEX. None is not a log line.
 use Rattle.std.specs.Prelude.{ℕ, ◌+◌, ◌*◌, ◌^◌, List, [], ◌∷◌, length, Bool, true, false, ◌&&◌, ◌||◌, not, Option, Some, None, ◌==◌, nat_lt, nat_le, if◌then◌else◌, unwrap_or}
-use Rattle.log_text.specs.Digits.{◌>>=◌, numeral_from, data_of}
+use Rattle.text_digits.specs.Numerals.{◌>>=◌, numeral_from}
+use Rattle.log_text.specs.Digits.{data_of}
 use Rattle.log_text.specs.Fields.{cut_at, next_word}
 use Rattle.log_text.specs.Iface.{iface_of}
 use Rattle.log_text.specs.Screen.{screen_frame}

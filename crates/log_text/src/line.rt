@@ -2,11 +2,12 @@
 ghost use Rattle.std.specs.Prelude.{◌≡◌, MatchResult, Some, None};
 ghost use Rattle.log_text.specs.Line.{time_of, time_word, is_mark, is_ended, is_other, long_frame, frame_line, behind_time, timed_line, log_line};
 
-use crate::digits::{frame, numeral};
+use crate::digits::frame;
 use crate::fields::{cut_at, next_word};
 use crate::iface::Iface;
 use crate::screen::screen_frame;
 use bus_frame::{CanId, Frame};
+use text_digits::read_numeral;
 use thiserror::Error;
 
 /// What a line of a log shows.
@@ -44,8 +45,8 @@ fn time(seconds: &[u8], micros: &[u8]) -> Option<u64>
     if seconds.is_empty() || micros.len() != MICROS {
         return None;
     }
-    let seconds = numeral(10, seconds)?;
-    let micros = numeral(10, micros)?;
+    let seconds = read_numeral(10, seconds)?;
+    let micros = read_numeral(10, micros)?;
     seconds.checked_mul(SECOND)?.checked_add(micros)
 }
 
@@ -94,7 +95,7 @@ fn is_other(shown: &[u8]) -> bool
 fn long_frame(time: u64, iface: Iface, id: &[u8], shown: &[u8]) -> Option<LogLine>
     ensures { result ≡ long_frame time iface id.now shown.now }
 {
-    let number = numeral(16, id)?;
+    let number = read_numeral(16, id)?;
     if is_other(shown) || number >= ID_END {
         return Some(LogLine::Passed);
     }
@@ -115,7 +116,7 @@ fn frame_line(time: u64, iface: Iface, word: &[u8]) -> Option<LogLine>
     let (id, shown) = cut_at(b'#', word)?;
     match id.len() {
         3 => {
-            let _number = numeral(16, id)?;
+            let _number = read_numeral(16, id)?;
             Some(LogLine::Passed)
         }
         8 => long_frame(time, iface, id, shown),

@@ -2,11 +2,11 @@
 ghost use Rattle.std.specs.Prelude.{◌≡◌, ◌≤◌, option_map, IfSome};
 ghost use Rattle.log_text.specs.Screen.{count_of, byte_of, bytes_in, screen_frame};
 
-use crate::digits::{numeral, pair};
 use crate::fields::next_word;
 use crate::iface::Iface;
 use crate::line::{ID_END, LogLine};
 use bus_frame::{CanId, Frame};
+use text_digits::{read_numeral, read_pair};
 
 /// How many bytes there are to be: a digit up to 8 in square brackets.
 fn count(word: &[u8]) -> Option<usize>
@@ -30,7 +30,7 @@ fn byte(word: &[u8]) -> Option<u8>
     let [first, second] = word else {
         return None;
     };
-    pair(*first, *second)
+    read_pair(*first, *second)
 }
 
 /// The frame with this identifier whose bytes, so many, are words of two digits, with nothing behind them.
@@ -64,7 +64,7 @@ pub(crate) fn screen_frame(line: &[u8]) -> Option<LogLine>
     if digits.len() != 8 {
         return None;
     }
-    let number = numeral(16, digits)?;
+    let number = read_numeral(16, digits)?;
     if number >= ID_END {
         return None;
     }

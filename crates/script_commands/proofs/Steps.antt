@@ -5,7 +5,7 @@ use Rattle.std.proofs.lemmas.List.{get_or-map, length-map, drop_all}
 use Rattle.script_commands.specs.Words.{texts}
 use Rattle.std.proofs.lemmas.List.{append-nil}
 use Rattle.std.specs.Prelude.{option_map}
-use Rattle.script_commands.specs.Words.{data_word, pair_of}
+use Rattle.text_digits.specs.Numerals.{pairs_of, pair_of}
 use Rattle.pgn_ids.specs.declared.address.Address.{Address}
 use Rattle.script_commands.specs.Values.{address_of, addresses_of, ◌>>=◌, Fails}
 use Rattle.script_commands.specs.declared.fault.Fault.{Fault}
@@ -61,24 +61,24 @@ data_regroup : (front : List ℕ) (b : ℕ) (read : Option (List ℕ)) → with_
 data_regroup front b None = refl
 data_regroup front b (Some others) = ap Some (sym (append_assoc front (b ∷ []) others))
 
-data_step : (a b byte : ℕ) (rest : List ℕ) → pair_of a b ≡ Some byte → data_word (a ∷ b ∷ rest) ≡ with_data (byte ∷ []) (data_word rest)
-unfolding data_word
-data_step a b byte rest e = rw e (elim (data_word rest) as (λ r. option_map (λ others. byte ∷ others) r ≡ with_data (byte ∷ []) r) [ None ↦ refl | Some others ↦ refl ])
+data_step : (a b byte : ℕ) (rest : List ℕ) → pair_of a b ≡ Some byte → pairs_of (a ∷ b ∷ rest) ≡ with_data (byte ∷ []) (pairs_of rest)
+unfolding pairs_of
+data_step a b byte rest e = rw e (elim (pairs_of rest) as (λ r. option_map (λ others. byte ∷ others) r ≡ with_data (byte ∷ []) r) [ None ↦ refl | Some others ↦ refl ])
 
 pub data_read : (front : List ℕ) (a b byte : ℕ) (word after rest : List ℕ) (all : Option (List ℕ)) → word ≡ a ∷ after → after ≡ b ∷ rest → pair_of a b ≡ Some byte
-    → with_data front (data_word word) ≡ all → with_data (front ++ byte ∷ []) (data_word rest) ≡ all
+    → with_data front (pairs_of word) ≡ all → with_data (front ++ byte ∷ []) (pairs_of rest) ≡ all
 data_read front a b byte word after rest all w v e so_far =
-    let one : data_word word ≡ with_data (byte ∷ []) (data_word rest) = rw (w, v) (data_step a b byte rest e) in
-    sym (ap (with_data front) one ∙ data_regroup front byte (data_word rest)) ∙ so_far
+    let one : pairs_of word ≡ with_data (byte ∷ []) (pairs_of rest) = rw (w, v) (data_step a b byte rest e) in
+    sym (ap (with_data front) one ∙ data_regroup front byte (pairs_of rest)) ∙ so_far
 
-pub data_odd : (front : List ℕ) (a : ℕ) (word after : List ℕ) (all : Option (List ℕ)) → word ≡ a ∷ after → length after ≡ 0 → with_data front (data_word word) ≡ all → None ≡ all
-unfolding data_word
-data_odd front a word after all w v so_far = let one : with_data front (data_word word) ≡ None = rw (w, no_bytes after v) refl in sym one ∙ so_far
+pub data_odd : (front : List ℕ) (a : ℕ) (word after : List ℕ) (all : Option (List ℕ)) → word ≡ a ∷ after → length after ≡ 0 → with_data front (pairs_of word) ≡ all → None ≡ all
+unfolding pairs_of
+data_odd front a word after all w v so_far = let one : with_data front (pairs_of word) ≡ None = rw (w, no_bytes after v) refl in sym one ∙ so_far
 
-pub data_bad : (front : List ℕ) (a b : ℕ) (word after rest : List ℕ) (all : Option (List ℕ)) → word ≡ a ∷ after → after ≡ b ∷ rest → pair_of a b ≡ None → with_data front (data_word word) ≡ all → None ≡ all
-unfolding data_word
-data_bad front a b word after rest all w v e so_far = let one : with_data front (data_word word) ≡ None = rw (w, v, e) refl in sym one ∙ so_far
+pub data_bad : (front : List ℕ) (a b : ℕ) (word after rest : List ℕ) (all : Option (List ℕ)) → word ≡ a ∷ after → after ≡ b ∷ rest → pair_of a b ≡ None → with_data front (pairs_of word) ≡ all → None ≡ all
+unfolding pairs_of
+data_bad front a b word after rest all w v e so_far = let one : with_data front (pairs_of word) ≡ None = rw (w, v, e) refl in sym one ∙ so_far
 
-pub data_end : (front word : List ℕ) (all : Option (List ℕ)) → length word ≡ 0 → with_data front (data_word word) ≡ all → Some front ≡ all
-unfolding data_word
-data_end front word all w so_far = let one : with_data front (data_word word) ≡ Some front = rw (no_bytes word w) (ap Some (append-nil front)) in sym one ∙ so_far
+pub data_end : (front word : List ℕ) (all : Option (List ℕ)) → length word ≡ 0 → with_data front (pairs_of word) ≡ all → Some front ≡ all
+unfolding pairs_of
+data_end front word all w so_far = let one : with_data front (pairs_of word) ≡ Some front = rw (no_bytes word w) (ap Some (append-nil front)) in sym one ∙ so_far

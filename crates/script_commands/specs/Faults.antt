@@ -1,5 +1,5 @@
 -- What is wrong with a line of a script.
-use Rattle.std.specs.Prelude.{ℕ, List, nat_lt, if◌then◌else◌, codes}
+use Rattle.std.specs.Prelude.{ℕ, List, codes}
 use Rattle.script_commands.specs.declared.fault.Fault.{Fault}
 use Rattle.script_commands.specs.declared.fault.Fault.TheVariants.{TooManyLines, LineTooLong, NotAscii, UnknownCommand, WrongNumberOfWords, BadWord, NoStations, StationsTwice}
 
@@ -12,7 +12,3 @@ fault_text WrongNumberOfWords = codes "wrong number of words"
 fault_text BadWord = codes "bad word"
 fault_text NoStations = codes "no stations"
 fault_text StationsTwice = codes "stations twice"
-
--- that of a line n that is too long
-abbrev pub limit_fault : ℕ → Fault
-limit_fault n = if nat_lt 1000000 n then TooManyLines else LineTooLong

@@ -3,7 +3,8 @@ use Rattle.std.specs.Prelude.{◌≡◌, ℕ, zero, suc, ◌+◌, ◌-◌, ◌%�
 use Rattle.std.specs.Str.{bytes_eq}
 use Rattle.pgn_ids.specs.declared.address.Address.{Address}
 use Rattle.port_table.specs.declared.port.PortId.{PortId}
-use Rattle.script_commands.specs.Words.{decimal_word, hex_word, data_word, dot_in}
+use Rattle.text_digits.specs.Numerals.{pairs_of}
+use Rattle.script_commands.specs.Words.{decimal_word, hex_word, dot_in}
 use Rattle.script_commands.specs.declared.fault.Fault.{Fault}
 use Rattle.script_commands.specs.declared.fault.Fault.TheVariants.{WrongNumberOfWords, BadWord}
 use Rattle.script_commands.specs.declared.fault.LineError.{LineError}
@@ -55,7 +56,7 @@ id_of word = or_bad (at_most 4294967295 (hex_word 8 word))
 
 -- pairs of digits
 abbrev pub data_of : List ℕ → Result (List ℕ) Fault
-data_of word = or_bad (data_word word)
+data_of word = or_bad (pairs_of word)
 
 -- a port, as 35.1: the address of its station, and its number there
 unfoldable pub port_of : List ℕ → Result PortId Fault

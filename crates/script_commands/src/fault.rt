@@ -1,6 +1,6 @@
 //! What is wrong with a line of a script.
 ghost use Rattle.std.specs.Prelude.{◌≡◌, Some};
-ghost use Rattle.script_commands.specs.Faults.{fault_text, limit_fault};
+ghost use Rattle.script_commands.specs.Faults.{fault_text};
 ghost use Rattle.script_commands.specs.declared.fault.LineError.TheVariants.{OutOfMemory};
 
 use std::alloc::{AllocError, AllocFailed};
@@ -41,20 +41,6 @@ impl fmt::Display for Fault {
             Fault::NoStations => write!(f, "no stations"),
             Fault::StationsTwice => write!(f, "stations twice"),
         }
-    }
-}
-
-/// The most lines that a script may have.
-pub const MAX_LINES: u64 = 1_000_000;
-
-/// The fault of a line that is too long. Lines count from 1.
-pub fn limit_fault(line: u64) -> Fault
-    ensures { result ≡ limit_fault line }
-{
-    if line > MAX_LINES {
-        Fault::TooManyLines
-    } else {
-        Fault::LineTooLong
     }
 }
 

@@ -15,6 +15,6 @@ mod words;
 pub use addresses::Addresses;
 pub use command::{Command, read_command};
 pub use ending::{Cause, ScriptFault, cause_of, read_cause};
-pub use fault::{Fault, LineError, MAX_LINES, limit_fault};
+pub use fault::{Fault, LineError};
 pub use route::{RouteWords, read_route};
 pub use words::{is_ascii, split_words};

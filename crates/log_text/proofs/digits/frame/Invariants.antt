@@ -1,5 +1,5 @@
 use Rattle.std.proofs.Common.{◌≡◌, ◌+◌, ◌*◌, length, take}
-use Rattle.log_text.specs.Digits.{pairs_of}
+use Rattle.text_digits.specs.Numerals.{pairs_of}
 use Rattle.log_text.proofs.Pairs.{with_front}
 use Rattle.log_text.proofs.digits.frame.Given as goal
 

@@ -1,0 +1,49 @@
+//! Numbers and bytes that digits write: 0 to 9, A to F, a to f.
+ghost use Rattle.std.specs.Prelude.{◌≡◌, ◌<◌, ◌≤◌, IfSome};
+ghost use Rattle.text_digits.specs.Numerals.{digit_of, put_digit, numeral_from, pair_of};
+
+fn digit(byte: u8) -> Option<u8>
+    ensures value { result ≡ digit_of byte }
+    ensures small { IfSome result (λ d. d < 16) }
+{
+    match byte {
+        b'0'..=b'9' => Some(byte - b'0'),
+        b'A'..=b'F' => Some(byte - b'A' + 10),
+        b'a'..=b'f' => Some(byte - b'a' + 10),
+        _ => None,
+    }
+}
+
+fn with_digit(base: u8, number: u64, byte: u8) -> Option<u64>
+    requires { base ≤ 16 }
+    ensures { result ≡ put_digit base number byte }
+{
+    let digit = digit(byte)?;
+    if digit >= base {
+        return None;
+    }
+    number
+        .checked_mul(u64::from(base))?
+        .checked_add(u64::from(digit))
+}
+
+/// The number that digits of a base write, below 2 ^ 64. No digit writes 0.
+pub fn read_numeral(base: u8, digits: &[u8]) -> Option<u64>
+    requires { base ≤ 16 }
+    ensures { result ≡ numeral_from base 0 digits.now }
+{
+    let mut number = 0;
+    for byte in digits {
+        number = with_digit(base, number, *byte)?;
+    }
+    Some(number)
+}
+
+/// A byte of two hexadecimal digits.
+pub fn read_pair(first: u8, second: u8) -> Option<u8>
+    ensures { result ≡ pair_of first second }
+{
+    let high = digit(first)?;
+    let low = digit(second)?;
+    Some(16 * high + low)
+}
