@@ -1,10 +1,10 @@
 //! Scripts with their exact text. A run that is refused memory is made again, so that the tests pass whichever one allocation
 //! is refused.
+mod failing;
+mod faults;
+
 use bus_script::{Cause, Ran, ScriptFault, run_script};
 use std::alloc::Global;
-use std::cell::Cell;
-use std::io;
-use std::io::{BufReader, Error, ErrorKind, Read, Write};
 use std::process::Abort;
 use std::test::Fail;
 
@@ -82,6 +82,20 @@ fn fault_line(alloc: Global, fault: ScriptFault) -> Result<String, Fail> {
         Ok(line) => Ok(line),
         Err(_) => Ok(format!(in alloc; "{fault}")?),
     }
+}
+
+/// The most bytes that a test puts behind those of `many`.
+const BEHIND: usize = 8193;
+
+/// So many bytes, each the same, with room for those that a test puts behind them.
+fn many(alloc: Global, byte: u8, count: usize) -> Result<Vec<u8>, Fail> {
+    let mut bytes = Vec::new(alloc);
+    let room = count.saturating_add(1 + BEHIND);
+    if bytes.reserve(room).is_err() {
+        bytes.reserve(room)?;
+    }
+    bytes.resize(count, byte)?;
+    Ok(bytes)
 }
 
 const REFUSALS: (&str, &str) = (
@@ -247,228 +261,4 @@ fn a_refused_value_makes_no_call(rt: HostRuntime) -> Result<(), Fail> {
         frames 0 malformed 0 repeated 0 given 0 Acknowledged 0 Broadcast 0 Aborted 0 TimedOut 0 Overrun 0 Cancelled 0 \
         Unreachable 0\n";
     shows(&rt, rt.alloc(), script, text, "")
-}
-
-#[test]
-fn each_fault_has_its_line(rt: HostRuntime) -> Result<(), Fail> {
-    let alloc = rt.alloc();
-    let first_lines: [(&[u8], &str); 22] = [
-        (b"tick \xC3\xA9", "line 1: not ASCII"),
-        (b"Tick 1", "line 1: unknown command"),
-        (b"\n \n\nlive", "line 4: unknown command"),
-        (b"stations", "line 1: wrong number of words"),
-        (b"open GG FECA", "line 1: wrong number of words"),
-        (b"counts 1", "line 1: wrong number of words"),
-        (b"take 21 noroom noroom", "line 1: wrong number of words"),
-        (b"open 35 GECA 1", "line 1: bad word"),
-        (b"open 035 FECA 1", "line 1: bad word"),
-        (b"open 35 FECA 4294967296", "line 1: bad word"),
-        (b"tick 18446744073709551616", "line 1: bad word"),
-        (b"tick -1", "line 1: bad word"),
-        (b"take 21 room", "line 1: bad word"),
-        (b"send 21 FF FECA 010", "line 1: bad word"),
-        (b"send 21 FF FECA fill", "line 1: bad word"),
-        (b"send 21 FF FECA fil 9", "line 1: bad word"),
-        (b"send 21 FF FECA fill 117440507", "line 1: bad word"),
-        (b"close 35", "line 1: bad word"),
-        (b"close 35.", "line 1: bad word"),
-        (b"close 35.1.1", "line 1: bad word"),
-        (b"tick 1", "line 1: no stations"),
-        (b"open 35 EC21 1", "line 1: no stations"),
-    ];
-    for (script, fault) in first_lines {
-        shows(&rt, alloc, script, "", fault)?;
-    }
-    for script in [
-        "stations 21\nstations 21",
-        "stations 21\nstations FE\ntick 1",
-    ] {
-        shows(
-            &rt,
-            alloc,
-            script.as_bytes(),
-            "done\n",
-            "line 2: stations twice",
-        )?;
-    }
-    Ok(())
-}
-
-/// The most bytes that a test puts behind those of `many`.
-const BEHIND: usize = 8193;
-
-/// So many bytes, each the same, with room for those that a test puts behind them.
-fn many(alloc: Global, byte: u8, count: usize) -> Result<Vec<u8>, Fail> {
-    let mut bytes = Vec::new(alloc);
-    let room = count.saturating_add(1 + BEHIND);
-    if bytes.reserve(room).is_err() {
-        bytes.reserve(room)?;
-    }
-    bytes.resize(count, byte)?;
-    Ok(bytes)
-}
-
-#[test]
-fn lines_have_their_limits(rt: HostRuntime) -> Result<(), Fail> {
-    let alloc = rt.alloc();
-    let mut script = many(alloc, b' ', 8192)?;
-    shows(&rt, alloc, script.as_slice(), "", "")?;
-    script.push(b' ')?;
-    shows(&rt, alloc, script.as_slice(), "", "line 1: line too long")?;
-    let mut script = many(alloc, b'\n', 1_000_000)?;
-    shows(&rt, alloc, script.as_slice(), "", "")?;
-    script.push(b'x')?;
-    shows(
-        &rt,
-        alloc,
-        script.as_slice(),
-        "",
-        "line 1000001: too many lines",
-    )?;
-    let long = many(alloc, b' ', BEHIND)?;
-    script.extend_from_slice(long.as_slice())?;
-    shows(
-        &rt,
-        alloc,
-        script.as_slice(),
-        "",
-        "line 1000001: too many lines",
-    )
-}
-
-/// Gives its text a few bytes at a time, and fails where it ends.
-#[derive(Drop)]
-struct Breaking<'a> {
-    text: &'a [u8],
-}
-
-impl Read for Breaking<'_> {
-    fn read(&mut self, buf: &mut [u8]) -> io::Result<usize> {
-        if self.text.is_empty() {
-            return Err(Error::from(ErrorKind::Other));
-        }
-        self.text.read(buf)
-    }
-}
-
-#[test]
-fn a_failed_read_ends_the_script(rt: HostRuntime) -> Result<(), Fail> {
-    let alloc = rt.alloc();
-    let mut out = many(alloc, b' ', 0)?;
-    let breaking = Breaking {
-        text: b"stations 21\ntick 5\nti",
-    };
-    let mut reader = BufReader::new(alloc, breaking)?;
-    let ran = run_script(alloc, &mut reader, &mut out);
-    let fault = ran.fault.expect(&rt, "a fault");
-    if fault.cause != Cause::OutOfMemory {
-        assert_eq!(rt; fault.cause, Cause::ReadFailed);
-        assert_eq!(rt; fault.line, 3);
-        assert_eq!(rt; ran.status(), 1);
-        let told = fault_line(alloc, fault)?;
-        assert_eq!(rt; told.as_str(), "line 3: read failed");
-    }
-    Ok(())
-}
-
-/// Takes so many writes, and fails then; it holds what it took, for which it has the room beforehand.
-#[derive(Drop)]
-struct Failing {
-    writes: u64,
-    taken: Vec<u8>,
-}
-
-impl Write for Failing {
-    fn write(&mut self, buf: &[u8]) -> io::Result<usize> {
-        if self.writes == 0 {
-            return Err(Error::from(ErrorKind::StorageFull));
-        }
-        self.writes -= 1;
-        self.taken.write(buf)
-    }
-
-    fn flush(&mut self) -> io::Result<()> {
-        Ok(())
-    }
-}
-
-#[test]
-fn a_failed_write_ends_the_script(rt: HostRuntime) -> Result<(), Fail> {
-    let alloc = rt.alloc();
-    let mut writer = Failing {
-        writes: 1,
-        taken: Vec::with_capacity(alloc, 5)?,
-    };
-    let script = b"stations 21\n\ntick 5\ntick 6";
-    let ran = run_script(alloc, &mut script.as_slice(), &mut writer);
-    let fault = ran.fault.expect(&rt, "a fault");
-    if fault.cause != Cause::OutOfMemory && !ran.memory_refused {
-        assert_eq!(rt; fault.cause, Cause::WriteFailed);
-        assert_eq!(rt; ran.status(), 1);
-        let told = fault_line(alloc, fault)?;
-        assert_eq!(rt; told.as_str(), "write failed");
-        assert_eq!(rt; writer.taken.as_slice(), b"done\n".as_slice());
-    }
-    Ok(())
-}
-
-/// Gives a line only where all replies to the lines before were flushed.
-#[derive(Drop)]
-struct Asking<'a> {
-    text: &'a [u8],
-    owed: &'a Cell<u64>,
-}
-
-impl Read for Asking<'_> {
-    fn read(&mut self, buf: &mut [u8]) -> io::Result<usize> {
-        if self.owed.get() > 0 {
-            return Err(Error::from(ErrorKind::Other));
-        }
-        let Some((byte, rest)) = self.text.split_first() else {
-            return Ok(0);
-        };
-        let Some(place) = buf.first_mut() else {
-            return Ok(0);
-        };
-        *place = *byte;
-        self.text = rest;
-        if *byte == b'\n' {
-            self.owed.set(1);
-        }
-        Ok(1)
-    }
-}
-
-/// Counts a flush as the reply that is owed.
-#[derive(Drop)]
-struct Answering<'a> {
-    owed: &'a Cell<u64>,
-}
-
-impl Write for Answering<'_> {
-    fn write(&mut self, buf: &[u8]) -> io::Result<usize> {
-        Ok(buf.len())
-    }
-
-    fn flush(&mut self) -> io::Result<()> {
-        self.owed.set(0);
-        Ok(())
-    }
-}
-
-#[test]
-fn a_reply_is_flushed_before_the_next_line_is_read(rt: HostRuntime) -> Result<(), Fail> {
-    let owed = Cell::new(0);
-    let asking = Asking {
-        text: b"stations 21\ntick 5\ntick 6\n",
-        owed: &owed,
-    };
-    let mut reader = BufReader::new(rt.alloc(), asking)?;
-    let mut writer = Answering { owed: &owed };
-    let ran = run_script(rt.alloc(), &mut reader, &mut writer);
-    let refused = ran
-        .fault
-        .is_some_and(|fault| fault.cause == Cause::OutOfMemory);
-    assert!(rt; refused || ran.fault.is_none());
-    Ok(())
 }

@@ -162,12 +162,9 @@ counts\n",
     exchange.is_shown(&rt, alloc)
 }
 
-#[test]
-fn a_paused_port_holds_the_connection(rt: HostRuntime) -> Result<(), Fail> {
-    let alloc = rt.alloc();
-    let mut exchange = Exchange::new(alloc)?;
-    exchange.lines(
-        "pause 35.1\n\
+/// A port that is paused twice and resumed twice: a connection to it opens, is held, and goes on.
+const PAUSED: (&str, &str) = (
+    "pause 35.1\n\
 pause 35.1\n\
 send 21 35 FECA fill 200\n\
 drive 21 35 2\n\
@@ -179,7 +176,7 @@ resume 35.1\n\
 tick 500\n\
 fire 35\n\
 drive 21 35 32\n",
-        "done\n\
+    "done\n\
 refused 27 PortPaused\n\
 sent 1\n\
 drove 2 turns\n\
@@ -194,7 +191,13 @@ refused 28 PortNotPaused\n\
 done\n\
 done\n\
 drove 32 turns\n",
-    )?;
+);
+
+#[test]
+fn a_paused_port_holds_the_connection(rt: HostRuntime) -> Result<(), Fail> {
+    let alloc = rt.alloc();
+    let mut exchange = Exchange::new(alloc)?;
+    exchange.lines(PAUSED.0, PAUSED.1)?;
     exchange.prints_grant(16, 1)?;
     exchange.prints_packets(1..=16, 200)?;
     exchange.prints_grant(13, 17)?;
