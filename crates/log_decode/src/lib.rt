@@ -6,7 +6,6 @@
 //! memory is refused; what it leaves then is not said.
 #![tactic(auto)]
 
-mod bytes;
 mod decoder;
 mod key;
 mod session;
@@ -14,8 +13,8 @@ mod sessions;
 mod silence;
 mod told;
 
-pub use bytes::Bytes;
 pub use decoder::Decoder;
 pub use key::{Key, Transport};
+pub use message_events::Bytes;
 pub use session::Session;
 pub use told::{Cause, Told};

@@ -5,9 +5,9 @@ ghost use Rattle.log_decode.specs.Session.{opened, accepted, renewed, packet_hea
 ghost use Rattle.log_decode.specs.declared.session.Fate.TheVariants.{GoesOn, Lost};
 ghost use Rattle.tick_timers.specs.declared.durations.TheConstants.{T1};
 
-use crate::bytes::Bytes;
 use crate::key::Key;
 use crate::told::{Cause, Told};
+use message_events::Bytes;
 use pgn_ids::{Address, Pgn, WirePgn};
 use seg_cut::Join;
 use std::alloc::{AllocError, Global};

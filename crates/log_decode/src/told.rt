@@ -1,6 +1,6 @@
 //! What a listener is told.
-use crate::bytes::Bytes;
 use crate::key::Key;
+use message_events::Bytes;
 use pgn_ids::{Address, Pgn};
 
 /// Why a message is lost to the listener.

@@ -65,6 +65,14 @@ pub fn submit_refusal(from: Address, to: Address, len: usize) -> Option<Refusal>
     None
 }
 
+// The refusal, or want of memory, with the bytes that come back.
+fn refused(refusal: Option<Refusal>, bytes: Bytes) -> SubmitRefused
+    ensures refusal { result.refusal ≡ refusal }
+    ensures bytes { result.bytes ≡ bytes }
+{
+    SubmitRefused { refusal, bytes }
+}
+
 impl Client {
     ghost use Rattle.std.specs.Prelude.{◌≡◌, ◌+◌, ◌<◌, [], ◌≤◌, length, IfOk, OnOk, OnErr, IfErr, MatchOption, Option, Some, None, ◌⊎◌};
     ghost use Rattle.rtrb.specs.Ring.{sent, received, known_free};
@@ -125,34 +133,19 @@ impl Client {
         ensures err { OnErr result (SameClient self.old self.new) }
     {
         let Ok(pgn) = Pgn::new(pgn) else {
-            return Err(SubmitRefused {
-                refusal: Some(Refusal::BadPgn),
-                bytes,
-            });
+            return Err(refused(Some(Refusal::BadPgn), bytes));
         };
         if let Some(refusal) = submit_refusal(self.station, to, bytes.len()) {
-            return Err(SubmitRefused {
-                refusal: Some(refusal),
-                bytes,
-            });
+            return Err(refused(Some(refusal), bytes));
         }
         if self.submissions.is_full() {
-            return Err(SubmitRefused {
-                refusal: Some(Refusal::RingFull),
-                bytes,
-            });
+            return Err(refused(Some(Refusal::RingFull), bytes));
         }
         if self.submitted.reserve(1).is_err() {
-            return Err(SubmitRefused {
-                refusal: None,
-                bytes,
-            });
+            return Err(refused(None, bytes));
         }
         let Ok(copy) = bytes.copy(self.alloc) else {
-            return Err(SubmitRefused {
-                refusal: None,
-                bytes,
-            });
+            return Err(refused(None, bytes));
         };
         self.submissions
             .push_reserved(Submission { to, pgn, bytes });

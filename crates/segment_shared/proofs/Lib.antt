@@ -5,6 +5,7 @@ pub mod Working
 pub mod Doors
 pub mod Buffers
 pub mod Preparing
+pub mod SeatsSame
 pub mod Holding
 pub mod Pieces
 pub mod Replays

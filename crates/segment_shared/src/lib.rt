@@ -18,6 +18,7 @@ mod hand;
 mod live;
 mod offer;
 mod places;
+mod readers;
 mod refused;
 mod rejoining;
 mod report;

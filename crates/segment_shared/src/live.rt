@@ -5,15 +5,15 @@ ghost use Rattle.segment_shared.specs.LiveView.{is_station_of, clients_at, clien
 use crate::call::{Owed, Stored, WorkerCall};
 use crate::calls::Calls;
 use crate::offer::{Ready, make_ready, store};
-use crate::places::{Found, door_of, find_places};
+use crate::places::{Found, find_places};
 use crate::refused::{Accepted, NotMade};
 use crate::step::{make, make_in_place, refusal_for};
 use crate::tell::tell;
 use crate::wanted::wanted_of;
 use pgn_ids::{Address, Pgn};
-use segment_core::{Call, Events, NewRefused, PortId, Refusal, Reply, Segment, the_headline_holds};
+use segment_core::{Call, Events, NewRefused, Refusal, Reply, Segment, the_headline_holds};
 use segment_law::Counts;
-use segment_rings::{Client, Delivery, Door, Doorway, Inbox, Note, Seat};
+use segment_rings::{Client, Door, Doorway, Inbox, Seat};
 use std::alloc::{AllocError, Global};
 use std::marker::Model;
 
@@ -48,18 +48,17 @@ impl Model for Live {
 }
 
 impl Live {
-    ghost use Rattle.std.specs.Prelude.{◌≡◌, ◌≤◌, ◌<◌, [], length, Bool, true, false, IfOk, OnErr, IfErr, Ok, MatchOption, slice_index_or};
+    ghost use Rattle.std.specs.Prelude.{◌≡◌, ◌≤◌, ◌<◌, [], Bool, true, false, IfOk, OnErr, IfErr, Ok};
     ghost use Rattle.segment_law.specs.Headline.{Headline};
     ghost use Rattle.segment_law.specs.Record.{StandsAt};
     ghost use Rattle.std.specs.Bool.{OnTrue, OnFalse};
     ghost use Rattle.segment_law.specs.declared.reply.Reply.TheVariants.{Refused, Done};
     ghost use Rattle.segment_law.specs.declared.refusal.Refusal.TheVariants.{TraceFull};
-    ghost use Rattle.segment_shared.specs.Record.{trail, accepted, given, notes_of};
-    ghost use Rattle.segment_shared.specs.LiveView.{ClientView, live_view, keep, stored_calls, since_cut, halted, SameLive, Applied, LacksMemory, Attached, Laws, OpenedFor, IsOpenCause};
+    ghost use Rattle.segment_shared.specs.Record.{trail};
+    ghost use Rattle.segment_shared.specs.LiveView.{live_view, keep, stored_calls, since_cut, halted, SameLive, Applied, LacksMemory, Attached, Laws, OpenedFor, IsOpenCause};
     ghost use Rattle.segment_shared.specs.Offers.{AcceptedAs, LacksMemoryFor};
     ghost use Rattle.segment_shared.specs.Refusals.{IsAnsweredBy, making_refusal, attaching_refusal};
     ghost use Rattle.std.specs.Result.{result_err};
-    ghost use Rattle.segment_shared.specs.Reports.{HasPort};
 
     /// A new segment with stations of these addresses, no clients and no ports.
     ///
@@ -317,51 +316,6 @@ impl Live {
             Reply::Refused(refusal) => Err(NotMade::Refused(refusal)),
             Reply::Sent(_) => unreachable!(),
             Reply::Done(_) => unreachable!(),
-        }
-    }
-
-    /// How many clients there are; their numbers are those below.
-    pub fn clients(&self) -> u64
-        ensures { result ≡ length self.now.clients }
-    {
-        self.seats.len() as u64
-    }
-
-    /// The station of a client, if there is one with this number.
-    pub fn station_of(&self, client: u64) -> Option<Address>
-        ensures { MatchOption result (length self.now.clients ≤ client) (λ a. (client < length self.now.clients) × ((v : ClientView) → a ≡ (slice_index_or self.now.clients client v).station)) }
-    {
-        if client >= self.seats.len() as u64 {
-            return None;
-        }
-        Some(self.seats[client as usize].station())
-    }
-
-    /// The notes of a client, if there is one with this number.
-    pub fn notes_of(&self, client: u64) -> Option<&[Note]>
-        ensures { MatchOption result (length self.now.clients ≤ client) (λ ns. (client < length self.now.clients) × (ns.now ≡ notes_of client (trail self.now.addresses self.now.calls).noted)) }
-    {
-        if client >= self.seats.len() as u64 {
-            return None;
-        }
-        Some(self.seats[client as usize].notes())
-    }
-
-    // How many messages of a client were accepted.
-    pub(crate) fn taken_of(&self, client: u64) -> usize
-        requires { client < length self.now.clients }
-        ensures { result ≡ length (accepted client self.now.calls) }
-    {
-        self.seats[client as usize].taken() as usize
-    }
-
-    /// What a port was given, if it was opened here.
-    pub fn given_to(&self, port: PortId) -> Option<&[Delivery]>
-        ensures { MatchOption result (HasPort self.now.ports port → ⊥) (λ ds. HasPort self.now.ports port × (ds.now ≡ given port (trail self.now.addresses self.now.calls).events)) }
-    {
-        match door_of(self.doors.as_slice(), port) {
-            Some(k) => Some(self.doors[k].deliveries()),
-            None => None,
         }
     }
 

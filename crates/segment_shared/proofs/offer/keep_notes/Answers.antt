@@ -1,7 +1,7 @@
 use Rattle.std.proofs.Common.{subst}
 use Rattle.segment_rings.specs.Views.{SeatView, SameSeat}
 use Rattle.segment_shared.proofs.Fronts.{same_seat-spare}
-use Rattle.segment_shared.proofs.Holding.{same_seats-set, same_seat-refl}
+use Rattle.segment_shared.proofs.SeatsSame.{same_seats-set, same_seat-refl}
 use Rattle.segment_shared.proofs.offer.keep_notes.Goals as goal
 
 pub returns-clause-same : goal.returns-clause-same

@@ -1,6 +1,6 @@
 use Rattle.std.proofs.Common.{subst}
 use Rattle.segment_rings.specs.Views.{SeatView, SameSeat}
-use Rattle.segment_shared.proofs.Holding.{same_seats-set}
+use Rattle.segment_shared.proofs.SeatsSame.{same_seats-set}
 use Rattle.segment_shared.proofs.offer.look.Goals as goal
 
 pub returns-then-stored-ge-MOST_CALLS-clause-same : goal.returns-then-stored-ge-MOST_CALLS-clause-same

@@ -5,7 +5,8 @@ use Rattle.segment_shared.specs.Past.{count_since}
 use Rattle.segment_shared.specs.declared.offer.Front.{Front}
 use Rattle.segment_shared.specs.Offers.{IsFrontIn, IsSendOf, IsCauseFor, LacksRoomToSend}
 use Rattle.segment_shared.proofs.Fronts.{found_cause, lacks_kept}
-use Rattle.segment_shared.proofs.Holding.{same_seats-trans, on_err}
+use Rattle.segment_shared.proofs.Holding.{on_err}
+use Rattle.segment_shared.proofs.SeatsSame.{same_seats-trans}
 use Rattle.segment_shared.proofs.offer.make_ready.Goals as goal
 
 pub returns-in-Some-clause-ready : goal.returns-in-Some-clause-ready

@@ -16,7 +16,8 @@ use Rattle.segment_shared.specs.Offers.{IsReadyToSend, IsCauseFor, LacksRoomToSe
 use Rattle.segment_shared.proofs.Trails.{accepted_le}
 use Rattle.segment_shared.proofs.Doors.{same_doors-refl}
 use Rattle.segment_shared.proofs.Fronts.{empty_at, waits_at, free_is}
-use Rattle.segment_shared.proofs.Holding.{holds-same, same_live, on_err, clients-same}
+use Rattle.segment_shared.proofs.Holding.{holds-same, same_live, on_err}
+use Rattle.segment_shared.proofs.SeatsSame.{clients-same}
 use Rattle.segment_shared.proofs.Sending.{holds-send, sent_for, refused_send, popped_at, same_front, lacks_memory_for}
 use Rattle.segment_shared.proofs.Openings.{refused_reply}
 use Rattle.segment_shared.proofs.Refusing.{no_cause}

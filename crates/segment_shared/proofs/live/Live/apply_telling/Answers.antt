@@ -20,7 +20,8 @@ use Rattle.segment_shared.proofs.Doors.{apart-same, give_all_unplaced}
 use Rattle.segment_shared.proofs.Openings.{refused_reply}
 use Rattle.segment_shared.proofs.Ready.{found_ready, none_given}
 use Rattle.segment_shared.proofs.Refusing.{lacks_memory}
-use Rattle.segment_shared.proofs.Holding.{holds-same, holds-tell, same_seats-refl, on_err, same_live, ports-same}
+use Rattle.segment_shared.proofs.Holding.{holds-same, holds-tell, on_err, same_live}
+use Rattle.segment_shared.proofs.SeatsSame.{same_seats-refl, ports-same}
 use Rattle.segment_shared.proofs.live.Live.apply_telling.Goals as goal
 
 pub invariant_of-self-in_err-room : goal.invariant_of-self-in_err-room
