@@ -1,5 +1,6 @@
 use bus_frame::{CanId, Frame};
 use pgn_ids::{Address, WirePgn, read_id};
+use std::process::Abort;
 use std::test::Fail;
 use tp_wire::*;
 
@@ -58,158 +59,198 @@ fn means(frame: &Frame, wire: &Wire, from: Address, to: Address) -> bool {
         && is_heard(frame, wire, from, to)
 }
 
-#[test]
-fn rows_are_read_and_written(rt: HostRuntime) -> Result<(), Fail> {
-    let pgn = WirePgn::new(DM1)?;
-    // Each row of the frame table by its identifier, bytes, meaning, source and destination.
-    for (id, bytes, wire, from, to) in [
-        (
-            0x1CEC_3521,
-            [0x10, 0xF9, 0x06, 0xFF, 0xFF, 0xCA, 0xFE, 0x00],
-            Wire::Cm(CmFrame::Rts {
-                size: 1785,
-                packets: 255,
-                most: 255,
-                pgn,
-            }),
-            0x21,
-            0x35,
-        ),
-        (
-            0x1CEC_2135,
-            [0x11, 0x0F, 0xF1, 0xFF, 0xFF, 0xCA, 0xFE, 0x00],
-            Wire::Cm(CmFrame::Cts {
-                granted: 15,
-                next: 241,
-                pgn,
-            }),
-            0x35,
-            0x21,
-        ),
-        (
-            0x1CEC_2135,
-            [0x13, 0xF9, 0x06, 0xFF, 0xFF, 0xCA, 0xFE, 0x00],
-            Wire::Cm(CmFrame::EndOfMsgAck {
-                size: 1785,
-                packets: 255,
-                pgn,
-            }),
-            0x35,
-            0x21,
-        ),
-        (
-            0x1CEC_FF21,
-            [0x20, 0x09, 0x00, 0x02, 0xFF, 0xCA, 0xFE, 0x00],
-            Wire::Cm(CmFrame::Bam {
-                size: 9,
-                packets: 2,
-                pgn,
-            }),
-            0x21,
-            0xFF,
-        ),
-        (
-            0x1CEC_3521,
-            [0xFF, 0x03, 0xFF, 0xFF, 0xFF, 0xCA, 0xFE, 0x00],
-            Wire::Cm(CmFrame::Abort { reason: 3, pgn }),
-            0x21,
-            0x35,
-        ),
-        (
-            0x1CEB_FF21,
-            [0x01, 0x01, 0x02, 0x03, 0x04, 0x05, 0x06, 0x07],
-            Wire::Packet {
-                kind: Kind::Tp,
-                sequence: 1,
-                bytes: [1, 2, 3, 4, 5, 6, 7],
-            },
-            0x21,
-            0xFF,
-        ),
-        (
-            0x1CC8_3521,
-            [0x14, 0xFA, 0x06, 0x00, 0x00, 0xCA, 0xFE, 0x00],
-            Wire::Cm(CmFrame::EtpRts { size: 1786, pgn }),
-            0x21,
-            0x35,
-        ),
-        (
-            0x1CC8_3521,
-            [0x14, 0xF9, 0xFF, 0xFF, 0x06, 0xCA, 0xFE, 0x00],
-            Wire::Cm(CmFrame::EtpRts {
-                size: 117_440_505,
-                pgn,
-            }),
-            0x21,
-            0x35,
-        ),
-        (
-            0x1CC8_2135,
-            [0x15, 0x40, 0x01, 0x00, 0x00, 0xCA, 0xFE, 0x00],
-            Wire::Cm(CmFrame::EtpCts {
-                granted: 64,
-                next: 1,
-                pgn,
-            }),
-            0x35,
-            0x21,
-        ),
-        (
-            0x1CC8_3521,
-            [0x16, 0x40, 0xC0, 0x00, 0x00, 0xCA, 0xFE, 0x00],
-            Wire::Cm(CmFrame::EtpDpo {
-                packets: 64,
-                offset: 192,
-                pgn,
-            }),
-            0x21,
-            0x35,
-        ),
-        (
-            0x1CC8_2135,
-            [0x17, 0xFA, 0x06, 0x00, 0x00, 0xCA, 0xFE, 0x00],
-            Wire::Cm(CmFrame::EtpEoma { size: 1786, pgn }),
-            0x35,
-            0x21,
-        ),
-        (
-            0x1CC8_2135,
-            [0xFF, 0xFA, 0xFF, 0xFF, 0xFF, 0xCA, 0xFE, 0x00],
-            Wire::Cm(CmFrame::EtpAbort { reason: 250, pgn }),
-            0x35,
-            0x21,
-        ),
-        (
-            0x1CC7_3521,
-            [0x40, 0xFA, 0xFF, 0xFF, 0xFF, 0xFF, 0xFF, 0xFF],
-            Wire::Packet {
-                kind: Kind::Etp,
-                sequence: 64,
-                bytes: [0xFA, 0xFF, 0xFF, 0xFF, 0xFF, 0xFF, 0xFF],
-            },
-            0x21,
-            0x35,
-        ),
-        (
-            0x18E8_FF35,
-            [0x01, 0xFF, 0xFF, 0xFF, 0x21, 0x00, 0xEC, 0x00],
-            Wire::Ack {
-                control: 1,
-                address: Address(0x21),
-                pgn: WirePgn::new(0xEC00)?,
-            },
-            0x35,
-            0xFF,
-        ),
-    ] {
-        let frame = frame_of(id, &bytes)?;
-        assert!(rt; is_transport(&frame), "at {id:08X}");
-        assert!(rt;
-            means(&frame, &wire, Address(from), Address(to)),
-            "at {id:08X}"
-        );
-    }
+/// The source and the destination of a frame.
+type Ends = (u8, u8);
+
+const A_TO_B: Ends = (0x21, 0x35);
+
+const B_TO_A: Ends = (0x35, 0x21);
+
+const A_TO_ALL: Ends = (0x21, 0xFF);
+
+const B_TO_ALL: Ends = (0x35, 0xFF);
+
+// A row of the frame table: a frame of this identifier and these bytes has this meaning, and is what is written for it.
+fn is_row(rt: &impl Abort, id: u32, bytes: [u8; 8], wire: Wire, ends: Ends) -> Result<(), Fail> {
+    let frame = frame_of(id, &bytes)?;
+    let (from, to) = ends;
+    assert!(rt; is_transport(&frame), "at {id:08X}");
+    assert!(rt;
+        means(&frame, &wire, Address(from), Address(to)),
+        "at {id:08X}"
+    );
     Ok(())
+}
+
+#[test]
+fn rows_that_begin_a_message(rt: HostRuntime) -> Result<(), Fail> {
+    let pgn = WirePgn::new(DM1)?;
+    is_row(
+        &rt,
+        0x1CEC_3521,
+        [0x10, 0xF9, 0x06, 0xFF, 0xFF, 0xCA, 0xFE, 0x00],
+        Wire::Cm(CmFrame::Rts {
+            size: 1785,
+            packets: 255,
+            most: 255,
+            pgn,
+        }),
+        A_TO_B,
+    )?;
+    is_row(
+        &rt,
+        0x1CEC_FF21,
+        [0x20, 0x09, 0x00, 0x02, 0xFF, 0xCA, 0xFE, 0x00],
+        Wire::Cm(CmFrame::Bam {
+            size: 9,
+            packets: 2,
+            pgn,
+        }),
+        A_TO_ALL,
+    )
+}
+
+#[test]
+fn rows_that_begin_an_extended_message(rt: HostRuntime) -> Result<(), Fail> {
+    let pgn = WirePgn::new(DM1)?;
+    is_row(
+        &rt,
+        0x1CC8_3521,
+        [0x14, 0xFA, 0x06, 0x00, 0x00, 0xCA, 0xFE, 0x00],
+        Wire::Cm(CmFrame::EtpRts { size: 1786, pgn }),
+        A_TO_B,
+    )?;
+    is_row(
+        &rt,
+        0x1CC8_3521,
+        [0x14, 0xF9, 0xFF, 0xFF, 0x06, 0xCA, 0xFE, 0x00],
+        Wire::Cm(CmFrame::EtpRts {
+            size: 117_440_505,
+            pgn,
+        }),
+        A_TO_B,
+    )
+}
+
+#[test]
+fn rows_of_windows(rt: HostRuntime) -> Result<(), Fail> {
+    let pgn = WirePgn::new(DM1)?;
+    is_row(
+        &rt,
+        0x1CEC_2135,
+        [0x11, 0x0F, 0xF1, 0xFF, 0xFF, 0xCA, 0xFE, 0x00],
+        Wire::Cm(CmFrame::Cts {
+            granted: 15,
+            next: 241,
+            pgn,
+        }),
+        B_TO_A,
+    )?;
+    is_row(
+        &rt,
+        0x1CC8_2135,
+        [0x15, 0x40, 0x01, 0x00, 0x00, 0xCA, 0xFE, 0x00],
+        Wire::Cm(CmFrame::EtpCts {
+            granted: 64,
+            next: 1,
+            pgn,
+        }),
+        B_TO_A,
+    )?;
+    is_row(
+        &rt,
+        0x1CC8_3521,
+        [0x16, 0x40, 0xC0, 0x00, 0x00, 0xCA, 0xFE, 0x00],
+        Wire::Cm(CmFrame::EtpDpo {
+            packets: 64,
+            offset: 192,
+            pgn,
+        }),
+        A_TO_B,
+    )
+}
+
+#[test]
+fn rows_of_packets(rt: HostRuntime) -> Result<(), Fail> {
+    is_row(
+        &rt,
+        0x1CEB_FF21,
+        [0x01, 0x01, 0x02, 0x03, 0x04, 0x05, 0x06, 0x07],
+        Wire::Packet {
+            kind: Kind::Tp,
+            sequence: 1,
+            bytes: [1, 2, 3, 4, 5, 6, 7],
+        },
+        A_TO_ALL,
+    )?;
+    is_row(
+        &rt,
+        0x1CC7_3521,
+        [0x40, 0xFA, 0xFF, 0xFF, 0xFF, 0xFF, 0xFF, 0xFF],
+        Wire::Packet {
+            kind: Kind::Etp,
+            sequence: 64,
+            bytes: [0xFA, 0xFF, 0xFF, 0xFF, 0xFF, 0xFF, 0xFF],
+        },
+        A_TO_B,
+    )
+}
+
+#[test]
+fn rows_that_acknowledge_a_message(rt: HostRuntime) -> Result<(), Fail> {
+    let pgn = WirePgn::new(DM1)?;
+    is_row(
+        &rt,
+        0x1CEC_2135,
+        [0x13, 0xF9, 0x06, 0xFF, 0xFF, 0xCA, 0xFE, 0x00],
+        Wire::Cm(CmFrame::EndOfMsgAck {
+            size: 1785,
+            packets: 255,
+            pgn,
+        }),
+        B_TO_A,
+    )?;
+    is_row(
+        &rt,
+        0x1CC8_2135,
+        [0x17, 0xFA, 0x06, 0x00, 0x00, 0xCA, 0xFE, 0x00],
+        Wire::Cm(CmFrame::EtpEoma { size: 1786, pgn }),
+        B_TO_A,
+    )
+}
+
+#[test]
+fn rows_that_abort_a_message(rt: HostRuntime) -> Result<(), Fail> {
+    let pgn = WirePgn::new(DM1)?;
+    is_row(
+        &rt,
+        0x1CEC_3521,
+        [0xFF, 0x03, 0xFF, 0xFF, 0xFF, 0xCA, 0xFE, 0x00],
+        Wire::Cm(CmFrame::Abort { reason: 3, pgn }),
+        A_TO_B,
+    )?;
+    is_row(
+        &rt,
+        0x1CC8_2135,
+        [0xFF, 0xFA, 0xFF, 0xFF, 0xFF, 0xCA, 0xFE, 0x00],
+        Wire::Cm(CmFrame::EtpAbort { reason: 250, pgn }),
+        B_TO_A,
+    )
+}
+
+#[test]
+fn the_row_of_an_acknowledgement(rt: HostRuntime) -> Result<(), Fail> {
+    is_row(
+        &rt,
+        0x18E8_FF35,
+        [0x01, 0xFF, 0xFF, 0xFF, 0x21, 0x00, 0xEC, 0x00],
+        Wire::Ack {
+            control: 1,
+            address: Address(0x21),
+            pgn: WirePgn::new(0xEC00)?,
+        },
+        B_TO_ALL,
+    )
 }
 
 #[test]
@@ -251,52 +292,46 @@ fn reserved_bytes_and_priorities_may_be_any(rt: HostRuntime) -> Result<(), Fail>
     Ok(())
 }
 
-#[test]
-fn malformed_frames_have_no_meaning(rt: HostRuntime) -> Result<(), Fail> {
-    let cts = [0x11, 0x01, 0x01, 0xFF, 0xFF, 0xCA, 0xFE, 0x00];
-    for (id, bytes) in [
-        // Sequence 0, a CTS to all, a PGN field above 18 bits, an unknown control byte.
-        (
-            0x1CEB_FF80,
-            [0x00, 0x01, 0x02, 0x03, 0x04, 0x05, 0x06, 0x07],
-        ),
-        (0x1CEC_FF80, cts),
-        (
-            0x1CEC_3580,
-            [0x10, 0x09, 0x00, 0x02, 0xFF, 0xCA, 0xFE, 0x04],
-        ),
-        (
-            0x1CEC_3580,
-            [0x12, 0x09, 0x00, 0x02, 0xFF, 0xCA, 0xFE, 0x00],
-        ),
-        // A BAM to one node, a packet of ETP to all, to the null address, from it and from all.
-        (
-            0x1CEC_3580,
-            [0x20, 0x09, 0x00, 0x02, 0xFF, 0xCA, 0xFE, 0x00],
-        ),
-        (
-            0x1CC7_FF80,
-            [0x01, 0x01, 0x02, 0x03, 0x04, 0x05, 0x06, 0x07],
-        ),
-        (0x1CEC_FE80, cts),
-        (0x1CEC_35FE, cts),
-        (
-            0x18EA_35FF,
-            [0x00, 0xEC, 0x00, 0xFF, 0xFF, 0xFF, 0xFF, 0xFF],
-        ),
-    ] {
-        let frame = frame_of(id, &bytes)?;
-        assert!(rt; read(&frame) == None && is_transport(&frame), "at {id:08X}");
-        assert!(rt;
-            read_in_place(&frame, &read_id(frame.id())).is_none(),
-            "at {id:08X}"
-        );
-    }
-    for (id, len) in [(0x1CEC_3580, 7), (0x18EA_3521, 2)] {
-        let frame = frame_of(id, &[0x10, 0x09, 0x00, 0x02, 0xFF, 0xCA, 0xFE][..len])?;
-        assert!(rt; read(&frame) == None && is_transport(&frame), "at {id:08X}");
-    }
+const PACKET: [u8; 8] = [0x01, 0x01, 0x02, 0x03, 0x04, 0x05, 0x06, 0x07];
+
+const CTS: [u8; 8] = [0x11, 0x01, 0x01, 0xFF, 0xFF, 0xCA, 0xFE, 0x00];
+
+const BAM: [u8; 8] = [0x20, 0x09, 0x00, 0x02, 0xFF, 0xCA, 0xFE, 0x00];
+
+// A frame of a PGN of the frame table that is no row of it.
+fn is_malformed(rt: &impl Abort, id: u32, bytes: &[u8]) -> Result<(), Fail> {
+    let frame = frame_of(id, bytes)?;
+    assert!(rt; read(&frame) == None && is_transport(&frame), "at {id:08X}");
+    assert!(rt;
+        read_in_place(&frame, &read_id(frame.id())).is_none(),
+        "at {id:08X}"
+    );
     Ok(())
+}
+
+#[test]
+fn malformed_bytes_have_no_meaning(rt: HostRuntime) -> Result<(), Fail> {
+    // Sequence 0, a PGN field above 18 bits, an unknown control byte, seven bytes, and two of a Request.
+    let sequence_zero = [0x00, 0x01, 0x02, 0x03, 0x04, 0x05, 0x06, 0x07];
+    let wide_pgn = [0x10, 0x09, 0x00, 0x02, 0xFF, 0xCA, 0xFE, 0x04];
+    let unknown = [0x12, 0x09, 0x00, 0x02, 0xFF, 0xCA, 0xFE, 0x00];
+    is_malformed(&rt, 0x1CEB_FF80, &sequence_zero)?;
+    is_malformed(&rt, 0x1CEC_3580, &wide_pgn)?;
+    is_malformed(&rt, 0x1CEC_3580, &unknown)?;
+    is_malformed(&rt, 0x1CEC_3580, &BAM[..7])?;
+    is_malformed(&rt, 0x18EA_3521, &CTS[..2])
+}
+
+#[test]
+fn malformed_addresses_have_no_meaning(rt: HostRuntime) -> Result<(), Fail> {
+    // A CTS to all, to the null address and from it, a BAM to one node, a packet of ETP to all, and a Request from all.
+    let request = [0x00, 0xEC, 0x00, 0xFF, 0xFF, 0xFF, 0xFF, 0xFF];
+    is_malformed(&rt, 0x1CEC_FF80, &CTS)?;
+    is_malformed(&rt, 0x1CEC_FE80, &CTS)?;
+    is_malformed(&rt, 0x1CEC_35FE, &CTS)?;
+    is_malformed(&rt, 0x1CEC_3580, &BAM)?;
+    is_malformed(&rt, 0x1CC7_FF80, &PACKET)?;
+    is_malformed(&rt, 0x18EA_35FF, &request)
 }
 
 #[test]

@@ -2,11 +2,12 @@
 //! allocation is refused, one segment meets that refusal, the other meets none, and both answer alike.
 use crate::calls::*;
 use bus_frame::Frame;
-use pgn_ids::Address;
+use pgn_ids::{Address, Pgn};
 use segment_core::*;
 use std::alloc::Global;
 use std::process::Abort;
 use std::test::Fail;
+use tp_wire::Outcome;
 
 // What the readers say of a station.
 #[derive(Clone, Copy, Debug, PartialEq)]
@@ -55,50 +56,35 @@ fn read(segment: &Segment) -> Readers {
     }
 }
 
-fn is_same_event(one: &Event, other: &Event) -> bool {
-    match one {
+// A message that is given: its port, source, destination, PGN and bytes.
+fn given(event: &Event) -> Option<(PortId, Address, Address, Pgn, &[u8])> {
+    match event {
         Event::Given {
             port,
             from,
             to,
             pgn,
             bytes,
-        } => match other {
-            Event::Given {
-                port: other_port,
-                from: other_from,
-                to: other_to,
-                pgn: other_pgn,
-                bytes: other_bytes,
-            } => {
-                port == other_port
-                    && from == other_from
-                    && to == other_to
-                    && pgn == other_pgn
-                    && bytes.as_slice() == other_bytes.as_slice()
-            }
-            Event::Outcome { .. } => false,
-        },
+        } => Some((*port, *from, *to, *pgn, bytes.as_slice())),
+        Event::Outcome { .. } => None,
+    }
+}
+
+// An outcome: its source, destination, number and what it is.
+fn outcome(event: &Event) -> Option<(Address, Address, u64, Outcome)> {
+    match event {
+        Event::Given { .. } => None,
         Event::Outcome {
             from,
             to,
             number,
             outcome,
-        } => match other {
-            Event::Outcome {
-                from: other_from,
-                to: other_to,
-                number: other_number,
-                outcome: other_outcome,
-            } => {
-                from == other_from
-                    && to == other_to
-                    && number == other_number
-                    && outcome == other_outcome
-            }
-            Event::Given { .. } => false,
-        },
+        } => Some((*from, *to, *number, *outcome)),
     }
+}
+
+fn is_same_event(one: &Event, other: &Event) -> bool {
+    given(one) == given(other) && outcome(one) == outcome(other)
 }
 
 fn are_same_events(one: &Events, other: &Events) -> bool {

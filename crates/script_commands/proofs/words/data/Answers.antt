@@ -5,8 +5,8 @@ use Rattle.script_commands.proofs.words.data.Goals as goal
 pub returns-in_default-split_first : goal.returns-in_default-split_first
 returns-in_default-split_first c = data_odd _ _ _ _ _ c.in-Some.ensures.cases.0 c.in_default-split_first.ensures.cases c.loop-first.invariant
 
-pub returns-in_default-pair : goal.returns-in_default-pair
-returns-in_default-pair c = data_bad _ _ _ _ _ _ _ c.in-Some.ensures.cases.0 c.in-Some-split_first.ensures.cases.0 (search rules) c.loop-first.invariant
+pub returns-in_default-read_pair : goal.returns-in_default-read_pair
+returns-in_default-read_pair c = data_bad _ _ _ _ _ _ _ c.in-Some.ensures.cases.0 c.in-Some-split_first.ensures.cases.0 (search rules) c.loop-first.invariant
 
 pub loop-first-preserved : goal.loop-first-preserved
 loop-first-preserved c = rw c.in_ok-push.ensures.items (data_read _ _ _ _ _ _ _ _ c.in-Some.ensures.cases.0 c.in-Some-split_first.ensures.cases.0 (search rules) c.loop-first.invariant)
