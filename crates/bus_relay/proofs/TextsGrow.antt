@@ -14,7 +14,8 @@ use Rattle.script_commands.specs.declared.fault.Fault.TheVariants.{NoStations, U
 use Rattle.script_commands.specs.declared.route.RouteWords.{RouteWords}
 use Rattle.script_text.specs.Parts.{line}
 use Rattle.script_text.specs.Replies.{refusal_text}
-use Rattle.script_runs.proofs.ScriptsRead.{all_of, Grows}
+use Rattle.script_runs.specs.Reading.{Grows}
+use Rattle.script_runs.proofs.ScriptsRead.{all_of}
 use Rattle.script_setup.specs.Plan as setup
 use Rattle.script_setup.specs.Plan.{Plan}
 use Rattle.script_setup.proofs.TextsGrow as setups
