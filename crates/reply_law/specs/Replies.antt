@@ -7,11 +7,11 @@ use Rattle.message_events.specs.declared.event.Event.{Event}
 use Rattle.message_events.specs.declared.event.Event.TheVariants as event
 use Rattle.station_core.specs.Station.{Station}
 use Rattle.segment_law.specs.Segment.{Segment}
-use Rattle.segment_law.specs.Calls.{applied, events_of}
+use Rattle.segment_law.specs.Calls.{applied, events_of, is_send}
 use Rattle.segment_law.specs.Told.{same_port}
 use Rattle.segment_law.specs.Readers.{wanted, ports_given}
 use Rattle.segment_law.specs.declared.call.Call.{Call}
-use Rattle.segment_law.specs.declared.call.Call.TheVariants.{Open, Send, Take, TakeAgain}
+use Rattle.segment_law.specs.declared.call.Call.TheVariants.{Open, Take, TakeAgain}
 use Rattle.segment_law.specs.declared.reply.Reply.{Reply}
 use Rattle.segment_law.specs.declared.reply.Reply.TheVariants.{Opened, Sent, Refused, Done}
 
@@ -32,16 +32,12 @@ abbrev pub opens : Call → Bool
 opens (Open station pgn max_len) = true
 opens _ = false
 
-abbrev pub sends : Call → Bool
-sends (Send from to pgn bytes) = true
-sends _ = false
-
 -- an opening is answered by a port, a Send by a number, and every other call by events, where they aren't refused
 abbrev pub IsAnsweredBy : Call → Reply → Type 0
 IsAnsweredBy call (Opened p) = opens call ≡ true
-IsAnsweredBy call (Sent n) = sends call ≡ true
+IsAnsweredBy call (Sent n) = is_send call ≡ true
 IsAnsweredBy call (Refused cause) = Unit {0}
-IsAnsweredBy call (Done events) = (opens call ≡ false) × (sends call ≡ false)
+IsAnsweredBy call (Done events) = (opens call ≡ false) × (is_send call ≡ false)
 
 -- the station whose ports a call gives to, their numbers, and how long the message is: those that it was said to want
 abbrev pub expected : Segment → Call → Address × (List ℕ × ℕ)

@@ -23,6 +23,9 @@ use headline_law::the_headline_holds;
 use pgn_ids::Address;
 use segment_law::{DriveEnd, Refusal};
 
+// Room for so many frames is taken at once, so that an exchange of a few frames takes memory once.
+const FRAMES_AT_ONCE: usize = 8;
+
 // How a drive ends where one of its calls isn't done.
 fn end_at(stop: Stop) -> DriveEnd
     ensures { result ≡ stop_end stop }
@@ -129,7 +132,7 @@ impl Segment {
         if let Some(cause) = self.transmit_refusal(station) {
             return Err(Stop::Refused(cause));
         }
-        course.frames.reserve(1)?;
+        course.frames.reserve(FRAMES_AT_ONCE)?;
         let front = self.front(station);
         let _done = self.transmit(station)?;
         course.put(front);

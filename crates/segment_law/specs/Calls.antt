@@ -29,6 +29,11 @@ use Rattle.segment_law.specs.declared.refusal.Refusal.TheVariants as refusal
 use Rattle.segment_law.specs.declared.reply.Reply.{Reply}
 use Rattle.segment_law.specs.declared.reply.Reply.TheVariants.{Opened, Sent, Refused, Done}
 
+-- the call sends a message
+abbrev pub is_send : Call → Bool
+is_send (Send from to pgn bytes) = true
+is_send _ = false
+
 -- what a call leaves and answers, or why it is refused
 abbrev pub Answer : Type 0
 Answer = Result (Segment × Reply) Refusal

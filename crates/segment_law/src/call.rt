@@ -1,5 +1,6 @@
 //! What a segment is asked, one call at a time.
-ghost use Rattle.std.specs.Prelude.{◌≡◌, IfOk};
+ghost use Rattle.std.specs.Prelude.{◌≡◌, IfOk, false};
+ghost use Rattle.segment_law.specs.Calls.{is_send};
 
 use bus_frame::Frame;
 use message_events::Bytes;
@@ -86,56 +87,50 @@ impl Call {
     pub fn copy(&self, alloc: Global) -> Result<Call, AllocError>
         ensures { IfOk result (λ call. call ≡ self.now) }
     {
-        let call = match self {
-            Call::Open {
-                station,
-                pgn,
-                max_len,
-            } => Call::Open {
-                station: *station,
-                pgn: *pgn,
-                max_len: *max_len,
-            },
-            Call::Close { port } => Call::Close { port: *port },
+        match self {
             Call::Send {
                 from,
                 to,
                 pgn,
                 bytes,
-            } => Call::Send {
+            } => Ok(Call::Send {
                 from: *from,
                 to: *to,
                 pgn: *pgn,
                 bytes: bytes.copy(alloc)?,
+            }),
+            _ => Ok(self.copy_in_place()),
+        }
+    }
+
+    // A call that isn't a Send once more.
+    fn copy_in_place(&self) -> Call
+        requires { is_send self.now ≡ false }
+        ensures { result ≡ self.now }
+    {
+        match *self {
+            Call::Open {
+                station,
+                pgn,
+                max_len,
+            } => Call::Open {
+                station,
+                pgn,
+                max_len,
             },
-            Call::Pump { station, to } => Call::Pump {
-                station: *station,
-                to: *to,
-            },
-            Call::Transmit { station } => Call::Transmit { station: *station },
-            Call::Take { station, room } => Call::Take {
-                station: *station,
-                room: *room,
-            },
-            Call::TakeAgain { station, room } => Call::TakeAgain {
-                station: *station,
-                room: *room,
-            },
-            Call::Overrun { station, n } => Call::Overrun {
-                station: *station,
-                n: *n,
-            },
-            Call::Tick { n } => Call::Tick { n: *n },
-            Call::Fire { station } => Call::Fire { station: *station },
-            Call::Cancel { from, to, number } => Call::Cancel {
-                from: *from,
-                to: *to,
-                number: *number,
-            },
-            Call::Inject { frame } => Call::Inject { frame: *frame },
-            Call::Pause { port } => Call::Pause { port: *port },
-            Call::Resume { port } => Call::Resume { port: *port },
-        };
-        Ok(call)
+            Call::Close { port } => Call::Close { port },
+            Call::Send { .. } => unreachable!(),
+            Call::Pump { station, to } => Call::Pump { station, to },
+            Call::Transmit { station } => Call::Transmit { station },
+            Call::Take { station, room } => Call::Take { station, room },
+            Call::TakeAgain { station, room } => Call::TakeAgain { station, room },
+            Call::Overrun { station, n } => Call::Overrun { station, n },
+            Call::Tick { n } => Call::Tick { n },
+            Call::Fire { station } => Call::Fire { station },
+            Call::Cancel { from, to, number } => Call::Cancel { from, to, number },
+            Call::Inject { frame } => Call::Inject { frame },
+            Call::Pause { port } => Call::Pause { port },
+            Call::Resume { port } => Call::Resume { port },
+        }
     }
 }

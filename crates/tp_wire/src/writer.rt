@@ -1,9 +1,9 @@
 //! The frame of a meaning (SAE J1939-21; ISO 11783-3).
-ghost use Rattle.std.specs.Prelude.{◌≡◌, ◌<◌, ◌/◌, ◌%◌, ◌^◌, ◌∷◌, [], true};
+ghost use Rattle.std.specs.Prelude.{◌≡◌, ◌<◌, ◌/◌, ◌%◌, ◌^◌, ◌∷◌, ◌++◌, [], true};
 ghost use Rattle.pgn_ids.specs.Pgn.{is_pdu1};
 ghost use Rattle.pgn_ids.specs.Identifier.{id_of};
-ghost use Rattle.tp_wire.specs.Octets.{written_bytes};
-ghost use Rattle.tp_wire.specs.Rows.{octets_of, goes_to, comes_from, HasNumbers, HasWidths, written, Writes};
+ghost use Rattle.tp_wire.specs.Octets.{three as three_octets, written_bytes};
+ghost use Rattle.tp_wire.specs.Rows.{cm_pgn, octets_of, goes_to, comes_from, HasNumbers, HasWidths, written, Writes};
 ghost use Rattle.tp_wire.specs.declared.wire.Wire.TheVariants.{Cm, Packet, Request, Ack};
 
 use crate::constants::{
@@ -67,70 +67,74 @@ fn pdu1_id(priority: u8, pgn: u32, from: Address, to: Address) -> CanId
     })
 }
 
-// The eight bytes of a connection management frame.
+// A control, a size of TP, a number of packets and one more byte.
 #[inline(always)]
-fn cm_bytes(frame: CmFrame) -> [u8; 8]
+fn sized(control: u8, size: u16, packets: u8, last: u8) -> [u8; 5]
+    ensures { result ≡ control ∷ (size % 2 ^ 8) ∷ (size / 2 ^ 8) ∷ packets ∷ last ∷ [] }
+{
+    let [s0, s1] = two(size);
+    [control, s0, s1, packets, last]
+}
+
+// A control and a size of ETP.
+#[inline(always)]
+fn extended(control: u8, size: u32) -> [u8; 5]
+    ensures { result ≡ control ∷ (size % 2 ^ 8) ∷ (size / 2 ^ 8 % 2 ^ 8) ∷ (size / 2 ^ 16 % 2 ^ 8) ∷ (size / 2 ^ 24) ∷ [] }
+{
+    let [s0, s1, s2, s3] = four(size);
+    [control, s0, s1, s2, s3]
+}
+
+// A control, a number of packets and the number of a packet of ETP.
+#[inline(always)]
+fn numbered(control: u8, packets: u8, number: u32) -> [u8; 5]
+    requires { number < 2 ^ 24 }
+    ensures { result ≡ control ∷ packets ∷ (number % 2 ^ 8) ∷ (number / 2 ^ 8 % 2 ^ 8) ∷ (number / 2 ^ 16) ∷ [] }
+{
+    let [n0, n1, n2] = three(number);
+    [control, packets, n0, n1, n2]
+}
+
+// The bytes of a connection management frame that stand before its PGN.
+#[inline(always)]
+fn bytes_before_pgn(frame: CmFrame) -> [u8; 5]
     requires { HasNumbers (Cm frame) }
-    ensures { result ≡ written_bytes (octets_of (Cm frame)) }
+    ensures { written_bytes (octets_of (Cm frame)) ≡ result ++ written_bytes (three_octets (cm_pgn frame)) }
 {
     match frame {
         CmFrame::Rts {
             size,
             packets,
             most,
-            pgn,
-        } => {
-            let [s0, s1] = two(size);
-            let [p0, p1, p2] = three(pgn.raw());
-            [TP_RTS, s0, s1, packets, most, p0, p1, p2]
+            ..
+        } => sized(TP_RTS, size, packets, most),
+        CmFrame::Cts { granted, next, .. } => [TP_CTS, granted, next, RESERVED, RESERVED],
+        CmFrame::EndOfMsgAck { size, packets, .. } => {
+            sized(TP_END_OF_MSG_ACK, size, packets, RESERVED)
         }
-        CmFrame::Cts { granted, next, pgn } => {
-            let [p0, p1, p2] = three(pgn.raw());
-            [TP_CTS, granted, next, RESERVED, RESERVED, p0, p1, p2]
-        }
-        CmFrame::EndOfMsgAck { size, packets, pgn } => {
-            let [s0, s1] = two(size);
-            let [p0, p1, p2] = three(pgn.raw());
-            [TP_END_OF_MSG_ACK, s0, s1, packets, RESERVED, p0, p1, p2]
-        }
-        CmFrame::Bam { size, packets, pgn } => {
-            let [s0, s1] = two(size);
-            let [p0, p1, p2] = three(pgn.raw());
-            [TP_BAM, s0, s1, packets, RESERVED, p0, p1, p2]
-        }
-        CmFrame::Abort { reason, pgn } => {
-            let [p0, p1, p2] = three(pgn.raw());
-            [CONN_ABORT, reason, RESERVED, RESERVED, RESERVED, p0, p1, p2]
-        }
-        CmFrame::EtpRts { size, pgn } => {
-            let [s0, s1, s2, s3] = four(size);
-            let [p0, p1, p2] = three(pgn.raw());
-            [ETP_RTS, s0, s1, s2, s3, p0, p1, p2]
-        }
-        CmFrame::EtpCts { granted, next, pgn } => {
-            let [n0, n1, n2] = three(next);
-            let [p0, p1, p2] = three(pgn.raw());
-            [ETP_CTS, granted, n0, n1, n2, p0, p1, p2]
-        }
+        CmFrame::Bam { size, packets, .. } => sized(TP_BAM, size, packets, RESERVED),
+        CmFrame::Abort { reason, .. } => [CONN_ABORT, reason, RESERVED, RESERVED, RESERVED],
+        CmFrame::EtpRts { size, .. } => extended(ETP_RTS, size),
+        CmFrame::EtpCts { granted, next, .. } => numbered(ETP_CTS, granted, next),
         CmFrame::EtpDpo {
             packets,
             offset,
-            pgn,
-        } => {
-            let [n0, n1, n2] = three(offset);
-            let [p0, p1, p2] = three(pgn.raw());
-            [ETP_DPO, packets, n0, n1, n2, p0, p1, p2]
-        }
-        CmFrame::EtpEoma { size, pgn } => {
-            let [s0, s1, s2, s3] = four(size);
-            let [p0, p1, p2] = three(pgn.raw());
-            [ETP_EOMA, s0, s1, s2, s3, p0, p1, p2]
-        }
-        CmFrame::EtpAbort { reason, pgn } => {
-            let [p0, p1, p2] = three(pgn.raw());
-            [CONN_ABORT, reason, RESERVED, RESERVED, RESERVED, p0, p1, p2]
-        }
+            ..
+        } => numbered(ETP_DPO, packets, offset),
+        CmFrame::EtpEoma { size, .. } => extended(ETP_EOMA, size),
+        CmFrame::EtpAbort { reason, .. } => [CONN_ABORT, reason, RESERVED, RESERVED, RESERVED],
     }
+}
+
+// The eight bytes of a connection management frame.
+#[inline(always)]
+fn cm_bytes(frame: CmFrame) -> [u8; 8]
+    requires { HasNumbers (Cm frame) }
+    ensures { result ≡ written_bytes (octets_of (Cm frame)) }
+{
+    let [p0, p1, p2] = three(frame.pgn().raw());
+    let [b0, b1, b2, b3, b4] = bytes_before_pgn(frame);
+    [b0, b1, b2, b3, b4, p0, p1, p2]
 }
 
 // The frame of a connection row.

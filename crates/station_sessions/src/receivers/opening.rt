@@ -91,30 +91,42 @@ fn first_join(alloc: Global, kind: Kind, size: u32, flow: Flow) -> Result<Join, 
     }
 }
 
+// What an RTS asks for: a session of a kind with its sender, of which a CTS may grant `most` packets.
+struct Asked {
+    kind: Kind,
+    from: Address,
+    size: u32,
+    is_size: bool,
+    most: u8,
+    pgn: WirePgn,
+}
+
 impl Receivers {
-    /// Takes an RTS of a kind, of which a CTS may grant `most` packets: its session opens with a CTS or a hold, or it is answered
-    /// by an abort, which is handed out.
+    /// Takes an RTS: its session opens with a CTS or a hold, or it is answered by an abort, which is handed out.
     fn take_rts(
         &mut self,
         own: Address,
         ports: &PortTable,
-        kind: Kind,
-        is_size: bool,
-        from: Address,
-        size: u32,
-        most: u8,
-        pgn: WirePgn,
+        asked: Asked,
         room: bool,
         now: u64,
     ) -> Result<Option<Frame>, AllocError>
         requires own { is_one own.0 ≡ true }
-        requires source { is_one from.0 ≡ true }
-        requires size { is_size ≡ true → IsSizeOf kind size }
-        requires some { 0 < most }
-        requires narrow { most ≤ ETP_MAX_WINDOW }
-        ensures ok { IfOk result (λ queued. rts_received own ports.now kind is_size from size most pgn room now self.old ≡ record { sessions = self.new; frame = queued; events = [] }) }
+        requires source { is_one asked.from.0 ≡ true }
+        requires size { asked.is_size ≡ true → IsSizeOf asked.kind asked.size }
+        requires some { 0 < asked.most }
+        requires narrow { asked.most ≤ ETP_MAX_WINDOW }
+        ensures ok { IfOk result (λ queued. rts_received own ports.now asked.kind asked.is_size asked.from asked.size asked.most asked.pgn room now self.old ≡ record { sessions = self.new; frame = queued; events = [] }) }
         ensures err { OnErr result (self.new ≡ self.old) }
     {
+        let Asked {
+            kind,
+            from,
+            size,
+            is_size,
+            most,
+            pgn,
+        } = asked;
         let key = Key {
             source: from,
             kind: SessionKind::of(kind),
@@ -191,46 +203,36 @@ impl Receivers {
         ensures ok { IfOk result (λ queued. opening_received own ports.now frame.now from room now self.old ≡ record { sessions = self.new; frame = queued; events = [] }) }
         ensures err { OnErr result (self.new ≡ self.old) }
     {
-        match frame {
+        match *frame {
             CmFrame::Rts {
                 size,
                 packets,
                 most,
                 pgn,
             } => {
-                let is_size = is_tp_size(*size, *packets);
-                let most = most_packets(Kind::Tp, *most);
-                let size = u32::from(*size);
-                self.take_rts(
-                    own,
-                    ports,
-                    Kind::Tp,
-                    is_size,
+                let asked = Asked {
+                    kind: Kind::Tp,
                     from,
-                    size,
-                    most,
-                    *pgn,
-                    room,
-                    now,
-                )
+                    size: u32::from(size),
+                    is_size: is_tp_size(size, packets),
+                    most: most_packets(Kind::Tp, most),
+                    pgn,
+                };
+                self.take_rts(own, ports, asked, room, now)
             }
             CmFrame::Bam { size, packets, pgn } => {
-                self.take_bam(ports, from, *size, *packets, *pgn, room, now)
+                self.take_bam(ports, from, size, packets, pgn, room, now)
             }
             CmFrame::EtpRts { size, pgn } => {
-                let is_size = is_etp_size(*size);
-                self.take_rts(
-                    own,
-                    ports,
-                    Kind::Etp,
-                    is_size,
+                let asked = Asked {
+                    kind: Kind::Etp,
                     from,
-                    *size,
-                    ETP_MAX_WINDOW,
-                    *pgn,
-                    room,
-                    now,
-                )
+                    size,
+                    is_size: is_etp_size(size),
+                    most: ETP_MAX_WINDOW,
+                    pgn,
+                };
+                self.take_rts(own, ports, asked, room, now)
             }
             _ => Ok(None),
         }
