@@ -197,7 +197,8 @@ fn draw_event(out: &mut Vec<u8>, event: &Event) -> Result<(), AllocError>
     }
 }
 
-fn draw_each(out: &mut Vec<u8>, events: &[Event]) -> Result<(), AllocError>
+/// The notes of the events of one call, in their order: what a port was given, at its station; an outcome, at the sender.
+pub fn draw_told(out: &mut Vec<u8>, events: &Events) -> Result<(), AllocError>
     ensures { OnOk result (out.new.items ≡ out.old.items ++ notes events.now) }
 {
     for event in events {
@@ -206,26 +207,11 @@ fn draw_each(out: &mut Vec<u8>, events: &[Event]) -> Result<(), AllocError>
     Ok(())
 }
 
-/// The notes of the events of one call, in their order: what a port was given, at its station; an outcome, at the sender.
-pub fn draw_told(out: &mut Vec<u8>, events: Events) -> Result<(), AllocError>
-    ensures { OnOk result (out.new.items ≡ out.old.items ++ notes events) }
-{
-    let (first, rest) = events.into_parts();
-    match first {
-        None => draw_each(out, rest.as_slice()),
-        Some(event) => {
-            draw_event(out, &event)?;
-            draw_each(out, rest.as_slice())
-        }
-    }
-}
-
 /// The notes of the events of several calls, in their order.
-#[tactic(auto, using(crate::proofs::EventNotes::parts_notes))]
-pub fn draw_each_told(out: &mut Vec<u8>, events: EventList) -> Result<(), AllocError>
-    ensures { OnOk result (out.new.items ≡ out.old.items ++ notes events) }
+pub fn draw_each_told(out: &mut Vec<u8>, events: &EventList) -> Result<(), AllocError>
+    ensures { OnOk result (out.new.items ≡ out.old.items ++ notes events.now) }
 {
-    for part in events.into_parts() {
+    for part in events.parts() {
         draw_told(out, part)?;
     }
     Ok(())

@@ -7,8 +7,7 @@ ghost use Rattle.bus_live.specs.Ending.{Came, CameTo, Ended, planned};
 use crate::text::text_of;
 use pgn_ids::Address;
 use port_table::PortId;
-use script_commands::Cause;
-use script_runs::{LiveRan, Lost, Told, failed, lost_by, read_script};
+use script_runs::{LiveRan, Lost, Told, read_script, tell_refused, tell_run};
 use script_setup::{Message, Setup, ports_of};
 use segment_shared::{Gate, Inbox, Live, SharedSegment, finish};
 use segment_threads::{Board, Ends, Pace, Party, Sender, gather, senders_of, spawn_segment, watch};
@@ -17,7 +16,6 @@ use std::io::{BufRead, Write};
 use std::sync::Wait;
 use std::thread;
 use std::thread::Threads;
-use text_lines::tell;
 
 // The threads of the segment, and one that watches. None begins before all are made: where one can't be, the others end at once, so
 // that nobody waits for it. What they hand back, and whether the bus is drained.
@@ -172,22 +170,8 @@ pub fn run_live<T: Threads + Wait + Sync, R: BufRead, W: Write, G: Gate + Sync>(
 {
     let mut setup = Setup::new(alloc);
     let read = read_script(alloc, reader, &mut setup);
-    let Ok(()) = tell(writer, setup.refused.as_slice()) else {
-        return failed(0, Cause::WriteFailed);
-    };
-    match read {
-        Ok(()) => {}
-        Err(fault) => return failed(fault.line, fault.cause),
+    if let Some(ran) = tell_refused(writer, setup.refused.as_slice(), read) {
+        return ran;
     }
-    let told = match run(rt, alloc, setup, gate, turns) {
-        Ok(told) => told,
-        Err(lost) => return lost_by(lost),
-    };
-    let Ok(()) = tell(writer, told.text.as_slice()) else {
-        return failed(0, Cause::WriteFailed);
-    };
-    LiveRan {
-        fault: None,
-        ran_out: told.ran_out,
-    }
+    tell_run(writer, run(rt, alloc, setup, gate, turns))
 }

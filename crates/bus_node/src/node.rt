@@ -98,7 +98,7 @@ impl Node {
             Reply::Done(events) => {
                 let until = self.segment.now().saturating_add(self.quiet);
                 self.rests.rest_after(until, &events);
-                print_events(&mut self.text, events)
+                print_events(&mut self.text, &events)
             }
         }
     }

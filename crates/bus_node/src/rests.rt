@@ -75,23 +75,12 @@ impl Rests {
         }
     }
 
-    // What several make of it.
-    fn rest_by_each(&mut self, until: u64, events: &[Event])
+    /// The destinations of connections that failed rest until a tick.
+    pub(crate) fn rest_after(&mut self, until: u64, events: &Events)
         ensures { self.new ≡ rested until self.old events.now }
     {
         for event in events {
             self.rest_by(until, event);
-        }
-    }
-
-    /// The destinations of connections that failed rest until a tick.
-    #[tactic(auto, using(crate::proofs::Resting::without_events, crate::proofs::Resting::from_first))]
-    pub(crate) fn rest_after(&mut self, until: u64, events: &Events)
-        ensures { self.new ≡ rested until self.old events.now }
-    {
-        if let Some(event) = events.get(0) {
-            self.rest_by(until, event);
-            self.rest_by_each(until, events.rest());
         }
     }
 

@@ -8,14 +8,12 @@ use crate::gateway::{Gateway, Passage, Routing};
 use crate::parts::{Part, names_of, part_of, start_of};
 use crate::settling::tell_end;
 use crate::threads::{Left, run_threads};
-use script_commands::Cause;
-use script_runs::{LiveRan, Lost, Told, failed, lost_by, read_script};
+use script_runs::{LiveRan, Lost, Told, read_script, tell_refused, tell_run};
 use segment_shared::Gate;
 use std::alloc::Global;
 use std::io::{BufRead, Write};
 use std::sync::Wait;
 use std::thread::Threads;
-use text_lines::tell;
 
 // Runs two segments, with a relay between them where there is a passage. Each way out that has a segment drops all that it holds, which the
 // proof pays for, so that there are few of them.
@@ -132,22 +130,8 @@ pub fn run_relay<T: Threads + Wait + Sync, R: BufRead, W: Write, G: Gate + Sync>
 {
     let mut gateway = Gateway::new(alloc);
     let read = read_script(alloc, reader, &mut gateway);
-    let Ok(()) = tell(writer, gateway.here.refused.as_slice()) else {
-        return failed(0, Cause::WriteFailed);
-    };
-    match read {
-        Ok(()) => {}
-        Err(fault) => return failed(fault.line, fault.cause),
+    if let Some(ran) = tell_refused(writer, gateway.here.refused.as_slice(), read) {
+        return ran;
     }
-    let told = match run(rt, alloc, gateway, gate, turns) {
-        Ok(told) => told,
-        Err(lost) => return lost_by(lost),
-    };
-    let Ok(()) = tell(writer, told.text.as_slice()) else {
-        return failed(0, Cause::WriteFailed);
-    };
-    LiveRan {
-        fault: None,
-        ran_out: told.ran_out,
-    }
+    tell_run(writer, run(rt, alloc, gateway, gate, turns))
 }

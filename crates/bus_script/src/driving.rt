@@ -41,7 +41,7 @@ fn log_turn(
 {
     let driven = segment.drive(from, to, 1);
     print_logged(&mut page.log, segment.now(), driven.frames.as_slice())?;
-    print_told(&mut page.below, driven.events)?;
+    print_told(&mut page.below, &driven.events)?;
     Ok((driven.turns, driven.end))
 }
 

@@ -48,7 +48,7 @@ impl Parted {
             Reply::Refused(_) => Ok(()),
             Reply::Done(events) => {
                 log_optional(&mut self.log, now, put)?;
-                print_events(&mut self.text, events)
+                print_events(&mut self.text, &events)
             }
         }
     }

@@ -50,7 +50,7 @@ fn print_below(text: &mut Vec<u8>, put: Option<Frame>, reply: Reply) -> Result<(
         Reply::Refused(_) => Ok(()),
         Reply::Done(events) => {
             print_optional(text, put)?;
-            print_events(text, events)
+            print_events(text, &events)
         }
     }
 }

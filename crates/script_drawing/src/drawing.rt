@@ -83,7 +83,7 @@ impl Sheet for Drawing {
             Reply::Refused(_) => Ok(()),
             Reply::Done(events) => {
                 draw_put(&mut self.text, put)?;
-                draw_told(&mut self.text, events)
+                draw_told(&mut self.text, &events)
             }
         }
     }
@@ -104,7 +104,7 @@ impl Sheet for Drawing {
             return Ok(Told::NoMemory);
         }
         draw_frames(&mut self.text, driven.frames.as_slice())?;
-        draw_each_told(&mut self.text, driven.events)?;
+        draw_each_told(&mut self.text, &driven.events)?;
         Ok(Told::Answered)
     }
 

@@ -1,22 +1,43 @@
 -- How a run of a script by threads ended. Text is what is printed of refused lines, and CameTo what the threads came to: whether their
 -- turns ran out, and the text of what they left.
-use Rattle.std.specs.Prelude.{◌≡◌, ℕ, List, ◌++◌, ◌⊎◌, Bool, Option, Some, None, if◌then◌else◌, codes}
+use Rattle.std.specs.Prelude.{◌≡◌, ℕ, List, ◌++◌, ◌⊎◌, Bool, false, Option, Some, None, Result, Ok, Err, if◌then◌else◌, codes}
 use Rattle.std.specs.Io.KnownBytes.{Appends}
 use Rattle.text_lines.specs.Known.{IsFront}
 use Rattle.script_commands.specs.Ending.{fault_line}
 use Rattle.script_commands.specs.declared.ending.Cause.{Cause}
 use Rattle.script_commands.specs.declared.ending.Cause.TheVariants as causes
+use Rattle.script_commands.specs.declared.ending.ScriptFault.{ScriptFault}
 use Rattle.script_runs.specs.Reading.{Planned}
 use Rattle.script_runs.specs.declared.ending.Lost.{Lost}
 use Rattle.script_runs.specs.declared.ending.Lost.TheVariants as losts
 use Rattle.script_runs.specs.declared.ending.LiveFault.{LiveFault}
 use Rattle.script_runs.specs.declared.ending.LiveFault.TheVariants as faults
 use Rattle.script_runs.specs.declared.ending.LiveRan.{LiveRan}
+use Rattle.script_runs.specs.declared.ending.Told.{Told}
 
 -- why a run of threads has no text
 abbrev pub lost_fault : Lost → LiveFault
 lost_fault losts.OutOfMemory = faults.Script record { line = 0; cause = causes.OutOfMemory }
 lost_fault losts.NotThisSegment = faults.NotThisSegment
+
+-- a run that ended by a fault
+abbrev pub ended_by : LiveFault → LiveRan
+ended_by f = record { fault = Some f; ran_out = false }
+
+-- at this line
+abbrev pub failed_at : ℕ → Cause → LiveRan
+failed_at n cause = ended_by (faults.Script record { line = n; cause = cause })
+
+-- the text of the refused lines was written, and the run goes on where the script has no fault; else it ended by that fault, or by
+-- the failed write of a front of it
+abbrev pub IsRefusedTold : Result (Unit {0}) ScriptFault → Option (List ℕ) → Option (List ℕ) → List ℕ → Option LiveRan → Type 0
+IsRefusedTold read a b refused None = (read ≡ Ok tt) × Appends a b refused
+IsRefusedTold read a b refused (Some ran) = ((ran ≡ failed_at 0 causes.WriteFailed) × IsFront a b refused) ⊎ ((f : ScriptFault) × (read ≡ Err f) × (ran ≡ failed_at f.line f.cause) × Appends a b refused)
+
+-- the text that the threads left was written, or a front of it where a write failed; where there is none, nothing was
+abbrev pub IsRunTold : Result Told Lost → Option (List ℕ) → Option (List ℕ) → LiveRan → Type 0
+IsRunTold (Ok told) a b ran = ((ran ≡ record { fault = None; ran_out = told.ran_out }) × Appends a b told.text.items) ⊎ ((ran ≡ failed_at 0 causes.WriteFailed) × IsFront a b told.text.items)
+IsRunTold (Err lost) a b ran = (ran ≡ ended_by (lost_fault lost)) × (b ≡ a)
 
 -- all that a run without a fault writes
 abbrev pub WholeText : {P : Type 0} → (P → List ℕ) → (P → Bool → List ℕ → Type 0) → Planned P → (ran_out : Bool) → List ℕ → Type 0

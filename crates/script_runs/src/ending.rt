@@ -1,7 +1,6 @@
 //! How a run of a script by threads ended.
 ghost use Rattle.std.specs.Prelude.{◌≡◌, Some, false};
-ghost use Rattle.script_runs.specs.Ending.{live_fault_line, lost_fault, status_of};
-ghost use Rattle.script_runs.specs.declared.ending.LiveFault.TheVariants.{Script};
+ghost use Rattle.script_runs.specs.Ending.{live_fault_line, lost_fault, ended_by, failed_at, status_of};
 ghost use Rattle.script_runs.specs.declared.ending.Lost.TheVariants.{OutOfMemory};
 
 use script_commands::{Cause, ScriptFault};
@@ -75,8 +74,8 @@ pub struct Told {
 }
 
 /// A run that ended at this line.
-pub fn failed(line: u64, cause: Cause) -> LiveRan
-    ensures { result ≡ record { fault = Some (Script (record { line = line; cause = cause })); ran_out = false } }
+pub(crate) fn failed(line: u64, cause: Cause) -> LiveRan
+    ensures { result ≡ failed_at line cause }
 {
     LiveRan {
         fault: Some(LiveFault::Script(ScriptFault { line, cause })),
@@ -85,8 +84,8 @@ pub fn failed(line: u64, cause: Cause) -> LiveRan
 }
 
 /// A run whose threads leave no text.
-pub fn lost_by(lost: Lost) -> LiveRan
-    ensures { result ≡ record { fault = Some (lost_fault lost); ran_out = false } }
+pub(crate) fn lost_by(lost: Lost) -> LiveRan
+    ensures { result ≡ ended_by (lost_fault lost) }
 {
     match lost {
         Lost::OutOfMemory => failed(0, Cause::OutOfMemory),

@@ -4,6 +4,8 @@
 
 mod ending;
 mod reading;
+mod telling;
 
-pub use ending::{LiveFault, LiveRan, Lost, Told, failed, lost_by};
+pub use ending::{LiveFault, LiveRan, Lost, Told};
 pub use reading::{Planner, read_script};
+pub use telling::{tell_refused, tell_run};

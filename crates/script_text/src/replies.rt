@@ -210,7 +210,8 @@ fn print_event(out: &mut Vec<u8>, event: &Event) -> Result<(), AllocError>
     }
 }
 
-fn print_each(out: &mut Vec<u8>, events: &[Event]) -> Result<(), AllocError>
+/// The lines of the events of one call, one each, in their order.
+pub fn print_events(out: &mut Vec<u8>, events: &Events) -> Result<(), AllocError>
     ensures { OnOk result (out.new.items ≡ out.old.items ++ event_lines events.now) }
 {
     for event in events {
@@ -219,26 +220,11 @@ fn print_each(out: &mut Vec<u8>, events: &[Event]) -> Result<(), AllocError>
     Ok(())
 }
 
-/// The lines of the events of one call, one each, in their order.
-pub fn print_events(out: &mut Vec<u8>, events: Events) -> Result<(), AllocError>
-    ensures { OnOk result (out.new.items ≡ out.old.items ++ event_lines events) }
-{
-    let (first, rest) = events.into_parts();
-    match first {
-        None => print_each(out, rest.as_slice()),
-        Some(event) => {
-            print_event(out, &event)?;
-            print_each(out, rest.as_slice())
-        }
-    }
-}
-
 /// The lines of the events of several calls, one each, in their order.
-#[tactic(auto, using(crate::proofs::EventLines::parts_lines))]
-pub fn print_told(out: &mut Vec<u8>, events: EventList) -> Result<(), AllocError>
-    ensures { OnOk result (out.new.items ≡ out.old.items ++ event_lines events) }
+pub fn print_told(out: &mut Vec<u8>, events: &EventList) -> Result<(), AllocError>
+    ensures { OnOk result (out.new.items ≡ out.old.items ++ event_lines events.now) }
 {
-    for part in events.into_parts() {
+    for part in events.parts() {
         print_events(out, part)?;
     }
     Ok(())
@@ -273,5 +259,5 @@ pub fn print_driven(out: &mut Vec<u8>, driven: Driven) -> Result<(), AllocError>
 {
     print_drove(out, driven.turns, driven.end)?;
     print_frames(out, driven.frames.as_slice())?;
-    print_told(out, driven.events)
+    print_told(out, &driven.events)
 }

@@ -87,7 +87,7 @@ fn print_given_and_ended(alloc: Global, out: &mut Vec<u8>, ended: Vec<Event>) ->
         pgn,
         bytes,
     };
-    print_events(out, Events::all(given, ended))?;
+    print_events(out, &Events::all(given, ended))?;
     Ok(())
 }
 
