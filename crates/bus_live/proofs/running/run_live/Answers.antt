@@ -11,4 +11,4 @@ pub returns-in-Some : goal.returns-in-Some
 returns-in-Some g c = at_refused Plan text_of CameTo planned _ _ _ _ (plan_of c.read_script-read.new.planner) _ _ (rw c.new-setup.ensures at c.read_script-read.ensures) c.as_slice.ensures.value (rw c.in-Some.is at c.tell_refused.ensures)
 
 pub returns : goal.returns
-returns g c = at_run Plan text_of CameTo planned _ _ _ _ _ (plan_of c.read_script-read.new.planner) _ _ _ (rw c.new-setup.ensures at c.read_script-read.ensures) c.as_slice.ensures.value (rw c.in-None.is at c.tell_refused.ensures) c.run.ensures c.tell_run.ensures
+returns g c = at_run Plan text_of CameTo planned _ _ _ _ _ (plan_of c.read_script-read.new.planner) _ _ _ (rw c.new-setup.ensures at c.read_script-read.ensures) c.as_slice.ensures.value (rw c.in_default.is at c.tell_refused.ensures) c.run.ensures c.tell_run.ensures
