@@ -1,10 +1,11 @@
 -- Timers that fire, an overrun, and a port that closes: none changes what a station says to all, and a session is as it was or ends.
 use Rattle.std.proofs.Common.{◌≡◌, inr, ℕ, zero, suc, ◌<◌, ◌==◌, nat_lt, [], ◌∷◌, ◌++◌, length, Option, Some, None, refl, sym, ap, ◌∙◌, subst, arith, append-nil, eqb-true}
+use Rattle.std.specs.Prelude.{option_to_list}
 use Rattle.std.proofs.lemmas.Bool.{eqb-false}
 use Rattle.std.specs.FinMap as finmap
 use Rattle.bus_frame.specs.Frames.{CanFrame}
 use Rattle.pgn_ids.specs.declared.address.Address.{Address}
-use Rattle.tx_queue.specs.Queue.{queue_limit, option_frames}
+use Rattle.tx_queue.specs.Queue.{queue_limit}
 use Rattle.port_table.specs.Ports.{without_port}
 use Rattle.lane_core.specs.Lane.{Lane}
 use Rattle.lane_core.specs.Step.{nothing_to_do, LaneStep}
@@ -125,7 +126,7 @@ module _ (gives : GivesBack) (a : Address) (small : a.0 < 254) where
   stay_then : (x y z : Station) → AllStay x y → AllStay y z → AllStay x z
   stay_then x y z h k q = stays_or_ends (session_at x.sessions q) (session_at y.sessions q) (session_at z.sessions q) (h q) (k q)
 
-  if_free_frames : (st : Station) (sessions : Inbound) (frame : Option CanFrame) (to : ℕ) → IsOwn a st → OfEach (IsSessionOf a.0) sessions → to < 254 → Each (IsSaid a.0 to) (option_frames frame) → Does a st (record st { queue = if_free st.queue frame; sessions = sessions })
+  if_free_frames : (st : Station) (sessions : Inbound) (frame : Option CanFrame) (to : ℕ) → IsOwn a st → OfEach (IsSessionOf a.0) sessions → to < 254 → Each (IsSaid a.0 to) (option_to_list frame) → Does a st (record st { queue = if_free st.queue frame; sessions = sessions })
   if_free_frames st sessions None to h k l e = subst (λ q. Does a st (record st { queue = q; sessions = sessions })) (append-nil st.queue) (does_sessions gives a small st sessions [] to h k l tt)
   if_free_frames st sessions (Some frame) to h k l e = either (λ q. Does a st (record st { queue = q; sessions = sessions })) (nat_lt (length st.queue) queue_limit) (st.queue ++ frame ∷ []) st.queue
       (does_sessions gives a small st sessions (frame ∷ []) to h k l e)

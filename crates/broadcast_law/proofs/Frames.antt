@@ -46,7 +46,7 @@ use Rattle.broadcast_law.proofs.Stations.{IsOwn, Does}
 use Rattle.broadcast_law.proofs.Takes.{does_taken, taken_ports, taken_one}
 use Rattle.broadcast_law.proofs.View.{View, Stands, GoesOn}
 
-queue_front : (queue : List CanFrame) (f : CanFrame) → front queue ≡ Some f → queue ≡ f ∷ drop 1 queue
+pub queue_front : (queue : List CanFrame) (f : CanFrame) → front queue ≡ Some f → queue ≡ f ∷ drop 1 queue
 queue_front [] f e = absurd (none-some f e)
 queue_front (g ∷ queue) f e = ap (λ x. x ∷ queue) (same_Some g f e)
 

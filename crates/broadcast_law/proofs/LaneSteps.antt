@@ -1,6 +1,6 @@
 -- The steps of a lane: it stays the lane between its two stations, and what it queues goes from the one to the other.
 use Rattle.std.proofs.Common.{◌≡◌, ℕ, ◌+◌, ◌<◌, ◌==◌, nat_lt, cond, not, ◌&&◌, ◌||◌, List, [], ◌∷◌, length, Option, Some, None, refl, sym, ap, ◌∙◌, arith, eqb-true}
-use Rattle.std.specs.Prelude.{nat_le, min}
+use Rattle.std.specs.Prelude.{nat_le, min, option_to_list}
 use Rattle.std.specs.List.{range_with_len}
 use Rattle.std.proofs.lemmas.Bool.{eqb-false}
 use Rattle.bus_frame.specs.Frames.{CanFrame}
@@ -32,7 +32,6 @@ use Rattle.originator.specs.declared.states.Stepped.{Stepped}
 use Rattle.originator.specs.declared.states.Stepped.TheVariants.{On, Over}
 use Rattle.lane_core.specs.Lane.{Lane, new_lane, pushed, link_for, with_under_way}
 use Rattle.lane_core.specs.Probe.{is_token, other_token, token_pgn, probes, most_requests}
-use Rattle.tx_queue.specs.Queue.{option_frames}
 use Rattle.lane_core.specs.Step.{says, LaneStep}
 use Rattle.lane_core.specs.Endings.{over, still, is_acknowledged, after_step}
 use Rattle.lane_core.specs.Cancel.{withdrawn, is_front, cancelled, cancelled_by}
@@ -81,7 +80,7 @@ module _ (a to : ℕ) where
   under lane u h k = record { from = h.from; to_it = h.to_it; small = h.small; under_way = k; settled = h.settled }
 
   -- a message ends
-  fits_over : (lane : Lane) (o : Outcome) (frame : Option CanFrame) → IsLaneOf lane → Said (option_frames frame) → Fits (over lane o frame)
+  fits_over : (lane : Lane) (o : Outcome) (frame : Option CanFrame) → IsLaneOf lane → Said (option_to_list frame) → Fits (over lane o frame)
   fits_over lane o frame h k = (
     record {
       from = h.from;
@@ -100,7 +99,7 @@ module _ (a to : ℕ) where
 
   abbrev FitsStepped : Stepped → Type 0
   FitsStepped (On state) = FitsLink (link_of state)
-  FitsStepped (Over o) = Said (option_frames o.frame)
+  FitsStepped (Over o) = Said (option_to_list o.frame)
 
   fits_without : (link : Link) (unsent resends : ℕ) (timer : Timer) → FitsLink link → FitsStepped (On (without_window link unsent resends timer))
   fits_without link unsent resends timer h = either (λ (s : OutState). FitsLink (link_of s)) (nat_le unsent (packets_of link)) _ _ h h

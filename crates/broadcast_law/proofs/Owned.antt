@@ -1,10 +1,8 @@
 -- Along a record each station queues its own frames alone.
-use Rattle.std.proofs.Common.{◌≡◌, ℕ, true, List, Some, refl}
-use Rattle.std.specs.Prelude.{slice_get}
+use Rattle.std.proofs.Common.{◌≡◌, true, List, refl}
 use Rattle.bus_frame.specs.Frames.{CanFrame}
 use Rattle.pgn_ids.specs.Identifier.{meaning_of}
 use Rattle.pgn_ids.specs.declared.address.Address.{Address}
-use Rattle.station_core.specs.Station.{Station}
 use Rattle.segment_law.specs.Segment.{Segment}
 use Rattle.segment_law.specs.Calls.{applied, is_call}
 use Rattle.segment_law.specs.Record.{Record, StandsAt}

@@ -1,5 +1,6 @@
 -- The steps of an incoming session: it stays the one of its key, and what it queues goes to its source.
 use Rattle.std.proofs.Common.{◌≡◌, ℕ, Bool, Option, Some}
+use Rattle.std.specs.Prelude.{option_to_list}
 use Rattle.bus_frame.specs.Frames.{CanFrame}
 use Rattle.tp_wire.specs.Rows.{written}
 use Rattle.tp_wire.specs.declared.wire.Kind.{Kind}
@@ -17,7 +18,6 @@ use Rattle.responder.specs.declared.flow.Flow.TheVariants.{Open, Held}
 use Rattle.responder.specs.declared.in_state.InState.{InState}
 use Rattle.responder.specs.declared.received.Received.{Received}
 use Rattle.responder.specs.declared.received.Received.TheVariants.{On, Complete, Ended}
-use Rattle.tx_queue.specs.Queue.{option_frames}
 use Rattle.record_lemmas.proofs.Lists.{Each}
 use Rattle.responder.proofs.Rows.{by_rows, by_timer, by_room, by_room_at_timer}
 use Rattle.broadcast_law.proofs.Carried.{IsSaid}
@@ -27,7 +27,7 @@ module _ (a from : ℕ) where
   FitsPeer peer = (peer.to ≡ a) × (peer.from ≡ from)
 
   abbrev pub SaidBack : Option CanFrame → Type 0
-  SaidBack frame = Each (IsSaid a from) (option_frames frame)
+  SaidBack frame = Each (IsSaid a from) (option_to_list frame)
 
   pub said_peer : (peer : Peer) (w : Wire) → FitsPeer peer → SaidBack (Some (written w peer.to peer.from))
   said_peer peer w h = ((w, λ i. written w (h.0 i) (h.1 i)), tt)

@@ -1,5 +1,6 @@
 -- What holds of every station, and steps that leave its lane to all, and what it queues of it, as they were.
 use Rattle.std.proofs.Common.{◌≡◌, ℕ, ◌<◌, ◌==◌, Bool, true, false, List, [], ◌++◌, Option, Some, None, refl, sym, ap, ◌∙◌, subst, arith, append_assoc, append-nil, eqb-true}
+use Rattle.std.specs.Prelude.{option_to_list}
 use Rattle.std.proofs.lemmas.Bool.{eqb-false}
 use Rattle.std.proofs.lemmas.Option.{same_Some}
 use Rattle.std.specs.FinMap as finmap
@@ -10,7 +11,6 @@ use Rattle.pgn_ids.specs.Identifier.{meaning_of}
 use Rattle.pgn_ids.specs.declared.address.Address.{Address}
 use Rattle.port_table.specs.Ports.{Ports}
 use Rattle.lane_core.specs.Lane.{Lane}
-use Rattle.tx_queue.specs.Queue.{option_frames}
 use Rattle.lane_core.specs.Step.{nothing_to_do, LaneStep}
 use Rattle.lane_core.specs.Endings.{still}
 use Rattle.lane_core.specs.declared.step.Ended.{Ended}
@@ -158,7 +158,7 @@ module _ (gives : GivesBack) (a : Address) (small : a.0 < 254) where
       }
 
   pub does_reception : (st : Station) (key : Key) (r : Reception) → IsOwn a st → Settles a key st.sessions r → Does a st (by_session st r).station
-  does_reception st key r h s = does_sessions st r.sessions (option_frames r.frame) s.frame.0 h s.sessions s.frame.1 s.frame.2
+  does_reception st key r h s = does_sessions st r.sessions (option_to_list r.frame) s.frame.0 h s.sessions s.frame.1 s.frame.2
 
   -- the lane to any destination makes a step
   pub own_lane : (st : Station) (to : Address) (step : Lane → Lane × LaneStep) → IsOwn a st → to.0 < 256 → ((lane : Lane) → IsLaneOf a.0 to.0 lane → Fits a.0 to.0 (step lane)) → IsOwn a (by_lane st to step).station

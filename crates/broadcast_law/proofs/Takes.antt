@@ -1,5 +1,6 @@
 -- A station takes a frame: what it does with any frame, and that one that carries nothing of s to all leaves the broadcasts of s.
 use Rattle.std.proofs.Common.{◌≡◌, ℕ, ◌<◌, ◌==◌, Bool, true, cond, not, ◌||◌, List, [], ◌∷◌, Option, Some, None, refl, sym, ap, ◌∙◌, subst, arith, append-nil, eq-eqb, ltb-true}
+use Rattle.std.specs.Prelude.{option_to_list}
 use Rattle.std.proofs.lemmas.Bool.{and_parts}
 use Rattle.std.specs.FinMap as finmap
 use Rattle.bus_frame.specs.Frames.{CanFrame}
@@ -28,7 +29,6 @@ use Rattle.session_table.specs.declared.key.SessionKind.TheVariants as session
 use Rattle.session_table.specs.declared.incoming.Incoming.{Incoming}
 use Rattle.session_table.specs.declared.incoming.Incoming.TheVariants as incoming
 use Rattle.lane_core.specs.Lane.{Lane}
-use Rattle.tx_queue.specs.Queue.{option_frames}
 use Rattle.lane_core.specs.Step.{nothing_to_do, LaneStep}
 use Rattle.lane_core.specs.Hear.{heard}
 use Rattle.lane_core.specs.Answer.{answered}
@@ -64,11 +64,11 @@ module _ (gives : GivesBack) (a : Address) (small : a.0 < 254) where
   -- a session opens, or it doesn't
   module _ (st : Station) (h : IsOwn a st) (key : Key) (of_key : key.source.0 < 254) (foreign : key.source.0 ≡ a.0 → ⊥) where
     does_opened : (pgn size : ℕ) (state : Incoming) (frame : Option CanFrame) → IsStateOf a.0 key state → SaidBack a.0 key.source.0 frame → Does a st (by_session st (goes_on_at key (set_for st.ports pgn size) st.sessions state frame)).station
-    does_opened pgn size state frame k e = does_sessions gives a small st (finmap.insert st.sessions key (Some (set_for st.ports pgn size, state))) (option_frames frame) key.source.0 h
+    does_opened pgn size state frame k e = does_sessions gives a small st (finmap.insert st.sessions key (Some (set_for st.ports pgn size, state))) (option_to_list frame) key.source.0 h
         (of_each_put (IsSessionOf a.0) st.sessions key (set_for st.ports pgn size, state) (record { small = of_key; foreign = foreign; distinct = set_distinct a st.ports h.ports _ size; state = k }) h.sessions) of_key e
 
     does_not_opened : (frame : Option CanFrame) → SaidBack a.0 key.source.0 frame → Does a st (by_session st (ended_at key st.sessions frame)).station
-    does_not_opened frame e = does_sessions gives a small st (finmap.remove st.sessions key) (option_frames frame) key.source.0 h (of_each_dropped (IsSessionOf a.0) st.sessions key h.sessions) of_key e
+    does_not_opened frame e = does_sessions gives a small st (finmap.remove st.sessions key) (option_to_list frame) key.source.0 h (of_each_dropped (IsSessionOf a.0) st.sessions key h.sessions) of_key e
 
   module _ (st : Station) (h : IsOwn a st) (from : Address) (foreign : from.0 ≡ a.0 → ⊥) (one : from.0 < 254) where
     peer_fits : (pgn : ℕ) → FitsPeer a.0 from.0 (peer_of st.address from pgn)

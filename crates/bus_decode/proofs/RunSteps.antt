@@ -1,9 +1,10 @@
 -- A log that goes on by a line.
-use Rattle.std.proofs.Common.{◌≡◌, ℕ, ◌+◌, ◌<◌, ◌≤◌, List, [], ◌∷◌, ◌++◌, length, Option, Some, None, Result, Ok, Err, true, false, refl, sym, ◌∙◌, ap, append_assoc, arith, nat_lt, nat_le, subst, IfSome, cond, ◌||◌}
+use Rattle.std.proofs.Common.{◌≡◌, ℕ, ◌+◌, ◌<◌, ◌≤◌, List, [], ◌∷◌, ◌++◌, length, Option, Some, None, Result, Ok, Err, true, false, refl, sym, ◌∙◌, ap, arith, nat_lt, nat_le, subst, IfSome, cond, ◌||◌}
 use Rattle.std.proofs.lemmas.Bool.Decides.{nat_tests}
 use Rattle.std.proofs.lemmas.List.{append-nil}
 use Rattle.std.specs.Io.KnownBytes.{Appends, Keeps, append_known}
 use Rattle.text_lines.specs.Known.{Known, IsFront}
+use Rattle.text_lines.proofs.Known.{appends_more, appends_front}
 use Rattle.text_lines.specs.Lines.{lines_of, ReadsLine}
 use Rattle.text_lines.specs.declared.lines.ReadError.{ReadError}
 use Rattle.text_lines.specs.declared.lines.ReadError.TheVariants as reads
@@ -29,12 +30,6 @@ pub record GoesOn (a b : Option (List ℕ)) (rest whole : Outcome) : Type 0 wher
   pub counts : rest.counts ≡ whole.counts
   pub fault : rest.fault ≡ whole.fault
 
-appends_more : (a b c : Option (List ℕ)) (x y all : List ℕ) → Appends b c x → Appends a (append_known b (x ++ y)) all → Appends a (append_known c y) all
-appends_more None b c x y all p q = tt
-appends_more (Some s) None c x y all p q = absurd q
-appends_more (Some s) (Some t) None x y all p q = p
-appends_more (Some s) (Some t) (Some u) x y all p q = ap (λ v. v ++ y) p ∙ append_assoc t x y ∙ q
-
 appends_all : (a b c : Option (List ℕ)) (x all : List ℕ) → Appends b c x → Appends a (append_known b x) all → Appends a c all
 appends_all None b c x all p q = tt
 appends_all (Some s) None c x all p q = absurd q
@@ -46,13 +41,6 @@ appends_none None b c all p q = tt
 appends_none (Some s) None c all p q = absurd q
 appends_none (Some s) (Some t) None all p q = p
 appends_none (Some s) (Some t) (Some u) all p q = p ∙ sym (append-nil t) ∙ q
-
--- what was to be written was written up to more
-appends_front : (a b c : Option (List ℕ)) (more text rest all : List ℕ) → Appends b (append_known c more) text → Appends a (append_known b (text ++ rest)) all → Appends a (append_known c (more ++ rest)) all
-appends_front None b c more text rest all p q = tt
-appends_front (Some s) None c more text rest all p q = absurd q
-appends_front (Some s) (Some t) None more text rest all p q = absurd p
-appends_front (Some s) (Some t) (Some u) more text rest all p q = sym (append_assoc u more rest) ∙ ap (λ v. v ++ rest) p ∙ append_assoc t text rest ∙ q
 
 appends_end : (a b c : Option (List ℕ)) (more text all : List ℕ) → Appends b (append_known c more) text → Appends a (append_known b text) all → Appends a (append_known c more) all
 appends_end None b c more text all p q = tt
@@ -195,10 +183,6 @@ at_last options (Some all) (Some rest) (Some left) line a b c s n d inv reads e 
     (no_line options a b s n (outcome options all) (subst (λ ls. GoesOn a b (outcome_from options s n ls) (outcome options all)) reads inv)) e
 
 -- nothing of a text was written
-pub front_none : (b : Option (List ℕ)) (text : List ℕ) → IsFront b b text
-front_none None text = (text, tt)
-front_none (Some xs) text = (text, refl)
-
 -- what was read, by its name
 pub reads_as : (read as_known : LineRead) (rb rc : Option (List ℕ)) (line : List ℕ) → read ≡ as_known → Known rb rc (ReadsLine read line) → Known rb rc (ReadsLine as_known line)
 reads_as read as_known rb rc line e k = subst (λ r. Known rb rc (ReadsLine r line)) e k

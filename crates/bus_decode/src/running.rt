@@ -106,7 +106,7 @@ fn failed(line: u64, cause: Cause, counts: Counts) -> Decoded
 }
 
 /// The log ends: what that tells is written and flushed.
-#[tactic(auto, using(crate::proofs::RunSteps::front_none))]
+#[tactic(auto, using(text_lines::proofs::Known::front_none))]
 fn end_run<W: Write>(
     alloc: Global,
     decoder: Decoder,

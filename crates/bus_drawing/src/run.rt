@@ -1,7 +1,7 @@
 //! Arrows of frames, one for packets that follow on one another.
 ghost use Rattle.std.specs.Prelude.{◌≡◌, ◌++◌, OnOk, IfOk};
-ghost use Rattle.bus_drawing.specs.Words.{arrow_line, packet_words};
-ghost use Rattle.bus_drawing.specs.Runs.{run_by, run_of, run_arrow, goes_on, longer, open_after, drawn_at, arrows};
+ghost use Rattle.bus_drawing.specs.Words.{arrow_line};
+ghost use Rattle.bus_drawing.specs.Runs.{run_of, run_arrow, goes_on, longer, open_after, drawn_at, arrows};
 
 use crate::words::{draw_frame, put_ends, put_packets};
 use bus_frame::Frame;

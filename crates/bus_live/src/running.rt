@@ -1,5 +1,5 @@
 //! A script run by threads.
-ghost use Rattle.std.specs.Prelude.{◌≡◌, IfSome, IfOk};
+ghost use Rattle.std.specs.Prelude.{IfSome, IfOk};
 ghost use Rattle.segment_shared.specs.LiveView.{LiveView};
 ghost use Rattle.script_setup.specs.Plan.{plan_of};
 ghost use Rattle.bus_live.specs.Ending.{Came, CameTo, Ended, planned};

@@ -2,7 +2,7 @@
 ghost use Rattle.std.specs.Prelude.{◌≡◌, ◌∷◌, ◌++◌, ◌↔◌, [], false, IfOk, OnOk, IsErrOf};
 ghost use Rattle.segment_law.specs.Segment.{are_addresses};
 ghost use Rattle.segment_law.specs.Calls.{events_of};
-ghost use Rattle.script_text.specs.Replies.{event_lines, reply_line};
+ghost use Rattle.script_text.specs.Replies.{event_lines};
 ghost use Rattle.bus_node.specs.Node.{new_node, cleared, rested_by, called, asked};
 
 use crate::rests::Rests;

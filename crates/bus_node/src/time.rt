@@ -1,6 +1,6 @@
 //! How the time goes on, and what is done meanwhile without a command.
-ghost use Rattle.std.specs.Prelude.{◌≡◌, ◌+◌, ◌<◌, ◌≤◌, ◌^◌, IfOk, OnOk};
-ghost use Rattle.bus_node.specs.Time.{due_below, is_not_yet, is_pacing, horizon, may_pump, next_lane, at_tick, waited, pumped, step, go_on, most_steps, settled, started, tick_at, at_time, Stepped};
+ghost use Rattle.std.specs.Prelude.{◌≡◌, ◌+◌, ◌<◌, IfOk, OnOk};
+ghost use Rattle.bus_node.specs.Time.{due_below, is_not_yet, is_pacing, horizon, may_pump, next_lane, at_tick, waited, step, go_on, most_steps, settled, started, tick_at, at_time, Stepped};
 
 use crate::node::Node;
 use pgn_ids::Address;

@@ -21,7 +21,7 @@ record Follows (bus : Bus) (all : List CanFrame) : Type 0 where
   pub last : HoldsLastOf all bus
 
 -- no frame is past the newest
-frame_past : (bus : Bus) (place : ℕ) → bus_len bus < place → frame_at bus place ≡ None
+pub frame_past : (bus : Bus) (place : ℕ) → bus_len bus < place → frame_at bus place ≡ None
 frame_past bus place past =
     let none : slice_get bus.kept (place - bus.first) ≡ None = slice_get_past bus.kept (place - bus.first) (omega arith) in
     rw none (either (nat_le bus.first place))

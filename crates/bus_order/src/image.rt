@@ -1,5 +1,5 @@
 //! A bus as plain data.
-ghost use Rattle.std.specs.Prelude.{◌≡◌, ◌↔◌, IfOk, IsTrue, length};
+ghost use Rattle.std.specs.Prelude.{◌≡◌, ◌↔◌, IfOk, IsTrue};
 
 use crate::cursor::Cursor;
 use crate::log::BusLog;

@@ -4,7 +4,6 @@ use crate::carrying::{Account, Carrying, carry, carrying_of};
 use crate::gateway::Passage;
 use crate::pacing::{Numbered, RelayPace};
 use crate::parts::Start;
-use pgn_ids::Address;
 use script_runs::Lost;
 use segment_shared::{Gate, Inbox, Live, SharedSegment};
 use segment_threads::{Board, Ends, Pace, Party, Running, Sender, gather, spawn_segment, watch};

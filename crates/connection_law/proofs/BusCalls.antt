@@ -3,7 +3,6 @@ use Rattle.std.proofs.Common.{◌≡◌, inl, ℕ, zero, suc, ◌<◌, ◌≤◌
 use Rattle.std.specs.Prelude.{slice_get, option_to_list}
 use Rattle.std.specs.List.{cons_option}
 use Rattle.std.proofs.lemmas.List.Elements.{filter_map-append}
-use Rattle.std.proofs.lemmas.Option.{none-some, same_Some}
 use Rattle.bus_frame.specs.Frames.{CanFrame}
 use Rattle.pgn_ids.specs.Identifier.{meaning_of}
 use Rattle.pgn_ids.specs.declared.address.Address.{Address}
@@ -27,6 +26,7 @@ use Rattle.record_lemmas.proofs.Segments.{same_address}
 use Rattle.lane_law.specs.Choice.{IsChoice}
 use Rattle.lane_law.specs.Lane as machine
 use Rattle.broadcast_law.proofs.Buses.{ahead_of, passed_ahead, passed_again, passed_ahead_else, passed_again_else, put_ahead, put_again}
+use Rattle.broadcast_law.proofs.Frames.{queue_front}
 use Rattle.broadcast_law.proofs.Places.{IsAt, AllOwn, cursor_of, apart_places}
 use Rattle.broadcast_law.proofs.Stations.{IsOwn}
 use Rattle.session_table.specs.Key.{session_for}
@@ -39,10 +39,6 @@ use Rattle.connection_law.proofs.Turns.{none_opened, turns_same}
 use Rattle.connection_law.proofs.Segments.{Ghost, parts, station_in, view, goes_quietly, turns_none, Good, GoodBy, is_of, is_here, at_it, good_step}
 use Rattle.connection_law.proofs.Calls.{sends_so}
 use Rattle.connection_law.proofs.StepsOut.{sender_overruns}
-
-queue_front : (queue : List CanFrame) (f : CanFrame) → front queue ≡ Some f → queue ≡ f ∷ drop 1 queue
-queue_front [] f e = absurd (none-some f e)
-queue_front (g ∷ queue) f e = ap (λ x. x ∷ queue) (same_Some g f e)
 
 take_drop : {A : Type 0} (n : ℕ) (xs : List A) → xs ≡ take n xs ++ drop n xs
 take_drop zero xs = refl

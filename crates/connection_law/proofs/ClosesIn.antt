@@ -1,12 +1,13 @@
 -- A port of the destination's station closes.
 use Rattle.std.proofs.Common.{◌≡◌, inl, inr, ℕ, zero, suc, ◌<◌, ◌≤◌, ◌==◌, nat_lt, List, [], ◌∷◌, ◌++◌, filter_map, length, Option, Some, None, refl, sym, ap, ◌∙◌, subst, arith, append-nil, append_assoc}
+use Rattle.std.specs.Prelude.{option_to_list}
 use Rattle.std.proofs.lemmas.List.Elements.{filter_map-append}
 use Rattle.std.proofs.lemmas.Option.{same_Some}
 use Rattle.bus_frame.specs.Frames.{CanFrame}
 use Rattle.pgn_ids.specs.declared.address.Address.{Address}
 use Rattle.tp_wire.specs.declared.wire.Kind.{Kind}
 use Rattle.tp_wire.specs.declared.wire.Kind.TheVariants.{Tp, Etp}
-use Rattle.tx_queue.specs.Queue.{queue_limit, option_frames}
+use Rattle.tx_queue.specs.Queue.{queue_limit}
 use Rattle.port_table.specs.Ports.{Ports, without_port}
 use Rattle.port_table.specs.PortSet.{without_number}
 use Rattle.session_table.specs.Key.{session_for}
@@ -72,7 +73,7 @@ module _ (laws : Laws) (choose : machine.OnEachLane (λ lane. IsChoice lane.stre
     none = filter_map-append (returns s d) h.frames k.frames ∙ (λ i. h.none i ++ k.none i);
   }
 
-  frees : (number : ℕ) (st : Station) (sessions : Inbound) (frame : Option CanFrame) → ((k : Kind) → Lessens number (real_at laws s d pair sessions k) (real_at laws s d pair st.sessions k)) → filter_map (returns s d) (option_frames frame) ≡ [] → Closes number st (record st { queue = if_free st.queue frame; sessions = sessions })
+  frees : (number : ℕ) (st : Station) (sessions : Inbound) (frame : Option CanFrame) → ((k : Kind) → Lessens number (real_at laws s d pair sessions k) (real_at laws s d pair st.sessions k)) → filter_map (returns s d) (option_to_list frame) ≡ [] → Closes number st (record st { queue = if_free st.queue frame; sessions = sessions })
   frees number st sessions None r e = record { sessions = r; frames = []; queue = sym (append-nil st.queue); none = refl }
   frees number st sessions (Some f) r e = either (λ q. Closes number st (record st { queue = q; sessions = sessions })) (nat_lt (length st.queue) queue_limit) (st.queue ++ f ∷ []) st.queue
       (record { sessions = r; frames = f ∷ []; queue = refl; none = e }) (record { sessions = r; frames = []; queue = sym (append-nil st.queue); none = refl })
@@ -80,12 +81,12 @@ module _ (laws : Laws) (choose : machine.OnEachLane (λ lane. IsChoice lane.stre
   abbrev AreOf : Station → Type 0
   AreOf st = OfEach (IsSessionOf d.0) st.sessions
 
-  closing_none : (st : Station) (key : Key) (number : ℕ) → key.source.0 < 256 → AreOf st → filter_map (returns s d) (option_frames (unbound_at key number st.sessions).frame) ≡ []
+  closing_none : (st : Station) (key : Key) (number : ℕ) → key.source.0 < 256 → AreOf st → filter_map (returns s d) (option_to_list (unbound_at key number st.sessions).frame) ≡ []
   closing_none st key number l k = by (state_at st.sessions key) refl
     where
-      by : (o : Option (List ℕ × Incoming)) → state_at st.sessions key ≡ o → filter_map (returns s d) (option_frames (unbound_by o key number st.sessions).frame) ≡ []
+      by : (o : Option (List ℕ × Incoming)) → state_at st.sessions key ≡ o → filter_map (returns s d) (option_to_list (unbound_by o key number st.sessions).frame) ≡ []
       by None e = refl
-      by (Some x) e = either (λ (r : Reception). filter_map (returns s d) (option_frames r.frame) ≡ []) (length (without_number x.0 number) == 0) _ _
+      by (Some x) e = either (λ (r : Reception). filter_map (returns s d) (option_to_list r.frame) ≡ []) (length (without_number x.0 number) == 0) _ _
           (asked_none laws.gives s d d.0 key.source.0 (closing_frame x.1) low_d l (closing_asks d key st.sessions x.1 (k key x e).state)) refl
 
   closes_one : (st : Station) (source : Address) (kind : SessionKind) (number : ℕ) → source.0 < 256 → AreOf st → Closes number st (unbound_session st source kind number)

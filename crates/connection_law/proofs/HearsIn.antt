@@ -1,5 +1,6 @@
 -- The destination's station takes a frame from the sender to it.
 use Rattle.std.proofs.Common.{◌≡◌, ℕ, ◌<◌, ◌^◌, ◌==◌, Bool, true, false, ◌&&◌, List, [], ◌∷◌, ◌++◌, map, filter_map, length, Option, Some, None, refl, sym, ap, ◌∙◌, arith, eq-eqb}
+use Rattle.std.specs.Prelude.{option_to_list}
 use Rattle.std.specs.List.{cons_option}
 use Rattle.std.specs.FinMap as finmap
 use Rattle.bus_frame.specs.Frames.{CanFrame}
@@ -19,7 +20,6 @@ use Rattle.responder.specs.Finished.{Finished}
 use Rattle.responder.specs.Answers.{abort_frame, end_frame}
 use Rattle.responder.specs.declared.received.Received.{Received}
 use Rattle.responder.specs.declared.received.Received.TheVariants.{On, Complete, Ended}
-use Rattle.tx_queue.specs.Queue.{option_frames}
 use Rattle.session_table.specs.declared.key.Key.{Key}
 use Rattle.session_table.specs.declared.key.SessionKind.TheVariants as session
 use Rattle.session_table.specs.declared.incoming.Incoming.{Incoming}
@@ -95,10 +95,10 @@ module _ (laws : Laws) (choose : machine.OnEachLane (λ lane. IsChoice lane.stre
     shown step = receiver_view laws s d pair v behind step
 
     -- what is queued answers as much
-    pub answers_are : (frame : Option CanFrame) (back : List Back) → filter_map (returns s d) (option_frames frame) ≡ back → filter_map (returns s d) (behind ++ (st.queue ++ option_frames frame)) ≡ v.answers ++ back
-    answers_are frame back e = answers_more laws s d pair behind st.queue (option_frames frame) ∙ (λ i. sym is.answers i ++ e i)
+    pub answers_are : (frame : Option CanFrame) (back : List Back) → filter_map (returns s d) (option_to_list frame) ≡ back → filter_map (returns s d) (behind ++ (st.queue ++ option_to_list frame)) ≡ v.answers ++ back
+    answers_are frame back e = answers_more laws s d pair behind st.queue (option_to_list frame) ∙ (λ i. sym is.answers i ++ e i)
 
-    pub shows_put : (kind : Kind) (x : List ℕ × Incoming) (frame : Option CanFrame) → AsksIn d.0 s.0 frame → shown (quietly (record st { queue = st.queue ++ option_frames frame; sessions = finmap.insert st.sessions (own_key kind) (Some x) })) ≡ record (with_kind kind (Some x) v) { answers = v.answers ++ []; given = v.given ++ [] }
+    pub shows_put : (kind : Kind) (x : List ℕ × Incoming) (frame : Option CanFrame) → AsksIn d.0 s.0 frame → shown (quietly (record st { queue = st.queue ++ option_to_list frame; sessions = finmap.insert st.sessions (own_key kind) (Some x) })) ≡ record (with_kind kind (Some x) v) { answers = v.answers ++ []; given = v.given ++ [] }
     shows_put kind x frame a = λ i. (let w : View = record v { tp = tp_is i; etp = etp_is i; answers = answers_are frame [] (asked_none laws.gives s d d.0 s.0 frame low_d low_s a) i; given = v.given ++ [] } in w)
       where
         tp_is : real_at laws s d pair (finmap.insert st.sessions (own_key kind) (Some x)) Tp ≡ tp_with kind (Some x) v.tp
@@ -107,8 +107,8 @@ module _ (laws : Laws) (choose : machine.OnEachLane (λ lane. IsChoice lane.stre
         etp_is : real_at laws s d pair (finmap.insert st.sessions (own_key kind) (Some x)) Etp ≡ etp_with kind (Some x) v.etp
         etp_is = put_etp st.sessions kind x ∙ ap (etp_with kind (Some x)) (sym is.etp)
 
-    pub shows_drop : (kind : Kind) (frame : Option CanFrame) (events : List Event) (back : List Back) (told : List _) → filter_map (returns s d) (option_frames frame) ≡ back → told_to d s d events ≡ told
-        → shown (record { station = record st { queue = st.queue ++ option_frames frame; sessions = finmap.remove st.sessions (own_key kind) }; events = events }) ≡ record (with_kind kind None v) { answers = v.answers ++ back; given = v.given ++ told }
+    pub shows_drop : (kind : Kind) (frame : Option CanFrame) (events : List Event) (back : List Back) (told : List _) → filter_map (returns s d) (option_to_list frame) ≡ back → told_to d s d events ≡ told
+        → shown (record { station = record st { queue = st.queue ++ option_to_list frame; sessions = finmap.remove st.sessions (own_key kind) }; events = events }) ≡ record (with_kind kind None v) { answers = v.answers ++ back; given = v.given ++ told }
     shows_drop kind frame events back told a t = λ i. (let w : View = record v { tp = tp_is i; etp = etp_is i; answers = answers_are frame back a i; given = v.given ++ t i } in w)
       where
         tp_is : real_at laws s d pair (finmap.remove st.sessions (own_key kind)) Tp ≡ tp_with kind None v.tp

@@ -1,5 +1,6 @@
 -- The destination's station pumps, cancels, sends, fires a timer, or closes a port.
 use Rattle.std.proofs.Common.{◌≡◌, ◌⊎◌, inl, inr, ℕ, ◌<◌, ◌==◌, true, List, [], ◌++◌, filter_map, Option, Some, None, refl, sym, ap, ◌∙◌, subst, arith, append-nil}
+use Rattle.std.specs.Prelude.{option_to_list}
 use Rattle.bus_frame.specs.Frames.{CanFrame}
 use Rattle.pgn_ids.specs.declared.address.Address.{Address}
 use Rattle.tp_wire.specs.declared.wire.Kind.{Kind}
@@ -15,7 +16,6 @@ use Rattle.port_table.specs.Ports.{Ports}
 use Rattle.lane_core.specs.Pump as lane-pump
 use Rattle.lane_core.specs.Fire as lane-fire
 use Rattle.lane_core.specs.Cancel as lane-cancel
-use Rattle.tx_queue.specs.Queue.{option_frames}
 use Rattle.session_table.specs.declared.key.Key.{Key}
 use Rattle.session_table.specs.declared.key.SessionKind.{SessionKind}
 use Rattle.session_table.specs.declared.key.SessionKind.TheVariants as session
@@ -184,13 +184,13 @@ module _ (laws : Laws) (choose : machine.OnEachLane (λ lane. IsChoice lane.stre
     fires_else : (key : Key) (now : ℕ) → ((k : Kind) → own_key k ≡ key → ⊥) → Goal (by_session st (fired_at st.ports key now st.sessions))
     fires_else key now n = aside (by_session st (fired_at st.ports key now st.sessions)) (record {
       sessions = λ k. inr (fired_same key (own_key k) (n k) st.sessions st.ports now);
-      frames = option_frames (fired_at st.ports key now st.sessions).frame;
+      frames = option_to_list (fired_at st.ports key now st.sessions).frame;
       queue = refl;
       none = by (state_at st.sessions key) refl;
       untold = told (key_cases key (key_of s session.Broadcast));
     })
       where
-        broadcast_quiet : (o : Option (List ℕ × Incoming)) → key.kind ≡ session.Broadcast → state_at st.sessions key ≡ o → filter_map (returns s d) (option_frames (fired_by o st.ports key now st.sessions).frame) ≡ []
+        broadcast_quiet : (o : Option (List ℕ × Incoming)) → key.kind ≡ session.Broadcast → state_at st.sessions key ≡ o → filter_map (returns s d) (option_to_list (fired_by o st.ports key now st.sessions).frame) ≡ []
         broadcast_quiet None b e = refl
         broadcast_quiet (Some (set, incoming.Broadcast x)) b e = refl
         broadcast_quiet (Some (set, incoming.Connection u)) b e = absurd (no_broadcast (unfinished_of u).kind (sym b ∙ (h.sessions key (set, incoming.Connection u) e).state.1))
@@ -200,9 +200,9 @@ module _ (laws : Laws) (choose : machine.OnEachLane (λ lane. IsChoice lane.stre
         own_source e session.Tp q = absurd (n Tp (λ i. record { source = record { 0 = sym e i }; kind = sym q i }))
         own_source e session.Etp q = absurd (n Etp (λ i. record { source = record { 0 = sym e i }; kind = sym q i }))
 
-        by : (o : Option (List ℕ × Incoming)) → state_at st.sessions key ≡ o → filter_map (returns s d) (option_frames (fired_by o st.ports key now st.sessions).frame) ≡ []
+        by : (o : Option (List ℕ × Incoming)) → state_at st.sessions key ≡ o → filter_map (returns s d) (option_to_list (fired_by o st.ports key now st.sessions).frame) ≡ []
         by None e = refl
-        by (Some x) e = on_test (λ b. (key.source.0 == s.0) ≡ b → filter_map (returns s d) (option_frames (fired_by (Some x) st.ports key now st.sessions).frame) ≡ []) (key.source.0 == s.0)
+        by (Some x) e = on_test (λ b. (key.source.0 == s.0) ≡ b → filter_map (returns s d) (option_to_list (fired_by (Some x) st.ports key now st.sessions).frame) ≡ []) (key.source.0 == s.0)
             (λ _ q. broadcast_quiet (Some x) (own_source (Rattle.std.proofs.Common.eqb-true key.source.0 s.0 q) key.kind refl) e)
             (λ _ q. replied_elsewhere laws.gives s d d.0 key.source.0 (fired_by (Some x) st.ports key now st.sessions).frame low_d (let z : key.source.0 < 254 = (h.sessions key x e).small in omega (arith, z)) (Rattle.std.proofs.lemmas.Bool.eqb-false key.source.0 s.0 q)
             (subst (λ o. RepliesIn d.0 key.source.0 (fired_by o st.ports key now st.sessions).frame) e (replies_fired d key st.sessions st.ports h.sessions now))) refl

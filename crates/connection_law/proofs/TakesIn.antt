@@ -1,5 +1,6 @@
 -- The destination's station takes a frame that carries nothing from the sender to it.
 use Rattle.std.proofs.Common.{◌≡◌, ◌⊎◌, inl, inr, ℕ, ◌<◌, ◌==◌, Bool, true, false, cond, not, ◌&&◌, ◌||◌, List, [], ◌∷◌, ◌++◌, filter_map, Option, Some, None, refl, sym, ap, ◌∙◌, subst, arith, append-nil, eqb-true, eq-eqb, ltb-true}
+use Rattle.std.specs.Prelude.{option_to_list}
 use Rattle.std.specs.List.{cons_option}
 use Rattle.std.specs.FinMap as finmap
 use Rattle.std.proofs.lemmas.Bool.{eqb-false}
@@ -27,7 +28,6 @@ use Rattle.responder.specs.Room.{first_join}
 use Rattle.bam_session.specs.States as bam-states
 use Rattle.bam_session.specs.Receiving as bam-steps
 use Rattle.lane_core.specs.Lane.{Lane}
-use Rattle.tx_queue.specs.Queue.{option_frames}
 use Rattle.lane_core.specs.Step.{nothing_to_do, LaneStep}
 use Rattle.lane_core.specs.Hear.{heard}
 use Rattle.session_table.specs.declared.key.Key.{Key}
@@ -97,9 +97,9 @@ module _ (laws : Laws) (s d : Address) (pair : IsPair s d) where
           record { sessions = λ k. inr refl; frames = (step x).1.frames; queue = refl; none = said_out laws.gives s d d.0 to.0 (step x).1.frames low_d k.small (fits x k).1; untold = outcome_untold s d d st.address to (step x).1.ended }
 
   -- sessions that are not those of s change, and a reply to somebody else is queued
-  in_session_else : (st : Station) (sessions : Inbound) (frame : Option CanFrame) (events : List Event) → ((k : Kind) → state_at sessions (own_key k) ≡ state_at st.sessions (own_key k)) → filter_map (returns s d) (option_frames frame) ≡ [] → station_told d s d events ≡ []
-      → Aside st (record { station = record st { queue = st.queue ++ option_frames frame; sessions = sessions }; events = events })
-  in_session_else st sessions frame events same e u = record { sessions = λ k. inr (same k); frames = option_frames frame; queue = refl; none = e; untold = u }
+  in_session_else : (st : Station) (sessions : Inbound) (frame : Option CanFrame) (events : List Event) → ((k : Kind) → state_at sessions (own_key k) ≡ state_at st.sessions (own_key k)) → filter_map (returns s d) (option_to_list frame) ≡ [] → station_told d s d events ≡ []
+      → Aside st (record { station = record st { queue = st.queue ++ option_to_list frame; sessions = sessions }; events = events })
+  in_session_else st sessions frame events same e u = record { sessions = λ k. inr (same k); frames = option_to_list frame; queue = refl; none = e; untold = u }
 
   module _ (st : Station) (h : IsOwn d st) (from : Address) where
     apart_key : (kind : SessionKind) → (from.0 ≡ s.0 → ⊥) → (k : Kind) → own_key k ≡ key_of from kind → ⊥
@@ -115,10 +115,10 @@ module _ (laws : Laws) (s d : Address) (pair : IsPair s d) where
       low : from.0 < 256
       low = omega arith
 
-      elsewhere : (frame : Option CanFrame) → RepliesIn d.0 from.0 frame → filter_map (returns s d) (option_frames frame) ≡ []
+      elsewhere : (frame : Option CanFrame) → RepliesIn d.0 from.0 frame → filter_map (returns s d) (option_to_list frame) ≡ []
       elsewhere frame e = replied_elsewhere laws.gives s d d.0 from.0 frame low_d low n e
 
-      else_to : (sessions : Inbound) (frame : Option CanFrame) → ((k : Kind) → state_at sessions (own_key k) ≡ state_at st.sessions (own_key k)) → RepliesIn d.0 from.0 frame → Aside st (record { station = record st { queue = st.queue ++ option_frames frame; sessions = sessions }; events = [] })
+      else_to : (sessions : Inbound) (frame : Option CanFrame) → ((k : Kind) → state_at sessions (own_key k) ≡ state_at st.sessions (own_key k)) → RepliesIn d.0 from.0 frame → Aside st (record { station = record st { queue = st.queue ++ option_to_list frame; sessions = sessions }; events = [] })
       else_to sessions frame same e = in_session_else st sessions frame [] same (elsewhere frame e) refl
 
       rts : (kind : Kind) (is_size : Bool) (size most pgn : ℕ) (room : Bool) (now : ℕ) → Aside st (by_session st (rts_received st.address st.ports kind is_size from size most pgn room now st.sessions))
@@ -157,7 +157,7 @@ module _ (laws : Laws) (s d : Address) (pair : IsPair s d) where
     its_broadcast : (wire : Wire) (room : Bool) (now : ℕ) → Aside st (in_session st (key_of from session.Broadcast) wire room now)
     its_broadcast wire room now = in_session_else st _ (received st.ports (key_of from session.Broadcast) wire room now st.sessions).frame (received st.ports (key_of from session.Broadcast) wire room now st.sessions).events
         (λ k. received_same (key_of from session.Broadcast) (own_key k) (broadcast_key k) st.sessions st.ports wire room now)
-        (ap (λ o. filter_map (returns s d) (option_frames o)) (no_frame wire room now))
+        (ap (λ o. filter_map (returns s d) (option_to_list o)) (no_frame wire room now))
         (telling_broadcast s d d d (key_of from session.Broadcast) _ refl not_all_d (tells_received d (key_of from session.Broadcast) st.sessions st.ports h.ports.station h.sessions wire room now))
 
     its_lane : (wire : Wire) (now : ℕ) → Aside st (in_lane st from wire now)

@@ -1,5 +1,6 @@
 -- The sender's station takes a frame.
 use Rattle.std.proofs.Common.{◌≡◌, ◌⊎◌, inl, inr, ℕ, ◌<◌, ◌==◌, Bool, true, false, cond, not, ◌&&◌, ◌||◌, List, [], ◌∷◌, ◌++◌, filter_map, Option, Some, None, refl, sym, ap, ◌∙◌, subst, arith, append-nil, eqb-true, eq-eqb, ltb-true}
+use Rattle.std.specs.Prelude.{option_to_list}
 use Rattle.std.specs.List.{cons_option}
 use Rattle.std.specs.FinMap as finmap
 use Rattle.std.proofs.lemmas.Bool.{eqb-false}
@@ -23,7 +24,6 @@ use Rattle.responder.specs.Asking.{asked}
 use Rattle.responder.specs.Room.{first_join}
 use Rattle.session_table.specs.Key.{session_for}
 use Rattle.lane_core.specs.Lane.{Lane, new_lane}
-use Rattle.tx_queue.specs.Queue.{option_frames}
 use Rattle.lane_core.specs.Step.{nothing_to_do, LaneStep}
 use Rattle.lane_core.specs.Hear.{heard}
 use Rattle.lane_core.specs.Answer.{answered}
@@ -64,8 +64,8 @@ module _ (laws : Laws) (s d : Address) (pair : IsPair s d) where
   out_none st = record { lane = refl; frames = []; queue = sym (append-nil st.queue); none = refl; untold = refl }
 
   -- a session queues a reply
-  out_session : (st : Station) (sessions : _) (from : ℕ) (frame : Option CanFrame) (events : List _) → from < 256 → RepliesIn s.0 from frame → ended_in s d events ≡ [] → Aside st (record { station = record st { queue = st.queue ++ option_frames frame; sessions = sessions }; events = events })
-  out_session st sessions from frame events l e u = record { lane = refl; frames = option_frames frame; queue = refl; none = replied_none laws.gives s d s.0 from frame low_s l e; untold = u }
+  out_session : (st : Station) (sessions : _) (from : ℕ) (frame : Option CanFrame) (events : List _) → from < 256 → RepliesIn s.0 from frame → ended_in s d events ≡ [] → Aside st (record { station = record st { queue = st.queue ++ option_to_list frame; sessions = sessions }; events = events })
+  out_session st sessions from frame events l e u = record { lane = refl; frames = option_to_list frame; queue = refl; none = replied_none laws.gives s d s.0 from frame low_s l e; untold = u }
 
   -- the lane to somebody else makes a step
   pub out_lane : (st : Station) → IsOwn s st → (to : Address) (step : Lane → Lane × LaneStep) → (to.0 ≡ d.0 → ⊥) → ((lane : Lane) → IsLaneOf s.0 to.0 lane → FitsOut s.0 to.0 (step lane)) → Aside st (by_lane st to step)

@@ -1,6 +1,6 @@
 -- How the messages of a lane end. Every ending of a connection but the acknowledged one leaves its lane in doubt, since
 -- frames of it may still be on their way.
-use Rattle.std.specs.Prelude.{Bool, true, false, ◌||◌, ◌==◌, if◌then◌else◌, List, [], ◌∷◌, drop, Option, Some, None}
+use Rattle.std.specs.Prelude.{Bool, true, false, ◌||◌, ◌==◌, if◌then◌else◌, List, [], ◌∷◌, drop, Option, Some, None, option_to_list}
 use Rattle.bus_frame.specs.Frames.{CanFrame}
 use Rattle.pgn_ids.specs.Address.{global_address}
 use Rattle.tp_wire.specs.declared.outcome.Outcome.TheVariants.{Acknowledged}
@@ -15,7 +15,6 @@ use Rattle.lane_core.specs.Step.{LaneStep, nothing_to_do}
 use Rattle.lane_core.specs.declared.message.Pending.{Pending}
 use Rattle.lane_core.specs.declared.probe.Standing.{Standing}
 use Rattle.lane_core.specs.Lane.{Lane, with_under_way}
-use Rattle.tx_queue.specs.Queue.{option_frames}
 
 abbrev pub is_acknowledged : Outcome → Bool
 is_acknowledged Acknowledged = true
@@ -35,7 +34,7 @@ abbrev pub ended_lane : Lane → Outcome → Lane
 ended_lane lane outcome = record lane { pending = drop 1 lane.pending; under_way = Nothing; standing = standing_after lane outcome }
 
 abbrev pub over : Lane → Outcome → Option CanFrame → Lane × LaneStep
-over lane outcome frame = (ended_lane lane outcome, record { frames = option_frames frame; ended = front_ended lane.pending outcome })
+over lane outcome frame = (ended_lane lane outcome, record { frames = option_to_list frame; ended = front_ended lane.pending outcome })
 
 -- nothing ends and nothing is queued
 abbrev pub still : Lane → Lane × LaneStep

@@ -1,7 +1,6 @@
 -- What a step of a lane leaves to do.
-use Rattle.std.specs.Prelude.{List, [], ◌∷◌, Option, None}
+use Rattle.std.specs.Prelude.{List, [], ◌∷◌, Option, None, option_to_list}
 use Rattle.bus_frame.specs.Frames.{CanFrame}
-use Rattle.tx_queue.specs.Queue.{option_frames}
 use Rattle.lane_core.specs.declared.step.Ended.{Ended}
 use Rattle.lane_core.specs.declared.step.LaneStep.{LaneStep as StepFields}
 
@@ -20,4 +19,4 @@ says frame = record { frames = frame ∷ []; ended = None }
 
 -- what is left to do where that is one frame at most
 abbrev pub step_left : StepFields → LaneStep
-step_left step = record { frames = option_frames step.frame; ended = step.ended }
+step_left step = record { frames = option_to_list step.frame; ended = step.ended }

@@ -5,11 +5,10 @@ use Rattle.lane_law.specs.Message.{Message}
 use Rattle.lane_law.specs.Frame.{Frame, Rts, Packet, Request}
 use Rattle.lane_law.specs.Session.{Session, given_of, new_session, with_packet}
 use Rattle.lane_law.specs.Stream as S
-use Rattle.lane_law.specs.Stream.{Stream, with_frame}
 use Rattle.lane_law.specs.Lane
-use Rattle.lane_law.specs.Lane.{Answer, EndAcknowledgement, Acknowledgement, Phase, Idle, Begun, Granted, InDoubt, LaneEvent}
+use Rattle.lane_law.specs.Lane.{EndAcknowledgement, Acknowledgement}
 use Rattle.lane_law.proofs.Streams
-use Rattle.lane_law.proofs.Streams.{IsStream, IsSession, InOrder, end_of, UpTo, AllFitAgain, IfSession, keeps, session_at}
+use Rattle.lane_law.proofs.Streams.{IsStream, keeps, session_at}
 use Rattle.std.specs.List.{AllByRecursion as Each}
 use Rattle.lane_law.proofs.Ahead.{each_after, each_push, each_weaker, Harmless, Quiet, is_open, harmless_less, harmless_after, harmless_taken, harmless_passed, given_last, IsNotRequest, IsRequest, IsNotAck, IsSwept, AreSwept, swept_after, answers_ahead, answers_push, IsLive, IsOfGiven, of_given_more, TagsRise, tags_push_ack, tags_push}
 use Rattle.lane_law.proofs.Numbers.{IsSpared, BeginsSpared, spared_passed, agree_push}

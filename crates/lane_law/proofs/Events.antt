@@ -2,9 +2,8 @@
 use Rattle.std.proofs.Common.{ℕ, Bool, List, Option, arith}
 use Rattle.lane_law.specs.Outcome.{Outcome}
 use Rattle.lane_law.specs.Lane
-use Rattle.lane_law.specs.Lane.{Answer, EndAcknowledgement, Acknowledgement, Phase, Idle, Begun, Granted, InDoubt, LaneEvent}
+use Rattle.lane_law.specs.Lane.{Phase, Idle, Begun, Granted, InDoubt, LaneEvent}
 use Rattle.lane_law.proofs.Streams
-use Rattle.lane_law.proofs.Streams.{IsStream, IsSession, InOrder, end_of, UpTo, AllFitAgain, IfSession, keeps, session_at}
 use Rattle.lane_law.proofs.Reached.{keeps_on}
 use Rattle.lane_law.proofs.Lanes.{Controlled, SettledAt, DoubtfulAt, IsLane}
 use Rattle.lane_law.proofs.Destination.{takes, passes_over, forgets, reopens, accepts, ends_session, gives, replies}

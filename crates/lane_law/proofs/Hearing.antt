@@ -6,7 +6,7 @@ use Rattle.std.proofs.lemmas.Option.{none-some, same_Some}
 use Rattle.lane_law.specs.Frame.{Place}
 use Rattle.lane_law.specs.Outcome.{Acknowledged}
 use Rattle.lane_law.specs.Lane
-use Rattle.lane_law.specs.Lane.{Answer, EndAcknowledgement, Acknowledgement, Phase, Idle, Begun, Granted, InDoubt, LaneEvent}
+use Rattle.lane_law.specs.Lane.{Answer, EndAcknowledgement, Granted, InDoubt}
 use Rattle.lane_law.proofs.Streams.{end_of}
 use Rattle.std.specs.List.{AllByRecursion as Each}
 use Rattle.lane_law.proofs.Ahead.{WasGiven, each_after, each_both, each_weaker, Harmless, is_open, harmless_idle, IsNoRts, order_le, order_no_rts, given_up_to, again_no_rts, session_closed, IsNotRequest, IsRequest, IsNotAck, IsAck, AreSwept, answers_after, other_token, harmless_requests, not_request, not_ack, IsLive, IsPast, live_past, past_idle, live_acks, IsOfGiven, TagsRise, tags_after, no_other_end}

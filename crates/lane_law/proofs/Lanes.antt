@@ -4,7 +4,7 @@ use Rattle.std.proofs.Common.{◌≡◌, ◌≢◌, ℕ, ◌<◌, Bool, List, �
 use Rattle.lane_law.specs.Frame.{Frame}
 use Rattle.lane_law.specs.Outcome.{Fate, Outcome, outcome}
 use Rattle.lane_law.specs.Lane
-use Rattle.lane_law.specs.Lane.{Answer, EndAcknowledgement, Acknowledgement, Phase, Idle, Begun, Granted, InDoubt, LaneEvent}
+use Rattle.lane_law.specs.Lane.{Answer, Phase, Idle, Begun, Granted, InDoubt}
 use Rattle.lane_law.proofs.Streams.{IsStream}
 use Rattle.std.specs.List.{AllByRecursion as Each}
 use Rattle.lane_law.proofs.Ahead.{Harmless, is_open, IsNotRequest, IsNotAck, IsSwept, AreSwept, IsLive, IsPast, IsOfGiven, TagsRise}

@@ -6,9 +6,9 @@ use Rattle.lane_law.specs.Message.{Message, packet}
 use Rattle.lane_law.specs.Frame.{Frame, Rts, Dpo, Packet, Request, Place}
 use Rattle.lane_law.specs.Outcome.{Unreachable, Other, outcome}
 use Rattle.lane_law.specs.Stream as S
-use Rattle.lane_law.specs.Stream.{Stream, with_frame}
+use Rattle.lane_law.specs.Stream.{with_frame}
 use Rattle.lane_law.specs.Lane
-use Rattle.lane_law.specs.Lane.{Answer, EndAcknowledgement, Acknowledgement, Phase, Idle, Begun, Granted, InDoubt, LaneEvent}
+use Rattle.lane_law.specs.Lane.{Idle, Begun, Granted, InDoubt}
 use Rattle.lane_law.proofs.Streams.{end_of, keeps}
 use Rattle.std.specs.List.{AllByRecursion as Each}
 use Rattle.lane_law.proofs.Ahead.{each_after, each_push, each_weaker, Harmless, Quiet, is_open, harmless_push, number_end, number_ahead, harmless_granted, order_le, given_up_to, IsNotRequest, IsRequest, IsNotAck, IsSwept, swept_push, swept_none, answers_ahead, answers_none, IsLive, live_granted, IsOfGiven, tags_after}

@@ -1,8 +1,9 @@
 -- A run that goes on by a line.
-use Rattle.std.proofs.Common.{◌≡◌, ℕ, ◌+◌, List, [], ◌∷◌, ◌++◌, Option, Some, None, Result, Ok, Err, true, false, refl, sym, ◌∙◌, ap, append_assoc, subst, Bool, IfSome}
+use Rattle.std.proofs.Common.{◌≡◌, ℕ, ◌+◌, List, [], ◌∷◌, ◌++◌, Option, Some, None, Result, Ok, Err, true, false, refl, sym, ◌∙◌, ap, subst, Bool, IfSome}
 use Rattle.std.proofs.lemmas.List.{append-nil}
 use Rattle.std.specs.Io.KnownBytes.{Appends, append_known}
 use Rattle.text_lines.specs.Known.{Known, IsFront}
+use Rattle.text_lines.proofs.Known.{appends_more, appends_front}
 use Rattle.text_lines.specs.Lines.{lines_of}
 use Rattle.script_commands.specs.Ending.{cause_of}
 use Rattle.script_commands.specs.declared.ending.Cause.{Cause}
@@ -17,38 +18,21 @@ use Rattle.line_runs.specs.declared.limits.Limits.{Limits}
 use Rattle.line_runs.specs.declared.running.Told.{Told}
 use Rattle.line_runs.specs.declared.running.Told.TheVariants.{Answered, NoMemory}
 
--- all of a text is a front of it, and so is none of it
+-- all of a text is a front of it
 pub front_all : (a b : Option (List ℕ)) (text : List ℕ) → Appends a b text → IsFront a b text
 front_all None b text h = ([], tt)
 front_all (Some s) None text h = absurd h
 front_all (Some s) (Some t) text h = ([], append-nil t ∙ h)
-
-pub front_none : (b : Option (List ℕ)) (text : List ℕ) → IsFront b b text
-front_none None text = (text, tt)
-front_none (Some xs) text = (text, refl)
 
 -- from known bytes a, now b: what the rest tells completes what all tells
 pub record GoesOn (a b : Option (List ℕ)) (rest whole : Outcome) : Type 0 where
   pub text : Appends a (append_known b rest.text) whole.text
   pub fault : rest.fault ≡ whole.fault
 
-appends_more : (a b c : Option (List ℕ)) (x y all : List ℕ) → Appends b c x → Appends a (append_known b (x ++ y)) all → Appends a (append_known c y) all
-appends_more None b c x y all p q = tt
-appends_more (Some s) None c x y all p q = absurd q
-appends_more (Some s) (Some t) None x y all p q = p
-appends_more (Some s) (Some t) (Some u) x y all p q = ap (λ v. v ++ y) p ∙ append_assoc t x y ∙ q
-
 appends_none : (a b : Option (List ℕ)) (all : List ℕ) → Appends a (append_known b []) all → Appends a b all
 appends_none None b all q = tt
 appends_none (Some s) None all q = absurd q
 appends_none (Some s) (Some t) all q = sym (append-nil t) ∙ q
-
--- what was to be written was written up to more
-appends_front : (a b c : Option (List ℕ)) (more text rest all : List ℕ) → Appends b (append_known c more) text → Appends a (append_known b (text ++ rest)) all → Appends a (append_known c (more ++ rest)) all
-appends_front None b c more text rest all p q = tt
-appends_front (Some s) None c more text rest all p q = absurd q
-appends_front (Some s) (Some t) None more text rest all p q = absurd p
-appends_front (Some s) (Some t) (Some u) more text rest all p q = sym (append_assoc u more rest) ∙ ap (λ v. v ++ rest) p ∙ append_assoc t text rest ∙ q
 
 appends_start : (a : Option (List ℕ)) (all : List ℕ) → Appends a (append_known a all) all
 appends_start None all = tt

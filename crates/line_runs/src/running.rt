@@ -94,7 +94,7 @@ fn failed(line: u64, cause: Cause, memory_refused: bool) -> Ran
 }
 
 // What a line told is written and flushed, its log first. Where that fails, a front of it was written.
-#[tactic(auto, using(crate::proofs::RunSteps::front_all, crate::proofs::RunSteps::front_none))]
+#[tactic(auto, using(crate::proofs::RunSteps::front_all, text_lines::proofs::Known::front_none))]
 fn tell_both<T: Write, L: Write, O: Obeyer>(text: &mut T, log: &mut L, obeyer: &O) -> Result<(), ()>
     ensures in_text { MatchResult result (λ _. Appends (T.contents text.old) (T.contents text.new) (O.text_told obeyer.now))
         (λ _. IsFront (T.contents text.old) (T.contents text.new) (O.text_told obeyer.now)) }

@@ -1,5 +1,5 @@
 -- A time before which no message under way becomes silent.
-use Rattle.std.proofs.Common.{◌≡◌, ℕ, zero, suc, ◌+◌, ◌-◌, ◌*◌, ◌<◌, ◌≤◌, List, [], ◌∷◌, ◌++◌, length, Bool, true, false, Option, Some, None, refl, sym, ◌∙◌, ap, subst, arith, nat_le, take, drop, slice_get, option_map, option_to_list, unwrap_or, ◌==◌, if◌then◌else◌}
+use Rattle.std.proofs.Common.{◌≡◌, ℕ, zero, suc, ◌+◌, ◌-◌, ◌*◌, ◌<◌, ◌≤◌, List, [], ◌∷◌, length, true, false, Some, None, refl, sym, ◌∙◌, ap, subst, arith, nat_le, take, slice_get, option_map, ◌==◌, if◌then◌else◌}
 use Rattle.std.proofs.lemmas.Bool.Decides.{nat_tests}
 use Rattle.std.proofs.lemmas.List.{take_all}
 use Rattle.pgn_ids.specs.Address.{global_address}
@@ -11,7 +11,7 @@ use Rattle.log_decode.specs.Due.{NoneDueBefore}
 use Rattle.log_decode.specs.declared.key.Key.{Key}
 use Rattle.log_decode.specs.declared.session.Session.{Session}
 use Rattle.log_decode.specs.declared.told.Told.{Told}
-use Rattle.log_decode.proofs.Silences.{none_out, at_place, same_some, none_is_some}
+use Rattle.log_decode.proofs.Silences.{none_out, same_some}
 
 -- the ends of a broadcast wait least
 pub patience_least : (to : Address) → T1 * 1000 ≤ patience to

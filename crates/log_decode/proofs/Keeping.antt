@@ -1,5 +1,5 @@
 -- What a frame keeps of the time before which no message becomes silent: a message that it changes was heard now.
-use Rattle.std.proofs.Common.{◌≡◌, ℕ, ◌+◌, ◌*◌, ◌≤◌, List, [], ◌∷◌, ◌++◌, Bool, true, false, not, cond, Option, Some, None, refl, sym, ap, arith, nat_lt, ◌⊎◌, inl, inr, ◌==◌, ◌&&◌, if◌then◌else◌, option_to_list}
+use Rattle.std.proofs.Common.{◌≡◌, ℕ, ◌+◌, ◌*◌, ◌≤◌, List, [], ◌∷◌, ◌++◌, Bool, true, false, not, cond, Option, Some, None, refl, ap, arith, nat_lt, ◌⊎◌, inl, inr, ◌==◌, ◌&&◌, if◌then◌else◌, option_to_list}
 use Rattle.std.specs.Map.{remove_entry}
 use Rattle.bus_frame.specs.Frames.{CanFrame}
 use Rattle.log_text.specs.declared.iface.Iface.{Iface}
@@ -28,7 +28,6 @@ use Rattle.log_decode.specs.declared.session.Fate.{Fate}
 use Rattle.log_decode.specs.declared.session.Fate.TheVariants as fates
 use Rattle.log_decode.specs.declared.sessions.News.{News}
 use Rattle.log_decode.specs.declared.told.Cause.TheVariants.{Missing, Replaced, TooLong}
-use Rattle.log_decode.specs.declared.told.Told.{Told}
 use Rattle.log_decode.specs.declared.told.Told.TheVariants.{Lost}
 use Rattle.log_decode.proofs.AtKey.{by_session, by_renewed}
 use Rattle.log_decode.proofs.Silences.{same_some, none_is_some}

@@ -1,5 +1,5 @@
 //! A message under way, as a listener sees it.
-ghost use Rattle.std.specs.Prelude.{◌≡◌, ◌+◌, ◌*◌, ◌≤◌, ℕ, length, true, OnOk, IfOk, IsTrue, Some};
+ghost use Rattle.std.specs.Prelude.{◌≡◌, ◌+◌, ◌*◌, ◌≤◌, length, true, OnOk, IfOk, Some};
 ghost use Rattle.seg_cut.specs.Join.{wants};
 ghost use Rattle.log_decode.specs.Session.{opened, accepted, renewed, packet_heard, cm_heard, acknowledged, heard, abort_heard, is_silent, patience, given_of, told_of, is_again};
 ghost use Rattle.log_decode.specs.declared.session.Fate.TheVariants.{GoesOn, Lost};

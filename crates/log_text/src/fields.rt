@@ -1,5 +1,5 @@
 //! Fields of a line: what stands between marks and spaces.
-ghost use Rattle.std.specs.Prelude.{◌≡◌, ℕ, ◌<◌, ◌≤◌, length, IfSome, option_map};
+ghost use Rattle.std.specs.Prelude.{◌≡◌, ◌<◌, ◌≤◌, length, IfSome, option_map};
 ghost use Rattle.log_text.specs.Fields.{place_of, cut_at, spaces_in, next_word};
 
 /// The place of the first byte of this value, from 0.

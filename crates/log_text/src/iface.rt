@@ -1,5 +1,5 @@
 //! Names of interfaces.
-ghost use Rattle.std.specs.Prelude.{◌≡◌, ℕ, ◌<◌, ◌≤◌, length, MatchResult, Some, None, true, false};
+ghost use Rattle.std.specs.Prelude.{◌≡◌, ◌<◌, MatchResult, Some, None, true, false};
 ghost use Rattle.log_text.specs.Iface.{is_printable, iface_of, name_of, bus0};
 
 use crate::fields::place_of;

@@ -1,5 +1,5 @@
 -- A station looks at its own frame in place: it passes it by, so that it asks for no memory.
-use Rattle.std.proofs.Common.{◌≡◌, ℕ, ◌-◌, ◌==◌, ◌≤◌, nat_lt, Bool, true, false, List, [], ◌∷◌, length, drop, Option, Some, None, Ok, Err, IsOk, refl, sym, ap, ◌∙◌, subst, arith, eqb-true}
+use Rattle.std.proofs.Common.{◌≡◌, ℕ, ◌-◌, ◌==◌, ◌≤◌, nat_lt, Bool, true, false, List, [], ◌∷◌, length, Option, Some, None, Ok, Err, IsOk, refl, sym, ap, ◌∙◌, subst, arith, eqb-true}
 use Rattle.std.specs.Prelude.{slice_get, unwrap_or, Result, OnOk}
 use Rattle.std.proofs.lemmas.Bool.{eq-eqb, ltb-false}
 use Rattle.std.proofs.lemmas.Option.{none-some, slice_get_within}
@@ -18,7 +18,7 @@ use Rattle.segment_law.specs.Readers.{queue_len}
 use Rattle.segment_law.specs.Reached.{IsReached}
 use Rattle.segment_law.specs.Record.{Record, StandsAt}
 use Rattle.segment_law.specs.declared.call.Call.{Call}
-use Rattle.segment_law.specs.declared.call.Call.TheVariants.{Transmit, Take}
+use Rattle.segment_law.specs.declared.call.Call.TheVariants.{Transmit}
 use Rattle.segment_law.specs.declared.reply.Reply.{Reply}
 use Rattle.segment_law.proofs.Reaching.{position_kept, slice_get_same}
 use Rattle.segment_law.proofs.Records.{stands_reached}
@@ -26,8 +26,8 @@ use Rattle.record_lemmas.proofs.EachCall.{Holds, Accepted, each_called}
 use Rattle.record_lemmas.proofs.Lists.{all_each, each_get}
 use Rattle.broadcast_law.specs.Queues.{QueueTheirOwn}
 use Rattle.broadcast_law.proofs.Buses.{put_next}
-use Rattle.segment_core.specs.InPlace.{is_quiet, take_quiet, next_at, TakeLacksRoom, MayLackMemory}
-use Rattle.one_station.specs.Node.{Node, Did, makes}
+use Rattle.segment_core.specs.InPlace.{take_quiet, next_at, TakeLacksRoom}
+use Rattle.one_station.specs.Node.{Node, makes}
 use Rattle.one_station.specs.NodeFields.{IsStood}
 use Rattle.one_station.specs.Answers.{IsAnswered, LooksInPlace, is_waiting}
 use Rattle.one_station.specs.declared.error.NodeError.{NodeError}

@@ -21,12 +21,12 @@ use Rattle.segment_law.specs.Calls.{no_place, at_place, at_station, takes, takes
 use Rattle.segment_law.specs.Record.{Record}
 use Rattle.segment_law.specs.Reached.{IsFitBus, IsReached}
 use Rattle.segment_law.specs.Drive as drive
-use Rattle.segment_law.specs.Drive.{Driven, events_in, with_call, stops_at, goes_on, makes, last_take, takes_all, all_take}
+use Rattle.segment_law.specs.Drive.{Driven, events_in, with_call, stops_at, goes_on, last_take, takes_all, all_take}
 use Rattle.segment_law.specs.declared.call.Call.TheVariants.{Take}
 use Rattle.segment_law.specs.declared.refusal.Refusal.TheVariants as refusal
 use Rattle.segment_law.specs.declared.reply.Reply.{Reply}
 use Rattle.segment_law.specs.declared.reply.Reply.TheVariants.{Refused, Done}
-use Rattle.segment_law.proofs.Buses.{frame_past}
+use Rattle.bus_order.proofs.Order.{frame_past}
 use Rattle.segment_law.proofs.FitStations.{taken_stays}
 use Rattle.segment_law.proofs.Reaching.{reached_call, as_it_is}
 

@@ -9,7 +9,7 @@ use Rattle.pgn_ids.specs.declared.address.Address.{Address}
 use Rattle.tick_timers.specs.declared.durations.TheConstants.{BROADCAST_GAP}
 use Rattle.tx_queue.specs.Queue.{front}
 use Rattle.bus_order.specs.Bus as bus
-use Rattle.bus_order.specs.Bus.{Bus, start, bus_len, cursor_at, frame_at, lowest, is_full}
+use Rattle.bus_order.specs.Bus.{Bus, start, bus_len, cursor_at, lowest, is_full}
 use Rattle.bus_order.proofs.Cursors.{lowest_above}
 use Rattle.bus_order.proofs.Lists.{slice_get-right}
 use Rattle.lane_core.specs.Lane.{Lane}

@@ -1,5 +1,5 @@
 -- What a call is answered where it isn't refused.
-use Rattle.std.proofs.Common.{◌≡◌, Ok, Err, IsOk, refl, sym, ap, ◌∙◌, subst}
+use Rattle.std.proofs.Common.{◌≡◌, Ok, Err, refl, sym, ap, ◌∙◌, subst}
 use Rattle.segment_law.specs.Segment.{Segment}
 use Rattle.segment_law.specs.Calls.{Answer, called, replied, applied}
 use Rattle.segment_law.specs.declared.call.Call.{Call}

@@ -3,8 +3,6 @@ use Rattle.std.proofs.Common.{◌≡◌, ℕ, List, [], ◌∷◌, ◌++◌, map
 use Rattle.std.proofs.lemmas.List.{map-append}
 use Rattle.pgn_ids.specs.declared.address.Address.{Address}
 use Rattle.port_table.specs.declared.port.PortId.{PortId}
-use Rattle.segment_law.specs.Headline.{IsStationOf}
-use Rattle.segment_law.specs.Numbering.{IsChoice}
 use Rattle.segment_law.specs.Told as told
 use Rattle.segment_law.specs.Told.{Message}
 use Rattle.segment_rings.specs.declared.words.Submission.{Submission}
@@ -19,7 +17,7 @@ use Rattle.port_relay.specs.declared.relaying.Relayed.{Relayed}
 use Rattle.port_relay.specs.Working.{relayed_to}
 use Rattle.port_relay.specs.Relaying.{IsRelayed}
 use Rattle.relay_law.specs.Chain.{delivered, submitted, is_from_to, IsFed, IsGateway, CameThrough}
-use Rattle.relay_law.proofs.Picked.{Picked, none_picked, twice, front, one_behind_other, mapped, of_images, filtered, picked, is_choice}
+use Rattle.relay_law.proofs.Picked.{Picked, twice, front, one_behind_other, mapped, of_images, filtered, picked, is_choice}
 use Rattle.relay_law.proofs.Parts.{given_parts}
 
 pub fed_at_first : (to : Address) (port : PortId) (spare id : ℕ) (station : Address) → IsFed to (new_inbox_end port spare) (new_client_end id station)

@@ -1,5 +1,5 @@
 -- What the replay of stored calls gives to a port is what its record tells, of each sender and destination.
-use Rattle.std.proofs.Common.{◌≡◌, ℕ, ◌+◌, Bool, true, false, cond, ◌&&◌, List, [], ◌∷◌, ◌++◌, map, filter, filter_map, length, Some, None, refl, sym, ap, ◌∙◌}
+use Rattle.std.proofs.Common.{◌≡◌, ◌+◌, Bool, true, false, cond, ◌&&◌, List, [], ◌∷◌, ◌++◌, map, filter, filter_map, length, Some, None, refl, sym, ap, ◌∙◌}
 use Rattle.std.specs.List.{cons_option}
 use Rattle.std.proofs.lemmas.List.{map-append}
 use Rattle.std.proofs.lemmas.List.Elements.{filter-append}
@@ -11,13 +11,11 @@ use Rattle.segment_law.specs.Calls.{events_of}
 use Rattle.segment_law.specs.Record.{Step, Record}
 use Rattle.segment_law.specs.Told as told
 use Rattle.segment_law.specs.Told.{Message, Placed, told_from, items_of, same_port, is_lane, given_to_port}
-use Rattle.segment_law.specs.declared.call.Call.{Call}
-use Rattle.segment_law.specs.declared.reply.Reply.{Reply}
 use Rattle.record_lemmas.proofs.Told.{told_last, items_placed}
 use Rattle.reply_law.specs.Replies.{reply_of}
 use Rattle.segment_rings.specs.declared.words.Delivery.{Delivery}
 use Rattle.segment_shared.specs.declared.call.Stored.{Stored}
-use Rattle.segment_shared.specs.Record.{given, owe, start, step, step_with, trail, trail_from, Trail}
+use Rattle.segment_shared.specs.Record.{given, start, step, trail, trail_from, Trail}
 use Rattle.segment_shared.proofs.Doors.{given-append}
 use Rattle.relay_law.specs.Chain.{delivered, is_from_to}
 

@@ -48,15 +48,7 @@ use Rattle.responder.proofs.Rows.{by_timer}
 use Rattle.reader_law.proofs.Wanted.{packet_ports, dpo_ports}
 use Rattle.port_law.proofs.Receptions.{IsBound, AreBound}
 use Rattle.port_law.proofs.Sessions.{IsOf, Goes, GoesBroadcast, connection_step, connection_prepared, broadcast_step}
-
--- no message has more than n bytes
-abbrev pub EventShort : ℕ → Event → Type 0
-EventShort n (event.Given port from to pgn bytes) = length bytes ≤ n
-EventShort n (event.Outcome from to number outcome) = Unit {0}
-
-abbrev pub EachShort : ℕ → List Event → Type 0
-EachShort n [] = Unit {0}
-EachShort n (e ∷ es) = EventShort n e × EachShort n es
+use Rattle.reply_law.specs.Replies.{EachShort}
 
 pub none_short : (n : ℕ) (es : List Event) → ports_given es ≡ [] → EachShort n es
 none_short n [] e = tt

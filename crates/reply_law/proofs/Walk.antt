@@ -39,8 +39,8 @@ use Rattle.port_law.proofs.Calls.{IsSound}
 use Rattle.port_law.proofs.Closing.{closes as closing_is}
 use Rattle.port_law.proofs.Ports.{IsAllowed, Opens}
 use Rattle.port_law.proofs.Stations.{Acts, acts_lane, acts_taken, acts_fired, acts_overrun}
-use Rattle.reply_law.specs.Replies.{IsRefusal, IsAnsweredBy, expected, EachAt, IsKnown, EachKnown}
-use Rattle.reply_law.proofs.Gives.{EachShort, taken_none, taken_short, by_lane_none, fired_none, overrun_none}
+use Rattle.reply_law.specs.Replies.{IsRefusal, IsAnsweredBy, expected, EachAt, IsKnown, EachKnown, EachShort}
+use Rattle.reply_law.proofs.Gives.{taken_none, taken_short, by_lane_none, fired_none, overrun_none}
 
 -- nothing is given
 none_at : (a : Address) (n : ℕ) (es : List Event) → ports_given es ≡ [] → EachAt a n es

@@ -54,6 +54,15 @@ abbrev pub EachAt : Address → ℕ → List Event → Type 0
 EachAt station len [] = Unit {0}
 EachAt station len (e ∷ events) = EventAt station len e × EachAt station len events
 
+-- what is given is no longer than this
+abbrev pub EventShort : ℕ → Event → Type 0
+EventShort n (event.Given port from to pgn bytes) = length bytes ≤ n
+EventShort n (event.Outcome from to number outcome) = Unit {0}
+
+abbrev pub EachShort : ℕ → List Event → Type 0
+EachShort n [] = Unit {0}
+EachShort n (e ∷ events) = EventShort n e × EachShort n events
+
 -- the station of the port has opened so many ports
 abbrev pub IsKnown : PortId → Segment → Type 0
 IsKnown p seg = (i : ℕ) (st : Station) → slice_get seg.stations i ≡ Some st → st.address.0 ≡ p.station.0 → p.number ≤ st.ports.opened

@@ -1,8 +1,7 @@
 -- The steps that a receiver takes where its state stands: the next packet inside a window; the last one of a window, which grants
 -- the next; and an announcement (SAE J1939-21, TP.DT, TP.CM_CTS; ISO 11783-3, ETP.DT, ETP.CM_CTS, ETP.CM_DPO).
-use Rattle.std.specs.Prelude.{◌≡◌, ℕ, Bool, false, ◌&&◌, ◌||◌, not, nat_lt, List, ◌++◌}
+use Rattle.std.specs.Prelude.{◌≡◌, ℕ, Bool, false, ◌&&◌, ◌||◌, not, nat_lt, List, ◌++◌, option_to_list}
 use Rattle.bus_frame.specs.Frames.{CanFrame}
-use Rattle.tx_queue.specs.Queue.{option_frames}
 use Rattle.tp_wire.specs.Kinds.{is_same_kind}
 use Rattle.tp_wire.specs.declared.wire.Kind.TheVariants.{Etp}
 use Rattle.tp_wire.specs.declared.wire.CmFrame.TheVariants.{EtpDpo}
@@ -42,5 +41,5 @@ prepared_step s wire room flow now = stepped (prepared s wire room flow) wire ro
 
 -- the session goes on in this state, and the frame, if there is one, is queued behind the others
 abbrev pub GoesOn : Received → InState → (before after : List CanFrame) → Type 0
-GoesOn (On s frame) state before after = (state ≡ s) × (after ≡ before ++ option_frames frame)
+GoesOn (On s frame) state before after = (state ≡ s) × (after ≡ before ++ option_to_list frame)
 GoesOn _ state before after = ⊥

@@ -1,6 +1,6 @@
 -- What a receiver makes of what comes: a packet of its kind, and in ETP a DPO, by their rows; everything else leaves it as it is
 -- (SAE J1939-21, connection mode data transfer; ISO 11783-3).
-use Rattle.std.specs.Prelude.{ℕ, Bool, false, not, ◌&&◌, nat_lt, nat_le, ◌==◌, if◌then◌else◌, None}
+use Rattle.std.specs.Prelude.{ℕ, Bool, false, ◌&&◌, nat_le, ◌==◌, if◌then◌else◌, None}
 use Rattle.tp_wire.specs.Kinds.{is_same_kind}
 use Rattle.tp_wire.specs.declared.reason.AbortReason.TheVariants.{Timeout}
 use Rattle.tp_wire.specs.declared.wire.Kind.TheVariants.{Etp}
@@ -12,7 +12,7 @@ use Rattle.responder.specs.Unfinished.{number_of}
 use Rattle.responder.specs.States.{AwaitPacket}
 use Rattle.responder.specs.Asking.{asks}
 use Rattle.responder.specs.DpoRows.{on_dpo}
-use Rattle.responder.specs.PacketRows.{aborted, accepted, on_packet}
+use Rattle.responder.specs.PacketRows.{aborted, on_packet}
 use Rattle.responder.specs.Holding.{holding_stepped}
 use Rattle.responder.specs.declared.flow.Flow.{Flow}
 use Rattle.responder.specs.declared.in_state.InState.{InState}

@@ -1,5 +1,4 @@
 //! What is written of a run by threads: the lines that are refused before they run, and then the text of what they leave.
-ghost use Rattle.std.specs.Prelude.{◌≡◌};
 ghost use Rattle.script_runs.specs.Ending.{IsRefusedTold, IsRunTold};
 
 use crate::ending::{LiveRan, Lost, Told, failed, lost_by};

@@ -1,5 +1,5 @@
 -- A line opens one port at most, so that fewer calls are stored than lines were read.
-use Rattle.std.proofs.Common.{◌≡◌, ℕ, ◌+◌, ◌<◌, ◌≤◌, List, [], ◌∷◌, length, Option, Some, None, Ok, Err, Bool, true, false, cond, nat_lt, arith, subst, length-append}
+use Rattle.std.proofs.Common.{◌≡◌, ℕ, ◌+◌, ◌<◌, List, [], ◌∷◌, length, Option, Some, None, Ok, Err, Bool, true, false, cond, nat_lt, arith, subst, length-append}
 use Rattle.std.specs.Str.{bytes_eq}
 use Rattle.std.specs.Prelude.{codes, Result}
 use Rattle.pgn_ids.specs.declared.address.Address.{Address}

@@ -1,5 +1,5 @@
 -- What is printed of refused lines only grows, with each line.
-use Rattle.std.proofs.Common.{◌≡◌, ℕ, ◌+◌, List, [], ◌∷◌, ◌++◌, length, Option, Some, None, Ok, Err, Bool, true, false, cond, nat_lt, refl}
+use Rattle.std.proofs.Common.{ℕ, ◌+◌, List, [], ◌∷◌, length, Option, Some, None, Ok, Err, Bool, true, false, cond, nat_lt, refl}
 use Rattle.std.specs.Str.{bytes_eq}
 use Rattle.std.specs.Prelude.{codes, Result}
 use Rattle.pgn_ids.specs.declared.address.Address.{Address}

@@ -1,5 +1,5 @@
 -- What the lines of a script set up, line by line.
-use Rattle.std.specs.Prelude.{◌≡◌, ℕ, ◌+◌, ◌<◌, List, [], ◌∷◌, ◌++◌, length, Bool, true, false, ◌||◌, Option, Some, None, Result, Ok, Err, nat_lt, if◌then◌else◌, option_map, map, codes}
+use Rattle.std.specs.Prelude.{ℕ, ◌+◌, ◌<◌, List, [], ◌∷◌, ◌++◌, length, Bool, true, false, ◌||◌, Option, Some, None, Result, Ok, Err, nat_lt, if◌then◌else◌, option_map, map, codes}
 use Rattle.std.specs.Str.{bytes_eq}
 use Rattle.pgn_ids.specs.declared.address.Address.{Address}
 use Rattle.port_table.specs.declared.port.PortId.{PortId}

@@ -39,7 +39,8 @@ use Rattle.segment_law.specs.declared.refusal.Refusal.TheVariants as refusal
 use Rattle.segment_law.specs.declared.reply.Reply.{Reply}
 use Rattle.segment_law.specs.declared.reply.Reply.TheVariants.{Done}
 use Rattle.segment_law.specs.declared.reply.Reply.TheVariants as reply
-use Rattle.segment_law.proofs.Buses.{frame_past, frame_within}
+use Rattle.bus_order.proofs.Order.{frame_past}
+use Rattle.segment_law.proofs.Buses.{frame_within}
 use Rattle.segment_core.specs.Answers.{IsAnswer, refusal_of}
 use Rattle.segment_core.specs.Transmits.{put_by}
 use Rattle.segment_core.specs.Drives.{IsShown, GoesOn, HasGone, IsFollowed, HasTaken, too_soon}

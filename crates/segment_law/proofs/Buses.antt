@@ -1,23 +1,13 @@
 -- A bus whose cursors move on and whose frames are released.
-use Rattle.std.proofs.Common.{◌≡◌, ℕ, zero, suc, ◌+◌, ◌-◌, ◌<◌, ◌≤◌, Bool, true, false, cond, ◌∷◌, length, set, replicate, Option, Some, None, refl, ◌∙◌, arith, length-set, ⊎_elim}
-use Rattle.std.specs.Prelude.{IsTrue, nat_le, nat_lt, slice_get}
+use Rattle.std.proofs.Common.{◌≡◌, ℕ, zero, suc, ◌+◌, ◌-◌, ◌<◌, ◌≤◌, true, false, ◌∷◌, length, set, replicate, Some, None, refl, ◌∙◌, arith, length-set, ⊎_elim}
+use Rattle.std.specs.Prelude.{IsTrue, nat_lt}
 use Rattle.std.proofs.lemmas.List.{length-replicate}
-use Rattle.std.proofs.lemmas.Option.{slice_get_past}
 use Rattle.std.proofs.lemmas.Bool.{cases_lt, ltb-false}
 use Rattle.bus_frame.specs.Frames.{CanFrame}
 use Rattle.bus_order.specs.Bus.{Bus, Cursor, start, new_bus, lowest, bus_len, cursor_at, frame_at, next_frame, waiting, is_full, put, taken, passed, released}
+use Rattle.bus_order.proofs.Order.{frame_past}
 use Rattle.bus_order.proofs.Steps.{sound_new, sound_put, sound_moved, sound_released, read_within}
 use Rattle.segment_law.specs.Reached.{IsFitBus}
-
--- no frame is past the newest
-pub frame_past : (bus : Bus) (place : ℕ) → bus_len bus < place → frame_at bus place ≡ None
-frame_past bus place past =
-    let none : slice_get bus.kept (place - bus.first) ≡ None = slice_get_past bus.kept (place - bus.first) (omega arith) in
-    rw none (either (nat_le bus.first place))
-  where
-    either : (b : Bool) → cond {A = Option CanFrame} b None None ≡ None
-    either true = refl
-    either false = refl
 
 pub frame_within : (bus : Bus) (place : ℕ) (f : CanFrame) → frame_at bus place ≡ Some f → place ≤ bus_len bus
 frame_within bus place f some =

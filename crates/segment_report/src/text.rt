@@ -1,5 +1,5 @@
 //! The text of what threads leave of a segment.
-ghost use Rattle.std.specs.Prelude.{◌≡◌, ◌++◌, ◌==◌, suc, OnOk, IfOk, IsTrue, true, false};
+ghost use Rattle.std.specs.Prelude.{◌≡◌, ◌++◌, ◌==◌, suc, OnOk, IsTrue, true, false};
 ghost use Rattle.segment_shared.specs.Record.{trail, given, notes_of};
 ghost use Rattle.segment_report.specs.Texts.{below, given_lines, port_lines, ports_at, numbered_lines, highest, outcome_lines, clients_at};
 ghost use Rattle.segment_report.specs.Noted.{count_from, all_noted};

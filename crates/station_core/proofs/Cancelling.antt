@@ -1,5 +1,5 @@
 -- The abort of a message that is cancelled has its place in the queue.
-use Rattle.std.proofs.Common.{◌≡◌, ℕ, ◌<◌, ◌-◌, ◌==◌, Bool, true, false, ◌&&◌, not, cond, length, Option, Some, None, refl, sym, ap, ◌∙◌, arith}
+use Rattle.std.proofs.Common.{◌≡◌, ℕ, ◌<◌, ◌-◌, ◌==◌, Bool, true, false, ◌&&◌, not, cond, length, Option, Some, None, refl, arith}
 use Rattle.std.proofs.lemmas.Bool.{eqb-false}
 use Rattle.pgn_ids.specs.Address.{null_address}
 use Rattle.pgn_ids.specs.declared.address.Address.{Address}

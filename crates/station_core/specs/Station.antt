@@ -1,11 +1,10 @@
 -- A station of a segment.
-use Rattle.std.specs.Prelude.{◌≡◌, true, List, [], ◌++◌}
+use Rattle.std.specs.Prelude.{◌≡◌, true, List, [], ◌++◌, option_to_list}
 use Rattle.std.specs.FinMap as map
 use Rattle.bus_frame.specs.Frames.{CanFrame}
 use Rattle.pgn_ids.specs.Address.{is_one}
 use Rattle.pgn_ids.specs.declared.address.Address.{Address}
 use Rattle.port_table.specs.Ports.{Ports, no_ports}
-use Rattle.tx_queue.specs.Queue.{option_frames}
 use Rattle.lane_core.specs.Lane.{Lane}
 use Rattle.lane_core.specs.Step.{LaneStep}
 use Rattle.message_events.specs.declared.event.Event.{Event}
@@ -46,7 +45,7 @@ queues st frames = record st { queue = st.queue ++ frames }
 -- a step of an incoming session is the station's
 abbrev pub by_session : Station → Reception → StationStep
 by_session st r = record {
-  station = record st { queue = st.queue ++ option_frames r.frame; sessions = r.sessions };
+  station = record st { queue = st.queue ++ option_to_list r.frame; sessions = r.sessions };
   events = r.events;
 }
 

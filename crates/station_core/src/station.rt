@@ -1,8 +1,8 @@
 //! A station: its parts, its ports and its queue.
-ghost use Rattle.std.specs.Prelude.{◌≡◌, ◌≤◌, ◌<◌, ◌+◌, ◌++◌, ◌∷◌, [], true, false, length, IfOk, OnOk, OnErr};
+ghost use Rattle.std.specs.Prelude.{◌≡◌, ◌≤◌, ◌<◌, ◌+◌, ◌++◌, ◌∷◌, [], true, false, length, IfOk, OnOk, OnErr, option_to_list};
 ghost use Rattle.std.specs.Result.{result_err};
 ghost use Rattle.pgn_ids.specs.Address.{is_one};
-ghost use Rattle.tx_queue.specs.Queue.{queue_limit, free_places, front, behind, option_frames};
+ghost use Rattle.tx_queue.specs.Queue.{queue_limit, free_places, front, behind};
 ghost use Rattle.port_table.specs.Ports.{next_id, is_open, is_paused, with_port, with_paused};
 ghost use Rattle.station_core.specs.Station.{new_station};
 ghost use Rattle.station_core.specs.Refusals.{IsAnswered, making_refusal, opening_refusal, pausing_refusal, resuming_refusal};
@@ -57,7 +57,7 @@ pub(crate) fn enqueue(queue: &mut TxQueue, frame: Frame)
 /// Puts a frame, if there is one, behind the others, where there is a free place.
 pub(crate) fn enqueue_option(queue: &mut TxQueue, frame: Option<Frame>)
     requires { length queue.old < queue_limit }
-    ensures { queue.new ≡ queue.old ++ option_frames frame }
+    ensures { queue.new ≡ queue.old ++ option_to_list frame }
 {
     if let Some(frame) = frame {
         enqueue(queue, frame);

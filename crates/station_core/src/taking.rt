@@ -1,10 +1,10 @@
 //! Frames that are taken, row by row (SAE J1939-21; ISO 11783-3).
-ghost use Rattle.std.specs.Prelude.{◌≡◌, ◌<◌, ◌+◌, ◌++◌, true, false, None, length, IfOk, OnOk, OnErr};
+ghost use Rattle.std.specs.Prelude.{◌≡◌, ◌<◌, ◌+◌, ◌++◌, true, false, None, length, IfOk, OnOk, OnErr, option_to_list};
 ghost use Rattle.std.specs.Result.{result_err};
 ghost use Rattle.pgn_ids.specs.Address.{is_one};
 ghost use Rattle.tp_wire.specs.Rows.{comes_from};
 ghost use Rattle.tp_wire.specs.declared.wire.Wire.TheVariants.{Cm};
-ghost use Rattle.tx_queue.specs.Queue.{queue_limit, option_frames};
+ghost use Rattle.tx_queue.specs.Queue.{queue_limit};
 ghost use Rattle.station_lanes.specs.LaneCalls.{outcome_of};
 ghost use Rattle.station_sessions.specs.Opening.{key_of};
 ghost use Rattle.station_core.specs.Station.{quietly};
@@ -258,7 +258,7 @@ impl Station {
     /// What a step of the lane to a destination left to do.
     pub(crate) fn finish_lane_step(&mut self, to: Address, step: LaneStep) -> Events
         requires { length self.old.queue < queue_limit }
-        ensures queue { self.new ≡ record self.old { queue = self.old.queue ++ option_frames step.frame } }
+        ensures queue { self.new ≡ record self.old { queue = self.old.queue ++ option_to_list step.frame } }
         ensures told { result ≡ outcome_of self.old.address to step.ended }
     {
         enqueue_option(&mut self.queue, step.frame);

@@ -2,7 +2,7 @@
 use Rattle.std.proofs.Common.{◌≡◌, ℕ, List, length, Option, None, ext_get_or, sym, ap, ◌∙◌}
 use Rattle.std.specs.FinMap as map
 use Rattle.lane_core.specs.Lane.{Lane}
-use Rattle.station_lanes.specs.LaneSlots.{slot_at, lanes_below}
+use Rattle.station_lanes.specs.LaneSlots.{lanes_below}
 use Rattle.station_lanes.proofs.SlotLaws.{get_lanes}
 
 -- as many places, and the lanes are the same

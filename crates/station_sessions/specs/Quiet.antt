@@ -1,9 +1,8 @@
 -- The steps of incoming sessions that a station takes where their states stand: those that tell nothing and end nothing (SAE
 -- J1939-21, TP.DT; ISO 11783-3, ETP.DT, ETP.CM_DPO).
-use Rattle.std.specs.Prelude.{◌≡◌, ℕ, Bool, true, List, [], ◌++◌, Option, Some, None}
+use Rattle.std.specs.Prelude.{◌≡◌, ℕ, Bool, true, List, [], ◌++◌, Option, Some, None, option_to_list}
 use Rattle.bus_frame.specs.Frames.{CanFrame}
 use Rattle.tp_wire.specs.declared.wire.Wire.{Wire}
-use Rattle.tx_queue.specs.Queue.{option_frames}
 use Rattle.port_table.specs.Ports.{Ports}
 use Rattle.session_table.specs.declared.key.Key.{Key}
 use Rattle.session_table.specs.declared.incoming.Incoming.{Incoming}
@@ -15,7 +14,7 @@ use Rattle.station_sessions.specs.Receiving.{Inbound, Reception, flow_at}
 pub record LeavesQuietly (step : Reception) (left : Inbound) (before after : List CanFrame) : Type 0 where
   pub sessions_left : left ≡ step.sessions
   pub untold : step.events ≡ []
-  pub queued : after ≡ before ++ option_frames step.frame
+  pub queued : after ≡ before ++ option_to_list step.frame
 
 -- what stands at a key takes the frame in place, also where nothing stands there
 abbrev pub quiet_for : Option (List ℕ × Incoming) → Ports → Wire → (room : Bool) → Bool

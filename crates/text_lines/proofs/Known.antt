@@ -3,7 +3,7 @@ use Rattle.std.proofs.Common.{take, drop, ◌+◌, ◌≤◌, IfSome, ◌≡◌,
 use Rattle.std.proofs.lemmas.List.{append-nil, take-append-drop}
 use Rattle.std.specs.Io.{StartsWith}
 use Rattle.std.specs.Io.BufRead.{DropsConsumable}
-use Rattle.std.specs.Io.KnownBytes.{Keeps, Consumes, IsAtEnd, Appends}
+use Rattle.std.specs.Io.KnownBytes.{Keeps, Consumes, IsAtEnd, Appends, append_known}
 use Rattle.std.proofs.BufReadLemmas.{Consumes_shown}
 use Rattle.std.proofs.Math.Seq.{take-add}
 use Rattle.text_lines.specs.Known.{Known, IsFront}
@@ -87,3 +87,22 @@ front_of_all None b c text h k = ([], tt)
 front_of_all (Some s) None c text h k = absurd h
 front_of_all (Some s) (Some t) None text h k = absurd k
 front_of_all (Some s) (Some t) (Some u) text h k = ([], append-nil u ∙ k ∙ h)
+
+-- and so is none of it
+pub front_none : (b : Option (List ℕ)) (text : List ℕ) → IsFront b b text
+front_none None text = (text, tt)
+front_none (Some xs) text = (text, refl)
+
+-- of two parts the first was written
+pub appends_more : (a b c : Option (List ℕ)) (x y all : List ℕ) → Appends b c x → Appends a (append_known b (x ++ y)) all → Appends a (append_known c y) all
+appends_more None b c x y all p q = tt
+appends_more (Some s) None c x y all p q = absurd q
+appends_more (Some s) (Some t) None x y all p q = p
+appends_more (Some s) (Some t) (Some u) x y all p q = ap (λ v. v ++ y) p ∙ append_assoc t x y ∙ q
+
+-- what was to be written was written up to more
+pub appends_front : (a b c : Option (List ℕ)) (more text rest all : List ℕ) → Appends b (append_known c more) text → Appends a (append_known b (text ++ rest)) all → Appends a (append_known c (more ++ rest)) all
+appends_front None b c more text rest all p q = tt
+appends_front (Some s) None c more text rest all p q = absurd q
+appends_front (Some s) (Some t) None more text rest all p q = absurd p
+appends_front (Some s) (Some t) (Some u) more text rest all p q = sym (append_assoc u more rest) ∙ ap (λ v. v ++ rest) p ∙ append_assoc t text rest ∙ q

@@ -1,5 +1,5 @@
 -- The transmit queue of a station: a list of frames, first in, first out.
-use Rattle.std.specs.Prelude.{ℕ, ◌-◌, List, [], ◌∷◌, ◌++◌, length, drop, Option, Some, None, slice_get}
+use Rattle.std.specs.Prelude.{ℕ, ◌-◌, List, [], ◌∷◌, ◌++◌, length, drop, Option, slice_get}
 use Rattle.bus_frame.specs.Frames.{CanFrame}
 
 -- how many frames it holds at most
@@ -21,8 +21,3 @@ behind queue = drop 1 queue
 -- a frame comes in behind all others
 abbrev pub queued : List CanFrame → CanFrame → List CanFrame
 queued queue frame = queue ++ frame ∷ []
-
--- a frame, or none
-abbrev pub option_frames : Option CanFrame → List CanFrame
-option_frames None = []
-option_frames (Some frame) = frame ∷ []

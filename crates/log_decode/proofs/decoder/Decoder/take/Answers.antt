@@ -1,4 +1,4 @@
-use Rattle.std.proofs.Common.{◌≡◌, ℕ, ◌+◌, ◌*◌, ◌≤◌, sym, subst, arith}
+use Rattle.std.proofs.Common.{ℕ, ◌+◌, ◌*◌, ◌≤◌, sym, subst, arith}
 use Rattle.tick_timers.specs.declared.durations.TheConstants.{T1}
 use Rattle.log_decode.specs.Due.{NoneDueBefore}
 use Rattle.log_decode.proofs.Due.{from_zero, sooner}

@@ -4,7 +4,8 @@ use Rattle.bus_order.specs.Bus.{start}
 use Rattle.station_core.specs.Station.{new_station}
 use Rattle.segment_core.specs.Places.{noted, ArePlaces}
 use Rattle.segment_core.proofs.Placing.{placed_on, added, how_many}
-use Rattle.segment_core.proofs.Rising.{one_here, rising_few, length_rising}
+use Rattle.segment_law.proofs.New.{length_rising}
+use Rattle.segment_core.proofs.Rising.{one_here, rising_few}
 use Rattle.segment_core.proofs.segment.Segment.of.Goals as goal
 
 pub loop-place-preserved : goal.loop-place-preserved
