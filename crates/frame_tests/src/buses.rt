@@ -1,8 +1,8 @@
+use crate::checks::{got, holds, same};
 use bus_frame::{CanId, Frame};
 use bus_order::*;
 use std::alloc::{AllocError, Global};
 use std::process::Abort;
-use std::test::Fail;
 
 // Calls that find no memory are made again, so that the tests pass whichever one allocation is refused.
 fn new_log(alloc: Global, stations: usize) -> Result<BusLog, AllocError> {
@@ -21,32 +21,32 @@ fn put(log: &mut BusLog, frame: Frame) -> Result<(), PutError> {
 
 // Calls of which a test only looks at the answer: their contracts are not carried through it.
 fn next(rt: &impl Abort, log: &mut BusLog, cursor: usize) -> Option<Frame> {
-    assert!(rt; cursor < log.stations());
+    holds(rt, cursor < log.stations());
     log.next(cursor)
 }
 
 fn again(rt: &impl Abort, log: &BusLog, cursor: usize) -> Option<Frame> {
-    assert!(rt; cursor < log.stations());
+    holds(rt, cursor < log.stations());
     log.again(cursor)
 }
 
 fn waiting(rt: &impl Abort, log: &BusLog, cursor: usize) -> u64 {
-    assert!(rt; cursor < log.stations());
+    holds(rt, cursor < log.stations());
     log.waiting(cursor)
 }
 
 fn skip(rt: &impl Abort, log: &mut BusLog, cursor: usize, frames: u64) -> bool {
-    assert!(rt; cursor < log.stations());
+    holds(rt, cursor < log.stations());
     log.skip(cursor, frames)
 }
 
 fn peek(rt: &impl Abort, log: &BusLog, cursor: usize) -> Option<Frame> {
-    assert!(rt; cursor < log.stations());
+    holds(rt, cursor < log.stations());
     log.peek(cursor).copied()
 }
 
 fn pass(rt: &impl Abort, log: &mut BusLog, cursor: usize) {
-    assert!(rt; cursor < log.stations() && log.waiting(cursor) > 0);
+    holds(rt, cursor < log.stations() && log.waiting(cursor) > 0);
     log.pass(cursor)
 }
 
@@ -58,141 +58,140 @@ fn frame(log: &BusLog, place: u64) -> Option<Frame> {
     log.frame(place)
 }
 
-fn frame_of(number: u64) -> Result<Frame, Fail> {
-    let id = CanId::new(0x1CEB_2335)?;
-    Ok(Frame::new(id, &number.to_le_bytes())?)
+fn frame_of(rt: &impl Abort, number: u64) -> Frame {
+    let id = got(rt, CanId::new(0x1CEB_2335));
+    got(rt, Frame::new(id, &number.to_le_bytes()))
 }
 
 // The next frame of a cursor is that of this place, and is taken; or there is none.
-fn takes(rt: &impl Abort, log: &mut BusLog, cursor: usize, place: Option<u64>) -> Result<(), Fail> {
+fn takes(rt: &impl Abort, log: &mut BusLog, cursor: usize, place: Option<u64>) {
     let expected = match place {
-        Some(place) => Some(frame_of(place)?),
+        Some(place) => Some(frame_of(rt, place)),
         None => None,
     };
-    assert!(rt; next(rt, log, cursor) == expected);
-    Ok(())
+    holds(rt, next(rt, log, cursor) == expected);
+}
+
+// The frame that waits first for the first cursor is that of this place, or none waits.
+fn sees(rt: &impl Abort, log: &BusLog, place: Option<u64>) {
+    let expected = match place {
+        Some(place) => Some(frame_of(rt, place)),
+        None => None,
+    };
+    holds(rt, peek(rt, log, 0) == expected);
 }
 
 // The frame that was taken last is that of this place, or isn't to be had again.
-fn repeats(rt: &impl Abort, log: &BusLog, place: Option<u64>) -> Result<(), Fail> {
+fn repeats(rt: &impl Abort, log: &BusLog, place: Option<u64>) {
     let expected = match place {
-        Some(place) => Some(frame_of(place)?),
+        Some(place) => Some(frame_of(rt, place)),
         None => None,
     };
-    assert!(rt; again(rt, log, 0) == expected);
-    Ok(())
+    holds(rt, again(rt, log, 0) == expected);
 }
 
 // The frame at a place, where it is kept.
-fn keeps(rt: &impl Abort, log: &BusLog, place: u64, is_kept: bool) -> Result<(), Fail> {
+fn keeps(rt: &impl Abort, log: &BusLog, place: u64, is_kept: bool) {
     let expected = match is_kept {
-        true => Some(frame_of(place)?),
+        true => Some(frame_of(rt, place)),
         false => None,
     };
-    assert!(rt; frame(log, place) == expected);
-    Ok(())
+    holds(rt, frame(log, place) == expected);
 }
 
-fn puts(
-    rt: &impl Abort,
-    log: &mut BusLog,
-    place: u64,
-    answer: Result<(), PutError>,
-) -> Result<(), Fail> {
-    assert!(rt; put(log, frame_of(place)?) == answer);
-    Ok(())
+fn puts(rt: &impl Abort, log: &mut BusLog, place: u64, answer: Result<(), PutError>) {
+    holds(rt, put(log, frame_of(rt, place)) == answer);
 }
 
-fn skips(rt: &impl Abort, log: &mut BusLog, frames: u64, done: bool) -> Result<(), Fail> {
-    assert!(rt; skip(rt, log, 0, frames) == done);
-    Ok(())
+fn skips(rt: &impl Abort, log: &mut BusLog, frames: u64, done: bool) {
+    holds(rt, skip(rt, log, 0, frames) == done);
 }
 
 // A test's steps are a function of their own, which owns nothing: where a step can end a test, what the test owns is dropped there, and each
 // such place takes its part of the proof.
-fn fill(rt: &impl Abort, log: &mut BusLog) -> Result<(), Fail> {
+fn fill(rt: &impl Abort, log: &mut BusLog) {
     for place in 1..=4096u64 {
-        puts(rt, log, place, Ok(()))?;
+        puts(rt, log, place, Ok(()));
     }
     puts(rt, log, 4097, Err(PutError::BusFull))
 }
 
-fn take_by_both(rt: &impl Abort, log: &mut BusLog, place: u64) -> Result<(), Fail> {
+fn take_by_both(rt: &impl Abort, log: &mut BusLog, place: u64) {
     for cursor in 0..2usize {
-        takes(rt, log, cursor, Some(place))?;
+        takes(rt, log, cursor, Some(place));
         release(log);
     }
-    Ok(())
 }
 
-fn keep_from_the_lowest_cursor_on(rt: &impl Abort, log: &mut BusLog) -> Result<(), Fail> {
-    fill(rt, log)?;
+fn keep_from_the_lowest_cursor_on(rt: &impl Abort, log: &mut BusLog) {
+    fill(rt, log);
     // The frame at the lowest cursor is kept, so that one frame taken by each station makes no room.
-    take_by_both(rt, log, 1)?;
-    puts(rt, log, 4097, Err(PutError::BusFull))?;
-    take_by_both(rt, log, 2)?;
-    puts(rt, log, 4097, Ok(()))?;
-    assert_eq!(rt; log.len(), 4097);
-    keeps(rt, log, 1, false)?;
-    keeps(rt, log, 2, true)?;
-    keeps(rt, log, 4097, true)?;
+    take_by_both(rt, log, 1);
+    puts(rt, log, 4097, Err(PutError::BusFull));
+    take_by_both(rt, log, 2);
+    puts(rt, log, 4097, Ok(()));
+    same(rt, log.len(), 4097);
+    keeps(rt, log, 1, false);
+    keeps(rt, log, 2, true);
+    keeps(rt, log, 4097, true);
     keeps(rt, log, 4098, false)
 }
 
 #[test]
-fn frames_are_kept_from_the_lowest_cursor_on(rt: HostRuntime) -> Result<(), Fail> {
-    let mut log = new_log(rt.alloc(), 2)?;
-    assert!(rt; log.stations() == 2 && log.is_empty());
+fn frames_are_kept_from_the_lowest_cursor_on(rt: HostRuntime) {
+    let mut log = got(&rt, new_log(rt.alloc(), 2));
+    holds(&rt, log.stations() == 2 && log.is_empty());
     keep_from_the_lowest_cursor_on(&rt, &mut log)
 }
 
-fn take_repeat_and_pass_over(rt: &impl Abort, log: &mut BusLog) -> Result<(), Fail> {
+fn take_repeat_and_pass_over(rt: &impl Abort, log: &mut BusLog) {
     for place in 1..=5u64 {
-        puts(rt, log, place, Ok(()))?;
+        puts(rt, log, place, Ok(()));
     }
-    repeats(rt, log, None)?;
-    takes(rt, log, 0, Some(1))?;
+    repeats(rt, log, None);
+    takes(rt, log, 0, Some(1));
     release(log);
-    repeats(rt, log, Some(1))?;
-    assert!(rt; waiting(rt, log, 0) == 4);
-    skips(rt, log, 5, false)?;
-    skips(rt, log, 2, true)?;
+    repeats(rt, log, Some(1));
+    holds(rt, waiting(rt, log, 0) == 4);
+    skips(rt, log, 5, false);
+    skips(rt, log, 2, true);
     release(log);
-    repeats(rt, log, None)?;
-    keeps(rt, log, 3, true)?;
-    takes(rt, log, 0, Some(4))?;
-    skips(rt, log, 0, true)?;
-    repeats(rt, log, None)?;
-    takes(rt, log, 0, Some(5))?;
+    repeats(rt, log, None);
+    keeps(rt, log, 3, true);
+    takes(rt, log, 0, Some(4));
+    skips(rt, log, 0, true);
+    repeats(rt, log, None);
+    takes(rt, log, 0, Some(5));
     takes(rt, log, 0, None)
 }
 
-#[test]
-fn a_station_sees_a_frame_and_takes_it(rt: HostRuntime) -> Result<(), Fail> {
-    let mut log = new_log(rt.alloc(), 2)?;
-    assert_eq!(rt; peek(&rt, &log, 0), None);
+fn see_and_take(rt: &impl Abort, log: &mut BusLog) {
     for place in 1..=3u64 {
-        assert_eq!(rt; put(&mut log, frame_of(place)?), Ok(()));
+        puts(rt, log, place, Ok(()));
     }
     for place in 1..=3u64 {
-        assert_eq!(rt; peek(&rt, &log, 0), Some(frame_of(place)?));
-        pass(&rt, &mut log, 0);
+        sees(rt, log, Some(place));
+        pass(rt, log, 0);
     }
-    assert_eq!(rt; peek(&rt, &log, 0), None);
-    assert_eq!(rt; again(&rt, &log, 0), Some(frame_of(3)?));
-    pass(&rt, &mut log, 1);
-    pass(&rt, &mut log, 1);
-    assert_eq!(rt;
-        (frame(&log, 1), frame(&log, 2)),
-        (None, Some(frame_of(2)?))
-    );
-    assert_eq!(rt; waiting(&rt, &log, 1), 1);
-    Ok(())
+    sees(rt, log, None);
+    repeats(rt, log, Some(3));
+    pass(rt, log, 1);
+    pass(rt, log, 1);
+    keeps(rt, log, 1, false);
+    keeps(rt, log, 2, true);
+    same(rt, waiting(rt, log, 1), 1);
 }
 
 #[test]
-fn a_station_takes_repeats_and_passes_over(rt: HostRuntime) -> Result<(), Fail> {
-    let mut log = new_log(rt.alloc(), 1)?;
+fn a_station_sees_a_frame_and_takes_it(rt: HostRuntime) {
+    let mut log = got(&rt, new_log(rt.alloc(), 2));
+    sees(&rt, &log, None);
+    see_and_take(&rt, &mut log)
+}
+
+#[test]
+fn a_station_takes_repeats_and_passes_over(rt: HostRuntime) {
+    let mut log = got(&rt, new_log(rt.alloc(), 1));
     take_repeat_and_pass_over(&rt, &mut log)
 }
 
@@ -207,20 +206,19 @@ fn is_of(image: &BusImage, log: &BusLog) -> bool {
     image.is_of(log)
 }
 
-fn show(rt: &impl Abort, alloc: Global, log: &mut BusLog) -> Result<(), Fail> {
-    let new = image_of(alloc, log)?;
-    assert!(rt; is_of(&new, log));
-    assert!(rt; put(log, frame_of(1)?).is_ok());
-    assert!(rt; !is_of(&new, log));
-    let one = image_of(alloc, log)?;
-    assert!(rt; is_of(&one, log));
-    assert!(rt; next(rt, log, 0) == Some(frame_of(1)?));
-    assert!(rt; !is_of(&one, log));
-    Ok(())
+fn show(rt: &impl Abort, alloc: Global, log: &mut BusLog) {
+    let new = got(rt, image_of(alloc, log));
+    holds(rt, is_of(&new, log));
+    holds(rt, put(log, frame_of(rt, 1)).is_ok());
+    holds(rt, !is_of(&new, log));
+    let one = got(rt, image_of(alloc, log));
+    holds(rt, is_of(&one, log));
+    holds(rt, next(rt, log, 0) == Some(frame_of(rt, 1)));
+    holds(rt, !is_of(&one, log));
 }
 
 #[test]
-fn an_image_has_the_frames_and_the_cursors_of_its_bus(rt: HostRuntime) -> Result<(), Fail> {
-    let mut log = new_log(rt.alloc(), 2)?;
+fn an_image_has_the_frames_and_the_cursors_of_its_bus(rt: HostRuntime) {
+    let mut log = got(&rt, new_log(rt.alloc(), 2));
     show(&rt, rt.alloc(), &mut log)
 }

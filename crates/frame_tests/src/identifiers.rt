@@ -1,25 +1,24 @@
+use crate::checks::{got, holds, same};
 use bus_frame::CanId;
 use pgn_ids::*;
-use std::test::Fail;
 
 #[test]
-fn numbers_and_fields(rt: HostRuntime) -> Result<(), Fail> {
-    assert!(rt; Pgn::new(0xEC21) == Err(BadPgn));
-    assert!(rt; Pgn::new(0x4_0000) == Err(BadPgn));
-    assert!(rt; WirePgn::new(0x4_0000) == Err(BadPgn));
-    let diagnostics = Pgn::new(0xFECA)?;
-    assert_eq!(rt; diagnostics.raw(), 0xFECA);
-    assert!(rt; !diagnostics.is_pdu1());
-    let request = WirePgn::new(0xEA35)?;
-    assert_eq!(rt; request.raw(), 0xEA35);
-    assert!(rt; request.clean() == Pgn::new(0xEA00)?);
-    assert!(rt; request.clean().is_pdu1());
-    assert!(rt; diagnostics.field().clean() == diagnostics);
-    Ok(())
+fn numbers_and_fields(rt: HostRuntime) {
+    holds(&rt, Pgn::new(0xEC21) == Err(BadPgn));
+    holds(&rt, Pgn::new(0x4_0000) == Err(BadPgn));
+    holds(&rt, WirePgn::new(0x4_0000) == Err(BadPgn));
+    let diagnostics = got(&rt, Pgn::new(0xFECA));
+    same(&rt, diagnostics.raw(), 0xFECA);
+    holds(&rt, !diagnostics.is_pdu1());
+    let request = got(&rt, WirePgn::new(0xEA35));
+    same(&rt, request.raw(), 0xEA35);
+    holds(&rt, request.clean() == got(&rt, Pgn::new(0xEA00)));
+    holds(&rt, request.clean().is_pdu1());
+    holds(&rt, diagnostics.field().clean() == diagnostics);
 }
 
 #[test]
-fn identifiers_by_pgn_and_addresses(rt: HostRuntime) -> Result<(), Fail> {
+fn identifiers_by_pgn_and_addresses(rt: HostRuntime) {
     // Identifiers of the standard's transport frames and of a PDU2 frame, priority, PGN, destination and source.
     for (id, priority, pgn, to, from) in [
         (0x1CEC_3521, 7, 0xEC00, 0x35, 0x21),
@@ -30,18 +29,22 @@ fn identifiers_by_pgn_and_addresses(rt: HostRuntime) -> Result<(), Fail> {
     ] {
         let meaning = IdMeaning {
             priority,
-            pgn: Pgn::new(pgn)?,
+            pgn: got(&rt, Pgn::new(pgn)),
             to: Address(to),
             from: Address(from),
         };
-        assert!(rt; read_id(CanId::new(id)?) == meaning, "at {id:08X}");
+        assert!(rt; read_id(got(&rt, CanId::new(id))) == meaning, "at {id:08X}");
     }
-    assert!(rt;
-        id_of(7, Pgn::new(0xEC00)?, Address(0x35), Address(0x21)) == CanId::new(0x1CEC_3521)?
+    holds(
+        &rt,
+        id_of(7, got(&rt, Pgn::new(0xEC00)), Address(0x35), Address(0x21))
+            == got(&rt, CanId::new(0x1CEC_3521)),
     );
-    let diagnostics = Pgn::new(0xFECA)?;
-    assert!(rt; id_of(6, diagnostics, Address::GLOBAL, Address(0)) == CanId::new(0x18FE_CA00)?);
-    assert!(rt; Address(0).is_one() && Address(253).is_one());
-    assert!(rt; !Address::NULL.is_one() && !Address::GLOBAL.is_one());
-    Ok(())
+    let diagnostics = got(&rt, Pgn::new(0xFECA));
+    holds(
+        &rt,
+        id_of(6, diagnostics, Address::GLOBAL, Address(0)) == got(&rt, CanId::new(0x18FE_CA00)),
+    );
+    holds(&rt, Address(0).is_one() && Address(253).is_one());
+    holds(&rt, !Address::NULL.is_one() && !Address::GLOBAL.is_one());
 }

@@ -4,6 +4,8 @@
 #[cfg(test)]
 mod buses;
 #[cfg(test)]
+mod checks;
+#[cfg(test)]
 mod frames;
 #[cfg(test)]
 mod identifiers;

@@ -1,24 +1,24 @@
+use crate::checks::{got, holds, same};
 use pgn_ids::{Address, Pgn};
 use port_table::*;
 use std::alloc::Global;
 use std::process::Abort;
-use std::test::Fail;
 
 const STATION: Address = Address(0x35);
 
 fn shows(rt: &impl Abort, set: &PortSet, numbers: &[u64]) {
-    assert_eq!(rt; set.numbers(), numbers);
-    assert_eq!(rt; set.len(), numbers.len());
-    assert_eq!(rt; set.is_empty(), numbers.is_empty());
-    assert_eq!(rt; set.get(0), numbers.first().copied());
+    same(rt, set.numbers(), numbers);
+    same(rt, set.len(), numbers.len());
+    same(rt, set.is_empty(), numbers.is_empty());
+    same(rt, set.get(0), numbers.first().copied());
     for number in set.iter() {
-        assert!(rt; set.contains(*number));
+        holds(rt, set.contains(*number));
     }
 }
 
 // Calls of which a test only looks at the answer: their contracts are not carried through it.
-fn new_table(alloc: Global) -> Result<PortTable, Fail> {
-    Ok(PortTable::new(alloc, STATION)?)
+fn new_table(rt: &impl Abort, alloc: Global) -> PortTable {
+    got(rt, PortTable::new(alloc, STATION))
 }
 
 fn opens(
@@ -36,7 +36,7 @@ fn opens(
         }),
         Err(cause) => Err(cause),
     };
-    assert!(rt; opened == expected);
+    holds(rt, opened == expected);
 }
 
 fn find(table: &PortTable, pgn: Pgn, len: u32) -> PortSet {
@@ -57,23 +57,22 @@ fn resume(table: &mut PortTable, number: u64) -> Result<(), Refused> {
 
 // A test's steps are a function of their own, which owns nothing: where a step can end a test, what the test owns is dropped there, and each
 // such place takes its part of the proof.
-fn find_several(rt: &impl Abort, table: &mut PortTable, pgn: Pgn) -> Result<(), Fail> {
+fn find_several(rt: &impl Abort, table: &mut PortTable, pgn: Pgn) {
     for (number, max_len) in [(1, 4000), (2, 8), (3, 4000)] {
         opens(rt, table, pgn, max_len, Ok(number));
     }
-    assert!(rt; table.station() == STATION && table.len() == 3);
+    holds(rt, table.station() == STATION && table.len() == 3);
     shows(rt, &find(table, pgn, 8), &[1, 2, 3]);
     shows(rt, &find(table, pgn, 4001), &[]);
-    shows(rt, &find(table, Pgn::new(0xFECB)?, 9), &[]);
-    Ok(())
+    shows(rt, &find(table, got(rt, Pgn::new(0xFECB)), 9), &[]);
 }
 
 fn close_one_of_several(rt: &impl Abort, table: &mut PortTable, pgn: Pgn) {
     let both = find(table, pgn, 9);
     shows(rt, &both, &[1, 3]);
-    assert!(rt; close(table, 1) == Ok(()));
-    assert!(rt; close(table, 1) == Err(Refused::NoSuchPort));
-    assert!(rt; !table.is_open(1) && table.get(1).is_none());
+    holds(rt, close(table, 1) == Ok(()));
+    holds(rt, close(table, 1) == Err(Refused::NoSuchPort));
+    holds(rt, !table.is_open(1) && table.get(1).is_none());
     shows(rt, &both.without(1), &[3]);
     shows(rt, &find(table, pgn, 9), &[3]);
     opens(rt, table, pgn, 9, Ok(4));
@@ -81,87 +80,86 @@ fn close_one_of_several(rt: &impl Abort, table: &mut PortTable, pgn: Pgn) {
 }
 
 #[test]
-fn several_ports_of_one_pgn(rt: HostRuntime) -> Result<(), Fail> {
-    let pgn = Pgn::new(0xFECA)?;
-    let mut table = new_table(rt.alloc())?;
-    assert!(rt; table.is_empty());
-    find_several(&rt, &mut table, pgn)?;
+fn several_ports_of_one_pgn(rt: HostRuntime) {
+    let pgn = got(&rt, Pgn::new(0xFECA));
+    let mut table = new_table(&rt, rt.alloc());
+    holds(&rt, table.is_empty());
+    find_several(&rt, &mut table, pgn);
     close_one_of_several(&rt, &mut table, pgn);
-    Ok(())
 }
 
 fn pause_port(rt: &impl Abort, table: &mut PortTable, pgn: Pgn) {
     let set = find(table, pgn, 1785);
-    assert!(rt; resume(table, 1) == Err(Refused::PortNotPaused));
-    assert!(rt; pause(table, 1) == Ok(()));
-    assert!(rt; pause(table, 1) == Err(Refused::PortPaused));
+    holds(rt, resume(table, 1) == Err(Refused::PortNotPaused));
+    holds(rt, pause(table, 1) == Ok(()));
+    holds(rt, pause(table, 1) == Err(Refused::PortPaused));
     let port = Port {
         number: 1,
         pgn,
         max_len: 1785,
         paused: true,
     };
-    assert!(rt; table.get(1) == Some(port));
-    assert!(rt; table.is_paused(1));
-    assert!(rt; table.any_paused(&set) && !table.any_paused(&PortSet::empty()));
+    holds(rt, table.get(1) == Some(port));
+    holds(rt, table.is_paused(1));
+    holds(
+        rt,
+        table.any_paused(&set) && !table.any_paused(&PortSet::empty()),
+    );
     shows(rt, &find(table, pgn, 1785), &[1]);
 }
 
 fn resume_port(rt: &impl Abort, table: &mut PortTable, pgn: Pgn) {
     let set = find(table, pgn, 1785);
-    assert!(rt; resume(table, 1) == Ok(()));
-    assert!(rt; !table.any_paused(&set));
-    assert!(rt; close(table, 1) == Ok(()));
-    assert!(rt; pause(table, 1) == Err(Refused::NoSuchPort));
-    assert!(rt; resume(table, 1) == Err(Refused::NoSuchPort));
+    holds(rt, resume(table, 1) == Ok(()));
+    holds(rt, !table.any_paused(&set));
+    holds(rt, close(table, 1) == Ok(()));
+    holds(rt, pause(table, 1) == Err(Refused::NoSuchPort));
+    holds(rt, resume(table, 1) == Err(Refused::NoSuchPort));
 }
 
 #[test]
-fn a_paused_port_is_found_and_holds(rt: HostRuntime) -> Result<(), Fail> {
-    let pgn = Pgn::new(0xFECA)?;
-    let mut table = new_table(rt.alloc())?;
+fn a_paused_port_is_found_and_holds(rt: HostRuntime) {
+    let pgn = got(&rt, Pgn::new(0xFECA));
+    let mut table = new_table(&rt, rt.alloc());
     opens(&rt, &mut table, pgn, 1785, Ok(1));
     pause_port(&rt, &mut table, pgn);
     resume_port(&rt, &mut table, pgn);
-    Ok(())
 }
 
 #[test]
-fn sixteen_ports(rt: HostRuntime) -> Result<(), Fail> {
-    let pgn = Pgn::new(0xEF00)?;
-    let mut table = new_table(rt.alloc())?;
+fn sixteen_ports(rt: HostRuntime) {
+    let pgn = got(&rt, Pgn::new(0xEF00));
+    let mut table = new_table(&rt, rt.alloc());
     for number in 1..=16 {
         opens(&rt, &mut table, pgn, 9, Ok(number));
     }
     opens(&rt, &mut table, pgn, 9, Err(Refused::PortsFull));
-    assert_eq!(rt; find(&table, pgn, 9).len(), 16);
-    assert_eq!(rt; close(&mut table, 7), Ok(()));
+    same(&rt, find(&table, pgn, 9).len(), 16);
+    same(&rt, close(&mut table, 7), Ok(()));
     opens(&rt, &mut table, pgn, 9, Ok(17));
     opens(&rt, &mut table, pgn, 9, Err(Refused::PortsFull));
-    Ok(())
 }
 
 fn is_of(image: &PortsImage, table: &PortTable) -> bool {
     image.is_of(table)
 }
 
-fn show(rt: &impl Abort, alloc: Global, table: &mut PortTable, pgn: Pgn) -> Result<(), Fail> {
-    let none = table.image(alloc)?;
-    assert!(rt; is_of(&none, table));
+fn show(rt: &impl Abort, alloc: Global, table: &mut PortTable, pgn: Pgn) {
+    let none = got(rt, table.image(alloc));
+    holds(rt, is_of(&none, table));
     opens(rt, table, pgn, 9, Ok(1));
-    assert!(rt; !is_of(&none, table));
-    let one = table.image(alloc)?;
-    assert!(rt; is_of(&one, table));
-    assert!(rt; pause(table, 1) == Ok(()));
-    assert!(rt; !is_of(&one, table));
-    assert!(rt; close(table, 1) == Ok(()));
+    holds(rt, !is_of(&none, table));
+    let one = got(rt, table.image(alloc));
+    holds(rt, is_of(&one, table));
+    holds(rt, pause(table, 1) == Ok(()));
+    holds(rt, !is_of(&one, table));
+    holds(rt, close(table, 1) == Ok(()));
     // None is open, as before the first was opened, but one number was used.
-    assert!(rt; !is_of(&none, table));
-    Ok(())
+    holds(rt, !is_of(&none, table));
 }
 
 #[test]
-fn an_image_has_the_ports_of_its_table(rt: HostRuntime) -> Result<(), Fail> {
-    let mut table = new_table(rt.alloc())?;
-    show(&rt, rt.alloc(), &mut table, Pgn::new(0xFECA)?)
+fn an_image_has_the_ports_of_its_table(rt: HostRuntime) {
+    let mut table = new_table(&rt, rt.alloc());
+    show(&rt, rt.alloc(), &mut table, got(&rt, Pgn::new(0xFECA)))
 }

@@ -1,7 +1,7 @@
+use crate::checks::{got, holds};
 use bus_frame::{CanId, Frame};
 use std::alloc::{AllocError, Global};
 use std::process::Abort;
-use std::test::Fail;
 use tx_queue::*;
 
 // Made again where no memory is found, so that the test passes whichever one allocation is refused.
@@ -18,7 +18,7 @@ fn push(queue: &mut TxQueue, frame: Frame) -> Result<(), TxFull> {
 }
 
 fn push_free(rt: &impl Abort, queue: &mut TxQueue, frame: Frame) {
-    assert!(rt; queue.free() > 0);
+    holds(rt, queue.free() > 0);
     queue.push_free(frame)
 }
 
@@ -30,41 +30,39 @@ fn front(queue: &TxQueue) -> Option<Frame> {
     queue.front()
 }
 
-fn frame_of(number: u8) -> Result<Frame, Fail> {
-    let id = CanId::new(0x1CEB_2335)?;
-    Ok(Frame::new(id, &[number])?)
+fn frame_of(rt: &impl Abort, number: u8) -> Frame {
+    let id = got(rt, CanId::new(0x1CEB_2335));
+    got(rt, Frame::new(id, &[number]))
 }
 
 // A test's steps are a function of their own, which owns nothing: where a step can end a test, what the test owns is dropped there, and each
 // such place takes its part of the proof.
-fn fill(rt: &impl Abort, queue: &mut TxQueue) -> Result<(), Fail> {
-    assert!(rt; queue.is_empty() && queue.free() == 64);
-    assert!(rt; pop(queue).is_none());
+fn fill(rt: &impl Abort, queue: &mut TxQueue) {
+    holds(rt, queue.is_empty() && queue.free() == 64);
+    holds(rt, pop(queue).is_none());
     for number in 0..64u8 {
-        assert!(rt; push(queue, frame_of(number)?).is_ok());
+        holds(rt, push(queue, frame_of(rt, number)).is_ok());
     }
-    assert!(rt; queue.len() == 64 && queue.free() == 0);
-    assert!(rt; push(queue, frame_of(64)?) == Err(TxFull));
-    Ok(())
+    holds(rt, queue.len() == 64 && queue.free() == 0);
+    holds(rt, push(queue, frame_of(rt, 64)) == Err(TxFull));
 }
 
-fn empty(rt: &impl Abort, queue: &mut TxQueue) -> Result<(), Fail> {
+fn empty(rt: &impl Abort, queue: &mut TxQueue) {
     for number in 0..64u8 {
-        let expected = Some(frame_of(number)?);
-        assert!(rt; front(queue) == expected);
-        assert!(rt; pop(queue) == expected);
+        let expected = Some(frame_of(rt, number));
+        holds(rt, front(queue) == expected);
+        holds(rt, pop(queue) == expected);
     }
-    assert!(rt; front(queue).is_none() && queue.is_empty());
-    let expected = frame_of(65)?;
+    holds(rt, front(queue).is_none() && queue.is_empty());
+    let expected = frame_of(rt, 65);
     push_free(rt, queue, expected);
-    assert!(rt; pop(queue) == Some(expected));
-    Ok(())
+    holds(rt, pop(queue) == Some(expected));
 }
 
 #[test]
-fn sixty_four_frames_leave_in_order(rt: HostRuntime) -> Result<(), Fail> {
-    let mut queue = new_queue(rt.alloc())?;
-    fill(&rt, &mut queue)?;
+fn sixty_four_frames_leave_in_order(rt: HostRuntime) {
+    let mut queue = got(&rt, new_queue(rt.alloc()));
+    fill(&rt, &mut queue);
     empty(&rt, &mut queue)
 }
 
@@ -80,23 +78,22 @@ fn is_of(image: &QueueImage, queue: &TxQueue) -> bool {
     image.is_of(queue)
 }
 
-fn show(rt: &impl Abort, alloc: Global, queue: &mut TxQueue) -> Result<(), Fail> {
-    let empty = image_of(alloc, queue)?;
-    assert!(rt; is_of(&empty, queue));
-    assert!(rt; push(queue, frame_of(1)?).is_ok());
-    assert!(rt; !is_of(&empty, queue));
-    let one = image_of(alloc, queue)?;
-    assert!(rt; is_of(&one, queue));
-    assert!(rt; push(queue, frame_of(2)?).is_ok());
-    assert!(rt; !is_of(&one, queue));
-    assert!(rt; pop(queue) == Some(frame_of(1)?));
+fn show(rt: &impl Abort, alloc: Global, queue: &mut TxQueue) {
+    let empty = got(rt, image_of(alloc, queue));
+    holds(rt, is_of(&empty, queue));
+    holds(rt, push(queue, frame_of(rt, 1)).is_ok());
+    holds(rt, !is_of(&empty, queue));
+    let one = got(rt, image_of(alloc, queue));
+    holds(rt, is_of(&one, queue));
+    holds(rt, push(queue, frame_of(rt, 2)).is_ok());
+    holds(rt, !is_of(&one, queue));
+    holds(rt, pop(queue) == Some(frame_of(rt, 1)));
     // As many frames as then, but another one.
-    assert!(rt; !is_of(&one, queue));
-    Ok(())
+    holds(rt, !is_of(&one, queue));
 }
 
 #[test]
-fn an_image_has_the_frames_of_its_queue(rt: HostRuntime) -> Result<(), Fail> {
-    let mut queue = new_queue(rt.alloc())?;
+fn an_image_has_the_frames_of_its_queue(rt: HostRuntime) {
+    let mut queue = got(&rt, new_queue(rt.alloc()));
     show(&rt, rt.alloc(), &mut queue)
 }

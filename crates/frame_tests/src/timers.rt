@@ -1,14 +1,15 @@
 //! What no clause says: that each call can succeed.
+use crate::checks::{holds, same};
 use tick_timers::*;
 
 #[test]
 fn clock_stops_at_its_end(rt: HostRuntime) {
     let mut clock = Clock::new();
-    assert_eq!(rt; clock.now(), 0);
-    assert_eq!(rt; clock.advance(u64::MAX), Ok(()));
-    assert_eq!(rt; clock.advance(0), Ok(()));
-    assert_eq!(rt; clock.advance(1), Err(ClockEnd));
-    assert_eq!(rt; clock.now(), u64::MAX);
+    same(&rt, clock.now(), 0);
+    same(&rt, clock.advance(u64::MAX), Ok(()));
+    same(&rt, clock.advance(0), Ok(()));
+    same(&rt, clock.advance(1), Err(ClockEnd));
+    same(&rt, clock.now(), u64::MAX);
 }
 
 #[test]
@@ -24,5 +25,8 @@ fn timer_is_due_with_its_last_tick(rt: HostRuntime) {
         assert_eq!(rt; timer.is_due(now), due, "at {now}");
     }
     let gap = Timer::start(100, BROADCAST_GAP);
-    assert!(rt; gap.missing(100) == 50 && gap.missing(149) == 1 && gap.missing(151) == 0);
+    holds(
+        &rt,
+        gap.missing(100) == 50 && gap.missing(149) == 1 && gap.missing(151) == 0,
+    );
 }

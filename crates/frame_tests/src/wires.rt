@@ -1,14 +1,14 @@
+use crate::checks::{got, holds, same};
 use bus_frame::{CanId, Frame};
 use pgn_ids::{Address, WirePgn, read_id};
 use std::process::Abort;
-use std::test::Fail;
 use tp_wire::*;
 
 // Diagnostic message 1, a PGN of the PDU2 format.
 const DM1: u32 = 0xFECA;
 
-fn frame_of(id: u32, bytes: &[u8]) -> Result<Frame, Fail> {
-    Ok(Frame::new(CanId::new(id)?, bytes)?)
+fn frame_of(rt: &impl Abort, id: u32, bytes: &[u8]) -> Frame {
+    got(rt, Frame::new(got(rt, CanId::new(id)), bytes))
 }
 
 fn is_heard_as(heard: &Heard<'_>, wire: &Wire) -> bool {
@@ -71,20 +71,19 @@ const A_TO_ALL: Ends = (0x21, 0xFF);
 const B_TO_ALL: Ends = (0x35, 0xFF);
 
 // A row of the frame table: a frame of this identifier and these bytes has this meaning, and is what is written for it.
-fn is_row(rt: &impl Abort, id: u32, bytes: [u8; 8], wire: Wire, ends: Ends) -> Result<(), Fail> {
-    let frame = frame_of(id, &bytes)?;
+fn is_row(rt: &impl Abort, id: u32, bytes: [u8; 8], wire: Wire, ends: Ends) {
+    let frame = frame_of(rt, id, &bytes);
     let (from, to) = ends;
     assert!(rt; is_transport(&frame), "at {id:08X}");
     assert!(rt;
         means(&frame, &wire, Address(from), Address(to)),
         "at {id:08X}"
     );
-    Ok(())
 }
 
 #[test]
-fn rows_that_begin_a_message(rt: HostRuntime) -> Result<(), Fail> {
-    let pgn = WirePgn::new(DM1)?;
+fn rows_that_begin_a_message(rt: HostRuntime) {
+    let pgn = got(&rt, WirePgn::new(DM1));
     is_row(
         &rt,
         0x1CEC_3521,
@@ -96,7 +95,7 @@ fn rows_that_begin_a_message(rt: HostRuntime) -> Result<(), Fail> {
             pgn,
         }),
         A_TO_B,
-    )?;
+    );
     is_row(
         &rt,
         0x1CEC_FF21,
@@ -111,15 +110,15 @@ fn rows_that_begin_a_message(rt: HostRuntime) -> Result<(), Fail> {
 }
 
 #[test]
-fn rows_that_begin_an_extended_message(rt: HostRuntime) -> Result<(), Fail> {
-    let pgn = WirePgn::new(DM1)?;
+fn rows_that_begin_an_extended_message(rt: HostRuntime) {
+    let pgn = got(&rt, WirePgn::new(DM1));
     is_row(
         &rt,
         0x1CC8_3521,
         [0x14, 0xFA, 0x06, 0x00, 0x00, 0xCA, 0xFE, 0x00],
         Wire::Cm(CmFrame::EtpRts { size: 1786, pgn }),
         A_TO_B,
-    )?;
+    );
     is_row(
         &rt,
         0x1CC8_3521,
@@ -133,8 +132,8 @@ fn rows_that_begin_an_extended_message(rt: HostRuntime) -> Result<(), Fail> {
 }
 
 #[test]
-fn rows_of_windows(rt: HostRuntime) -> Result<(), Fail> {
-    let pgn = WirePgn::new(DM1)?;
+fn rows_of_windows(rt: HostRuntime) {
+    let pgn = got(&rt, WirePgn::new(DM1));
     is_row(
         &rt,
         0x1CEC_2135,
@@ -145,7 +144,7 @@ fn rows_of_windows(rt: HostRuntime) -> Result<(), Fail> {
             pgn,
         }),
         B_TO_A,
-    )?;
+    );
     is_row(
         &rt,
         0x1CC8_2135,
@@ -156,7 +155,7 @@ fn rows_of_windows(rt: HostRuntime) -> Result<(), Fail> {
             pgn,
         }),
         B_TO_A,
-    )?;
+    );
     is_row(
         &rt,
         0x1CC8_3521,
@@ -171,7 +170,7 @@ fn rows_of_windows(rt: HostRuntime) -> Result<(), Fail> {
 }
 
 #[test]
-fn rows_of_packets(rt: HostRuntime) -> Result<(), Fail> {
+fn rows_of_packets(rt: HostRuntime) {
     is_row(
         &rt,
         0x1CEB_FF21,
@@ -182,7 +181,7 @@ fn rows_of_packets(rt: HostRuntime) -> Result<(), Fail> {
             bytes: [1, 2, 3, 4, 5, 6, 7],
         },
         A_TO_ALL,
-    )?;
+    );
     is_row(
         &rt,
         0x1CC7_3521,
@@ -197,8 +196,8 @@ fn rows_of_packets(rt: HostRuntime) -> Result<(), Fail> {
 }
 
 #[test]
-fn rows_that_acknowledge_a_message(rt: HostRuntime) -> Result<(), Fail> {
-    let pgn = WirePgn::new(DM1)?;
+fn rows_that_acknowledge_a_message(rt: HostRuntime) {
+    let pgn = got(&rt, WirePgn::new(DM1));
     is_row(
         &rt,
         0x1CEC_2135,
@@ -209,7 +208,7 @@ fn rows_that_acknowledge_a_message(rt: HostRuntime) -> Result<(), Fail> {
             pgn,
         }),
         B_TO_A,
-    )?;
+    );
     is_row(
         &rt,
         0x1CC8_2135,
@@ -220,15 +219,15 @@ fn rows_that_acknowledge_a_message(rt: HostRuntime) -> Result<(), Fail> {
 }
 
 #[test]
-fn rows_that_abort_a_message(rt: HostRuntime) -> Result<(), Fail> {
-    let pgn = WirePgn::new(DM1)?;
+fn rows_that_abort_a_message(rt: HostRuntime) {
+    let pgn = got(&rt, WirePgn::new(DM1));
     is_row(
         &rt,
         0x1CEC_3521,
         [0xFF, 0x03, 0xFF, 0xFF, 0xFF, 0xCA, 0xFE, 0x00],
         Wire::Cm(CmFrame::Abort { reason: 3, pgn }),
         A_TO_B,
-    )?;
+    );
     is_row(
         &rt,
         0x1CC8_2135,
@@ -239,7 +238,7 @@ fn rows_that_abort_a_message(rt: HostRuntime) -> Result<(), Fail> {
 }
 
 #[test]
-fn the_row_of_an_acknowledgement(rt: HostRuntime) -> Result<(), Fail> {
+fn the_row_of_an_acknowledgement(rt: HostRuntime) {
     is_row(
         &rt,
         0x18E8_FF35,
@@ -247,49 +246,50 @@ fn the_row_of_an_acknowledgement(rt: HostRuntime) -> Result<(), Fail> {
         Wire::Ack {
             control: 1,
             address: Address(0x21),
-            pgn: WirePgn::new(0xEC00)?,
+            pgn: got(&rt, WirePgn::new(0xEC00)),
         },
         B_TO_ALL,
     )
 }
 
-#[test]
-fn requests_are_read_by_three_bytes(rt: HostRuntime) -> Result<(), Fail> {
-    let request = Wire::Request {
-        pgn: WirePgn::new(0xEC00)?,
-    };
-    let padded = [0x00, 0xEC, 0x00, 0xFF, 0xFF, 0xFF, 0xFF, 0xFF];
-    let frame = frame_of(0x18EA_3521, &padded[..3])?;
-    assert!(rt; write(request, Address(0x21), Address(0x35)) == frame);
-    for from in [0x21, 0xFE] {
-        for len in 3..9usize {
-            let frame = frame_of(0x18EA_3500 + u32::from(from), &padded[..len])?;
-            assert!(rt;
-                read(&frame) == Some((request, Address(from), Address(0x35))),
-                "of {len} bytes"
-            );
+// A frame of these bytes has this meaning, whatever is written for it.
+fn is_read_as(rt: &impl Abort, id: u32, bytes: &[u8], wire: &Wire, ends: Ends) {
+    let frame = frame_of(rt, id, bytes);
+    let (from, to) = ends;
+    let is_so = match read(&frame) {
+        Some((read_wire, source, destination)) => {
+            read_wire == *wire && source.0 == from && destination.0 == to
         }
-    }
-    Ok(())
+        None => false,
+    };
+    assert!(rt; is_so, "at {id:08X}, of {} bytes", bytes.len());
 }
 
 #[test]
-fn reserved_bytes_and_priorities_may_be_any(rt: HostRuntime) -> Result<(), Fail> {
-    let abort = Wire::Cm(CmFrame::Abort {
-        reason: 2,
-        pgn: WirePgn::new(DM1)?,
-    });
+fn requests_are_read_by_three_bytes(rt: HostRuntime) {
+    let pgn = got(&rt, WirePgn::new(0xEC00));
+    let request = Wire::Request { pgn };
+    let padded = [0x00, 0xEC, 0x00, 0xFF, 0xFF, 0xFF, 0xFF, 0xFF];
+    let frame = frame_of(&rt, 0x18EA_3521, &padded[..3]);
+    holds(&rt, write(request, Address(0x21), Address(0x35)) == frame);
+    for from in [0x21, 0xFE] {
+        for len in 3..9usize {
+            let id = 0x18EA_3500 + u32::from(from);
+            is_read_as(&rt, id, &padded[..len], &request, (from, 0x35));
+        }
+    }
+}
+
+#[test]
+fn reserved_bytes_and_priorities_may_be_any(rt: HostRuntime) {
+    let pgn = got(&rt, WirePgn::new(DM1));
+    let abort = Wire::Cm(CmFrame::Abort { reason: 2, pgn });
     for id in [0x1CEC_3521, 0x18EC_3521, 0x00EC_3521] {
         for reserved in [0x00, 0x5A, 0xFF] {
             let bytes = [0xFF, 0x02, reserved, reserved, reserved, 0xCA, 0xFE, 0x00];
-            let meaning = read(&frame_of(id, &bytes)?);
-            assert!(rt;
-                meaning == Some((abort, Address(0x21), Address(0x35))),
-                "at {id:08X}"
-            );
+            is_read_as(&rt, id, &bytes, &abort, A_TO_B);
         }
     }
-    Ok(())
 }
 
 const PACKET: [u8; 8] = [0x01, 0x01, 0x02, 0x03, 0x04, 0x05, 0x06, 0x07];
@@ -299,73 +299,73 @@ const CTS: [u8; 8] = [0x11, 0x01, 0x01, 0xFF, 0xFF, 0xCA, 0xFE, 0x00];
 const BAM: [u8; 8] = [0x20, 0x09, 0x00, 0x02, 0xFF, 0xCA, 0xFE, 0x00];
 
 // A frame of a PGN of the frame table that is no row of it.
-fn is_malformed(rt: &impl Abort, id: u32, bytes: &[u8]) -> Result<(), Fail> {
-    let frame = frame_of(id, bytes)?;
+fn is_malformed(rt: &impl Abort, id: u32, bytes: &[u8]) {
+    let frame = frame_of(rt, id, bytes);
     assert!(rt; read(&frame) == None && is_transport(&frame), "at {id:08X}");
     assert!(rt;
         read_in_place(&frame, &read_id(frame.id())).is_none(),
         "at {id:08X}"
     );
-    Ok(())
 }
 
 #[test]
-fn malformed_bytes_have_no_meaning(rt: HostRuntime) -> Result<(), Fail> {
+fn malformed_bytes_have_no_meaning(rt: HostRuntime) {
     // Sequence 0, a PGN field above 18 bits, an unknown control byte, seven bytes, and two of a Request.
     let sequence_zero = [0x00, 0x01, 0x02, 0x03, 0x04, 0x05, 0x06, 0x07];
     let wide_pgn = [0x10, 0x09, 0x00, 0x02, 0xFF, 0xCA, 0xFE, 0x04];
     let unknown = [0x12, 0x09, 0x00, 0x02, 0xFF, 0xCA, 0xFE, 0x00];
-    is_malformed(&rt, 0x1CEB_FF80, &sequence_zero)?;
-    is_malformed(&rt, 0x1CEC_3580, &wide_pgn)?;
-    is_malformed(&rt, 0x1CEC_3580, &unknown)?;
-    is_malformed(&rt, 0x1CEC_3580, &BAM[..7])?;
+    is_malformed(&rt, 0x1CEB_FF80, &sequence_zero);
+    is_malformed(&rt, 0x1CEC_3580, &wide_pgn);
+    is_malformed(&rt, 0x1CEC_3580, &unknown);
+    is_malformed(&rt, 0x1CEC_3580, &BAM[..7]);
     is_malformed(&rt, 0x18EA_3521, &CTS[..2])
 }
 
 #[test]
-fn malformed_addresses_have_no_meaning(rt: HostRuntime) -> Result<(), Fail> {
+fn malformed_addresses_have_no_meaning(rt: HostRuntime) {
     // A CTS to all, to the null address and from it, a BAM to one node, a packet of ETP to all, and a Request from all.
     let request = [0x00, 0xEC, 0x00, 0xFF, 0xFF, 0xFF, 0xFF, 0xFF];
-    is_malformed(&rt, 0x1CEC_FF80, &CTS)?;
-    is_malformed(&rt, 0x1CEC_FE80, &CTS)?;
-    is_malformed(&rt, 0x1CEC_35FE, &CTS)?;
-    is_malformed(&rt, 0x1CEC_3580, &BAM)?;
-    is_malformed(&rt, 0x1CC7_FF80, &PACKET)?;
+    is_malformed(&rt, 0x1CEC_FF80, &CTS);
+    is_malformed(&rt, 0x1CEC_FE80, &CTS);
+    is_malformed(&rt, 0x1CEC_35FE, &CTS);
+    is_malformed(&rt, 0x1CEC_3580, &BAM);
+    is_malformed(&rt, 0x1CC7_FF80, &PACKET);
     is_malformed(&rt, 0x18EA_35FF, &request)
 }
 
 #[test]
-fn other_traffic_has_no_meaning(rt: HostRuntime) -> Result<(), Fail> {
+fn other_traffic_has_no_meaning(rt: HostRuntime) {
     // The data page, the extended data page, and a frame of another PGN.
     for id in [0x1DEC_3521, 0x1EEC_3521, 0x0CF0_0400] {
-        let frame = frame_of(id, &[0x11, 0x01, 0x01, 0xFF, 0xFF, 0xCA, 0xFE, 0x00])?;
+        let frame = frame_of(&rt, id, &[0x11, 0x01, 0x01, 0xFF, 0xFF, 0xCA, 0xFE, 0x00]);
         assert!(rt;
             read(&frame) == None && !is_transport(&frame),
             "at {id:08X}"
         );
     }
-    Ok(())
 }
 
 #[test]
-fn fields_of_a_meaning(rt: HostRuntime) -> Result<(), Fail> {
-    let pgn = WirePgn::new(DM1)?;
+fn fields_of_a_meaning(rt: HostRuntime) {
+    let pgn = got(&rt, WirePgn::new(DM1));
     let dpo = CmFrame::EtpDpo {
         packets: 64,
         offset: 192,
         pgn,
     };
-    assert!(rt; dpo.kind() == Kind::Etp && dpo.pgn() == pgn);
-    assert!(rt; Wire::Cm(dpo).kind() == Some(Kind::Etp) && Wire::Cm(dpo).pgn() == Some(pgn));
+    holds(&rt, dpo.kind() == Kind::Etp && dpo.pgn() == pgn);
+    holds(
+        &rt,
+        Wire::Cm(dpo).kind() == Some(Kind::Etp) && Wire::Cm(dpo).pgn() == Some(pgn),
+    );
     let packet = Wire::Packet {
         kind: Kind::Tp,
         sequence: 1,
         bytes: [0xFF; 7],
     };
-    assert!(rt; packet.kind() == Some(Kind::Tp) && packet.pgn() == None);
+    holds(&rt, packet.kind() == Some(Kind::Tp) && packet.pgn() == None);
     let request = Wire::Request { pgn };
-    assert!(rt; request.kind() == None && request.pgn() == Some(pgn));
-    assert_eq!(rt; AbortReason::Timeout.byte(), 3);
-    assert_eq!(rt; AbortReason::Other.byte(), 250);
-    Ok(())
+    holds(&rt, request.kind() == None && request.pgn() == Some(pgn));
+    same(&rt, AbortReason::Timeout.byte(), 3);
+    same(&rt, AbortReason::Other.byte(), 250);
 }

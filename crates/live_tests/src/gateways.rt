@@ -1,16 +1,15 @@
 //! Scripts of two segments with a relay between them.
+use crate::checks::same;
+use crate::ended::*;
 use bus_relay::{Cause, Gate, RelayFault, RelayRan, run_relay};
 use std::alloc::Global;
+use std::process::Abort;
 use std::sync::Wait;
 use std::sync::atomic::{AtomicU64, Ordering};
-use std::test::Fail;
 use std::thread;
 use std::thread::Threads;
 
 const LOOKS: u64 = 100_000_000;
-
-/// More turns than any of these scripts needs.
-const MANY_TURNS: u64 = 1_000_000;
 
 /// The two workers of the relay, behind three of each segment.
 const FIRST: u8 = 6;
@@ -67,60 +66,41 @@ fn may_lack_memory(ran: RelayRan, turns: u64) -> bool {
     }
 }
 
-// Runs a script, and gives what it wrote; once more where memory was refused.
-fn run_past<T: Threads + Wait + Sync, G: Gate + Sync>(
+// Runs a script; once more where memory was refused.
+fn run_past<T: Threads + Wait + Sync>(
     rt: &T,
     alloc: Global,
     script: &str,
-    gate: &G,
+    writer: &mut Vec<u8>,
     turns: u64,
-) -> (RelayRan, Vec<u8>) {
-    let mut writer = Vec::new(alloc);
-    let ran = run_once(rt, alloc, script, &mut writer, gate, turns);
+) -> RelayRan {
+    let ran = run_once(rt, alloc, script, writer, &OpenGate {}, turns);
     if !may_lack_memory(ran, turns) {
-        return (ran, writer);
+        return ran;
     }
     writer.clear();
-    let ran = run_once(rt, alloc, script, &mut writer, gate, turns);
-    (ran, writer)
+    run_once(rt, alloc, script, writer, &OpenGate {}, turns)
 }
 
-// Lets each worker pass at once.
-#[derive(Drop)]
-struct OpenGate {}
-
-impl Gate for OpenGate {
-    fn pass(&self, _worker: u8, _turn: u64) {}
-}
-
-// Runs a script, and whether it ends with this status and wrote this text.
-fn writes<T: Threads + Wait + Sync>(
+// Runs a script, which ends with this status and writes this text.
+fn writes<T: Threads + Wait + Abort + Sync>(
     rt: &T,
     alloc: Global,
     script: &str,
     turns: u64,
     status: u8,
     meant: &str,
-) -> bool {
-    let (ran, text) = run_past(rt, alloc, script, &OpenGate {}, turns);
-    ran.status() == status && text.as_slice() == meant.as_bytes()
+) {
+    let mut text = Vec::new(alloc);
+    let ran = run_past(rt, alloc, script, &mut text, turns);
+    wrote(rt, ran, status, text.as_slice(), meant);
 }
 
-// Runs a script that ends at a fault, and whether this is its line.
-fn fails_by<T: Threads + Wait + Sync>(
-    rt: &T,
-    alloc: Global,
-    script: &str,
-    meant: &str,
-) -> Result<bool, Fail> {
-    let (ran, _text) = run_past(rt, alloc, script, &OpenGate {}, 1);
-    match ran.fault {
-        Some(fault) => {
-            let line = format!(in alloc; "{fault}")?;
-            Ok(line.as_str() == meant)
-        }
-        None => Ok(false),
-    }
+// Runs a script that ends at a fault, and this is its line.
+fn fails_by<T: Threads + Wait + Abort + Sync>(rt: &T, alloc: Global, script: &str, meant: &str) {
+    let mut text = Vec::new(alloc);
+    let ran = run_past(rt, alloc, script, &mut text, 1);
+    is_told(rt, alloc, ran, meant);
 }
 
 // Runs the script with both workers held at their first turns, and counts those that were alone there.
@@ -133,21 +113,26 @@ fn crossed<T: Threads + Wait + Sync>(rt: &T, alloc: Global, text: &mut Vec<u8>) 
     (ran, gate.missed.load(Ordering::SeqCst))
 }
 
+// The same; once more where memory was refused.
+fn crossed_past<T: Threads + Wait + Sync>(
+    rt: &T,
+    alloc: Global,
+    text: &mut Vec<u8>,
+) -> (RelayRan, u64) {
+    let first = crossed(rt, alloc, text);
+    if !may_lack_memory(first.0, MANY_TURNS) {
+        return first;
+    }
+    text.clear();
+    crossed(rt, alloc, text)
+}
+
 #[test]
-fn a_message_is_relayed_by_two_threads(rt: HostRuntime) -> Result<(), Fail> {
-    let alloc = rt.alloc();
-    let mut text = Vec::new(alloc);
-    let first = crossed(&rt, alloc, &mut text);
-    let (ran, missed) = if may_lack_memory(first.0, MANY_TURNS) {
-        text.clear();
-        crossed(&rt, alloc, &mut text)
-    } else {
-        first
-    };
-    assert_eq!(rt; ran.status(), 0);
-    assert_eq!(rt; missed, 0);
-    assert!(rt; text.as_slice() == TEXT.as_bytes());
-    Ok(())
+fn a_message_is_relayed_by_two_threads(rt: HostRuntime) {
+    let mut text = Vec::new(rt.alloc());
+    let (ran, missed) = crossed_past(&rt, rt.alloc(), &mut text);
+    wrote(&rt, ran, 0, text.as_slice(), TEXT);
+    same(&rt, missed, 0);
 }
 
 const MANY: &str =
@@ -157,73 +142,70 @@ const MANY_TEXT: &str =
     "port 50.1\n  given 50.1 21 50 0FECA 9 010203040506070809\n  given 50.1 21 50 0FECA 10 1112131415161718191A\nrelayed 2 2 0\noutcome 21 22 1 Acknowledged\noutcome 21 35 1 Acknowledged\noutcome 21 35 2 Acknowledged\noutcome 21 FF 1 Broadcast\noutcome 21 50 1 Acknowledged\noutcome 21 50 2 Acknowledged\n";
 
 #[test]
-fn the_limit_is_what_the_port_is_sent(rt: HostRuntime) -> Result<(), Fail> {
-    let alloc = rt.alloc();
-    assert!(rt; writes(&rt, alloc, MANY, MANY_TURNS, 0, MANY_TEXT));
-    Ok(())
+fn the_limit_is_what_the_port_is_sent(rt: HostRuntime) {
+    writes(&rt, rt.alloc(), MANY, MANY_TURNS, 0, MANY_TEXT);
 }
 
+// Scripts whose route is refused or that have none, and what they write.
+const WITHOUT_ROUTES: [(&str, &str); 5] = [
+    (
+        "stations 21\nstations 40\nroute 21.1 21 FF\n",
+        "refused 12 NoSuchPort\nrelayed 0 0 0\n",
+    ),
+    (
+        "stations 21\nopen 21 FECA 9\nstations 40\nroute 21.1 21 21\n",
+        "refused 14 NoSuchStation\nrelayed 0 0 0\n",
+    ),
+    (
+        "stations 21\nopen 21 FECA 9\nstations 40\nroute 21.1 40 FE\n",
+        "refused 14 NoSuchStation\nrelayed 0 0 0\n",
+    ),
+    (
+        "stations 21\nopen 21 FECA 9\nstations 40\nroute 21.1 40 40\n",
+        "refused 17 SameStation\nrelayed 0 0 0\n",
+    ),
+    ("stations 21\nstations 40\n", "relayed 0 0 0\n"),
+];
+
 #[test]
-fn refused_routes_relay_nothing(rt: HostRuntime) -> Result<(), Fail> {
-    let alloc = rt.alloc();
-    for (script, meant) in [
-        (
-            "stations 21\nstations 40\nroute 21.1 21 FF\n",
-            "refused 12 NoSuchPort\nrelayed 0 0 0\n",
-        ),
-        (
-            "stations 21\nopen 21 FECA 9\nstations 40\nroute 21.1 21 21\n",
-            "refused 14 NoSuchStation\nrelayed 0 0 0\n",
-        ),
-        (
-            "stations 21\nopen 21 FECA 9\nstations 40\nroute 21.1 40 FE\n",
-            "refused 14 NoSuchStation\nrelayed 0 0 0\n",
-        ),
-        (
-            "stations 21\nopen 21 FECA 9\nstations 40\nroute 21.1 40 40\n",
-            "refused 17 SameStation\nrelayed 0 0 0\n",
-        ),
-        ("stations 21\nstations 40\n", "relayed 0 0 0\n"),
-    ] {
-        assert!(rt; writes(&rt, alloc, script, MANY_TURNS, 0, meant));
+fn refused_routes_relay_nothing(rt: HostRuntime) {
+    for (script, meant) in &WITHOUT_ROUTES {
+        writes(&rt, rt.alloc(), script, MANY_TURNS, 0, meant);
     }
-    Ok(())
 }
 
+// Scripts that end at a fault, and its line.
+const OUT_OF_ORDER: [(&str, &str); 7] = [
+    ("", "line 1: no stations"),
+    ("stations 21\n", "line 2: no stations"),
+    ("stations 21\nroute 21.1 40 50\n", "line 2: unknown command"),
+    (
+        "stations 21\nstations 40\nsend 40 FF FECA 010203040506070809\n",
+        "line 3: unknown command",
+    ),
+    (
+        "stations 21\nstations 40\nstations 50\n",
+        "line 3: stations twice",
+    ),
+    (
+        "stations 21\nstations 40\nroute 21.1 40\n",
+        "line 3: wrong number of words",
+    ),
+    (
+        "stations 21\nstations 40\nroute 21.1 40 50\nopen 40 FECA 9\n",
+        "line 4: unknown command",
+    ),
+];
+
 #[test]
-fn lines_stand_in_their_order(rt: HostRuntime) -> Result<(), Fail> {
-    let alloc = rt.alloc();
-    for (script, meant) in [
-        ("", "line 1: no stations"),
-        ("stations 21\n", "line 2: no stations"),
-        ("stations 21\nroute 21.1 40 50\n", "line 2: unknown command"),
-        (
-            "stations 21\nstations 40\nsend 40 FF FECA 010203040506070809\n",
-            "line 3: unknown command",
-        ),
-        (
-            "stations 21\nstations 40\nstations 50\n",
-            "line 3: stations twice",
-        ),
-        (
-            "stations 21\nstations 40\nroute 21.1 40\n",
-            "line 3: wrong number of words",
-        ),
-        (
-            "stations 21\nstations 40\nroute 21.1 40 50\nopen 40 FECA 9\n",
-            "line 4: unknown command",
-        ),
-    ] {
-        let is_told = fails_by(&rt, alloc, script, meant)?;
-        assert!(rt; is_told);
+fn lines_stand_in_their_order(rt: HostRuntime) {
+    for (script, meant) in &OUT_OF_ORDER {
+        fails_by(&rt, rt.alloc(), script, meant);
     }
-    Ok(())
 }
 
 #[test]
-fn one_turn_relays_nothing(rt: HostRuntime) -> Result<(), Fail> {
-    let alloc = rt.alloc();
+fn one_turn_relays_nothing(rt: HostRuntime) {
     let meant = "port 50.1\nrelayed 0 0 0\nturns ran out\n";
-    assert!(rt; writes(&rt, alloc, SCRIPT, 1, 3, meant));
-    Ok(())
+    writes(&rt, rt.alloc(), SCRIPT, 1, 3, meant);
 }

@@ -2,6 +2,10 @@
 #![tactic(auto)]
 
 #[cfg(test)]
+mod checks;
+#[cfg(test)]
+mod ended;
+#[cfg(test)]
 mod gateways;
 #[cfg(test)]
 mod runs;

@@ -1,9 +1,9 @@
 //! Readers and writers that fail in the middle of a log.
+use crate::checks::{got, holds, same};
 use bus_decode::{Cause, Counts, Decoded, Options, Wanted, run_decode};
 use std::alloc::Global;
 use std::io;
 use std::io::{BufRead, BufReader, Error, ErrorKind, Read, Write};
-use std::test::Fail;
 
 fn all(alloc: Global) -> Options {
     Options {
@@ -59,38 +59,36 @@ const THREE: &str =
     "(1.000000) can0 18FEF100#01\n(2.000000) can0 18FEF100#02\n(3.000000) can0 18FEF100#03\n";
 
 #[test]
-fn a_failed_read_ends_the_log(rt: HostRuntime) -> Result<(), Fail> {
+fn a_failed_read_ends_the_log(rt: HostRuntime) {
     let alloc = rt.alloc();
     let breaking = Breaking {
         text: b"\n(1.000000) can0 18FEF10",
     };
-    let mut reader = BufReader::new(alloc, breaking)?;
+    let mut reader = got(&rt, BufReader::new(alloc, breaking));
     let decoded = read(alloc, &mut reader, &mut io::sink());
     let fault = decoded.fault.expect(&rt, "a fault");
     if fault.cause != Cause::OutOfMemory {
-        assert_eq!(rt; fault.cause, Cause::ReadFailed);
-        assert_eq!(rt; fault.line, 2);
+        same(&rt, fault.cause, Cause::ReadFailed);
+        same(&rt, fault.line, 2);
         let counts = Counts {
             lines: 1,
             passed: 1,
             ..Counts::none()
         };
-        assert!(rt; decoded.counts == counts);
+        holds(&rt, decoded.counts == counts);
     }
-    assert_eq!(rt; decoded.status(), 1);
-    Ok(())
+    same(&rt, decoded.status(), 1);
 }
 
 #[test]
-fn a_failed_write_ends_the_log(rt: HostRuntime) -> Result<(), Fail> {
+fn a_failed_write_ends_the_log(rt: HostRuntime) {
     let alloc = rt.alloc();
     let mut writer = Failing { writes: 1 };
     let mut reader = THREE.as_bytes();
     let decoded = read(alloc, &mut reader, &mut writer);
     let fault = decoded.fault.expect(&rt, "a fault");
     if fault.cause != Cause::OutOfMemory {
-        assert_eq!(rt; fault.cause, Cause::WriteFailed);
-        assert_eq!(rt; fault.line, 2);
+        same(&rt, fault.cause, Cause::WriteFailed);
+        same(&rt, fault.line, 2);
     }
-    Ok(())
 }

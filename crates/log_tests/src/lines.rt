@@ -1,28 +1,20 @@
 //! Lines of logs.
+use crate::checks::{got, holds, same};
 use bus_frame::{CanId, Frame};
 use log_text::*;
 use std::process::Abort;
-use std::test::Fail;
 
-fn shows(
-    rt: &impl Abort,
-    line: &str,
-    time: u64,
-    name: &[u8],
-    id: u32,
-    bytes: [u8; 8],
-) -> Result<(), Fail> {
+fn shows(rt: &impl Abort, line: &str, time: u64, name: &[u8], id: u32, bytes: [u8; 8]) {
     let shown = LogLine::Frame {
         time: Some(time),
-        iface: Iface::new(name)?,
-        frame: Frame::full(CanId::new(id)?, bytes),
+        iface: got(rt, Iface::new(name)),
+        frame: Frame::full(got(rt, CanId::new(id)), bytes),
     };
     assert!(rt; read_log_line(line.as_bytes()) == Ok(shown), "at {line}");
-    Ok(())
 }
 
 #[test]
-fn lines_show_frames(rt: HostRuntime) -> Result<(), Fail> {
+fn lines_show_frames(rt: HostRuntime) {
     let line = "(1436509052.249713) vcan0 1CECFF21#20090002FFCAFE00";
     let bytes = [0x20, 0x09, 0x00, 0x02, 0xFF, 0xCA, 0xFE, 0x00];
     shows(
@@ -32,23 +24,28 @@ fn lines_show_frames(rt: HostRuntime) -> Result<(), Fail> {
         b"vcan0",
         0x1CEC_FF21,
         bytes,
-    )?;
+    );
     let line = "(0.000001)  can1  00000000#0102030405060708 R";
-    shows(&rt, line, 1, b"can1", 0, [1, 2, 3, 4, 5, 6, 7, 8])?;
+    shows(&rt, line, 1, b"can1", 0, [1, 2, 3, 4, 5, 6, 7, 8]);
     let line = "(18446744073709.551615) slcan-0 1fffffff#ffeeddccbbaa9988 T";
     let bytes = [0xFF, 0xEE, 0xDD, 0xCC, 0xBB, 0xAA, 0x99, 0x88];
     shows(&rt, line, u64::MAX, b"slcan-0", 0x1FFF_FFFF, bytes)
 }
 
 #[test]
-fn lines_of_a_screen_show_frames(rt: HostRuntime) -> Result<(), Fail> {
+fn lines_of_a_screen_show_frames(rt: HostRuntime) {
     let shown = LogLine::Frame {
         time: None,
-        iface: Iface::new(b"vcan0")?,
-        frame: Frame::new(CanId::new(0x1CEC_FF21)?, &[0x20, 0x09, 0xCA])?,
+        iface: got(&rt, Iface::new(b"vcan0")),
+        frame: got(
+            &rt,
+            Frame::new(got(&rt, CanId::new(0x1CEC_FF21)), &[0x20, 0x09, 0xCA]),
+        ),
     };
-    assert!(rt; read_log_line(b"  vcan0  1CECFF21   [3]  20 09 CA") == Ok(shown));
-    Ok(())
+    holds(
+        &rt,
+        read_log_line(b"  vcan0  1CECFF21   [3]  20 09 CA") == Ok(shown),
+    );
 }
 
 const PASSED: [&str; 8] = [
@@ -92,14 +89,17 @@ fn other_lines_are_passed_over_or_refused(rt: HostRuntime) {
 }
 
 #[test]
-fn lines_are_written_as_candump_does(rt: HostRuntime) -> Result<(), Fail> {
+fn lines_are_written_as_candump_does(rt: HostRuntime) {
     let mut out = Vec::new(rt.alloc());
-    let id = CanId::new(0x0CF0_0400)?;
-    let frame = Frame::new(id, &[0xAB, 0x0C])?;
-    put_log_line(&mut out, 1_500_000, &Iface::new(b"can0")?, &frame)?;
-    assert_eq!(rt;
-        out.as_slice(),
-        b"(0000000001.500000) can0 0CF00400#AB0C".as_slice()
+    let id = got(&rt, CanId::new(0x0CF0_0400));
+    let frame = got(&rt, Frame::new(id, &[0xAB, 0x0C]));
+    got(
+        &rt,
+        put_log_line(&mut out, 1_500_000, &got(&rt, Iface::new(b"can0")), &frame),
     );
-    Ok(())
+    same(
+        &rt,
+        out.as_slice(),
+        b"(0000000001.500000) can0 0CF00400#AB0C".as_slice(),
+    );
 }

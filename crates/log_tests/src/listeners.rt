@@ -1,77 +1,68 @@
 //! A listener that is called frame by frame.
+use crate::checks::{got, holds, same};
 use bus_frame::{CanId, Frame};
 use log_decode::{Cause, Decoder, Told, Transport};
 use log_text::Iface;
 use std::alloc::Global;
 use std::process::Abort;
-use std::test::Fail;
 
-fn frame(id: u32, bytes: [u8; 8]) -> Result<Frame, Fail> {
-    Ok(Frame::full(CanId::new(id)?, bytes))
+fn frame(rt: &impl Abort, id: u32, bytes: [u8; 8]) -> Frame {
+    Frame::full(got(rt, CanId::new(id)), bytes)
 }
 
 /// A frame is seen; what that promises is no business of a test's proof.
 fn see(
+    rt: &impl Abort,
     decoder: &mut Decoder,
     alloc: Global,
     time: u64,
     frame: &Frame,
     told: &mut Vec<Told>,
-) -> Result<(), Fail> {
-    decoder.take(alloc, time, Iface::new(b"can0")?, frame, told)?;
-    Ok(())
+) {
+    got(
+        rt,
+        decoder.take(alloc, time, got(rt, Iface::new(b"can0")), frame, told),
+    );
 }
 
 fn sees(
+    rt: &impl Abort,
     decoder: &mut Decoder,
     alloc: Global,
     time: u64,
     id: u32,
     bytes: [u8; 8],
     told: &mut Vec<Told>,
-) -> Result<(), Fail> {
-    see(decoder, alloc, time, &frame(id, bytes)?, told)
+) {
+    see(rt, decoder, alloc, time, &frame(rt, id, bytes), told)
 }
 
-fn message_to_all(
-    rt: &impl Abort,
-    alloc: Global,
-    decoder: &mut Decoder,
-    told: &mut Vec<Told>,
-) -> Result<(), Fail> {
+fn message_to_all(rt: &impl Abort, alloc: Global, decoder: &mut Decoder, told: &mut Vec<Told>) {
     let bam = [0x20, 9, 0, 2, 0xFF, 0xCA, 0xFE, 0];
-    sees(decoder, alloc, 2_000, 0x1CEC_FF21, bam, told)?;
+    sees(rt, decoder, alloc, 2_000, 0x1CEC_FF21, bam, told);
     let first = [1, 1, 2, 3, 4, 5, 6, 7];
-    sees(decoder, alloc, 3_000, 0x1CEB_FF21, first, told)?;
-    assert!(rt; told.is_empty());
+    sees(rt, decoder, alloc, 3_000, 0x1CEB_FF21, first, told);
+    holds(rt, told.is_empty());
     let last = [2, 8, 9, 0xFF, 0xFF, 0xFF, 0xFF, 0xFF];
-    sees(decoder, alloc, 4_000, 0x1CEB_FF21, last, told)?;
-    assert_eq!(rt; told.len(), 1);
-    assert!(rt; told.first().is_some_and(is_given));
-    Ok(())
+    sees(rt, decoder, alloc, 4_000, 0x1CEB_FF21, last, told);
+    same(rt, told.len(), 1);
+    holds(rt, told.first().is_some_and(is_given));
 }
 
 // A connection waits for 1,250 ms.
-fn silence(
-    rt: &impl Abort,
-    alloc: Global,
-    decoder: &mut Decoder,
-    told: &mut Vec<Told>,
-) -> Result<(), Fail> {
-    let other = Frame::new(CanId::new(0x18FE_F100)?, &[])?;
-    see(decoder, alloc, 1_250_999, &other, told)?;
-    assert_eq!(rt; told.len(), 1);
-    see(decoder, alloc, 1_251_000, &other, told)?;
-    assert_eq!(rt; told.len(), 2);
-    assert!(rt; told.last().is_some_and(is_timed_out));
-    assert_eq!(rt; decoder.time(), 1_251_000);
-    Ok(())
+fn silence(rt: &impl Abort, alloc: Global, decoder: &mut Decoder, told: &mut Vec<Told>) {
+    let other = got(rt, Frame::new(got(rt, CanId::new(0x18FE_F100)), &[]));
+    see(rt, decoder, alloc, 1_250_999, &other, told);
+    same(rt, told.len(), 1);
+    see(rt, decoder, alloc, 1_251_000, &other, told);
+    same(rt, told.len(), 2);
+    holds(rt, told.last().is_some_and(is_timed_out));
+    same(rt, decoder.time(), 1_251_000);
 }
 
-fn finishes(rt: &impl Abort, decoder: Decoder, told: &mut Vec<Told>) -> Result<(), Fail> {
-    decoder.finish(told)?;
-    assert_eq!(rt; told.len(), 2);
-    Ok(())
+fn finishes(rt: &impl Abort, decoder: Decoder, told: &mut Vec<Told>) {
+    got(rt, decoder.finish(told));
+    same(rt, told.len(), 2);
 }
 
 // A test's steps are functions of their own, which own nothing: where a step can end a test, what the test owns is dropped there, and each
@@ -81,18 +72,18 @@ fn message_and_silence(
     alloc: Global,
     decoder: &mut Decoder,
     told: &mut Vec<Told>,
-) -> Result<(), Fail> {
+) {
     let rts = [0x10, 9, 0, 2, 0xFF, 0xCA, 0xFE, 0];
-    sees(decoder, alloc, 1_000, 0x1CEC_3521, rts, told)?;
-    message_to_all(rt, alloc, decoder, told)?;
+    sees(rt, decoder, alloc, 1_000, 0x1CEC_3521, rts, told);
+    message_to_all(rt, alloc, decoder, told);
     silence(rt, alloc, decoder, told)
 }
 
 #[test]
-fn a_listener_is_told_of_a_message_and_of_silence(rt: HostRuntime) -> Result<(), Fail> {
+fn a_listener_is_told_of_a_message_and_of_silence(rt: HostRuntime) {
     let mut decoder = Decoder::new(rt.alloc(), 1_785);
     let mut told = Vec::new(rt.alloc());
-    message_and_silence(&rt, rt.alloc(), &mut decoder, &mut told)?;
+    message_and_silence(&rt, rt.alloc(), &mut decoder, &mut told);
     finishes(&rt, decoder, &mut told)
 }
 

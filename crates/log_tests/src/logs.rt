@@ -1,8 +1,8 @@
 //! Logs, and what is printed of them.
+use crate::checks::{got, holds, same};
 use bus_decode::{Cause, Counts, Decoded, Options, Wanted, run_decode};
 use std::alloc::Global;
 use std::process::Abort;
-use std::test::Fail;
 
 /// Whatever is in the log, and no message of more than 1,000,000 bytes.
 fn all(alloc: Global) -> Options {
@@ -33,7 +33,7 @@ fn decoded(
     if !refused {
         return first;
     }
-    assert!(rt; text.as_bytes().starts_with(out.as_slice()));
+    holds(rt, text.as_bytes().starts_with(out.as_slice()));
     out.clear();
     let mut reader = log.as_bytes();
     run_decode(alloc, options, &mut reader, out)
@@ -43,7 +43,7 @@ fn decoded(
 fn prints(rt: &impl Abort, alloc: Global, options: &Options, log: &str, text: &str) -> Decoded {
     let mut out = Vec::new(alloc);
     let decoded = decoded(rt, alloc, options, log, &mut out, text);
-    assert_eq!(rt; out.as_slice(), text.as_bytes());
+    same(rt, out.as_slice(), text.as_bytes());
     decoded
 }
 
@@ -90,7 +90,7 @@ const FIVE_GIVEN: &str = "\
 fn interleaved_messages_are_given(rt: HostRuntime) {
     let options = all(rt.alloc());
     let decoded = prints(&rt, rt.alloc(), &options, FIVE, FIVE_GIVEN);
-    assert!(rt; decoded.fault.is_none());
+    holds(&rt, decoded.fault.is_none());
     let counts = Counts {
         lines: 27,
         frames: 27,
@@ -98,8 +98,8 @@ fn interleaved_messages_are_given(rt: HostRuntime) {
         messages: 5,
         ..Counts::none()
     };
-    assert!(rt; decoded.counts == counts);
-    assert_eq!(rt; decoded.status(), 0);
+    holds(&rt, decoded.counts == counts);
+    same(&rt, decoded.status(), 0);
 }
 
 /// Messages that aren't given: one for each cause, and one that is aborted.
@@ -148,49 +148,46 @@ fn messages_that_are_not_given_are_told(rt: HostRuntime) {
         aborted: 1,
         lost: 6,
     };
-    assert!(rt; decoded.counts == counts);
+    holds(&rt, decoded.counts == counts);
 }
 
 const ASKED_TOLD: &str = "(1700000000.027500) can0 frame 21 FF 0FEF1 8 FFFFFFFFFFFFFFFF\n\
 (1700000000.048000) can1 given 21 FF 0FEE3 12 0102030405060708090A0B0C\n";
 
-fn ask(options: &mut Options) -> Result<(), Fail> {
-    options.from.name(0x21)?;
-    options.to.name(0xFF)?;
-    options.pgns.name(0xFEE3)?;
-    options.pgns.name(0xFEF1)?;
+fn ask(rt: &impl Abort, options: &mut Options) {
+    got(rt, options.from.name(0x21));
+    got(rt, options.to.name(0xFF));
+    got(rt, options.pgns.name(0xFEE3));
+    got(rt, options.pgns.name(0xFEF1));
     options.singles = true;
-    Ok(())
 }
 
 #[test]
-fn what_is_asked_for_is_told(rt: HostRuntime) -> Result<(), Fail> {
+fn what_is_asked_for_is_told(rt: HostRuntime) {
     let mut options = all(rt.alloc());
-    ask(&mut options)?;
+    ask(&rt, &mut options);
     let decoded = prints(&rt, rt.alloc(), &options, FIVE, ASKED_TOLD);
-    assert_eq!(rt; decoded.counts.messages, 1);
-    Ok(())
+    same(&rt, decoded.counts.messages, 1);
 }
 
 const WRONG: &str =
     "(0000000001.000000) can0 1CECFF21#20090002FFCAFE00\n(0000000001.000000) can0\n";
 
-fn is_told(rt: &impl Abort, alloc: Global, decoded: &Decoded, text: &str) -> Result<(), Fail> {
+fn is_told(rt: &impl Abort, alloc: Global, decoded: &Decoded, text: &str) {
     let fault = decoded.fault.expect(rt, "a fault");
-    assert_eq!(rt; fault.line, 2);
+    same(rt, fault.line, 2);
     let line = match format!(in alloc; "{fault}") {
         Ok(line) => line,
-        Err(_) => format!(in alloc; "{fault}")?,
+        Err(_) => got(rt, format!(in alloc; "{fault}")),
     };
-    assert_eq!(rt; line.as_str(), text);
-    Ok(())
+    same(rt, line.as_str(), text);
 }
 
 #[test]
-fn a_wrong_line_ends_the_run(rt: HostRuntime) -> Result<(), Fail> {
+fn a_wrong_line_ends_the_run(rt: HostRuntime) {
     let options = all(rt.alloc());
     let decoded = prints(&rt, rt.alloc(), &options, WRONG, "");
-    assert_eq!(rt; decoded.counts.lines, 1);
-    assert_eq!(rt; decoded.status(), 1);
+    same(&rt, decoded.counts.lines, 1);
+    same(&rt, decoded.status(), 1);
     is_told(&rt, rt.alloc(), &decoded, "line 2: not a log line")
 }

@@ -1,11 +1,11 @@
 //! How far a log is read, told beside it.
+use crate::checks::{got, same};
 use read_progress::Progress;
 use std::alloc::Global;
 use std::cell::Cell;
 use std::io;
 use std::io::{Error, ErrorKind, Read};
 use std::process::Abort;
-use std::test::Fail;
 use std::time::{Clock, Duration};
 
 /// A clock that goes on by so many milliseconds each time that it is asked, and fails in the end.
@@ -32,7 +32,7 @@ impl Clock for Steps<'_> {
 }
 
 // What is told while six times 1,500,000 bytes are read of 9,000,000.
-fn told(rt: &impl Abort, alloc: Global) -> Result<Vec<u8>, Fail> {
+fn told(rt: &impl Abort, alloc: Global) -> Vec<u8> {
     let now = Cell::new(0);
     let clock = Steps {
         now: &now,
@@ -40,28 +40,30 @@ fn told(rt: &impl Abort, alloc: Global) -> Result<Vec<u8>, Fail> {
         end: 2_000,
     };
     let mut buf = Vec::new(alloc);
-    buf.resize(1_500_000, 0)?;
+    got(rt, buf.resize(1_500_000, 0));
     let mut told = Vec::new(alloc);
-    let mut reader = Progress::new(alloc, io::repeat(7), &clock, &mut told, 9_000_000)?;
+    let mut reader = got(
+        rt,
+        Progress::new(alloc, io::repeat(7), &clock, &mut told, 9_000_000),
+    );
     for _ in 0..6 {
-        let n = reader.read(buf.as_mut_slice())?;
-        assert_eq!(rt; n, 1_500_000);
+        let n = got(rt, reader.read(buf.as_mut_slice()));
+        same(rt, n, 1_500_000);
     }
     drop(reader);
-    Ok(told)
+    told
 }
 
 #[test]
-fn what_is_read_is_told(rt: HostRuntime) -> Result<(), Fail> {
+fn what_is_read_is_told(rt: HostRuntime) {
     let alloc = rt.alloc();
     // Nothing is told before a second has passed, and nothing where the clock fails.
     let expected = b"\rread 4 of 9 MB\rread 6 of 9 MB".as_slice();
-    let first = told(&rt, alloc)?;
+    let first = told(&rt, alloc);
     if first.as_slice() == expected {
         return Ok(());
     }
     // Where memory is refused, something isn't told.
-    let again = told(&rt, alloc)?;
-    assert_eq!(rt; again.as_slice(), expected);
-    Ok(())
+    let again = told(&rt, alloc);
+    same(&rt, again.as_slice(), expected);
 }

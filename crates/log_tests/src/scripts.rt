@@ -1,8 +1,8 @@
 //! The log of a script, decoded: its messages are those that the ports were given.
+use crate::checks::{holds, same};
 use bus_decode::{Decoded, Options, Wanted, run_decode};
 use bus_script::{Ran, run_logged};
 use std::alloc::Global;
-use std::test::Fail;
 
 /// A message to all, and one by a connection.
 const SCRIPT: &str = "stations 21 35\n\
@@ -63,17 +63,16 @@ fn decoded(alloc: Global, log: &[u8], messages: &mut Vec<u8>) -> Decoded {
 }
 
 #[test]
-fn what_is_decoded_is_what_the_ports_were_given(rt: HostRuntime) -> Result<(), Fail> {
+fn what_is_decoded_is_what_the_ports_were_given(rt: HostRuntime) {
     let alloc = rt.alloc();
     let mut log = Vec::new(alloc);
     let mut replies = Vec::new(alloc);
     let ran = logged(alloc, &mut log, &mut replies);
-    assert!(rt; ran.fault.is_none());
-    assert_eq!(rt; replies.as_slice(), REPLIES.as_bytes());
+    holds(&rt, ran.fault.is_none());
+    same(&rt, replies.as_slice(), REPLIES.as_bytes());
     let mut messages = Vec::new(alloc);
     let decoded = decoded(alloc, log.as_slice(), &mut messages);
-    assert!(rt; decoded.fault.is_none());
-    assert_eq!(rt; decoded.counts.frames, 9);
-    assert_eq!(rt; messages.as_slice(), MESSAGES.as_bytes());
-    Ok(())
+    holds(&rt, decoded.fault.is_none());
+    same(&rt, decoded.counts.frames, 9);
+    same(&rt, messages.as_slice(), MESSAGES.as_bytes());
 }

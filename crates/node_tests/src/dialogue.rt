@@ -1,49 +1,39 @@
 //! Dialogues with another node, line by line.
+use crate::checks::{got, same};
 use bus_node::{Node, run_node};
 use log_text::Iface;
 use pgn_ids::Address;
-use std::alloc::{AllocError, Global};
+use std::alloc::Global;
 use std::process::Abort;
-use std::test::Fail;
 
 // A node of address 21 on can0.
-fn node(rt: &impl Abort, alloc: Global) -> Result<Node, Fail> {
-    let iface = Iface::new(b"can0").expect(rt, "a name");
-    match Node::new(alloc, Address(0x21), iface, 700) {
-        Ok(node) => Ok(node),
-        Err(_) => Err(Fail::from(AllocError)),
-    }
+fn node(rt: &impl Abort, alloc: Global) -> Node {
+    let iface = got(rt, Iface::new(b"can0"));
+    got(rt, Node::new(alloc, Address(0x21), iface, 700))
 }
 
 // The lines tell this. The test ends where memory is refused.
-fn tells(
-    rt: &impl Abort,
-    alloc: Global,
-    node: &mut Node,
-    lines: &[u8],
-    expected: &[u8],
-) -> Result<(), Fail> {
+fn tells(rt: &impl Abort, alloc: Global, node: &mut Node, lines: &[u8], expected: &[u8]) {
     let mut reader = lines;
     let mut out = Vec::new(alloc);
     let ran = run_node(alloc, node, &mut reader, &mut out);
     if ran.memory_refused || ran.fault.is_some() {
-        return Err(Fail::from(AllocError));
+        panic!(rt; "error: no memory");
     }
-    assert_eq!(rt; ran.status(), 0);
-    assert_eq!(rt; out.as_slice(), expected);
-    Ok(())
+    same(rt, ran.status(), 0);
+    same(rt, out.as_slice(), expected);
 }
 
 // Another node announces twenty bytes, and the node grants three packets.
-fn is_announced(rt: &impl Abort, alloc: Global, node: &mut Node) -> Result<(), Fail> {
-    tells(rt, alloc, node, b"open FECA 1785", b"opened 21.1\n")?;
+fn is_announced(rt: &impl Abort, alloc: Global, node: &mut Node) {
+    tells(rt, alloc, node, b"open FECA 1785", b"opened 21.1\n");
     tells(
         rt,
         alloc,
         node,
         b"(1700000000.000000) can0 1CEC2135#10140003FFCAFE00",
         b"put (1700000000.000000) can0 1CEC3521#110301FFFFCAFE00\n",
-    )?;
+    );
     tells(
         rt,
         alloc,
@@ -54,14 +44,14 @@ fn is_announced(rt: &impl Abort, alloc: Global, node: &mut Node) -> Result<(), F
 }
 
 // The packets come, and the node acknowledges the last.
-fn is_sent_packets(rt: &impl Abort, alloc: Global, node: &mut Node) -> Result<(), Fail> {
+fn is_sent_packets(rt: &impl Abort, alloc: Global, node: &mut Node) {
     tells(
         rt,
         alloc,
         node,
         b"(1700000000.010000) can0 1CEB2135#0101020304050607\n(1700000000.020000) can0 1CEB2135#0208090A0B0C0D0E",
         b"",
-    )?;
+    );
     tells(
         rt,
         alloc,
@@ -72,32 +62,32 @@ fn is_sent_packets(rt: &impl Abort, alloc: Global, node: &mut Node) -> Result<()
 }
 
 #[test]
-fn a_message_is_received(rt: HostRuntime) -> Result<(), Fail> {
+fn a_message_is_received(rt: HostRuntime) {
     let alloc = rt.alloc();
-    let mut node = node(&rt, alloc)?;
-    is_announced(&rt, alloc, &mut node)?;
-    is_sent_packets(&rt, alloc, &mut node)?;
+    let mut node = node(&rt, alloc);
+    is_announced(&rt, alloc, &mut node);
+    is_sent_packets(&rt, alloc, &mut node);
     tells(&rt, alloc, &mut node, b"state", b"state 30 0 none 0 0\n")
 }
 
 #[test]
-fn a_message_is_sent(rt: HostRuntime) -> Result<(), Fail> {
+fn a_message_is_sent(rt: HostRuntime) {
     let alloc = rt.alloc();
-    let mut node = node(&rt, alloc)?;
+    let mut node = node(&rt, alloc);
     tells(
         &rt,
         alloc,
         &mut node,
         b"send 35 EF00 fill 9",
         b"sent 1\nput (0000000000.000000) can0 1CEC3521#10090002FF00EF00\n",
-    )?;
+    );
     tells(
         &rt,
         alloc,
         &mut node,
         b"now 5.000000\n(5.010000) can0 1CEC2135#110201FFFF00EF00",
         b"put (0000000005.010000) can0 1CEB3521#0101020304050607\nput (0000000005.010000) can0 1CEB3521#020809FFFFFFFFFF\n",
-    )?;
+    );
     tells(
         &rt,
         alloc,
@@ -108,16 +98,16 @@ fn a_message_is_sent(rt: HostRuntime) -> Result<(), Fail> {
 }
 
 #[test]
-fn a_timer_fires_at_its_tick(rt: HostRuntime) -> Result<(), Fail> {
+fn a_timer_fires_at_its_tick(rt: HostRuntime) {
     let alloc = rt.alloc();
-    let mut node = node(&rt, alloc)?;
+    let mut node = node(&rt, alloc);
     tells(
         &rt,
         alloc,
         &mut node,
         b"now 7.000000\nsend 35 EF00 fill 9\nstate",
         b"sent 1\nput (0000000007.000000) can0 1CEC3521#10090002FF00EF00\nstate 0 0 1250 0 1\n",
-    )?;
+    );
     tells(
         &rt,
         alloc,
@@ -128,16 +118,16 @@ fn a_timer_fires_at_its_tick(rt: HostRuntime) -> Result<(), Fail> {
 }
 
 #[test]
-fn a_broadcast_keeps_its_pace(rt: HostRuntime) -> Result<(), Fail> {
+fn a_broadcast_keeps_its_pace(rt: HostRuntime) {
     let alloc = rt.alloc();
-    let mut node = node(&rt, alloc)?;
+    let mut node = node(&rt, alloc);
     tells(
         &rt,
         alloc,
         &mut node,
         b"now 7.000000\nsend FF FECA fill 9",
         b"sent 1\nput (0000000007.000000) can0 1CECFF21#20090002FFCAFE00\n",
-    )?;
+    );
     tells(
         &rt,
         alloc,
@@ -148,17 +138,17 @@ fn a_broadcast_keeps_its_pace(rt: HostRuntime) -> Result<(), Fail> {
 }
 
 #[test]
-fn another_node_with_the_address_is_told(rt: HostRuntime) -> Result<(), Fail> {
+fn another_node_with_the_address_is_told(rt: HostRuntime) {
     let alloc = rt.alloc();
-    let mut node = node(&rt, alloc)?;
+    let mut node = node(&rt, alloc);
     tells(
         &rt,
         alloc,
         &mut node,
         b"(1.000000) can0 18FECA21#00",
         b"address conflict\n",
-    )?;
-    tells(&rt, alloc, &mut node, b"(1.999999) can0 18FECA21#00", b"")?;
+    );
+    tells(&rt, alloc, &mut node, b"(1.999999) can0 18FECA21#00", b"");
     tells(
         &rt,
         alloc,
@@ -169,16 +159,16 @@ fn another_node_with_the_address_is_told(rt: HostRuntime) -> Result<(), Fail> {
 }
 
 #[test]
-fn commands_are_answered(rt: HostRuntime) -> Result<(), Fail> {
+fn commands_are_answered(rt: HostRuntime) {
     let alloc = rt.alloc();
-    let mut node = node(&rt, alloc)?;
+    let mut node = node(&rt, alloc);
     tells(
         &rt,
         alloc,
         &mut node,
         b"open FECA 9\npause 1\nresume 1\nclose 1\nclose 1",
         b"opened 21.1\ndone\ndone\ndone\nrefused 12 NoSuchPort\n",
-    )?;
+    );
     tells(
         &rt,
         alloc,
@@ -189,22 +179,22 @@ fn commands_are_answered(rt: HostRuntime) -> Result<(), Fail> {
 }
 
 // A message to 35 is begun, another to it waits, and 35 aborts the first. The lane is in doubt then: a Request comes first.
-fn is_aborted(rt: &impl Abort, alloc: Global, node: &mut Node) -> Result<(), Fail> {
-    tells(rt, alloc, node, b"now 1700000000.000000", b"")?;
+fn is_aborted(rt: &impl Abort, alloc: Global, node: &mut Node) {
+    tells(rt, alloc, node, b"now 1700000000.000000", b"");
     tells(
         rt,
         alloc,
         node,
         b"send 35 FECA 010203040506070809",
         b"sent 1\nput (1700000000.000000) can0 1CEC3521#10090002FFCAFE00\n",
-    )?;
+    );
     tells(
         rt,
         alloc,
         node,
         b"send 35 FECB 010203040506070809",
         b"sent 2\n",
-    )?;
+    );
     tells(
         rt,
         alloc,
@@ -215,19 +205,19 @@ fn is_aborted(rt: &impl Abort, alloc: Global, node: &mut Node) -> Result<(), Fai
 }
 
 #[test]
-fn nothing_is_sent_for_a_while_after_a_failed_connection(rt: HostRuntime) -> Result<(), Fail> {
+fn nothing_is_sent_for_a_while_after_a_failed_connection(rt: HostRuntime) {
     let alloc = rt.alloc();
-    let mut node = node(&rt, alloc)?;
-    is_aborted(&rt, alloc, &mut node)?;
-    tells(&rt, alloc, &mut node, b"state", b"state 10 0 710 1 1\n")?;
+    let mut node = node(&rt, alloc);
+    is_aborted(&rt, alloc, &mut node);
+    tells(&rt, alloc, &mut node, b"state", b"state 10 0 710 1 1\n");
     tells(
         &rt,
         alloc,
         &mut node,
         b"send 36 FECA 010203040506070809",
         b"sent 1\nput (1700000000.010000) can0 1CEC3621#10090002FFCAFE00\n",
-    )?;
-    tells(&rt, alloc, &mut node, b"now 1700000000.709999", b"")?;
+    );
+    tells(&rt, alloc, &mut node, b"now 1700000000.709999", b"");
     tells(
         &rt,
         alloc,

@@ -1,11 +1,11 @@
 //! Calls on nodes of which a test only looks at the answer: their contracts are not carried through it. A call that finds no memory
 //! is made again, so a test comes to the same end whichever one allocation is refused.
+use crate::checks::{got, same};
 use bus_frame::{CanId, Frame};
 use one_station::*;
 use pgn_ids::{Address, Pgn};
 use std::alloc::Global;
 use std::process::Abort;
-use std::test::Fail;
 use tp_wire::Outcome;
 
 pub(crate) const PORT: PortId = PortId {
@@ -19,27 +19,27 @@ pub(crate) const B: Address = Address(0x35);
 
 pub(crate) type Shown = (u32, [u8; 8]);
 
-pub(crate) fn frame_of(shown: Shown) -> Result<Frame, Fail> {
-    Ok(Frame::full(CanId::new(shown.0)?, shown.1))
+pub(crate) fn frame_of(rt: &impl Abort, shown: Shown) -> Frame {
+    Frame::full(got(rt, CanId::new(shown.0)), shown.1)
 }
 
-pub(crate) fn node(alloc: Global, address: Address) -> Result<Node, Fail> {
+pub(crate) fn node(rt: &impl Abort, alloc: Global, address: Address) -> Node {
     match Node::new(alloc, address) {
-        Ok(node) => Ok(node),
-        Err(_) => Ok(Node::new(alloc, address)?),
+        Ok(node) => node,
+        Err(_) => got(rt, Node::new(alloc, address)),
     }
 }
 
-pub(crate) fn pgn() -> Result<Pgn, Fail> {
-    Ok(Pgn::new(0xFECA)?)
+pub(crate) fn pgn(rt: &impl Abort) -> Pgn {
+    got(rt, Pgn::new(0xFECA))
 }
 
-pub(crate) fn open(node: &mut Node, max_len: u32) -> Result<PortId, Fail> {
-    let pgn = pgn()?;
-    match node.open_port(pgn, max_len) {
-        Err(NodeError::OutOfMemory) => Ok(node.open_port(pgn, max_len)?),
-        opened => Ok(opened?),
-    }
+pub(crate) fn open(rt: &impl Abort, node: &mut Node, max_len: u32) -> PortId {
+    let opened = match node.open_port(pgn(rt), max_len) {
+        Err(NodeError::OutOfMemory) => node.open_port(pgn(rt), max_len),
+        opened => opened,
+    };
+    got(rt, opened)
 }
 
 pub(crate) fn close(node: &mut Node, port: PortId) -> Result<(), NodeError> {
@@ -84,12 +84,13 @@ pub(crate) fn due(node: &Node) -> Option<u64> {
 // A frame that found no memory to be looked at is settled.
 pub(crate) fn feed(node: &mut Node, frame: Frame) -> Result<(), NodeError> {
     let fed = match node.feed(frame) {
-        Err(NodeError::OutOfMemory) => node.feed(frame)?,
-        fed => fed?,
+        Err(NodeError::OutOfMemory) => node.feed(frame),
+        fed => fed,
     };
     match fed {
-        Fed::Taken => Ok(()),
-        Fed::Waits => node.settle(),
+        Ok(Fed::Taken) => Ok(()),
+        Ok(Fed::Waits) => node.settle(),
+        Err(error) => Err(error),
     }
 }
 
@@ -112,22 +113,25 @@ pub(crate) fn sent(node: &mut Node) -> Result<(), NodeError> {
 }
 
 // The next frame of a node is this one, and it is put on the bus.
-pub(crate) fn puts(rt: &impl Abort, node: &mut Node, shown: Shown) -> Result<(), Fail> {
-    assert_eq!(rt; front(node)?, Some(frame_of(shown)?));
-    assert_eq!(rt; sent(node), Ok(()));
-    Ok(())
+pub(crate) fn puts(rt: &impl Abort, node: &mut Node, shown: Shown) {
+    same(rt, front(node), Ok(Some(frame_of(rt, shown))));
+    same(rt, sent(node), Ok(()));
 }
 
-// The same, and the other node is fed it.
-pub(crate) fn carries(
-    rt: &impl Abort,
-    from: &mut Node,
-    to: &mut Node,
-    shown: Shown,
-) -> Result<(), Fail> {
-    puts(rt, from, shown)?;
-    assert_eq!(rt; feed(to, frame_of(shown)?), Ok(()));
-    Ok(())
+// A frame comes to a node.
+pub(crate) fn takes(rt: &impl Abort, node: &mut Node, shown: Shown) {
+    same(rt, feed(node, frame_of(rt, shown)), Ok(()));
+}
+
+// The next frame of a node is this one, which comes to the other.
+pub(crate) fn carries(rt: &impl Abort, from: &mut Node, to: &mut Node, shown: Shown) {
+    puts(rt, from, shown);
+    takes(rt, to, shown);
+}
+
+// It is this tick.
+pub(crate) fn is_tick(rt: &impl Abort, node: &mut Node, tick: u64) {
+    same(rt, clock(node, tick), Ok(()));
 }
 
 // The next event is the outcome of this message to a destination, and is taken.
@@ -147,26 +151,29 @@ pub(crate) fn ends(
                 ..
             },
         ) => {
-            assert_eq!(rt; to, destination);
-            assert_eq!(rt; number, message);
-            assert_eq!(rt; outcome, expected);
+            same(rt, to, destination);
+            same(rt, number, message);
+            same(rt, outcome, expected);
         }
         _ => panic!(rt; "no outcome is told"),
     }
 }
 
 // The next event is a message of 21 at port 35.1. It doesn't fit into a room that is too small by one place, and then it is taken.
-pub(crate) fn gives(rt: &impl Abort, node: &mut Node, expected: &[u8]) -> Result<(), Fail> {
+pub(crate) fn gives(rt: &impl Abort, node: &mut Node, expected: &[u8]) {
     let mut room = [0xAA; 12];
     let len = expected.len();
-    assert_eq!(rt; given_len(node), Some((PORT, A, len)));
+    same(rt, given_len(node), Some((PORT, A, len)));
     let small = &mut room[..8];
-    assert_eq!(rt; node.take_bytes(small), Err(TakeError::TooLittleRoom(len)));
-    assert_eq!(rt; room, [0xAA; 12]);
-    assert_eq!(rt; node.take_bytes(&mut room), Ok(len));
-    assert_eq!(rt; &room[..9], expected);
-    assert_eq!(rt; &room[9..], [0xAA; 3].as_slice());
-    Ok(())
+    same(
+        rt,
+        node.take_bytes(small),
+        Err(TakeError::TooLittleRoom(len)),
+    );
+    same(rt, room, [0xAA; 12]);
+    same(rt, node.take_bytes(&mut room), Ok(len));
+    same(rt, &room[..9], expected);
+    same(rt, &room[9..], [0xAA; 3].as_slice());
 }
 
 // The port and the source of the message that is told next, and how many bytes it has.
@@ -186,6 +193,6 @@ fn given_len(node: &Node) -> Option<(PortId, Address, usize)> {
 
 // Nothing more is told.
 pub(crate) fn is_quiet(rt: &impl Abort, node: &mut Node) {
-    assert_eq!(rt; node.take_bytes(&mut []), Err(TakeError::Nothing));
-    assert!(rt; node.next_event().is_none());
+    same(rt, node.take_bytes(&mut []), Err(TakeError::Nothing));
+    same(rt, node.next_event().is_some(), false);
 }

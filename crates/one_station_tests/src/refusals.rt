@@ -1,10 +1,9 @@
 //! Calls that are refused, and change nothing.
 use crate::calls::*;
-use bus_frame::Frame;
+use crate::checks::{got, same};
 use one_station::*;
 use pgn_ids::Address;
 use std::process::Abort;
-use std::test::Fail;
 use tp_wire::Outcome;
 
 const NINE: [u8; 9] = [1, 2, 3, 4, 5, 6, 7, 8, 9];
@@ -16,69 +15,79 @@ fn refused<T>(cause: Refusal) -> Result<T, NodeError> {
     Err(NodeError::Refused(cause))
 }
 
-fn refuses(rt: &impl Abort, a: &mut Node) -> Result<(), Fail> {
-    let own = frame_of((0x1CEC_3521, [0; 8]))?;
-    assert_eq!(rt; feed(a, own), refused(Refusal::StationAddress));
-    assert_eq!(rt; settle(a), refused(Refusal::NothingToTake));
-    assert_eq!(rt; front(a), Ok(None));
-    assert_eq!(rt; sent(a), refused(Refusal::NothingToSend));
-    assert_eq!(rt; send(a, A, pgn()?, &NINE), refused(Refusal::SameStation));
-    assert_eq!(rt; send(a, B, pgn()?, &NINE[..8]), refused(Refusal::TooShort));
-    assert_eq!(rt; close(a, PORT), refused(Refusal::NoSuchStation));
-    assert_eq!(rt; clock(a, 7), Ok(()));
-    assert_eq!(rt; clock(a, 6), Err(NodeError::ClockPassed));
-    assert_eq!(rt; a.now(), 7);
-    assert_eq!(rt; a.address(), A);
-    Ok(())
+fn refuses_frames(rt: &impl Abort, a: &mut Node) {
+    let own = frame_of(rt, (0x1CEC_3521, [0; 8]));
+    same(rt, feed(a, own), refused(Refusal::StationAddress));
+    same(rt, settle(a), refused(Refusal::NothingToTake));
+    same(rt, front(a), Ok(None));
+    same(rt, sent(a), refused(Refusal::NothingToSend));
+}
+
+fn refuses_messages(rt: &impl Abort, a: &mut Node) {
+    same(
+        rt,
+        send(a, A, pgn(rt), &NINE),
+        refused(Refusal::SameStation),
+    );
+    same(
+        rt,
+        send(a, B, pgn(rt), &NINE[..8]),
+        refused(Refusal::TooShort),
+    );
+    same(rt, close(a, PORT), refused(Refusal::NoSuchStation));
+}
+
+fn refuses(rt: &impl Abort, a: &mut Node) {
+    refuses_frames(rt, a);
+    refuses_messages(rt, a);
+    is_tick(rt, a, 7);
+    same(rt, clock(a, 6), Err(NodeError::ClockPassed));
+    same(rt, (a.now(), a.address()), (7, A));
 }
 
 #[test]
-fn refusals(rt: HostRuntime) -> Result<(), Fail> {
-    let mut a = node(rt.alloc(), A)?;
-    refuses(&rt, &mut a)
+fn refusals(rt: HostRuntime) {
+    let mut a = node(&rt, rt.alloc(), A);
+    refuses(&rt, &mut a);
 }
 
 #[test]
 fn no_address_of_a_node(rt: HostRuntime) {
-    match Node::new(rt.alloc(), Address::NULL) {
-        Ok(_) => panic!(rt; "a node with the null address"),
-        Err(refused) => assert_eq!(rt; refused, NewRefused::BadAddresses),
-    }
+    let refused = Node::new(rt.alloc(), Address::NULL).err();
+    same(&rt, refused, Some(NewRefused::BadAddresses));
 }
 
 // A message is cancelled, and then there is none any more.
-fn cancels(rt: &impl Abort, a: &mut Node) -> Result<(), Fail> {
-    assert_eq!(rt; send(a, B, pgn()?, &NINE), Ok(1));
-    assert_eq!(rt; cancel(a, B, 1), Ok(()));
-    assert_eq!(rt; cancel(a, B, 1), refused(Refusal::NothingToSend));
+fn cancels(rt: &impl Abort, a: &mut Node) {
+    same(rt, send(a, B, pgn(rt), &NINE), Ok(1));
+    same(rt, cancel(a, B, 1), Ok(()));
+    same(rt, cancel(a, B, 1), refused(Refusal::NothingToSend));
     ends(rt, a, B, 1, Outcome::Cancelled);
-    let port = open(a, 100)?;
-    assert_eq!(rt; close(a, port), Ok(()));
-    assert_eq!(rt; close(a, port), refused(Refusal::NoSuchPort));
-    Ok(())
+    let port = open(rt, a, 100);
+    same(rt, close(a, port), Ok(()));
+    same(rt, close(a, port), refused(Refusal::NoSuchPort));
 }
 
 #[test]
-fn cancelled_message_and_closed_port(rt: HostRuntime) -> Result<(), Fail> {
-    let mut a = node(rt.alloc(), A)?;
-    cancels(&rt, &mut a)
+fn cancelled_message_and_closed_port(rt: HostRuntime) {
+    let mut a = node(&rt, rt.alloc(), A);
+    cancels(&rt, &mut a);
 }
 
 // 64 answers to requests fill the transmit queue. No further frame is fed until one of them was put.
-fn fills(rt: &impl Abort, b: &mut Node, request: Frame) -> Result<(), Fail> {
+fn fills(rt: &impl Abort, b: &mut Node) {
+    let request = frame_of(rt, REQUEST);
     for _ in 0..64 {
-        assert_eq!(rt; feed(b, request), Ok(()));
+        same(rt, feed(b, request), Ok(()));
     }
-    assert_eq!(rt; feed(b, request), refused(Refusal::TxFull));
-    assert_eq!(rt; front(b)?.is_some(), true);
-    assert_eq!(rt; sent(b), Ok(()));
-    assert_eq!(rt; feed(b, request), Ok(()));
-    Ok(())
+    same(rt, feed(b, request), refused(Refusal::TxFull));
+    same(rt, got(rt, front(b)).is_some(), true);
+    same(rt, sent(b), Ok(()));
+    same(rt, feed(b, request), Ok(()));
 }
 
 #[test]
-fn full_queue(rt: HostRuntime) -> Result<(), Fail> {
-    let mut b = node(rt.alloc(), B)?;
-    let request = frame_of(REQUEST)?;
-    fills(&rt, &mut b, request)
+fn full_queue(rt: HostRuntime) {
+    let mut b = node(&rt, rt.alloc(), B);
+    fills(&rt, &mut b);
 }

@@ -5,6 +5,8 @@
 
 mod await_cts;
 mod await_end;
+#[cfg(test)]
+mod checks;
 mod cts;
 mod endings;
 mod image;

@@ -1,10 +1,10 @@
 //! What no clause says: the frames of whole exchanges, byte by byte, and that each call can succeed.
 use super::*;
+use crate::checks::{got, holds, same};
 use bus_frame::Frame;
 use pgn_ids::{Address, Pgn};
 use std::alloc::{AllocError, Global};
 use std::process::Abort;
-use std::test::Fail;
 use tp_wire::{CmFrame, Heard, Kind, Outcome, Wire};
 use tx_queue::TxQueue;
 
@@ -61,7 +61,7 @@ fn begun(rt: &impl Abort, kind: Kind, to: Address, pgn: Pgn, len: u32) -> (OutSt
         Kind::Tp => (9, 1785),
         Kind::Etp => (1786, 117_440_505),
     };
-    assert!(rt; to.is_one() && len >= least && len <= most);
+    holds(rt, to.is_one() && len >= least && len <= most);
     let (state, rts) = begin(kind, OWN, to, pgn, len, 0);
     (OutState::AwaitCts(state), rts)
 }
@@ -103,7 +103,10 @@ fn ends(rt: &impl Abort, state: OutState, wire: Wire) -> OutOver {
 }
 
 fn pump(rt: &impl Abort, state: &mut OutState, message: &[u8], now: u64, queue: &mut TxQueue) {
-    assert!(rt; message.len() == state.link().len() as usize && queue.free() >= 8);
+    holds(
+        rt,
+        message.len() == state.link().len() as usize && queue.free() >= 8,
+    );
     state.pump(message, now, queue);
 }
 
@@ -132,109 +135,130 @@ fn is_over(over: OutOver, outcome: Outcome, id: u32, reason: u8) -> bool {
 }
 
 #[test]
-fn nine_bytes_are_acknowledged(rt: HostRuntime) -> Result<(), Fail> {
-    let pgn = Pgn::new(0xFECA)?;
-    let mut queue = TxQueue::new(rt.alloc())?;
+fn nine_bytes_are_acknowledged(rt: HostRuntime) {
+    let pgn = got(&rt, Pgn::new(0xFECA));
+    let mut queue = got(&rt, TxQueue::new(rt.alloc()));
     let (state, rts) = begun(&rt, Kind::Tp, PEER, pgn, 9);
-    assert!(rt; is_frame(&rts, 0x1CEC_3521, [0x10, 9, 0, 2, 0xFF, 0xCA, 0xFE, 0]));
-    assert!(rt; state.is_of(Kind::Tp, pgn.field()) && !state.is_of(Kind::Etp, pgn.field()));
+    holds(
+        &rt,
+        is_frame(&rts, 0x1CEC_3521, [0x10, 9, 0, 2, 0xFF, 0xCA, 0xFE, 0]),
+    );
+    holds(
+        &rt,
+        state.is_of(Kind::Tp, pgn.field()) && !state.is_of(Kind::Etp, pgn.field()),
+    );
     let state = goes_on(&rt, state, end(9, 2, pgn));
     let mut state = goes_on(&rt, state, cts(2, 1, pgn));
     pump(&rt, &mut state, &NINE, 0, &mut queue);
-    assert!(rt; are_both_packets(&mut queue, 0x1CEB_3521));
+    holds(&rt, are_both_packets(&mut queue, 0x1CEB_3521));
     let state = goes_on(&rt, state, end(10, 2, pgn));
     let mut state = goes_on(&rt, state, end(9, 3, pgn));
     pump(&rt, &mut state, &NINE, 0, &mut queue);
-    assert!(rt; queue.is_empty());
+    holds(&rt, queue.is_empty());
     let over = ends(&rt, state, end(9, 2, pgn));
-    assert!(rt; over.outcome == Outcome::Acknowledged && over.frame.is_none());
-    Ok(())
+    holds(
+        &rt,
+        over.outcome == Outcome::Acknowledged && over.frame.is_none(),
+    );
 }
 
 #[test]
-fn third_resend_is_refused(rt: HostRuntime) -> Result<(), Fail> {
-    let pgn = Pgn::new(0xFECA)?;
-    let mut queue = TxQueue::new(rt.alloc())?;
+fn third_resend_is_refused(rt: HostRuntime) {
+    let pgn = got(&rt, Pgn::new(0xFECA));
+    let mut queue = got(&rt, TxQueue::new(rt.alloc()));
     let mut state = nine_bytes_to(&rt, FOREIGN, pgn);
     for _ in 0..3 {
         state = goes_on(&rt, state, cts(2, 1, pgn));
         pump(&rt, &mut state, &NINE, 0, &mut queue);
-        assert!(rt; are_both_packets(&mut queue, 0x1CEB_8021));
+        holds(&rt, are_both_packets(&mut queue, 0x1CEB_8021));
     }
     let over = ends(&rt, state, cts(2, 1, pgn));
-    assert!(rt; is_over(over, Outcome::Aborted(5), 0x1CEC_8021, 5));
+    holds(&rt, is_over(over, Outcome::Aborted(5), 0x1CEC_8021, 5));
     let over = ends(&rt, nine_bytes_to(&rt, FOREIGN, pgn), cts(2, 2, pgn));
-    assert!(rt; is_over(over, Outcome::Aborted(250), 0x1CEC_8021, 250));
-    Ok(())
+    holds(&rt, is_over(over, Outcome::Aborted(250), 0x1CEC_8021, 250));
 }
 
 #[test]
-fn cts_during_a_transfer(rt: HostRuntime) -> Result<(), Fail> {
-    let pgn = Pgn::new(0xFECA)?;
+fn cts_during_a_transfer(rt: HostRuntime) {
+    let pgn = got(&rt, Pgn::new(0xFECA));
     let state = goes_on(&rt, nine_bytes_to(&rt, FOREIGN, pgn), cts(2, 1, pgn));
-    assert!(rt; !state.is_due(u64::MAX));
+    holds(&rt, !state.is_due(u64::MAX));
     let state = goes_on(&rt, state, cts(2, 1, pgn));
     let over = ends(&rt, state, cts(1, 1, pgn));
-    assert!(rt; is_over(over, Outcome::Aborted(4), 0x1CEC_8021, 4));
-    Ok(())
+    holds(&rt, is_over(over, Outcome::Aborted(4), 0x1CEC_8021, 4));
 }
 
 #[test]
-fn cts_in_place(rt: HostRuntime) -> Result<(), Fail> {
-    let (pgn, other) = (Pgn::new(0xFECA)?.field(), Pgn::new(0xFECB)?.field());
-    let mut queue = TxQueue::new(rt.alloc())?;
-    let mut state = nine_bytes_to(&rt, FOREIGN, Pgn::new(0xFECA)?);
+fn cts_in_place(rt: HostRuntime) {
+    let (pgn, other) = (
+        got(&rt, Pgn::new(0xFECA)).field(),
+        got(&rt, Pgn::new(0xFECB)).field(),
+    );
+    let mut queue = got(&rt, TxQueue::new(rt.alloc()));
+    let mut state = nine_bytes_to(&rt, FOREIGN, got(&rt, Pgn::new(0xFECA)));
     let of = |granted, next, pgn| Heard::Cm(CmFrame::Cts { granted, next, pgn });
     let others = state.take_in_place(&of(2, 1, other), 3)
         || state.take_in_place(&of(1, 2, pgn), 3)
         || state.take_in_place(&Heard::Request { pgn }, 3);
-    assert!(rt; !others && state.is_due(1250));
+    holds(&rt, !others && state.is_due(1250));
     let held = state.take_in_place(&of(0, 1, pgn), 300);
-    assert!(rt; held && !state.is_due(1349) && state.is_due(1350));
+    holds(&rt, held && !state.is_due(1349) && state.is_due(1350));
     let opened = state.take_in_place(&of(2, 1, pgn), 400);
-    assert!(rt; opened && !state.take_in_place(&of(2, 1, pgn), 400));
+    holds(&rt, opened && !state.take_in_place(&of(2, 1, pgn), 400));
     pump(&rt, &mut state, &NINE, 400, &mut queue);
-    assert!(rt; are_both_packets(&mut queue, 0x1CEB_8021));
+    holds(&rt, are_both_packets(&mut queue, 0x1CEB_8021));
     let _over = state.overrun();
-    Ok(())
 }
 
 #[test]
-fn timers(rt: HostRuntime) -> Result<(), Fail> {
-    let pgn = Pgn::new(0xFECA)?;
-    let mut queue = TxQueue::new(rt.alloc())?;
+fn timers(rt: HostRuntime) {
+    let pgn = got(&rt, Pgn::new(0xFECA));
+    let mut queue = got(&rt, TxQueue::new(rt.alloc()));
     let (state, _rts) = begin(Kind::Tp, OWN, FOREIGN, pgn, 9, 0);
-    assert!(rt; !state.is_due(1249) && state.is_due(1250));
-    assert!(rt; is_over(state.expire(), Outcome::TimedOut, 0x1CEC_8021, 3));
+    holds(&rt, !state.is_due(1249) && state.is_due(1250));
+    holds(
+        &rt,
+        is_over(state.expire(), Outcome::TimedOut, 0x1CEC_8021, 3),
+    );
     let held = goes_on(&rt, nine_bytes_to(&rt, FOREIGN, pgn), cts(0, 1, pgn));
-    assert!(rt; !held.is_due(1049));
-    assert!(rt; held.is_due(1050));
-    assert!(rt; is_over(held.expire(), Outcome::TimedOut, 0x1CEC_8021, 3));
+    holds(&rt, !held.is_due(1049));
+    holds(&rt, held.is_due(1050));
+    holds(
+        &rt,
+        is_over(held.expire(), Outcome::TimedOut, 0x1CEC_8021, 3),
+    );
     let mut state = goes_on(&rt, nine_bytes_to(&rt, FOREIGN, pgn), cts(2, 1, pgn));
     pump(&rt, &mut state, &NINE, 7, &mut queue);
     match state {
         OutState::AwaitEnd(state) => {
-            assert!(rt; !state.is_due(1256) && state.is_due(1257));
-            assert!(rt; is_over(state.expire(), Outcome::TimedOut, 0x1CEC_8021, 3));
+            holds(&rt, !state.is_due(1256) && state.is_due(1257));
+            holds(
+                &rt,
+                is_over(state.expire(), Outcome::TimedOut, 0x1CEC_8021, 3),
+            );
         }
         other => {
             let _ = other.overrun();
             panic!(rt; "a packet is left")
         }
     }
-    Ok(())
 }
 
 #[test]
-fn ends_from_outside(rt: HostRuntime) -> Result<(), Fail> {
-    let pgn = Pgn::new(0xFECA)?;
+fn ends_from_outside(rt: HostRuntime) {
+    let pgn = got(&rt, Pgn::new(0xFECA));
     let over = nine_bytes_to(&rt, FOREIGN, pgn).cancel();
-    assert!(rt; is_over(over, Outcome::Cancelled, 0x1CEC_8021, 250));
+    holds(&rt, is_over(over, Outcome::Cancelled, 0x1CEC_8021, 250));
     let over = nine_bytes_to(&rt, FOREIGN, pgn).abort(2);
-    assert!(rt; over.outcome == Outcome::Aborted(2) && over.frame.is_none());
+    holds(
+        &rt,
+        over.outcome == Outcome::Aborted(2) && over.frame.is_none(),
+    );
     let over = nine_bytes_to(&rt, FOREIGN, pgn).overrun();
-    assert!(rt; over.outcome == Outcome::Overrun && over.frame.is_none());
-    Ok(())
+    holds(
+        &rt,
+        over.outcome == Outcome::Overrun && over.frame.is_none(),
+    );
 }
 
 /// The first and the last frame of a window, and how many it had.
@@ -279,12 +303,15 @@ fn whole_window(
 }
 
 #[test]
-fn extended_windows(rt: HostRuntime) -> Result<(), Fail> {
-    let pgn = Pgn::new(0xFECA)?;
-    let message = fill(rt.alloc(), 1786)?;
-    let mut queue = TxQueue::new(rt.alloc())?;
+fn extended_windows(rt: HostRuntime) {
+    let pgn = got(&rt, Pgn::new(0xFECA));
+    let message = got(&rt, fill(rt.alloc(), 1786));
+    let mut queue = got(&rt, TxQueue::new(rt.alloc()));
     let (mut state, rts) = begun(&rt, Kind::Etp, PEER, pgn, 1786);
-    assert!(rt; is_frame(&rts, 0x1CC8_3521, [0x14, 0xFA, 6, 0, 0, 0xCA, 0xFE, 0]));
+    holds(
+        &rt,
+        is_frame(&rts, 0x1CC8_3521, [0x14, 0xFA, 6, 0, 0, 0xCA, 0xFE, 0]),
+    );
     for next in [1, 65, 129] {
         let (after, window) = whole_window(
             &rt,
@@ -293,37 +320,41 @@ fn extended_windows(rt: HostRuntime) -> Result<(), Fail> {
             &message,
             &mut queue,
         );
-        assert_eq!(rt; window.frames, 65);
+        same(&rt, window.frames, 65);
         state = after;
     }
     let (state, window) = whole_window(&rt, state, etp_cts(64, 193, pgn), &message, &mut queue);
-    assert_eq!(rt; window.frames, 65);
-    assert!(rt;
+    same(&rt, window.frames, 65);
+    holds(
+        &rt,
         is_shown(
             window.first,
             0x1CC8_3521,
-            [0x16, 0x40, 0xC0, 0, 0, 0xCA, 0xFE, 0]
-        )
+            [0x16, 0x40, 0xC0, 0, 0, 0xCA, 0xFE, 0],
+        ),
     );
     let last = [0x40, 0xFA, 0xFF, 0xFF, 0xFF, 0xFF, 0xFF, 0xFF];
-    assert!(rt; is_shown(window.last, 0x1CC7_3521, last));
+    holds(&rt, is_shown(window.last, 0x1CC7_3521, last));
     let over = ends(&rt, state, etp_end(1786, pgn));
-    assert!(rt; over.outcome == Outcome::Acknowledged && over.frame.is_none());
-    Ok(())
+    holds(
+        &rt,
+        over.outcome == Outcome::Acknowledged && over.frame.is_none(),
+    );
 }
 
 #[test]
-fn sixteen_windows(rt: HostRuntime) -> Result<(), Fail> {
-    let pgn = Pgn::new(0xFECA)?;
-    let message = fill(rt.alloc(), 1785)?;
-    let mut queue = TxQueue::new(rt.alloc())?;
+fn sixteen_windows(rt: HostRuntime) {
+    let pgn = got(&rt, Pgn::new(0xFECA));
+    let message = got(&rt, fill(rt.alloc(), 1785));
+    let mut queue = got(&rt, TxQueue::new(rt.alloc()));
     let (mut state, rts) = begun(&rt, Kind::Tp, PEER, pgn, 1785);
-    assert!(rt;
+    holds(
+        &rt,
         is_frame(
             &rts,
             0x1CEC_3521,
-            [0x10, 0xF9, 6, 0xFF, 0xFF, 0xCA, 0xFE, 0]
-        )
+            [0x10, 0xF9, 6, 0xFF, 0xFF, 0xCA, 0xFE, 0],
+        ),
     );
     for window in 0..15u8 {
         let (after, queued) = whole_window(
@@ -333,14 +364,16 @@ fn sixteen_windows(rt: HostRuntime) -> Result<(), Fail> {
             &message,
             &mut queue,
         );
-        assert_eq!(rt; queued.frames, 16);
+        same(&rt, queued.frames, 16);
         state = after;
     }
     let (state, queued) = whole_window(&rt, state, cts(15, 241, pgn), &message, &mut queue);
-    assert_eq!(rt; queued.frames, 15);
+    same(&rt, queued.frames, 15);
     let last = [0xFF, 0xF3, 0xF4, 0xF5, 0xF6, 0xF7, 0xF8, 0xF9];
-    assert!(rt; is_shown(queued.last, 0x1CEB_3521, last));
+    holds(&rt, is_shown(queued.last, 0x1CEB_3521, last));
     let over = ends(&rt, state, end(1785, 255, pgn));
-    assert!(rt; over.outcome == Outcome::Acknowledged && over.frame.is_none());
-    Ok(())
+    holds(
+        &rt,
+        over.outcome == Outcome::Acknowledged && over.frame.is_none(),
+    );
 }

@@ -1,18 +1,17 @@
-//! Both ends of a relay without a segment, and a gate for its workers. Of these calls a test only looks at the answer: their contracts
-//! are not carried through it. Want of memory is the error of each, so that it ends the test.
+//! Both ends of a relay without a segment, and what goes through them. Of these calls a test only looks at the answer: their contracts
+//! are not carried through it. Want of memory ends the test.
+ghost use Rattle.std.specs.Prelude.{◌≡◌};
+
+use crate::checks::{got, holds, same};
+use crate::pace::Pace;
 use message_events::Bytes;
 use pgn_ids::{Address, Pgn};
-use port_relay::{Gate, Relayed, Route, relay};
+use port_relay::{Relayed, Route, relay};
 use port_table::PortId;
-use segment_rings::{
-    Buffer, Client, Delivery, Door, Doorway, Inbox, Seat, Submission, SubmitRefused,
-};
+use segment_rings::{Client, Delivery, Door, Doorway, Inbox, Seat, Submission};
 use std::alloc::{AllocError, Global};
 use std::process::Abort;
 use std::sync::Wait;
-use std::sync::atomic::{AtomicU64, Ordering};
-use std::test::Fail;
-use std::thread;
 use std::thread::Threads;
 
 pub(crate) const SENDER: Address = Address(0x21);
@@ -28,201 +27,192 @@ pub(crate) const FECA: u32 = 0xFECA;
 /// How many turns each worker has, where they are to suffice.
 pub(crate) const TURNS: u64 = 2_000;
 
-/// How many turns a worker may be ahead of the other.
-const AHEAD: u64 = 16;
+const PORT: PortId = PortId {
+    station: RECEIVER,
+    number: 1,
+};
 
-/// How often a worker that is ahead looks again, at each turn.
-const LOOKS: u64 = 2_000;
-
-/// How often a worker looks at its first turn whether the other has come.
-const FIRST_LOOKS: u64 = 10_000_000;
-
-/// Holds each worker at its first turn until both have come, and at each later one for a while where it is ahead of the other.
+/// A port of the first segment with its inbox, and a client of the second with its seat.
 #[derive(Drop)]
-pub(crate) struct Pace {
-    pulling: AtomicU64,
-    pushing: AtomicU64,
-    missed: AtomicU64,
+pub(crate) struct Ends {
+    pub(crate) door: Door,
+    pub(crate) inbox: Inbox,
+    pub(crate) seat: Seat,
+    pub(crate) client: Client,
 }
 
-impl Pace {
-    pub(crate) fn new() -> Pace {
-        Pace {
-            pulling: AtomicU64::new(0),
-            pushing: AtomicU64::new(0),
-            missed: AtomicU64::new(0),
-        }
-    }
-
-    /// Whether both workers came to their first turns before either of them went on.
-    pub(crate) fn has_crossed(&self) -> bool {
-        self.pulling.load(Ordering::SeqCst) > 0
-            && self.pushing.load(Ordering::SeqCst) > 0
-            && self.missed.load(Ordering::SeqCst) == 0
-    }
-}
-
-impl Gate for Pace {
-    fn pass(&self, worker: u8, turn: u64) {
-        let (own, other) = if worker == 0 {
-            (&self.pulling, &self.pushing)
-        } else {
-            (&self.pushing, &self.pulling)
-        };
-        own.store(turn, Ordering::SeqCst);
-        let looks = if turn == 1 { FIRST_LOOKS } else { LOOKS };
-        let least = turn.saturating_sub(AHEAD).max(1);
-        for _ in 0..looks {
-            if other.load(Ordering::SeqCst) >= least {
-                return;
-            }
-            thread::yield_now();
-        }
-        if turn == 1 {
-            self.missed.fetch_add(1, Ordering::SeqCst);
+impl Ends {
+    pub(crate) fn new(rt: &impl Abort, alloc: Global) -> Ends {
+        let (door, inbox) = got(rt, Doorway::new(alloc)).open(PORT);
+        let (seat, client) = got(rt, Seat::new(alloc, 0, GATEWAY));
+        Ends {
+            door,
+            inbox,
+            seat,
+            client,
         }
     }
 }
 
 /// So many bytes, from this one on.
-pub(crate) fn bytes(alloc: Global, first: u8, many: u8) -> Result<Bytes, AllocError> {
+pub(crate) fn bytes(rt: &impl Abort, alloc: Global, first: u8, many: u8) -> Bytes {
     let mut all = Vec::new(alloc);
     for k in 0..many {
-        all.push(first.wrapping_add(k))?;
+        got(rt, all.push(first.wrapping_add(k)));
     }
-    Ok(Bytes::new(all))
+    Bytes::new(all)
 }
 
-pub(crate) fn feca() -> Result<Pgn, Fail> {
-    Ok(Pgn::new(FECA)?)
+pub(crate) fn feca(rt: &impl Abort) -> Pgn {
+    got(rt, Pgn::new(FECA))
 }
 
-pub(crate) fn route(rt: &impl Abort, to: Address) -> Route {
-    match Route::new(to) {
-        Ok(route) => route,
-        Err(refusal) => panic!(rt; "{refusal:?}"),
+fn delivery(rt: &impl Abort, alloc: Global, first: u8, many: u8) -> Delivery {
+    Delivery {
+        from: SENDER,
+        to: RECEIVER,
+        pgn: feca(rt),
+        bytes: bytes(rt, alloc, first, many),
     }
 }
 
-/// A port of the first segment, and its inbox.
-pub(crate) fn port(alloc: Global) -> Result<(Door, Inbox), Fail> {
-    let id = PortId {
-        station: RECEIVER,
-        number: 1,
-    };
-    Ok(Doorway::new(alloc)?.open(id))
-}
-
-/// A client of the second segment.
-pub(crate) fn client(alloc: Global) -> Result<(Seat, Client), Fail> {
-    Ok(Seat::new(alloc, 0, GATEWAY)?)
+fn again(rt: &impl Abort, alloc: Global, delivery: &Delivery) -> Delivery
+    ensures { result ≡ delivery.now }
+{
+    Delivery {
+        from: delivery.from,
+        to: delivery.to,
+        pgn: delivery.pgn,
+        bytes: got(rt, delivery.bytes.copy(alloc)),
+    }
 }
 
 /// Gives a message of so many bytes, from this one on.
-pub(crate) fn give(
-    rt: &impl Abort,
-    alloc: Global,
-    door: &mut Door,
-    first: u8,
-    many: u8,
-) -> Result<(), Fail> {
-    let pushed = delivery(alloc, first, many)?;
-    let bytes = Buffer::new(alloc, pushed.bytes.len())?.filled(&pushed.bytes);
-    if !door.prepare(1)? {
-        panic!(rt; "no place");
-    }
-    let kept = Delivery {
-        from: pushed.from,
-        to: pushed.to,
-        pgn: pushed.pgn,
-        bytes,
-    };
+pub(crate) fn give(rt: &impl Abort, alloc: Global, door: &mut Door, first: u8, many: u8) {
+    let pushed = delivery(rt, alloc, first, many);
+    let kept = again(rt, alloc, &pushed);
+    holds(rt, got(rt, door.prepare(1)));
     door.give(pushed, kept);
-    Ok(())
-}
-
-fn delivery(alloc: Global, first: u8, many: u8) -> Result<Delivery, Fail> {
-    Ok(Delivery {
-        from: SENDER,
-        to: RECEIVER,
-        pgn: feca()?,
-        bytes: bytes(alloc, first, many)?,
-    })
 }
 
 /// Submits a message of nine bytes.
-pub(crate) fn submit(
-    rt: &impl Abort,
-    client: &mut Client,
-    to: Address,
-    nine: Bytes,
-) -> Result<(), AllocError> {
-    match client.submit(to, FECA, nine) {
-        Ok(_) => Ok(()),
-        Err(SubmitRefused { refusal, bytes: _ }) => {
-            assert!(rt; refusal.is_none());
-            Err(AllocError)
-        }
+pub(crate) fn submit(rt: &impl Abort, client: &mut Client, to: Address, nine: Bytes) {
+    if let Err(refused) = client.submit(to, FECA, nine) {
+        same(rt, refused.refusal, None);
+        got(rt, Err(AllocError))
     }
 }
 
-/// The relay of a test. Neither message is lost, whatever it came to.
+fn route(rt: &impl Abort, to: Address) -> Route {
+    got(rt, Route::new(to))
+}
+
+/// Where a relay of a test sends to, how many messages it receives at most, and how many turns each worker has.
+#[derive(Drop)]
+pub(crate) struct Job {
+    pub(crate) to: Address,
+    pub(crate) limit: u64,
+    pub(crate) turns: u64,
+}
+
+fn run<R: Threads + Wait + Abort + Sync>(
+    rt: &R,
+    alloc: Global,
+    inbox: &mut Inbox,
+    client: &mut Client,
+    job: &Job,
+    pace: &Pace,
+) -> Result<Relayed, AllocError> {
+    let route = route(rt, job.to);
+    relay(rt, alloc, inbox, client, route, job.limit, job.turns, pace)
+}
+
+// A run by which no message is lost, whatever it came to.
+fn run_whole<R: Threads + Wait + Abort + Sync>(
+    rt: &R,
+    alloc: Global,
+    inbox: &mut Inbox,
+    client: &mut Client,
+    job: &Job,
+    pace: &Pace,
+) -> Result<Relayed, AllocError> {
+    let received = inbox.received().len();
+    let submitted = client.submitted().len();
+    let relayed = run(rt, alloc, inbox, client, job, pace)?;
+    let came = behind(rt, inbox.received(), received);
+    let went = behind(rt, client.submitted(), submitted);
+    is_whole(rt, came, went, &relayed, job.to);
+    Ok(relayed)
+}
+
+/// The relay of a test.
 pub(crate) fn relayed<R: Threads + Wait + Abort + Sync>(
     rt: &R,
     alloc: Global,
     inbox: &mut Inbox,
     client: &mut Client,
-    to: Address,
-    limit: u64,
-    turns: u64,
+    job: &Job,
 ) -> Result<Relayed, AllocError> {
-    let received = inbox.received().len();
-    let submitted = client.submitted().len();
     let pace = Pace::new();
-    let relayed = relay(rt, alloc, inbox, client, route(rt, to), limit, turns, &pace)?;
-    let came = &inbox.received()[received..];
-    let went = &client.submitted()[submitted..];
-    assert!(rt; relayed.pulled == came.len() as u64 && relayed.pushed == went.len() as u64);
-    assert!(rt; are_relayed(came, went, relayed.left.as_slice(), to));
-    // Where no thread could be made for a worker, one came after the other: want of memory too, which ends a test.
-    if turns > 0 && !pace.has_crossed() {
+    let relayed = run_whole(rt, alloc, inbox, client, job, &pace);
+    // Where no thread could be made for a worker, one came after the other: want of memory too.
+    if job.turns > 0 && !pace.has_crossed() {
         return Err(AllocError);
     }
-    Ok(relayed)
+    relayed
 }
 
-// Whether what came is what went to a station, and then what is left.
-fn are_relayed(came: &[Delivery], went: &[Submission], left: &[Delivery], to: Address) -> bool {
-    let mut next = 0usize;
-    for submission in went {
-        match came.get(next) {
-            Some(delivery) => {
-                if submission.to != to || submission.pgn != delivery.pgn {
-                    return false;
-                }
-                if submission.bytes.as_slice() != delivery.bytes.as_slice() {
-                    return false;
-                }
-            }
-            None => return false,
-        }
-        next = next.saturating_add(1);
-    }
-    for rest in left {
-        match came.get(next) {
-            Some(delivery) => {
-                if rest.bytes.as_slice() != delivery.bytes.as_slice() {
-                    return false;
-                }
-            }
-            None => return false,
-        }
-        next = next.saturating_add(1);
-    }
-    next == came.len()
+// What stands behind so many.
+fn behind<'a, T>(rt: &impl Abort, all: &'a [T], many: usize) -> &'a [T] {
+    holds(rt, many <= all.len());
+    &all[many..]
 }
 
-/// Pulled, pushed and left. Fewer than are meant to be are want of memory, which ends a test.
+// What came is what went to a station, and then what is left.
+fn is_whole(
+    rt: &impl Abort,
+    came: &[Delivery],
+    went: &[Submission],
+    relayed: &Relayed,
+    to: Address,
+) {
+    let left = relayed.left.as_slice();
+    same(rt, relayed.pulled, came.len() as u64);
+    same(rt, relayed.pushed, went.len() as u64);
+    same(rt, went.len().saturating_add(left.len()), came.len());
+    are_sent_on(rt, came, went, to);
+    are_left(rt, behind(rt, came, went.len()), left);
+}
+
+fn are_sent_on(rt: &impl Abort, came: &[Delivery], went: &[Submission], to: Address) {
+    for (k, submission) in went.iter().enumerate() {
+        same(rt, submission.to, to);
+        holds(rt, has_pgn(came, k, submission.pgn));
+        holds(rt, has_bytes(came, k, &submission.bytes));
+    }
+}
+
+fn are_left(rt: &impl Abort, came: &[Delivery], left: &[Delivery]) {
+    for (k, delivery) in left.iter().enumerate() {
+        holds(rt, has_bytes(came, k, &delivery.bytes));
+    }
+}
+
+fn has_bytes(came: &[Delivery], k: usize, bytes: &Bytes) -> bool {
+    match came.get(k) {
+        Some(delivery) => delivery.bytes.as_slice() == bytes.as_slice(),
+        None => false,
+    }
+}
+
+fn has_pgn(came: &[Delivery], k: usize, pgn: Pgn) -> bool {
+    match came.get(k) {
+        Some(delivery) => delivery.pgn == pgn,
+        None => false,
+    }
+}
+
+/// Pulled, pushed and left. Fewer than are meant to be are want of memory.
 pub(crate) fn counts(relayed: &Relayed, meant: [u64; 3]) -> Result<(), AllocError> {
     let left = relayed.left.len() as u64;
     if [relayed.pulled, relayed.pushed, left] != meant {

@@ -2,7 +2,11 @@
 #![tactic(auto)]
 
 #[cfg(test)]
+mod checks;
+#[cfg(test)]
 mod ends;
+#[cfg(test)]
+mod pace;
 #[cfg(test)]
 mod relays;
 #[cfg(test)]

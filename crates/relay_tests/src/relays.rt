@@ -1,168 +1,245 @@
 //! What a relay carries, between an inbox and a client without their segments.
+use crate::checks::{got, holds, same};
 use crate::ends::*;
+use message_events::Bytes;
 use pgn_ids::Address;
-use port_relay::Route;
-use segment_rings::{Delivery, Submission};
+use port_relay::{Relayed, Route};
+use segment_rings::{Client, Delivery, Inbox};
 use segment_shared::Refusal;
+use std::alloc::{AllocError, Global};
 use std::process::Abort;
-use std::test::Fail;
+use std::sync::Wait;
+use std::thread::Threads;
 
 // The first byte of a message, by which a test knows it.
-fn first_of_delivery(rt: &impl Abort, deliveries: &[Delivery], k: usize) -> u8 {
-    match deliveries.get(k) {
-        Some(delivery) => match delivery.bytes.as_slice().first() {
-            Some(byte) => *byte,
-            None => panic!(rt; "no bytes"),
-        },
-        None => panic!(rt; "no message"),
+fn starts_with(rt: &impl Abort, bytes: &Bytes, first: u8) {
+    holds(rt, bytes.len() > 0);
+    same(rt, bytes.as_slice()[0], first);
+}
+
+fn is_submitted(rt: &impl Abort, client: &Client, k: usize, first: u8) {
+    let submissions = client.submitted();
+    holds(rt, k < submissions.len());
+    starts_with(rt, &submissions[k].bytes, first);
+}
+
+fn is_left(rt: &impl Abort, left: &[Delivery], k: usize, first: u8) {
+    holds(rt, k < left.len());
+    starts_with(rt, &left[k].bytes, first);
+}
+
+// Gives so many messages of nine bytes, the first of which are 1, 2, 3 and so on.
+fn give_nines(rt: &impl Abort, alloc: Global, ends: &mut Ends, many: u8) {
+    for k in 0..many {
+        give(rt, alloc, &mut ends.door, k.wrapping_add(1), 9);
     }
 }
 
-fn first_of_submission(rt: &impl Abort, submissions: &[Submission], k: usize) -> u8 {
-    match submissions.get(k) {
-        Some(submission) => match submission.bytes.as_slice().first() {
-            Some(byte) => *byte,
-            None => panic!(rt; "no bytes"),
-        },
-        None => panic!(rt; "no message"),
-    }
+fn relay<R: Threads + Wait + Abort + Sync>(
+    rt: &R,
+    alloc: Global,
+    ends: &mut Ends,
+    job: &Job,
+) -> Result<Relayed, AllocError> {
+    relayed(rt, alloc, &mut ends.inbox, &mut ends.client, job)
 }
 
-#[test]
-fn a_route_leads_to_one_station(rt: HostRuntime) -> Result<(), Fail> {
-    assert!(rt; Route::new(Address::NULL) == Err(Refusal::NoSuchStation));
-    assert!(rt; Route::new(Address::GLOBAL) == Err(Refusal::NoSuchStation));
-    assert!(rt; route(&rt, FAR).to() == FAR);
-    Ok(())
-}
-
-#[test]
-fn messages_are_carried_in_order(rt: HostRuntime) -> Result<(), Fail> {
-    let alloc = rt.alloc();
-    let (mut door, mut inbox) = port(alloc)?;
-    let (_seat, mut client) = client(alloc)?;
-    for first in 1..41u8 {
-        give(&rt, alloc, &mut door, first, 9)?;
-    }
-    let carried = relayed(&rt, alloc, &mut inbox, &mut client, FAR, 40, TURNS)?;
-    counts(&carried, [40, 40, 0])?;
-    let went = client.submitted();
-    assert_eq!(rt; first_of_submission(&rt, went, 0), 1);
-    assert_eq!(rt; first_of_submission(&rt, went, 39), 40);
-    Ok(())
-}
-
-#[test]
-fn no_more_is_received_than_the_limit(rt: HostRuntime) -> Result<(), Fail> {
-    let alloc = rt.alloc();
-    let (mut door, mut inbox) = port(alloc)?;
-    let (_seat, mut client) = client(alloc)?;
-    for first in 1..4u8 {
-        give(&rt, alloc, &mut door, first, 9)?;
-    }
-    let carried = relayed(&rt, alloc, &mut inbox, &mut client, FAR, 2, TURNS)?;
-    counts(&carried, [2, 2, 0])?;
-    match inbox.try_receive()? {
-        Some(delivery) => assert!(rt; delivery.bytes.as_slice().first() == Some(&3)),
-        None => panic!(rt; "nothing waits"),
-    }
-    Ok(())
+// Relays up to this limit. So many are pulled, pushed and left.
+fn carry<R: Threads + Wait + Abort + Sync>(
+    rt: &R,
+    alloc: Global,
+    ends: &mut Ends,
+    to: Address,
+    limit: u64,
+    meant: [u64; 3],
+) -> Vec<Delivery> {
+    let job = Job {
+        to,
+        limit,
+        turns: TURNS,
+    };
+    let carried = got(rt, relay(rt, alloc, ends, &job));
+    got(rt, counts(&carried, meant));
+    carried.left
 }
 
 #[test]
-fn what_may_not_be_submitted_ends_the_submitting(rt: HostRuntime) -> Result<(), Fail> {
-    let alloc = rt.alloc();
-    let (mut door, mut inbox) = port(alloc)?;
-    let (_seat, mut client) = client(alloc)?;
-    for first in 1..6u8 {
-        let many = if first == 3 { 8 } else { 9 };
-        give(&rt, alloc, &mut door, first, many)?;
-    }
-    let carried = relayed(&rt, alloc, &mut inbox, &mut client, FAR, 5, TURNS)?;
-    counts(&carried, [5, 2, 3])?;
-    for k in 0..3u8 {
-        let first = first_of_delivery(&rt, carried.left.as_slice(), k as usize);
-        assert_eq!(rt; first, k + 3);
-    }
-    let carried = relayed(&rt, alloc, &mut inbox, &mut client, GATEWAY, 1, TURNS)?;
-    counts(&carried, [0, 0, 0])?;
-    Ok(())
+fn a_route_leads_to_one_station(rt: HostRuntime) {
+    same(&rt, Route::new(Address::NULL), Err(Refusal::NoSuchStation));
+    same(
+        &rt,
+        Route::new(Address::GLOBAL),
+        Err(Refusal::NoSuchStation),
+    );
+    same(&rt, got(&rt, Route::new(FAR)).to(), FAR);
+}
+
+fn carry_all<R: Threads + Wait + Abort + Sync>(rt: &R, alloc: Global, ends: &mut Ends) {
+    give_nines(rt, alloc, ends, 40);
+    drop(carry(rt, alloc, ends, FAR, 40, [40, 40, 0]));
+    is_submitted(rt, &ends.client, 0, 1);
+    is_submitted(rt, &ends.client, 39, 40);
 }
 
 #[test]
-fn a_client_sends_nothing_to_its_own_station(rt: HostRuntime) -> Result<(), Fail> {
-    let alloc = rt.alloc();
-    let (mut door, mut inbox) = port(alloc)?;
-    let (_seat, mut client) = client(alloc)?;
-    give(&rt, alloc, &mut door, 1, 9)?;
-    let carried = relayed(&rt, alloc, &mut inbox, &mut client, GATEWAY, 1, TURNS)?;
-    counts(&carried, [1, 0, 1])?;
-    Ok(())
+fn messages_are_carried_in_order(rt: HostRuntime) {
+    let mut ends = Ends::new(&rt, rt.alloc());
+    carry_all(&rt, rt.alloc(), &mut ends);
+    drop(ends);
+}
+
+fn waits(rt: &impl Abort, inbox: &mut Inbox, first: u8) {
+    let came = got(rt, inbox.try_receive());
+    let delivery = got(rt, came.ok_or("nothing waits"));
+    starts_with(rt, &delivery.bytes, first);
+    drop(delivery);
+}
+
+fn carry_two_of_three<R: Threads + Wait + Abort + Sync>(rt: &R, alloc: Global, ends: &mut Ends) {
+    give_nines(rt, alloc, ends, 3);
+    drop(carry(rt, alloc, ends, FAR, 2, [2, 2, 0]));
+    waits(rt, &mut ends.inbox, 3);
+}
+
+#[test]
+fn no_more_is_received_than_the_limit(rt: HostRuntime) {
+    let mut ends = Ends::new(&rt, rt.alloc());
+    carry_two_of_three(&rt, rt.alloc(), &mut ends);
+    drop(ends);
+}
+
+// Messages by their first bytes and their lengths: the third is too short to be submitted.
+const WITH_A_SHORT_ONE: [(u8, u8); 5] = [(1, 9), (2, 9), (3, 8), (4, 9), (5, 9)];
+
+fn carry_up_to_a_short_one<R: Threads + Wait + Abort + Sync>(
+    rt: &R,
+    alloc: Global,
+    ends: &mut Ends,
+) {
+    for (first, many) in &WITH_A_SHORT_ONE {
+        give(rt, alloc, &mut ends.door, *first, *many);
+    }
+    let left = carry(rt, alloc, ends, FAR, 5, [5, 2, 3]);
+    is_left(rt, left.as_slice(), 0, 3);
+    is_left(rt, left.as_slice(), 1, 4);
+    is_left(rt, left.as_slice(), 2, 5);
+    drop(carry(rt, alloc, ends, GATEWAY, 1, [0, 0, 0]));
+    drop(left);
+}
+
+#[test]
+fn what_may_not_be_submitted_ends_the_submitting(rt: HostRuntime) {
+    let mut ends = Ends::new(&rt, rt.alloc());
+    carry_up_to_a_short_one(&rt, rt.alloc(), &mut ends);
+    drop(ends);
+}
+
+fn carry_to_its_own<R: Threads + Wait + Abort + Sync>(rt: &R, alloc: Global, ends: &mut Ends) {
+    give_nines(rt, alloc, ends, 1);
+    drop(carry(rt, alloc, ends, GATEWAY, 1, [1, 0, 1]));
+}
+
+#[test]
+fn a_client_sends_nothing_to_its_own_station(rt: HostRuntime) {
+    let mut ends = Ends::new(&rt, rt.alloc());
+    carry_to_its_own(&rt, rt.alloc(), &mut ends);
+    drop(ends);
 }
 
 // The client's ring has four places left: the fifth message waits with the worker that submits, sixteen in the line, and one with the
 // worker that receives.
-#[test]
-fn a_full_line_holds_what_is_received(rt: HostRuntime) -> Result<(), Fail> {
-    let alloc = rt.alloc();
-    let (mut door, mut inbox) = port(alloc)?;
-    let (_seat, mut client) = client(alloc)?;
-    for first in 1..41u8 {
-        give(&rt, alloc, &mut door, first, 9)?;
-    }
+fn carry_into_a_full_ring<R: Threads + Wait + Abort + Sync>(
+    rt: &R,
+    alloc: Global,
+    ends: &mut Ends,
+) {
+    give_nines(rt, alloc, ends, 40);
     for _ in 0..60 {
-        submit(&rt, &mut client, RECEIVER, bytes(alloc, 0x80, 9)?)?;
+        submit(rt, &mut ends.client, RECEIVER, bytes(rt, alloc, 0x80, 9));
     }
-    let carried = relayed(&rt, alloc, &mut inbox, &mut client, FAR, 40, TURNS)?;
-    counts(&carried, [22, 4, 18])?;
-    assert_eq!(rt; first_of_submission(&rt, client.submitted(), 63), 4);
-    assert_eq!(rt; first_of_delivery(&rt, carried.left.as_slice(), 0), 5);
-    assert_eq!(rt; first_of_delivery(&rt, carried.left.as_slice(), 17), 22);
-    Ok(())
+    let left = carry(rt, alloc, ends, FAR, 40, [22, 4, 18]);
+    is_submitted(rt, &ends.client, 63, 4);
+    is_left(rt, left.as_slice(), 0, 5);
+    is_left(rt, left.as_slice(), 17, 22);
+    drop(left);
 }
 
 #[test]
-fn turns_run_out(rt: HostRuntime) -> Result<(), Fail> {
-    let alloc = rt.alloc();
-    let (mut door, mut inbox) = port(alloc)?;
-    let (_seat, mut client) = client(alloc)?;
-    for first in 1..4u8 {
-        give(&rt, alloc, &mut door, first, 9)?;
-    }
-    let carried = relayed(&rt, alloc, &mut inbox, &mut client, FAR, 3, 0)?;
-    counts(&carried, [0, 0, 0])?;
-    let carried = relayed(&rt, alloc, &mut inbox, &mut client, FAR, 3, 1)?;
-    assert!(rt; carried.pulled <= 1);
-    let carried = relayed(&rt, alloc, &mut inbox, &mut client, FAR, 3, 2)?;
-    assert!(rt; carried.pulled <= 2);
-    Ok(())
+fn a_full_line_holds_what_is_received(rt: HostRuntime) {
+    let mut ends = Ends::new(&rt, rt.alloc());
+    carry_into_a_full_ring(&rt, rt.alloc(), &mut ends);
+    drop(ends);
 }
 
-// Where memory is refused on the way, the next relay goes on, and what was left is submitted before.
+// With so many turns, at most so many messages are received.
+fn carry_at_most<R: Threads + Wait + Abort + Sync>(
+    rt: &R,
+    alloc: Global,
+    ends: &mut Ends,
+    turns: u64,
+) -> Relayed {
+    let job = Job {
+        to: FAR,
+        limit: 3,
+        turns,
+    };
+    let carried = got(rt, relay(rt, alloc, ends, &job));
+    holds(rt, carried.pulled <= turns);
+    carried
+}
+
+fn carry_by_turns<R: Threads + Wait + Abort + Sync>(rt: &R, alloc: Global, ends: &mut Ends) {
+    give_nines(rt, alloc, ends, 3);
+    let carried = carry_at_most(rt, alloc, ends, 0);
+    got(rt, counts(&carried, [0, 0, 0]));
+    drop(carried);
+    drop(carry_at_most(rt, alloc, ends, 1));
+    drop(carry_at_most(rt, alloc, ends, 2));
+}
+
 #[test]
-fn a_relay_goes_on_where_the_last_one_ended(rt: HostRuntime) -> Result<(), Fail> {
-    let alloc = rt.alloc();
-    let (mut door, mut inbox) = port(alloc)?;
-    let (_seat, mut client) = client(alloc)?;
-    for first in 1..4u8 {
-        give(&rt, alloc, &mut door, first, 9)?;
+fn turns_run_out(rt: HostRuntime) {
+    let mut ends = Ends::new(&rt, rt.alloc());
+    carry_by_turns(&rt, rt.alloc(), &mut ends);
+    drop(ends);
+}
+
+// A relay for which memory may be refused on the way; what was left is submitted before the next one.
+fn try_to_carry<R: Threads + Wait + Abort + Sync>(rt: &R, alloc: Global, ends: &mut Ends) {
+    let job = Job {
+        to: FAR,
+        limit: 3,
+        turns: TURNS,
+    };
+    if let Ok(carried) = relay(rt, alloc, ends, &job) {
+        submit_all(rt, &mut ends.client, carried.left);
     }
+}
+
+fn submit_all(rt: &impl Abort, client: &mut Client, left: Vec<Delivery>) {
+    for delivery in left {
+        submit(rt, client, FAR, delivery.bytes);
+    }
+}
+
+// Where memory is refused, the next relay goes on.
+fn carry_in_parts<R: Threads + Wait + Abort + Sync>(rt: &R, alloc: Global, ends: &mut Ends) {
+    give_nines(rt, alloc, ends, 3);
     for _ in 0..3 {
-        if let Ok(carried) = relayed(&rt, alloc, &mut inbox, &mut client, FAR, 3, TURNS) {
-            for delivery in carried.left {
-                submit(&rt, &mut client, FAR, delivery.bytes)?;
-            }
-        }
-        if inbox.received().len() == 3 {
+        try_to_carry(rt, alloc, ends);
+        if ends.inbox.received().len() == 3 {
             break;
         }
     }
-    assert_eq!(rt; client.submitted().len(), 3);
-    for k in 0..3u8 {
-        assert_eq!(rt;
-            first_of_submission(&rt, client.submitted(), k as usize),
-            k + 1
-        );
-    }
-    Ok(())
+    same(rt, ends.client.submitted().len(), 3);
+    is_submitted(rt, &ends.client, 0, 1);
+    is_submitted(rt, &ends.client, 1, 2);
+    is_submitted(rt, &ends.client, 2, 3);
+}
+
+#[test]
+fn a_relay_goes_on_where_the_last_one_ended(rt: HostRuntime) {
+    let mut ends = Ends::new(&rt, rt.alloc());
+    carry_in_parts(&rt, rt.alloc(), &mut ends);
+    drop(ends);
 }

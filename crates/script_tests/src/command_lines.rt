@@ -2,12 +2,12 @@
 //! answered by a text.
 mod logs;
 
+use crate::checks::{got, holds, same};
 use command_line::{Asked, OfNode, OfPort, read_command_line};
 use std::alloc::{AllocError, Global};
 use std::process::Abort;
-use std::test::Fail;
 
-fn words_of(alloc: Global, all: &[&str]) -> Result<Vec<String>, Fail> {
+fn words_of(alloc: Global, all: &[&str]) -> Result<Vec<String>, AllocError> {
     let mut words = Vec::new(alloc);
     for word in all {
         words.push(format!(in alloc; "{word}")?)?;
@@ -16,60 +16,53 @@ fn words_of(alloc: Global, all: &[&str]) -> Result<Vec<String>, Fail> {
 }
 
 // The text that answers these words; a test ends where it is that memory was refused.
-fn answer(rt: &impl Abort, alloc: Global, all: &[&str]) -> Result<String, Fail> {
-    let words = words_of(alloc, all)?;
+fn answer(rt: &impl Abort, alloc: Global, all: &[&str]) -> String {
+    let words = got(rt, words_of(alloc, all));
     let error = read_command_line(alloc, words.as_slice()).expect_err(rt, "a text");
-    let text = format!(in alloc; "{error}")?;
+    let text = got(rt, format!(in alloc; "{error}"));
     if text.as_str() == "error: out of memory\n" {
-        out_of_memory()?;
+        panic!(rt; "error: no memory");
     }
-    Ok(text)
-}
-
-fn out_of_memory() -> Result<(), AllocError> {
-    Err(AllocError)
+    text
 }
 
 // The text that answers these words is this.
-fn answers(rt: &impl Abort, alloc: Global, all: &[&str], expected: &str) -> Result<(), Fail> {
-    let text = answer(rt, alloc, all)?;
-    assert_eq!(rt; text.as_str(), expected);
-    Ok(())
+fn answers(rt: &impl Abort, alloc: Global, all: &[&str], expected: &str) {
+    let text = answer(rt, alloc, all);
+    same(rt, text.as_str(), expected);
 }
 
 // The text that answers these words has this in it.
-fn tells(rt: &impl Abort, alloc: Global, all: &[&str], part: &str) -> Result<(), Fail> {
-    let text = answer(rt, alloc, all)?;
-    assert!(rt; text.as_str().contains(part));
-    Ok(())
+fn tells(rt: &impl Abort, alloc: Global, all: &[&str], part: &str) {
+    let text = answer(rt, alloc, all);
+    holds(rt, text.as_str().contains(part));
 }
 
 // These words ask for this.
-fn asks(rt: &impl Abort, alloc: Global, all: &[&str], expected: &Asked) -> Result<(), Fail> {
-    let words = words_of(alloc, all)?;
-    let asked = read_command_line(alloc, words.as_slice())?;
-    assert!(rt; asked == *expected);
-    Ok(())
+fn asks(rt: &impl Abort, alloc: Global, all: &[&str], expected: &Asked) {
+    let words = got(rt, words_of(alloc, all));
+    let asked = got(rt, read_command_line(alloc, words.as_slice()));
+    holds(rt, asked == *expected);
 }
 
 #[test]
-fn a_script_is_run_alone_or_by_threads(rt: HostRuntime) -> Result<(), Fail> {
+fn a_script_is_run_alone_or_by_threads(rt: HostRuntime) {
     let alloc = rt.alloc();
-    asks(&rt, alloc, &["j1939bus"], &Asked::Script)?;
-    asks(&rt, alloc, &["j1939bus", "--log"], &Asked::Logged)?;
-    asks(&rt, alloc, &["j1939bus", "draw"], &Asked::Drawn)?;
+    asks(&rt, alloc, &["j1939bus"], &Asked::Script);
+    asks(&rt, alloc, &["j1939bus", "--log"], &Asked::Logged);
+    asks(&rt, alloc, &["j1939bus", "draw"], &Asked::Drawn);
     let live = Asked::Live { turns: 1_000_000 };
-    asks(&rt, alloc, &["j1939bus", "live"], &live)?;
+    asks(&rt, alloc, &["j1939bus", "live"], &live);
     let once = ["j1939bus", "live", "--turns", "1"];
     asks(&rt, alloc, &once, &Asked::Live { turns: 1 })
 }
 
 #[test]
-fn a_node_is_asked_for_by_its_address(rt: HostRuntime) -> Result<(), Fail> {
+fn a_node_is_asked_for_by_its_address(rt: HostRuntime) {
     let alloc = rt.alloc();
     let node = Asked::Node(OfNode {
         address: 0x2A,
-        interface: format!(in alloc; "can0")?,
+        interface: got(&rt, format!(in alloc; "can0")),
         ports: Vec::new(alloc),
         quiet: 700,
     });
@@ -77,20 +70,26 @@ fn a_node_is_asked_for_by_its_address(rt: HostRuntime) -> Result<(), Fail> {
 }
 
 #[test]
-fn a_node_is_asked_for_with_its_ports_and_its_quiet(rt: HostRuntime) -> Result<(), Fail> {
+fn a_node_is_asked_for_with_its_ports_and_its_quiet(rt: HostRuntime) {
     let alloc = rt.alloc();
     let mut ports = Vec::new(alloc);
-    ports.push(OfPort {
-        pgn: 0xFECA,
-        most: 117_440_505,
-    })?;
-    ports.push(OfPort {
-        pgn: 0xEF00,
-        most: 1785,
-    })?;
+    got(
+        &rt,
+        ports.push(OfPort {
+            pgn: 0xFECA,
+            most: 117_440_505,
+        }),
+    );
+    got(
+        &rt,
+        ports.push(OfPort {
+            pgn: 0xEF00,
+            most: 1785,
+        }),
+    );
     let node = Asked::Node(OfNode {
         address: 0x2A,
-        interface: format!(in alloc; "vcan0")?,
+        interface: got(&rt, format!(in alloc; "vcan0")),
         ports,
         quiet: 0,
     });
@@ -107,27 +106,27 @@ fn a_node_is_asked_for_with_its_ports_and_its_quiet(rt: HostRuntime) -> Result<(
         "--interface",
         "vcan0",
     ];
-    asks(&rt, alloc, &words, &node)?;
+    asks(&rt, alloc, &words, &node);
     let word = ["j1939bus", "node", "2A", "--port", "FECA:"];
     tells(&rt, alloc, &word, "'FECA:' for '--port'")
 }
 
-fn refuses_turns(rt: &impl Abort, alloc: Global, turns: &str, told: &str) -> Result<(), Fail> {
+fn refuses_turns(rt: &impl Abort, alloc: Global, turns: &str, told: &str) {
     tells(rt, alloc, &["j1939bus", "live", "--turns", turns], told)
 }
 
 #[test]
-fn whatever_else_is_asked_for_is_answered_by_a_text(rt: HostRuntime) -> Result<(), Fail> {
+fn whatever_else_is_asked_for_is_answered_by_a_text(rt: HostRuntime) {
     let alloc = rt.alloc();
-    tells(&rt, alloc, &["j1939bus", "--version"], "j1939bus 0.1.0")?;
-    tells(&rt, alloc, &["j1939bus", "lives"], "'lives'")?;
+    tells(&rt, alloc, &["j1939bus", "--version"], "j1939bus 0.1.0");
+    tells(&rt, alloc, &["j1939bus", "lives"], "'lives'");
     tells(
         &rt,
         alloc,
         &["j1939bus", "--log", "live"],
         "cannot be used with",
-    )?;
-    refuses_turns(&rt, alloc, "0", "invalid value '0'")?;
+    );
+    refuses_turns(&rt, alloc, "0", "invalid value '0'");
     refuses_turns(&rt, alloc, "1000000001", "invalid value '1000000001'")
 }
 
@@ -200,8 +199,8 @@ docs/SCRIPTS.md describes the language, and this in its last part.
 ";
 
 #[test]
-fn help_says_what_is_read_and_written(rt: HostRuntime) -> Result<(), Fail> {
+fn help_says_what_is_read_and_written(rt: HostRuntime) {
     let alloc = rt.alloc();
-    answers(&rt, alloc, &["j1939bus", "--help"], PROGRAM_HELP)?;
+    answers(&rt, alloc, &["j1939bus", "--help"], PROGRAM_HELP);
     answers(&rt, alloc, &["j1939bus", "live", "--help"], LIVE_HELP)
 }

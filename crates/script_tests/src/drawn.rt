@@ -1,11 +1,11 @@
 //! Scripts that are drawn: a broadcast, a connection and an extended one, with the exact text of their drawings.
+use crate::checks::{holds, same};
 use bus_script::{Cause, Ran};
 use script_drawing::draw_script;
 use std::alloc::Global;
 use std::io;
 use std::io::{Error, ErrorKind, Write};
 use std::process::Abort;
-use std::test::Fail;
 
 /// Draws a script; once more where memory was refused.
 fn drawn(alloc: Global, script: &str, out: &mut Vec<u8>) -> Ran {
@@ -24,12 +24,11 @@ fn drawn(alloc: Global, script: &str, out: &mut Vec<u8>) -> Ran {
 }
 
 /// The drawing of a script is this text.
-fn draws(rt: &impl Abort, alloc: Global, script: &str, text: &str) -> Result<(), Fail> {
+fn draws(rt: &impl Abort, alloc: Global, script: &str, text: &str) {
     let mut out = Vec::new(alloc);
     let ran = drawn(alloc, script, &mut out);
-    assert!(rt; ran.fault.is_none());
-    assert_eq!(rt; out.as_slice(), text.as_bytes());
-    Ok(())
+    holds(rt, ran.fault.is_none());
+    same(rt, out.as_slice(), text.as_bytes());
 }
 
 const BROADCAST: &str = "stations 35 21\n\
@@ -48,7 +47,7 @@ const BROADCAST_DRAWN: &str = "sequenceDiagram\n\
 \x20\x2000->>all: frame 0FEF1, 2 bytes\n";
 
 #[test]
-fn a_broadcast_is_drawn(rt: HostRuntime) -> Result<(), Fail> {
+fn a_broadcast_is_drawn(rt: HostRuntime) {
     draws(&rt, rt.alloc(), BROADCAST, BROADCAST_DRAWN)
 }
 
@@ -68,7 +67,7 @@ const CONNECTION_DRAWN: &str = "sequenceDiagram\n\
 \x20\x20Note over 21: 1 to 35 Acknowledged\n";
 
 #[test]
-fn a_connection_is_drawn(rt: HostRuntime) -> Result<(), Fail> {
+fn a_connection_is_drawn(rt: HostRuntime) {
     draws(&rt, rt.alloc(), CONNECTION, CONNECTION_DRAWN)
 }
 
@@ -98,7 +97,7 @@ const EXTENDED_DRAWN: &str = "sequenceDiagram\n\
 \x20\x20Note over 21: 1 to 35 Acknowledged\n";
 
 #[test]
-fn an_extended_exchange_is_drawn(rt: HostRuntime) -> Result<(), Fail> {
+fn an_extended_exchange_is_drawn(rt: HostRuntime) {
     draws(&rt, rt.alloc(), EXTENDED, EXTENDED_DRAWN)
 }
 
@@ -117,10 +116,9 @@ impl Write for Full {
 }
 
 #[test]
-fn a_write_that_fails_ends_a_drawing(rt: HostRuntime) -> Result<(), Fail> {
+fn a_write_that_fails_ends_a_drawing(rt: HostRuntime) {
     let mut reader = BROADCAST.as_bytes();
     let ran = draw_script(rt.alloc(), &mut reader, &mut Full {});
-    assert!(rt; ran.fault.is_some_and(|fault| fault.line == 1));
-    assert_eq!(rt; ran.status(), 1);
-    Ok(())
+    holds(&rt, ran.fault.is_some_and(|fault| fault.line == 1));
+    same(&rt, ran.status(), 1);
 }

@@ -1,10 +1,10 @@
 //! Scripts whose frames are logged: the log and all the rest, with the exact text of both.
+use crate::checks::{got, holds, same};
 use crate::scripts;
 use bus_script::{Cause, Ran, run_logged};
-use std::alloc::Global;
+use std::alloc::{AllocError, Global};
 use std::io;
 use std::io::{Error, ErrorKind, Write};
-use std::test::Fail;
 
 /// A broadcast that begins at 7 ms, and a frame of a foreign node.
 const BROADCAST: &str = "stations 21 35\n\
@@ -53,16 +53,15 @@ fn ran(alloc: Global, script: &str, log: &mut Vec<u8>, rest: &mut Vec<u8>) -> Ra
 }
 
 #[test]
-fn frames_stand_in_the_log_at_their_times(rt: HostRuntime) -> Result<(), Fail> {
+fn frames_stand_in_the_log_at_their_times(rt: HostRuntime) {
     let alloc = rt.alloc();
     let mut log = Vec::new(alloc);
     let mut rest = Vec::new(alloc);
     let ran = ran(alloc, BROADCAST, &mut log, &mut rest);
-    assert!(rt; ran.fault.is_none());
-    assert_eq!(rt; ran.status(), 0);
-    assert_eq!(rt; log.as_slice(), LOG.as_bytes());
-    assert_eq!(rt; rest.as_slice(), REST.as_bytes());
-    Ok(())
+    holds(&rt, ran.fault.is_none());
+    same(&rt, ran.status(), 0);
+    same(&rt, log.as_slice(), LOG.as_bytes());
+    same(&rt, rest.as_slice(), REST.as_bytes());
 }
 
 /// The last tick, which no time of a log reaches.
@@ -77,18 +76,18 @@ const LAST_TIMES: &str = "\
 (18446744073709.551615) bus0 18FEF100#02\n";
 
 #[test]
-fn times_end_where_those_of_logs_do(rt: HostRuntime) -> Result<(), Fail> {
+fn times_end_where_those_of_logs_do(rt: HostRuntime) {
     let alloc = rt.alloc();
     let mut log = Vec::new(alloc);
     let mut rest = Vec::new(alloc);
     let ran = ran(alloc, LAST_TICK, &mut log, &mut rest);
-    assert!(rt; ran.fault.is_none());
-    assert_eq!(rt; log.as_slice(), LAST_TIMES.as_bytes());
-    assert_eq!(rt;
+    holds(&rt, ran.fault.is_none());
+    same(&rt, log.as_slice(), LAST_TIMES.as_bytes());
+    same(
+        &rt,
         rest.as_slice(),
-        b"done\ndone\ndone\ndone\ndone\n".as_slice()
+        b"done\ndone\ndone\ndone\ndone\n".as_slice(),
     );
-    Ok(())
 }
 
 /// A connection that is driven to its end and beyond, and a wrong line.
@@ -102,7 +101,7 @@ drive 22 21 5\n\
 nothing\n";
 
 /// A text without the lines of frames.
-fn without_frames(alloc: Global, text: &[u8]) -> Result<Vec<u8>, Fail> {
+fn without_frames(alloc: Global, text: &[u8]) -> Result<Vec<u8>, AllocError> {
     let mut rest = Vec::new(alloc);
     let mut line = Vec::new(alloc);
     for byte in text {
@@ -118,18 +117,17 @@ fn without_frames(alloc: Global, text: &[u8]) -> Result<Vec<u8>, Fail> {
 }
 
 #[test]
-fn the_rest_is_that_of_a_run_without_a_log(rt: HostRuntime) -> Result<(), Fail> {
+fn the_rest_is_that_of_a_run_without_a_log(rt: HostRuntime) {
     let alloc = rt.alloc();
     let mut log = Vec::new(alloc);
     let mut rest = Vec::new(alloc);
     let logged = ran(alloc, CONNECTION, &mut log, &mut rest);
     let mut out = Vec::new(alloc);
     let plain = scripts::ran_once_more(alloc, CONNECTION.as_bytes(), &mut out);
-    assert!(rt; logged.fault == plain.fault);
-    assert!(rt; logged.fault.is_some_and(|fault| fault.line == 8));
-    let expected = without_frames(alloc, out.as_slice())?;
-    assert_eq!(rt; rest.as_slice(), expected.as_slice());
-    Ok(())
+    holds(&rt, logged.fault == plain.fault);
+    holds(&rt, logged.fault.is_some_and(|fault| fault.line == 8));
+    let expected = got(&rt, without_frames(alloc, out.as_slice()));
+    same(&rt, rest.as_slice(), expected.as_slice());
 }
 
 /// Refuses each write.
@@ -147,7 +145,7 @@ impl Write for Full {
 }
 
 #[test]
-fn a_failed_write_to_either_ends_the_run(rt: HostRuntime) -> Result<(), Fail> {
+fn a_failed_write_to_either_ends_the_run(rt: HostRuntime) {
     let alloc = rt.alloc();
     let mut reader = BROADCAST.as_bytes();
     let to_log = run_logged(alloc, &mut reader, &mut Full {}, &mut io::sink());
@@ -156,10 +154,9 @@ fn a_failed_write_to_either_ends_the_run(rt: HostRuntime) -> Result<(), Fail> {
     for (ran, line) in [(to_log, 5), (to_rest, 1)] {
         let fault = ran.fault.expect(&rt, "a fault");
         if fault.cause != Cause::OutOfMemory && !ran.memory_refused {
-            assert_eq!(rt; fault.cause, Cause::WriteFailed);
-            assert_eq!(rt; fault.line, line);
+            same(&rt, fault.cause, Cause::WriteFailed);
+            same(&rt, fault.line, line);
         }
-        assert_eq!(rt; ran.status(), 1);
+        same(&rt, ran.status(), 1);
     }
-    Ok(())
 }

@@ -3,10 +3,10 @@
 mod failing;
 mod faults;
 
+use crate::checks::{got, holds, same};
 use bus_script::{Cause, Ran, ScriptFault, run_script};
-use std::alloc::Global;
+use std::alloc::{AllocError, Global};
 use std::process::Abort;
-use std::test::Fail;
 
 /// Runs a script; once more where memory was refused, of which the text printed until then may tell nothing false.
 pub(crate) fn ran(
@@ -23,7 +23,7 @@ pub(crate) fn ran(
         fault.cause == Cause::OutOfMemory || fault.cause == Cause::WriteFailed
     });
     if refused && !first.memory_refused {
-        assert!(rt; text.as_bytes().starts_with(out.as_slice()));
+        holds(rt, text.as_bytes().starts_with(out.as_slice()));
     }
     if !refused && !first.memory_refused {
         return first;
@@ -50,34 +50,27 @@ pub(crate) fn ran_once_more(alloc: Global, script: &[u8], out: &mut Vec<u8>) -> 
 }
 
 /// A script prints a text, and its fault is told by a line.
-pub(crate) fn shows(
-    rt: &impl Abort,
-    alloc: Global,
-    script: &[u8],
-    text: &str,
-    fault: &str,
-) -> Result<(), Fail> {
+pub(crate) fn shows(rt: &impl Abort, alloc: Global, script: &[u8], text: &str, fault: &str) {
     let mut out = Vec::new(alloc);
     let ran = ran(rt, alloc, script, &mut out, text);
-    assert_eq!(rt; out.as_slice(), text.as_bytes());
+    same(rt, out.as_slice(), text.as_bytes());
     // Who always reports refused memory promises nothing: this run was refused none.
-    assert!(rt; !ran.memory_refused);
+    holds(rt, !ran.memory_refused);
     match ran.fault {
         None => {
-            assert_eq!(rt; ran.status(), 0);
-            assert_eq!(rt; fault, "");
+            same(rt, ran.status(), 0);
+            same(rt, fault, "");
         }
         Some(told) => {
-            assert_eq!(rt; ran.status(), 1);
-            let told = fault_line(alloc, told)?;
-            assert_eq!(rt; told.as_str(), fault);
+            same(rt, ran.status(), 1);
+            let told = got(rt, fault_line(alloc, told));
+            same(rt, told.as_str(), fault);
         }
     }
-    Ok(())
 }
 
 /// The line of a fault, made again where memory was refused.
-fn fault_line(alloc: Global, fault: ScriptFault) -> Result<String, Fail> {
+fn fault_line(alloc: Global, fault: ScriptFault) -> Result<String, AllocError> {
     match format!(in alloc; "{fault}") {
         Ok(line) => Ok(line),
         Err(_) => Ok(format!(in alloc; "{fault}")?),
@@ -88,7 +81,7 @@ fn fault_line(alloc: Global, fault: ScriptFault) -> Result<String, Fail> {
 const BEHIND: usize = 8193;
 
 /// So many bytes, each the same, with room for those that a test puts behind them.
-fn many(alloc: Global, byte: u8, count: usize) -> Result<Vec<u8>, Fail> {
+fn many(alloc: Global, byte: u8, count: usize) -> Result<Vec<u8>, AllocError> {
     let mut bytes = Vec::new(alloc);
     let room = count.saturating_add(1 + BEHIND);
     if bytes.reserve(room).is_err() {
@@ -227,16 +220,15 @@ done\n\
 );
 
 #[test]
-fn scripts_print_their_text(rt: HostRuntime) -> Result<(), Fail> {
+fn scripts_print_their_text(rt: HostRuntime) {
     let alloc = rt.alloc();
     for (script, text) in [REFUSALS, CLOSING, TIMES, SEVERAL_PORTS] {
-        shows(&rt, alloc, script.as_bytes(), text, "")?;
+        shows(&rt, alloc, script.as_bytes(), text, "");
     }
-    Ok(())
 }
 
 #[test]
-fn a_connection_is_counted(rt: HostRuntime) -> Result<(), Fail> {
+fn a_connection_is_counted(rt: HostRuntime) {
     let script =
         b"\nstations 35  21\n open 35 feca 1785 \nsend 21 35 FECA fill 9\ndrive 21 35 9\ncounts";
     let text = "done\nopened 35.1\nsent 1\ndrove 5 idle\n\
@@ -253,7 +245,7 @@ fn a_connection_is_counted(rt: HostRuntime) -> Result<(), Fail> {
 }
 
 #[test]
-fn a_refused_value_makes_no_call(rt: HostRuntime) -> Result<(), Fail> {
+fn a_refused_value_makes_no_call(rt: HostRuntime) {
     let script = b"stations 21 FE\nstations 21 35\nopen 35 EC21 1\nsend 21 FF 40000 fill 9\n\
         inject 20000000 00\ninject FFFFFFFF 000102030405060708\ninject 1CEC3580 000102030405060708\ncounts\n";
     let text = "refused 13 BadAddresses\ndone\nrefused 3 BadPgn\nrefused 3 BadPgn\n\

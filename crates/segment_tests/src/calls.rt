@@ -1,12 +1,20 @@
 //! Calls on a segment of stations 21 and 35 of which a test only looks at the answer: their contracts are not carried through it.
+use crate::checks::{got, same};
+use crate::replies::{is_opened, is_sent};
+use bus_frame::{CanId, Frame};
 use pgn_ids::{Address, Pgn};
 use segment_core::*;
 use std::alloc::{AllocError, Global};
-use std::test::Fail;
+use std::process::Abort;
 
 pub(crate) const A: Address = Address(0x21);
 
 pub(crate) const B: Address = Address(0x35);
+
+pub(crate) const PORT: PortId = PortId {
+    station: B,
+    number: 1,
+};
 
 pub(crate) const PUMP: Call = Call::Pump { station: A, to: B };
 
@@ -24,8 +32,21 @@ pub(crate) const TAKE_B: Call = Call::Take {
     room: true,
 };
 
-pub(crate) fn apply(segment: &mut Segment, call: Call) -> Result<Reply, AllocError> {
+pub(crate) fn pgn(rt: &impl Abort) -> Pgn {
+    got(rt, Pgn::new(0xFECA))
+}
+
+pub(crate) fn frame(rt: &impl Abort, id: u32, bytes: &[u8]) -> Frame {
+    got(rt, Frame::new(got(rt, CanId::new(id)), bytes))
+}
+
+pub(crate) fn tried(segment: &mut Segment, call: Call) -> Result<Reply, AllocError> {
     segment.apply(call)
+}
+
+// The same for a test that ends where a call finds no memory.
+pub(crate) fn apply(rt: &impl Abort, segment: &mut Segment, call: Call) -> Reply {
+    got(rt, tried(segment, call))
 }
 
 pub(crate) fn drive(segment: &mut Segment, from: Address, to: Address, turns: u64) -> Driven {
@@ -34,16 +55,22 @@ pub(crate) fn drive(segment: &mut Segment, from: Address, to: Address, turns: u6
 
 // The same for a test that ends where a drive finds no memory: that is the error, and no drive that came to less.
 pub(crate) fn driven(
+    rt: &impl Abort,
     segment: &mut Segment,
     from: Address,
     to: Address,
     turns: u64,
-) -> Result<Driven, AllocError> {
+) -> Driven {
     let driven = drive(segment, from, to, turns);
-    match driven.end {
-        DriveEnd::OutOfMemory => Err(AllocError),
-        _ => Ok(driven),
+    if driven.end == DriveEnd::OutOfMemory {
+        panic!(rt; "error: out of memory");
     }
+    driven
+}
+
+// A drive of 21 puts so many frames, unless memory is refused.
+pub(crate) fn puts_frames(rt: &impl Abort, segment: &mut Segment, to: Address, count: u64) {
+    same(rt, driven(rt, segment, A, to, count).turns, count);
 }
 
 pub(crate) fn run(segment: &mut Segment, calls: Vec<Call>) -> Ran {
@@ -51,12 +78,12 @@ pub(crate) fn run(segment: &mut Segment, calls: Vec<Call>) -> Ran {
 }
 
 // The same for a test that ends where a call of the list finds no memory.
-pub(crate) fn ran(segment: &mut Segment, calls: Vec<Call>) -> Result<Ran, AllocError> {
+pub(crate) fn ran(rt: &impl Abort, segment: &mut Segment, calls: Vec<Call>) -> Ran {
     let ran = run(segment, calls);
-    match ran.end {
-        RunEnd::OutOfMemory => Err(AllocError),
-        _ => Ok(ran),
+    if ran.end == RunEnd::OutOfMemory {
+        panic!(rt; "error: out of memory");
     }
+    ran
 }
 
 pub(crate) fn counts(segment: &Segment) -> Counts {
@@ -72,53 +99,54 @@ pub(crate) fn is_idle(segment: &Segment) -> bool {
 }
 
 // A segment of the two stations. It is asked for again where memory is refused, and so are the bytes below, for tests that go on then.
-pub(crate) fn segment(alloc: Global) -> Result<Segment, Fail> {
+pub(crate) fn segment(rt: &impl Abort, alloc: Global) -> Segment {
     match Segment::new(alloc, &[B, A]) {
-        Ok(segment) => Ok(segment),
-        Err(_) => Ok(Segment::new(alloc, &[B, A])?),
+        Ok(segment) => segment,
+        Err(_) => got(rt, Segment::new(alloc, &[B, A])),
     }
 }
 
 // Bytes 1, 2, 3 and so on, each modulo 256.
-pub(crate) fn filled(alloc: Global, len: u32) -> Result<Vec<u8>, Fail> {
-    let mut bytes = match Vec::with_capacity(alloc, len as usize) {
+pub(crate) fn filled(rt: &impl Abort, alloc: Global, len: u32) -> Vec<u8> {
+    match places(alloc, len) {
         Ok(bytes) => bytes,
-        Err(_) => Vec::with_capacity(alloc, len as usize)?,
-    };
-    for i in 1..=len {
-        bytes.push((i % 256) as u8)?;
+        Err(_) => got(rt, places(alloc, len)),
     }
-    Ok(bytes)
+}
+
+fn places(alloc: Global, len: u32) -> Result<Vec<u8>, AllocError> {
+    (1..=len).map(|i| (i % 256) as u8).collect(alloc)
 }
 
 // Port 35.1 on FECA, for up to 4,000 bytes.
-pub(crate) fn opening() -> Result<Call, Fail> {
-    Ok(Call::Open {
+pub(crate) fn opening(rt: &impl Abort) -> Call {
+    Call::Open {
         station: B,
-        pgn: Pgn::new(0xFECA)?,
+        pgn: pgn(rt),
         max_len: 4000,
-    })
+    }
 }
 
 // A message of so many bytes from 21, as `filled` makes them.
-pub(crate) fn sending(alloc: Global, to: Address, len: u32) -> Result<Call, Fail> {
-    let pgn = Pgn::new(0xFECA)?;
-    Ok(Call::Send {
+pub(crate) fn sending(rt: &impl Abort, alloc: Global, to: Address, len: u32) -> Call {
+    Call::Send {
         from: A,
         to,
-        pgn,
-        bytes: Bytes::new(filled(alloc, len)?),
-    })
+        pgn: pgn(rt),
+        bytes: Bytes::new(filled(rt, alloc, len)),
+    }
 }
 
-// Port 35.1 is open, and the message is sent.
+// Port 35.1 is open, and a copy of the message is sent.
 pub(crate) fn open_and_send(
+    rt: &impl Abort,
     alloc: Global,
     segment: &mut Segment,
     to: Address,
     len: u32,
-) -> Result<(), Fail> {
-    apply(segment, opening()?)?;
-    apply(segment, sending(alloc, to, len)?)?;
-    Ok(())
+) {
+    is_opened(rt, apply(rt, segment, opening(rt)), PORT);
+    let send = sending(rt, alloc, to, len);
+    let copy = got(rt, send.copy(alloc));
+    is_sent(rt, apply(rt, segment, copy), 1);
 }

@@ -4,6 +4,8 @@
 #[cfg(test)]
 mod calls;
 #[cfg(test)]
+mod checks;
+#[cfg(test)]
 mod commands;
 #[cfg(test)]
 mod memory;
@@ -13,6 +15,8 @@ mod missed;
 mod pairs;
 #[cfg(test)]
 mod refusals;
+#[cfg(test)]
+mod replies;
 #[cfg(test)]
 mod segments;
 #[cfg(test)]

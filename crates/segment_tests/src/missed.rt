@@ -1,116 +1,93 @@
 //! A message of 255 packets of which the receiver misses one frame, whichever it is.
 use crate::calls::*;
+use crate::checks::same;
+use crate::replies::{is_done, is_refused, is_sent};
 use segment_core::*;
 use std::alloc::Global;
 use std::process::Abort;
-use std::test::Fail;
 
 const MISSED: Call = Call::Overrun { station: B, n: 1 };
 
-fn applied(rt: &impl Abort, segment: &mut Segment, call: Call) -> Result<(), Fail> {
-    let reply = apply(segment, call)?;
-    assert!(rt; !matches!(reply, Reply::Refused(_)));
-    Ok(())
-}
-
-fn sent(rt: &impl Abort, alloc: Global, segment: &mut Segment, len: u32) -> Result<(), Fail> {
-    applied(rt, segment, sending(alloc, B, len)?)
+fn done(rt: &impl Abort, segment: &mut Segment, call: Call) {
+    let _events = is_done(rt, apply(rt, segment, call));
 }
 
 // Queues what comes next where no queue has a frame, and puts a frame; false where nothing is left to put.
-fn puts(rt: &impl Abort, segment: &mut Segment) -> Result<bool, Fail> {
-    if queue_len(segment, A) == 0 && queue_len(segment, B) == 0 {
-        if let Reply::Refused(cause) = apply(segment, PUMP)? {
-            assert_eq!(rt; cause, Refusal::NothingToSend);
-            return Ok(false);
+fn puts(rt: &impl Abort, segment: &mut Segment) -> bool {
+    if queue_len(segment, A) > 0 {
+        done(rt, segment, TRANSMIT_A);
+        return true;
+    }
+    if queue_len(segment, B) > 0 {
+        done(rt, segment, TRANSMIT_B);
+        return true;
+    }
+    match apply(rt, segment, PUMP) {
+        Reply::Done(_) => {
+            done(rt, segment, TRANSMIT_A);
+            true
+        }
+        refused => {
+            is_refused(rt, refused, Refusal::NothingToSend);
+            false
         }
     }
-    if queue_len(segment, A) > 0 {
-        applied(rt, segment, TRANSMIT_A)?;
-    } else {
-        applied(rt, segment, TRANSMIT_B)?;
-    }
-    Ok(true)
 }
 
 // A message of 1,785 bytes, of which 35 misses one frame: that which it would have taken as its `missed`th.
-fn miss_frame(
-    rt: &impl Abort,
-    alloc: Global,
-    segment: &mut Segment,
-    missed: u32,
-) -> Result<(), Fail> {
-    applied(rt, segment, opening()?)?;
-    sent(rt, alloc, segment, 1785)?;
+fn miss_frame(rt: &impl Abort, alloc: Global, segment: &mut Segment, missed: u32) {
+    open_and_send(rt, alloc, segment, B, 1785);
     for taken in 1..=274 {
-        if !puts(rt, segment)? {
-            return Ok(());
+        if !puts(rt, segment) {
+            return;
         }
-        applied(rt, segment, TAKE_A)?;
+        done(rt, segment, TAKE_A);
         let take = if taken == missed { MISSED } else { TAKE_B };
-        applied(rt, segment, take)?;
+        done(rt, segment, take);
     }
-    Ok(())
 }
 
-// So many frames are put, unless memory is refused.
-fn puts_frames(rt: &impl Abort, segment: &mut Segment, count: u64) -> Result<(), Fail> {
-    assert_eq!(rt; driven(segment, A, B, count)?.turns, count);
-    Ok(())
+fn send_nine(rt: &impl Abort, alloc: Global, segment: &mut Segment) {
+    is_sent(rt, apply(rt, segment, sending(rt, alloc, B, 9)), 2);
 }
 
 // The message ends without an acknowledgement, and the next one is acknowledged.
-fn end_and_go_on(rt: &impl Abort, alloc: Global, segment: &mut Segment) -> Result<(), Fail> {
-    assert_eq!(rt; counts(segment).given, 0);
-    assert_eq!(rt; queue_len(segment, A), 0);
-    assert_eq!(rt; queue_len(segment, B), 0);
-    applied(rt, segment, Call::Tick { n: 1250 })?;
-    applied(rt, segment, Call::Fire { station: A })?;
-    assert_eq!(rt; counts(segment).timed_out, 1);
-    sent(rt, alloc, segment, 9)?;
+fn end_and_go_on(rt: &impl Abort, alloc: Global, segment: &mut Segment) {
+    same(rt, counts(segment).given, 0);
+    same(rt, (queue_len(segment, A), queue_len(segment, B)), (0, 0));
+    done(rt, segment, Call::Tick { n: 1250 });
+    done(rt, segment, Call::Fire { station: A });
+    same(rt, counts(segment).timed_out, 1);
+    send_nine(rt, alloc, segment);
     // The abort, the Request and its answer, and five frames of the message.
-    puts_frames(rt, segment, 8)?;
-    assert_eq!(rt; counts(segment).acknowledged, 1);
-    assert_eq!(rt; counts(segment).given, 1);
-    Ok(())
+    puts_frames(rt, segment, B, 8);
+    let counts = counts(segment);
+    same(rt, (counts.acknowledged, counts.given), (1, 1));
 }
 
-// A test's steps are functions of their own, which own nothing: where a step can end a test, what the test owns is dropped there, and each
-// such place takes its part of the proof.
-fn miss_and_go_on(
-    rt: &impl Abort,
-    alloc: Global,
-    segment: &mut Segment,
-    missed: u32,
-) -> Result<(), Fail> {
-    miss_frame(rt, alloc, segment, missed)?;
-    end_and_go_on(rt, alloc, segment)
-}
-
-fn one_missed(rt: &impl Abort, alloc: Global, missed: u32) -> Result<(), Fail> {
-    let mut segment = segment(alloc)?;
-    miss_and_go_on(rt, alloc, &mut segment, missed)
+fn one_missed(rt: &impl Abort, alloc: Global, missed: u32) {
+    let mut segment = segment(rt, alloc);
+    miss_frame(rt, alloc, &mut segment, missed);
+    end_and_go_on(rt, alloc, &mut segment);
 }
 
 #[test]
-fn one_missed_frame_ends_the_message_and_no_other(rt: HostRuntime) -> Result<(), Fail> {
+fn one_missed_frame_ends_the_message_and_no_other(rt: HostRuntime) {
     for missed in 1..273 {
-        one_missed(&rt, rt.alloc(), missed)?;
+        one_missed(&rt, rt.alloc(), missed);
     }
-    Ok(())
 }
 
-fn miss_acknowledgement(rt: &impl Abort, alloc: Global, segment: &mut Segment) -> Result<(), Fail> {
-    miss_frame(rt, alloc, segment, 273)?;
-    assert_eq!(rt; counts(segment).acknowledged, 1);
-    sent(rt, alloc, segment, 9)?;
-    puts_frames(rt, segment, 5)?;
-    assert_eq!(rt; counts(segment).acknowledged, 2);
-    Ok(())
+fn acknowledges_twice(rt: &impl Abort, alloc: Global, segment: &mut Segment) {
+    same(rt, counts(segment).acknowledged, 1);
+    send_nine(rt, alloc, segment);
+    puts_frames(rt, segment, B, 5);
+    same(rt, counts(segment).acknowledged, 2);
 }
 
 #[test]
-fn missed_end_acknowledgement_of_its_own_is_none(rt: HostRuntime) -> Result<(), Fail> {
-    let mut segment = segment(rt.alloc())?;
-    miss_acknowledgement(&rt, rt.alloc(), &mut segment)
+fn missed_end_acknowledgement_of_its_own_is_none(rt: HostRuntime) {
+    let mut segment = segment(&rt, rt.alloc());
+    miss_frame(&rt, rt.alloc(), &mut segment, 273);
+    acknowledges_twice(&rt, rt.alloc(), &mut segment);
 }

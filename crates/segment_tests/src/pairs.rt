@@ -1,12 +1,13 @@
 //! Two segments that are asked the same. A call that finds no memory must leave every reader as it was and is made again: whichever one
 //! allocation is refused, one segment meets that refusal, the other meets none, and both answer alike.
 use crate::calls::*;
+use crate::checks::{got, holds, same};
+use crate::replies::is_done;
 use bus_frame::Frame;
 use pgn_ids::{Address, Pgn};
 use segment_core::*;
 use std::alloc::Global;
 use std::process::Abort;
-use std::test::Fail;
 use tp_wire::Outcome;
 
 // What the readers say of a station.
@@ -105,37 +106,33 @@ fn are_same_events(one: &Events, other: &Events) -> bool {
 }
 
 fn is_same_reply(one: &Reply, other: &Reply) -> bool {
-    match one {
-        Reply::Opened(port) => matches!(other, Reply::Opened(other_port) if other_port == port),
-        Reply::Sent(number) => matches!(other, Reply::Sent(other_number) if other_number == number),
-        Reply::Refused(cause) =>
-            matches!(other, Reply::Refused(other_cause) if other_cause == cause),
-        Reply::Done(events) => match other {
-            Reply::Done(other_events) => are_same_events(events, other_events),
-            _ => false,
-        },
+    match (one, other) {
+        (Reply::Opened(port), Reply::Opened(other_port)) => port == other_port,
+        (Reply::Sent(number), Reply::Sent(other_number)) => number == other_number,
+        (Reply::Refused(cause), Reply::Refused(other_cause)) => cause == other_cause,
+        (Reply::Done(events), Reply::Done(other_events)) => are_same_events(events, other_events),
+        _ => false,
     }
 }
 
 // The same call once more.
-fn copied(alloc: Global, call: &Call) -> Result<Call, Fail> {
+fn copied(rt: &impl Abort, alloc: Global, call: &Call) -> Call {
     match call.copy(alloc) {
-        Ok(copy) => Ok(copy),
-        Err(_) => Ok(call.copy(alloc)?),
+        Ok(copy) => copy,
+        Err(_) => got(rt, call.copy(alloc)),
     }
 }
 
 // A call is made, and again where it finds no memory, which changes nothing.
-fn made(rt: &impl Abort, alloc: Global, segment: &mut Segment, call: &Call) -> Result<Reply, Fail> {
+fn made(rt: &impl Abort, alloc: Global, segment: &mut Segment, call: &Call) -> Reply {
     let before = read(segment);
-    let first = apply(segment, copied(alloc, call)?);
-    if let Ok(reply) = first {
-        return Ok(reply);
+    match tried(segment, copied(rt, alloc, call)) {
+        Ok(reply) => reply,
+        Err(_) => {
+            same(rt, read(segment), before);
+            apply(rt, segment, copied(rt, alloc, call))
+        }
     }
-    assert_eq!(rt; read(segment), before);
-    let second = apply(segment, copied(alloc, call)?);
-    assert!(rt; second.is_ok());
-    Ok(second?)
 }
 
 // Two segments that are asked the same.
@@ -146,27 +143,15 @@ pub(crate) struct Pair {
 }
 
 // Both make the call and answer alike; the answer.
-pub(crate) fn both(
-    rt: &impl Abort,
-    alloc: Global,
-    pair: &mut Pair,
-    call: Call,
-) -> Result<Reply, Fail> {
-    let reply = made(rt, alloc, &mut pair.one, &call)?;
-    let other = made(rt, alloc, &mut pair.other, &call)?;
-    assert!(rt; is_same_reply(&reply, &other));
-    assert_eq!(rt; read(&pair.one), read(&pair.other));
-    Ok(reply)
+pub(crate) fn both(rt: &impl Abort, alloc: Global, pair: &mut Pair, call: Call) -> Reply {
+    let reply = made(rt, alloc, &mut pair.one, &call);
+    let other = made(rt, alloc, &mut pair.other, &call);
+    holds(rt, is_same_reply(&reply, &other));
+    same(rt, read(&pair.one), read(&pair.other));
+    reply
 }
 
 // Both are done.
-pub(crate) fn done(
-    rt: &impl Abort,
-    alloc: Global,
-    pair: &mut Pair,
-    call: Call,
-) -> Result<(), Fail> {
-    let reply = both(rt, alloc, pair, call)?;
-    assert!(rt; matches!(reply, Reply::Done(_)));
-    Ok(())
+pub(crate) fn done(rt: &impl Abort, alloc: Global, pair: &mut Pair, call: Call) {
+    let _events = is_done(rt, both(rt, alloc, pair, call));
 }

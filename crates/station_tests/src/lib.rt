@@ -2,6 +2,10 @@
 #![tactic(auto)]
 
 #[cfg(test)]
+mod checks;
+#[cfg(test)]
+mod frames;
+#[cfg(test)]
 mod lanes;
 #[cfg(test)]
 mod receivers;

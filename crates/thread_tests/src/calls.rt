@@ -1,34 +1,45 @@
-//! Calls of which a test only looks at the answer: their contracts are not carried through it. Want of memory is the error of each, and no
-//! answer, so that it ends the test.
+//! Calls of which a test only looks at the answer: their contracts are not carried through it. Want of memory is no answer, and ends the
+//! test.
+use crate::checks::got;
 use message_events::Bytes;
 use pgn_ids::{Address, Pgn};
 use segment_rings::{Client, SubmitRefused};
-use std::alloc::AllocError;
-use std::test::Fail;
+use std::alloc::{AllocError, Global};
+use std::process::Abort;
 
 pub(crate) const FECA: u32 = 0xFECA;
 
-pub(crate) fn feca() -> Result<Pgn, Fail> {
-    Ok(Pgn::new(FECA)?)
+pub(crate) fn feca(rt: &impl Abort) -> Pgn {
+    got(rt, Pgn::new(FECA))
 }
 
-/// What a client's submission is answered.
-pub(crate) type Submitted = Result<u64, SubmitRefused>;
+/// So many bytes, from this one on.
+pub(crate) fn bytes(rt: &impl Abort, alloc: Global, first: u8, many: u8) -> Bytes {
+    let mut all = Vec::new(alloc);
+    for k in 0..many {
+        got(rt, all.push(first.wrapping_add(k)));
+    }
+    Bytes::new(all)
+}
 
-// Submits a message. A refusal without a cause is want of memory.
+/// What a client's submission is answered. A refusal without a cause is want of memory.
 pub(crate) fn submitted(
+    rt: &impl Abort,
     client: &mut Client,
     to: Address,
     pgn: u32,
     bytes: Bytes,
-) -> Result<Submitted, AllocError> {
-    match client.submit(to, pgn, bytes) {
-        Ok(ticket) => Ok(Ok(ticket)),
-        Err(refused) => {
-            if refused.refusal.is_none() {
-                return Err(AllocError);
-            }
-            Ok(Err(refused))
-        }
+) -> Result<u64, SubmitRefused> {
+    let answer = client.submit(to, pgn, bytes);
+    if lacks_memory(&answer) {
+        got(rt, Err(AllocError))
+    }
+    answer
+}
+
+fn lacks_memory(answer: &Result<u64, SubmitRefused>) -> bool {
+    match answer {
+        Ok(_) => false,
+        Err(refused) => refused.refusal.is_none(),
     }
 }

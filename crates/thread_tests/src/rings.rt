@@ -1,5 +1,8 @@
 //! Both ends of each ring on one thread: each call on its happy path, full and empty rings, and places that are free again.
+ghost use Rattle.std.specs.Prelude.{◌≡◌};
+
 use crate::calls::*;
+use crate::checks::{got, holds, same};
 use message_events::Bytes;
 use pgn_ids::Address;
 use port_table::PortId;
@@ -7,10 +10,9 @@ use segment_law::Refusal;
 use segment_rings::{
     Buffer, Client, Delivery, Door, Doorway, Inbox, Note, Offer, Seat, Submission,
 };
-use std::alloc::{AllocError, Global};
+use std::alloc::Global;
 use std::process::Abort;
 use std::sync::Wait;
-use std::test::Fail;
 use tp_wire::Outcome;
 
 const SENDER: Address = Address(0x21);
@@ -19,8 +21,8 @@ const RECEIVER: Address = Address(0x35);
 
 const NINE: [u8; 9] = [1, 2, 3, 4, 5, 6, 7, 8, 9];
 
-fn nine(alloc: Global) -> Result<Bytes, AllocError> {
-    Ok(Bytes::new(Vec::from_slice(alloc, &NINE)?))
+fn nine(rt: &impl Abort, alloc: Global) -> Bytes {
+    bytes(rt, alloc, 1, 9)
 }
 
 fn note_of(ticket: u64) -> Note {
@@ -32,22 +34,32 @@ fn note_of(ticket: u64) -> Note {
     }
 }
 
-fn delivery(alloc: Global) -> Result<Delivery, Fail> {
-    Ok(Delivery {
+fn delivery(rt: &impl Abort, alloc: Global) -> Delivery {
+    Delivery {
         from: SENDER,
         to: RECEIVER,
-        pgn: feca()?,
-        bytes: nine(alloc)?,
-    })
+        pgn: feca(rt),
+        bytes: nine(rt, alloc),
+    }
+}
+
+// The same delivery once more.
+fn again(rt: &impl Abort, alloc: Global, delivery: &Delivery) -> Delivery
+    ensures { result ≡ delivery.now }
+{
+    let room = got(rt, Buffer::new(alloc, delivery.bytes.len()));
+    Delivery {
+        from: delivery.from,
+        to: delivery.to,
+        pgn: delivery.pgn,
+        bytes: room.filled(&delivery.bytes),
+    }
 }
 
 // Submits nine bytes to 35, which is accepted with this ticket.
-fn submits(rt: &impl Abort, alloc: Global, client: &mut Client, ticket: u64) -> Result<(), Fail> {
-    match submitted(client, RECEIVER, FECA, nine(alloc)?)? {
-        Ok(got) => assert_eq!(rt; got, ticket),
-        Err(refused) => panic!(rt; "{refused:?}"),
-    }
-    Ok(())
+fn submits(rt: &impl Abort, alloc: Global, client: &mut Client, ticket: u64) {
+    let answer = submitted(rt, client, RECEIVER, FECA, nine(rt, alloc));
+    same(rt, got(rt, answer), ticket);
 }
 
 // Submits bytes, which come back for this cause.
@@ -58,33 +70,23 @@ fn is_refused(
     pgn: u32,
     bytes: Bytes,
     cause: Refusal,
-) -> Result<(), Fail> {
+) {
     let len = bytes.len();
-    match submitted(client, to, pgn, bytes)? {
-        Ok(_) => panic!(rt; "submitted"),
-        Err(refused) => {
-            assert!(rt; refused.refusal == Some(cause));
-            assert_eq!(rt; refused.bytes.len(), len);
-        }
-    }
-    Ok(())
+    let answer = submitted(rt, client, to, pgn, bytes).err();
+    let refused = got(rt, answer.ok_or("submitted"));
+    same(rt, refused.refusal, Some(cause));
+    same(rt, refused.bytes.len(), len);
 }
 
 // Gives one delivery, where the ring has a place, and tells whether it had.
-fn give_one(alloc: Global, door: &mut Door) -> Result<bool, Fail> {
-    let pushed = delivery(alloc)?;
-    let bytes = Buffer::new(alloc, pushed.bytes.len())?.filled(&pushed.bytes);
-    if !door.prepare(1)? {
-        return Ok(false);
+fn give_one(rt: &impl Abort, alloc: Global, door: &mut Door) -> bool {
+    let pushed = delivery(rt, alloc);
+    let kept = again(rt, alloc, &pushed);
+    if !got(rt, door.prepare(1)) {
+        return false;
     }
-    let kept = Delivery {
-        from: pushed.from,
-        to: pushed.to,
-        pgn: pushed.pgn,
-        bytes,
-    };
     door.give(pushed, kept);
-    Ok(true)
+    true
 }
 
 // Takes the front submission, where there is one.
@@ -101,162 +103,165 @@ fn take_one(seat: &mut Seat) -> Option<Submission> {
 }
 
 // Makes a note, where a submission waits and the ring of notes has a place.
-fn note_one(seat: &mut Seat, ticket: u64) -> Result<bool, Fail> {
+fn note_one(rt: &impl Abort, seat: &mut Seat, ticket: u64) -> bool {
     match seat.offer(0) {
         Offer::Ready => {
-            seat.reserve(1)?;
+            got(rt, seat.reserve(1));
             seat.note(note_of(ticket));
-            Ok(true)
+            true
         }
-        Offer::Empty | Offer::Owed => Ok(false),
+        Offer::Empty | Offer::Owed => false,
     }
 }
 
-// A test's steps are functions of their own, which own nothing: where a step can end a test, what the test owns is dropped there, and each
-// such place takes its part of the proof.
+// A test's steps are functions of their own, which own nothing: what a test owns is carried through the proof of each of its steps, which
+// took twice as long where they stood in the test.
 fn takes_nine(rt: &impl Abort, seat: &mut Seat) {
-    match take_one(seat) {
-        Some(submission) => {
-            assert!(rt; submission.to == RECEIVER && submission.pgn.raw() == FECA);
-            assert!(rt; submission.bytes.as_slice() == NINE.as_slice());
-        }
-        None => panic!(rt; "nothing waits"),
-    }
+    let submission = got(rt, take_one(seat).ok_or("nothing waits"));
+    is_submitted(rt, &submission);
+    drop(submission);
+}
+
+fn is_submitted(rt: &impl Abort, submission: &Submission) {
+    same(rt, submission.to, RECEIVER);
+    same(rt, submission.pgn.raw(), FECA);
+    holds(rt, submission.bytes.as_slice() == NINE.as_slice());
 }
 
 fn are_of_the_sender(rt: &impl Abort, seat: &Seat, client: &Client) {
-    assert!(rt; client.id() == 3 && seat.id() == 3);
-    assert!(rt; client.station() == SENDER && seat.station() == SENDER);
+    same(rt, client.id(), 3);
+    same(rt, seat.id(), 3);
+    same(rt, client.station(), SENDER);
+    same(rt, seat.station(), SENDER);
 }
 
-fn reads_its_note(rt: &(impl Abort + Wait), client: &mut Client) -> Result<(), Fail> {
-    assert!(rt; client.try_outcome()? == Some(note_of(1)));
-    assert!(rt; client.outcome(rt, 2)?.is_none());
-    Ok(())
+fn reads(rt: &impl Abort, client: &mut Client, expected: Option<Note>) {
+    same(rt, got(rt, client.try_outcome()), expected);
 }
 
 fn are_counted(rt: &impl Abort, seat: &Seat, client: &Client) {
-    assert_eq!(rt; seat.taken(), 1);
-    assert!(rt;
-        client.submitted().len() == 1 && client.read().len() == 1 && seat.notes().len() == 1
-    );
+    same(rt, seat.taken(), 1);
+    same(rt, client.submitted().len(), 1);
+    same(rt, client.read().len(), 1);
+    same(rt, seat.notes().len(), 1);
 }
 
 fn closes(rt: &impl Abort, seat: &mut Seat) {
-    assert!(rt; seat.is_active());
+    holds(rt, seat.is_active());
     seat.close();
-    assert!(rt; !seat.is_active());
+    holds(rt, !seat.is_active());
 }
 
-fn take_and_read(
-    rt: &(impl Abort + Wait),
-    alloc: Global,
-    seat: &mut Seat,
-    client: &mut Client,
-) -> Result<(), Fail> {
+fn take_and_read(rt: &(impl Abort + Wait), alloc: Global, seat: &mut Seat, client: &mut Client) {
     are_of_the_sender(rt, seat, client);
-    assert!(rt; take_one(seat).is_none());
-    submits(rt, alloc, client, 1)?;
-    assert!(rt; note_one(seat, 1)?);
+    holds(rt, take_one(seat).is_none());
+    submits(rt, alloc, client, 1);
+    holds(rt, note_one(rt, seat, 1));
     takes_nine(rt, seat);
-    reads_its_note(rt, client)?;
+    reads(rt, client, Some(note_of(1)));
+    same(rt, got(rt, client.outcome(rt, 2)), None);
     are_counted(rt, seat, client);
     closes(rt, seat);
-    Ok(())
 }
 
 #[test]
-fn a_submission_is_taken_and_its_note_is_read(rt: HostRuntime) -> Result<(), Fail> {
-    let (mut seat, mut client) = Seat::new(rt.alloc(), 3, SENDER)?;
-    take_and_read(&rt, rt.alloc(), &mut seat, &mut client)
+fn a_submission_is_taken_and_its_note_is_read(rt: HostRuntime) {
+    let (mut seat, mut client) = got(&rt, Seat::new(rt.alloc(), 3, SENDER));
+    take_and_read(&rt, rt.alloc(), &mut seat, &mut client);
+    drop(seat);
+    drop(client);
 }
 
-fn close_and_note(
-    rt: &impl Abort,
-    alloc: Global,
-    seat: &mut Seat,
-    client: &mut Client,
-) -> Result<(), Fail> {
-    submits(rt, alloc, client, 1)?;
+// Closes a seat with room for a note and a submission waiting, and then makes the note.
+fn note_after_the_end(rt: &impl Abort, seat: &mut Seat) {
     match seat.offer(0) {
         Offer::Ready => {
-            seat.reserve(1)?;
+            got(rt, seat.reserve(1));
             seat.close();
             seat.note(note_of(1));
         }
         Offer::Empty | Offer::Owed => panic!(rt; "nothing waits"),
     }
-    assert!(rt; client.try_outcome()?.is_none());
-    assert_eq!(rt; seat.notes().len(), 1);
-    Ok(())
+}
+
+fn close_and_note(rt: &impl Abort, alloc: Global, seat: &mut Seat, client: &mut Client) {
+    submits(rt, alloc, client, 1);
+    note_after_the_end(rt, seat);
+    reads(rt, client, None);
+    same(rt, seat.notes().len(), 1);
 }
 
 #[test]
-fn a_note_after_the_end_goes_into_no_ring(rt: HostRuntime) -> Result<(), Fail> {
-    let (mut seat, mut client) = Seat::new(rt.alloc(), 0, SENDER)?;
-    close_and_note(&rt, rt.alloc(), &mut seat, &mut client)
+fn a_note_after_the_end_goes_into_no_ring(rt: HostRuntime) {
+    let (mut seat, mut client) = got(&rt, Seat::new(rt.alloc(), 0, SENDER));
+    close_and_note(&rt, rt.alloc(), &mut seat, &mut client);
+    drop(seat);
+    drop(client);
 }
 
-fn refuse(rt: &impl Abort, alloc: Global, client: &mut Client) -> Result<(), Fail> {
-    for (to, pgn, cause) in [
-        (Address::NULL, 0xEC21, Refusal::BadPgn),
-        (Address::NULL, FECA, Refusal::NoSuchStation),
-        (SENDER, FECA, Refusal::SameStation),
-    ] {
-        is_refused(rt, client, to, pgn, nine(alloc)?, cause)?;
+// To whom how many bytes aren't to be sent on which PGN, and why.
+const UNSENDABLE: [(Address, u32, u8, Refusal); 4] = [
+    (Address::NULL, 0xEC21, 9, Refusal::BadPgn),
+    (Address::NULL, FECA, 9, Refusal::NoSuchStation),
+    (SENDER, FECA, 9, Refusal::SameStation),
+    (RECEIVER, FECA, 0, Refusal::TooShort),
+];
+
+fn refuse(rt: &impl Abort, alloc: Global, client: &mut Client) {
+    for (to, pgn, many, cause) in &UNSENDABLE {
+        is_refused(rt, client, *to, *pgn, bytes(rt, alloc, 1, *many), *cause);
     }
-    let empty = Bytes::new(Vec::new(alloc));
-    is_refused(rt, client, RECEIVER, FECA, empty, Refusal::TooShort)?;
-    assert_eq!(rt; client.submitted().len(), 0);
-    Ok(())
+    same(rt, client.submitted().len(), 0);
 }
 
 #[test]
-fn what_is_not_to_be_sent_comes_back(rt: HostRuntime) -> Result<(), Fail> {
-    let (_seat, mut client) = Seat::new(rt.alloc(), 0, SENDER)?;
-    refuse(&rt, rt.alloc(), &mut client)
+fn what_is_not_to_be_sent_comes_back(rt: HostRuntime) {
+    let (seat, mut client) = got(&rt, Seat::new(rt.alloc(), 0, SENDER));
+    refuse(&rt, rt.alloc(), &mut client);
+    drop(seat);
+    drop(client);
 }
 
-fn fill_submissions(
-    rt: &impl Abort,
-    alloc: Global,
-    seat: &mut Seat,
-    client: &mut Client,
-) -> Result<(), Fail> {
+fn fill_submissions(rt: &impl Abort, alloc: Global, seat: &mut Seat, client: &mut Client) {
     for ticket in 1..65u64 {
-        submits(rt, alloc, client, ticket)?;
+        submits(rt, alloc, client, ticket);
     }
-    is_refused(rt, client, RECEIVER, FECA, nine(alloc)?, Refusal::RingFull)?;
+    is_refused(
+        rt,
+        client,
+        RECEIVER,
+        FECA,
+        nine(rt, alloc),
+        Refusal::RingFull,
+    );
     takes_nine(rt, seat);
-    submits(rt, alloc, client, 65)
+    submits(rt, alloc, client, 65);
 }
 
 #[test]
-fn a_full_ring_of_submissions_has_a_place_again(rt: HostRuntime) -> Result<(), Fail> {
-    let (mut seat, mut client) = Seat::new(rt.alloc(), 0, SENDER)?;
-    fill_submissions(&rt, rt.alloc(), &mut seat, &mut client)
+fn a_full_ring_of_submissions_has_a_place_again(rt: HostRuntime) {
+    let (mut seat, mut client) = got(&rt, Seat::new(rt.alloc(), 0, SENDER));
+    fill_submissions(&rt, rt.alloc(), &mut seat, &mut client);
+    drop(seat);
+    drop(client);
 }
 
-fn fill_notes(
-    rt: &impl Abort,
-    alloc: Global,
-    seat: &mut Seat,
-    client: &mut Client,
-) -> Result<(), Fail> {
-    submits(rt, alloc, client, 1)?;
+fn fill_notes(rt: &impl Abort, alloc: Global, seat: &mut Seat, client: &mut Client) {
+    submits(rt, alloc, client, 1);
     for ticket in 1..65u64 {
-        assert!(rt; note_one(seat, ticket)?);
+        holds(rt, note_one(rt, seat, ticket));
     }
-    assert!(rt; !note_one(seat, 65)?);
-    assert!(rt; client.try_outcome()? == Some(note_of(1)));
-    assert!(rt; note_one(seat, 65)?);
-    Ok(())
+    holds(rt, !note_one(rt, seat, 65));
+    reads(rt, client, Some(note_of(1)));
+    holds(rt, note_one(rt, seat, 65));
 }
 
 #[test]
-fn a_full_ring_of_notes_has_a_place_again(rt: HostRuntime) -> Result<(), Fail> {
-    let (mut seat, mut client) = Seat::new(rt.alloc(), 0, SENDER)?;
-    fill_notes(&rt, rt.alloc(), &mut seat, &mut client)
+fn a_full_ring_of_notes_has_a_place_again(rt: HostRuntime) {
+    let (mut seat, mut client) = got(&rt, Seat::new(rt.alloc(), 0, SENDER));
+    fill_notes(&rt, rt.alloc(), &mut seat, &mut client);
+    drop(seat);
+    drop(client);
 }
 
 const PORT: PortId = PortId {
@@ -265,67 +270,77 @@ const PORT: PortId = PortId {
 };
 
 // The front delivery is nine bytes of 21.
-fn receives_nine(rt: &(impl Abort + Wait), inbox: &mut Inbox) -> Result<(), Fail> {
-    match inbox.receive(rt, 2)? {
-        Some(given) => {
-            assert!(rt; given.from == SENDER && given.to == RECEIVER && given.pgn.raw() == FECA);
-            assert!(rt; given.bytes.as_slice() == NINE.as_slice());
-        }
-        None => panic!(rt; "nothing came"),
-    }
-    Ok(())
+fn receives_nine(rt: &(impl Abort + Wait), inbox: &mut Inbox) {
+    let came = got(rt, inbox.receive(rt, 2));
+    let given = got(rt, came.ok_or("nothing came"));
+    is_given(rt, &given);
+    drop(given);
 }
 
-fn fill_deliveries(
-    rt: &(impl Abort + Wait),
-    alloc: Global,
-    door: &mut Door,
-    inbox: &mut Inbox,
-) -> Result<(), Fail> {
-    assert!(rt; door.port() == PORT && inbox.port() == PORT);
-    assert!(rt; inbox.try_receive()?.is_none());
+fn is_given(rt: &impl Abort, given: &Delivery) {
+    same(rt, given.from, SENDER);
+    same(rt, given.to, RECEIVER);
+    same(rt, given.pgn.raw(), FECA);
+    holds(rt, given.bytes.as_slice() == NINE.as_slice());
+}
+
+fn receives_nothing(rt: &impl Abort, inbox: &mut Inbox) {
+    holds(rt, got(rt, inbox.try_receive()).is_none());
+}
+
+fn are_of_the_port(rt: &impl Abort, door: &Door, inbox: &Inbox) {
+    same(rt, door.port(), PORT);
+    same(rt, inbox.port(), PORT);
+}
+
+fn fill_deliveries(rt: &(impl Abort + Wait), alloc: Global, door: &mut Door, inbox: &mut Inbox) {
+    are_of_the_port(rt, door, inbox);
+    receives_nothing(rt, inbox);
     for _ in 0..64 {
-        assert!(rt; give_one(alloc, door)?);
+        holds(rt, give_one(rt, alloc, door));
     }
-    assert!(rt; !give_one(alloc, door)?);
-    receives_nine(rt, inbox)?;
-    assert!(rt; give_one(alloc, door)?);
-    assert!(rt; door.deliveries().len() == 65 && inbox.received().len() == 1);
-    Ok(())
+    holds(rt, !give_one(rt, alloc, door));
+    receives_nine(rt, inbox);
+    holds(rt, give_one(rt, alloc, door));
+    same(rt, door.deliveries().len(), 65);
+    same(rt, inbox.received().len(), 1);
 }
 
 #[test]
-fn a_full_ring_of_deliveries_has_a_place_again(rt: HostRuntime) -> Result<(), Fail> {
-    let (mut door, mut inbox) = Doorway::new(rt.alloc())?.open(PORT);
-    fill_deliveries(&rt, rt.alloc(), &mut door, &mut inbox)
+fn a_full_ring_of_deliveries_has_a_place_again(rt: HostRuntime) {
+    let (mut door, mut inbox) = got(&rt, Doorway::new(rt.alloc())).open(PORT);
+    fill_deliveries(&rt, rt.alloc(), &mut door, &mut inbox);
+    drop(door);
+    drop(inbox);
 }
 
 // Closes an inbox, and gives it one delivery as the rest that was left.
-fn close_with_rest(alloc: Global, inbox: &mut Inbox) -> Result<(), Fail> {
-    inbox.reserve(1)?;
-    let rest = vec![in alloc; delivery(alloc)?]?;
+fn close_with_rest(rt: &impl Abort, alloc: Global, inbox: &mut Inbox) {
+    got(rt, inbox.reserve(1));
+    let rest = got(rt, vec![in alloc; delivery(rt, alloc)]);
     inbox.close(rest);
-    Ok(())
 }
 
-fn close_inbox(
-    rt: &impl Abort,
-    alloc: Global,
-    door: &mut Door,
-    inbox: &mut Inbox,
-) -> Result<(), Fail> {
-    assert!(rt; give_one(alloc, door)?);
-    close_with_rest(alloc, inbox)?;
-    assert!(rt; inbox.is_closed() && inbox.received().len() == 1);
-    assert!(rt; inbox.try_receive()?.is_none());
-    assert!(rt; door.is_active());
+fn closes_door(rt: &impl Abort, alloc: Global, door: &mut Door) {
+    holds(rt, door.is_active());
     door.close();
-    assert!(rt; !door.is_active() && !give_one(alloc, door)?);
-    Ok(())
+    holds(rt, !door.is_active());
+    holds(rt, !give_one(rt, alloc, door));
+}
+
+fn close_both(rt: &impl Abort, alloc: Global, door: &mut Door, inbox: &mut Inbox) {
+    holds(rt, give_one(rt, alloc, door));
+    close_with_rest(rt, alloc, inbox);
+    holds(rt, inbox.is_closed());
+    same(rt, inbox.received().len(), 1);
+    receives_nothing(rt, inbox);
+    closes_door(rt, alloc, door);
 }
 
 #[test]
-fn a_closed_inbox_gives_nothing(rt: HostRuntime) -> Result<(), Fail> {
-    let (mut door, mut inbox) = Doorway::new(rt.alloc())?.open(PORT);
-    close_inbox(&rt, rt.alloc(), &mut door, &mut inbox)
+fn a_closed_inbox_gives_nothing(rt: HostRuntime) {
+    let (mut door, mut inbox) = got(&rt, Doorway::new(rt.alloc())).open(PORT);
+    close_both(&rt, rt.alloc(), &mut door, &mut inbox);
+    drop(door);
+    drop(inbox);
 }

@@ -1,31 +1,34 @@
 //! The words of `decode`.
 use super::{answers, tells, words_of};
+use crate::checks::{got, holds};
 use command_line::{Asked, OfLog, read_command_line};
 use std::alloc::Global;
 use std::process::Abort;
-use std::test::Fail;
 
-fn asked(alloc: Global, all: &[&str]) -> Result<OfLog, Fail> {
-    let words = words_of(alloc, all)?;
-    match read_command_line(alloc, words.as_slice())? {
-        Asked::Decode(asked) => Ok(asked),
-        _ => Err(Fail::new("another command")),
+fn asked(rt: &impl Abort, alloc: Global, all: &[&str]) -> OfLog {
+    let words = got(rt, words_of(alloc, all));
+    match got(rt, read_command_line(alloc, words.as_slice())) {
+        Asked::Decode(asked) => asked,
+        _ => panic!(rt; "another command"),
     }
 }
 
 #[test]
-fn a_log_is_asked_for(rt: HostRuntime) -> Result<(), Fail> {
+fn a_log_is_asked_for(rt: HostRuntime) {
     let alloc = rt.alloc();
-    let asked = asked(alloc, &["j1939bus", "decode"])?;
-    assert!(rt; asked.pgns.is_empty() && asked.from.is_empty() && asked.to.is_empty());
-    assert!(rt; asked.most == 117_440_505 && !asked.singles);
-    Ok(())
+    let asked = asked(&rt, alloc, &["j1939bus", "decode"]);
+    holds(
+        &rt,
+        asked.pgns.is_empty() && asked.from.is_empty() && asked.to.is_empty(),
+    );
+    holds(&rt, asked.most == 117_440_505 && !asked.singles);
 }
 
 #[test]
-fn parts_of_a_log_are_asked_for(rt: HostRuntime) -> Result<(), Fail> {
+fn parts_of_a_log_are_asked_for(rt: HostRuntime) {
     let alloc = rt.alloc();
     let asked = asked(
+        &rt,
         alloc,
         &[
             "j1939bus",
@@ -42,34 +45,27 @@ fn parts_of_a_log_are_asked_for(rt: HostRuntime) -> Result<(), Fail> {
             "1785",
             "--all",
         ],
-    )?;
-    assert!(rt; asked.pgns.as_slice() == [0xFECA, 0x3_FFFF].as_slice());
-    assert!(rt; asked.from.as_slice() == [0x21].as_slice());
-    assert!(rt; asked.to.as_slice() == [0xFF].as_slice());
-    assert!(rt; asked.most == 1_785 && asked.singles);
-    Ok(())
+    );
+    holds(&rt, asked.pgns.as_slice() == [0xFECA, 0x3_FFFF].as_slice());
+    holds(&rt, asked.from.as_slice() == [0x21].as_slice());
+    holds(&rt, asked.to.as_slice() == [0xFF].as_slice());
+    holds(&rt, asked.most == 1_785 && asked.singles);
 }
 
-fn refuses(
-    rt: &impl Abort,
-    alloc: Global,
-    option: &str,
-    value: &str,
-    told: &str,
-) -> Result<(), Fail> {
+fn refuses(rt: &impl Abort, alloc: Global, option: &str, value: &str, told: &str) {
     tells(rt, alloc, &["j1939bus", "decode", option, value], told)
 }
 
 #[test]
-fn other_numbers_are_refused(rt: HostRuntime) -> Result<(), Fail> {
+fn other_numbers_are_refused(rt: HostRuntime) {
     let alloc = rt.alloc();
     let told = "invalid value '40000' for '--pgn': not a hexadecimal number up to 3FFFF";
-    refuses(&rt, alloc, "--pgn", "40000", told)?;
-    refuses(&rt, alloc, "--pgn", "+1", "invalid value '+1'")?;
+    refuses(&rt, alloc, "--pgn", "40000", told);
+    refuses(&rt, alloc, "--pgn", "+1", "invalid value '+1'");
     let told = "invalid value '100' for '--from': not a hexadecimal number up to FF";
-    refuses(&rt, alloc, "--from", "100", told)?;
-    refuses(&rt, alloc, "--to", "G", "invalid value 'G'")?;
-    refuses(&rt, alloc, "--max-bytes", "0", "invalid value '0'")?;
+    refuses(&rt, alloc, "--from", "100", told);
+    refuses(&rt, alloc, "--to", "G", "invalid value 'G'");
+    refuses(&rt, alloc, "--max-bytes", "0", "invalid value '0'");
     refuses(
         &rt,
         alloc,
@@ -114,7 +110,7 @@ docs/LOGS.md describes what is read and printed.
 ";
 
 #[test]
-fn help_says_what_is_read_and_printed(rt: HostRuntime) -> Result<(), Fail> {
+fn help_says_what_is_read_and_printed(rt: HostRuntime) {
     answers(
         &rt,
         rt.alloc(),

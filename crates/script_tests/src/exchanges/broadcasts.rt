@@ -1,6 +1,5 @@
 //! Broadcasts.
 use super::{Exchange, add_with_address, all_shown};
-use std::test::Fail;
 
 /// A broadcast of nine bytes, driven to its end.
 const NINE_BYTES: (&str, &str) = (
@@ -20,7 +19,7 @@ drove 3 turns\n\
 );
 
 #[test]
-fn broadcast_of_nine_bytes_is_given(rt: HostRuntime) -> Result<(), Fail> {
+fn broadcast_of_nine_bytes_is_given(rt: HostRuntime) {
     all_shown(&rt, rt.alloc(), &[NINE_BYTES])
 }
 
@@ -45,17 +44,17 @@ done\n",
 );
 
 #[test]
-fn broadcast_frames_are_fifty_ticks_apart(rt: HostRuntime) -> Result<(), Fail> {
+fn broadcast_frames_are_fifty_ticks_apart(rt: HostRuntime) {
     all_shown(&rt, rt.alloc(), &[FIFTY_TICKS])
 }
 
 #[test]
-fn a_pump_needs_eight_free_places(rt: HostRuntime) -> Result<(), Fail> {
+fn a_pump_needs_eight_free_places(rt: HostRuntime) {
     let alloc = rt.alloc();
-    let mut exchange = Exchange::new(alloc)?;
-    exchange.lines("send 21 FF FECA fill 1785\n", "sent 1\n")?;
-    exchange.repeated(57, "pump 21 FF\ntick 50\n", "done\ndone\n")?;
-    exchange.lines("pump 21 FF\n", "refused 6 TxFull\n")?;
+    let mut exchange = Exchange::new(&rt, alloc);
+    exchange.lines(&rt, "send 21 FF FECA fill 1785\n", "sent 1\n");
+    exchange.repeated(&rt, 57, "pump 21 FF\ntick 50\n", "done\ndone\n");
+    exchange.lines(&rt, "pump 21 FF\n", "refused 6 TxFull\n");
     exchange.is_shown(&rt, alloc)
 }
 
@@ -102,20 +101,21 @@ done\n\
 );
 
 #[test]
-fn a_station_has_32_incoming_sessions(rt: HostRuntime) -> Result<(), Fail> {
+fn a_station_has_32_incoming_sessions(rt: HostRuntime) {
     let alloc = rt.alloc();
     let mut exchange = Exchange::empty(alloc);
     exchange.lines(
+        &rt,
         "stations 00 01 02 03 04 05 06 07 08 09 0A 0B 0C 0D 0E 0F \
 10 11 12 13 14 15 16 17 18 19 1A 1B 1C 1D 1E 1F\n\
 open 1F FECA 1785\n",
         "done\nopened 1F.1\n",
-    )?;
+    );
     for station in 0x00..=0x1E {
-        add_with_address(&mut exchange.script, station, &BEGINNING)?;
-        add_with_address(&mut exchange.text, station, &BEGUN)?;
+        add_with_address(&rt, &mut exchange.script, station, &BEGINNING);
+        add_with_address(&rt, &mut exchange.text, station, &BEGUN);
     }
     let (script, text) = CONNECTIONS;
-    exchange.lines(script, text)?;
+    exchange.lines(&rt, script, text);
     exchange.is_shown(&rt, alloc)
 }

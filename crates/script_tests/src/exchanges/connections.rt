@@ -1,6 +1,5 @@
 //! Connections by single calls.
 use super::all_shown;
-use std::test::Fail;
 
 /// Each frame is taken and taken again at both stations; the repeated RTS is answered again.
 const TAKEN_TWICE: (&str, &str) = (
@@ -95,7 +94,7 @@ frames 6 malformed 0 repeated 12 given 1 Acknowledged 1 Broadcast 0 Aborted 0 Ti
 );
 
 #[test]
-fn frames_taken_twice_count_once(rt: HostRuntime) -> Result<(), Fail> {
+fn frames_taken_twice_count_once(rt: HostRuntime) {
     all_shown(&rt, rt.alloc(), &[TAKEN_TWICE])
 }
 
@@ -154,7 +153,7 @@ frames 5 malformed 0 repeated 0 given 2 Acknowledged 1 Broadcast 0 Aborted 0 Tim
 );
 
 #[test]
-fn each_port_is_given_the_bytes(rt: HostRuntime) -> Result<(), Fail> {
+fn each_port_is_given_the_bytes(rt: HostRuntime) {
     all_shown(&rt, rt.alloc(), &[PORTS_OF_ONE_GROUP])
 }
 
@@ -278,7 +277,7 @@ done\n\
 );
 
 #[test]
-fn a_session_that_ends_early_gives_nothing(rt: HostRuntime) -> Result<(), Fail> {
+fn a_session_that_ends_early_gives_nothing(rt: HostRuntime) {
     all_shown(
         &rt,
         rt.alloc(),

@@ -1,11 +1,11 @@
 //! Faults in the middle of a script: what was printed until then stays, and nothing is printed from then on.
 use super::add;
+use crate::checks::{got, holds, same};
 use crate::scripts::ran;
 use bus_script::{Cause, Fault, Ran, run_script};
-use std::alloc::Global;
+use std::alloc::{AllocError, Global};
 use std::io;
 use std::io::{BufReader, Error, ErrorKind, Read, Write};
-use std::test::Fail;
 
 /// Faults of a fourth line; of several the first in their order is told.
 const FAULTS: [(&str, Fault); 7] = [
@@ -19,47 +19,49 @@ const FAULTS: [(&str, Fault); 7] = [
 ];
 
 #[test]
-fn a_fault_ends_the_script_at_its_line(rt: HostRuntime) -> Result<(), Fail> {
+fn a_fault_ends_the_script_at_its_line(rt: HostRuntime) {
     let alloc = rt.alloc();
     let text = "done\nopened 35.1\ndone\n";
     for (line, fault) in FAULTS {
         let mut script = String::new(alloc);
-        add(&mut script, "stations 21 35\nopen 35 FECA 4000\ntick 1\n")?;
-        add(&mut script, line)?;
-        add(&mut script, "\ntick 1\ntick 1\n")?;
+        add(
+            &rt,
+            &mut script,
+            "stations 21 35\nopen 35 FECA 4000\ntick 1\n",
+        );
+        add(&rt, &mut script, line);
+        add(&rt, &mut script, "\ntick 1\ntick 1\n");
         let mut out = Vec::new(alloc);
         let ran = ran(&rt, alloc, script.as_bytes(), &mut out, text);
         let told = ran.fault.expect(&rt, "a fault");
-        assert_eq!(rt; told.line, 4);
-        assert_eq!(rt; told.cause, Cause::Fault(fault));
-        assert_eq!(rt; ran.status(), 1);
-        assert_eq!(rt; out.as_slice(), text.as_bytes());
+        same(&rt, told.line, 4);
+        same(&rt, told.cause, Cause::Fault(fault));
+        same(&rt, ran.status(), 1);
+        same(&rt, out.as_slice(), text.as_bytes());
     }
-    Ok(())
 }
 
 #[test]
-fn a_line_is_too_long_before_it_is_not_ascii(rt: HostRuntime) -> Result<(), Fail> {
+fn a_line_is_too_long_before_it_is_not_ascii(rt: HostRuntime) {
     let alloc = rt.alloc();
     for (pairs, fault) in [(4096, Fault::NotAscii), (4097, Fault::LineTooLong)] {
         let mut script = String::new(alloc);
-        add(&mut script, "stations 21\n")?;
+        add(&rt, &mut script, "stations 21\n");
         for _ in 0..pairs {
-            add(&mut script, "\u{E9}")?;
+            add(&rt, &mut script, "\u{E9}");
         }
-        add(&mut script, "\ntick 1\n")?;
+        add(&rt, &mut script, "\ntick 1\n");
         let mut out = Vec::new(alloc);
         let ran = ran(&rt, alloc, script.as_bytes(), &mut out, "done\n");
         let told = ran.fault.expect(&rt, "a fault");
-        assert_eq!(rt; told.line, 2);
-        assert_eq!(rt; told.cause, Cause::Fault(fault));
-        assert_eq!(rt; out.as_slice(), b"done\n".as_slice());
+        same(&rt, told.line, 2);
+        same(&rt, told.cause, Cause::Fault(fault));
+        same(&rt, out.as_slice(), b"done\n".as_slice());
     }
-    Ok(())
 }
 
 /// A vector with room for what is written to it, so that no write to it fails.
-fn roomy(alloc: Global) -> Result<Vec<u8>, Fail> {
+fn roomy(alloc: Global) -> Result<Vec<u8>, AllocError> {
     let mut bytes = Vec::new(alloc);
     if bytes.reserve(64).is_err() {
         bytes.reserve(64)?;
@@ -131,28 +133,26 @@ fn run_failing(alloc: Global, reads_before: u64, kind: ErrorKind, out: &mut Vec<
 }
 
 #[test]
-fn nothing_is_printed_after_a_failed_read(rt: HostRuntime) -> Result<(), Fail> {
+fn nothing_is_printed_after_a_failed_read(rt: HostRuntime) {
     let alloc = rt.alloc();
-    let mut out = roomy(alloc)?;
+    let mut out = got(&rt, roomy(alloc));
     for reads_before in [19, 22, 25] {
         let ran = run_failing(alloc, reads_before, ErrorKind::Other, &mut out);
         let told = ran.fault.expect(&rt, "a fault");
-        assert_eq!(rt; told.line, 3);
-        assert_eq!(rt; told.cause, Cause::ReadFailed);
-        assert_eq!(rt; ran.status(), 1);
-        assert_eq!(rt; out.as_slice(), b"done\ndone\n".as_slice());
+        same(&rt, told.line, 3);
+        same(&rt, told.cause, Cause::ReadFailed);
+        same(&rt, ran.status(), 1);
+        same(&rt, out.as_slice(), b"done\ndone\n".as_slice());
     }
-    Ok(())
 }
 
 #[test]
-fn an_interrupted_read_is_made_again(rt: HostRuntime) -> Result<(), Fail> {
+fn an_interrupted_read_is_made_again(rt: HostRuntime) {
     let alloc = rt.alloc();
-    let mut out = roomy(alloc)?;
+    let mut out = got(&rt, roomy(alloc));
     let ran = run_failing(alloc, 22, ErrorKind::Interrupted, &mut out);
-    assert!(rt; ran.fault.is_none());
-    assert_eq!(rt; out.as_slice(), b"done\ndone\ndone\ndone\n".as_slice());
-    Ok(())
+    holds(&rt, ran.fault.is_none());
+    same(&rt, out.as_slice(), b"done\ndone\ndone\ndone\n".as_slice());
 }
 
 /// Holds what was written; one write or one flush fails, and those after it don't.
@@ -184,7 +184,7 @@ impl Write for RefusesOnce {
 }
 
 /// Runs the lines with one write or flush that fails; once more where memory was refused.
-fn run_refused(alloc: Global, write: u64, flush: u64) -> Result<(Ran, RefusesOnce), Fail> {
+fn run_refused(alloc: Global, write: u64, flush: u64) -> Result<(Ran, RefusesOnce), AllocError> {
     let mut writer = RefusesOnce {
         writes: 0,
         flushes: 0,
@@ -205,15 +205,14 @@ fn run_refused(alloc: Global, write: u64, flush: u64) -> Result<(Ran, RefusesOnc
 }
 
 #[test]
-fn nothing_is_written_after_a_failed_write(rt: HostRuntime) -> Result<(), Fail> {
+fn nothing_is_written_after_a_failed_write(rt: HostRuntime) {
     let alloc = rt.alloc();
     for (write, flush, taken) in [(2, 0, "done\n"), (0, 2, "done\ndone\n")] {
-        let (ran, writer) = run_refused(alloc, write, flush)?;
+        let (ran, writer) = got(&rt, run_refused(alloc, write, flush));
         let told = ran.fault.expect(&rt, "a fault");
-        assert_eq!(rt; told.cause, Cause::WriteFailed);
-        assert_eq!(rt; ran.status(), 1);
-        assert_eq!(rt; writer.writes, 2);
-        assert_eq!(rt; writer.taken.as_slice(), taken.as_bytes());
+        same(&rt, told.cause, Cause::WriteFailed);
+        same(&rt, ran.status(), 1);
+        same(&rt, writer.writes, 2);
+        same(&rt, writer.taken.as_slice(), taken.as_bytes());
     }
-    Ok(())
 }

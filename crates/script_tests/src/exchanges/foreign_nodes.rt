@@ -1,6 +1,5 @@
 //! Frames of foreign nodes, injected.
 use super::{Exchange, add_with_address, all_shown};
-use std::test::Fail;
 
 /// Each malformed frame counts where it is taken and is answered by nothing; a Request, also a padded one, is answered.
 const MALFORMED: (&str, &str) = (
@@ -77,7 +76,7 @@ frames 8 malformed 6 repeated 0 given 0 Acknowledged 0 Broadcast 0 Aborted 0 Tim
 );
 
 #[test]
-fn malformed_frames_are_counted(rt: HostRuntime) -> Result<(), Fail> {
+fn malformed_frames_are_counted(rt: HostRuntime) {
     all_shown(&rt, rt.alloc(), &[MALFORMED])
 }
 
@@ -143,7 +142,7 @@ done\n\
 );
 
 #[test]
-fn wrong_frames_abort_a_connection(rt: HostRuntime) -> Result<(), Fail> {
+fn wrong_frames_abort_a_connection(rt: HostRuntime) {
     all_shown(&rt, rt.alloc(), &[WRONG_ANNOUNCEMENTS, GRANT_OUT_OF_RANGE])
 }
 
@@ -169,16 +168,18 @@ done\n",
 );
 
 #[test]
-fn packets_are_sent_again_twice(rt: HostRuntime) -> Result<(), Fail> {
+fn packets_are_sent_again_twice(rt: HostRuntime) {
     let alloc = rt.alloc();
-    let mut exchange = Exchange::new(alloc)?;
+    let mut exchange = Exchange::new(&rt, alloc);
     exchange.lines(
+        &rt,
         "send 21 80 FECA 010203040506070809\npump 21 80\ntransmit 21\ntake 21\n",
         "sent 1\ndone\ndone\n\x20\x20put 1CEC8021 10 09 00 02 FF CA FE 00\ndone\n",
-    )?;
+    );
     let (script, text) = SENT_AGAIN;
-    exchange.repeated(3, script, text)?;
+    exchange.repeated(&rt, 3, script, text);
     exchange.lines(
+        &rt,
         "inject 1CEC2180 110201FFFFCAFE00\ntake 21\ntransmit 21\n",
         "done\n\
 \x20\x20put 1CEC2180 11 02 01 FF FF CA FE 00\n\
@@ -186,7 +187,7 @@ done\n\
 \x20\x20outcome 21 80 1 Aborted 5\n\
 done\n\
 \x20\x20put 1CEC8021 FF 05 FF FF FF CA FE 00\n",
-    )?;
+    );
     exchange.is_shown(&rt, alloc)
 }
 
@@ -249,22 +250,23 @@ const OPENED: [&str; 3] = [
 ];
 
 #[test]
-fn a_33rd_connection_is_aborted(rt: HostRuntime) -> Result<(), Fail> {
+fn a_33rd_connection_is_aborted(rt: HostRuntime) {
     let alloc = rt.alloc();
-    let mut exchange = Exchange::new(alloc)?;
+    let mut exchange = Exchange::new(&rt, alloc);
     let (script, text) = GROUP_OF_ONE_STATION;
-    exchange.lines(script, text)?;
+    exchange.lines(&rt, script, text);
     for source in 0x80..=0x9F {
-        add_with_address(&mut exchange.script, source, &OPENING)?;
-        add_with_address(&mut exchange.text, source, &OPENED)?;
+        add_with_address(&rt, &mut exchange.script, source, &OPENING);
+        add_with_address(&rt, &mut exchange.text, source, &OPENED);
     }
     exchange.lines(
+        &rt,
         "inject 1CEC35A0 10090002FFCAFE00\ntake 35\ntransmit 35\n",
         "done\n\
 \x20\x20put 1CEC35A0 10 09 00 02 FF CA FE 00\n\
 done\n\
 done\n\
 \x20\x20put 1CECA035 FF 01 FF FF FF CA FE 00\n",
-    )?;
+    );
     exchange.is_shown(&rt, alloc)
 }

@@ -1,10 +1,10 @@
 //! Readers and writers that fail, and what is flushed.
 use super::{fault_line, many};
+use crate::checks::{got, holds, same};
 use bus_script::{Cause, run_script};
 use std::cell::Cell;
 use std::io;
 use std::io::{BufReader, Error, ErrorKind, Read, Write};
-use std::test::Fail;
 
 /// Gives its text a few bytes at a time, and fails where it ends.
 #[derive(Drop)]
@@ -22,23 +22,22 @@ impl Read for Breaking<'_> {
 }
 
 #[test]
-fn a_failed_read_ends_the_script(rt: HostRuntime) -> Result<(), Fail> {
+fn a_failed_read_ends_the_script(rt: HostRuntime) {
     let alloc = rt.alloc();
-    let mut out = many(alloc, b' ', 0)?;
+    let mut out = got(&rt, many(alloc, b' ', 0));
     let breaking = Breaking {
         text: b"stations 21\ntick 5\nti",
     };
-    let mut reader = BufReader::new(alloc, breaking)?;
+    let mut reader = got(&rt, BufReader::new(alloc, breaking));
     let ran = run_script(alloc, &mut reader, &mut out);
     let fault = ran.fault.expect(&rt, "a fault");
     if fault.cause != Cause::OutOfMemory {
-        assert_eq!(rt; fault.cause, Cause::ReadFailed);
-        assert_eq!(rt; fault.line, 3);
-        assert_eq!(rt; ran.status(), 1);
-        let told = fault_line(alloc, fault)?;
-        assert_eq!(rt; told.as_str(), "line 3: read failed");
+        same(&rt, fault.cause, Cause::ReadFailed);
+        same(&rt, fault.line, 3);
+        same(&rt, ran.status(), 1);
+        let told = got(&rt, fault_line(alloc, fault));
+        same(&rt, told.as_str(), "line 3: read failed");
     }
-    Ok(())
 }
 
 /// Takes so many writes, and fails then; it holds what it took, for which it has the room beforehand.
@@ -63,23 +62,22 @@ impl Write for Failing {
 }
 
 #[test]
-fn a_failed_write_ends_the_script(rt: HostRuntime) -> Result<(), Fail> {
+fn a_failed_write_ends_the_script(rt: HostRuntime) {
     let alloc = rt.alloc();
     let mut writer = Failing {
         writes: 1,
-        taken: Vec::with_capacity(alloc, 5)?,
+        taken: got(&rt, Vec::with_capacity(alloc, 5)),
     };
     let script = b"stations 21\n\ntick 5\ntick 6";
     let ran = run_script(alloc, &mut script.as_slice(), &mut writer);
     let fault = ran.fault.expect(&rt, "a fault");
     if fault.cause != Cause::OutOfMemory && !ran.memory_refused {
-        assert_eq!(rt; fault.cause, Cause::WriteFailed);
-        assert_eq!(rt; ran.status(), 1);
-        let told = fault_line(alloc, fault)?;
-        assert_eq!(rt; told.as_str(), "write failed");
-        assert_eq!(rt; writer.taken.as_slice(), b"done\n".as_slice());
+        same(&rt, fault.cause, Cause::WriteFailed);
+        same(&rt, ran.status(), 1);
+        let told = got(&rt, fault_line(alloc, fault));
+        same(&rt, told.as_str(), "write failed");
+        same(&rt, writer.taken.as_slice(), b"done\n".as_slice());
     }
-    Ok(())
 }
 
 /// Gives a line only where all replies to the lines before were flushed.
@@ -127,18 +125,17 @@ impl Write for Answering<'_> {
 }
 
 #[test]
-fn a_reply_is_flushed_before_the_next_line_is_read(rt: HostRuntime) -> Result<(), Fail> {
+fn a_reply_is_flushed_before_the_next_line_is_read(rt: HostRuntime) {
     let owed = Cell::new(0);
     let asking = Asking {
         text: b"stations 21\ntick 5\ntick 6\n",
         owed: &owed,
     };
-    let mut reader = BufReader::new(rt.alloc(), asking)?;
+    let mut reader = got(&rt, BufReader::new(rt.alloc(), asking));
     let mut writer = Answering { owed: &owed };
     let ran = run_script(rt.alloc(), &mut reader, &mut writer);
     let refused = ran
         .fault
         .is_some_and(|fault| fault.cause == Cause::OutOfMemory);
-    assert!(rt; refused || ran.fault.is_none());
-    Ok(())
+    holds(&rt, refused || ran.fault.is_none());
 }

@@ -1,6 +1,6 @@
 //! Faults, each at its line.
 use super::{BEHIND, many, shows};
-use std::test::Fail;
+use crate::checks::got;
 
 /// Scripts that print nothing, and the line of the fault of each.
 const FIRST_LINES: [(&[u8], &str); 22] = [
@@ -29,10 +29,10 @@ const FIRST_LINES: [(&[u8], &str); 22] = [
 ];
 
 #[test]
-fn each_fault_has_its_line(rt: HostRuntime) -> Result<(), Fail> {
+fn each_fault_has_its_line(rt: HostRuntime) {
     let alloc = rt.alloc();
     for (script, fault) in FIRST_LINES {
-        shows(&rt, alloc, script, "", fault)?;
+        shows(&rt, alloc, script, "", fault);
     }
     for script in [
         "stations 21\nstations 21",
@@ -44,30 +44,29 @@ fn each_fault_has_its_line(rt: HostRuntime) -> Result<(), Fail> {
             script.as_bytes(),
             "done\n",
             "line 2: stations twice",
-        )?;
+        );
     }
-    Ok(())
 }
 
 #[test]
-fn lines_have_their_limits(rt: HostRuntime) -> Result<(), Fail> {
+fn lines_have_their_limits(rt: HostRuntime) {
     let alloc = rt.alloc();
-    let mut script = many(alloc, b' ', 8192)?;
-    shows(&rt, alloc, script.as_slice(), "", "")?;
-    script.push(b' ')?;
-    shows(&rt, alloc, script.as_slice(), "", "line 1: line too long")?;
-    let mut script = many(alloc, b'\n', 1_000_000)?;
-    shows(&rt, alloc, script.as_slice(), "", "")?;
-    script.push(b'x')?;
+    let mut script = got(&rt, many(alloc, b' ', 8192));
+    shows(&rt, alloc, script.as_slice(), "", "");
+    got(&rt, script.push(b' '));
+    shows(&rt, alloc, script.as_slice(), "", "line 1: line too long");
+    let mut script = got(&rt, many(alloc, b'\n', 1_000_000));
+    shows(&rt, alloc, script.as_slice(), "", "");
+    got(&rt, script.push(b'x'));
     shows(
         &rt,
         alloc,
         script.as_slice(),
         "",
         "line 1000001: too many lines",
-    )?;
-    let long = many(alloc, b' ', BEHIND)?;
-    script.extend_from_slice(long.as_slice())?;
+    );
+    let long = got(&rt, many(alloc, b' ', BEHIND));
+    got(&rt, script.extend_from_slice(long.as_slice()));
     shows(
         &rt,
         alloc,

@@ -1,234 +1,263 @@
 //! What comes to station 35.
-use super::{
-    B, FECA, answers, falls_due, fires, is_as_said, is_closed, is_malformed, is_paused, is_resumed,
-    is_silent, new_station, nothing_seen, open, overruns, see_all, take,
-};
-use bus_frame::{CanId, Frame};
-use pgn_ids::Pgn;
+use super::{B, new_station, open};
+use crate::checks::{got, holds, same};
+use crate::frames::frame;
+use bus_frame::Frame;
 use station_core::*;
 use std::alloc::Global;
 use std::process::Abort;
-use std::test::Fail;
 
-// The frame in front leaves, and is this one.
-fn pops(rt: &impl Abort, station: &mut Station, shown: &(u32, [u8; 8])) -> Result<(), Fail> {
-    let frame = Frame::full(CanId::new(shown.0)?, shown.1);
-    assert!(rt; station.front() == Some(frame));
-    assert!(rt; station.pop() == Some(frame));
-    Ok(())
+// A frame by its identifier and its bytes.
+type Shown = (u32, [u8; 8]);
+
+fn frame_of(rt: &impl Abort, shown: &Shown) -> Frame {
+    frame(rt, shown.0, &shown.1)
 }
 
-const RTS_OF_80: u32 = 0x1CEC_3580;
+// Station 35 with one port.
+fn station_35(rt: &impl Abort, alloc: Global) -> Station {
+    let mut station = new_station(rt, alloc, B);
+    open(rt, &mut station);
+    station
+}
 
-const PACKET_OF_80: u32 = 0x1CEB_3580;
+// Takes a frame. Where memory is refused once, it is taken again.
+fn take(rt: &impl Abort, station: &mut Station, shown: &Shown) -> Events {
+    let frame = frame_of(rt, shown);
+    match station.take(&frame, true, 0) {
+        Ok(taken) => taken.events,
+        Err(_) => got(rt, station.take(&frame, true, 0)).events,
+    }
+}
 
-const RTS: [u8; 8] = [0x10, 0x09, 0x00, 0x02, 0xFF, 0xCA, 0xFE, 0x00];
+// It answers a frame with this one, and tells nothing.
+fn answers(rt: &impl Abort, station: &mut Station, shown: &Shown, answer: &Shown) {
+    same(rt, take(rt, station, shown).len(), 0);
+    same(rt, station.pop(), Some(frame_of(rt, answer)));
+}
 
-const CTS: (u32, [u8; 8]) = (
+// It doesn't answer a frame, and tells nothing.
+fn is_silent(rt: &impl Abort, station: &mut Station, shown: &Shown) {
+    same(rt, take(rt, station, shown).len(), 0);
+    same(rt, station.pop(), None);
+}
+
+// The frame in front leaves, and is this one.
+fn pops(rt: &impl Abort, station: &mut Station, shown: &Shown) {
+    let frame = frame_of(rt, shown);
+    same(rt, station.front(), Some(frame));
+    same(rt, station.pop(), Some(frame));
+}
+
+// A frame is taken in place, or not.
+fn takes_in_place(rt: &impl Abort, station: &mut Station, shown: &Shown, is_taken: bool) {
+    let frame = frame_of(rt, shown);
+    holds(rt, station.take_refusal().is_none());
+    same(rt, station.take_in_place(&frame, true, 0), is_taken);
+}
+
+// A last packet is said to be one of nine bytes for port 1.
+fn wants_nine(rt: &impl Abort, station: &Station, shown: &Shown) {
+    let (ports, size) = station.wants(&frame_of(rt, shown));
+    same(rt, ports.numbers(), [1].as_slice());
+    same(rt, size, 9);
+}
+
+// A last packet gives nine bytes at port 1.
+fn gives_nine(rt: &impl Abort, station: &mut Station, shown: &Shown) {
+    let events = take(rt, station, shown);
+    same(rt, events.len(), 1);
+    match events.get(0) {
+        Some(Event::Given { port, bytes, .. }) => same(rt, (port.number, bytes.len()), (1, 9)),
+        _ => panic!(rt; "no message is given"),
+    }
+}
+
+// A frame that has no meaning changes nothing.
+fn is_malformed(rt: &impl Abort, station: &mut Station, shown: &Shown) {
+    let taken = got(rt, station.take(&frame_of(rt, shown), true, 0));
+    same(rt, (taken.is_malformed, taken.events.len()), (true, 0));
+}
+
+// Calls of which a test only looks at the answer: their contracts are not carried through it.
+fn overruns(rt: &impl Abort, station: &mut Station) {
+    same(rt, got(rt, station.overrun()).len(), 0);
+}
+
+fn is_closed(station: &mut Station, number: u64) -> bool {
+    station.close(number).is_ok()
+}
+
+fn is_paused(station: &mut Station, number: u64) -> bool {
+    station.pause(number).is_ok()
+}
+
+fn is_resumed(station: &mut Station, number: u64) -> bool {
+    station.resume(number).is_ok()
+}
+
+// It is due at this tick, and not at the one before, when it refuses to fire. It tells nothing.
+fn fires(rt: &impl Abort, station: &mut Station, now: u64) {
+    let before = now.saturating_sub(1);
+    same(
+        rt,
+        (station.is_due(before), station.is_due(now)),
+        (false, true),
+    );
+    same(rt, station.fire(before).is_ok(), false);
+    same(rt, got(rt, station.fire(now)).len(), 0);
+}
+
+const RTS: Shown = (
+    0x1CEC_3580,
+    [0x10, 0x09, 0x00, 0x02, 0xFF, 0xCA, 0xFE, 0x00],
+);
+
+const CTS: Shown = (
     0x1CEC_8035,
     [0x11, 0x02, 0x01, 0xFF, 0xFF, 0xCA, 0xFE, 0x00],
 );
 
-const NO_RESOURCES: (u32, [u8; 8]) = (
+const FIRST: Shown = (0x1CEB_3580, [1, 1, 2, 3, 4, 5, 6, 7]);
+
+const LAST: Shown = (0x1CEB_3580, [2, 8, 9, 0xFF, 0xFF, 0xFF, 0xFF, 0xFF]);
+
+const END: Shown = (
+    0x1CEC_8035,
+    [0x13, 0x09, 0x00, 0x02, 0xFF, 0xCA, 0xFE, 0x00],
+);
+
+const NO_RESOURCES: Shown = (
     0x1CEC_8035,
     [0xFF, 0x02, 0xFF, 0xFF, 0xFF, 0xCA, 0xFE, 0x00],
 );
 
-// A last packet is said to be one of so many bytes for this port.
-fn wants(
-    rt: &impl Abort,
-    station: &Station,
-    id: u32,
-    bytes: &[u8; 8],
-    given: (u64, usize),
-) -> Result<(), Fail> {
-    let (ports, size) = station.wants(&Frame::full(CanId::new(id)?, *bytes));
-    assert!(rt; ports.numbers() == [given.0].as_slice());
-    assert!(rt; size as usize == given.1);
-    Ok(())
-}
+/// A frame of node 80 that is of no transport.
+const OTHER_TRAFFIC: Shown = (
+    0x18FE_F180,
+    [0x10, 0x09, 0x00, 0x02, 0xFF, 0xCA, 0xFE, 0x00],
+);
 
-// A last packet gives so many bytes at this port.
-fn gives(
-    rt: &impl Abort,
-    alloc: Global,
-    station: &mut Station,
-    id: u32,
-    bytes: &[u8; 8],
-    given: (u64, usize),
-) -> Result<(), Fail> {
-    let mut seen = nothing_seen(alloc);
-    see_all(
-        &mut seen,
-        take(station, &Frame::full(CanId::new(id)?, *bytes), true)?,
-    )?;
-    assert!(rt; seen.given.as_slice() == [given].as_slice());
-    Ok(())
-}
-
-// Whether a frame is taken in place.
-fn is_taken_in_place(
-    rt: &impl Abort,
-    station: &mut Station,
-    id: u32,
-    bytes: &[u8; 8],
-) -> Result<bool, Fail> {
-    let frame = Frame::full(CanId::new(id)?, *bytes);
-    match station.take_refusal() {
-        None => Ok(station.take_in_place(&frame, true, 0)),
-        Some(_) => panic!(rt; "a queue with free places refuses a frame"),
-    }
-}
-
-/// What comes to station 35, or is done there, and what is to be seen of it: frames by identifier and bytes, a port by its number.
-#[derive(Clone, Copy)]
-enum Turn {
-    Answers(u32, [u8; 8], (u32, [u8; 8])),
-    IsSilent(u32, [u8; 8]),
-    IsTakenInPlace(u32, [u8; 8]),
-    IsLeftInPlace(u32, [u8; 8]),
-    Wants(u32, [u8; 8], (u64, usize)),
-    Gives(u32, [u8; 8], (u64, usize)),
-    TakesMalformed(u32, [u8; 8]),
-    Overruns,
-    Closes(u64),
-    HasNo(u64),
-    Pauses(u64),
-    Resumes(u64),
-    IsDueAt(u64),
-    Fires(u64),
-    Pops((u32, [u8; 8])),
-}
-
-fn play(rt: &impl Abort, alloc: Global, station: &mut Station, turn: &Turn) -> Result<(), Fail> {
-    match turn {
-        Turn::Answers(id, bytes, expected) => answers(rt, station, *id, bytes, expected),
-        Turn::IsSilent(id, bytes) => is_silent(rt, station, *id, bytes),
-        Turn::IsTakenInPlace(id, bytes) => {
-            is_as_said(rt, is_taken_in_place(rt, station, *id, bytes)?)
-        }
-        Turn::IsLeftInPlace(id, bytes) => {
-            is_as_said(rt, !is_taken_in_place(rt, station, *id, bytes)?)
-        }
-        Turn::Wants(id, bytes, given) => wants(rt, station, *id, bytes, *given),
-        Turn::Gives(id, bytes, given) => gives(rt, alloc, station, *id, bytes, *given),
-        Turn::TakesMalformed(id, bytes) => is_malformed(rt, station, *id, bytes),
-        Turn::Overruns => overruns(rt, station),
-        Turn::Closes(number) => is_as_said(rt, is_closed(station, *number)),
-        Turn::HasNo(number) => is_as_said(rt, !is_closed(station, *number)),
-        Turn::Pauses(number) => is_as_said(rt, is_paused(station, *number)),
-        Turn::Resumes(number) => is_as_said(rt, is_resumed(station, *number)),
-        Turn::IsDueAt(now) => is_as_said(rt, falls_due(station, *now)),
-        Turn::Fires(now) => fires(rt, station, *now),
-        Turn::Pops(shown) => pops(rt, station, shown),
-    }
-}
-
-// A test's steps are functions of their own, which own nothing: where a step can end a test, what the test owns is dropped there, and each
-// such place takes its part of the proof.
-fn open_and_play(
-    rt: &impl Abort,
-    alloc: Global,
-    station: &mut Station,
-    turns: &[Turn],
-) -> Result<(), Fail> {
-    open(station, Pgn::new(FECA)?)?;
-    for turn in turns {
-        play(rt, alloc, station, turn)?;
-    }
-    Ok(())
-}
-
-/// Plays the turns at station 35 with one port.
-fn play_all(rt: &impl Abort, alloc: Global, turns: &[Turn]) -> Result<(), Fail> {
-    let mut station = new_station(alloc, B)?;
-    open_and_play(rt, alloc, &mut station, turns)
-}
-
-const IS_TAKEN: Turn = Turn::Answers(RTS_OF_80, RTS, CTS);
-
-/// An identifier of node 80 that is of no transport.
-const OTHER_TRAFFIC: u32 = 0x18FE_F180;
+/// A packet that no session takes.
+const NO_PACKET: Shown = (0x1CEB_3580, [0; 8]);
 
 /// A packet out of order, which would abort a session.
-const NO_SESSION: Turn = Turn::IsSilent(PACKET_OF_80, [0x03; 8]);
+const WRONG_PACKET: Shown = (0x1CEB_3580, [0x03; 8]);
 
-#[test]
-fn a_message_is_given(rt: HostRuntime) -> Result<(), Fail> {
-    let last = [2, 8, 9, 0xFF, 0xFF, 0xFF, 0xFF, 0xFF];
-    let end = [0x13, 0x09, 0x00, 0x02, 0xFF, 0xCA, 0xFE, 0x00];
-    let turns = [
-        Turn::IsTakenInPlace(OTHER_TRAFFIC, RTS),
-        Turn::IsLeftInPlace(PACKET_OF_80, [0; 8]),
-        Turn::IsTakenInPlace(RTS_OF_80, RTS),
-        Turn::Pops(CTS),
-        Turn::IsTakenInPlace(PACKET_OF_80, [1, 1, 2, 3, 4, 5, 6, 7]),
-        Turn::IsLeftInPlace(PACKET_OF_80, last),
-        Turn::Wants(PACKET_OF_80, last, (1, 9)),
-        Turn::Gives(PACKET_OF_80, last, (1, 9)),
-        Turn::Pops((0x1CEC_8035, end)),
-    ];
-    play_all(&rt, rt.alloc(), &turns)
+const REQUEST: Shown = (
+    0x18EA_3521,
+    [0x00, 0xEC, 0x00, 0xFF, 0xFF, 0xFF, 0xFF, 0xFF],
+);
+
+const REQUEST_TO_ALL: Shown = (
+    0x18EA_FF21,
+    [0x00, 0xEC, 0x00, 0xFF, 0xFF, 0xFF, 0xFF, 0xFF],
+);
+
+const ACKNOWLEDGEMENT: Shown = (
+    0x18E8_FF35,
+    [0x01, 0xFF, 0xFF, 0xFF, 0x21, 0x00, 0xEC, 0x00],
+);
+
+/// A packet to all with sequence number 0.
+const MALFORMED: Shown = (0x1CEB_FF80, [0; 8]);
+
+const HOLD: Shown = (
+    0x1CEC_8035,
+    [0x11, 0x00, 0x01, 0xFF, 0xFF, 0xCA, 0xFE, 0x00],
+);
+
+/// An RTS of 20 bytes in two packets, and the abort that answers it.
+const WRONG_RTS: Shown = (
+    0x1CEC_3580,
+    [0x10, 0x14, 0x00, 0x02, 0xFF, 0xCA, 0xFE, 0x00],
+);
+
+const ABORT: Shown = (
+    0x1CEC_8035,
+    [0xFF, 0xFA, 0xFF, 0xFF, 0xFF, 0xCA, 0xFE, 0x00],
+);
+
+// A test's steps are a function of their own, which owns nothing: what a test owns takes its part of the proof at each of them.
+fn give_a_message(rt: &impl Abort, station: &mut Station) {
+    takes_in_place(rt, station, &OTHER_TRAFFIC, true);
+    takes_in_place(rt, station, &NO_PACKET, false);
+    takes_in_place(rt, station, &RTS, true);
+    pops(rt, station, &CTS);
+    takes_in_place(rt, station, &FIRST, true);
+    takes_in_place(rt, station, &LAST, false);
+    wants_nine(rt, station, &LAST);
+    gives_nine(rt, station, &LAST);
+    pops(rt, station, &END);
 }
 
 #[test]
-fn a_refused_session_replaces_the_older(rt: HostRuntime) -> Result<(), Fail> {
-    // 20 bytes are no two packets.
-    let wrong = [0x10, 0x14, 0x00, 0x02, 0xFF, 0xCA, 0xFE, 0x00];
-    let other = (
-        0x1CEC_8035,
-        [0xFF, 0xFA, 0xFF, 0xFF, 0xFF, 0xCA, 0xFE, 0x00],
-    );
-    let refused = Turn::Answers(RTS_OF_80, wrong, other);
-    play_all(&rt, rt.alloc(), &[IS_TAKEN, refused, NO_SESSION])
+fn a_message_is_given(rt: HostRuntime) {
+    let mut station = station_35(&rt, rt.alloc());
+    give_a_message(&rt, &mut station);
+}
+
+fn refuse_a_session(rt: &impl Abort, station: &mut Station) {
+    answers(rt, station, &RTS, &CTS);
+    answers(rt, station, &WRONG_RTS, &ABORT);
+    is_silent(rt, station, &WRONG_PACKET);
 }
 
 #[test]
-fn an_overrun_ends_sessions(rt: HostRuntime) -> Result<(), Fail> {
-    play_all(&rt, rt.alloc(), &[IS_TAKEN, Turn::Overruns, NO_SESSION])
+fn a_refused_session_replaces_the_older(rt: HostRuntime) {
+    let mut station = station_35(&rt, rt.alloc());
+    refuse_a_session(&rt, &mut station);
+}
+
+fn miss_frames(rt: &impl Abort, station: &mut Station) {
+    answers(rt, station, &RTS, &CTS);
+    overruns(rt, station);
+    is_silent(rt, station, &WRONG_PACKET);
 }
 
 #[test]
-fn a_closed_port_ends_its_session(rt: HostRuntime) -> Result<(), Fail> {
-    let turns = [
-        IS_TAKEN,
-        Turn::Closes(1),
-        Turn::Pops(NO_RESOURCES),
-        Turn::HasNo(1),
-        NO_SESSION,
-        Turn::Answers(RTS_OF_80, RTS, NO_RESOURCES),
-    ];
-    play_all(&rt, rt.alloc(), &turns)
+fn an_overrun_ends_sessions(rt: HostRuntime) {
+    let mut station = station_35(&rt, rt.alloc());
+    miss_frames(&rt, &mut station);
+}
+
+fn close_the_port(rt: &impl Abort, station: &mut Station) {
+    answers(rt, station, &RTS, &CTS);
+    same(rt, is_closed(station, 1), true);
+    pops(rt, station, &NO_RESOURCES);
+    same(rt, is_closed(station, 1), false);
+    is_silent(rt, station, &WRONG_PACKET);
+    answers(rt, station, &RTS, &NO_RESOURCES);
 }
 
 #[test]
-fn requests_are_answered(rt: HostRuntime) -> Result<(), Fail> {
-    let request = [0x00, 0xEC, 0x00, 0xFF, 0xFF, 0xFF, 0xFF, 0xFF];
-    let acknowledgement = (
-        0x18E8_FF35,
-        [0x01, 0xFF, 0xFF, 0xFF, 0x21, 0x00, 0xEC, 0x00],
-    );
-    let turns = [
-        Turn::Answers(0x18EA_3521, request, acknowledgement),
-        Turn::IsSilent(0x18EA_FF21, request),
-        Turn::TakesMalformed(0x1CEB_FF80, [0; 8]),
-    ];
-    play_all(&rt, rt.alloc(), &turns)
+fn a_closed_port_ends_its_session(rt: HostRuntime) {
+    let mut station = station_35(&rt, rt.alloc());
+    close_the_port(&rt, &mut station);
+}
+
+fn answer_requests(rt: &impl Abort, station: &mut Station) {
+    answers(rt, station, &REQUEST, &ACKNOWLEDGEMENT);
+    is_silent(rt, station, &REQUEST_TO_ALL);
+    is_malformed(rt, station, &MALFORMED);
 }
 
 #[test]
-fn a_paused_port_holds_its_session(rt: HostRuntime) -> Result<(), Fail> {
-    let hold = (
-        0x1CEC_8035,
-        [0x11, 0x00, 0x01, 0xFF, 0xFF, 0xCA, 0xFE, 0x00],
-    );
-    let turns = [
-        Turn::Pauses(1),
-        Turn::Answers(RTS_OF_80, RTS, hold),
-        Turn::Resumes(1),
-        Turn::IsDueAt(500),
-        Turn::Fires(500),
-        Turn::Pops(CTS),
-    ];
-    play_all(&rt, rt.alloc(), &turns)
+fn requests_are_answered(rt: HostRuntime) {
+    let mut station = station_35(&rt, rt.alloc());
+    answer_requests(&rt, &mut station);
+}
+
+fn pause_the_port(rt: &impl Abort, station: &mut Station) {
+    same(rt, is_paused(station, 1), true);
+    answers(rt, station, &RTS, &HOLD);
+    same(rt, is_resumed(station, 1), true);
+    fires(rt, station, 500);
+    pops(rt, station, &CTS);
+}
+
+#[test]
+fn a_paused_port_holds_its_session(rt: HostRuntime) {
+    let mut station = station_35(&rt, rt.alloc());
+    pause_the_port(&rt, &mut station);
 }

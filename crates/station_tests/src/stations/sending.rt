@@ -1,18 +1,28 @@
 //! What station 21 sends.
-use super::{
-    A, B, FECA, M9, cancel, new_station, nothing_seen, open, pump, refusals, see_all, send, unsent,
-};
-use pgn_ids::{Address, Pgn};
+use super::{A, B, M9, new_station, open, pumps, send, sends};
+use crate::checks::same;
+use pgn_ids::Address;
 use station_core::*;
 use std::alloc::Global;
 use std::process::Abort;
-use std::test::Fail;
 use tp_wire::Outcome;
 
-fn refuses(rt: &impl Abort, station: &Station, len: usize, expected: &[Option<Refused>; 9]) {
-    assert!(rt; refusals(station, len).as_slice() == expected.as_slice());
+// Why each call of station 21 would be refused: at its port 1, and with its message 1 to station 35.
+fn refusals(station: &Station, len: usize) -> [Option<Refused>; 9] {
+    [
+        station.open_refusal(),
+        station.close_refusal(1),
+        station.pause_refusal(1),
+        station.resume_refusal(1),
+        station.take_refusal(),
+        station.fire_refusal(0),
+        station.send_refusal(B, len),
+        station.pump_refusal(B, 0),
+        station.cancel_refusal(B, 1),
+    ]
 }
 
+// A message isn't sent.
 fn is_unsent(
     rt: &impl Abort,
     alloc: Global,
@@ -20,47 +30,43 @@ fn is_unsent(
     to: Address,
     message: &[u8],
     cause: Refused,
-) -> Result<(), Fail> {
-    assert!(rt; unsent(alloc, station, to, message)? == Some(cause));
-    Ok(())
-}
-
-fn pumps(rt: &impl Abort, station: &mut Station, refused: Option<Refused>) {
-    match pump(station, B, 0) {
-        Ok(events) => assert!(rt; events.is_empty() && refused.is_none()),
-        Err(cause) => assert!(rt; refused == Some(cause)),
+) {
+    match send(rt, alloc, station, to, message) {
+        Ok(_) => panic!(rt; "a message is sent"),
+        Err(refused) => same(rt, refused.cause, cause),
     }
 }
 
-// The announcement of a message to all and its first packet are queued where the station stands; its last packet isn't.
-fn pumps_in_place(rt: &impl Abort, station: &mut Station) -> Result<(), Fail> {
-    assert!(rt; station.pump_in_place(Address::GLOBAL, 0) && station.queue_len() == 1);
-    assert!(rt; !station.pump_in_place(Address::GLOBAL, 49) && station.queue_len() == 1);
-    assert!(rt; station.pump_in_place(Address::GLOBAL, 50) && station.queue_len() == 2);
-    assert!(rt; !station.pump_in_place(Address::GLOBAL, 100) && station.queue_len() == 2);
-    Ok(())
+// What comes next to all is queued where the station stands, or not: so many frames are then queued.
+fn pumps_in_place(rt: &impl Abort, station: &mut Station, now: u64, is_pumped: bool, len: usize) {
+    same(rt, station.pump_in_place(Address::GLOBAL, now), is_pumped);
+    same(rt, station.queue_len(), len);
 }
 
-fn sends_to_all(rt: &impl Abort, alloc: Global, station: &mut Station) -> Result<(), Fail> {
-    let number = send(alloc, station, Address::GLOBAL, &M9)??;
-    assert!(rt; number == 1);
-    pumps_in_place(rt, station)
+// Message 1 ends as cancelled.
+fn cancels(rt: &impl Abort, station: &mut Station) {
+    match station.cancel(B, 1) {
+        Ok(events) => is_cancelled(rt, &events),
+        Err(refused) => panic!(rt; "error: {refused:?}"),
+    }
 }
 
-// A message of its own ends as cancelled, and is then no more.
-fn cancels(rt: &impl Abort, alloc: Global, station: &mut Station, number: u64) -> Result<(), Fail> {
-    let mut seen = nothing_seen(alloc);
-    see_all(&mut seen, cancel(station, B, number)?)?;
-    assert!(rt; seen.outcomes.as_slice() == [(number, Outcome::Cancelled)].as_slice());
-    Ok(())
-}
-
-fn cancels_nothing(rt: &impl Abort, station: &mut Station, number: u64) {
-    assert!(rt; cancel(station, B, number).err() == Some(Refused::NothingToSend));
+fn is_cancelled(rt: &impl Abort, events: &Events) {
+    same(rt, events.len(), 1);
+    match events.get(0) {
+        Some(
+            Event::Outcome {
+                number,
+                outcome,
+                ..
+            },
+        ) => same(rt, (*number, *outcome), (1, Outcome::Cancelled)),
+        _ => panic!(rt; "no outcome is told"),
+    }
 }
 
 // What a station without a port and a message refuses.
-fn is_bare(rt: &impl Abort, alloc: Global, station: &mut Station) -> Result<(), Fail> {
+fn is_bare(rt: &impl Abort, station: &mut Station) {
     let expected = [
         None,
         Some(Refused::NoSuchPort),
@@ -72,76 +78,78 @@ fn is_bare(rt: &impl Abort, alloc: Global, station: &mut Station) -> Result<(), 
         Some(Refused::NothingToSend),
         Some(Refused::NothingToSend),
     ];
-    refuses(rt, station, 8, &expected);
-    is_unsent(rt, alloc, station, A, &M9, Refused::SameStation)?;
-    is_unsent(rt, alloc, station, B, &M9[1..], Refused::TooShort)?;
-    pumps(rt, station, Some(Refused::NothingToSend));
-    Ok(())
+    same(rt, refusals(station, 8).as_slice(), expected.as_slice());
+    same(rt, station.pump(B, 0).err(), Some(Refused::NothingToSend));
 }
 
-// With a port and a message it refuses less; the message begins, and is cancelled.
-fn sends_and_cancels(rt: &impl Abort, alloc: Global, station: &mut Station) -> Result<(), Fail> {
-    let number = send(alloc, station, B, &M9)??;
+// With a port and a message it refuses less.
+fn has_port_and_message(rt: &impl Abort, station: &Station) {
     let mut expected = [None; 9];
     expected[3] = Some(Refused::PortNotPaused);
     expected[5] = Some(Refused::NothingDue);
-    refuses(rt, station, 9, &expected);
-    pumps(rt, station, None);
-    assert!(rt; number == 1 && station.is_pending(B, number));
-    cancels(rt, alloc, station, number)?;
-    cancels_nothing(rt, station, number);
-    assert!(rt; station.queue_len() == 2);
-    Ok(())
+    same(rt, refusals(station, 9).as_slice(), expected.as_slice());
+}
+
+fn is_pending(rt: &impl Abort, station: &Station) {
+    same(rt, station.is_pending(B, 1), true);
+}
+
+// A message that was cancelled is no more; the frame that began it and its abort are queued.
+fn has_cancelled(rt: &impl Abort, station: &mut Station) {
+    same(rt, station.cancel(B, 1).err(), Some(Refused::NothingToSend));
+    same(rt, station.queue_len(), 2);
 }
 
 #[test]
-fn only_nodes_have_stations(rt: HostRuntime) -> Result<(), Fail> {
+fn only_nodes_have_stations(rt: HostRuntime) {
     for address in [Address::NULL, Address::GLOBAL] {
-        let refused = new_station(rt.alloc(), address).err();
-        assert!(rt; refused == Some(Refused::NoSuchStation));
+        let refused = Station::new(rt.alloc(), address).err();
+        same(&rt, refused, Some(Refused::NoSuchStation));
     }
-    Ok(())
+}
+
+// The announcement of a message to all and its first packet are queued where the station stands; its last packet isn't.
+fn pump_to_all(rt: &impl Abort, station: &mut Station) {
+    pumps_in_place(rt, station, 0, true, 1);
+    pumps_in_place(rt, station, 49, false, 1);
+    pumps_in_place(rt, station, 50, true, 2);
+    pumps_in_place(rt, station, 100, false, 2);
 }
 
 #[test]
-fn packets_are_pumped_where_their_station_stands(rt: HostRuntime) -> Result<(), Fail> {
-    let mut station = new_station(rt.alloc(), A)?;
-    sends_to_all(&rt, rt.alloc(), &mut station)
-}
-
-fn begin_and_cancel(rt: &impl Abort, alloc: Global, station: &mut Station) -> Result<(), Fail> {
-    is_bare(rt, alloc, station)?;
-    open(station, Pgn::new(FECA)?)?;
-    sends_and_cancels(rt, alloc, station)
+fn packets_are_pumped_where_their_station_stands(rt: HostRuntime) {
+    let mut station = new_station(&rt, rt.alloc(), A);
+    sends(&rt, rt.alloc(), &mut station, Address::GLOBAL);
+    pump_to_all(&rt, &mut station);
 }
 
 #[test]
-fn a_message_is_cancelled(rt: HostRuntime) -> Result<(), Fail> {
-    let mut station = new_station(rt.alloc(), A)?;
-    begin_and_cancel(&rt, rt.alloc(), &mut station)
+fn messages_are_refused(rt: HostRuntime) {
+    let mut station = new_station(&rt, rt.alloc(), A);
+    is_bare(&rt, &mut station);
+    is_unsent(&rt, rt.alloc(), &mut station, A, &M9, Refused::SameStation);
+    is_unsent(
+        &rt,
+        rt.alloc(),
+        &mut station,
+        B,
+        &M9[1..],
+        Refused::TooShort,
+    );
 }
 
-fn is_of(image: &StationImage, station: &Station) -> bool {
-    image.is_of(station)
-}
-
-// An image is that of its station until a port is opened, a message sent or a frame queued.
-fn show(rt: &impl Abort, alloc: Global, station: &mut Station) -> Result<(), Fail> {
-    let bare = station.image()?;
-    assert!(rt; is_of(&bare, station));
-    open(station, Pgn::new(FECA)?)?;
-    let opened = station.image()?;
-    assert!(rt; is_of(&opened, station) && !is_of(&bare, station));
-    let number = send(alloc, station, B, &M9)??;
-    let sends = station.image()?;
-    assert!(rt; number == 1 && is_of(&sends, station) && !is_of(&opened, station));
-    pumps(rt, station, None);
-    assert!(rt; !is_of(&sends, station));
-    Ok(())
+fn begin_and_cancel(rt: &impl Abort, station: &mut Station) {
+    has_port_and_message(rt, station);
+    pumps(rt, station);
+    is_pending(rt, station);
+    cancels(rt, station);
+    has_cancelled(rt, station);
 }
 
 #[test]
-fn an_image_is_that_of_its_station(rt: HostRuntime) -> Result<(), Fail> {
-    let mut station = new_station(rt.alloc(), A)?;
-    show(&rt, rt.alloc(), &mut station)
+fn a_message_is_cancelled(rt: HostRuntime) {
+    let mut station = new_station(&rt, rt.alloc(), A);
+    open(&rt, &mut station);
+    sends(&rt, rt.alloc(), &mut station, B);
+    begin_and_cancel(&rt, &mut station);
 }

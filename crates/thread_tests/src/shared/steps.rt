@@ -1,13 +1,13 @@
 //! Single steps of tests: each ends the test where memory is refused, or where it isn't answered as it is meant to be.
 pub(super) use crate::calls::*;
+pub(super) use crate::checks::{got, holds, same};
 use pgn_ids::Address;
 use segment_shared::{
-    Accepted, Bytes, Client, Closed, Inbox, Live, NotMade, Note, PortKept, Refusal, Reply, Report,
+    Accepted, Client, Closed, Inbox, Live, NotMade, Note, PortKept, Refusal, Reply, Report,
     WorkerCall, finish,
 };
 use std::alloc::{AllocError, Global};
 use std::process::Abort;
-use std::test::Fail;
 
 pub(super) const A: Address = Address(0x21);
 
@@ -18,107 +18,86 @@ pub(super) const R: Address = Address(0x35);
 // Two turns more than the longest exchange takes: a turn that finds no memory leaves what it was to do to the next.
 const MANY: u64 = 14;
 
-pub(super) fn bytes(alloc: Global, first: u8, many: u8) -> Result<Bytes, AllocError> {
-    let mut all = Vec::new(alloc);
-    for k in 0..many {
-        all.push(first.wrapping_add(k))?;
-    }
-    Ok(Bytes::new(all))
-}
-
 // A segment with the stations 21, 22 and 35.
-pub(super) fn three(alloc: Global) -> Result<Live, Fail> {
-    Ok(Live::new(alloc, &[A, B, R])?)
+pub(super) fn three(rt: &impl Abort, alloc: Global) -> Live {
+    got(rt, Live::new(alloc, &[A, B, R]))
 }
 
 // A port of 35.
-pub(super) fn port(live: &mut Live) -> Result<Inbox, Fail> {
-    Ok(live.open_port(R, feca()?, 1785)?)
+pub(super) fn port(rt: &impl Abort, live: &mut Live) -> Inbox {
+    got(rt, live.open_port(R, feca(rt), 1785))
 }
 
-pub(super) fn client(live: &mut Live, station: Address) -> Result<Client, Fail> {
-    Ok(live.attach(station)?)
+pub(super) fn client(rt: &impl Abort, live: &mut Live, station: Address) -> Client {
+    got(rt, live.attach(station))
 }
 
-// A test's steps are functions of their own, which own nothing: where a step can end a test, what the test owns is dropped there, and each
-// such place takes its part of the proof. So a segment, its ends and the steps are of one function each.
-pub(super) fn port_and_client(live: &mut Live) -> Result<(Inbox, Client), Fail> {
-    let inbox = port(live)?;
-    let sender = client(live, A)?;
-    Ok((inbox, sender))
+// A test's steps are functions of their own, which own nothing: what a test owns is carried through the proof of each of its steps, which
+// took twice as long where they stood in the test. So a segment, its ends and the steps are of one function each.
+pub(super) fn port_and_client(rt: &impl Abort, live: &mut Live) -> (Inbox, Client) {
+    let inbox = port(rt, live);
+    let sender = client(rt, live, A);
+    (inbox, sender)
 }
 
 // A client submits nine bytes.
-pub(super) fn submit(
-    rt: &impl Abort,
-    client: &mut Client,
-    to: Address,
-    alloc: Global,
-) -> Result<u64, Fail> {
-    match submitted(client, to, FECA, bytes(alloc, 1, 9)?)? {
-        Ok(ticket) => Ok(ticket),
-        Err(refused) => panic!(rt; "{refused:?}"),
-    }
+pub(super) fn submit(rt: &impl Abort, client: &mut Client, to: Address, alloc: Global) -> u64 {
+    got(rt, submitted(rt, client, to, FECA, bytes(rt, alloc, 1, 9)))
 }
 
-pub(super) fn accept(live: &mut Live, client: &Client) -> Result<Accepted, Fail> {
-    Ok(live.accept(client.id())?)
+pub(super) fn accept(rt: &impl Abort, live: &mut Live, client: &Client) -> Accepted {
+    got(rt, live.accept(client.id()))
 }
 
 // A call is made; how many events it tells.
-pub(super) fn made(rt: &impl Abort, live: &mut Live, call: WorkerCall) -> Result<usize, Fail> {
-    match live.apply(call)? {
-        Reply::Done(told) => Ok(told.len()),
+pub(super) fn made(rt: &impl Abort, live: &mut Live, call: WorkerCall) -> usize {
+    match got(rt, live.apply(call)) {
+        Reply::Done(told) => told.len(),
         reply => panic!(rt; "{reply:?}"),
     }
 }
 
 // Why a call is refused, if it is.
-pub(super) fn refused(live: &mut Live, call: WorkerCall) -> Result<Option<Refusal>, Fail> {
-    match live.apply(call)? {
-        Reply::Refused(refusal) => Ok(Some(refusal)),
-        _ => Ok(None),
+pub(super) fn refused(rt: &impl Abort, live: &mut Live, call: WorkerCall) -> Option<Refusal> {
+    match got(rt, live.apply(call)) {
+        Reply::Refused(refusal) => Some(refusal),
+        _ => None,
     }
 }
 
-pub(super) fn note(client: &mut Client) -> Result<Option<Note>, Fail> {
-    Ok(client.try_outcome()?)
+pub(super) fn note(rt: &impl Abort, client: &mut Client) -> Option<Note> {
+    got(rt, client.try_outcome())
 }
 
 // Whether a delivery was there.
-pub(super) fn receive(inbox: &mut Inbox) -> Result<bool, Fail> {
-    Ok(inbox.try_receive()?.is_some())
+pub(super) fn receive(rt: &impl Abort, inbox: &mut Inbox) -> bool {
+    got(rt, inbox.try_receive()).is_some()
 }
 
 // How many deliveries a closing hands out, or why it is refused.
-fn handed_out(closed: Result<Closed, NotMade>) -> Result<Result<usize, Refusal>, AllocError> {
+fn handed_out(rt: &impl Abort, closed: Result<Closed, NotMade>) -> Result<usize, Refusal> {
     match closed {
-        Ok(closed) => Ok(Ok(closed.rest.len())),
-        Err(NotMade::Refused(refusal)) => Ok(Err(refusal)),
-        Err(NotMade::OutOfMemory) => Err(AllocError),
+        Ok(closed) => Ok(closed.rest.len()),
+        Err(NotMade::Refused(refusal)) => Err(refusal),
+        Err(NotMade::OutOfMemory) => got(rt, Err(AllocError)),
     }
 }
 
 // The same of the closing of a port.
-pub(super) fn close(
-    live: &mut Live,
-    inbox: &mut Inbox,
-) -> Result<Result<usize, Refusal>, AllocError> {
-    handed_out(live.close_on(inbox))
+pub(super) fn close(rt: &impl Abort, live: &mut Live, inbox: &mut Inbox) -> Result<usize, Refusal> {
+    handed_out(rt, live.close_on(inbox))
 }
 
 // The same of one that a thread asks for.
-pub(super) fn closed(
-    closed: Result<Closed, PortKept>,
-) -> Result<Result<usize, Refusal>, AllocError> {
+pub(super) fn closed(rt: &impl Abort, closed: Result<Closed, PortKept>) -> Result<usize, Refusal> {
     match closed {
-        Ok(closed) => handed_out(Ok(closed)),
-        Err(kept) => handed_out(Err(kept.refused)),
+        Ok(closed) => handed_out(rt, Ok(closed)),
+        Err(kept) => handed_out(rt, Err(kept.refused)),
     }
 }
 
 // What a report says of clients and inboxes: how many there are, and how much is left of all of them together.
-#[derive(Clone, Copy, Debug, PartialEq, Eq)]
+#[derive(Drop)]
 pub(super) struct Left {
     pub(super) clients: usize,
     pub(super) submissions: usize,
@@ -145,21 +124,22 @@ fn left_by(report: &Report) -> Left {
     left
 }
 
-fn reports(
-    rt: &impl Abort,
-    live: &mut Live,
-    clients: Vec<Client>,
-    inboxes: Vec<Inbox>,
-    expected: Left,
-) -> Result<(), Fail> {
+fn is_left(rt: &impl Abort, left: &Left, expected: &Left) {
+    same(rt, left.clients, expected.clients);
+    same(rt, left.submissions, expected.submissions);
+    same(rt, left.notes, expected.notes);
+    same(rt, left.inboxes, expected.inboxes);
+    same(rt, left.deliveries, expected.deliveries);
+}
+
+fn report(rt: &impl Abort, live: &mut Live, clients: Vec<Client>, inboxes: Vec<Inbox>) -> Report {
     match finish(live, clients, inboxes) {
-        Ok(report) => assert_eq!(rt; left_by(&report), expected),
+        Ok(report) => report,
         Err(refused) => {
-            assert!(rt; !refused.not_this_segment);
-            return Err(Fail::from(AllocError));
+            holds(rt, !refused.not_this_segment);
+            got(rt, Err(AllocError))
         }
     }
-    Ok(())
 }
 
 // So much is left of these clients and an inbox.
@@ -170,9 +150,11 @@ pub(super) fn leaves(
     clients: Vec<Client>,
     inbox: Inbox,
     expected: Left,
-) -> Result<(), Fail> {
-    let inboxes = vec![in alloc; inbox]?;
-    reports(rt, live, clients, inboxes, expected)
+) {
+    let inboxes = got(rt, vec![in alloc; inbox]);
+    let report = report(rt, live, clients, inboxes);
+    is_left(rt, &left_by(&report), &expected);
+    drop(report);
 }
 
 // Turns of the workers of stations 21 and 35 and of the bus, one after another.

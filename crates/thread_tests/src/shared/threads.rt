@@ -6,9 +6,8 @@ use std::alloc::{AllocError, Global};
 use std::process::Abort;
 use std::sync::Wait;
 use std::sync::atomic::{AtomicU64, Ordering};
-use std::test::Fail;
 use std::thread;
-use std::thread::Threads;
+use std::thread::{Scope, Threads};
 
 /// How many workers there are, and the most turns of each.
 const WORKERS: u64 = 4;
@@ -50,6 +49,20 @@ impl Pace {
         self.open.load(Ordering::SeqCst) > 0
     }
 
+    // Waits until the workers have made so many turns, or all pass; whether they have made them.
+    fn comes_to(&self, needed: u64) -> bool {
+        for _ in 0..u64::MAX {
+            if self.passed.load(Ordering::SeqCst) >= needed {
+                return true;
+            }
+            if self.is_open() {
+                return false;
+            }
+            thread::yield_now();
+        }
+        false
+    }
+
     // A worker has ended.
     fn end(&self, tally: Tally) {
         self.calls.fetch_add(tally.calls, Ordering::SeqCst);
@@ -61,16 +74,7 @@ impl Gate for Pace {
     fn pass(&self, _worker: u8, turn: u64) {
         let needed = turn.saturating_sub(AHEAD).max(1).saturating_mul(WORKERS);
         self.passed.fetch_add(1, Ordering::SeqCst);
-        for _ in 0..u64::MAX {
-            if self.passed.load(Ordering::SeqCst) >= needed {
-                return;
-            }
-            if self.is_open() {
-                break;
-            }
-            thread::yield_now();
-        }
-        if turn == 1 {
+        if !self.comes_to(needed) && turn == 1 {
             self.missed.fetch_add(1, Ordering::SeqCst);
         }
     }
@@ -93,109 +97,103 @@ struct Ends {
 }
 
 // Whether a note came before the workers ended.
-fn is_noted(rt: &impl Wait, pace: &Pace, client: &mut Client) -> Result<bool, AllocError> {
+fn is_noted(rt: &(impl Abort + Wait), pace: &Pace, client: &mut Client) -> bool {
     for _ in 0..u64::MAX {
         let last = pace.is_open();
-        if client.outcome(rt, LOOKS)?.is_some() {
-            return Ok(true);
+        if got(rt, client.outcome(rt, LOOKS)).is_some() {
+            return true;
         }
         if last {
-            return Ok(false);
+            return false;
         }
     }
-    Ok(false)
+    false
 }
 
 // Whether a delivery came before the workers ended.
-fn is_given(rt: &impl Wait, pace: &Pace, inbox: &mut Inbox) -> Result<bool, AllocError> {
+fn is_given(rt: &(impl Abort + Wait), pace: &Pace, inbox: &mut Inbox) -> bool {
     for _ in 0..u64::MAX {
         let last = pace.is_open();
-        if inbox.receive(rt, LOOKS)?.is_some() {
-            return Ok(true);
+        if got(rt, inbox.receive(rt, LOOKS)).is_some() {
+            return true;
         }
         if last {
-            return Ok(false);
+            return false;
         }
     }
-    Ok(false)
+    false
 }
 
-// Both clients submit; whether each of the notes and deliveries of it came.
-fn talk(
-    rt: &impl Wait,
-    alloc: Global,
-    pace: &Pace,
-    ends: &mut Ends,
-) -> Result<[bool; 4], AllocError> {
-    let first = submitted(&mut ends.first, R, FECA, bytes(alloc, 1, 9)?)?.is_ok();
-    let second = submitted(&mut ends.second, R, FECA, bytes(alloc, 0x11, 10)?)?.is_ok();
-    if !(first && second) {
-        return Ok([false; 4]);
+// Both clients submit, and each of the notes and deliveries of it comes.
+fn talk(rt: &(impl Abort + Wait), alloc: Global, pace: &Pace, ends: &mut Ends) {
+    let one = bytes(rt, alloc, 1, 9);
+    let other = bytes(rt, alloc, 0x11, 10);
+    got(rt, submitted(rt, &mut ends.first, R, FECA, one));
+    got(rt, submitted(rt, &mut ends.second, R, FECA, other));
+    holds(rt, is_noted(rt, pace, &mut ends.first));
+    holds(rt, is_noted(rt, pace, &mut ends.second));
+    holds(rt, is_given(rt, pace, &mut ends.inbox));
+    holds(rt, is_given(rt, pace, &mut ends.inbox));
+}
+
+const STATIONS: [Address; 3] = [A, B, R];
+
+// Starts a thread for each station and one for the bus.
+fn start_workers<'s, E, T: Threads + Wait + Sync>(
+    scope: &Scope<'s, E>,
+    rt: &'s T,
+    shared: &'s SharedSegment,
+    pace: &'s Pace,
+) -> Result<(), AllocError> {
+    for station in &STATIONS {
+        scope.spawn(move || work_station(rt, shared, pace, *station))?;
     }
-    Ok([
-        is_noted(rt, pace, &mut ends.first)?,
-        is_noted(rt, pace, &mut ends.second)?,
-        is_given(rt, pace, &mut ends.inbox)?,
-        is_given(rt, pace, &mut ends.inbox)?,
-    ])
+    scope.spawn(move || work_bus(rt, shared, pace))?;
+    Ok(())
 }
 
 // The talk beside the workers. Where not all of their threads could be started there is none.
-fn talk_by_threads<T: Threads + Wait + Sync>(
+fn talk_by_threads<T: Threads + Wait + Abort + Sync>(
     rt: &T,
     alloc: Global,
     shared: &SharedSegment,
     pace: &Pace,
-    ends: Ends,
-) -> (Ends, Result<[bool; 4], AllocError>) {
+    ends: &mut Ends,
+) {
     thread::scope(thread::scope_env(), rt, move |scope| {
-        let mut ends = ends;
-        let all = scope
-            .spawn(move || work_station(rt, shared, pace, A))
-            .is_ok()
-            && scope
-                .spawn(move || work_station(rt, shared, pace, B))
-                .is_ok()
-            && scope
-                .spawn(move || work_station(rt, shared, pace, R))
-                .is_ok()
-            && scope.spawn(move || work_bus(rt, shared, pace)).is_ok();
-        let came = if all {
-            talk(rt, alloc, pace, &mut ends)
-        } else {
-            Err(AllocError)
-        };
+        got(rt, start_workers(scope, rt, shared, pace));
+        talk(rt, alloc, pace, ends);
         shared.stop(rt);
         pace.open();
-        (ends, came)
     })
 }
 
 // Two clients and an inbox for what they submit.
-fn ends_of(live: &mut Live) -> Result<Ends, Fail> {
-    let inbox = port(live)?;
-    let first = client(live, A)?;
-    let second = client(live, B)?;
-    Ok(Ends {
+fn ends_of(rt: &impl Abort, live: &mut Live) -> Ends {
+    let inbox = port(rt, live);
+    let first = client(rt, live, A);
+    let second = client(rt, live, B);
+    Ends {
         first,
         second,
         inbox,
-    })
+    }
 }
 
 fn are_applied(rt: &impl Abort, live: &Live, pace: &Pace) {
-    assert!(rt; live.is_stopped());
+    holds(rt, live.is_stopped());
+    same(rt, pace.missed.load(Ordering::SeqCst), 0);
     let applied = pace.calls.load(Ordering::SeqCst);
-    assert_eq!(rt; live.calls().len() as u64, applied.saturating_add(1));
+    same(rt, live.calls().len() as u64, applied.saturating_add(1));
 }
 
-fn leave_nothing(rt: &impl Abort, alloc: Global, live: &mut Live, ends: Ends) -> Result<(), Fail> {
+fn leave_nothing(rt: &impl Abort, alloc: Global, live: &mut Live, ends: Ends) {
     let Ends {
         first,
         second,
         inbox,
     } = ends;
-    let clients = vec![in alloc; first, second]?;
+    let clients = got(rt, vec![in alloc; first, second]);
     let nothing = Left {
         clients: 2,
         submissions: 0,
@@ -203,19 +201,18 @@ fn leave_nothing(rt: &impl Abort, alloc: Global, live: &mut Live, ends: Ends) ->
         inboxes: 1,
         deliveries: 0,
     };
-    leaves(rt, alloc, live, clients, inbox, nothing)
+    leaves(rt, alloc, live, clients, inbox, nothing);
 }
 
 #[test]
-fn messages_of_two_threads_come_to_a_third(rt: HostRuntime) -> Result<(), Fail> {
-    let mut live = three(rt.alloc())?;
-    let ends = ends_of(&mut live)?;
+fn messages_of_two_threads_come_to_a_third(rt: HostRuntime) {
+    let mut live = three(&rt, rt.alloc());
+    let mut ends = ends_of(&rt, &mut live);
     let shared = SharedSegment::share(live);
     let pace = Pace::new();
-    let (ends, came) = talk_by_threads(&rt, rt.alloc(), &shared, &pace, ends);
+    talk_by_threads(&rt, rt.alloc(), &shared, &pace, &mut ends);
     let mut live = shared.into_live();
-    assert!(rt; came? == [true; 4]);
-    assert_eq!(rt; pace.missed.load(Ordering::SeqCst), 0);
     are_applied(&rt, &live, &pace);
-    leave_nothing(&rt, rt.alloc(), &mut live, ends)
+    leave_nothing(&rt, rt.alloc(), &mut live, ends);
+    drop(live);
 }

@@ -1,11 +1,10 @@
 //! Lines read one after another, up to a reader that fails.
+use crate::checks::{got, holds};
 use line_runs::{Limits, next_line};
 use script_commands::Cause;
-use std::alloc::AllocError;
 use std::io;
 use std::io::{BufRead, BufReader, Error, ErrorKind, Read};
 use std::process::Abort;
-use std::test::Fail;
 
 /// Gives its text, and fails where it ends.
 #[derive(Drop)]
@@ -29,32 +28,35 @@ fn reads<R: BufRead>(
     reader: &mut R,
     line: &mut Vec<u8>,
     expected: &[u8],
-) -> Result<(), Fail> {
+) {
     match next_line(&Limits::of_script(), number, reader, line) {
-        Err(Cause::OutOfMemory) => return Err(Fail::from(AllocError)),
-        read => assert!(rt; read == Ok(true)),
+        Err(Cause::OutOfMemory) => panic!(rt; "error: no memory"),
+        read => holds(rt, read == Ok(true)),
     }
-    assert!(rt; line.as_slice() == expected);
-    Ok(())
+    holds(rt, line.as_slice() == expected);
 }
 
 #[test]
-fn lines_are_read_up_to_the_end(rt: HostRuntime) -> Result<(), Fail> {
+fn lines_are_read_up_to_the_end(rt: HostRuntime) {
     let mut line = Vec::new(rt.alloc());
     let mut reader: &[u8] = b"counts\n\nstate";
-    reads(&rt, 1, &mut reader, &mut line, b"counts")?;
-    reads(&rt, 2, &mut reader, &mut line, b"")?;
-    reads(&rt, 3, &mut reader, &mut line, b"state")?;
-    assert!(rt; next_line(&Limits::of_script(), 4, &mut reader, &mut line) == Ok(false));
-    Ok(())
+    reads(&rt, 1, &mut reader, &mut line, b"counts");
+    reads(&rt, 2, &mut reader, &mut line, b"");
+    reads(&rt, 3, &mut reader, &mut line, b"state");
+    holds(
+        &rt,
+        next_line(&Limits::of_script(), 4, &mut reader, &mut line) == Ok(false),
+    );
 }
 
 #[test]
-fn a_failed_read_is_told(rt: HostRuntime) -> Result<(), Fail> {
+fn a_failed_read_is_told(rt: HostRuntime) {
     let mut line = Vec::new(rt.alloc());
-    let mut reader = BufReader::new(rt.alloc(), Breaking { text: b"now\n" })?;
-    reads(&rt, 1, &mut reader, &mut line, b"now")?;
+    let mut reader = got(&rt, BufReader::new(rt.alloc(), Breaking { text: b"now\n" }));
+    reads(&rt, 1, &mut reader, &mut line, b"now");
     let failed = Err(Cause::ReadFailed);
-    assert!(rt; next_line(&Limits::of_script(), 2, &mut reader, &mut line) == failed);
-    Ok(())
+    holds(
+        &rt,
+        next_line(&Limits::of_script(), 2, &mut reader, &mut line) == failed,
+    );
 }
