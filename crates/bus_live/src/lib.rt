@@ -3,7 +3,6 @@
 #![tactic(auto)]
 
 mod running;
-mod text;
 
 pub use running::run_live;
 pub use script_commands::{Cause, ScriptFault};

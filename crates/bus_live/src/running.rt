@@ -1,14 +1,12 @@
 //! A script run by threads.
 ghost use Rattle.std.specs.Prelude.{IfSome, IfOk};
-ghost use Rattle.segment_shared.specs.LiveView.{LiveView};
 ghost use Rattle.script_setup.specs.Plan.{plan_of};
-ghost use Rattle.bus_live.specs.Ending.{Came, CameTo, Ended, planned};
+ghost use Rattle.bus_live.specs.Ending.{CameOf, CameTo, Ended, planned};
 
-use crate::text::text_of;
 use pgn_ids::Address;
-use port_table::PortId;
 use script_runs::{LiveRan, Lost, Told, read_script, tell_refused, tell_run};
-use script_setup::{Message, Setup, ports_of};
+use script_setup::Setup;
+use segment_report::{Names, names_of, text_of};
 use segment_shared::{Gate, Inbox, Live, SharedSegment, finish};
 use segment_threads::{Board, Ends, Pace, Party, Sender, gather, senders_of, spawn_segment, watch};
 use std::alloc::{AllocError, Global};
@@ -47,20 +45,18 @@ fn in_threads<R: Threads + Wait + Sync, G: Gate + Sync>(
     )
 }
 
-// Runs what was set up by threads, and gives the segment at their end.
-fn run_threads<R: Threads + Wait + Sync, G: Gate + Sync>(
+// The threads of what was set up, unless it has no clients for them.
+fn run_shared<R: Threads + Wait + Sync, G: Gate + Sync>(
     rt: &R,
     alloc: Global,
-    live: Live,
+    shared: &SharedSegment,
     stations: &[Address],
+    senders: Result<Vec<Sender>, Lost>,
     inboxes: Vec<Inbox>,
-    messages: &[Message],
     gate: &G,
     turns: u64,
-) -> Result<(Live, Ends, bool), Lost> {
-    let mut live = live;
-    let senders = senders_of(alloc, &mut live, stations, messages)?;
-    let shared = SharedSegment::share(live);
+) -> Result<(Ends, bool), Lost> {
+    let senders = senders?;
     let board = Board::new();
     let pace = Pace {
         gate,
@@ -69,35 +65,78 @@ fn run_threads<R: Threads + Wait + Sync, G: Gate + Sync>(
         workers: (stations.len() as u64).saturating_add(1),
         relays: 0,
     };
-    let party = Party {
-        shared: &shared,
-        stations,
-    };
-    let (ends, drained) = in_threads(rt, alloc, party, senders, inboxes, &pace, turns)?;
-    Ok((shared.into_live(), ends, drained))
+    let party = Party { shared, stations };
+    let handed = in_threads(rt, alloc, party, senders, inboxes, &pace, turns)?;
+    Ok(handed)
 }
 
 // Reports on the clients and inboxes, and gives the text of what the threads came to.
 fn tell_end(
     alloc: Global,
-    live: Live,
-    ends: Ends,
-    drained: bool,
-    stations: &[Address],
-    ports: &[PortId],
-    messages: &[Message],
+    live: &mut Live,
+    handed: Result<(Ends, bool), Lost>,
+    names: &Names,
 ) -> Result<Told, Lost>
-    ensures { IfOk result (λ told. (v : LiveView) × Came stations.now ports.now messages.now told.ran_out told.text.items v) }
+    ensures { IfOk result (λ told. CameOf names.now told) }
 {
-    let mut live = live;
+    let (ends, drained) = handed?;
     let Ends { clients, inboxes } = ends;
-    if let Err(refused) = finish(&mut live, clients, inboxes) {
+    if let Err(refused) = finish(live, clients, inboxes) {
         if refused.not_this_segment {
             return Err(Lost::NotThisSegment);
         }
         return Err(Lost::OutOfMemory);
     }
-    text_of(alloc, &live, stations, ports, messages, drained)
+    let stations = names.stations.as_slice();
+    let ports = names.ports.as_slice();
+    let messages = names.messages.as_slice();
+    let told = text_of(alloc, live, stations, ports, messages, drained)?;
+    Ok(told)
+}
+
+// Runs a segment. What ends the run early is looked at behind it, since each way out drops the segment, which the proof pays for.
+fn run_segment<R: Threads + Wait + Sync, G: Gate + Sync>(
+    rt: &R,
+    alloc: Global,
+    live: Live,
+    inboxes: Vec<Inbox>,
+    names: &Names,
+    gate: &G,
+    turns: u64,
+) -> Result<Told, Lost>
+    ensures { IfOk result (λ told. CameOf names.now told) }
+{
+    let mut live = live;
+    let stations = names.stations.as_slice();
+    let senders = senders_of(alloc, &mut live, stations, names.messages.as_slice());
+    let shared = SharedSegment::share(live);
+    let handed = run_shared(rt, alloc, &shared, stations, senders, inboxes, gate, turns);
+    let mut live = shared.into_live();
+    tell_end(alloc, &mut live, handed, names)
+}
+
+// Runs what was set up with these names.
+fn run_named<R: Threads + Wait + Sync, G: Gate + Sync>(
+    rt: &R,
+    alloc: Global,
+    setup: Setup,
+    names: &Names,
+    gate: &G,
+    turns: u64,
+) -> Result<Told, Lost>
+    ensures { IfOk result (λ told. CameOf names.now told) }
+{
+    let Setup {
+        live,
+        inboxes,
+        sends: _,
+        messages: _,
+        refused: _,
+    } = setup;
+    let Some(live) = live else {
+        return Err(Lost::NotThisSegment);
+    };
+    run_segment(rt, alloc, live.into_live(), inboxes, names, gate, turns)
 }
 
 // Runs what was set up, where there are stations.
@@ -110,40 +149,14 @@ fn run<R: Threads + Wait + Sync, G: Gate + Sync>(
 ) -> Result<Told, Lost>
     ensures { IfOk result (λ told. CameTo (plan_of setup) told.ran_out told.text.items) }
 {
-    let Setup {
-        live,
-        inboxes,
-        sends: _,
-        messages,
-        refused: _,
-    } = setup;
-    let Some(live) = live else {
+    let mut setup = setup;
+    let Some(names) = names_of(alloc, &mut setup)? else {
         return Ok(Told {
             text: Vec::new(alloc),
             ran_out: false,
         });
     };
-    let stations = Vec::from_slice(alloc, live.addresses())?;
-    let ports = ports_of(alloc, inboxes.as_slice())?;
-    let (live, ends, drained) = run_threads(
-        rt,
-        alloc,
-        live.into_live(),
-        stations.as_slice(),
-        inboxes,
-        messages.as_slice(),
-        gate,
-        turns,
-    )?;
-    let told = tell_end(
-        alloc,
-        live,
-        ends,
-        drained,
-        stations.as_slice(),
-        ports.as_slice(),
-        messages.as_slice(),
-    )?;
+    let told = run_named(rt, alloc, setup, &names, gate, turns)?;
     Ok(told)
 }
 

@@ -19,7 +19,7 @@ use Rattle.segment_shared.proofs.Prefixes.{prefix_length}
 use Rattle.port_relay.specs.Relaying.{IsRelayed}
 use Rattle.port_relay.specs.Working.{relayed_to}
 use Rattle.port_relay.specs.declared.relaying.Relayed.{Relayed}
-use Rattle.bus_relay.specs.declared.gateway.Passage.{Passage}
+use Rattle.relay_setup.specs.declared.gateway.Passage.{Passage}
 use Rattle.bus_relay.specs.declared.carrying.Carried.{Carried}
 use Rattle.bus_relay.specs.declared.text.Carriage.{Carriage}
 use Rattle.bus_relay.specs.Carriages.{HasCarried, IsBy, place_of, none_left, port_given, IsCarried, IsCarriedWhole}

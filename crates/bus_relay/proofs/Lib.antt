@@ -1,5 +1,2 @@
-pub mod Steps
-pub mod TextsGrow
-pub mod Growing
 pub mod Accounts
 pub mod Comings

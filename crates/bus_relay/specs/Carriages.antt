@@ -8,7 +8,7 @@ use Rattle.segment_shared.specs.declared.report.ClientReport.{ClientReport}
 use Rattle.segment_shared.specs.LiveView.{LiveView}
 use Rattle.segment_shared.specs.Record.{accepted, given, notes_of, trail}
 use Rattle.port_relay.specs.Working.{relayed_to}
-use Rattle.bus_relay.specs.declared.gateway.Passage.{Passage}
+use Rattle.relay_setup.specs.declared.gateway.Passage.{Passage}
 use Rattle.bus_relay.specs.declared.carrying.Carried.{Carried}
 use Rattle.bus_relay.specs.declared.text.Carriage.{Carriage}
 

@@ -15,10 +15,10 @@ use Rattle.script_setup.specs.Plan.{Plan}
 use Rattle.script_setup.specs.declared.setup.Message.{Message}
 use Rattle.segment_report.specs.Texts.{below, ports_at, clients_at}
 use Rattle.segment_report.specs.Noted.{all_noted}
-use Rattle.bus_relay.specs.Gateway.{Plans, text_of, passage_in}
+use Rattle.relay_setup.specs.Gateway.{Plans, text_of, passage_in}
 use Rattle.bus_relay.specs.Carriages.{Carries, CarriesWhole}
-use Rattle.bus_relay.specs.declared.gateway.Passage.{Passage}
-use Rattle.bus_relay.specs.declared.gateway.Routing.{Routing}
+use Rattle.relay_setup.specs.declared.gateway.Passage.{Passage}
+use Rattle.relay_setup.specs.declared.gateway.Routing.{Routing}
 use Rattle.bus_relay.specs.declared.text.Carriage.{Carriage}
 
 -- by rising station the ports of the second segment, then what the relay did, then the outcomes of the first and of the second; and

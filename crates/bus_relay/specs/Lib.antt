@@ -1,4 +1,3 @@
-pub mod Gateway
 pub mod Carriages
-pub mod Parts
 pub mod Ending
+pub mod Known

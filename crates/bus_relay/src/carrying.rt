@@ -3,14 +3,13 @@ ghost use Rattle.std.specs.Prelude.{◌≡◌, length, IfOk, OnOk};
 ghost use Rattle.port_relay.specs.Relaying.{IsRelayed};
 ghost use Rattle.bus_relay.specs.Carriages.{HasCarried, IsBy};
 
-use crate::gateway::Passage;
 use pgn_ids::Address;
 use port_relay::{Relayed, Route, relay};
-use port_table::PortId;
+use relay_setup::Passage;
 use script_runs::Lost;
 use segment_shared::{Client, Delivery, Gate, Inbox};
-use segment_threads::{Board, Sender, read_all};
-use std::alloc::{AllocError, Global};
+use segment_threads::{Board, read_all};
+use std::alloc::Global;
 use std::marker::Model;
 use std::sync::Wait;
 use std::thread::Threads;
@@ -68,71 +67,6 @@ impl Account {
         let Account { carried } = self;
         carried
     }
-}
-
-// The inboxes but that of a port, and it.
-fn without_inbox(
-    alloc: Global,
-    inboxes: Vec<Inbox>,
-    port: PortId,
-) -> Result<(Vec<Inbox>, Option<Inbox>), AllocError> {
-    let mut others = Vec::with_capacity(alloc, inboxes.len())?;
-    let mut found = None;
-    for inbox in inboxes {
-        if inbox.port() == port {
-            found = Some(inbox);
-        } else {
-            others.push(inbox)?;
-        }
-    }
-    Ok((others, found))
-}
-
-// The clients but that of a station, and it.
-fn without_client(
-    alloc: Global,
-    senders: Vec<Sender>,
-    station: Address,
-) -> Result<(Vec<Sender>, Option<Client>), AllocError> {
-    let mut others = Vec::with_capacity(alloc, senders.len())?;
-    let mut found = None;
-    for sender in senders {
-        if sender.client.station() == station {
-            let Sender {
-                client,
-                messages: _,
-            } = sender;
-            found = Some(client);
-        } else {
-            others.push(sender)?;
-        }
-    }
-    Ok((others, found))
-}
-
-/// The inbox and the client of the relay, where there is a passage, and the others.
-///
-/// `NotThisSegment` where the one or the other isn't among them, `OutOfMemory` where memory was refused.
-pub(crate) fn carrying_of(
-    alloc: Global,
-    inboxes: Vec<Inbox>,
-    senders: Vec<Sender>,
-    passage: Option<Passage>,
-) -> Result<(Vec<Inbox>, Vec<Sender>, Option<Carrying>), Lost> {
-    let Some(passage) = passage else {
-        return Ok((inboxes, senders, None));
-    };
-    let (inboxes, inbox) = without_inbox(alloc, inboxes, passage.port)?;
-    let (senders, client) = without_client(alloc, senders, passage.from)?;
-    let (Some(inbox), Some(client)) = (inbox, client) else {
-        return Err(Lost::NotThisSegment);
-    };
-    let carrying = Carrying {
-        inbox,
-        client,
-        passage,
-    };
-    Ok((inboxes, senders, Some(carrying)))
 }
 
 // An inbox that received nothing yet, and a client that submitted nothing, as all are that were just made.

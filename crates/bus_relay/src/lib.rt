@@ -3,10 +3,9 @@
 #![tactic(auto)]
 
 mod carrying;
-mod gateway;
+mod crews;
+mod known;
 mod pacing;
-mod parts;
-mod planning;
 mod running;
 mod settling;
 mod text;

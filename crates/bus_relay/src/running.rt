@@ -1,79 +1,102 @@
 //! A script of two segments run by threads.
-ghost use Rattle.std.specs.Prelude.{◌≡◌, IfSome, IfOk, map};
-ghost use Rattle.script_setup.specs.Plan.{port_of};
-ghost use Rattle.bus_relay.specs.Gateway.{plans_of, planned, passage_in};
-ghost use Rattle.bus_relay.specs.Ending.{CameOf, CameTo, Ended};
+ghost use Rattle.std.specs.Prelude.{IfSome, IfOk};
+ghost use Rattle.script_setup.specs.Plan.{plan_of};
+ghost use Rattle.segment_report.specs.Names.{IsNamed};
+ghost use Rattle.relay_setup.specs.Gateway.{plans_of, planned};
+ghost use Rattle.bus_relay.specs.Ending.{CameTo, Ended};
+ghost use Rattle.bus_relay.specs.Known.{CameOfKnown};
 
-use crate::gateway::{Gateway, Passage, Routing};
-use crate::parts::{Part, names_of, part_of, start_of};
+use crate::crews::crews_of;
+use crate::known::Known;
 use crate::settling::tell_end;
-use crate::threads::{Left, run_threads};
+use crate::threads::run_shared;
+use relay_setup::Gateway;
 use script_runs::{LiveRan, Lost, Told, read_script, tell_refused, tell_run};
-use segment_shared::Gate;
+use script_setup::Setup;
+use segment_report::{Names, names_of};
+use segment_shared::{Gate, Inbox, Live, SharedSegment};
 use std::alloc::Global;
 use std::io::{BufRead, Write};
 use std::sync::Wait;
 use std::thread::Threads;
 
-// Runs two segments, with a relay between them where there is a passage. Each way out that has a segment drops all that it holds, which the
-// proof pays for, so that there are few of them.
-fn run_both<R: Threads + Wait + Sync, G: Gate + Sync>(
+// Runs two segments, with a relay between them where there is a passage. What ends the run early is looked at behind them, since each
+// way out drops both, which the proof pays for.
+fn run_lives<R: Threads + Wait + Sync, G: Gate + Sync>(
     rt: &R,
     alloc: Global,
-    near: Part,
-    far: Part,
-    passage: Option<Passage>,
+    near: Live,
+    far: Live,
+    inboxes: Vec<Inbox>,
+    far_inboxes: Vec<Inbox>,
+    known: &Known,
     gate: &G,
     turns: u64,
 ) -> Result<Told, Lost>
-    ensures { IfOk result (λ told. CameOf near.live.addresses far.live.addresses (map port_of far.inboxes.items) near.messages.items passage told.ran_out told.text.items) }
+    ensures { IfOk result (λ told. CameOfKnown known.now told) }
 {
-    let names = names_of(alloc, &near, &far)?;
-    let Part {
+    let mut near = near;
+    let mut far = far;
+    let crews = crews_of(alloc, &mut near, &mut far, inboxes, far_inboxes, known);
+    let near = SharedSegment::share(near);
+    let far = SharedSegment::share(far);
+    let handed = run_shared(rt, alloc, &near, &far, crews, known, gate, turns);
+    let mut near = near.into_live();
+    let mut far = far.into_live();
+    tell_end(alloc, &mut near, &mut far, handed, known)
+}
+
+// The same, where both were made.
+fn run_both<R: Threads + Wait + Sync, G: Gate + Sync>(
+    rt: &R,
+    alloc: Global,
+    near: Setup,
+    far: Setup,
+    known: &Known,
+    gate: &G,
+    turns: u64,
+) -> Result<Told, Lost>
+    ensures { IfOk result (λ told. CameOfKnown known.now told) }
+{
+    let Setup {
         live,
         inboxes,
-        messages,
+        sends: _,
+        messages: _,
+        refused: _,
     } = near;
-    let Part {
+    let Setup {
         live: far_live,
         inboxes: far_inboxes,
-        messages: far_messages,
+        sends: _,
+        messages: _,
+        refused: _,
     } = far;
-    let stations = names.near.as_slice();
-    let far_stations = names.far.as_slice();
-    let here = start_of(alloc, live, stations, inboxes, messages.as_slice())?;
-    let there = start_of(
+    let (Some(near), Some(far)) = (live, far_live) else {
+        return Err(Lost::NotThisSegment);
+    };
+    let near = near.into_live();
+    let far = far.into_live();
+    run_lives(
+        rt,
         alloc,
-        far_live,
-        far_stations,
+        near,
+        far,
+        inboxes,
         far_inboxes,
-        far_messages.as_slice(),
-    )?;
-    let Left {
-        mut near,
-        mut far,
-        handed,
-    } = run_threads(rt, alloc, here, there, passage, gate, turns)?;
-    tell_end(
-        alloc,
-        &mut near,
-        &mut far,
-        handed,
-        stations,
-        far_stations,
-        names.ports.as_slice(),
-        messages.as_slice(),
-        passage,
+        known,
+        gate,
+        turns,
     )
 }
 
-fn passage_in(routing: Routing) -> Option<Passage>
-    ensures { result ≡ passage_in routing }
+// The names of a segment, which has to be made.
+fn named(alloc: Global, setup: &mut Setup) -> Result<Names, Lost>
+    ensures { IfOk result (λ names. IsNamed (plan_of setup.old) names) }
 {
-    match routing {
-        Routing::NotYet => None,
-        Routing::Refused => None,
-        Routing::To(passage) => Some(passage),
+    match names_of(alloc, setup)? {
+        Some(names) => Ok(names),
+        None => Err(Lost::NotThisSegment),
     }
 }
 
@@ -89,16 +112,20 @@ fn run<R: Threads + Wait + Sync, G: Gate + Sync>(
 {
     let Gateway {
         before,
-        here,
+        mut here,
         routing,
     } = gateway;
-    let Some(first) = before else {
+    let Some(mut first) = before else {
         return Err(Lost::NotThisSegment);
     };
-    let near = part_of(first)?;
-    let far = part_of(here)?;
-    let passage = passage_in(routing);
-    let told = run_both(rt, alloc, near, far, passage, gate, turns)?;
+    let near = named(alloc, &mut first)?;
+    let far = named(alloc, &mut here)?;
+    let known = Known {
+        near,
+        far,
+        passage: routing.passage(),
+    };
+    let told = run_both(rt, alloc, first, here, &known, gate, turns)?;
     Ok(told)
 }
 

@@ -4,16 +4,15 @@ ghost use mathlib.Core.List.{IsPrefix};
 ghost use Rattle.segment_shared.specs.Record.{accepted, given, notes_of, trail};
 ghost use Rattle.segment_shared.specs.Reports.{AreClientReports, AreInboxReports};
 ghost use Rattle.bus_relay.specs.Carriages.{HasCarried, place_of, none_left, IsCarried, IsCarriedWhole, Carries, CarriesWhole};
-ghost use Rattle.bus_relay.specs.Ending.{CameOf};
+ghost use Rattle.bus_relay.specs.Known.{CameOfKnown};
 
 use crate::carrying::{Account, Carried, check_passage};
-use crate::gateway::Passage;
+use crate::known::Known;
 use crate::text::{Carriage, Settled, text_of};
 use crate::threads::Handed;
 use pgn_ids::Address;
-use port_table::PortId;
+use relay_setup::Passage;
 use script_runs::{Lost, Told};
-use script_setup::Message;
 use segment_shared::{Client, ClientReport, Inbox, Live, Report, finish};
 use segment_threads::Ends;
 use std::alloc::{AllocError, Global};
@@ -186,20 +185,24 @@ fn settle_apart(
 fn settle(
     near: &mut Live,
     far: &mut Live,
-    near_ends: Ends,
-    far_ends: Ends,
-    account: Option<Account>,
+    handed: Handed,
     passage: Option<Passage>,
     far_stations: &[Address],
 ) -> Result<Settled, Lost>
     ensures carries { IfOk result (λ s. Carries passage far_stations.now s.carriage near.new far.new) }
     ensures whole { IfOk result (λ s. s.is_done ≡ true → CarriesWhole passage far_stations.now s.carriage near.new far.new) }
 {
+    let Handed {
+        near: near_ends,
+        far: far_ends,
+        carried,
+        drained: _,
+    } = handed;
     let Some(way) = passage else {
         let settled = settle_apart(near, far, near_ends, far_ends)?;
         return Ok(settled);
     };
-    let Some(account) = account else {
+    let Some(account) = carried else {
         return Err(Lost::NotThisSegment);
     };
     let carried = account.into_carried();
@@ -209,35 +212,24 @@ fn settle(
 
 /// Reports on the clients and inboxes, and gives the text of what the threads came to.
 ///
-/// `NotThisSegment` where one of them isn't of its segment or the relay isn't that of the passage, `OutOfMemory` where memory was refused.
+/// `NotThisSegment` where one of them isn't of its segment or the relay isn't that of the passage, `OutOfMemory` where memory was refused;
+/// or why the threads came to nothing.
 pub(crate) fn tell_end(
     alloc: Global,
     near: &mut Live,
     far: &mut Live,
-    handed: Handed,
-    near_stations: &[Address],
-    far_stations: &[Address],
-    ports: &[PortId],
-    messages: &[Message],
-    passage: Option<Passage>,
+    handed: Result<Handed, Lost>,
+    known: &Known,
 ) -> Result<Told, Lost>
-    ensures { IfOk result (λ told. CameOf near_stations.now far_stations.now ports.now messages.now passage told.ran_out told.text.items) }
+    ensures { IfOk result (λ told. CameOfKnown known.now told) }
 {
-    let Handed {
-        near: near_ends,
-        far: far_ends,
-        carried,
-        drained,
-    } = handed;
-    let settled = settle(
-        near,
-        far,
-        near_ends,
-        far_ends,
-        carried,
-        passage,
-        far_stations,
-    )?;
+    let handed = handed?;
+    let drained = handed.drained;
+    let near_stations = known.near.stations.as_slice();
+    let far_stations = known.far.stations.as_slice();
+    let ports = known.far.ports.as_slice();
+    let messages = known.near.messages.as_slice();
+    let settled = settle(near, far, handed, known.passage, far_stations)?;
     let told = text_of(
         alloc,
         near,

@@ -5,7 +5,7 @@ ghost use Rattle.segment_report.specs.Noted.{all_noted};
 ghost use Rattle.segment_report.specs.Texts.{below, clients_at};
 ghost use Rattle.bus_relay.specs.Carriages.{Carries, CarriesWhole};
 ghost use Rattle.bus_relay.specs.Ending.{Came, end_text};
-ghost use Rattle.bus_relay.specs.declared.gateway.Passage.{Passage};
+ghost use Rattle.relay_setup.specs.declared.gateway.Passage.{Passage};
 
 use pgn_ids::Address;
 use port_table::PortId;

@@ -1,25 +1,17 @@
 //! The threads of two segments, and the relay between them.
 
-use crate::carrying::{Account, Carrying, carry, carrying_of};
-use crate::gateway::Passage;
+use crate::carrying::{Account, Carrying, carry};
+use crate::crews::{Crew, Crews};
+use crate::known::Known;
 use crate::pacing::{Numbered, RelayPace};
-use crate::parts::Start;
 use script_runs::Lost;
-use segment_shared::{Gate, Inbox, Live, SharedSegment};
-use segment_threads::{Board, Ends, Pace, Party, Running, Sender, gather, spawn_segment, watch};
+use segment_shared::{Gate, SharedSegment};
+use segment_threads::{Board, Ends, Pace, Party, Running, gather, spawn_segment, watch};
 use std::alloc::{AllocError, Global};
 use std::sync::Wait;
 use std::sync::atomic::Ordering;
 use std::thread;
 use std::thread::{JoinHandle, Scope, Threads};
-
-// A segment, the clients that submit messages of the script, and its inboxes but that of the relay.
-#[derive(Drop)]
-struct Side<'a> {
-    party: Party<'a>,
-    senders: Vec<Sender>,
-    inboxes: Vec<Inbox>,
-}
 
 /// What the threads of both segments hand back, what the relay did, and whether both buses are drained.
 #[derive(Drop)]
@@ -30,12 +22,31 @@ pub(crate) struct Handed {
     pub(crate) drained: bool,
 }
 
-/// Both segments again, and what their threads came to.
+// What all threads of a run share: both segments, the pace of the workers of each, and that of the relay.
 #[derive(Drop)]
-pub(crate) struct Left {
-    pub(crate) near: Live,
-    pub(crate) far: Live,
-    pub(crate) handed: Handed,
+struct Course<'a, G> {
+    parties: &'a [Party<'a>],
+    here: Party<'a>,
+    there: Party<'a>,
+    near: &'a Pace<'a, Numbered<'a, 'a, G>>,
+    far: &'a Pace<'a, Numbered<'a, 'a, G>>,
+    relay: &'a RelayPace<'a, 'a, G>,
+    turns: u64,
+}
+
+// The threads of a segment, and room for what they hand back.
+#[derive(Drop)]
+struct Spawned {
+    running: Running,
+    room: Ends,
+}
+
+// All threads but the relay's.
+#[derive(Drop)]
+struct AllSpawned {
+    watching: JoinHandle<bool>,
+    near: Spawned,
+    far: Spawned,
 }
 
 // Relays, where there is a passage. Where it can't all are to end.
@@ -43,92 +54,129 @@ fn carry_or_end<R: Threads + Wait + Sync, G: Gate + Sync>(
     rt: &R,
     alloc: Global,
     carrying: Option<Carrying>,
-    pace: &RelayPace<'_, '_, G>,
-    turns: u64,
+    course: &Course<'_, G>,
 ) -> Result<Option<Account>, Lost> {
     let Some(carrying) = carrying else {
         return Ok(None);
     };
-    let board = pace.board;
-    match carry(rt, alloc, carrying, board, pace, turns) {
+    let board = course.relay.board;
+    match carry(rt, alloc, carrying, board, course.relay, course.turns) {
         Ok(carried) => Ok(Some(Account::of(carried))),
         Err(error) => {
-            board.ended.fetch_add(pace.workers, Ordering::SeqCst);
+            board
+                .ended
+                .fetch_add(course.relay.workers, Ordering::SeqCst);
             Err(error)
         }
     }
-}
-
-// Runs the threads of two segments, one that watches, and on this one the relay. None begins before all are made: where one can't be,
-// the others end at once, so that nobody waits for it.
-fn in_threads<'a, R: Threads + Wait + Sync, G: Gate + Sync>(
-    rt: &R,
-    alloc: Global,
-    near: Side<'a>,
-    far: Side<'a>,
-    carrying: Option<Carrying>,
-    near_pace: &Pace<'_, Numbered<'_, '_, G>>,
-    far_pace: &Pace<'_, Numbered<'_, '_, G>>,
-    gate: &G,
-    turns: u64,
-) -> Result<Handed, Lost> {
-    let board = near_pace.board;
-    let near_room = Ends::with_room(alloc, near.senders.len(), near.inboxes.len())?;
-    let far_room = Ends::with_room(alloc, far.senders.len(), far.inboxes.len())?;
-    let parties = [near.party, far.party];
-    let watched = parties.as_slice();
-    let relay_pace = RelayPace {
-        gate,
-        board,
-        workers: near_pace.workers,
-        first: number_behind(near_pace.workers),
-    };
-    let relays = &relay_pace;
-    thread::scope(
-        thread::scope_env(),
-        rt,
-        move |scope| -> Result<Handed, Lost> {
-            let mut made = board.made.lock(rt);
-            let watching = spawn_watch(scope, rt, watched, near_pace)?;
-            let first = spawn_side(scope, rt, alloc, near, near_pace, turns)?;
-            let second = spawn_side(scope, rt, alloc, far, far_pace, turns)?;
-            *made = true;
-            drop(made);
-            let carried = carry_or_end(rt, alloc, carrying, relays, turns)?;
-            Ok(Handed {
-                near: gather(rt, near_room, first)?,
-                far: gather(rt, far_room, second)?,
-                carried,
-                drained: watching.join(rt),
-            })
-        },
-    )
-}
-
-fn spawn_watch<'s, E, R: Threads + Wait + Sync, G: Gate + Sync>(
-    scope: &Scope<'s, E>,
-    rt: &'s R,
-    parties: &'s [Party<'s>],
-    pace: &'s Pace<'s, G>,
-) -> Result<JoinHandle<bool>, AllocError> {
-    let watching = scope.spawn(move || watch(rt, parties, pace))?;
-    Ok(watching)
 }
 
 fn spawn_side<'s, E, R: Threads + Wait + Sync, G: Gate + Sync>(
     scope: &Scope<'s, E>,
     rt: &'s R,
     alloc: Global,
-    side: Side<'s>,
+    crew: Crew,
+    party: Party<'s>,
     pace: &'s Pace<'s, G>,
     turns: u64,
-) -> Result<Running, AllocError> {
-    let Side {
-        party,
-        senders,
-        inboxes,
-    } = side;
-    spawn_segment(scope, rt, alloc, party, senders, inboxes, pace, turns)
+) -> Result<Spawned, AllocError> {
+    let Crew { senders, inboxes } = crew;
+    let room = Ends::with_room(alloc, senders.len(), inboxes.len())?;
+    let running = spawn_segment(scope, rt, alloc, party, senders, inboxes, pace, turns)?;
+    Ok(Spawned { running, room })
+}
+
+// The threads of both segments, and one that watches.
+fn spawn_all<'s, E, R: Threads + Wait + Sync, G: Gate + Sync>(
+    scope: &Scope<'s, E>,
+    rt: &'s R,
+    alloc: Global,
+    near: Crew,
+    far: Crew,
+    course: &'s Course<'s, G>,
+) -> Result<AllSpawned, AllocError> {
+    let turns = course.turns;
+    let watching = scope.spawn(move || watch(rt, course.parties, course.near))?;
+    let near = spawn_side(scope, rt, alloc, near, course.here, course.near, turns)?;
+    let far = spawn_side(scope, rt, alloc, far, course.there, course.far, turns)?;
+    Ok(AllSpawned {
+        watching,
+        near,
+        far,
+    })
+}
+
+// The same. None begins before all are made: where one can't be, the others end at once, so that nobody waits for it.
+fn spawn_at_once<'s, E, R: Threads + Wait + Sync, G: Gate + Sync>(
+    scope: &Scope<'s, E>,
+    rt: &'s R,
+    alloc: Global,
+    near: Crew,
+    far: Crew,
+    course: &'s Course<'s, G>,
+) -> Result<AllSpawned, AllocError> {
+    let mut made = course.near.board.made.lock(rt);
+    let spawned = spawn_all(scope, rt, alloc, near, far, course)?;
+    *made = true;
+    Ok(spawned)
+}
+
+fn gathered<R: Threads>(rt: &R, spawned: Spawned) -> Result<Ends, AllocError> {
+    let Spawned { running, room } = spawned;
+    gather(rt, room, running)
+}
+
+// Waits for the threads.
+fn hand_back<R: Threads>(
+    rt: &R,
+    spawned: AllSpawned,
+    carried: Option<Account>,
+) -> Result<Handed, AllocError> {
+    let AllSpawned {
+        watching,
+        near,
+        far,
+    } = spawned;
+    let near = gathered(rt, near)?;
+    let far = gathered(rt, far)?;
+    Ok(Handed {
+        near,
+        far,
+        carried,
+        drained: watching.join(rt),
+    })
+}
+
+// Runs the threads of two segments, and on this one the relay.
+fn run_crews<'s, E, R: Threads + Wait + Sync, G: Gate + Sync>(
+    scope: &Scope<'s, E>,
+    rt: &'s R,
+    alloc: Global,
+    crews: Crews,
+    course: &'s Course<'s, G>,
+) -> Result<Handed, Lost> {
+    let Crews {
+        near,
+        far,
+        carrying,
+    } = crews;
+    let spawned = spawn_at_once(scope, rt, alloc, near, far, course)?;
+    let carried = carry_or_end(rt, alloc, carrying, course)?;
+    let handed = hand_back(rt, spawned, carried)?;
+    Ok(handed)
+}
+
+fn in_threads<R: Threads + Wait + Sync, G: Gate + Sync>(
+    rt: &R,
+    alloc: Global,
+    crews: Crews,
+    course: &Course<'_, G>,
+) -> Result<Handed, Lost> {
+    thread::scope(
+        thread::scope_env(),
+        rt,
+        move |scope| -> Result<Handed, Lost> { run_crews(scope, rt, alloc, crews, course) },
+    )
 }
 
 // The number of the worker behind so many, or the last number where there are too many.
@@ -139,113 +187,109 @@ fn number_behind(workers: u64) -> u8 {
     workers as u8
 }
 
-// Runs two segments at one pace, which no worker of either is ahead of.
-fn run_sides<'a, R: Threads + Wait + Sync, G: Gate + Sync>(
+// How many threads submit, work and relay, over both segments.
+#[derive(Clone, Copy)]
+struct Counts {
+    senders: u64,
+    workers: u64,
+    relays: u64,
+}
+
+impl Counts {
+    fn of(crews: &Crews, known: &Known) -> Counts {
+        let senders = crews
+            .near
+            .senders
+            .len()
+            .saturating_add(crews.far.senders.len());
+        let stations = known
+            .near
+            .stations
+            .len()
+            .saturating_add(known.far.stations.len());
+        Counts {
+            senders: senders as u64,
+            workers: (stations as u64).saturating_add(2),
+            relays: if crews.carrying.is_some() { 1 } else { 0 },
+        }
+    }
+}
+
+/// Runs two segments by threads at one pace, which no worker of either is ahead of, with a relay where there is one. Crews that weren't
+/// made end it at once.
+pub(crate) fn run_shared<R: Threads + Wait + Sync, G: Gate + Sync>(
     rt: &R,
     alloc: Global,
-    near: Side<'a>,
-    far: Side<'a>,
-    carrying: Option<Carrying>,
+    near: &SharedSegment,
+    far: &SharedSegment,
+    crews: Result<Crews, Lost>,
+    known: &Known,
     gate: &G,
     turns: u64,
 ) -> Result<Handed, Lost> {
+    let crews = crews?;
+    let counts = Counts::of(&crews, known);
+    let here = Party {
+        shared: near,
+        stations: known.near.stations.as_slice(),
+    };
+    let there = Party {
+        shared: far,
+        stations: known.far.stations.as_slice(),
+    };
+    run_parties(rt, alloc, here, there, crews, counts, gate, turns)
+}
+
+fn run_parties<'a, R: Threads + Wait + Sync, G: Gate + Sync>(
+    rt: &R,
+    alloc: Global,
+    here: Party<'a>,
+    there: Party<'a>,
+    crews: Crews,
+    counts: Counts,
+    gate: &'a G,
+    turns: u64,
+) -> Result<Handed, Lost> {
     let board = Board::new();
-    let here = near.party.stations;
-    let there = far.party.stations;
+    let parties = [here, there];
     let near_gate = Numbered {
         gate,
-        stations: here,
+        stations: here.stations,
         first: 0,
     };
     let far_gate = Numbered {
         gate,
-        stations: there,
-        first: number_behind((here.len() as u64).saturating_add(1)),
+        stations: there.stations,
+        first: number_behind((here.stations.len() as u64).saturating_add(1)),
     };
-    let near_pace = Pace {
+    let relay = RelayPace {
+        gate,
+        board: &board,
+        workers: counts.workers,
+        first: number_behind(counts.workers),
+    };
+    let near = Pace {
         gate: &near_gate,
         board: &board,
-        senders: (near.senders.len() as u64).saturating_add(far.senders.len() as u64),
-        workers: (here.len() as u64)
-            .saturating_add(there.len() as u64)
-            .saturating_add(2),
-        relays: if carrying.is_some() { 1 } else { 0 },
+        senders: counts.senders,
+        workers: counts.workers,
+        relays: counts.relays,
     };
-    let far_pace = Pace {
+    let far = Pace {
         gate: &far_gate,
         board: &board,
-        senders: near_pace.senders,
-        workers: near_pace.workers,
-        relays: near_pace.relays,
+        senders: counts.senders,
+        workers: counts.workers,
+        relays: counts.relays,
     };
-    let handed = in_threads(
-        rt, alloc, near, far, carrying, &near_pace, &far_pace, gate, turns,
-    )?;
-    Ok(handed)
-}
-
-// Runs two shared segments by threads, with a relay where there is a passage.
-fn run_shared<'a, R: Threads + Wait + Sync, G: Gate + Sync>(
-    rt: &R,
-    alloc: Global,
-    near: Side<'a>,
-    far: Side<'a>,
-    passage: Option<Passage>,
-    gate: &G,
-    turns: u64,
-) -> Result<Handed, Lost> {
-    let (inboxes, senders, carrying) = carrying_of(alloc, near.inboxes, far.senders, passage)?;
-    let near_side = side_of(near.party, near.senders, inboxes);
-    let far_side = side_of(far.party, senders, far.inboxes);
-    run_sides(rt, alloc, near_side, far_side, carrying, gate, turns)
-}
-
-/// Runs two segments by threads, with a relay where there is a passage.
-pub(crate) fn run_threads<'a, R: Threads + Wait + Sync, G: Gate + Sync>(
-    rt: &R,
-    alloc: Global,
-    near: Start<'a>,
-    far: Start<'a>,
-    passage: Option<Passage>,
-    gate: &G,
-    turns: u64,
-) -> Result<Left, Lost> {
-    let Start {
-        live,
-        stations,
-        senders,
-        inboxes,
-    } = near;
-    let Start {
-        live: far_live,
-        stations: far_stations,
-        senders: far_senders,
-        inboxes: far_inboxes,
-    } = far;
-    let shared = SharedSegment::share(live);
-    let far_shared = SharedSegment::share(far_live);
-    let party = Party {
-        shared: &shared,
-        stations,
+    let course = Course {
+        parties: parties.as_slice(),
+        here,
+        there,
+        near: &near,
+        far: &far,
+        relay: &relay,
+        turns,
     };
-    let far_party = Party {
-        shared: &far_shared,
-        stations: far_stations,
-    };
-    let near_side = side_of(party, senders, inboxes);
-    let far_side = side_of(far_party, far_senders, far_inboxes);
-    let handed = run_shared(rt, alloc, near_side, far_side, passage, gate, turns)?;
-    Ok(Left {
-        near: shared.into_live(),
-        far: far_shared.into_live(),
-        handed,
-    })
-}
-
-fn side_of<'a>(party: Party<'a>, senders: Vec<Sender>, inboxes: Vec<Inbox>) -> Side<'a> {
-    Side {
-        party,
-        senders,
-        inboxes,
-    }
+    in_threads(rt, alloc, crews, &course)
 }

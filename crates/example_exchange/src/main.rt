@@ -5,6 +5,7 @@
 use anyhow::Result;
 use pgn_ids::{Address, Pgn};
 use segment_core::{Bytes, Call, Driven, Event, Segment};
+use std::alloc::Global;
 
 const A: Address = Address(0x21);
 
@@ -48,17 +49,16 @@ fn tell(rt: &impl Print, event: &Event) -> Result<()> {
     Ok(())
 }
 
-fn main(rt: HostRuntime) -> Result<()> {
-    let alloc = rt.alloc();
+/// Opens a port of each station, and sends a message each way.
+fn run(rt: &impl Print, alloc: Global, segment: &mut Segment) -> Result<()> {
     let pgn = Pgn::new(0xFECA)?;
-    let mut segment = Segment::new(alloc, &[A, B])?;
     for station in [A, B] {
         let open = Call::Open {
             station,
             pgn,
             max_len: 1785,
         };
-        call(&rt, &mut segment, open)?;
+        call(rt, segment, open)?;
     }
     for (from, to, text) in [(A, B, "ping from 21"), (B, A, "pong from 35")] {
         let send = Call::Send {
@@ -67,11 +67,17 @@ fn main(rt: HostRuntime) -> Result<()> {
             pgn,
             bytes: Bytes::new(Vec::from_slice(alloc, text.as_bytes())?),
         };
-        call(&rt, &mut segment, send)?;
+        call(rt, segment, send)?;
         // In each turn a frame is put, and both stations take it. It ends once the lane has nothing to send.
-        show(&rt, segment.drive(from, to, 100))?;
+        show(rt, segment.drive(from, to, 100))?;
     }
     // All is at rest, and nothing is waited for.
     println!(rt; "next timer: {:?}", segment.next_due_at())?;
     Ok(())
+}
+
+fn main(rt: HostRuntime) -> Result<()> {
+    let alloc = rt.alloc();
+    let mut segment = Segment::new(alloc, &[A, B])?;
+    run(&rt, alloc, &mut segment)
 }

@@ -3,7 +3,7 @@
 #![tactic(auto)]
 
 use anyhow::Result;
-use bus_node::{Node, run_node};
+use bus_node::{Node, Ran, run_node};
 use log_text::Iface;
 use pgn_ids::Address;
 use std::io;
@@ -15,14 +15,20 @@ const STATION: Address = Address(0x21);
 /// After a connection failed, nothing is sent to its destination for so many milliseconds.
 const QUIET: u64 = 700;
 
-fn main(rt: HostRuntime) -> Result<ExitCode> {
-    let alloc = rt.alloc();
-    let mut node = Node::new(alloc, STATION, Iface::new(b"can0")?, QUIET)?;
-    let mut reader = BufReader::new(alloc, rt.reader())?;
-    let mut writer = BufWriter::new(alloc, io::writer(&rt))?;
-    let ran = run_node(alloc, &mut node, &mut reader, &mut writer);
+/// Tells why the run ended before its end, where it did.
+fn tell(rt: &impl Eprint, ran: Ran) -> Result<ExitCode> {
     if let Some(fault) = ran.fault {
-        eprintln!(&rt; "{fault}")?;
+        eprintln!(rt; "{fault}")?;
     }
     Ok(ExitCode::from(ran.status()))
+}
+
+fn main(rt: HostRuntime) -> Result<ExitCode> {
+    let alloc = rt.alloc();
+    let iface = Iface::new(b"can0")?;
+    let mut reader = BufReader::new(alloc, rt.reader())?;
+    let mut writer = BufWriter::new(alloc, io::writer(&rt))?;
+    let mut node = Node::new(alloc, STATION, iface, QUIET)?;
+    let ran = run_node(alloc, &mut node, &mut reader, &mut writer);
+    tell(&rt, ran)
 }

@@ -61,16 +61,21 @@ fn tell(rt: &impl Print, now: u64, events: &Events) -> Result<()> {
     Ok(())
 }
 
-fn main(rt: HostRuntime) -> Result<()> {
-    let mut station = Station::new(rt.alloc(), Address(0x35))?;
+/// Opens a port for messages of one parameter group, and has the frames come in, each at its tick.
+fn run(rt: &impl Print, station: &mut Station) -> Result<()> {
     station.open(Pgn::new(0xFECA)?, 1785)?;
     for (now, id, bytes) in RECEIVED {
         let frame = Frame::full(CanId::new(id)?, bytes);
-        turn(&rt, &mut station, Some(frame), now)?;
+        turn(rt, station, Some(frame), now)?;
     }
     // The second message doesn't come: the station waits until its next timer is due.
     if let Some(now) = station.next_due_at() {
-        turn(&rt, &mut station, None, now)?;
+        turn(rt, station, None, now)?;
     }
     Ok(())
+}
+
+fn main(rt: HostRuntime) -> Result<()> {
+    let mut station = Station::new(rt.alloc(), Address(0x35))?;
+    run(&rt, &mut station)
 }

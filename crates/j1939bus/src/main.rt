@@ -10,7 +10,7 @@
 
 use bus_decode::{Decoded, Options, Wanted, run_decode};
 use bus_live::{Gate, run_live};
-use bus_node::{Node, run_node};
+use bus_node::{Node, Ran, run_node};
 use bus_relay::run_relay;
 use bus_script::{run_logged, run_script};
 use command_line::{Asked, OfLog, OfNode, OfPort, read_command_line};
@@ -19,7 +19,8 @@ use pgn_ids::Address;
 use read_progress::Progress;
 use script_drawing::draw_script;
 use std::alloc::{AllocError, Global};
-use std::io::{BufReader, BufWriter, IsTerminal};
+use std::fmt::Display;
+use std::io::{BufRead, BufReader, BufWriter, IsTerminal, Write};
 use std::process::ExitCode;
 use std::rt::Files;
 use std::sync::Wait;
@@ -27,16 +28,21 @@ use std::thread::Threads;
 use std::time::Clock;
 use std::{fs, io};
 
+/// Tells on standard error why a run ended before its end, where it did.
+fn end<F: Display + Drop>(rt: &impl Eprint, fault: Option<F>, status: u8) -> io::Result<ExitCode> {
+    if let Some(fault) = fault {
+        eprintln!(rt; "{fault}")?;
+    }
+    Ok(ExitCode::from(status))
+}
+
 /// Runs the script of standard input.
 fn run<R: Input + Print + Eprint + AllocGlobal>(rt: &R) -> io::Result<ExitCode> {
     let alloc = rt.alloc();
     let mut reader = BufReader::new(alloc, rt.reader())?;
     let mut writer = BufWriter::new(alloc, io::writer(rt))?;
     let ran = run_script(alloc, &mut reader, &mut writer);
-    if let Some(fault) = ran.fault {
-        eprintln!(rt; "{fault}")?;
-    }
-    Ok(ExitCode::from(ran.status()))
+    end(rt, ran.fault, ran.status())
 }
 
 /// Runs the script of standard input, and prints the frames that it puts as a log, with the replies on standard error.
@@ -49,10 +55,7 @@ fn log<R: Input + Print + Eprint + AllocGlobal>(
     let mut writer = BufWriter::new(alloc, io::writer(rt))?;
     let mut replies = BufWriter::new(alloc, io::writer(errors))?;
     let ran = run_logged(alloc, &mut reader, &mut writer, &mut replies);
-    if let Some(fault) = ran.fault {
-        eprintln!(rt; "{fault}")?;
-    }
-    Ok(ExitCode::from(ran.status()))
+    end(rt, ran.fault, ran.status())
 }
 
 /// Runs the script of standard input, and prints the drawing of it.
@@ -61,10 +64,7 @@ fn draw<R: Input + Print + Eprint + AllocGlobal>(rt: &R) -> io::Result<ExitCode>
     let mut reader = BufReader::new(alloc, rt.reader())?;
     let mut writer = BufWriter::new(alloc, io::writer(rt))?;
     let ran = draw_script(alloc, &mut reader, &mut writer);
-    if let Some(fault) = ran.fault {
-        eprintln!(rt; "{fault}")?;
-    }
-    Ok(ExitCode::from(ran.status()))
+    end(rt, ran.fault, ran.status())
 }
 
 /// Lets each worker pass at once.
@@ -84,10 +84,7 @@ fn live<R: Threads + Wait + Sync + Input + Print + Eprint + AllocGlobal>(
     let mut reader = BufReader::new(alloc, rt.reader())?;
     let mut writer = BufWriter::new(alloc, io::writer(rt))?;
     let ran = run_live(rt, alloc, &mut reader, &mut writer, &OpenGate {}, turns);
-    if let Some(fault) = ran.fault {
-        eprintln!(rt; "{fault}")?;
-    }
-    Ok(ExitCode::from(ran.status()))
+    end(rt, ran.fault, ran.status())
 }
 
 /// Runs the two segments of the script of standard input by threads, with a relay between them.
@@ -99,10 +96,7 @@ fn relay<R: Threads + Wait + Sync + Input + Print + Eprint + AllocGlobal>(
     let mut reader = BufReader::new(alloc, rt.reader())?;
     let mut writer = BufWriter::new(alloc, io::writer(rt))?;
     let ran = run_relay(rt, alloc, &mut reader, &mut writer, &OpenGate {}, turns);
-    if let Some(fault) = ran.fault {
-        eprintln!(rt; "{fault}")?;
-    }
-    Ok(ExitCode::from(ran.status()))
+    end(rt, ran.fault, ran.status())
 }
 
 fn wanted(alloc: Global, named: &[u32]) -> Result<Wanted, AllocError> {
@@ -180,6 +174,22 @@ fn opening(alloc: Global, ports: &[OfPort]) -> Result<Vec<u8>, AllocError> {
     Ok(lines)
 }
 
+/// Opens the ports of a node, and is that station to the end of its input.
+fn run_opened<R: BufRead, W: Write>(
+    alloc: Global,
+    node: &mut Node,
+    opening: &[u8],
+    reader: &mut R,
+    writer: &mut W,
+) -> Ran {
+    let mut opening = opening;
+    let ran = run_node(alloc, node, &mut opening, writer);
+    if ran.fault.is_some() {
+        return ran;
+    }
+    run_node(alloc, node, reader, writer)
+}
+
 /// Is a station on the bus whose frames standard input has.
 fn node<R: Input + Print + Eprint + AllocGlobal>(rt: &R, asked: &OfNode) -> io::Result<ExitCode> {
     let alloc = rt.alloc();
@@ -187,37 +197,35 @@ fn node<R: Input + Print + Eprint + AllocGlobal>(rt: &R, asked: &OfNode) -> io::
         eprintln!(rt; "error: an interface has a name of 1 to 15 printable characters")?;
         return Ok(ExitCode::from(2));
     };
-    let Ok(mut station) = Node::new(alloc, Address(asked.address), iface, asked.quiet) else {
+    let lines = opening(alloc, asked.ports.as_slice())?;
+    let mut reader = BufReader::new(alloc, rt.reader())?;
+    let mut writer = BufWriter::new(alloc, io::writer(rt))?;
+    let Ok(mut node) = Node::new(alloc, Address(asked.address), iface, asked.quiet) else {
         eprintln!(rt; "out of memory")?;
         return Ok(ExitCode::from(1));
     };
-    let mut reader = BufReader::new(alloc, rt.reader())?;
-    let mut writer = BufWriter::new(alloc, io::writer(rt))?;
-    let lines = opening(alloc, asked.ports.as_slice())?;
-    let mut opened = lines.as_slice();
-    let ran = run_node(alloc, &mut station, &mut opened, &mut writer);
-    if let Some(fault) = ran.fault {
-        eprintln!(rt; "{fault}")?;
-        return Ok(ExitCode::from(ran.status()));
+    let ran = run_opened(alloc, &mut node, lines.as_slice(), &mut reader, &mut writer);
+    end(rt, ran.fault, ran.status())
+}
+
+/// Does what the command line asks for.
+fn obey(rt: &HostRuntime, asked: &Asked) -> io::Result<ExitCode> {
+    match asked {
+        Asked::Script => run(rt),
+        Asked::Logged => log(rt, &rt.stderr()),
+        Asked::Drawn => draw(rt),
+        Asked::Live { turns } => live(rt, *turns),
+        Asked::Relay { turns } => relay(rt, *turns),
+        Asked::Decode(asked) => decode(rt, &rt.stderr(), asked),
+        Asked::Node(asked) => node(rt, asked),
     }
-    let ran = run_node(alloc, &mut station, &mut reader, &mut writer);
-    if let Some(fault) = ran.fault {
-        eprintln!(rt; "{fault}")?;
-    }
-    Ok(ExitCode::from(ran.status()))
 }
 
 fn main(rt: HostRuntime) -> anyhow::Result<ExitCode> {
     let alloc = rt.alloc();
     let words: Vec<String> = std::env::args(&rt)?.collect(alloc)?;
     match read_command_line(alloc, words.as_slice()) {
-        Ok(Asked::Script) => Ok(run(&rt)?),
-        Ok(Asked::Logged) => Ok(log(&rt, &rt.stderr())?),
-        Ok(Asked::Drawn) => Ok(draw(&rt)?),
-        Ok(Asked::Live { turns }) => Ok(live(&rt, turns)?),
-        Ok(Asked::Relay { turns }) => Ok(relay(&rt, turns)?),
-        Ok(Asked::Decode(asked)) => Ok(decode(&rt, &rt.stderr(), &asked)?),
-        Ok(Asked::Node(asked)) => Ok(node(&rt, &asked)?),
+        Ok(asked) => Ok(obey(&rt, &asked)?),
         Err(error) => {
             eprint!(rt; "{error}")?;
             Ok(ExitCode::from(2))

@@ -1,2 +1,4 @@
 pub mod Texts
 pub mod Noted
+pub mod Names
+pub mod Ending

@@ -1,6 +1,0 @@
-use Rattle.bus_relay.specs.Gateway.{plans_of}
-use Rattle.bus_relay.proofs.Steps.{second_done}
-use Rattle.bus_relay.proofs.gateway.obey_second.Goals as goal
-
-pub returns : goal.returns
-returns c = second_done (plans_of c.args.gateway.now) (plans_of c.begin_second.new.self) (plans_of c.obey_now.new.gateway) _ _ c.begin_second.ensures c.obey_now.ensures

@@ -1,7 +1,0 @@
-use Rattle.std.proofs.Common.{◌≡◌, map, drop}
-use Rattle.script_setup.specs.Plan.{port_of}
-use Rattle.bus_relay.specs.Gateway.{pgn_of_port}
-use Rattle.bus_relay.proofs.gateway.pgn_of_port.Given as goal
-
-abbrev pub invariant-loop-k : goal.invariant-loop-k
-invariant-loop-k l = pgn_of_port (map port_of (drop l.k l.inboxes)) (drop l.k l.calls) l.port ≡ pgn_of_port (map port_of l.inboxes) l.calls l.port

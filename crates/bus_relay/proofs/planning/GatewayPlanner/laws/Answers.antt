@@ -1,9 +1,0 @@
-use Rattle.bus_relay.proofs.TextsGrow.{obeys}
-use Rattle.bus_relay.proofs.Growing.{room_after}
-use Rattle.bus_relay.proofs.planning.GatewayPlanner.laws.Goals as goal
-
-pub returns-clause-grows : goal.returns-clause-grows
-returns-clause-grows c = obeys
-
-pub returns-clause-after : goal.returns-clause-after
-returns-clause-after c = room_after

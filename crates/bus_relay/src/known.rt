@@ -1,0 +1,11 @@
+//! What is known of two segments before their threads run.
+use relay_setup::Passage;
+use segment_report::Names;
+
+/// The names of both segments, and where the relay leads, where there is one.
+#[derive(Drop)]
+pub(crate) struct Known {
+    pub(crate) near: Names,
+    pub(crate) far: Names,
+    pub(crate) passage: Option<Passage>,
+}

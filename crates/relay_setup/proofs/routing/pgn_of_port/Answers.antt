@@ -1,0 +1,28 @@
+use Rattle.std.proofs.Common.{◌≡◌, ℕ, suc, ◌<◌, Bool, false, cond, List, [], ◌∷◌, length, get_or, map, drop, sym, ap, ◌∙◌, arith, add-one, drop-cons}
+use Rattle.port_table.specs.declared.port.PortId.{PortId}
+use Rattle.segment_law.specs.Told.{same_port}
+use Rattle.segment_rings.specs.Ends.{InboxEnd}
+use Rattle.segment_shared.specs.declared.call.Stored.{Stored}
+use Rattle.script_setup.specs.Plan.{port_of}
+use Rattle.relay_setup.specs.Gateway.{pgn_asked, pgn_of_port}
+use Rattle.relay_setup.proofs.routing.pgn_of_port.Goals as goal
+
+-- another port is passed over
+other : (p : PortId) (ps : List PortId) (x : Stored) (xs : List Stored) (q : PortId) → same_port p q ≡ false → pgn_of_port ps xs q ≡ pgn_of_port (p ∷ ps) (x ∷ xs) q
+other p ps x xs q e = ap (λ (b : Bool). cond b (pgn_asked x.call) (pgn_of_port ps xs q)) (sym e)
+
+passed : (ps : List InboxEnd) (xs : List Stored) (q : PortId) (k : ℕ) (d : InboxEnd) → k < length ps → k < length xs → same_port (port_of (get_or ps k d)) q ≡ false
+    → pgn_of_port (map port_of (drop (suc k) ps)) (drop (suc k) xs) q ≡ pgn_of_port (map port_of (drop k ps)) (drop k xs) q
+passed ps [] q k d h j e = absurd (let l : k < 0 = j in omega arith)
+passed ps (x ∷ xs) q k d h j e =
+    other (port_of (get_or ps k d)) (map port_of (drop (suc k) ps)) (get_or (x ∷ xs) k x) (drop (suc k) (x ∷ xs)) q e
+    ∙ ap (λ (l : List InboxEnd). pgn_of_port (map port_of l) (get_or (x ∷ xs) k x ∷ drop (suc k) (x ∷ xs)) q) (sym (drop-cons ps k d h))
+    ∙ ap (λ (l : List Stored). pgn_of_port (map port_of (drop k ps)) l q) (sym (drop-cons (x ∷ xs) k x j))
+
+pub loop-k-preserved : goal.loop-k-preserved
+loop-k-preserved c =
+    let d = c.index-inboxes-k.result in
+    let l : c.loop-k.k < length c.args.inboxes.now = omega arith in
+    let m : c.loop-k.k < length c.args.calls.now = omega arith in
+    let apart : same_port (port_of (get_or c.args.inboxes.now c.loop-k.k d)) c.args.port ≡ false = ap (λ (x : InboxEnd). same_port x.port c.args.port) (sym c.index-inboxes-k.is) ∙ sym c.is_of.ensures ∙ c.if-is_of.false in
+    rw add-one (passed c.args.inboxes.now c.args.calls.now c.args.port c.loop-k.k d l m apart ∙ c.loop-k.invariant)

@@ -1,0 +1,119 @@
+//! Where a route leads.
+ghost use Rattle.std.specs.Prelude.{◌≡◌, map};
+ghost use Rattle.segment_law.specs.Told.{same_port};
+ghost use Rattle.script_commands.specs.Words.{texts};
+ghost use Rattle.script_setup.specs.Plan.{plan_of, port_of};
+ghost use Rattle.relay_setup.specs.Gateway.{plans_of, Done, routed_by, not_routed, passage_of, pgn_asked, pgn_of_port, port_pgn, count_to};
+
+use crate::gateway::{Gateway, Passage, Routing};
+use pgn_ids::{Address, Pgn};
+use port_table::PortId;
+use script_commands::{Fault, LineError, RouteWords, read_route};
+use script_setup::{Message, Setup, Uncut};
+use segment_law::{Call, Refusal};
+use segment_shared::{Inbox, Stored};
+use std::alloc::Global;
+
+// The PGN of the port that a call opens.
+fn pgn_asked(call: &Call) -> Option<Pgn>
+    ensures { result ≡ pgn_asked call.now }
+{
+    match call {
+        Call::Open { pgn, .. } => Some(*pgn),
+        _ => None,
+    }
+}
+
+fn is_of(inbox: &Inbox, port: PortId) -> bool
+    ensures { result ≡ same_port (port_of inbox.now) port }
+{
+    let own = inbox.port();
+    own.station.0 == port.station.0 && own.number == port.number
+}
+
+// The PGN of a port, where it is one of these. Each call opened the port of its place.
+fn pgn_of_port(inboxes: &[Inbox], calls: &[Stored], port: PortId) -> Option<Pgn>
+    ensures { result ≡ pgn_of_port (map port_of inboxes.now) calls.now port }
+{
+    for (k, inbox) in inboxes.iter().enumerate() {
+        if k >= calls.len() {
+            return None;
+        }
+        if is_of(inbox, port) {
+            return pgn_asked(&calls[k].call);
+        }
+    }
+    None
+}
+
+// The PGN of a port, where it was opened.
+fn port_pgn(first: &Setup, port: PortId) -> Option<Pgn>
+    ensures { result ≡ port_pgn (plan_of first.now) port }
+{
+    let Some(live) = &first.live else {
+        return None;
+    };
+    pgn_of_port(first.inboxes.as_slice(), live.calls(), port)
+}
+
+// How many of the messages are of a PGN, and to one station or to all.
+fn count_to(station: Address, pgn: Pgn, messages: &[Message]) -> u64
+    ensures { result ≡ count_to station pgn messages.now }
+{
+    let mut count = 0;
+    for message in messages {
+        if message.pgn == pgn && (message.to.0 == station.0 || message.to.0 == Address::GLOBAL.0) {
+            count += 1;
+        }
+    }
+    count
+}
+
+// The route is refused, which its line prints.
+fn refuse(alloc: Global, gateway: &mut Gateway, cause: Refusal) -> Result<(), LineError>
+    ensures { Done result (plans_of gateway.old) (plans_of gateway.new) (not_routed (plans_of gateway.old) cause) }
+{
+    gateway.routing = Routing::Refused;
+    gateway.here.refuse(alloc, cause)
+}
+
+// Where a route leads to the second segment, or why it leads nowhere.
+fn passage_of(first: &Setup, second: &Uncut, words: RouteWords) -> Result<Passage, Refusal>
+    ensures { result ≡ passage_of (plan_of first.now) second.now.addresses words }
+{
+    let Some(pgn) = port_pgn(first, words.port) else {
+        return Err(Refusal::NoSuchPort);
+    };
+    if !second.has_station(words.from) || !words.to.is_one() {
+        return Err(Refusal::NoSuchStation);
+    }
+    if words.from.0 == words.to.0 {
+        return Err(Refusal::SameStation);
+    }
+    Ok(Passage {
+        port: words.port,
+        from: words.from,
+        to: words.to,
+        limit: count_to(words.port.station, pgn, first.messages.as_slice()),
+    })
+}
+
+/// A `route` line, by its words behind the name.
+pub(crate) fn route(alloc: Global, gateway: &mut Gateway, words: &[&[u8]]) -> Result<(), LineError>
+    ensures { Done result (plans_of gateway.old) (plans_of gateway.new) (routed_by (plans_of gateway.old) (texts words.now)) }
+{
+    let Some(first) = &gateway.before else {
+        return Err(LineError::Fault(Fault::UnknownCommand));
+    };
+    let words = read_route(words)?;
+    let Some(second) = &gateway.here.live else {
+        return Err(LineError::Fault(Fault::NoStations));
+    };
+    match passage_of(first, second, words) {
+        Ok(passage) => {
+            gateway.routing = Routing::To(passage);
+            Ok(())
+        }
+        Err(cause) => refuse(alloc, gateway, cause),
+    }
+}

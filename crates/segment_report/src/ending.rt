@@ -1,0 +1,56 @@
+//! The text that is printed once the threads have ended.
+ghost use Rattle.std.specs.Prelude.{◌≡◌, ◌++◌, OnOk, IfOk};
+ghost use Rattle.segment_shared.specs.Record.{trail};
+ghost use Rattle.segment_report.specs.Ending.{Came, end_text};
+
+use crate::text::{are_same, has_run_out, print_clients, print_ports};
+use pgn_ids::Address;
+use port_table::PortId;
+use script_runs::{Lost, Told};
+use script_setup::Message;
+use script_text::print_text;
+use segment_shared::Live;
+use std::alloc::Global;
+
+// The ports with what they were given, the outcomes, and whether the turns ran out.
+#[tactic(auto, unfolding(crate::specs::Ending::end_text))]
+fn print_end(
+    out: &mut Vec<u8>,
+    live: &Live,
+    stations: &[Address],
+    ports: &[PortId],
+    ran_out: bool,
+) -> Result<(), Lost>
+    ensures { OnOk result (out.new.items ≡ out.old.items ++ end_text stations.now ports.now ran_out (trail live.now.addresses live.now.calls)) }
+{
+    print_ports(out, live, ports)?;
+    print_clients(out, live, stations)?;
+    if ran_out {
+        print_text(out, "turns ran out")?;
+    }
+    Ok(())
+}
+
+/// The text of what the threads leave, where it is a segment of these stations that has these ports and a client of each station.
+/// The turns ran out unless each message has its outcome and the bus was drained.
+///
+/// `NotThisSegment` where it is another segment, `OutOfMemory` where memory was refused.
+pub fn text_of(
+    alloc: Global,
+    live: &Live,
+    stations: &[Address],
+    ports: &[PortId],
+    messages: &[Message],
+    drained: bool,
+) -> Result<Told, Lost>
+    ensures { IfOk result (λ told. Came stations.now ports.now messages.now told.ran_out told.text.items live.now) }
+{
+    if !are_same(live.addresses(), stations) {
+        return Err(Lost::NotThisSegment);
+    }
+    let ran_out = has_run_out(live, stations, messages, drained);
+    let mut text = Vec::new(alloc);
+    print_end(&mut text, live, stations, ports, ran_out)?;
+    live.laws();
+    Ok(Told { text, ran_out })
+}
