@@ -1,7 +1,17 @@
 -- What is known of two segments before their threads run.
+use Rattle.std.specs.Prelude.{◌≡◌, Option}
 use Rattle.script_runs.specs.declared.ending.Told.{Told}
+use Rattle.script_setup.specs.Plan.{Plan}
+use Rattle.segment_report.specs.Names.{IsNamed}
+use Rattle.relay_setup.specs.declared.gateway.Passage.{Passage}
 use Rattle.bus_relay.specs.Ending.{CameOf}
 use Rattle.bus_relay.specs.declared.known.Known.{Known}
+
+-- these are the names in two plans
+pub record IsKnown (p q : Plan) (o : Option Passage) (k : Known) : Type 0 where
+  pub near : IsNamed p k.near
+  pub far : IsNamed q k.far
+  pub passage : k.passage ≡ o
 
 -- what the threads of segments with these names came to
 abbrev pub CameOfKnown : Known → Told → Type 0

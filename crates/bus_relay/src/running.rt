@@ -4,13 +4,13 @@ ghost use Rattle.script_setup.specs.Plan.{plan_of};
 ghost use Rattle.segment_report.specs.Names.{IsNamed};
 ghost use Rattle.relay_setup.specs.Gateway.{plans_of, planned};
 ghost use Rattle.bus_relay.specs.Ending.{CameTo, Ended};
-ghost use Rattle.bus_relay.specs.Known.{CameOfKnown};
+ghost use Rattle.bus_relay.specs.Known.{IsKnown, CameOfKnown};
 
 use crate::crews::crews_of;
 use crate::known::Known;
 use crate::settling::tell_end;
 use crate::threads::run_shared;
-use relay_setup::Gateway;
+use relay_setup::{Gateway, Passage};
 use script_runs::{LiveRan, Lost, Told, read_script, tell_refused, tell_run};
 use script_setup::Setup;
 use segment_report::{Names, names_of};
@@ -100,6 +100,22 @@ fn named(alloc: Global, setup: &mut Setup) -> Result<Names, Lost>
     }
 }
 
+// The names of both.
+fn known_of(
+    alloc: Global,
+    near: &mut Setup,
+    far: &mut Setup,
+    passage: Option<Passage>,
+) -> Result<Known, Lost>
+    ensures { IfOk result (λ known. IsKnown (plan_of near.old) (plan_of far.old) passage known) }
+{
+    Ok(Known {
+        near: named(alloc, near)?,
+        far: named(alloc, far)?,
+        passage,
+    })
+}
+
 // Runs what was set up.
 fn run<R: Threads + Wait + Sync, G: Gate + Sync>(
     rt: &R,
@@ -118,13 +134,7 @@ fn run<R: Threads + Wait + Sync, G: Gate + Sync>(
     let Some(mut first) = before else {
         return Err(Lost::NotThisSegment);
     };
-    let near = named(alloc, &mut first)?;
-    let far = named(alloc, &mut here)?;
-    let known = Known {
-        near,
-        far,
-        passage: routing.passage(),
-    };
+    let known = known_of(alloc, &mut first, &mut here, routing.passage())?;
     let told = run_both(rt, alloc, first, here, &known, gate, turns)?;
     Ok(told)
 }
