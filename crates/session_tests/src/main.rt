@@ -19,3 +19,6 @@ mod received;
 mod sent_images;
 #[cfg(test)]
 mod sessions;
+
+// A crate of tests is a program: of a library the gate sums up the text by each way that leads down to it.
+fn main(_rt: HostRuntime) {}
