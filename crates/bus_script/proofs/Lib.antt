@@ -1,3 +1,4 @@
 pub mod Splits
 pub mod Logs
 pub mod Shown
+pub mod EventLines

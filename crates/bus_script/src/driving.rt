@@ -7,12 +7,13 @@ ghost use Rattle.bus_script.specs.Turns.{turns_log};
 ghost use Rattle.bus_script.specs.Driving.{told_at, HasDriven};
 ghost use Rattle.bus_script.specs.Script.{Obeyed, drove};
 
+use crate::driven::print_told;
 use crate::logging::print_logged;
 use crate::parted::Parted;
 use line_runs::Told;
 use pgn_ids::Address;
 use script_commands::LineError;
-use script_text::{print_drove, print_told};
+use script_text::print_drove;
 use segment_core::{DriveEnd, Segment};
 use std::alloc::AllocError;
 

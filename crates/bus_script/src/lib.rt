@@ -2,6 +2,7 @@
 //! before the next line is read. The frames that are put stand below the replies, or as a log of their own.
 #![tactic(auto)]
 
+mod driven;
 mod driving;
 mod logging;
 mod obeying;

@@ -4,15 +4,14 @@ ghost use Rattle.segment_law.specs.Calls.{events_of};
 ghost use Rattle.script_text.specs.Replies.{put_lines, event_lines};
 ghost use Rattle.bus_script.specs.Script.{frames_put};
 
+use crate::driven::print_driven;
 use crate::driving::told_at;
 use crate::sheet::Sheet;
 use bus_frame::Frame;
 use line_runs::Told;
 use pgn_ids::Address;
 use script_commands::LineError;
-use script_text::{
-    print_counts, print_driven, print_events, print_put, print_refused, print_reply, print_text,
-};
+use script_text::{print_counts, print_events, print_put, print_refused, print_reply, print_text};
 use segment_core::{Counts, Refusal, Reply, Segment};
 use std::alloc::{AllocError, Global};
 

@@ -209,14 +209,18 @@ fn node<R: Input + Print + Eprint + AllocGlobal>(rt: &R, asked: &OfNode) -> io::
 }
 
 /// Does what the command line asks for.
-fn obey(rt: &HostRuntime, asked: &Asked) -> io::Result<ExitCode> {
+fn obey<R: Threads + Wait + Sync + Input + Print + Eprint + AllocGlobal + Files + Clock>(
+    rt: &R,
+    errors: &io::Stderr,
+    asked: &Asked,
+) -> io::Result<ExitCode> {
     match asked {
         Asked::Script => run(rt),
-        Asked::Logged => log(rt, &rt.stderr()),
+        Asked::Logged => log(rt, errors),
         Asked::Drawn => draw(rt),
         Asked::Live { turns } => live(rt, *turns),
         Asked::Relay { turns } => relay(rt, *turns),
-        Asked::Decode(asked) => decode(rt, &rt.stderr(), asked),
+        Asked::Decode(asked) => decode(rt, errors, asked),
         Asked::Node(asked) => node(rt, asked),
     }
 }
@@ -225,7 +229,7 @@ fn main(rt: HostRuntime) -> anyhow::Result<ExitCode> {
     let alloc = rt.alloc();
     let words: Vec<String> = std::env::args(&rt)?.collect(alloc)?;
     match read_command_line(alloc, words.as_slice()) {
-        Ok(asked) => Ok(obey(&rt, &asked)?),
+        Ok(asked) => Ok(obey(&rt, &rt.stderr(), &asked)?),
         Err(error) => {
             eprint!(rt; "{error}")?;
             Ok(ExitCode::from(2))

@@ -2,7 +2,7 @@
 ghost use Rattle.std.specs.Prelude.{◌≡◌, ◌++◌, OnOk};
 ghost use Rattle.script_text.specs.Counts.{counted, frame_counts, ended_counts, given_up_counts, counts_line, relayed_line};
 
-use segment_core::Counts;
+use segment_law::Counts;
 use std::alloc::AllocError;
 use text_digits::{put_decimal, put_text};
 

@@ -10,6 +10,6 @@ mod replies;
 
 pub use counts::{print_counts, print_relayed};
 pub use replies::{
-    print_driven, print_drove, print_events, print_given, print_outcome, print_port, print_put,
-    print_refused, print_reply, print_text, print_told,
+    print_drove, print_events, print_frames, print_given, print_outcome, print_port, print_put,
+    print_refused, print_reply, print_text,
 };

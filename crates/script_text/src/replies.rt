@@ -1,14 +1,14 @@
 //! Replies, and the frames and events that stand below them.
 ghost use Rattle.std.specs.Prelude.{◌≡◌, ◌++◌, OnOk, codes};
 ghost use Rattle.script_text.specs.Parts.{line, port_text};
-ghost use Rattle.script_text.specs.Replies.{message_text, frame_text, given_text, ended_text, outcome_text, refusal_text, end_text, reply_line, put_line, event_line, put_lines, event_lines, drove_line, drive_lines};
+ghost use Rattle.script_text.specs.Replies.{message_text, frame_text, given_text, ended_text, outcome_text, refusal_text, end_text, reply_line, put_line, event_line, put_lines, event_lines, drove_line};
 
 use crate::parts::{put_between, put_port, put_spaced};
 use bus_frame::Frame;
-use message_events::Bytes;
+use message_events::{Bytes, Event, Events};
 use pgn_ids::{Address, Pgn};
 use port_table::PortId;
-use segment_core::{DriveEnd, Driven, Event, EventList, Events, Refusal, Reply};
+use segment_law::{DriveEnd, Refusal, Reply};
 use std::alloc::AllocError;
 use text_digits::{put_bytes, put_decimal, put_digits, put_text};
 use tp_wire::Outcome;
@@ -76,7 +76,8 @@ pub fn print_put(out: &mut Vec<u8>, frame: &Frame) -> Result<(), AllocError>
     put_text(out, "\n")
 }
 
-fn print_frames(out: &mut Vec<u8>, frames: &[Frame]) -> Result<(), AllocError>
+/// The lines of frames that were put on the bus, one each, in their order.
+pub fn print_frames(out: &mut Vec<u8>, frames: &[Frame]) -> Result<(), AllocError>
     ensures { OnOk result (out.new.items ≡ out.old.items ++ put_lines frames.now) }
 {
     for frame in frames {
@@ -220,16 +221,6 @@ pub fn print_events(out: &mut Vec<u8>, events: &Events) -> Result<(), AllocError
     Ok(())
 }
 
-/// The lines of the events of several calls, one each, in their order.
-pub fn print_told(out: &mut Vec<u8>, events: &EventList) -> Result<(), AllocError>
-    ensures { OnOk result (out.new.items ≡ out.old.items ++ event_lines events.now) }
-{
-    for part in events.parts() {
-        print_events(out, part)?;
-    }
-    Ok(())
-}
-
 fn put_end(out: &mut Vec<u8>, end: DriveEnd) -> Result<(), AllocError>
     ensures { OnOk result (out.new.items ≡ out.old.items ++ end_text end) }
 {
@@ -251,13 +242,4 @@ pub fn print_drove(out: &mut Vec<u8>, turns: u64, end: DriveEnd) -> Result<(), A
     put_text(out, " ")?;
     put_end(out, end)?;
     put_text(out, "\n")
-}
-
-/// The lines of a drive: its turns and how it ended, the frames that it put, then the events that it told.
-pub fn print_driven(out: &mut Vec<u8>, driven: Driven) -> Result<(), AllocError>
-    ensures { OnOk result (out.new.items ≡ out.old.items ++ drive_lines driven.turns driven.end driven.frames driven.events) }
-{
-    print_drove(out, driven.turns, driven.end)?;
-    print_frames(out, driven.frames.as_slice())?;
-    print_told(out, &driven.events)
 }

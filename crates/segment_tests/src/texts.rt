@@ -107,7 +107,12 @@ fn prints_drive(
     from: Address,
     turns: u64,
 ) {
-    got(rt, print_driven(out, driven(rt, segment, from, B, turns)));
+    let driven = driven(rt, segment, from, B, turns);
+    got(rt, print_drove(out, driven.turns, driven.end));
+    got(rt, print_frames(out, driven.frames.as_slice()));
+    for part in driven.events.parts() {
+        got(rt, print_events(out, part));
+    }
 }
 
 fn prints_drives(rt: &impl Abort, out: &mut Vec<u8>, segment: &mut Segment) {

@@ -3,8 +3,8 @@ use Rattle.std.specs.List.{flat_map}
 use Rattle.std.proofs.lemmas.List.{take_all}
 use Rattle.message_events.specs.declared.event.Event.{Event}
 use Rattle.script_text.specs.Replies.{event_lines}
-use Rattle.script_text.proofs.EventLines.{parts_lines}
-use Rattle.script_text.proofs.replies.print_told.Goals as goal
+use Rattle.bus_script.proofs.EventLines.{parts_lines}
+use Rattle.bus_script.proofs.driven.print_told.Goals as goal
 
 pub returns : goal.returns
 returns c =
