@@ -7,6 +7,7 @@ use Rattle.text_digits.specs.Digits.{digits}
 use Rattle.message_events.specs.declared.event.Event.{Event}
 use Rattle.message_events.specs.declared.event.Event.TheVariants as events
 use Rattle.tp_wire.specs.declared.outcome.Outcome.{Outcome}
+use Rattle.script_text.specs.Parts.{port_text}
 use Rattle.script_text.specs.Replies.{outcome_text}
 use Rattle.bus_drawing.specs.Words.{line, name_of}
 
@@ -27,9 +28,6 @@ note_over = codes "  Note over "
 abbrev pub note_line : Address → List ℕ → List ℕ
 note_line at words = line (note_over ++ name_of at ++ codes ": " ++ words)
 
-abbrev pub port_words : PortId → List ℕ
-port_words port = digits 16 2 port.station.0 ++ codes "." ++ decimal port.number
-
 unfoldable pub pgn_words : ℕ → List ℕ
 pgn_words pgn = codes ", PGN " ++ digits 16 5 pgn
 
@@ -40,7 +38,7 @@ abbrev pub message_words : ℕ → List ℕ → List ℕ
 message_words pgn bytes = pgn_words pgn ++ length_words (length bytes)
 
 unfoldable pub given_words : PortId → Address → ℕ → List ℕ → List ℕ
-given_words port from pgn bytes = codes "given " ++ port_words port ++ codes " from " ++ name_of from ++ message_words pgn bytes
+given_words port from pgn bytes = codes "given " ++ port_text port ++ codes " from " ++ name_of from ++ message_words pgn bytes
 
 -- the outcome of a message, by its number in the lane to a destination
 unfoldable pub outcome_words : Address → ℕ → Outcome → List ℕ

@@ -1,16 +1,16 @@
 //! The beginning of a drawing, and the notes of what is told.
 ghost use Rattle.std.specs.Prelude.{◌≡◌, ◌++◌, OnOk, flat_map, codes};
-ghost use Rattle.script_text.specs.Replies.{outcome_text};
 ghost use Rattle.bus_drawing.specs.Words.{name_of};
-ghost use Rattle.bus_drawing.specs.Notes.{participant_line, heading, opening, note_over, note_line, port_words, pgn_words, length_words, message_words, given_words, outcome_words, event_note, notes};
+ghost use Rattle.bus_drawing.specs.Notes.{participant_line, heading, opening, note_over, note_line, pgn_words, length_words, message_words, given_words, outcome_words, event_note, notes};
 
 use crate::words::{put_name, put_pgn};
 use message_events::{Bytes, Event, Events};
 use pgn_ids::{Address, Pgn};
 use port_table::PortId;
+use script_text::{put_outcome, put_port};
 use segment_core::EventList;
 use std::alloc::AllocError;
-use text_digits::{put_decimal, put_digits, put_text};
+use text_digits::{put_decimal, put_text};
 use tp_wire::Outcome;
 
 #[tactic(auto, unfolding(crate::specs::Notes::participant_line))]
@@ -47,14 +47,6 @@ pub fn draw_opening(out: &mut Vec<u8>, stations: &[Address]) -> Result<(), Alloc
     }
     put_heading(out)?;
     draw_participants(out, stations)
-}
-
-fn put_port(out: &mut Vec<u8>, port: PortId) -> Result<(), AllocError>
-    ensures { OnOk result (out.new.items ≡ out.old.items ++ port_words port) }
-{
-    put_digits(out, 16, 2, u64::from(port.station.0))?;
-    put_text(out, ".")?;
-    put_decimal(out, port.number)
 }
 
 #[tactic(auto, unfolding(crate::specs::Notes::pgn_words))]
@@ -96,23 +88,6 @@ fn put_given(
     put_text(out, " from ")?;
     put_name(out, from)?;
     put_message(out, pgn, bytes)
-}
-
-fn put_outcome(out: &mut Vec<u8>, outcome: Outcome) -> Result<(), AllocError>
-    ensures { OnOk result (out.new.items ≡ out.old.items ++ outcome_text outcome) }
-{
-    match outcome {
-        Outcome::Acknowledged => put_text(out, "Acknowledged"),
-        Outcome::Broadcast => put_text(out, "Broadcast"),
-        Outcome::Aborted(reason) => {
-            put_text(out, "Aborted ")?;
-            put_decimal(out, u64::from(reason))
-        }
-        Outcome::TimedOut => put_text(out, "TimedOut"),
-        Outcome::Overrun => put_text(out, "Overrun"),
-        Outcome::Cancelled => put_text(out, "Cancelled"),
-        Outcome::Unreachable => put_text(out, "Unreachable"),
-    }
 }
 
 #[tactic(auto, unfolding(crate::specs::Notes::outcome_words))]

@@ -14,7 +14,8 @@ fn put_address(out: &mut Vec<u8>, address: Address) -> Result<(), AllocError>
     put_byte(out, address.0)
 }
 
-pub(crate) fn put_port(out: &mut Vec<u8>, port: PortId) -> Result<(), AllocError>
+/// A port: its station, two hexadecimal digits, and its number.
+pub fn put_port(out: &mut Vec<u8>, port: PortId) -> Result<(), AllocError>
     ensures { OnOk result (out.new.items ≡ out.old.items ++ port_text port) }
 {
     put_address(out, port.station)?;

@@ -122,7 +122,8 @@ fn put_given(
     put_message(out, pgn, bytes)
 }
 
-fn put_outcome(out: &mut Vec<u8>, outcome: Outcome) -> Result<(), AllocError>
+/// The name of an outcome, with the reason of an abort.
+pub fn put_outcome(out: &mut Vec<u8>, outcome: Outcome) -> Result<(), AllocError>
     ensures { OnOk result (out.new.items ≡ out.old.items ++ outcome_text outcome) }
 {
     match outcome {
