@@ -25,7 +25,6 @@ pub(crate) struct Handed {
 // What all threads of a run share: both segments, the pace of the workers of each, and that of the relay.
 #[derive(Drop)]
 struct Course<'a, G> {
-    parties: &'a [Party<'a>],
     here: Party<'a>,
     there: Party<'a>,
     near: &'a Pace<'a, Numbered<'a, 'a, G>>,
@@ -71,6 +70,12 @@ fn carry_or_end<R: Threads + Wait + Sync, G: Gate + Sync>(
     }
 }
 
+// Watches both segments until all have ended.
+fn watch_both<R: Threads + Wait + Sync, G: Gate + Sync>(rt: &R, course: &Course<'_, G>) -> bool {
+    let parties = [course.here, course.there];
+    watch(rt, parties.as_slice(), course.near)
+}
+
 fn spawn_side<'s, E, R: Threads + Wait + Sync, G: Gate + Sync>(
     scope: &Scope<'s, E>,
     rt: &'s R,
@@ -96,7 +101,7 @@ fn spawn_all<'s, E, R: Threads + Wait + Sync, G: Gate + Sync>(
     course: &'s Course<'s, G>,
 ) -> Result<AllSpawned, AllocError> {
     let turns = course.turns;
-    let watching = scope.spawn(move || watch(rt, course.parties, course.near))?;
+    let watching = scope.spawn(move || watch_both(rt, course))?;
     let near = spawn_side(scope, rt, alloc, near, course.here, course.near, turns)?;
     let far = spawn_side(scope, rt, alloc, far, course.there, course.far, turns)?;
     Ok(AllSpawned {
@@ -251,7 +256,6 @@ fn run_parties<'a, R: Threads + Wait + Sync, G: Gate + Sync>(
     turns: u64,
 ) -> Result<Handed, Lost> {
     let board = Board::new();
-    let parties = [here, there];
     let near_gate = Numbered {
         gate,
         stations: here.stations,
@@ -277,13 +281,9 @@ fn run_parties<'a, R: Threads + Wait + Sync, G: Gate + Sync>(
     };
     let far = Pace {
         gate: &far_gate,
-        board: &board,
-        senders: counts.senders,
-        workers: counts.workers,
-        relays: counts.relays,
+        ..near
     };
     let course = Course {
-        parties: parties.as_slice(),
         here,
         there,
         near: &near,
