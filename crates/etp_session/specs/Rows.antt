@@ -7,9 +7,8 @@ use Rattle.tp_wire.specs.declared.wire.Wire.{Wire}
 use Rattle.tp_wire.specs.declared.wire.Wire.TheVariants.{Cm, Packet}
 use Rattle.responder.specs.Unfinished.{number_of}
 use Rattle.responder.specs.Readers.{unfinished_of}
-use Rattle.responder.specs.DpoRows.{on_dpo}
+use Rattle.responder.specs.AwaitPacket.{on_dpo, on_packet}
 use Rattle.responder.specs.Holding.{on_dpo_in_hold, on_packet_in_hold}
-use Rattle.responder.specs.PacketRows.{on_packet}
 use Rattle.responder.specs.declared.flow.Flow.{Flow}
 use Rattle.responder.specs.declared.in_state.InState.{InState}
 use Rattle.responder.specs.declared.in_state.InState.TheVariants.{AwaitPacket, Holding}

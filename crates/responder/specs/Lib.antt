@@ -10,8 +10,7 @@ pub mod States
 pub mod StateFields
 pub mod Readers
 pub mod Asking
-pub mod PacketRows
-pub mod DpoRows
+pub mod AwaitPacket
 pub mod Holding
 pub mod Steps
 pub mod Room

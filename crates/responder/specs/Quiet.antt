@@ -8,7 +8,8 @@ use Rattle.tp_wire.specs.declared.wire.CmFrame.TheVariants.{EtpDpo}
 use Rattle.tp_wire.specs.declared.wire.Wire.{Wire}
 use Rattle.tp_wire.specs.declared.wire.Wire.TheVariants.{Cm}
 use Rattle.responder.specs.States.{AwaitPacket}
-use Rattle.responder.specs.DpoRows.{is_of_another, is_wrong_dpo}
+use Rattle.responder.specs.Unfinished.{is_of_another}
+use Rattle.responder.specs.AwaitPacket.{is_wrong_dpo}
 use Rattle.responder.specs.Steps.{is_next, stepped}
 use Rattle.responder.specs.Room.{grants_next, prepared}
 use Rattle.responder.specs.declared.flow.Flow.{Flow}

@@ -10,7 +10,7 @@ use Rattle.seg_cut.specs.Packets.{packet_count}
 use Rattle.responder.specs.Unfinished.{Unfinished, with_packet, finished}
 use Rattle.responder.specs.States.{AwaitPacket}
 use Rattle.responder.specs.Asking.{asks}
-use Rattle.responder.specs.PacketRows.{aborted, accepted}
+use Rattle.responder.specs.AwaitPacket.{aborted, accepted}
 use Rattle.responder.specs.Holding.{on_packet_in_hold}
 use Rattle.responder.specs.declared.flow.Flow.{Flow}
 use Rattle.responder.specs.declared.in_state.InState.{InState}
