@@ -14,8 +14,8 @@ use Rattle.station_lanes.specs.LaneCalls.{lane_to}
 use Rattle.station_sessions.specs.Opening.{key_of}
 use Rattle.station_core.specs.Station.{Station, new_station}
 use Rattle.segment_law.specs.Segment.{Segment, new_segment, rising}
-use Rattle.record_lemmas.proofs.Maps.{state_empty, of_each_none}
-use Rattle.record_lemmas.proofs.Segments.{same_address, new_at, start_at}
+use Rattle.segment_law.proofs.Maps.{state_empty, of_each_none}
+use Rattle.segment_law.proofs.Segments.{same_address, new_at, start_at}
 use Rattle.lane_law.specs.Lane as machine
 use Rattle.lane_law.specs.Choice.{IsChoice}
 use Rattle.broadcast_law.proofs.Buses.{ahead_of}
@@ -23,9 +23,9 @@ use Rattle.broadcast_law.proofs.Places.{IsAt}
 use Rattle.broadcast_law.proofs.View.{GoesOn}
 use Rattle.port_table.specs.Ports.{no_ports}
 use Rattle.segment_law.specs.Headline.{port_of}
-use Rattle.port_law.proofs.Calls.{IsSound, HasLife, Good}
-use Rattle.port_law.proofs.Lives.{lives_first}
-use Rattle.port_law.proofs.Receptions.{IsBound}
+use Rattle.record_law.proofs.ports.Calls.{IsSound, HasLife, Good}
+use Rattle.record_law.proofs.ports.Lives.{lives_first}
+use Rattle.record_law.proofs.ports.Receptions.{IsBound}
 use Rattle.session_table.specs.Key.{session_for}
 use Rattle.connection_law.proofs.Openings.{no_mark, marked_none}
 use Rattle.connection_law.proofs.Frames.{goes, returns}

@@ -14,11 +14,11 @@ use Rattle.segment_law.specs.Calls.{events_of}
 use Rattle.segment_law.specs.Record.{Step, Record}
 use Rattle.segment_law.specs.declared.call.Call.{Call}
 use Rattle.segment_law.specs.declared.reply.Reply.{Reply}
-use Rattle.record_lemmas.proofs.Lists.{Each, each_append, each_map, each_of_all, In, each_weaker}
+use Rattle.segment_law.proofs.Lists.{Each, each_append, each_map, each_of_all, In, each_weaker}
 use Rattle.broadcast_law.proofs.Counted.{giving}
 use Rattle.broadcast_law.proofs.Numbered.{Giving}
-use Rattle.port_law.proofs.Calls.{Good, Goes, placed}
-use Rattle.port_law.proofs.Lives.{Openings, Closings, Lives}
+use Rattle.record_law.proofs.ports.Calls.{Good, Goes, placed}
+use Rattle.record_law.proofs.ports.Lives.{Openings, Closings, Lives}
 use Rattle.connection_law.proofs.View.{Mark, Has, IsMarked}
 use Rattle.connection_law.proofs.Marks.{less_mark}
 use Rattle.connection_law.proofs.Receiver.{mark_of}

@@ -21,9 +21,9 @@ use Rattle.segment_law.specs.Reached.{IsReached}
 use Rattle.segment_law.specs.declared.call.Call.{Call}
 use Rattle.segment_law.specs.declared.reply.Reply.{Reply}
 use Rattle.broadcast_law.proofs.AlongRecords.{item_of}
-use Rattle.record_lemmas.proofs.AlongRecords.{carried}
-use Rattle.record_lemmas.proofs.Lists.{Each, each_append, each_get}
-use Rattle.record_lemmas.proofs.Told.{items_placed, told_last}
+use Rattle.segment_law.proofs.AlongRecords.{carried}
+use Rattle.segment_law.proofs.Lists.{Each, each_append, each_get}
+use Rattle.segment_law.proofs.Told.{items_placed, told_last}
 use Rattle.lane_law.specs.Message.{IsSent}
 use Rattle.lane_law.specs.Session.{Given}
 use Rattle.lane_law.specs.Choice as choice
@@ -37,9 +37,9 @@ use Rattle.broadcast_law.proofs.Numbered.{Giving, messages}
 use Rattle.broadcast_law.proofs.Places.{IsAt, AllOwn}
 use Rattle.broadcast_law.proofs.Ports.{Distinct, first_message}
 use Rattle.broadcast_law.proofs.View.{plain, cleaned, GoesOn}
-use Rattle.port_law.proofs.Calls.{Good as OfPort, Goes as GoesOfPort}
-use Rattle.port_law.proofs.Every.{goes_call}
-use Rattle.port_law.proofs.Lives.{Openings, Closings}
+use Rattle.record_law.proofs.ports.Calls.{Good as OfPort, Goes as GoesOfPort}
+use Rattle.record_law.proofs.ports.Every.{goes_call}
+use Rattle.record_law.proofs.ports.Lives.{Openings, Closings}
 use Rattle.connection_law.proofs.Roles.{station_told, numbers_at, ended_in}
 use Rattle.connection_law.proofs.View.{Laws, IsPair, Mark, IsMarked, View, kind_of, IsGood, IsTold, Has, fate_of, Sim}
 use Rattle.connection_law.proofs.Receiver.{all_last}

@@ -11,9 +11,9 @@ ghost use Rattle.segment_law.specs.Told.{given, sent};
 
 use broadcast_law::broadcasts_are_given_once_in_order;
 use lane_law::{broadcasts_go_on, lanes_go_on, outcomes_are_true};
-use outcome_law::each_message_has_one_outcome;
 use pgn_ids::identifiers_are_read_back;
-use port_law::what_is_given_is_to_its_station_or_to_all;
+use record_law::outcomes::each_message_has_one_outcome;
+use record_law::ports::what_is_given_is_to_its_station_or_to_all;
 use seg_cut::packet_is_seven_places;
 use tp_wire::what_is_written_is_read;
 

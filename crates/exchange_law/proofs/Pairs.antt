@@ -14,7 +14,7 @@ use Rattle.message_events.specs.declared.event.Event.{Event}
 use Rattle.station_core.specs.Station.{Station, StationStep, quietly}
 use Rattle.station_core.specs.Taking.{taken}
 use Rattle.segment_law.specs.Calls.{no_place}
-use Rattle.quiet_law.proofs.Lists.{set_where}
+use Rattle.exchange_law.proofs.broadcasts.Lists.{set_where}
 
 -- where one element alone has the test, only it tells something
 module _ {X Z : Type 0} (test : X → Bool) (es : List Z) where

@@ -24,8 +24,8 @@ use Rattle.segment_law.specs.declared.refusal.Refusal.TheVariants as refusal
 use Rattle.segment_law.specs.declared.reply.Reply.{Reply}
 use Rattle.segment_law.specs.declared.reply.Reply.TheVariants.{Done}
 use Rattle.segment_law.proofs.Reaching.{reached_call}
-use Rattle.quiet_law.proofs.Sweeps.{under_way, events-append, Offers}
-use Rattle.quiet_law.proofs.Turns.{Rests, has_room, offers_put}
+use Rattle.exchange_law.proofs.broadcasts.Sweeps.{under_way, events-append, Offers}
+use Rattle.exchange_law.proofs.broadcasts.Turns.{Rests, has_room, offers_put}
 
 -- whether a station has something queued
 pub queued_is : (seg : Segment) → IsReached seg → (j : ℕ) (z : Station) → slice_get seg.stations j ≡ Some z → has_queued seg z.address ≡ nat_lt 0 (length z.queue)

@@ -34,10 +34,10 @@ use Rattle.session_table.specs.Key.{session_for}
 use Rattle.segment_law.specs.Quiet.{quiet, quiet_broadcast, quiet_connection, given_by, broadcast_given, takers, has_place, is_to_all, is_at_rest, IsSettled, IsQuiet, quiet_events, IsUndisturbed, IsQuietExchange, may_broadcast, may_receive}
 use Rattle.segment_law.proofs.Booleans.{both_pass, both as both_are, not_passes}
 use Rattle.segment_law.proofs.Records.{stands_reached}
-use Rattle.quiet_law.proofs.Receivers.{all}
-use Rattle.quiet_law.proofs.Sweeps.{under_way, waiting_is}
-use Rattle.quiet_law.proofs.Quiets.{station_is, queues, rests}
-use Rattle.quiet_law.proofs.Turns.{Rests}
+use Rattle.exchange_law.proofs.broadcasts.Receivers.{all}
+use Rattle.exchange_law.proofs.broadcasts.Sweeps.{under_way, waiting_is}
+use Rattle.exchange_law.proofs.broadcasts.Quiets.{station_is, queues, rests}
+use Rattle.exchange_law.proofs.broadcasts.Turns.{Rests}
 use Rattle.exchange_law.proofs.Pairs.{Pair, is_s, is_d, put, s_at}
 use Rattle.exchange_law.proofs.Senders.{Sent, ready, over_with, lanes_with, sends, rts}
 use Rattle.exchange_law.proofs.Receivers.{Welcome, hears}

@@ -12,8 +12,8 @@ use Rattle.seg_cut.specs.Packets.{packet_count, packet}
 use Rattle.originator.specs.Link.{request_to_send}
 use Rattle.originator.specs.Pump as out
 use Rattle.responder.specs.Window.{clear_to_send}
-use Rattle.record_lemmas.proofs.Readings.{GivesBack, ReadsBack}
-use Rattle.quiet_law.proofs.Receivers.{GoesOn, Ends}
+use Rattle.segment_law.proofs.Readings.{GivesBack, ReadsBack}
+use Rattle.exchange_law.proofs.broadcasts.Receivers.{GoesOn, Ends}
 use Rattle.exchange_law.proofs.Nodes.{IsBetween, between}
 use Rattle.exchange_law.proofs.Senders.{Sent, s, d, len, last, end_of}
 

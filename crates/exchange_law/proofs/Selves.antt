@@ -11,12 +11,12 @@ use Rattle.segment_law.specs.Calls.{applied}
 use Rattle.segment_law.specs.Record.{Record, StandsAt}
 use Rattle.segment_law.specs.Reached.{IsReached}
 use Rattle.segment_law.specs.declared.call.Call.{Call}
-use Rattle.record_lemmas.proofs.AlongRecords.{at_record}
-use Rattle.record_lemmas.proofs.Told.{none_to_itself}
-use Rattle.outcome_law.proofs.Counting.{times, times-here}
-use Rattle.outcome_law.proofs.LaneSteps.{numbers_of}
-use Rattle.outcome_law.proofs.Beginning.{new_at}
-use Rattle.outcome_law.proofs.Calls.{Good, good_call}
+use Rattle.segment_law.proofs.AlongRecords.{at_record}
+use Rattle.segment_law.proofs.Told.{none_to_itself}
+use Rattle.record_law.proofs.outcomes.Counting.{times, times-here}
+use Rattle.record_law.proofs.outcomes.LaneSteps.{numbers_of}
+use Rattle.record_law.proofs.outcomes.Beginning.{new_at}
+use Rattle.record_law.proofs.outcomes.Calls.{Good, good_call}
 
 module _ (s : Address) where
   -- nothing is pending in the lane to itself

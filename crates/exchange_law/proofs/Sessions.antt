@@ -29,8 +29,7 @@ use Rattle.responder.specs.States.{announced_at_first}
 use Rattle.responder.specs.Asking.{asking, asked, asks}
 use Rattle.responder.specs.Room.{first_join, grants_next, needed, prepared}
 use Rattle.responder.specs.Steps.{stepped}
-use Rattle.responder.specs.DpoRows.{on_dpo}
-use Rattle.responder.specs.PacketRows.{on_packet, accepted}
+use Rattle.responder.specs.AwaitPacket.{accepted, on_dpo, on_packet}
 use Rattle.responder.specs.declared.flow.Flow.{Flow}
 use Rattle.responder.specs.declared.flow.Flow.TheVariants.{Open}
 use Rattle.responder.specs.declared.in_state.InState.{InState}
@@ -48,7 +47,7 @@ use Rattle.station_sessions.specs.Receiving.{goes_on_at, ended_at}
 use Rattle.station_core.specs.Station.{Station, StationStep, by_session}
 use Rattle.station_core.specs.Taking.{in_session, wire_taken}
 use Rattle.segment_law.specs.Quiet.{given_by}
-use Rattle.record_lemmas.proofs.Told.{clean_is}
+use Rattle.segment_law.proofs.Told.{clean_is}
 use Rattle.exchange_law.proofs.Senders.{Sent, s, d, len, last, end_of}
 use Rattle.exchange_law.proofs.Receivers.{Welcome, peer, key, set, hears, sessions_with, key_is, set_is, flow_is, admits, stepped_as}
 use Rattle.exchange_law.proofs.Rows.{Laws, packet_wire}

@@ -21,8 +21,8 @@ use Rattle.segment_law.specs.Drive as drive
 use Rattle.segment_law.specs.Drive.{Driven, events_in, goes_on, puts, has_queued, all_take, turn}
 use Rattle.segment_law.specs.declared.call.Call.TheVariants.{Pump, Transmit}
 use Rattle.segment_law.specs.declared.reply.Reply.TheVariants.{Done}
-use Rattle.quiet_law.proofs.Sweeps.{under_way, Offers, Swept, sweep_free, after, told_by}
-use Rattle.quiet_law.proofs.Turns.{Rests, offers_rests}
+use Rattle.exchange_law.proofs.broadcasts.Sweeps.{under_way, Offers, Swept, sweep_free, after, told_by}
+use Rattle.exchange_law.proofs.broadcasts.Turns.{Rests, offers_rests}
 use Rattle.exchange_law.proofs.Nodes.{IsBetween, flipped, taken_own, taken_there, taken_else}
 use Rattle.exchange_law.proofs.Pairs.{Pair, s, d, put, both, s_at, d_at, s_set, d_set, rooms, Passes, stations_after, told_by_d, told_by_s}
 use Rattle.exchange_law.proofs.Puts.{queued_is, after_put, put_reached, put_offers, puts_is, put_told, after_pump, pump_reached, pumps_is, pump_told}

@@ -4,8 +4,8 @@ ghost use Rattle.pgn_ids.specs.Address.{global_address};
 ghost use Rattle.pgn_ids.specs.declared.address.Address.{Address};
 ghost use Rattle.segment_law.specs.Quiet.{IsQuietExchange};
 
+use crate::broadcasts::broadcasts_are_undisturbed;
 use pgn_ids::identifiers_are_read_back;
-use quiet_law::broadcasts_are_undisturbed;
 use seg_cut::{joined_packets_are_the_message, packet_is_seven_places};
 use tp_wire::what_is_written_is_read;
 

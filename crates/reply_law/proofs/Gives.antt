@@ -38,16 +38,16 @@ use Rattle.message_events.specs.declared.event.Event.TheVariants as event
 use Rattle.station_sessions.specs.Steps.{completes, size_of}
 use Rattle.station_sessions.specs.Receiving.{Inbound, flow_at, broadcast_settled, connection_settled, session_stepped, session_fired, received_by, fired_by, wanted_by}
 use Rattle.station_sessions.specs.Opening.{key_of, opening_received}
-use Rattle.record_lemmas.proofs.Openings.{opening_untold}
+use Rattle.segment_law.proofs.Openings.{opening_untold}
 use Rattle.station_core.specs.Station.{Station, StationStep, quietly, by_lane, by_session}
 use Rattle.station_core.specs.Overruns.{overrun}
 use Rattle.station_core.specs.Taking.{packet_kind, cm_taken, wire_taken, meaning_taken, looks_at, taken, wire_wanted, meaning_wanted, wanted}
 use Rattle.station_core.specs.Timers.{lane_fired, fired}
 use Rattle.segment_law.specs.Readers.{ports_given}
 use Rattle.responder.proofs.Rows.{by_timer}
-use Rattle.reader_law.proofs.Wanted.{packet_ports, dpo_ports}
-use Rattle.port_law.proofs.Receptions.{IsBound, AreBound}
-use Rattle.port_law.proofs.Sessions.{IsOf, Goes, GoesBroadcast, connection_step, connection_prepared, broadcast_step}
+use Rattle.record_law.proofs.readers.Wanted.{packet_ports, dpo_ports}
+use Rattle.record_law.proofs.ports.Receptions.{IsBound, AreBound}
+use Rattle.record_law.proofs.ports.Sessions.{IsOf, Goes, GoesBroadcast, connection_step, connection_prepared, broadcast_step}
 use Rattle.reply_law.specs.Replies.{EachShort}
 
 pub none_short : (n : ℕ) (es : List Event) → ports_given es ≡ [] → EachShort n es

@@ -8,12 +8,12 @@ use Rattle.station_core.specs.Station.{Station, new_station}
 use Rattle.segment_law.specs.Segment.{Segment, new_segment, rising}
 use Rattle.segment_law.specs.Calls.{applied}
 use Rattle.segment_law.specs.Record.{Record, StandsAt, after, calls_of}
-use Rattle.record_lemmas.proofs.Maps.{of_each_none}
-use Rattle.record_lemmas.proofs.Segments.{new_each}
-use Rattle.port_law.proofs.Calls.{IsSound, placed}
-use Rattle.port_law.proofs.Lives.{Openings, Closings}
-use Rattle.port_law.proofs.Receptions.{IsBound}
-use Rattle.port_law.proofs.Records.{opens, shuts, AllGo, record_goes}
+use Rattle.segment_law.proofs.Maps.{of_each_none}
+use Rattle.segment_law.proofs.Segments.{new_each}
+use Rattle.record_law.proofs.ports.Calls.{IsSound, placed}
+use Rattle.record_law.proofs.ports.Lives.{Openings, Closings}
+use Rattle.record_law.proofs.ports.Receptions.{IsBound}
+use Rattle.record_law.proofs.ports.Records.{opens, shuts, AllGo, record_goes}
 
 -- any port
 abbrev some_port : PortId

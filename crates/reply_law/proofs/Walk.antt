@@ -31,14 +31,14 @@ use Rattle.segment_law.specs.declared.call.Call.TheVariants.{Open, Close, Send, 
 use Rattle.segment_law.specs.declared.reply.Reply.{Reply}
 use Rattle.segment_law.specs.declared.reply.Reply.TheVariants.{Opened, Sent, Done}
 use Rattle.segment_law.proofs.Reaching.{slice_get_same, slice_get_other}
-use Rattle.record_lemmas.proofs.Lists.{Each, In}
-use Rattle.record_lemmas.proofs.EachCall.{looked, OfStation, Accepted}
-use Rattle.record_lemmas.proofs.Segments.{has_address, same_address}
-use Rattle.record_lemmas.proofs.Tests.{equal_or_not}
-use Rattle.port_law.proofs.Calls.{IsSound}
-use Rattle.port_law.proofs.Closing.{closes as closing_is}
-use Rattle.port_law.proofs.Ports.{IsAllowed, Opens}
-use Rattle.port_law.proofs.Stations.{Acts, acts_lane, acts_taken, acts_fired, acts_overrun}
+use Rattle.segment_law.proofs.Lists.{Each, In}
+use Rattle.segment_law.proofs.EachCall.{looked, OfStation, Accepted}
+use Rattle.segment_law.proofs.Segments.{has_address, same_address}
+use Rattle.segment_law.proofs.Tests.{equal_or_not}
+use Rattle.record_law.proofs.ports.Calls.{IsSound}
+use Rattle.record_law.proofs.ports.Closing.{closes as closing_is}
+use Rattle.record_law.proofs.ports.Ports.{IsAllowed, Opens}
+use Rattle.record_law.proofs.ports.Stations.{Acts, acts_lane, acts_taken, acts_fired, acts_overrun}
 use Rattle.reply_law.specs.Replies.{IsRefusal, IsAnsweredBy, expected, EachAt, IsKnown, EachKnown, EachShort}
 use Rattle.reply_law.proofs.Gives.{taken_none, taken_short, by_lane_none, fired_none, overrun_none}
 

@@ -11,7 +11,7 @@ ghost use Rattle.segment_core.specs.Promise.{KeepsPromise};
 
 use crate::segment::Segment;
 use crate::stop::Stop;
-use headline_law::the_headline_holds;
+use connection_law::the_headline_holds;
 use pgn_ids::Address;
 use segment_law::{Call, Reply};
 use std::alloc::AllocError;

@@ -19,7 +19,7 @@ use crate::driven::Driven;
 use crate::segment::Segment;
 use crate::stop::Stop;
 use exchange_law::messages_are_undisturbed;
-use headline_law::the_headline_holds;
+use connection_law::the_headline_holds;
 use pgn_ids::Address;
 use segment_law::{DriveEnd, Refusal};
 

@@ -24,7 +24,7 @@ mod stop;
 mod taking;
 
 pub use driven::{Driven, EventList, FrameList};
-pub use headline_law::the_headline_holds;
+pub use connection_law::the_headline_holds;
 pub use image::{Image, equal_images_answer_alike};
 pub use lane_core::LaneSight;
 pub use message_events::Bytes;

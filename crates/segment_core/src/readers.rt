@@ -6,7 +6,7 @@ ghost use Rattle.bus_order.specs.Bus.{bus_len, frame_at};
 ghost use Rattle.segment_law.specs.Segment.{has_station, waiting_at};
 ghost use Rattle.segment_law.specs.Readers.{lane_seen, queue_len, front_at, next_pump, is_due, wanted, wanted_with, given_by_take, frame_for, rests, is_idle};
 ghost use Rattle.segment_law.specs.Record.{Record, StandsAt};
-ghost use Rattle.reader_law.specs.Counting.{counts_over};
+ghost use Rattle.record_law.specs.Counting.{counts_over};
 
 use crate::segment::Segment;
 use bus_frame::Frame;
@@ -68,7 +68,7 @@ impl Segment {
     }
 
     /// What was counted, each number up to the last value of `u64`: that which the segment's record holds.
-    #[tactic(auto, using(reader_law::proofs::Recorded::counts_are_recorded))]
+    #[tactic(auto, using(record_law::proofs::readers::Recorded::counts_are_recorded))]
     pub fn counts(&self) -> Counts
         ensures value { result ≡ self.now.counts }
         ensures of_record { (addresses : List AddressValue) (steps : Record) → StandsAt addresses steps self.now → result ≡ counts_over addresses steps }

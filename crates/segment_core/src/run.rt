@@ -7,7 +7,7 @@ ghost use Rattle.segment_core.specs.Runs.{IsRun, FirstIsNotRefused, steps_of};
 ghost use Rattle.segment_core.specs.Promise.{KeepsPromise};
 
 use crate::segment::Segment;
-use headline_law::the_headline_holds;
+use connection_law::the_headline_holds;
 use segment_law::{Call, Reply, RunEnd};
 
 /// What a list of calls was answered.

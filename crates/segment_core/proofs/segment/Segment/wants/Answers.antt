@@ -5,8 +5,8 @@ use Rattle.station_core.specs.Station.{Station}
 use Rattle.segment_law.specs.Segment.{Segment, place_of}
 use Rattle.segment_law.specs.Readers.{frame_for, wanted_with, given_by_take}
 use Rattle.segment_law.specs.Record.{Record, StandsAt}
-use Rattle.reader_law.proofs.Takes.{wanted_is_given}
-use Rattle.reader_law.proofs.Lengths.{wanted_is_given_whole}
+use Rattle.record_law.proofs.readers.Takes.{wanted_is_given}
+use Rattle.record_law.proofs.readers.Lengths.{wanted_is_given_whole}
 use Rattle.segment_core.proofs.segment.Segment.wants.Goals as goal
 
 -- what is wanted, by the station's place

@@ -1,5 +1,0 @@
-use Rattle.port_law.proofs.Within.{within_life}
-use Rattle.port_law.proofs.laws.what_is_given_is_within_the_life_of_its_port.Goals as goal
-
-pub returns : goal.returns
-returns c = within_life
