@@ -155,7 +155,7 @@ impl BamIn {
             mut join,
             timer: _,
         } = self;
-        put_last(&mut join, packet);
+        join.put_last(&packet);
         match join.finish() {
             Ok(bytes) => bytes,
             Err(_) => unreachable!(),
@@ -235,17 +235,5 @@ impl BamIn {
             join: _,
             timer: _,
         } = self;
-    }
-}
-
-/// Puts the last packet, for which there is room.
-fn put_last(join: &mut Join, packet: [u8; 7])
-    requires unfinished { join.old.next ≤ packet_count join.old.size }
-    requires room { 0 < join.old.room }
-    ensures { join.new ≡ joined join.old packet }
-{
-    match join.put(join.next(), packet) {
-        Ok(()) => {}
-        Err(_) => unreachable!(),
     }
 }

@@ -241,7 +241,7 @@ impl Unfinished {
             most: _,
             offset: _,
         } = self;
-        put_last(&mut join, bytes);
+        join.put_last(&bytes);
         Finished::new(kind, peer, join)
     }
 
@@ -263,17 +263,5 @@ impl Unfinished {
             most: _,
             offset: _,
         } = self;
-    }
-}
-
-/// Puts the last packet, for which there is room.
-fn put_last(join: &mut Join, bytes: [u8; 7])
-    requires to_come { join.old.next ≤ packet_count join.old.size }
-    requires room { 0 < join.old.room }
-    ensures { join.new ≡ joined join.old bytes }
-{
-    match join.put(join.next(), bytes) {
-        Ok(()) => {}
-        Err(_) => unreachable!(),
     }
 }

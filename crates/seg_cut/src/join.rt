@@ -1,5 +1,5 @@
 //! Joining the packets of a message.
-ghost use Rattle.std.specs.Prelude.{◌≡◌, ◌+◌, ◌<◌, ◌≤◌, ◌↔◌, ◌++◌, false, length, IsTrue, IsOk, OnOk, OnErr, IfOk, IfErr, IsErrOf, vec_len, vec_capacity};
+ghost use Rattle.std.specs.Prelude.{◌≡◌, ◌+◌, ◌<◌, ◌≤◌, ◌↔◌, ◌++◌, true, false, length, IsTrue, IsOk, OnOk, OnErr, IfOk, IfErr, IsErrOf, vec_len, vec_capacity};
 ghost use Rattle.seg_cut.specs.Packets.{packet_count};
 ghost use Rattle.seg_cut.specs.Join.{IsJoin, empty_join, wants, joined, with_room, held};
 ghost use Rattle.seg_cut.specs.Join.{is_complete as is_complete_at, wants_last as wants_last_at};
@@ -155,6 +155,16 @@ impl Join {
         append_reserved(&mut self.bytes, packet);
         self.next += 1;
         self.room -= 1;
+    }
+
+    /// Puts the last packet, for which there is room. It takes no memory.
+    pub fn put_last(&mut self, packet: &[u8; 7])
+        requires last { wants_last_at self.old ≡ true }
+        requires room { 0 < self.old.room }
+        ensures value { self.new ≡ joined self.old packet.now }
+        ensures valid { IsJoin self.new }
+    {
+        self.append(packet);
     }
 
     /// Appends what the message has of its next packet.
