@@ -5,8 +5,6 @@
 
 mod await_cts;
 mod await_end;
-#[cfg(test)]
-mod checks;
 mod cts;
 mod endings;
 mod image;
@@ -14,10 +12,9 @@ mod link;
 mod opening;
 mod pump;
 mod sending;
+mod spending;
 mod states;
 mod step;
-#[cfg(test)]
-mod tests;
 mod timers;
 
 pub use await_cts::AwaitCts;

@@ -48,6 +48,13 @@ impl OutState {
         }
     }
 
+    /// How many bytes the message has.
+    pub fn len(&self) -> u32
+        ensures { result ≡ (link_of self.now).len }
+    {
+        self.link().len()
+    }
+
     /// Whether each packet was queued.
     pub(crate) fn is_all_queued(&self) -> bool
         ensures { result ≡ is_all_queued_state self.now }

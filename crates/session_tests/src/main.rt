@@ -16,6 +16,8 @@ mod frames;
 #[cfg(test)]
 mod received;
 #[cfg(test)]
+mod senders;
+#[cfg(test)]
 mod sent_images;
 #[cfg(test)]
 mod sessions;

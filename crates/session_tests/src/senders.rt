@@ -1,27 +1,12 @@
-//! What no clause says: the frames of whole exchanges, byte by byte, and that each call can succeed.
-use super::*;
+//! The sending side of a connection: the frames of whole exchanges, byte by byte, and that each call can succeed.
 use crate::checks::{got, holds, same};
 use bus_frame::Frame;
+use originator::{OutOver, OutState, Stepped, begin};
 use pgn_ids::{Address, Pgn};
 use std::alloc::{AllocError, Global};
 use std::process::Abort;
 use tp_wire::{CmFrame, Heard, Kind, Outcome, Wire};
 use tx_queue::TxQueue;
-
-// A state can't be let go unspent: beside the first `impl`, the others compile only for types that aren't `Drop`.
-trait IsSpentOrDropped {}
-
-impl<T: Drop> IsSpentOrDropped for T {}
-
-impl IsSpentOrDropped for AwaitCts {}
-
-impl IsSpentOrDropped for Sending {}
-
-impl IsSpentOrDropped for AwaitEnd {}
-
-impl IsSpentOrDropped for OutState {}
-
-impl IsSpentOrDropped for Stepped {}
 
 const OWN: Address = Address(0x21);
 
@@ -105,7 +90,7 @@ fn ends(rt: &impl Abort, state: OutState, wire: Wire) -> OutOver {
 fn pump(rt: &impl Abort, state: &mut OutState, message: &[u8], now: u64, queue: &mut TxQueue) {
     holds(
         rt,
-        message.len() == state.link().len() as usize && queue.free() >= 8,
+        message.len() == state.len() as usize && queue.free() >= 8,
     );
     state.pump(message, now, queue);
 }
