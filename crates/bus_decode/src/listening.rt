@@ -13,7 +13,7 @@ use std::alloc::{AllocError, Global};
 use tp_wire::is_transport;
 
 /// Why a line tells nothing.
-#[derive(Clone, Copy, Debug, PartialEq, Eq)]
+#[derive(Clone, Copy, PartialEq, Eq)]
 pub(crate) enum LineError {
     /// Memory was refused.
     OutOfMemory,

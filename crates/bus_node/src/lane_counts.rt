@@ -9,7 +9,7 @@ use pgn_ids::Address;
 const DESTINATIONS: usize = 256;
 
 /// How many lanes are in doubt after a message that failed, and how many have a message that waits or is under way.
-#[derive(Clone, Copy, Debug, PartialEq, Eq)]
+#[derive(Clone, Copy, PartialEq, Eq)]
 pub(crate) struct LaneCounts {
     pub(crate) doubted: u64,
     pub(crate) pending: u64,

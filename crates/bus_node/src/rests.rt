@@ -8,7 +8,7 @@ use std::marker::Model;
 use tp_wire::Outcome;
 
 /// For each destination the tick before which nothing is queued to it.
-#[derive(Debug, Drop)]
+#[derive(Drop)]
 pub(crate) struct Rests {
     until: [u64; 256],
 }

@@ -25,7 +25,7 @@ pub struct Carriage {
 }
 
 /// What a relay did, and whether that is all that it was to do.
-#[derive(Clone, Copy, Debug, PartialEq, Eq)]
+#[derive(Clone, Copy, PartialEq, Eq)]
 pub(crate) struct Settled {
     pub(crate) carriage: Carriage,
     pub(crate) is_done: bool,

@@ -39,7 +39,7 @@ pub struct Key {
 }
 
 /// Where a frame was seen, and between which nodes it goes.
-#[derive(Clone, Copy, Debug, PartialEq, Eq)]
+#[derive(Clone, Copy, PartialEq, Eq)]
 pub(crate) struct Way {
     pub(crate) iface: Iface,
     pub(crate) from: Address,

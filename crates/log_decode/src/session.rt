@@ -15,7 +15,7 @@ use tick_timers::{T1, T3};
 use tp_wire::CmFrame;
 
 /// What becomes of a message under way by a frame.
-#[derive(Clone, Copy, Debug, PartialEq, Eq)]
+#[derive(Clone, Copy, PartialEq, Eq)]
 pub(crate) enum Fate {
     /// It goes on.
     GoesOn,

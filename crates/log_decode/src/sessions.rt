@@ -114,7 +114,7 @@ fn renew(sessions: &mut Sessions, key: Key, now: u64)
 }
 
 /// A message as it is announced: its PGN field and its size in bytes, and whether a transport carries such a one.
-#[derive(Clone, Copy, Debug, PartialEq, Eq)]
+#[derive(Clone, Copy, PartialEq, Eq)]
 pub(crate) struct News {
     pub(crate) pgn: WirePgn,
     pub(crate) size: u32,

@@ -30,7 +30,7 @@ pub(crate) struct Rounds {
 }
 
 /// How many messages a worker received or submitted, and a message that it could not hand on yet.
-#[derive(Debug, Drop)]
+#[derive(Drop)]
 pub(crate) struct Worked {
     pub(crate) count: u64,
     pub(crate) hand: Option<Delivery>,

@@ -8,7 +8,7 @@ use pgn_ids::Address;
 const NOWHERE: u8 = 255;
 
 /// The place of each station by its address, for all 256 addresses.
-#[derive(Clone, Copy, Debug)]
+#[derive(Clone, Copy)]
 pub(crate) struct Places {
     by_address: [u8; 256],
 }

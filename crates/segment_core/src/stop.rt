@@ -8,7 +8,7 @@ use station_core::Refused;
 use std::alloc::AllocError;
 
 /// Why a call isn't done, and changes nothing.
-#[derive(Clone, Copy, Debug, PartialEq, Eq)]
+#[derive(Clone, Copy, PartialEq, Eq)]
 pub(crate) enum Stop {
     /// It is refused.
     Refused(Refusal),

@@ -31,7 +31,7 @@ pub(crate) fn count_owed(owed: &[Owed], client: u64) -> usize
 }
 
 /// What a look at a client's front submission finds, in the order in which it is looked for.
-#[derive(Clone, Copy, Debug, PartialEq, Eq)]
+#[derive(Clone, Copy, PartialEq, Eq)]
 pub(crate) enum Front {
     /// None is seen, or none is taken any more.
     Empty,
@@ -105,7 +105,7 @@ pub(crate) fn send_of(alloc: Global, seats: &[Seat], k: usize) -> Result<Call, A
 }
 
 /// Whether the front submission of a client can be sent, and by which call; or why the segment would refuse that.
-#[derive(Debug, Drop)]
+#[derive(Drop)]
 pub(crate) enum Ready {
     Empty,
     Owed,

@@ -36,7 +36,7 @@ impl From<AllocError> for ReadError {
 }
 
 /// What was taken of a reader.
-#[derive(Clone, Copy, Debug, PartialEq, Eq)]
+#[derive(Clone, Copy, PartialEq, Eq)]
 pub(crate) enum Part {
     /// Bytes of a line that goes on.
     More,
