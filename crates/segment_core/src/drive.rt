@@ -18,8 +18,8 @@ use crate::course::Course;
 use crate::driven::Driven;
 use crate::segment::Segment;
 use crate::stop::Stop;
-use exchange_law::messages_are_undisturbed;
 use connection_law::the_headline_holds;
+use exchange_law::messages_are_undisturbed;
 use pgn_ids::Address;
 use segment_law::{DriveEnd, Refusal};
 

@@ -23,8 +23,8 @@ mod sending;
 mod stop;
 mod taking;
 
-pub use driven::{Driven, EventList, FrameList};
 pub use connection_law::the_headline_holds;
+pub use driven::{Driven, EventList, FrameList};
 pub use image::{Image, equal_images_answer_alike};
 pub use lane_core::LaneSight;
 pub use message_events::Bytes;
