@@ -14,31 +14,34 @@ fn is_of(rt: &impl Abort, station: &Station, image: &StationImage, is: bool) {
     same(rt, image.is_of(station), is);
 }
 
-fn until_a_port_is_opened(rt: &impl Abort, station: &mut Station) {
-    let image = image(rt, station);
-    is_of(rt, station, &image, true);
-    open(rt, station);
-    is_of(rt, station, &image, false);
+// What changes a station.
+enum Change {
+    Port,
+    Message,
+    Frame,
 }
 
-fn until_a_message_is_sent(rt: &impl Abort, alloc: Global, station: &mut Station) {
-    let image = image(rt, station);
-    is_of(rt, station, &image, true);
-    sends(rt, alloc, station, B);
-    is_of(rt, station, &image, false);
+fn make(rt: &impl Abort, alloc: Global, station: &mut Station, change: Change) {
+    match change {
+        Change::Port => open(rt, station),
+        Change::Message => sends(rt, alloc, station, B),
+        Change::Frame => pumps(rt, station),
+    }
 }
 
-fn until_a_frame_is_queued(rt: &impl Abort, station: &mut Station) {
+// It is that of the image until it is changed.
+fn until(rt: &impl Abort, alloc: Global, station: &mut Station, by: Change) {
     let image = image(rt, station);
     is_of(rt, station, &image, true);
-    pumps(rt, station);
+    make(rt, alloc, station, by);
     is_of(rt, station, &image, false);
 }
 
 #[test]
 fn an_image_is_that_of_its_station(rt: HostRuntime) {
-    let mut station = new_station(&rt, rt.alloc(), A);
-    until_a_port_is_opened(&rt, &mut station);
-    until_a_message_is_sent(&rt, rt.alloc(), &mut station);
-    until_a_frame_is_queued(&rt, &mut station);
+    let alloc = rt.alloc();
+    let mut station = new_station(&rt, alloc, A);
+    until(&rt, alloc, &mut station, Change::Port);
+    until(&rt, alloc, &mut station, Change::Message);
+    until(&rt, alloc, &mut station, Change::Frame);
 }
