@@ -12,6 +12,3 @@ mod failing;
 mod lines;
 #[cfg(test)]
 mod reading;
-
-// A crate of tests is a program: of a library the gate sums up the text by each way that leads down to it.
-fn main(_rt: HostRuntime) {}

@@ -11,6 +11,3 @@ mod pace;
 mod relays;
 #[cfg(test)]
 mod segments;
-
-// A crate of tests is a program: of a library the gate sums up the text by each way that leads down to it.
-fn main(_rt: HostRuntime) {}

@@ -11,6 +11,3 @@ mod lanes;
 mod receivers;
 #[cfg(test)]
 mod stations;
-
-// A crate of tests is a program: of a library the gate sums up the text by each way that leads down to it.
-fn main(_rt: HostRuntime) {}

@@ -15,6 +15,3 @@ mod logs;
 mod progress;
 #[cfg(test)]
 mod scripts;
-
-// A crate of tests is a program: of a library the gate sums up the text by each way that leads down to it.
-fn main(_rt: HostRuntime) {}

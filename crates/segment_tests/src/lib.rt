@@ -21,6 +21,3 @@ mod replies;
 mod segments;
 #[cfg(test)]
 mod texts;
-
-// A crate of tests is a program: of a library the gate sums up the text by each way that leads down to it.
-fn main(_rt: HostRuntime) {}

@@ -9,6 +9,3 @@ mod checks;
 mod rings;
 #[cfg(test)]
 mod shared;
-
-// A crate of tests is a program: of a library the gate sums up the text by each way that leads down to it.
-fn main(_rt: HostRuntime) {}

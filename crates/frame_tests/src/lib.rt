@@ -19,6 +19,3 @@ mod queues;
 mod timers;
 #[cfg(test)]
 mod wires;
-
-// A crate of tests is a program: of a library the gate sums up the text by each way that leads down to it.
-fn main(_rt: HostRuntime) {}

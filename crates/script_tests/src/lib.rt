@@ -13,6 +13,3 @@ mod exchanges;
 mod logged;
 #[cfg(test)]
 mod scripts;
-
-// A crate of tests is a program: of a library the gate sums up the text by each way that leads down to it.
-fn main(_rt: HostRuntime) {}
