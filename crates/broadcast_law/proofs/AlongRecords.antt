@@ -19,10 +19,10 @@ use Rattle.segment_law.specs.Reached.{IsReached}
 use Rattle.segment_law.specs.declared.call.Call.{Call}
 use Rattle.segment_law.specs.declared.reply.Reply.{Reply}
 use Rattle.segment_law.specs.declared.reply.Reply.TheVariants.{Opened, Sent, Refused, Done}
-use Rattle.segment_law.proofs.AlongRecords.{along, carried}
-use Rattle.segment_law.proofs.Lists.{Each, each_get}
-use Rattle.segment_law.proofs.Readings.{GivesBack, ReadsBack}
-use Rattle.segment_law.proofs.Told.{items_placed, none_done, told_last}
+use Rattle.record_law.proofs.AlongRecords.{along, carried}
+use Rattle.record_law.proofs.Lists.{Each, each_get}
+use Rattle.record_law.proofs.Readings.{GivesBack, ReadsBack}
+use Rattle.record_law.proofs.Told.{items_placed, none_done, told_last}
 use Rattle.lane_law.specs.Message.{Message, IsSent}
 use Rattle.lane_law.specs.Session.{Given}
 use Rattle.lane_law.specs.Choice as choice

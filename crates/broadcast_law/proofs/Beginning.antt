@@ -14,9 +14,9 @@ use Rattle.session_table.specs.declared.incoming.Incoming.{Incoming}
 use Rattle.station_lanes.specs.LaneCalls.{lane_to}
 use Rattle.station_core.specs.Station.{Station, new_station}
 use Rattle.segment_law.specs.Segment.{Segment, new_segment, rising, rising_insert}
-use Rattle.segment_law.proofs.Maps.{session_at, state_empty}
-use Rattle.segment_law.proofs.Segments.{same_address, new_at, start_at}
-use Rattle.segment_law.proofs.Tests.{equal_or_not, on_test}
+use Rattle.record_law.proofs.Maps.{session_at, state_empty}
+use Rattle.record_law.proofs.Segments.{same_address, new_at, start_at}
+use Rattle.record_law.proofs.Tests.{equal_or_not, on_test}
 use Rattle.lane_law.specs.Stream as stream
 use Rattle.broadcast_law.proofs.Buses.{ahead_of}
 use Rattle.broadcast_law.proofs.Places.{IsAt, AllOwn, parts, station_in, view}

@@ -9,7 +9,7 @@ use Rattle.bus_order.specs.Kept.{IsSound, IsCursorWithin}
 use Rattle.bus_order.proofs.Cursors.{lowest_each}
 use Rattle.bus_order.proofs.Lists.{slice_get-drop, slice_get-left, slice_get-right}
 use Rattle.bus_order.proofs.Steps.{sound_moved}
-use Rattle.segment_law.proofs.Tests.{on_test}
+use Rattle.record_law.proofs.Tests.{on_test}
 
 abbrev pub ahead_of : Bus → ℕ → List CanFrame
 ahead_of b i = drop ((cursor_at b i).place + 1 - b.first) b.kept

@@ -30,9 +30,9 @@ use Rattle.station_core.specs.Station.{Station, StationStep, quietly, queues, by
 use Rattle.station_sessions.specs.Opening.{key_of, refusal, is_tp_size, is_etp_size, set_for, others_than, whole_join, peer_of, rts_received}
 use Rattle.station_sessions.specs.Receiving.{goes_on_at, ended_at}
 use Rattle.station_core.specs.Taking.{packet_kind, in_session, in_lane, abort_taken, cm_taken, answer, wire_taken, looks_at, meaning_taken, taken}
-use Rattle.segment_law.proofs.Lists.{Each}
-use Rattle.segment_law.proofs.Maps.{StaysOrEnds, session_at, put_stays, dropped_stays}
-use Rattle.segment_law.proofs.Tests.{on_test, either, by_option}
+use Rattle.record_law.proofs.Lists.{Each}
+use Rattle.record_law.proofs.Maps.{StaysOrEnds, session_at, put_stays, dropped_stays}
+use Rattle.record_law.proofs.Tests.{on_test, either, by_option}
 use Rattle.broadcast_law.proofs.Carried.{carried_foreign, of_lane, of_meaning, carried, Meaning, reading_tells}
 use Rattle.broadcast_law.proofs.Ports.{IsUntold}
 use Rattle.broadcast_law.proofs.Receptions.{Settles, settles_received, aborted_stays, key_all, no_broadcast}

@@ -17,9 +17,9 @@ use Rattle.tp_wire.specs.declared.wire.Kind.TheVariants.{Tp, Etp}
 use Rattle.tp_wire.specs.declared.wire.CmFrame.TheVariants.{Rts, Cts, EndOfMsgAck, Bam, Abort, EtpRts, EtpCts, EtpDpo, EtpEoma, EtpAbort}
 use Rattle.tp_wire.specs.declared.wire.Wire.{Wire}
 use Rattle.tp_wire.specs.declared.wire.Wire.TheVariants.{Cm, Packet, Request, Ack}
-use Rattle.segment_law.proofs.Lists.{Each}
-use Rattle.segment_law.proofs.Readings.{GivesBack, ReadsBack}
-use Rattle.segment_law.proofs.Tests.{on_test, either}
+use Rattle.record_law.proofs.Lists.{Each}
+use Rattle.record_law.proofs.Readings.{GivesBack, ReadsBack}
+use Rattle.record_law.proofs.Tests.{on_test, either}
 
 abbrev pub all : Address
 all = record { 0 = 255 }

@@ -18,9 +18,9 @@ use Rattle.segment_law.specs.Record.{Record, StandsAt, after, calls_of}
 use Rattle.segment_law.specs.Reached.{IsReached}
 use Rattle.segment_law.proofs.New.{new_reached}
 use Rattle.segment_law.proofs.Reaching.{as_it_is}
-use Rattle.segment_law.proofs.Readings.{GivesBack, ReadsBack}
-use Rattle.segment_law.proofs.Tests.{equal_or_not, on_test}
-use Rattle.segment_law.proofs.Told.{items_placed}
+use Rattle.record_law.proofs.Readings.{GivesBack, ReadsBack}
+use Rattle.record_law.proofs.Tests.{equal_or_not, on_test}
+use Rattle.record_law.proofs.Told.{items_placed}
 use Rattle.lane_law.specs.Stream as stream
 use Rattle.broadcast_law.proofs.AlongRecords.{StreamsChoose, Stood, all_stood, all_silent}
 use Rattle.broadcast_law.proofs.Beginning.{new_own, stands_at, somewhere, new_stands}

@@ -6,8 +6,8 @@ use Rattle.std.specs.List.{AllZip}
 use Rattle.std.proofs.lemmas.List.{map-append}
 use Rattle.segment_law.specs.Told.{Message, Placed, AtPort, items_of, places_of}
 use Rattle.segment_law.specs.Numbering.{item, IsChoice, IsAfter}
-use Rattle.segment_law.proofs.Lists.{each_weaker, Each, each_append, each_map, each_of_all}
-use Rattle.segment_law.proofs.Told.{after_all, after_more, item_more}
+use Rattle.record_law.proofs.Lists.{each_weaker, Each, each_append, each_map, each_of_all}
+use Rattle.record_law.proofs.Told.{after_all, after_more, item_more}
 use Rattle.broadcast_law.proofs.Numbered.{Giving, at_ports, all_at_ports, messages, Pairs, pairs_rising, IsFit, IsEarly, firsts, all_spread, AreNumbers, all_numbered}
 use Rattle.broadcast_law.proofs.Ports.{Distinct}
 

@@ -24,10 +24,10 @@ use Rattle.station_sessions.specs.Opening.{key_of}
 use Rattle.station_core.specs.Closing.{if_free, unbound_session, unbound_source, closed_below, closed}
 use Rattle.station_core.specs.Overruns.{overrun}
 use Rattle.station_core.specs.Timers.{lane_fired, fired}
-use Rattle.segment_law.proofs.Lists.{Each, each_append}
-use Rattle.segment_law.proofs.Maps.{OfEach, of_each_none, StaysOrEnds, stays_or_ends, session_at}
-use Rattle.segment_law.proofs.Readings.{GivesBack}
-use Rattle.segment_law.proofs.Tests.{on_test, either}
+use Rattle.record_law.proofs.Lists.{Each, each_append}
+use Rattle.record_law.proofs.Maps.{OfEach, of_each_none, StaysOrEnds, stays_or_ends, session_at}
+use Rattle.record_law.proofs.Readings.{GivesBack}
+use Rattle.record_law.proofs.Tests.{on_test, either}
 use Rattle.broadcast_law.proofs.Carried.{IsSaid}
 use Rattle.broadcast_law.proofs.Ports.{ports_closed, IsUntold}
 use Rattle.broadcast_law.proofs.LaneSteps.{fits_overrun, fits_fired}

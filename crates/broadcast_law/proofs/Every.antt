@@ -14,9 +14,9 @@ use Rattle.segment_law.specs.Reached.{IsReached}
 use Rattle.segment_law.specs.declared.call.Call.{Call}
 use Rattle.segment_law.proofs.Booleans.{both_pass}
 use Rattle.segment_law.specs.declared.reply.Reply.{Reply}
-use Rattle.segment_law.proofs.EachCall.{OfStation, each_applied}
-use Rattle.segment_law.proofs.Readings.{GivesBack, ReadsBack}
-use Rattle.segment_law.proofs.Segments.{has_address}
+use Rattle.record_law.proofs.EachCall.{OfStation, each_applied}
+use Rattle.record_law.proofs.Readings.{GivesBack, ReadsBack}
+use Rattle.record_law.proofs.Segments.{has_address}
 use Rattle.broadcast_law.proofs.Buses.{put_ahead, put_again}
 use Rattle.broadcast_law.proofs.Carried.{all, carried_foreign}
 use Rattle.broadcast_law.proofs.Frames.{transmits_good, takes_good, repeats_good, overruns_good}

@@ -25,12 +25,12 @@ use Rattle.segment_law.specs.declared.call.Call.TheVariants.{Transmit, Take, Tak
 use Rattle.segment_law.specs.declared.counts.Counts.{Counts}
 use Rattle.segment_law.proofs.Buses.{frame_within}
 use Rattle.segment_law.specs.declared.reply.Reply.TheVariants.{Done}
-use Rattle.segment_law.proofs.EachCall.{stepped, looked}
-use Rattle.segment_law.proofs.Lists.{Each}
-use Rattle.segment_law.proofs.Maps.{session_at, state_empty}
-use Rattle.segment_law.proofs.Readings.{GivesBack}
-use Rattle.segment_law.proofs.Segments.{same_address}
-use Rattle.segment_law.proofs.Tests.{equal_or_not}
+use Rattle.record_law.proofs.EachCall.{stepped, looked}
+use Rattle.record_law.proofs.Lists.{Each}
+use Rattle.record_law.proofs.Maps.{session_at, state_empty}
+use Rattle.record_law.proofs.Readings.{GivesBack}
+use Rattle.record_law.proofs.Segments.{same_address}
+use Rattle.record_law.proofs.Tests.{equal_or_not}
 use Rattle.broadcast_law.proofs.Buses.{ahead_of, IsTaken, taken_here, taken_ahead_else, taken_again_else, passed_ahead, passed_again, passed_long, passed_ahead_else, passed_again_else, put_ahead, put_again}
 use Rattle.broadcast_law.proofs.Calm.{Calm, calm_taken, own_untold}
 use Rattle.broadcast_law.proofs.Carried.{carried, carried_foreign}

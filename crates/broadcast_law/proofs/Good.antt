@@ -22,11 +22,11 @@ use Rattle.segment_law.specs.declared.refusal.Refusal.{Refusal}
 use Rattle.segment_law.specs.declared.reply.Reply.TheVariants.{Refused}
 use Rattle.segment_law.proofs.Reaching.{as_it_is}
 use Rattle.segment_law.specs.declared.reply.Reply.{Reply}
-use Rattle.segment_law.proofs.Told.{none_refused}
-use Rattle.segment_law.proofs.Lists.{Each}
-use Rattle.segment_law.proofs.Maps.{session_at, StaysOrEnds, lane_here}
-use Rattle.segment_law.proofs.Readings.{GivesBack}
-use Rattle.segment_law.proofs.Segments.{same_address}
+use Rattle.record_law.proofs.Told.{none_refused}
+use Rattle.record_law.proofs.Lists.{Each}
+use Rattle.record_law.proofs.Maps.{session_at, StaysOrEnds, lane_here}
+use Rattle.record_law.proofs.Readings.{GivesBack}
+use Rattle.record_law.proofs.Segments.{same_address}
 use Rattle.broadcast_law.proofs.Buses.{ahead_of}
 use Rattle.broadcast_law.proofs.Carried.{all}
 use Rattle.broadcast_law.proofs.LaneSteps.{IsLaneOf, Fits}

@@ -25,8 +25,8 @@ use Rattle.station_core.specs.Station.{Station, StationStep, quietly, by_session
 use Rattle.station_sessions.specs.Opening.{refusal, is_tp_size, set_for, others_than, whole_join, bam_received}
 use Rattle.station_core.specs.Taking.{in_session, looks_at, meaning_taken, wire_taken, taken}
 use Rattle.segment_law.specs.Told as told
-use Rattle.segment_law.proofs.Maps.{session_at, state_put, state_dropped}
-use Rattle.segment_law.proofs.Tests.{on_test, by_option}
+use Rattle.record_law.proofs.Maps.{session_at, state_put, state_dropped}
+use Rattle.record_law.proofs.Tests.{on_test, by_option}
 use Rattle.lane_law.specs.Frame.{Frame, Packet as Data}
 use Rattle.lane_law.specs.Session.{Session}
 use Rattle.broadcast_law.proofs.Carried.{all, of_lane, of_meaning, carried, is_to_all, Meaning, IsRead, reading_tells}

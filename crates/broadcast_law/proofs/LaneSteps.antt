@@ -45,8 +45,8 @@ use Rattle.lane_core.specs.declared.place.UnderWay.{UnderWay}
 use Rattle.lane_core.specs.declared.place.UnderWay.TheVariants.{Nothing, Broadcast, Connection}
 use Rattle.lane_core.specs.declared.probe.Standing.{Standing}
 use Rattle.lane_core.specs.declared.probe.Standing.TheVariants.{Settled, InDoubt, Probing}
-use Rattle.segment_law.proofs.Lists.{Each, each_append, each_map, each_of_all}
-use Rattle.segment_law.proofs.Tests.{on_test, either}
+use Rattle.record_law.proofs.Lists.{Each, each_append, each_map, each_of_all}
+use Rattle.record_law.proofs.Tests.{on_test, either}
 use Rattle.broadcast_law.proofs.Carried.{IsSaid}
 
 module _ (a to : ℕ) where

@@ -11,7 +11,7 @@ use Rattle.lane_core.specs.declared.place.UnderWay.TheVariants.{Nothing, Broadca
 use Rattle.lane_core.specs.declared.probe.Standing.{Standing}
 use Rattle.lane_core.specs.declared.probe.Standing.TheVariants.{Settled, InDoubt, Probing}
 use Rattle.lane_core.specs.Step.{LaneStep}
-use Rattle.segment_law.proofs.Tests.{either}
+use Rattle.record_law.proofs.Tests.{either}
 use Rattle.broadcast_law.proofs.LaneSteps.{FitsUnderWay, IsLaneOf}
 
 pub all_fired : (a : ℕ) (lane : Lane) (now : ℕ) → IsLaneOf a 255 lane → fired lane now ≡ still lane

@@ -8,8 +8,8 @@ use Rattle.std.proofs.lemmas.List.{map-append}
 use Rattle.std.proofs.lemmas.List.Kept.{AllPairs-cons, AllPairs-from_increasing}
 use Rattle.segment_law.specs.Told.{Message, Placed, AtPort, items_of, places_of}
 use Rattle.segment_law.specs.Numbering.{item, IsNumbering, IsAfter, Numbered, part_of}
-use Rattle.segment_law.proofs.Lists.{Each, each_append, each_map, each_of_all, each_all, all_each, each_weaker}
-use Rattle.segment_law.proofs.Tests.{on_test}
+use Rattle.record_law.proofs.Lists.{Each, each_append, each_map, each_of_all, each_all, all_each, each_weaker}
+use Rattle.record_law.proofs.Tests.{on_test}
 use Rattle.broadcast_law.proofs.Ports.{Distinct}
 
 -- a reply that gives a message at ports of a station, when so many messages had been sent

@@ -8,10 +8,10 @@ use Rattle.segment_law.specs.Calls.{applied, is_call}
 use Rattle.segment_law.specs.Record.{Record, StandsAt}
 use Rattle.segment_law.specs.Reached.{IsReached}
 use Rattle.segment_law.specs.declared.call.Call.{Call}
-use Rattle.segment_law.proofs.AlongRecords.{at_record}
-use Rattle.segment_law.proofs.Lists.{each_all, each_weaker}
-use Rattle.segment_law.proofs.Readings.{GivesBack, ReadsBack}
-use Rattle.segment_law.proofs.Segments.{same_address}
+use Rattle.record_law.proofs.AlongRecords.{at_record}
+use Rattle.record_law.proofs.Lists.{each_all, each_weaker}
+use Rattle.record_law.proofs.Readings.{GivesBack, ReadsBack}
+use Rattle.record_law.proofs.Segments.{same_address}
 use Rattle.broadcast_law.specs.Queues.{QueueTheirOwn}
 use Rattle.broadcast_law.proofs.Beginning.{new_own}
 use Rattle.broadcast_law.proofs.Every.{good_call}

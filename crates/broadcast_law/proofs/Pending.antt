@@ -5,7 +5,7 @@ use Rattle.std.proofs.lemmas.Option.{slice_get_within}
 use Rattle.seg_cut.specs.Packets.{packet_count}
 use Rattle.lane_core.specs.Cancel.{without_number}
 use Rattle.lane_core.specs.declared.message.Pending.{Pending}
-use Rattle.segment_law.proofs.Tests.{on_test}
+use Rattle.record_law.proofs.Tests.{on_test}
 use Rattle.lane_law.specs.Message.{Message, IsSent}
 use Rattle.broadcast_law.proofs.View.{message, ArePending}
 

@@ -13,8 +13,8 @@ use Rattle.segment_law.specs.Told as told
 use Rattle.segment_law.specs.Segment.{Segment}
 use Rattle.segment_law.specs.Reached.{IsReached}
 use Rattle.segment_law.proofs.Reaching.{slice_get_same, slice_get_other}
-use Rattle.segment_law.proofs.Maps.{session_at, StaysOrEnds}
-use Rattle.segment_law.proofs.Tests.{equal_or_not}
+use Rattle.record_law.proofs.Maps.{session_at, StaysOrEnds}
+use Rattle.record_law.proofs.Tests.{equal_or_not}
 use Rattle.broadcast_law.proofs.Buses.{ahead_of}
 use Rattle.broadcast_law.proofs.Carried.{none_carried}
 use Rattle.broadcast_law.proofs.Receive.{ends}

@@ -9,8 +9,8 @@ use Rattle.message_events.specs.declared.event.Event.{Event}
 use Rattle.message_events.specs.declared.event.Event.TheVariants as event
 use Rattle.segment_law.specs.Told as told
 use Rattle.segment_law.specs.Told.{AtPort, is_lane, given_to_station}
-use Rattle.segment_law.proofs.Lists.{Each, each_append, each_filter, each_map}
-use Rattle.segment_law.proofs.Tests.{on_test, either}
+use Rattle.record_law.proofs.Lists.{Each, each_append, each_filter, each_map}
+use Rattle.record_law.proofs.Tests.{on_test, either}
 use Rattle.broadcast_law.proofs.Carried.{all}
 
 -- no number stands twice

@@ -17,8 +17,8 @@ use Rattle.session_table.specs.declared.incoming.Incoming.{Incoming}
 use Rattle.session_table.specs.declared.incoming.Incoming.TheVariants as incoming
 use Rattle.station_sessions.specs.Opening.{whole_join}
 use Rattle.segment_law.specs.Told as told
-use Rattle.segment_law.proofs.Lists.{take_more}
-use Rattle.segment_law.proofs.Tests.{on_test}
+use Rattle.record_law.proofs.Lists.{take_more}
+use Rattle.record_law.proofs.Tests.{on_test}
 use Rattle.lane_law.specs.Message.{Message}
 use Rattle.lane_law.specs.Frame.{Frame, Rts, Dpo, Packet as Data, Request as Asks}
 use Rattle.lane_law.specs.Session.{Session, given_of, session_after}

@@ -33,10 +33,10 @@ use Rattle.session_table.specs.Sessions.{state_at}
 use Rattle.station_sessions.specs.Steps.{closing_frame}
 use Rattle.station_sessions.specs.Receiving.{Inbound, Reception, unheard, broadcast_settled, connection_settled, session_stepped, session_fired, flow_at, received_by, received, fired_by, fired_at, aborted_at, unbound_by, unbound_at}
 use Rattle.segment_law.specs.Told.{is_lane}
-use Rattle.segment_law.proofs.Lists.{Each}
-use Rattle.segment_law.proofs.Maps.{OfEach, StaysOrEnds, session_at, key_cases, state_put, put_stays, dropped_stays, of_each_put, of_each_dropped}
+use Rattle.record_law.proofs.Lists.{Each}
+use Rattle.record_law.proofs.Maps.{OfEach, StaysOrEnds, session_at, key_cases, state_put, put_stays, dropped_stays, of_each_put, of_each_dropped}
 use Rattle.responder.proofs.Rows.{StaysOf, step_stays, expired_stays, prepared_stays, prepared_fire_stays}
-use Rattle.segment_law.proofs.Tests.{either}
+use Rattle.record_law.proofs.Tests.{either}
 use Rattle.broadcast_law.proofs.Carried.{all}
 use Rattle.broadcast_law.proofs.Ports.{Distinct, distinct_without, IsOfPort, IsUntold, gives_to, given_of_port, given_untold, IsOneGiving, station_told, one_of_none, given_one}
 use Rattle.broadcast_law.proofs.SessionSteps.{FitsPeer, SaidBack, said_peer, said_end, Fits, connection_step, connection_expired, peer_prepared, peer_prepared_fire}

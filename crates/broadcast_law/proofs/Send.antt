@@ -25,9 +25,9 @@ use Rattle.lane_core.specs.declared.place.UnderWay.TheVariants.{Nothing, Broadca
 use Rattle.lane_core.specs.declared.probe.Standing.TheVariants.{Settled}
 use Rattle.originator.specs.Opening.{begun as connects}
 use Rattle.originator.specs.declared.states.OutState.TheVariants.{AwaitCts}
-use Rattle.segment_law.proofs.Lists.{each_append}
-use Rattle.segment_law.proofs.Readings.{ReadsBack}
-use Rattle.segment_law.proofs.Tests.{on_test}
+use Rattle.record_law.proofs.Lists.{each_append}
+use Rattle.record_law.proofs.Readings.{ReadsBack}
+use Rattle.record_law.proofs.Tests.{on_test}
 use Rattle.lane_law.specs.Message.{Message}
 use Rattle.lane_law.specs.Frame.{Frame, Rts, Packet as Data, Place}
 use Rattle.lane_law.specs.Stream as stream

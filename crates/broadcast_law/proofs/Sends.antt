@@ -25,12 +25,12 @@ use Rattle.segment_law.specs.Reached.{IsReached}
 use Rattle.segment_law.specs.declared.call.Call.TheVariants.{Open, Close, Send, Pump, Fire, Cancel, Pause, Resume}
 use Rattle.segment_law.specs.declared.counts.Counts.{Counts}
 use Rattle.segment_law.specs.declared.reply.Reply.TheVariants.{Opened, Sent, Done}
-use Rattle.segment_law.proofs.EachCall.{stepped}
-use Rattle.segment_law.proofs.Maps.{lane_here, lane_else}
-use Rattle.segment_law.proofs.Readings.{GivesBack, ReadsBack}
-use Rattle.segment_law.proofs.Segments.{same_address}
-use Rattle.segment_law.proofs.Tests.{on_test}
-use Rattle.segment_law.proofs.Told.{clean_is}
+use Rattle.record_law.proofs.EachCall.{stepped}
+use Rattle.record_law.proofs.Maps.{lane_here, lane_else}
+use Rattle.record_law.proofs.Readings.{GivesBack, ReadsBack}
+use Rattle.record_law.proofs.Segments.{same_address}
+use Rattle.record_law.proofs.Tests.{on_test}
+use Rattle.record_law.proofs.Told.{clean_is}
 use Rattle.broadcast_law.proofs.Carried.{all}
 use Rattle.broadcast_law.proofs.Endings.{does_fired, fired_calm, closes as station_closes}
 use Rattle.broadcast_law.proofs.Good.{Good, GoodBy, small, is_of, is_here, good_step, good_calm, good_lane, good_all}

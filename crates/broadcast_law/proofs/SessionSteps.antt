@@ -18,7 +18,7 @@ use Rattle.responder.specs.declared.flow.Flow.TheVariants.{Open, Held}
 use Rattle.responder.specs.declared.in_state.InState.{InState}
 use Rattle.responder.specs.declared.received.Received.{Received}
 use Rattle.responder.specs.declared.received.Received.TheVariants.{On, Complete, Ended}
-use Rattle.segment_law.proofs.Lists.{Each}
+use Rattle.record_law.proofs.Lists.{Each}
 use Rattle.responder.proofs.Rows.{by_rows, by_timer, by_room, by_room_at_timer}
 use Rattle.broadcast_law.proofs.Carried.{IsSaid}
 

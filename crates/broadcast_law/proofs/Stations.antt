@@ -20,9 +20,9 @@ use Rattle.station_lanes.specs.LaneCalls.{stepped_lanes, step_at, outcome_of}
 use Rattle.message_events.specs.declared.event.Event.{Event}
 use Rattle.station_sessions.specs.Receiving.{Inbound, Reception}
 use Rattle.station_core.specs.Station.{Station, new_station, by_session, by_lane}
-use Rattle.segment_law.proofs.Lists.{Each, each_append}
-use Rattle.segment_law.proofs.Maps.{lane_here, lane_else, OfEach, of_each_none}
-use Rattle.segment_law.proofs.Readings.{GivesBack}
+use Rattle.record_law.proofs.Lists.{Each, each_append}
+use Rattle.record_law.proofs.Maps.{lane_here, lane_else, OfEach, of_each_none}
+use Rattle.record_law.proofs.Readings.{GivesBack}
 use Rattle.broadcast_law.proofs.Carried.{IsSaid, IsQuiet, quiet_each, own_each, own_quiet}
 use Rattle.broadcast_law.proofs.Ports.{ArePortsOf, IsOfPort, IsUntold}
 use Rattle.broadcast_law.proofs.LaneSteps.{IsLaneOf, Fits}

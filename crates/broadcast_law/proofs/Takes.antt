@@ -38,14 +38,14 @@ use Rattle.message_events.specs.declared.event.Event.{Event}
 use Rattle.station_sessions.specs.Receiving.{received, flow_at, aborted_at}
 use Rattle.station_core.specs.Station.{Station, StationStep, quietly, queues, by_session}
 use Rattle.station_sessions.specs.Opening.{key_of, refusal, is_tp_size, is_etp_size, set_for, others_than, whole_join, peer_of, rts_received, bam_received, opening_received}
-use Rattle.segment_law.proofs.Openings.{opening_untold}
+use Rattle.record_law.proofs.Openings.{opening_untold}
 use Rattle.station_sessions.specs.Receiving.{goes_on_at, ended_at}
 use Rattle.station_core.specs.Taking.{packet_kind, in_session, in_lane, abort_taken, cm_taken, answer, request_taken, ack_taken, wire_taken, looks_at, meaning_taken, taken}
-use Rattle.segment_law.proofs.Lists.{Each, each_append}
-use Rattle.segment_law.proofs.Maps.{of_each_put, of_each_dropped}
-use Rattle.segment_law.proofs.Readings.{GivesBack}
+use Rattle.record_law.proofs.Lists.{Each, each_append}
+use Rattle.record_law.proofs.Maps.{of_each_put, of_each_dropped}
+use Rattle.record_law.proofs.Readings.{GivesBack}
 use Rattle.responder.proofs.Rows.{asking_stays}
-use Rattle.segment_law.proofs.Tests.{on_test, either, by_option}
+use Rattle.record_law.proofs.Tests.{on_test, either, by_option}
 use Rattle.broadcast_law.proofs.Carried.{IsQuiet, quiet_ack, Meaning, IsRead, reading_tells}
 use Rattle.broadcast_law.proofs.Ports.{set_distinct, IsOfPort, IsOneGiving, station_told, one_of_none, none_told}
 use Rattle.broadcast_law.proofs.LaneSteps.{fits_heard, fits_answered}

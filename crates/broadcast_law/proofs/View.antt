@@ -18,7 +18,7 @@ use Rattle.lane_core.specs.declared.probe.Standing.TheVariants.{Settled}
 use Rattle.session_table.specs.declared.incoming.Incoming.{Incoming}
 use Rattle.session_table.specs.declared.incoming.Incoming.TheVariants as incoming
 use Rattle.segment_law.specs.Told as told
-use Rattle.segment_law.proofs.Lists.{Each}
+use Rattle.record_law.proofs.Lists.{Each}
 use Rattle.lane_law.specs.Message.{Message, IsSent}
 use Rattle.lane_law.specs.Frame.{Frame, Rts, Dpo, Packet as Data, Request as Asks, Place}
 use Rattle.lane_law.specs.Session.{Session, Given}

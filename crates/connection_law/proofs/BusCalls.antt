@@ -19,10 +19,10 @@ use Rattle.segment_law.specs.Calls.{with_frame}
 use Rattle.segment_law.specs.Reached.{IsReached}
 use Rattle.segment_law.specs.declared.call.Call.TheVariants.{Transmit, Overrun}
 use Rattle.segment_law.specs.declared.reply.Reply.TheVariants.{Done}
-use Rattle.segment_law.proofs.EachCall.{stepped}
-use Rattle.segment_law.proofs.Lists.{Each}
-use Rattle.segment_law.proofs.Maps.{state_empty}
-use Rattle.segment_law.proofs.Segments.{same_address}
+use Rattle.record_law.proofs.EachCall.{stepped}
+use Rattle.record_law.proofs.Lists.{Each}
+use Rattle.record_law.proofs.Maps.{state_empty}
+use Rattle.record_law.proofs.Segments.{same_address}
 use Rattle.lane_law.specs.Choice.{IsChoice}
 use Rattle.lane_law.specs.Lane as machine
 use Rattle.broadcast_law.proofs.Buses.{ahead_of, passed_ahead, passed_again, passed_ahead_else, passed_again_else, put_ahead, put_again}

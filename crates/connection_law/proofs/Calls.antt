@@ -21,10 +21,10 @@ use Rattle.segment_law.specs.Reached.{IsReached}
 use Rattle.segment_law.specs.declared.call.Call.TheVariants.{Open, Close, Send, Pump, Fire, Cancel, Pause, Resume}
 use Rattle.segment_law.specs.declared.reply.Reply.TheVariants.{Opened, Sent, Done}
 use Rattle.segment_law.specs.declared.counts.Counts.{Counts}
-use Rattle.segment_law.proofs.EachCall.{stepped}
-use Rattle.segment_law.proofs.Segments.{same_address}
-use Rattle.segment_law.proofs.Tests.{on_test}
-use Rattle.segment_law.proofs.Told.{clean_is}
+use Rattle.record_law.proofs.EachCall.{stepped}
+use Rattle.record_law.proofs.Segments.{same_address}
+use Rattle.record_law.proofs.Tests.{on_test}
+use Rattle.record_law.proofs.Told.{clean_is}
 use Rattle.lane_law.specs.Choice.{IsChoice}
 use Rattle.lane_law.specs.Lane as machine
 use Rattle.broadcast_law.proofs.Buses.{ahead_of}

@@ -21,8 +21,8 @@ use Rattle.station_sessions.specs.Receiving.{Inbound, Reception, unbound_at, unb
 use Rattle.station_core.specs.Station.{Station, quietly}
 use Rattle.station_sessions.specs.Opening.{key_of}
 use Rattle.station_core.specs.Closing.{if_free, unbound_session, closed_below, closed}
-use Rattle.segment_law.proofs.Maps.{OfEach}
-use Rattle.segment_law.proofs.Tests.{either}
+use Rattle.record_law.proofs.Maps.{OfEach}
+use Rattle.record_law.proofs.Tests.{either}
 use Rattle.lane_law.specs.Choice.{IsChoice}
 use Rattle.lane_law.specs.Lane as machine
 use Rattle.broadcast_law.proofs.Receptions.{IsSessionOf, settles_unbound}

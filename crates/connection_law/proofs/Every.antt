@@ -13,8 +13,8 @@ use Rattle.segment_law.specs.Reached.{IsReached}
 use Rattle.segment_law.specs.declared.call.Call.{Call}
 use Rattle.segment_law.proofs.Booleans.{both_pass}
 use Rattle.segment_law.specs.declared.reply.Reply.{Reply}
-use Rattle.segment_law.proofs.EachCall.{OfStation, each_applied}
-use Rattle.segment_law.proofs.Segments.{has_address}
+use Rattle.record_law.proofs.EachCall.{OfStation, each_applied}
+use Rattle.record_law.proofs.Segments.{has_address}
 use Rattle.lane_law.specs.Choice.{IsChoice}
 use Rattle.lane_law.specs.Lane as machine
 use Rattle.broadcast_law.proofs.Places.{IsAt, AllOwn}

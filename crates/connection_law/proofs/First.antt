@@ -14,8 +14,8 @@ use Rattle.station_lanes.specs.LaneCalls.{lane_to}
 use Rattle.station_sessions.specs.Opening.{key_of}
 use Rattle.station_core.specs.Station.{Station, new_station}
 use Rattle.segment_law.specs.Segment.{Segment, new_segment, rising}
-use Rattle.segment_law.proofs.Maps.{state_empty, of_each_none}
-use Rattle.segment_law.proofs.Segments.{same_address, new_at, start_at}
+use Rattle.record_law.proofs.Maps.{state_empty, of_each_none}
+use Rattle.record_law.proofs.Segments.{same_address, new_at, start_at}
 use Rattle.lane_law.specs.Lane as machine
 use Rattle.lane_law.specs.Choice.{IsChoice}
 use Rattle.broadcast_law.proofs.Buses.{ahead_of}

@@ -16,11 +16,11 @@ use Rattle.tp_wire.specs.declared.wire.Wire.TheVariants.{Cm, Packet, Request, Ac
 use Rattle.session_table.specs.declared.key.SessionKind.TheVariants as session
 use Rattle.station_core.specs.Station.{Station, StationStep, quietly, queues}
 use Rattle.station_sessions.specs.Opening.{key_of, opening_received}
-use Rattle.segment_law.proofs.Openings.{opening_untold}
+use Rattle.record_law.proofs.Openings.{opening_untold}
 use Rattle.station_core.specs.Taking.{answer, in_session, wire_taken, looks_at, meaning_taken, taken}
 use Rattle.segment_law.specs.Told.{AtPort}
-use Rattle.segment_law.proofs.Segments.{same_address}
-use Rattle.segment_law.proofs.Tests.{on_test}
+use Rattle.record_law.proofs.Segments.{same_address}
+use Rattle.record_law.proofs.Tests.{on_test}
 use Rattle.lane_law.specs.Choice.{IsChoice}
 use Rattle.lane_law.specs.Frame.{Frame, Rts as Begins, Dpo, Packet as Data, Request as Asks, Place}
 use Rattle.lane_law.specs.Lane as machine

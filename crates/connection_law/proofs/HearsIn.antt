@@ -30,7 +30,7 @@ use Rattle.station_sessions.specs.Receiving.{Inbound, connection_settled}
 use Rattle.station_core.specs.Station.{Station, StationStep, quietly, by_session}
 use Rattle.station_sessions.specs.Opening.{key_of}
 use Rattle.segment_law.specs.Told.{Message}
-use Rattle.segment_law.proofs.Maps.{state_put, state_dropped, state_put_else, state_dropped_else}
+use Rattle.record_law.proofs.Maps.{state_put, state_dropped, state_put_else, state_dropped_else}
 use Rattle.lane_law.specs.Choice.{IsChoice}
 use Rattle.lane_law.specs.Lane as machine
 use Rattle.broadcast_law.proofs.Ports.{gives_to, first_message}

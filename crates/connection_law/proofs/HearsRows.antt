@@ -36,9 +36,9 @@ use Rattle.station_core.specs.Station.{Station, StationStep, by_session}
 use Rattle.station_sessions.specs.Opening.{key_of, refusal, is_tp_size, is_etp_size, set_for, others_than, peer_of, rts_received}
 use Rattle.station_sessions.specs.Receiving.{goes_on_at, ended_at}
 use Rattle.station_core.specs.Taking.{in_session}
-use Rattle.segment_law.proofs.Lists.{each_get}
+use Rattle.record_law.proofs.Lists.{each_get}
 use Rattle.responder.proofs.Rows.{prepared_stays}
-use Rattle.segment_law.proofs.Tests.{on_test}
+use Rattle.record_law.proofs.Tests.{on_test}
 use Rattle.lane_law.specs.Choice.{IsChoice}
 use Rattle.lane_law.specs.Session.{Session}
 use Rattle.lane_law.specs.Stream.{IsOfReached}

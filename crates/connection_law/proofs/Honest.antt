@@ -14,9 +14,9 @@ use Rattle.segment_law.specs.Headline.{IsStationOf, HaveOneOutcome, IsOpenedFor,
 use Rattle.segment_law.specs.Numbering.{Numbered, numbered, IsLaneNumbering}
 use Rattle.segment_law.specs.Segment.{Segment, new_segment}
 use Rattle.segment_law.specs.Record.{Record, StandsAt, after, calls_of}
-use Rattle.segment_law.proofs.Lists.{Each, each_append, in_any, all_each, any_in, each_all, each_weaker}
-use Rattle.segment_law.proofs.Segments.{same_address}
-use Rattle.segment_law.proofs.Tests.{equal_or_not}
+use Rattle.record_law.proofs.Lists.{Each, each_append, in_any, all_each, any_in, each_all, each_weaker}
+use Rattle.record_law.proofs.Segments.{same_address}
+use Rattle.record_law.proofs.Tests.{equal_or_not}
 use Rattle.lane_law.specs.Choice as choice
 use Rattle.lane_law.specs.Choice.{IsGiven}
 use Rattle.lane_law.specs.Outcome as fate

@@ -14,7 +14,7 @@ use Rattle.segment_law.specs.Calls.{events_of}
 use Rattle.segment_law.specs.Record.{Step, Record}
 use Rattle.segment_law.specs.declared.call.Call.{Call}
 use Rattle.segment_law.specs.declared.reply.Reply.{Reply}
-use Rattle.segment_law.proofs.Lists.{Each, each_append, each_map, each_of_all, In, each_weaker}
+use Rattle.record_law.proofs.Lists.{Each, each_append, each_map, each_of_all, In, each_weaker}
 use Rattle.broadcast_law.proofs.Counted.{giving}
 use Rattle.broadcast_law.proofs.Numbered.{Giving}
 use Rattle.record_law.proofs.ports.Calls.{Good, Goes, placed}

@@ -3,8 +3,8 @@ use Rattle.std.proofs.Common.{◌≡◌, ◌⊎◌, inl, inr, ℕ, ◌<◌, ◌=
 use Rattle.std.proofs.lemmas.Bool.{eqb-false}
 use Rattle.port_table.specs.PortSet.{without_number}
 use Rattle.session_table.specs.declared.incoming.Incoming.{Incoming}
-use Rattle.segment_law.proofs.Lists.{Each}
-use Rattle.segment_law.proofs.Tests.{on_test}
+use Rattle.record_law.proofs.Lists.{Each}
+use Rattle.record_law.proofs.Tests.{on_test}
 use Rattle.lane_law.specs.Session.{Session}
 use Rattle.connection_law.proofs.View.{Mark, Has, IsMarked, IsHeardAs}
 use Rattle.connection_law.proofs.Receiver.{Real}

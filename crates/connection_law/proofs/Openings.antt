@@ -13,8 +13,8 @@ use Rattle.segment_law.specs.Numbering.{item, IsAfter}
 use Rattle.segment_law.specs.Record.{Record}
 use Rattle.segment_law.specs.declared.call.Call.{Call}
 use Rattle.segment_law.specs.declared.reply.Reply.{Reply}
-use Rattle.segment_law.proofs.Lists.{Each, each_append, each_map, each_of_all, In, in_front, in_one, in_both, in_weaker, each_weaker}
-use Rattle.segment_law.proofs.Told.{after_all, after_more, told_last}
+use Rattle.record_law.proofs.Lists.{Each, each_append, each_map, each_of_all, In, in_front, in_one, in_both, in_weaker, each_weaker}
+use Rattle.record_law.proofs.Told.{after_all, after_more, told_last}
 use Rattle.broadcast_law.proofs.Counted.{at_step}
 use Rattle.broadcast_law.proofs.Numbered.{Giving}
 use Rattle.record_law.proofs.ports.Ports.{Opens, Receives, found_receive}

@@ -21,8 +21,8 @@ use Rattle.session_table.specs.Incoming.{pgn_of}
 use Rattle.session_table.specs.Sessions.{state_at}
 use Rattle.station_sessions.specs.Steps.{closing_frame}
 use Rattle.station_sessions.specs.Receiving.{Inbound, Reception, broadcast_settled, connection_settled, session_stepped, session_fired, goes_on_at, ended_at, flow_at, received_by, received, fired_by, fired_at, aborted_at, unbound_by, unbound_at}
-use Rattle.segment_law.proofs.Maps.{key_cases, state_put, state_dropped, state_put_else, state_dropped_else}
-use Rattle.segment_law.proofs.Tests.{on_test, either}
+use Rattle.record_law.proofs.Maps.{key_cases, state_put, state_dropped, state_put_else, state_dropped_else}
+use Rattle.record_law.proofs.Tests.{on_test, either}
 use Rattle.connection_law.proofs.Marks.{HasOthers, Lessens, has_without}
 use Rattle.connection_law.proofs.Roles.{Recedes}
 

@@ -16,7 +16,7 @@ use Rattle.responder.specs.declared.in_state.InState.{InState}
 use Rattle.session_table.specs.declared.incoming.Incoming.{Incoming}
 use Rattle.session_table.specs.declared.incoming.Incoming.TheVariants as incoming
 use Rattle.segment_law.specs.Told as told
-use Rattle.segment_law.proofs.Lists.{each_weaker, Each}
+use Rattle.record_law.proofs.Lists.{each_weaker, Each}
 use Rattle.lane_law.specs.Message.{Message}
 use Rattle.lane_law.specs.Choice.{IsChoice}
 use Rattle.lane_law.specs.Frame.{Frame, Rts as Begins, Dpo, Packet as Data, Request as Asks, Place}

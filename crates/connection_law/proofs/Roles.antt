@@ -20,7 +20,7 @@ use Rattle.station_sessions.specs.Opening.{key_of}
 use Rattle.station_core.specs.Station.{Station, StationStep, by_lane}
 use Rattle.segment_law.specs.Told as told
 use Rattle.segment_law.specs.Told.{AtPort, given_to_station, outcome_in}
-use Rattle.segment_law.proofs.Maps.{lane_here}
+use Rattle.record_law.proofs.Maps.{lane_here}
 use Rattle.lane_law.specs.Lane as machine
 use Rattle.lane_law.specs.Session.{Session}
 use Rattle.broadcast_law.proofs.Ports.{first_message}

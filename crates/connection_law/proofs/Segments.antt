@@ -21,8 +21,8 @@ use Rattle.segment_law.specs.declared.counts.Counts.{Counts}
 use Rattle.segment_law.specs.declared.refusal.Refusal.{Refusal}
 use Rattle.segment_law.specs.declared.reply.Reply.TheVariants.{Refused}
 use Rattle.segment_law.specs.declared.reply.Reply.{Reply}
-use Rattle.segment_law.proofs.Told.{none_refused}
-use Rattle.segment_law.proofs.Tests.{equal_or_not}
+use Rattle.record_law.proofs.Told.{none_refused}
+use Rattle.record_law.proofs.Tests.{equal_or_not}
 use Rattle.lane_law.specs.Lane as machine
 use Rattle.broadcast_law.proofs.Buses.{ahead_of}
 use Rattle.broadcast_law.proofs.Places.{IsAt, one_place, apart_places}

@@ -30,9 +30,9 @@ use Rattle.station_core.specs.Station.{Station, StationStep, quietly, by_session
 use Rattle.station_sessions.specs.Opening.{key_of}
 use Rattle.station_core.specs.Sending.{pumped, cancelled, sent}
 use Rattle.station_core.specs.Timers.{lane_fired, fired}
-use Rattle.segment_law.proofs.Maps.{key_cases}
+use Rattle.record_law.proofs.Maps.{key_cases}
 use Rattle.responder.proofs.Rows.{by_timer}
-use Rattle.segment_law.proofs.Tests.{on_test}
+use Rattle.record_law.proofs.Tests.{on_test}
 use Rattle.lane_law.specs.Choice.{IsChoice}
 use Rattle.lane_law.specs.Session.{Session}
 use Rattle.lane_law.specs.Lane as machine

@@ -21,9 +21,9 @@ use Rattle.segment_law.specs.Reached.{IsReached}
 use Rattle.segment_law.specs.declared.call.Call.{Call}
 use Rattle.segment_law.specs.declared.reply.Reply.{Reply}
 use Rattle.broadcast_law.proofs.AlongRecords.{item_of}
-use Rattle.segment_law.proofs.AlongRecords.{carried}
-use Rattle.segment_law.proofs.Lists.{Each, each_append, each_get}
-use Rattle.segment_law.proofs.Told.{items_placed, told_last}
+use Rattle.record_law.proofs.AlongRecords.{carried}
+use Rattle.record_law.proofs.Lists.{Each, each_append, each_get}
+use Rattle.record_law.proofs.Told.{items_placed, told_last}
 use Rattle.lane_law.specs.Message.{IsSent}
 use Rattle.lane_law.specs.Session.{Given}
 use Rattle.lane_law.specs.Choice as choice

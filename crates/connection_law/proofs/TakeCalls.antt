@@ -22,8 +22,8 @@ use Rattle.segment_law.specs.Reached.{IsReached}
 use Rattle.segment_law.specs.declared.call.Call.TheVariants.{Take, TakeAgain}
 use Rattle.segment_law.specs.declared.counts.Counts.{Counts}
 use Rattle.segment_law.proofs.Buses.{frame_within}
-use Rattle.segment_law.proofs.EachCall.{looked}
-use Rattle.segment_law.proofs.Segments.{same_address}
+use Rattle.record_law.proofs.EachCall.{looked}
+use Rattle.record_law.proofs.Segments.{same_address}
 use Rattle.lane_law.specs.Choice.{IsChoice}
 use Rattle.lane_law.specs.Lane as machine
 use Rattle.broadcast_law.proofs.Buses.{ahead_of, IsTaken, taken_here, taken_ahead_else, taken_again_else}

@@ -44,8 +44,8 @@ use Rattle.station_sessions.specs.Receiving.{Inbound, received, received_by, bro
 use Rattle.station_core.specs.Station.{Station, StationStep, quietly, queues, by_lane, by_session}
 use Rattle.station_sessions.specs.Opening.{key_of, refusal, is_tp_size, is_etp_size, set_for, others_than, peer_of, rts_received, bam_received}
 use Rattle.station_core.specs.Taking.{packet_kind, in_session, in_lane, abort_taken, cm_taken, answer, wire_taken, looks_at, meaning_taken, taken}
-use Rattle.segment_law.proofs.Maps.{state_put_else, state_dropped_else}
-use Rattle.segment_law.proofs.Tests.{on_test, either, by_option}
+use Rattle.record_law.proofs.Maps.{state_put_else, state_dropped_else}
+use Rattle.record_law.proofs.Tests.{on_test, either, by_option}
 use Rattle.broadcast_law.proofs.Carried.{Meaning, IsRead, reading_tells}
 use Rattle.broadcast_law.proofs.LaneSteps.{IsLaneOf}
 use Rattle.broadcast_law.proofs.Receptions.{no_broadcast}

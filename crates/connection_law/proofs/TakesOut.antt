@@ -35,9 +35,9 @@ use Rattle.station_sessions.specs.Receiving.{received, flow_at, aborted_at}
 use Rattle.station_core.specs.Station.{Station, StationStep, quietly, by_lane, by_session}
 use Rattle.station_sessions.specs.Opening.{key_of, refusal, is_tp_size, is_etp_size, set_for, others_than, peer_of, rts_received, bam_received}
 use Rattle.station_core.specs.Taking.{packet_kind, in_session, in_lane, abort_taken, cm_taken, answer, wire_taken, looks_at, meaning_taken, taken}
-use Rattle.segment_law.proofs.Maps.{lane_else, lane_here}
-use Rattle.segment_law.proofs.Segments.{same_address}
-use Rattle.segment_law.proofs.Tests.{on_test, either, by_option}
+use Rattle.record_law.proofs.Maps.{lane_else, lane_here}
+use Rattle.record_law.proofs.Segments.{same_address}
+use Rattle.record_law.proofs.Tests.{on_test, either, by_option}
 use Rattle.lane_law.specs.Lane as machine
 use Rattle.broadcast_law.proofs.Carried.{Meaning, IsRead, reading_tells}
 use Rattle.broadcast_law.proofs.LaneSteps.{IsLaneOf}

@@ -4,8 +4,8 @@ use Rattle.std.specs.List.{AllZip}
 use Rattle.std.proofs.lemmas.List.{map-append}
 use Rattle.segment_law.specs.Told.{Message, Placed, AtPort, items_of}
 use Rattle.segment_law.specs.Numbering.{item}
-use Rattle.segment_law.proofs.Lists.{each_weaker, Each, each_append, each_map, each_of_all}
-use Rattle.segment_law.proofs.Told.{after_all}
+use Rattle.record_law.proofs.Lists.{each_weaker, Each, each_append, each_map, each_of_all}
+use Rattle.record_law.proofs.Told.{after_all}
 use Rattle.broadcast_law.proofs.Numbered.{Giving, all_at_ports, IsFit, IsEarly}
 use Rattle.broadcast_law.proofs.Counted.{at_step, giving, early_more, fits_more, all_at_more}
 use Rattle.broadcast_law.proofs.Ports.{Distinct}

@@ -24,7 +24,7 @@ use Rattle.segment_law.specs.declared.call.Call.TheVariants.{Open, Close, Send, 
 use Rattle.segment_law.specs.declared.refusal.Refusal.{Refusal}
 use Rattle.segment_law.specs.declared.reply.Reply.{Reply}
 use Rattle.segment_law.specs.declared.reply.Reply.TheVariants.{Opened, Sent, Refused, Done}
-use Rattle.segment_law.proofs.Tests.{on_test, either, by_option}
+use Rattle.record_law.proofs.Tests.{on_test, either, by_option}
 use Rattle.connection_law.proofs.View.{Has}
 use Rattle.connection_law.proofs.Tables.{Stands, stands_on, stands_new, stands_less, stands_marked}
 

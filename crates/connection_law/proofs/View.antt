@@ -29,8 +29,8 @@ use Rattle.lane_core.specs.declared.probe.Standing.TheVariants.{Settled, InDoubt
 use Rattle.session_table.specs.declared.incoming.Incoming.{Incoming}
 use Rattle.session_table.specs.declared.incoming.Incoming.TheVariants as incoming
 use Rattle.segment_law.specs.Told as told
-use Rattle.segment_law.proofs.Lists.{Each}
-use Rattle.segment_law.proofs.Readings.{GivesBack, ReadsBack}
+use Rattle.record_law.proofs.Lists.{Each}
+use Rattle.record_law.proofs.Readings.{GivesBack, ReadsBack}
 use Rattle.lane_law.specs.Message.{Message}
 use Rattle.lane_law.specs.Frame.{Frame, Rts as Begins, Dpo, Packet as Data, Request as Asks, Place, place_after}
 use Rattle.lane_law.specs.Session.{Session, Given}

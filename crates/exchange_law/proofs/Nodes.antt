@@ -12,7 +12,7 @@ use Rattle.tp_wire.specs.Rows.{IsRow, written, group_of, priority_of}
 use Rattle.tp_wire.specs.declared.wire.Wire.{Wire}
 use Rattle.station_core.specs.Station.{Station, StationStep, quietly}
 use Rattle.station_core.specs.Taking.{meaning_taken, taken, wire_taken}
-use Rattle.segment_law.proofs.Readings.{GivesBack, ReadsBack}
+use Rattle.record_law.proofs.Readings.{GivesBack, ReadsBack}
 
 -- a frame from one station to another, with its meaning
 pub record IsBetween (a b : Address) (wire : Wire) (f : CanFrame) : Type 0 where

@@ -30,7 +30,7 @@ use Rattle.station_sessions.specs.Opening.{key_of, others_than, set_for, refusal
 use Rattle.station_core.specs.Station.{Station, by_session}
 use Rattle.station_core.specs.Taking.{packet_kind, in_session}
 use Rattle.segment_law.specs.Quiet.{takers, has_place}
-use Rattle.segment_law.proofs.Told.{clean_is}
+use Rattle.record_law.proofs.Told.{clean_is}
 use Rattle.exchange_law.proofs.Senders.{Sent, s, d, len, not_to_all}
 
 -- the receiver takes the message, and has a place for it

@@ -12,7 +12,7 @@ use Rattle.seg_cut.specs.Packets.{packet_count, packet}
 use Rattle.originator.specs.Link.{request_to_send}
 use Rattle.originator.specs.Pump as out
 use Rattle.responder.specs.Window.{clear_to_send}
-use Rattle.segment_law.proofs.Readings.{GivesBack, ReadsBack}
+use Rattle.record_law.proofs.Readings.{GivesBack, ReadsBack}
 use Rattle.exchange_law.proofs.broadcasts.Receivers.{GoesOn, Ends}
 use Rattle.exchange_law.proofs.Nodes.{IsBetween, between}
 use Rattle.exchange_law.proofs.Senders.{Sent, s, d, len, last, end_of}

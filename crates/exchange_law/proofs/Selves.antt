@@ -11,8 +11,8 @@ use Rattle.segment_law.specs.Calls.{applied}
 use Rattle.segment_law.specs.Record.{Record, StandsAt}
 use Rattle.segment_law.specs.Reached.{IsReached}
 use Rattle.segment_law.specs.declared.call.Call.{Call}
-use Rattle.segment_law.proofs.AlongRecords.{at_record}
-use Rattle.segment_law.proofs.Told.{none_to_itself}
+use Rattle.record_law.proofs.AlongRecords.{at_record}
+use Rattle.record_law.proofs.Told.{none_to_itself}
 use Rattle.record_law.proofs.outcomes.Counting.{times, times-here}
 use Rattle.record_law.proofs.outcomes.LaneSteps.{numbers_of}
 use Rattle.record_law.proofs.outcomes.Beginning.{new_at}

@@ -51,7 +51,7 @@ use Rattle.message_events.specs.declared.event.Event.TheVariants as event
 use Rattle.station_core.specs.Station.{Station, StationStep, by_lane}
 use Rattle.station_core.specs.Sending as sending
 use Rattle.station_core.specs.Taking.{wire_taken}
-use Rattle.segment_law.proofs.Told.{clean_is}
+use Rattle.record_law.proofs.Told.{clean_is}
 use Rattle.exchange_law.proofs.Pairs.{Pair}
 
 -- a message to one node

@@ -47,7 +47,7 @@ use Rattle.station_sessions.specs.Receiving.{goes_on_at, ended_at}
 use Rattle.station_core.specs.Station.{Station, StationStep, by_session}
 use Rattle.station_core.specs.Taking.{in_session, wire_taken}
 use Rattle.segment_law.specs.Quiet.{given_by}
-use Rattle.segment_law.proofs.Told.{clean_is}
+use Rattle.record_law.proofs.Told.{clean_is}
 use Rattle.exchange_law.proofs.Senders.{Sent, s, d, len, last, end_of}
 use Rattle.exchange_law.proofs.Receivers.{Welcome, peer, key, set, hears, sessions_with, key_is, set_is, flow_is, admits, stepped_as}
 use Rattle.exchange_law.proofs.Rows.{Laws, packet_wire}

@@ -14,7 +14,7 @@ use Rattle.segment_law.specs.declared.reply.Reply.{Reply}
 use Rattle.segment_law.specs.declared.reply.Reply.TheVariants.{Refused, Done}
 use Rattle.segment_core.specs.InPlace.{is_quiet, MayLackMemory}
 use Rattle.segment_core.proofs.Records.{refused_stands}
-use Rattle.segment_law.proofs.Replies.{refused_for}
+use Rattle.record_law.proofs.Replies.{refused_for}
 use Rattle.one_station.specs.Node.{Node, Did}
 use Rattle.one_station.specs.NodeFields.{IsStood}
 use Rattle.one_station.specs.Answers.{LooksInPlace}

@@ -22,8 +22,8 @@ use Rattle.segment_law.specs.declared.call.Call.TheVariants.{Transmit}
 use Rattle.segment_law.specs.declared.reply.Reply.{Reply}
 use Rattle.segment_law.proofs.Reaching.{position_kept, slice_get_same}
 use Rattle.segment_law.proofs.Records.{stands_reached}
-use Rattle.segment_law.proofs.EachCall.{Holds, Accepted, each_called}
-use Rattle.segment_law.proofs.Lists.{all_each, each_get}
+use Rattle.record_law.proofs.EachCall.{Holds, Accepted, each_called}
+use Rattle.record_law.proofs.Lists.{all_each, each_get}
 use Rattle.broadcast_law.specs.Queues.{QueueTheirOwn}
 use Rattle.broadcast_law.proofs.Buses.{put_next}
 use Rattle.segment_core.specs.InPlace.{take_quiet, next_at, TakeLacksRoom}

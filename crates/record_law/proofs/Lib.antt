@@ -1,0 +1,10 @@
+pub mod Tests
+pub mod Lists
+pub mod Maps
+pub mod Segments
+pub mod Openings
+pub mod Readings
+pub mod Told
+pub mod EachCall
+pub mod Replies
+pub mod AlongRecords

@@ -11,7 +11,7 @@ use Rattle.segment_law.specs.Calls.{events_of}
 use Rattle.segment_law.specs.Record.{Step, Record}
 use Rattle.segment_law.specs.Told as told
 use Rattle.segment_law.specs.Told.{Message, Placed, told_from, items_of, same_port, is_lane, given_to_port}
-use Rattle.segment_law.proofs.Told.{told_last, items_placed}
+use Rattle.record_law.proofs.Told.{told_last, items_placed}
 use Rattle.reply_law.specs.Replies.{reply_of}
 use Rattle.segment_rings.specs.declared.words.Delivery.{Delivery}
 use Rattle.segment_shared.specs.declared.call.Stored.{Stored}

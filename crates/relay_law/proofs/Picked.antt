@@ -3,7 +3,7 @@ use Rattle.std.proofs.Common.{◌≡◌, ◌⊎◌, inl, inr, ℕ, zero, suc, �
 use Rattle.std.specs.Prelude.{slice_index}
 use Rattle.std.specs.List.Sorted.{IsStrictlyIncreasing}
 use Rattle.segment_law.specs.Numbering.{item, IsChoice}
-use Rattle.segment_law.proofs.Tests.{on_test}
+use Rattle.record_law.proofs.Tests.{on_test}
 
 -- the second list is some items of the first, in order
 abbrev pub Picked : {A : Type 0} → List A → List A → Type 0

@@ -13,7 +13,7 @@ use Rattle.segment_law.specs.declared.call.Call.TheVariants.{Open, Close, Send, 
 use Rattle.segment_law.specs.declared.refusal.Refusal.{Refusal}
 use Rattle.segment_law.specs.declared.reply.Reply.TheVariants.{Opened, Refused}
 use Rattle.segment_law.proofs.Records.{stands_reached}
-use Rattle.segment_law.proofs.EachCall.{Holds, each_called}
+use Rattle.record_law.proofs.EachCall.{Holds, each_called}
 use Rattle.record_law.proofs.readers.Takes.{wanted_is_given}
 use Rattle.reply_law.specs.Replies.{expected, Follows}
 use Rattle.reply_law.proofs.Sound.{sound_at}

@@ -38,7 +38,7 @@ use Rattle.message_events.specs.declared.event.Event.TheVariants as event
 use Rattle.station_sessions.specs.Steps.{completes, size_of}
 use Rattle.station_sessions.specs.Receiving.{Inbound, flow_at, broadcast_settled, connection_settled, session_stepped, session_fired, received_by, fired_by, wanted_by}
 use Rattle.station_sessions.specs.Opening.{key_of, opening_received}
-use Rattle.segment_law.proofs.Openings.{opening_untold}
+use Rattle.record_law.proofs.Openings.{opening_untold}
 use Rattle.station_core.specs.Station.{Station, StationStep, quietly, by_lane, by_session}
 use Rattle.station_core.specs.Overruns.{overrun}
 use Rattle.station_core.specs.Taking.{packet_kind, cm_taken, wire_taken, meaning_taken, looks_at, taken, wire_wanted, meaning_wanted, wanted}

@@ -8,8 +8,8 @@ use Rattle.station_core.specs.Station.{Station, new_station}
 use Rattle.segment_law.specs.Segment.{Segment, new_segment, rising}
 use Rattle.segment_law.specs.Calls.{applied}
 use Rattle.segment_law.specs.Record.{Record, StandsAt, after, calls_of}
-use Rattle.segment_law.proofs.Maps.{of_each_none}
-use Rattle.segment_law.proofs.Segments.{new_each}
+use Rattle.record_law.proofs.Maps.{of_each_none}
+use Rattle.record_law.proofs.Segments.{new_each}
 use Rattle.record_law.proofs.ports.Calls.{IsSound, placed}
 use Rattle.record_law.proofs.ports.Lives.{Openings, Closings}
 use Rattle.record_law.proofs.ports.Receptions.{IsBound}

@@ -31,10 +31,10 @@ use Rattle.segment_law.specs.declared.call.Call.TheVariants.{Open, Close, Send, 
 use Rattle.segment_law.specs.declared.reply.Reply.{Reply}
 use Rattle.segment_law.specs.declared.reply.Reply.TheVariants.{Opened, Sent, Done}
 use Rattle.segment_law.proofs.Reaching.{slice_get_same, slice_get_other}
-use Rattle.segment_law.proofs.Lists.{Each, In}
-use Rattle.segment_law.proofs.EachCall.{looked, OfStation, Accepted}
-use Rattle.segment_law.proofs.Segments.{has_address, same_address}
-use Rattle.segment_law.proofs.Tests.{equal_or_not}
+use Rattle.record_law.proofs.Lists.{Each, In}
+use Rattle.record_law.proofs.EachCall.{looked, OfStation, Accepted}
+use Rattle.record_law.proofs.Segments.{has_address, same_address}
+use Rattle.record_law.proofs.Tests.{equal_or_not}
 use Rattle.record_law.proofs.ports.Calls.{IsSound}
 use Rattle.record_law.proofs.ports.Closing.{closes as closing_is}
 use Rattle.record_law.proofs.ports.Ports.{IsAllowed, Opens}

@@ -6,13 +6,3 @@ pub mod Reaching
 pub mod New
 pub mod Records
 pub mod Driving
-pub mod Tests
-pub mod Lists
-pub mod Maps
-pub mod Segments
-pub mod Openings
-pub mod Readings
-pub mod Told
-pub mod EachCall
-pub mod Replies
-pub mod AlongRecords

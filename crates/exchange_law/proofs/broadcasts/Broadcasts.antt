@@ -37,7 +37,7 @@ use Rattle.segment_law.specs.Reached.{IsFitMessage, IsFitStation, IsReached}
 use Rattle.segment_law.specs.Drive.{Driven, events_in, goes_on, turn_puts, turn, turns_from}
 use Rattle.segment_law.specs.Quiet.{given_by, broadcast_given}
 use Rattle.segment_law.proofs.Booleans.{both_pass}
-use Rattle.segment_law.proofs.Readings.{GivesBack, ReadsBack}
+use Rattle.record_law.proofs.Readings.{GivesBack, ReadsBack}
 use Rattle.exchange_law.proofs.broadcasts.Sweeps.{under_way, Swept, after, told_by}
 use Rattle.exchange_law.proofs.broadcasts.Receivers.{GoesOn, Ends, all, hears, heard, place, join_of, bam_heard, packet_heard, last_heard, whole_message}
 use Rattle.exchange_law.proofs.broadcasts.Senders.{ready, going, over_with, sends, begins_now, goes_now, ends_now, ready_pumps, going_pumps, going_waits, going_misses}

@@ -15,7 +15,7 @@ use Rattle.tp_wire.specs.declared.wire.Wire.{Wire}
 use Rattle.tp_wire.specs.declared.wire.Wire.TheVariants.{Cm, Packet}
 use Rattle.station_core.specs.Station.{Station, StationStep, quietly}
 use Rattle.station_core.specs.Taking.{meaning_taken, taken, wire_taken}
-use Rattle.segment_law.proofs.Readings.{GivesBack, ReadsBack}
+use Rattle.record_law.proofs.Readings.{GivesBack, ReadsBack}
 use Rattle.exchange_law.proofs.broadcasts.Receivers.{all}
 
 -- a frame from one node to all, with its meaning

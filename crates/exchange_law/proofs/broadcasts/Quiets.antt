@@ -34,7 +34,7 @@ use Rattle.segment_law.specs.Drive.{driven, turns_from, not_driven}
 use Rattle.segment_law.specs.Quiet.{quiet, quiet_broadcast, is_at_rest, IsSettled, IsQuiet, IsUndisturbed, IsQuietExchange}
 use Rattle.segment_law.proofs.Booleans.{both_pass, both}
 use Rattle.segment_law.proofs.Records.{stands_reached}
-use Rattle.segment_law.proofs.Readings.{GivesBack, ReadsBack}
+use Rattle.record_law.proofs.Readings.{GivesBack, ReadsBack}
 use Rattle.exchange_law.proofs.broadcasts.Sweeps.{under_way, waiting_is}
 use Rattle.exchange_law.proofs.broadcasts.Receivers.{GoesOn, Ends, all, heard}
 use Rattle.exchange_law.proofs.broadcasts.Senders.{ready, over_with, sends}

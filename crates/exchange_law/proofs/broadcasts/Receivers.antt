@@ -35,7 +35,7 @@ use Rattle.station_core.specs.Station.{Station, StationStep, quietly, by_session
 use Rattle.station_core.specs.Taking.{in_session}
 use Rattle.station_sessions.proofs.SessionMaps.{insert_again, remove_inserted}
 use Rattle.segment_law.specs.Quiet.{takers, has_place, given_by}
-use Rattle.segment_law.proofs.Told.{clean_is}
+use Rattle.record_law.proofs.Told.{clean_is}
 
 module _ {T : Type 0} (m : Sessions T) (k : Key) where
   state_inserted : (v : T × Incoming) → state_at (finmap.insert m k (Some v)) k ≡ Some v

@@ -2,7 +2,7 @@
 use Rattle.std.proofs.Common.{◌≡◌, ℕ, zero, suc, ◌+◌, ◌<◌, ◌≤◌, ◌==◌, List, [], ◌∷◌, ◌++◌, refl, ap, ◌∙◌, arith, eqb-true, ⊎_elim}
 use Rattle.std.proofs.lemmas.Bool.{cases_lt}
 use Rattle.lane_core.specs.Lane.{Lane}
-use Rattle.segment_law.proofs.Tests.{on_test}
+use Rattle.record_law.proofs.Tests.{on_test}
 use Rattle.record_law.proofs.outcomes.Counting.{one_if, times, times-append}
 use Rattle.record_law.proofs.outcomes.LaneSteps.{numbers_of}
 use Rattle.record_law.proofs.outcomes.Calls.{Ended, Added}

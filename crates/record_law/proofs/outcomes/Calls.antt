@@ -25,10 +25,10 @@ use Rattle.segment_law.specs.declared.reply.Reply.{Reply}
 use Rattle.segment_law.specs.declared.reply.Reply.TheVariants.{Refused}
 use Rattle.segment_law.proofs.FitStations.{Stays, taken_stays, pumped_stays, cancelled_stays, fired_stays, closed_stays}
 use Rattle.segment_law.proofs.Reaching.{as_it_is}
-use Rattle.segment_law.proofs.EachCall.{OfStation, each_applied}
-use Rattle.segment_law.proofs.Segments.{has_address}
-use Rattle.segment_law.proofs.Told.{none_refused}
-use Rattle.segment_law.proofs.Tests.{on_test}
+use Rattle.record_law.proofs.EachCall.{OfStation, each_applied}
+use Rattle.record_law.proofs.Segments.{has_address}
+use Rattle.record_law.proofs.Told.{none_refused}
+use Rattle.record_law.proofs.Tests.{on_test}
 use Rattle.record_law.proofs.outcomes.Counting.{times}
 use Rattle.record_law.proofs.outcomes.LaneSteps.{numbers_of}
 use Rattle.record_law.proofs.outcomes.Events.{named_in}

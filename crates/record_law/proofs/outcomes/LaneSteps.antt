@@ -30,7 +30,7 @@ use Rattle.lane_core.specs.Hear.{heard, heard_by, connection_heard}
 use Rattle.lane_core.specs.Answer.{answered, answered_by}
 use Rattle.lane_core.specs.Pump.{begins, idle_pumped, after_packet, front_bytes, pumped, pumped_by}
 use Rattle.lane_core.specs.Fire.{probe_fired, fired, fired_by}
-use Rattle.segment_law.proofs.Tests.{on_test}
+use Rattle.record_law.proofs.Tests.{on_test}
 use Rattle.record_law.proofs.outcomes.Counting.{times}
 
 -- the numbers of messages

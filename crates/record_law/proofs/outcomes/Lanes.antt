@@ -12,8 +12,8 @@ use Rattle.station_lanes.specs.Lanes.{Lanes}
 use Rattle.station_lanes.specs.LaneCalls.{stepped_lanes, step_at, outcome_of, lane_to}
 use Rattle.station_lanes.specs.LaneReaders.{overrun_lanes, overrun_events}
 use Rattle.message_events.specs.declared.event.Event.{Event}
-use Rattle.segment_law.proofs.Maps.{lane_here}
-use Rattle.segment_law.proofs.Tests.{on_test}
+use Rattle.record_law.proofs.Maps.{lane_here}
+use Rattle.record_law.proofs.Tests.{on_test}
 use Rattle.record_law.proofs.outcomes.Counting.{times, times-append, times-none}
 use Rattle.record_law.proofs.outcomes.LaneSteps.{numbers_of, ended_number, Ends, ends_overrun}
 use Rattle.record_law.proofs.outcomes.Events.{named_in, named_append, named_own, named_foreign, named_else}

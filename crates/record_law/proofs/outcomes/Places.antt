@@ -9,7 +9,7 @@ use Rattle.station_core.specs.Station.{Station, new_station}
 use Rattle.segment_law.specs.Segment.{Segment, lane_at}
 use Rattle.segment_law.specs.Reached.{IsReached}
 use Rattle.segment_law.proofs.Reaching.{position_kept, slice_get_same}
-use Rattle.segment_law.proofs.Segments.{found_passes}
+use Rattle.record_law.proofs.Segments.{found_passes}
 
 module _ (seg next : Segment) (r : IsReached seg) (i : ℕ) (st new : Station) (at : slice_get seg.stations i ≡ Some st) (address : new.address ≡ st.address) (stations : next.stations ≡ set seg.stations i new) (s d : Address) where
   -- the station that an address leads to

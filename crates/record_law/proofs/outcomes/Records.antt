@@ -15,7 +15,7 @@ use Rattle.segment_law.specs.Told.{Message, Placed, NumberedOutcome, told_from, 
 use Rattle.segment_law.specs.Numbering.{item, IsAfter}
 use Rattle.segment_law.specs.Headline.{IsStationOf, HaveOneOutcome}
 use Rattle.segment_law.specs.declared.call.Call.{Call}
-use Rattle.segment_law.proofs.AlongRecords.{along_record}
+use Rattle.record_law.proofs.AlongRecords.{along_record}
 use Rattle.record_law.proofs.outcomes.Counting.{times, times-here, apart}
 use Rattle.record_law.proofs.outcomes.LaneSteps.{numbers_of}
 use Rattle.record_law.proofs.outcomes.Events.{number_of, named_in}

@@ -37,7 +37,7 @@ use Rattle.station_core.specs.Taking.{packet_kind, answer, request_taken, ack_ta
 use Rattle.station_core.specs.Timers.{lane_fired, fired}
 use Rattle.station_core.specs.Closing.{closed, closed_below}
 use Rattle.station_core.specs.Overruns.{overrun}
-use Rattle.segment_law.proofs.Tests.{on_test}
+use Rattle.record_law.proofs.Tests.{on_test}
 use Rattle.record_law.proofs.outcomes.Lanes.{Tells, tells_none, tells_lane, tells_overrun}
 use Rattle.record_law.proofs.outcomes.LaneSteps.{Ends, ends_heard, ends_answered, ends_pumped, ends_fired, ends_cancelled}
 use Rattle.record_law.proofs.outcomes.Sessions.{received_untold, fired_untold}

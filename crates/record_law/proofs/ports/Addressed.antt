@@ -12,9 +12,9 @@ use Rattle.segment_law.specs.Headline.{IsStationOf}
 use Rattle.segment_law.specs.Segment.{Segment, new_segment}
 use Rattle.segment_law.specs.Calls.{applied, events_of}
 use Rattle.segment_law.specs.Record.{Step, Record, StandsAt}
-use Rattle.segment_law.proofs.Lists.{Each, each_append, each_map}
-use Rattle.segment_law.proofs.Segments.{same_address}
-use Rattle.segment_law.proofs.Tests.{on_test}
+use Rattle.record_law.proofs.Lists.{Each, each_append, each_map}
+use Rattle.record_law.proofs.Segments.{same_address}
+use Rattle.record_law.proofs.Tests.{on_test}
 use Rattle.record_law.proofs.ports.Calls.{placed}
 use Rattle.record_law.proofs.ports.Lives.{Openings, Closings}
 use Rattle.record_law.proofs.ports.Ports.{IsToStationOrAll, IsAddressed}

@@ -12,8 +12,8 @@ use Rattle.station_core.specs.Closing.{closed}
 use Rattle.station_core.specs.Station.{Station, StationStep}
 use Rattle.segment_law.proofs.Reaching.{slice_get_same, slice_get_other}
 use Rattle.segment_law.specs.Told.{Message, Placed, same_port, any_given_to}
-use Rattle.segment_law.proofs.Lists.{Each, each_weaker}
-use Rattle.segment_law.proofs.Tests.{on_test}
+use Rattle.record_law.proofs.Lists.{Each, each_weaker}
+use Rattle.record_law.proofs.Tests.{on_test}
 use Rattle.record_law.proofs.ports.Closing.{Closes, closes}
 use Rattle.record_law.proofs.ports.Lives.{Openings, Closings, Lives, AreUsed, used_opened, used_closed, used_paused, open_used, lives_on, lives_paused, lives_opened, lives_closed, lives_ended, IsTaken, given_taken}
 use Rattle.record_law.proofs.ports.Ports.{receive_more, receive_marked, IsAllowed, IsAddressed, allowed_addressed}

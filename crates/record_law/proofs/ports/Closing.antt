@@ -9,7 +9,7 @@ use Rattle.session_table.specs.declared.key.SessionKind.TheVariants as session
 use Rattle.station_core.specs.Station.{Station}
 use Rattle.station_sessions.specs.Opening.{key_of}
 use Rattle.station_core.specs.Closing.{unbound_session, unbound_source, closed_below, closed}
-use Rattle.segment_law.proofs.Maps.{OfEach}
+use Rattle.record_law.proofs.Maps.{OfEach}
 use Rattle.record_law.proofs.ports.Ports.{Lacks, receive_less}
 use Rattle.record_law.proofs.ports.Receptions.{IsBound, AreBound, bound_unbound, lack_unbound}
 

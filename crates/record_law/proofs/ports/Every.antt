@@ -19,7 +19,7 @@ use Rattle.segment_law.specs.declared.call.Call.TheVariants.{Open, Close, Send, 
 use Rattle.segment_law.specs.declared.refusal.Refusal.{Refusal}
 use Rattle.segment_law.specs.declared.reply.Reply.{Reply}
 use Rattle.segment_law.specs.declared.reply.Reply.TheVariants.{Refused}
-use Rattle.segment_law.proofs.EachCall.{OfStation, each_applied}
+use Rattle.record_law.proofs.EachCall.{OfStation, each_applied}
 use Rattle.record_law.proofs.ports.Calls.{Good, Goes, goes_same, goes_acts, goes_opened, goes_paused, goes_closed}
 use Rattle.record_law.proofs.ports.Lives.{Openings, Closings}
 use Rattle.record_law.proofs.ports.Receptions.{AreBound}

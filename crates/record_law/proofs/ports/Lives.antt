@@ -10,8 +10,8 @@ use Rattle.port_table.specs.declared.port.PortId.{PortId}
 use Rattle.message_events.specs.declared.event.Event.{Event}
 use Rattle.message_events.specs.declared.event.Event.TheVariants as event
 use Rattle.segment_law.specs.Told.{Message, Placed, same_port, any_given_to}
-use Rattle.segment_law.proofs.Lists.{Each, each_append, each_filter, each_weaker, In, in_front, in_behind, in_weaker, in_both, in_one}
-use Rattle.segment_law.proofs.Tests.{on_test}
+use Rattle.record_law.proofs.Lists.{Each, each_append, each_filter, each_weaker, In, in_front, in_behind, in_weaker, in_both, in_one}
+use Rattle.record_law.proofs.Tests.{on_test}
 use Rattle.record_law.proofs.ports.Ports.{Receives, Opens, IsAllowed, each_marked, less_lacks}
 
 -- openings of a port, each with its PGN and length, and closings, as far as the record goes

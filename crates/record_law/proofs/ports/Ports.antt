@@ -9,8 +9,8 @@ use Rattle.port_table.specs.Ports.{Ports, less_port, marked, receives, ports_for
 use Rattle.port_table.specs.declared.port.Port.{Port}
 use Rattle.message_events.specs.declared.event.Event.{Event}
 use Rattle.message_events.specs.declared.event.Event.TheVariants as event
-use Rattle.segment_law.proofs.Lists.{Each, each_kept, each_map, each_weaker, each_both, In, in_front, in_map, in_weaker}
-use Rattle.segment_law.proofs.Tests.{on_test, either}
+use Rattle.record_law.proofs.Lists.{Each, each_kept, each_map, each_weaker, each_both, In, in_front, in_map, in_weaker}
+use Rattle.record_law.proofs.Tests.{on_test, either}
 
 -- the port is open, on this PGN and for so many bytes
 abbrev pub Opens : (pgn len number : ℕ) → Port → Type 0

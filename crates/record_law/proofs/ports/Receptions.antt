@@ -20,10 +20,10 @@ use Rattle.session_table.specs.declared.incoming.Incoming.TheVariants as incomin
 use Rattle.session_table.specs.Incoming.{pgn_of}
 use Rattle.session_table.specs.Sessions.{state_at}
 use Rattle.station_sessions.specs.Receiving.{Inbound, Reception, unheard, broadcast_settled, connection_settled, session_stepped, session_fired, flow_at, received_by, received, fired_by, fired_at, aborted_at, unbound_by, unbound_at}
-use Rattle.segment_law.proofs.Lists.{Each, each_filter}
-use Rattle.segment_law.proofs.Maps.{State, OfEach, put_of_each, dropped_of_each, of_each_put, of_each_dropped}
-use Rattle.segment_law.proofs.Segments.{same_address}
-use Rattle.segment_law.proofs.Tests.{either}
+use Rattle.record_law.proofs.Lists.{Each, each_filter}
+use Rattle.record_law.proofs.Maps.{State, OfEach, put_of_each, dropped_of_each, of_each_put, of_each_dropped}
+use Rattle.record_law.proofs.Segments.{same_address}
+use Rattle.record_law.proofs.Tests.{either}
 use Rattle.record_law.proofs.ports.Ports.{AllReceive, Lacks, without_lacks, IsToStationOrAll, IsAllowed, gives_to, given_allowed}
 use Rattle.record_law.proofs.ports.Sessions.{IsOf, Goes, GoesBroadcast, connection_step, connection_expired, connection_prepared, connection_prepared_fire, broadcast_step}
 

@@ -10,9 +10,9 @@ use Rattle.segment_law.specs.Calls.{applied, events_of}
 use Rattle.segment_law.specs.Record.{Step, Record, StandsAt}
 use Rattle.segment_law.specs.Reached.{IsReached}
 use Rattle.segment_law.specs.declared.call.Call.{Call}
-use Rattle.segment_law.proofs.AlongRecords.{along_record}
-use Rattle.segment_law.proofs.Maps.{of_each_none}
-use Rattle.segment_law.proofs.Segments.{new_each}
+use Rattle.record_law.proofs.AlongRecords.{along_record}
+use Rattle.record_law.proofs.Maps.{of_each_none}
+use Rattle.record_law.proofs.Segments.{new_each}
 use Rattle.record_law.proofs.ports.Calls.{IsSound, placed, HasLife, Good, Goes}
 use Rattle.record_law.proofs.ports.Every.{goes_call}
 use Rattle.record_law.proofs.ports.Lives.{Openings, Closings, lives_first}

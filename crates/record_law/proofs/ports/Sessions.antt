@@ -22,7 +22,7 @@ use Rattle.bam_session.specs.Receiving as bam-steps
 use Rattle.session_table.specs.declared.incoming.Incoming.{Incoming}
 use Rattle.session_table.specs.declared.incoming.Incoming.TheVariants as incoming
 use Rattle.responder.proofs.Rows.{by_rows, by_timer, by_room, by_room_at_timer}
-use Rattle.segment_law.proofs.Tests.{either}
+use Rattle.record_law.proofs.Tests.{either}
 
 -- the length of what is taken
 taken_short : (n : ℕ) (xs : List ℕ) → length (take n xs) ≤ n

@@ -46,9 +46,9 @@ use Rattle.station_sessions.specs.Receiving.{goes_on_at, ended_at}
 use Rattle.station_core.specs.Overruns.{overrun}
 use Rattle.station_core.specs.Taking.{packet_kind, in_session, abort_taken, cm_taken, request_taken, ack_taken, wire_taken, looks_at, meaning_taken, taken}
 use Rattle.station_core.specs.Timers.{lane_fired, fired}
-use Rattle.segment_law.proofs.Lists.{Each, each_append}
-use Rattle.segment_law.proofs.Maps.{of_each_none, of_each_put, of_each_dropped}
-use Rattle.segment_law.proofs.Tests.{on_test, either, by_option}
+use Rattle.record_law.proofs.Lists.{Each, each_append}
+use Rattle.record_law.proofs.Maps.{of_each_none, of_each_put, of_each_dropped}
+use Rattle.record_law.proofs.Tests.{on_test, either, by_option}
 use Rattle.record_law.proofs.ports.Ports.{IsAllowed, found_receive}
 use Rattle.record_law.proofs.ports.Receptions.{IsBound, AreBound, Settles, settles_received, settles_fired, bound_aborted}
 use Rattle.record_law.proofs.ports.Sessions.{IsOf, asking_is}

@@ -8,7 +8,7 @@ use Rattle.segment_law.specs.Headline.{IsOpenedFor, IsOpenFor}
 use Rattle.segment_law.specs.Segment.{Segment, new_segment}
 use Rattle.segment_law.specs.Calls.{applied, events_of}
 use Rattle.segment_law.specs.Record.{Step, Record, StandsAt}
-use Rattle.segment_law.proofs.Lists.{Each, each_append, each_map, each_weaker, each_all, In, in_front, in_any, in_weaker}
+use Rattle.record_law.proofs.Lists.{Each, each_append, each_map, each_weaker, each_all, In, in_front, in_any, in_weaker}
 use Rattle.record_law.proofs.ports.Calls.{placed}
 use Rattle.record_law.proofs.ports.Lives.{Openings, Closings, IsTaken}
 use Rattle.record_law.proofs.ports.Records.{opens, shuts, AllGo, record_goes}

@@ -22,7 +22,7 @@ use Rattle.responder.specs.declared.received.Received.TheVariants.{On, Complete,
 use Rattle.bam_session.specs.States as bam
 use Rattle.bam_session.specs.Receiving as bam-steps
 use Rattle.responder.proofs.Rows.{IsNextPacket, by_rows, by_timer, by_room, by_room_at_timer}
-use Rattle.segment_law.proofs.Tests.{on_test, either}
+use Rattle.record_law.proofs.Tests.{on_test, either}
 
 -- Joins
 

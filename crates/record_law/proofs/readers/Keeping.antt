@@ -27,7 +27,7 @@ use Rattle.session_table.specs.Incoming.{pgn_of}
 use Rattle.session_table.specs.Sessions.{state_at}
 use Rattle.session_table.proofs.Keys.{key_total}
 use Rattle.station_sessions.specs.Receiving.{Inbound, Reception, broadcast_settled, connection_settled, session_stepped, session_fired, flow_at, received_by, received, fired_by, fired_at, aborted_at, unbound_by, unbound_at}
-use Rattle.segment_law.proofs.Tests.{either}
+use Rattle.record_law.proofs.Tests.{either}
 use Rattle.record_law.proofs.readers.Filled.{IsFilled, IsSeven, Goes, GoesBroadcast, connection_step, connection_expired, broadcast_step}
 
 -- a session with the ports that it gives to

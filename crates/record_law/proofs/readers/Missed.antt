@@ -33,9 +33,9 @@ use Rattle.segment_law.proofs.Booleans.{both_pass, not_passes}
 use Rattle.segment_law.proofs.FitStations.{Stays, taken_stays, fired_stays, closed_stays}
 use Rattle.segment_law.proofs.Reaching.{position_kept, slice_get_same, as_it_is, reached_call}
 use Rattle.segment_law.proofs.Records.{stands_reached}
-use Rattle.segment_law.proofs.EachCall.{OfStation, Accepted, each_applied}
-use Rattle.segment_law.proofs.AlongRecords.{along}
-use Rattle.segment_law.proofs.Segments.{found_passes, found_there}
+use Rattle.record_law.proofs.EachCall.{OfStation, Accepted, each_applied}
+use Rattle.record_law.proofs.AlongRecords.{along}
+use Rattle.record_law.proofs.Segments.{found_passes, found_there}
 use Rattle.record_law.specs.Counting.{is_done}
 use Rattle.record_law.specs.Missed.{is_take_at, takes_at, HasMissed}
 

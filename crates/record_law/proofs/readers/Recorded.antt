@@ -9,7 +9,7 @@ use Rattle.segment_law.specs.Drive.{events_in}
 use Rattle.segment_law.specs.Record.{Step, Record, StandsAt, after, calls_of}
 use Rattle.segment_law.specs.declared.counts.Counts.{Counts}
 use Rattle.segment_law.specs.declared.call.Call.{Call}
-use Rattle.segment_law.proofs.AlongRecords.{along_record}
+use Rattle.record_law.proofs.AlongRecords.{along_record}
 use Rattle.record_law.specs.Counting.{counts_over, steps_from, puts_frame, takes_again, takes_malformed, is_given, is_acknowledged, is_broadcast, is_aborted, is_timed_out, is_overrun, is_cancelled, is_unreachable}
 use Rattle.record_law.proofs.readers.Totals.{grown, more, number_is}
 use Rattle.record_law.proofs.readers.Counted.{with_events, with_step, call_counts}

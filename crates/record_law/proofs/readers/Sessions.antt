@@ -39,7 +39,7 @@ use Rattle.station_core.specs.Taking.{packet_kind, cm_taken, wire_taken, meaning
 use Rattle.station_core.specs.Timers.{lane_fired, fired}
 use Rattle.station_core.specs.Closing.{closed_below, closed}
 use Rattle.port_table.specs.Ports.{without_port}
-use Rattle.segment_law.proofs.Tests.{either}
+use Rattle.record_law.proofs.Tests.{either}
 use Rattle.record_law.proofs.readers.Filled.{IsFilled, IsSeven, asking_filled}
 use Rattle.record_law.proofs.readers.Keeping.{join_of, AreKept, kept_put, kept_dropped, kept_received, kept_fired, kept_aborted, kept_unbound}
 

@@ -21,7 +21,7 @@ use Rattle.station_lanes.specs.LaneCalls.{step_at, outcome_of}
 use Rattle.station_sessions.specs.Steps.{completes, size_of}
 use Rattle.station_sessions.specs.Receiving.{Inbound, flow_at, received_by, wanted_by}
 use Rattle.station_sessions.specs.Opening.{key_of, opening_received}
-use Rattle.segment_law.proofs.Openings.{opening_untold}
+use Rattle.record_law.proofs.Openings.{opening_untold}
 use Rattle.station_core.specs.Station.{Station, quietly}
 use Rattle.station_core.specs.Taking as taking
 use Rattle.station_core.specs.Taking.{cm_taken, wire_taken, meaning_taken, looks_at, taken, packet_kind}

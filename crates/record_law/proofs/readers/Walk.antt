@@ -10,8 +10,8 @@ use Rattle.segment_law.specs.Calls.{applied}
 use Rattle.segment_law.specs.Record.{Record, StandsAt}
 use Rattle.segment_law.specs.declared.call.Call.{Call}
 use Rattle.segment_law.specs.declared.reply.Reply.{Reply}
-use Rattle.segment_law.proofs.EachCall.{OfStation, each_applied}
-use Rattle.segment_law.proofs.AlongRecords.{at_record}
+use Rattle.record_law.proofs.EachCall.{OfStation, each_applied}
+use Rattle.record_law.proofs.AlongRecords.{at_record}
 use Rattle.record_law.proofs.readers.Keeping.{AreKept, kept_none}
 use Rattle.record_law.proofs.readers.Sessions.{kept_taken, kept_timer, kept_closed}
 

@@ -30,7 +30,7 @@ use Rattle.station_sessions.specs.Steps.{completes}
 use Rattle.station_sessions.specs.Receiving.{Inbound, broadcast_settled, connection_settled, session_stepped}
 use Rattle.segment_law.specs.Readers.{ports_given}
 use Rattle.responder.proofs.Rows.{by_rows}
-use Rattle.segment_law.proofs.Tests.{either}
+use Rattle.record_law.proofs.Tests.{either}
 
 never : (b : Bool) → (b && false) ≡ false
 never true = refl

@@ -2,7 +2,7 @@ use Rattle.std.proofs.Common.{refl, ap, ◌∙◌}
 use Rattle.segment_law.specs.declared.call.Call.TheVariants.{Open}
 use Rattle.segment_law.specs.declared.reply.Reply.TheVariants.{Sent, Done}
 use Rattle.one_station.specs.Told.{told_events}
-use Rattle.segment_law.proofs.Replies.{fits}
+use Rattle.record_law.proofs.Replies.{fits}
 use Rattle.one_station.proofs.Made.{make_refused, stood_on}
 use Rattle.one_station.proofs.node.Node.open_port.Goals as goal
 

@@ -3,7 +3,7 @@ use Rattle.segment_law.specs.Calls.{applied}
 use Rattle.segment_law.specs.declared.call.Call.TheVariants.{Send}
 use Rattle.segment_law.specs.declared.reply.Reply.TheVariants.{Opened, Done}
 use Rattle.one_station.specs.Told.{told_events}
-use Rattle.segment_law.proofs.Replies.{fits}
+use Rattle.record_law.proofs.Replies.{fits}
 use Rattle.one_station.proofs.Made.{make_refused, stood_on}
 use Rattle.one_station.proofs.node.Node.send.Goals as goal
 

@@ -9,7 +9,7 @@ use Rattle.pgn_ids.specs.declared.address.Address.{Address}
 use Rattle.bus_order.specs.Bus.{start}
 use Rattle.station_core.specs.Station.{Station, new_station}
 use Rattle.segment_law.specs.Segment.{Segment, place_of}
-use Rattle.segment_law.proofs.Tests.{on_test}
+use Rattle.record_law.proofs.Tests.{on_test}
 
 abbrev pub same_address : (a b : Address) → a.0 ≡ b.0 → a ≡ b
 same_address a b e = λ i. record { 0 = e i }

@@ -7,7 +7,7 @@ use Rattle.segment_law.specs.declared.call.Call.TheVariants.{Open, Send}
 use Rattle.segment_law.specs.declared.refusal.Refusal.{Refusal}
 use Rattle.segment_law.specs.declared.reply.Reply.{Reply}
 use Rattle.segment_law.specs.declared.reply.Reply.TheVariants.{Opened, Sent, Refused, Done}
-use Rattle.segment_law.proofs.EachCall.{Holds, Accepted, each_called}
+use Rattle.record_law.proofs.EachCall.{Holds, Accepted, each_called}
 
 -- the name of a port for an Open, the number of a message for a Send, events for any other call
 abbrev pub IsReplyTo : Reply → Call → Type 0

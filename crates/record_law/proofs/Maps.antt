@@ -13,7 +13,7 @@ use Rattle.session_table.proofs.Keys.{key_total}
 use Rattle.session_table.proofs.Tables.{key_eq-refl, key_eq-same}
 use Rattle.station_lanes.specs.Lanes.{Lanes}
 use Rattle.station_sessions.specs.Receiving.{Inbound}
-use Rattle.segment_law.proofs.Tests.{on_test}
+use Rattle.record_law.proofs.Tests.{on_test}
 
 pub lane_here : (lanes : Lanes) (to : ℕ) (lane : Lane) → finmap.get (finmap.insert lanes to lane) to ≡ Some lane
 lane_here lanes to lane = get-insert nat_cmp_total lanes to lane to ∙ ap (λ b. cond b (Some lane) (finmap.get lanes to)) (unsigned_tied to to ∙ eq-eqb to to refl)

@@ -17,10 +17,10 @@ use Rattle.segment_law.specs.declared.call.Call.TheVariants.{Open, Close, Send, 
 use Rattle.segment_law.specs.declared.refusal.Refusal.{Refusal}
 use Rattle.segment_law.specs.declared.reply.Reply.{Reply}
 use Rattle.segment_law.specs.declared.reply.Reply.TheVariants.{Sent, Refused, Done}
-use Rattle.segment_law.proofs.EachCall.{Accepted, each_applied}
-use Rattle.segment_law.proofs.Lists.{Each}
-use Rattle.segment_law.proofs.Segments.{has_address}
-use Rattle.segment_law.proofs.Tests.{on_test}
+use Rattle.record_law.proofs.EachCall.{Accepted, each_applied}
+use Rattle.record_law.proofs.Lists.{Each}
+use Rattle.record_law.proofs.Segments.{has_address}
+use Rattle.record_law.proofs.Tests.{on_test}
 
 -- What steps tell
 

@@ -3,7 +3,7 @@ use Rattle.std.proofs.Common.{◌≡◌, ◌⊎◌, inl, inr, ℕ, zero, suc, �
 use Rattle.std.specs.Prelude.{All, Any, slice_get, slice_index_or}
 use Rattle.std.proofs.lemmas.List.Elements.{All-head, All-tail, All-nil, All-cons}
 use Rattle.std.proofs.lemmas.Option.{same_Some, none-some}
-use Rattle.segment_law.proofs.Tests.{on_test}
+use Rattle.record_law.proofs.Tests.{on_test}
 
 -- Each item
 

@@ -29,7 +29,7 @@ use Rattle.segment_law.specs.declared.call.Call.TheVariants.{Open, Close, Send, 
 use Rattle.segment_law.specs.declared.refusal.Refusal.{Refusal}
 use Rattle.segment_law.specs.declared.reply.Reply.{Reply}
 use Rattle.segment_law.specs.declared.reply.Reply.TheVariants.{Opened, Sent, Refused, Done}
-use Rattle.segment_law.proofs.Tests.{not_fails}
+use Rattle.record_law.proofs.Tests.{not_fails}
 
 -- what a step of the station at a place leaves and answers
 abbrev pub stepped : Segment → ℕ → StationStep → Segment × Reply
