@@ -17,6 +17,11 @@ IsAnswer answer before after (Ok reply) = answer ≡ Ok (after, reply)
 IsAnswer answer before after (Err (Refused cause)) = (answer ≡ Err cause) × (after ≡ before)
 IsAnswer answer before after (Err OutOfMemory) = IsOk answer × (after ≡ before)
 
+-- the same of a call whose reply is put together from what it gives
+abbrev pub IsAnswerBy : {T : Type 0} → (reply : T → Reply) → Answer → (before after : Segment) → Result T Stop → Type 0
+IsAnswerBy reply answer before after (Ok given) = answer ≡ Ok (after, reply given)
+IsAnswerBy reply answer before after (Err stop) = IsAnswer answer before after (Err stop)
+
 -- why a call is refused; none where it isn't
 abbrev pub refusal_of : Answer → Option Refusal
 refusal_of (Ok step) = None

@@ -83,6 +83,7 @@ fn take_first(stations: &mut [Station], places: &Places, frame: &Frame, now: u64
 impl Segment {
     /// Where the stations are abreast, the first of them take the newest frame with room, as by `take_in_place`, up to one that
     /// wants more than that: how many do. None do where the stations aren't abreast.
+    #[inline(never)]
     pub(crate) fn take_abreast(&mut self) -> usize
         ensures { FirstPass result self.old self.new }
     {

@@ -1,11 +1,12 @@
 //! One call on a segment.
 ghost use Rattle.std.specs.Prelude.{◌≡◌, ℕ, ◌<◌, ◌∷◌, ◌++◌, [], true, slice_index, List, IfOk, OnErr, IsOk};
 ghost use Rattle.std.specs.Bool.{OnTrue, OnFalse};
-ghost use Rattle.segment_law.specs.Calls.{are_bytes, is_address, is_call, done, called, applied};
+ghost use Rattle.segment_law.specs.Segment.{Segment as State};
+ghost use Rattle.segment_law.specs.Calls.{Answer, are_bytes, is_address, is_call, done, called, applied};
 ghost use Rattle.segment_law.specs.Record.{Record, StandsAt};
 ghost use Rattle.segment_law.specs.declared.reply.Reply.TheVariants.{Done};
 ghost use Rattle.pgn_ids.specs.declared.address.Address.{Address as AddressValue};
-ghost use Rattle.segment_core.specs.Answers.{IsAnswer};
+ghost use Rattle.segment_core.specs.Answers.{IsAnswer, IsAnswerBy};
 ghost use Rattle.segment_core.specs.InPlace.{is_quiet, MayLackMemory};
 ghost use Rattle.segment_core.specs.Promise.{KeepsPromise};
 
@@ -14,7 +15,8 @@ use crate::stop::Stop;
 use connection_law::the_headline_holds;
 use pgn_ids::Address;
 use segment_law::{Call, Reply};
-use std::alloc::AllocError;
+use station_core::Events;
+use std::alloc::{AllocError, Global};
 
 // Bytes are below 256.
 #[tactic(auto, using(crate::proofs::Records::bytes_fit))]
@@ -58,11 +60,23 @@ fn fits(call: &Call)
     }
 }
 
+// The reply to a call that tells nothing, or why it isn't done.
+fn answered(alloc: Global, done: Result<(), Stop>) -> Result<Reply, Stop>
+    ensures { (answer : Answer) (before after : State) → IsAnswerBy (λ _. Done []) answer before after done → IsAnswer answer before after result }
+{
+    match done {
+        Ok(()) => Ok(Reply::Done(Events::none(alloc))),
+        Err(stop) => Err(stop),
+    }
+}
+
 impl Segment {
     /// Makes one call: one atomic step. A refused call is answered by the first of its causes, and changes nothing.
     ///
     /// Want of memory changes nothing either, and then the call is no step: it is answered only for a call that isn't
     /// refused. The call is spent in each case: who wants to make it again keeps a copy.
+    // As a rule its caller says which call it is: what that does in place is then done at once, without a call and a reply put together.
+    #[inline(always)]
     pub fn apply(&mut self, call: Call) -> Result<Reply, AllocError>
         ensures ok { IfOk result (λ reply. applied self.old call ≡ (self.new, reply)) }
         ensures err { OnErr result (self.new ≡ self.old) }
@@ -73,9 +87,39 @@ impl Segment {
         // A law, for the last clause: the call does nothing.
         the_headline_holds();
         fits(&call);
-        if self.call_in_place(&call) {
+        if self.call_at_once(&call) {
             return Ok(self.done());
         }
+        self.apply_opening(call)
+    }
+
+    // The same of a call that tells something, where a port is opened at once.
+    #[inline(always)]
+    fn apply_opening(&mut self, call: Call) -> Result<Reply, AllocError>
+        ensures ok { IfOk result (λ reply. applied self.old call ≡ (self.new, reply)) }
+        ensures err { OnErr result (self.new ≡ self.old) }
+        ensures not_refused { OnErr result (IsOk (called self.old call)) }
+    {
+        if let Call::Open {
+            station,
+            pgn,
+            max_len,
+        } = &call
+        {
+            if let Ok(port) = self.open(*station, *pgn, *max_len) {
+                return Ok(Reply::Opened(port));
+            }
+        }
+        self.apply_telling(call)
+    }
+
+    // The same of any call.
+    #[inline(never)]
+    fn apply_telling(&mut self, call: Call) -> Result<Reply, AllocError>
+        ensures ok { IfOk result (λ reply. applied self.old call ≡ (self.new, reply)) }
+        ensures err { OnErr result (self.new ≡ self.old) }
+        ensures not_refused { OnErr result (IsOk (called self.old call)) }
+    {
         match self.call(call) {
             Ok(reply) => Ok(reply),
             Err(Stop::Refused(cause)) => Ok(Reply::Refused(cause)),
@@ -86,7 +130,7 @@ impl Segment {
     /// Makes a Pump, a Take, a Transmit or a Tick that tells nothing, as most do, and answers whether it did: faster than `apply`,
     /// since no reply is made. Any other call is left to `apply`, and changes nothing, one that is refused or finds no memory
     /// among them.
-    #[inline]
+    #[inline(always)]
     pub fn apply_in_place(&mut self, call: &Call) -> bool
         ensures quiet { OnTrue result (is_quiet self.old call.now ≡ true) }
         ensures wanting { OnFalse result (is_quiet self.old call.now ≡ true → MayLackMemory self.old call.now) }
@@ -102,7 +146,7 @@ impl Segment {
     }
 
     // Makes a Pump, a Take, a Transmit or a Tick that tells nothing; any other call changes nothing.
-    #[inline]
+    #[inline(always)]
     #[tactic(auto, unfolding(segment_law::specs::Calls::called))]
     fn call_in_place(&mut self, call: &Call) -> bool
         ensures quiet { OnTrue result (is_quiet self.old call.now ≡ true) }
@@ -113,9 +157,25 @@ impl Segment {
         match call {
             Call::Pump { station, to } => self.pump_in_place(*station, *to),
             Call::Take { station, room } => self.take_in_place(*station, *room),
-            Call::Transmit { station } => self.transmit_front(*station).is_ok(),
+            Call::Transmit { station } => self.transmit_front(*station).is_some(),
             Call::Tick { n } => self.clock.advance(*n).is_ok(),
             _ => false,
+        }
+    }
+
+    // Makes a call that tells nothing whatever it does, or is made in place; any other changes nothing.
+    #[inline(always)]
+    #[tactic(auto, unfolding(segment_law::specs::Calls::called))]
+    fn call_at_once(&mut self, call: &Call) -> bool
+        ensures step { OnTrue result (called self.old call.now ≡ done self.new) }
+        ensures other { OnFalse result (self.new ≡ self.old) }
+    {
+        match call {
+            Call::Close { port } => self.close(*port).is_ok(),
+            Call::Inject { frame } => self.inject(*frame).is_ok(),
+            Call::Pause { port } => self.pause(*port).is_ok(),
+            Call::Resume { port } => self.resume(*port).is_ok(),
+            _ => self.call_in_place(call),
         }
     }
 
@@ -129,8 +189,11 @@ impl Segment {
                 station,
                 pgn,
                 max_len,
-            } => self.open(station, pgn, max_len),
-            Call::Close { port } => self.close(port),
+            } => match self.open(station, pgn, max_len) {
+                Ok(port) => Ok(Reply::Opened(port)),
+                Err(stop) => Err(stop),
+            },
+            Call::Close { port } => answered(self.alloc, self.close(port)),
             Call::Send {
                 from,
                 to,
@@ -145,9 +208,9 @@ impl Segment {
             Call::Tick { n } => self.tick(n),
             Call::Fire { station } => self.fire(station),
             Call::Cancel { from, to, number } => self.cancel(from, to, number),
-            Call::Inject { frame } => self.inject(frame),
-            Call::Pause { port } => self.pause(port),
-            Call::Resume { port } => self.resume(port),
+            Call::Inject { frame } => answered(self.alloc, self.inject(frame)),
+            Call::Pause { port } => answered(self.alloc, self.pause(port)),
+            Call::Resume { port } => answered(self.alloc, self.resume(port)),
         }
     }
 }

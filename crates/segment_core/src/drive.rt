@@ -113,15 +113,20 @@ impl Segment {
     }
 
     // A station transmits.
+    #[inline(always)]
     fn put_one(&mut self, station: Address, course: &mut Course) -> Result<(), Stop>
         ensures { (start : State) (d : Drive) → IsCourse None start d self.old course.old → Went start (puts d station) self.new course.new result }
     {
         if !course.has_room() {
             return self.put_growing(station, course);
         }
-        let frame = self.transmit_front(station)?;
-        course.put(Some(frame));
-        Ok(())
+        match self.transmit_front(station) {
+            Some(frame) => {
+                course.put(Some(frame));
+                Ok(())
+            }
+            None => self.put_growing(station, course),
+        }
     }
 
     // The same where the course has no room for the frame: memory is taken only once the call isn't refused.

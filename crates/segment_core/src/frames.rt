@@ -1,10 +1,11 @@
 //! Frames that are put on the bus.
-ghost use Rattle.std.specs.Prelude.{◌≡◌, ◌↔◌, Some, Err, IfOk, IfErr, OnOk, OnErr, IsErrOf, IsTrue};
+ghost use Rattle.std.specs.Prelude.{◌≡◌, ◌↔◌, [], Some, IfSome, IfNone, OnOk, OnErr, IsErrOf, IsTrue};
+ghost use Rattle.segment_law.specs.declared.reply.Reply.TheVariants.{Done};
 ghost use Rattle.tx_queue.specs.Queue.{front};
 ghost use Rattle.segment_law.specs.Segment.{station_at};
 ghost use Rattle.bus_order.specs.Bus.{is_full};
 ghost use Rattle.segment_law.specs.Calls.{at_address, done, with_frame, transmits, injects};
-ghost use Rattle.segment_core.specs.Answers.{IsAnswer};
+ghost use Rattle.segment_core.specs.Answers.{IsAnswer, IsAnswerBy};
 
 use crate::counting::count_frame;
 use crate::segment::Segment;
@@ -19,44 +20,44 @@ impl Segment {
     pub(crate) fn transmit(&mut self, station: Address) -> Result<Reply, Stop>
         ensures { IsAnswer (at_address self.old station (transmits self.old)) self.old self.new result }
     {
-        let _frame = self.transmit_front(station)?;
-        Ok(self.done())
-    }
-
-    /// Puts the first frame of a station's queue on the bus, and tells which it was.
-    #[tactic(auto, using(crate::proofs::Stations::call_laws))]
-    pub(crate) fn transmit_front(&mut self, station: Address) -> Result<Frame, Stop>
-        ensures put { IfOk result (λ frame. at_address self.old station (transmits self.old) ≡ done self.new) }
-        ensures front { IfOk result (λ frame. front (station_at self.old station).queue ≡ Some frame) }
-        ensures err { OnErr result (self.new ≡ self.old) }
-        ensures stopped { IfErr result (λ stop. IsAnswer (at_address self.old station (transmits self.old)) self.old self.new (Err stop)) }
-    {
-        let Some(place) = self.place_of(station) else {
-            return Err(Stop::Refused(Refusal::NoSuchStation));
-        };
-        let Some(frame) = self.stations[place].front() else {
-            return Err(Stop::Refused(Refusal::NothingToSend));
-        };
-        match self.put(frame) {
-            Ok(()) => {
-                let _transmitted = self.stations[place].pop();
-                Ok(frame)
-            }
-            Err(PutError::BusFull) => Err(Stop::Refused(Refusal::BusFull)),
-            Err(PutError::OutOfMemory) => Err(Stop::OutOfMemory),
+        if let Some(cause) = self.transmit_refusal(station) {
+            return Err(Stop::Refused(cause));
+        }
+        match self.transmit_front(station) {
+            Some(_) => Ok(self.done()),
+            None => Err(Stop::OutOfMemory),
         }
     }
 
-    /// Puts the frame of a foreign node on the bus.
+    /// Puts the first frame of a station's queue on the bus, and tells which it was. None where the call is refused or finds no
+    /// memory, and then nothing changes.
+    #[inline(always)]
     #[tactic(auto, using(crate::proofs::Stations::call_laws))]
-    pub(crate) fn inject(&mut self, frame: Frame) -> Result<Reply, Stop>
-        ensures { IsAnswer (injects self.old frame) self.old self.new result }
+    pub(crate) fn transmit_front(&mut self, station: Address) -> Option<Frame>
+        ensures put { IfSome result (λ frame. at_address self.old station (transmits self.old) ≡ done self.new) }
+        ensures front { IfSome result (λ frame. front (station_at self.old station).queue ≡ Some frame) }
+        ensures none { IfNone result (self.new ≡ self.old) }
+    {
+        let place = self.place_of(station)?;
+        let frame = self.stations[place].front()?;
+        if self.put(frame).is_err() {
+            return None;
+        }
+        let _transmitted = self.stations[place].pop();
+        Some(frame)
+    }
+
+    /// Puts the frame of a foreign node on the bus.
+    #[inline]
+    #[tactic(auto, using(crate::proofs::Stations::call_laws))]
+    pub(crate) fn inject(&mut self, frame: Frame) -> Result<(), Stop>
+        ensures { IsAnswerBy (λ _. Done []) (injects self.old frame) self.old self.new result }
     {
         if self.place_of(read_id(frame.id()).from).is_some() {
             return Err(Stop::Refused(Refusal::StationAddress));
         }
         match self.put(frame) {
-            Ok(()) => Ok(self.done()),
+            Ok(()) => Ok(()),
             Err(PutError::BusFull) => Err(Stop::Refused(Refusal::BusFull)),
             Err(PutError::OutOfMemory) => Err(Stop::OutOfMemory),
         }

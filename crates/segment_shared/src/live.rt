@@ -142,6 +142,8 @@ impl Live {
     ///
     /// Refused where no more calls can be stored, and then where the segment refuses the call. Want of memory is answered
     /// only for a call that isn't refused. A refused call and want of memory change nothing.
+    // As a rule its caller says which call it is: what that does in place is then done at once.
+    #[inline(always)]
     pub fn apply(&mut self, call: WorkerCall) -> Result<Reply, AllocError>
         ensures full { 1000000 ≤ stored_calls self.old → (result ≡ Ok (Refused TraceFull)) × (self.new ≡ self.old) }
         ensures applied { stored_calls self.old < 1000000 → IfOk result (λ r. (room : Bool) × Applied self.old self.new call r room) }
@@ -159,7 +161,7 @@ impl Live {
 
     // A call that tells nothing and ends nothing is made and stored, where the list of calls has its place. Any other changes
     // nothing.
-    #[inline]
+    #[inline(always)]
     fn apply_in_place(&mut self, call: &WorkerCall) -> bool
         requires { stored_calls self.old < 1000000 }
         ensures applied { OnTrue result (Applied self.old self.new call.now (Done []) true) }

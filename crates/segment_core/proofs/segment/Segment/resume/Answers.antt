@@ -2,16 +2,17 @@ use Rattle.std.proofs.Common.{refl, sym, ◌∙◌}
 use Rattle.segment_core.proofs.Refusals.{resumes_by, goes_on, refuses}
 use Rattle.segment_core.proofs.Kept.{at_here, stepped_view, unchanged_view}
 use Rattle.segment_core.proofs.segment.Segment.resume.Goals as goal
+use Rattle.segment_core.proofs.segment.Segment.resume.Goals.{in-Ok, in-Err}
 
-pub returns-in-Ok : goal.returns-in-Ok
-returns-in-Ok c =
-    at_here c.self.inside _ _ c.in-Some.place c.index_mut.result.now _ c.self.view_is c.in-Some.ensures.value c.in-Some.ensures.within c.index_mut.ensures.value
-    ∙ goes_on _ _ _ (resumes_by c.args.self.now c.in-Some.place c.index_mut.result.now c.args.port.number) (sym c.in-Ok.ensures.refused)
-    ∙ stepped_view c.self.inside _ c.in-Some.place _ _ _ _ c.self.view_is c.in-Ok.ensures.ok c.done.ensures
-
-pub returns-in-Err : goal.returns-in-Err
-returns-in-Err c =
-    refuses _ _ _ (at_here c.self.inside _ _ c.in-Some.place c.index_mut.result.now _ c.self.view_is c.in-Some.ensures.value c.in-Some.ensures.within c.index_mut.ensures.value
-    ∙ resumes_by c.args.self.now c.in-Some.place c.index_mut.result.now c.args.port.number) _ _ c.in-Err.cause _ c.stop_of.ensures refl
-    (unchanged_view c.self.inside _ c.in-Some.place _ c.index_mut.result.now c.self.view_is c.in-Err.ensures.err c.index_mut.ensures.value)
-    c.in-Err.ensures.refused
+pub returns : goal.returns
+returns c = elim c.match-resume.branch [
+  | in-Ok w ↦ rw w.result-is
+      (at_here c.self.inside _ _ c.in-Some.place c.index_mut.result.now _ c.self.view_is c.in-Some.ensures.value c.in-Some.ensures.within c.index_mut.ensures.value
+      ∙ goes_on _ _ _ (resumes_by c.args.self.now c.in-Some.place c.index_mut.result.now c.args.port.number) (sym w.in-Ok.ensures.refused)
+      ∙ stepped_view c.self.inside _ c.in-Some.place _ _ _ _ c.self.view_is w.in-Ok.ensures.ok refl)
+  | in-Err w ↦ rw w.result-is
+      (refuses _ _ _ (at_here c.self.inside _ _ c.in-Some.place c.index_mut.result.now _ c.self.view_is c.in-Some.ensures.value c.in-Some.ensures.within c.index_mut.ensures.value
+      ∙ resumes_by c.args.self.now c.in-Some.place c.index_mut.result.now c.args.port.number) _ _ w.in-Err.cause _ w.stop_of.ensures refl
+      (unchanged_view c.self.inside _ c.in-Some.place _ c.index_mut.result.now c.self.view_is w.in-Err.ensures.err c.index_mut.ensures.value)
+      w.in-Err.ensures.refused)
+]
