@@ -13,7 +13,7 @@ use Rattle.segment_law.specs.declared.refusal.Refusal.{Refusal}
 use Rattle.segment_law.specs.declared.reply.Reply.{Reply}
 use Rattle.segment_law.specs.declared.reply.Reply.TheVariants.{Refused, Done}
 use Rattle.segment_core.specs.InPlace.{is_quiet, MayLackMemory}
-use Rattle.segment_core.proofs.Records.{refused_stands}
+use Rattle.segment_core.proofs.Records.{answered_stands}
 use Rattle.record_law.proofs.Replies.{refused_for}
 use Rattle.one_station.specs.Node.{Node, Did}
 use Rattle.one_station.specs.NodeFields.{IsStood}
@@ -59,7 +59,7 @@ pub did_refused : (before after : Node) (call : Call) (cause : Refusal) → is_c
 did_refused before after call cause fit says same =
     let none : before ≡ record before { segment = before.segment; events = before.events ++ [] } = λ k. record before { events = sym (append-nil before.events) k } in
     did_one before after call before.segment (Refused cause) (ap (replied before.segment) says) (same ∙ none)
-    (refused_stands before.segment before.segment call cause fit says refl)
+    (answered_stands before.segment before.segment call (Refused cause) fit (ap (replied before.segment) says))
 
 -- a call that the segment refused
 pub make_refused : (now : Node) (segment new : Segment) (address : Address) (events told : List Event) (call : Address → Call) (reply : Reply) (cause : Refusal)
