@@ -104,7 +104,7 @@ fn once(segment: &mut Segment, case: &Case, frame: Frame) -> u64 {
         Work::IsIdle => answer = u64::from(segment.is_idle()),
         _ => {}
     }
-    segment.apply(Call::Tick { ticks: 0 });
+    segment.apply(Call::Tick { ticks: 1 });
     answer
 }
 
