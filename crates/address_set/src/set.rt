@@ -52,6 +52,9 @@ impl AddressSet {
         ensures this { has self.new address ≡ is_in }
         ensures others { (other : ℕ) → other < 256 → other ≢ address → has self.new other ≡ has self.old other }
     {
+        if self.has(address) == is_in {
+            return;
+        }
         let at = usize::from(address);
         if at < HALF {
             self.low = with_bit(self.low, at, is_in);

@@ -1,6 +1,7 @@
 pub mod Bus
 pub mod Kept
 pub mod Rear
+pub mod CursorFields
 pub mod LogFields
 pub mod Calls
 pub mod Seen

@@ -1,5 +1,5 @@
 //! The cursors of the stations, and those furthest behind.
-ghost use Rattle.std.specs.Prelude.{◌≡◌, ◌<◌, ◌≤◌, ◌==◌, length, replicate, slice_set, slice_index_or};
+ghost use Rattle.std.specs.Prelude.{◌≡◌, ◌<◌, ◌≤◌, ◌==◌, true, false, length, replicate, slice_set, slice_index_or};
 ghost use Rattle.bus_order.specs.Bus.{start};
 ghost use Rattle.bus_order.specs.Rear.{IsRear};
 
@@ -9,7 +9,8 @@ use std::marker::Model;
 #[derive(Clone, Copy, Debug)]
 pub(crate) struct Cursor {
     pub(crate) place: u64,
-    pub(crate) repeatable: bool,
+    // How many frames can be repeated, 0 or 1: as wide as the place, so that a cursor is written as a whole.
+    again: u64,
 }
 
 impl Model for Cursor {
@@ -17,17 +18,44 @@ impl Model for Cursor {
 
     ghost Value = { CursorValue };
 
-    ghost view = { λ c. record { place = c.place; repeatable = c.repeatable } };
+    ghost use Rattle.bus_order.specs.CursorFields.{cursor_value, RepeatsOne, cursor_fields, cursor_fields_back};
 
-    ghost inverse = { λ c. record { place = c.place; repeatable = c.repeatable } };
+    ghost view = { cursor_value };
+
+    ghost invariant = { RepeatsOne };
+
+    ghost inverse = { cursor_fields };
+
+    ghost inverse_ok = { cursor_fields_back };
 }
 
 impl Cursor {
     /// A cursor before all frames.
-    pub(crate) const START: Cursor = Cursor {
-        place: 0,
-        repeatable: false,
-    };
+    pub(crate) const START: Cursor = Cursor { place: 0, again: 0 };
+
+    /// At a frame that was taken.
+    #[inline]
+    pub(crate) const fn taken(place: u64) -> Cursor
+        ensures { result ≡ record { place = place; repeatable = true } }
+    {
+        Cursor { place, again: 1 }
+    }
+
+    /// At a frame that was passed over.
+    #[inline]
+    pub(crate) const fn passed(place: u64) -> Cursor
+        ensures { result ≡ record { place = place; repeatable = false } }
+    {
+        Cursor { place, again: 0 }
+    }
+
+    /// Whether its frame can be repeated.
+    #[inline]
+    pub(crate) fn is_repeatable(self) -> bool
+        ensures { result ≡ self.repeatable }
+    {
+        self.again == 1
+    }
 }
 
 /// The cursors furthest behind: their place, and how many stand there.

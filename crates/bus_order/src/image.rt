@@ -85,7 +85,7 @@ fn are_kept(frames: &[Frame], kept: &VecDeque<Frame>) -> bool
 fn is_same_cursor(a: Cursor, b: Cursor) -> bool
     ensures { IsTrue result ↔ (a ≡ b) }
 {
-    a.place == b.place && a.repeatable == b.repeatable
+    a.place == b.place && a.is_repeatable() == b.is_repeatable()
 }
 
 // Whether the cursors are the same.

@@ -118,7 +118,7 @@ impl BusLog {
         ensures repeats { IsSome result ↔ IsTrue (cursor_at self.now cursor).repeatable }
     {
         let at = self.at(cursor);
-        if !at.repeatable {
+        if !at.is_repeatable() {
             return None;
         }
         self.frame(at.place)
@@ -196,10 +196,7 @@ impl BusLog {
     {
         let at = self.at(cursor);
         let frame = *self.frame_behind(at.place)?;
-        let to = Cursor {
-            place: at.place + 1,
-            repeatable: true,
-        };
+        let to = Cursor::taken(at.place + 1);
         self.move_to(cursor, to);
         Some(frame)
     }
@@ -225,10 +222,7 @@ impl BusLog {
         ensures holds { HoldsAhead self.new }
     {
         let at = self.at(cursor);
-        let to = Cursor {
-            place: at.place + 1,
-            repeatable: true,
-        };
+        let to = Cursor::taken(at.place + 1);
         self.move_to(cursor, to);
         self.release();
     }
@@ -274,10 +268,7 @@ impl BusLog {
         if self.stations() == 0 {
             return;
         }
-        let to = Cursor {
-            place: self.at(0).place + 1,
-            repeatable: true,
-        };
+        let to = Cursor::taken(self.at(0).place + 1);
         self.bring_to(to);
         self.release()
     }
@@ -314,10 +305,7 @@ impl BusLog {
         if n > self.len() - at.place {
             return false;
         }
-        let to = Cursor {
-            place: at.place + n,
-            repeatable: false,
-        };
+        let to = Cursor::passed(at.place + n);
         self.move_to(cursor, to);
         true
     }

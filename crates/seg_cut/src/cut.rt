@@ -22,9 +22,10 @@ pub fn packet(bytes: &[u8], k: u32) -> [u8; 7]
     requires to_last { k ≤ packet_count (length bytes.now) }
     ensures { result ≡ packet_of bytes.now k }
 {
-    match &bytes[PACKET_BYTES * (k as usize - 1)..] {
-        [a, b, c, d, e, f, g, ..] => [*a, *b, *c, *d, *e, *f, *g],
-        rest => fill_up(rest),
+    let rest = &bytes[PACKET_BYTES * (k as usize - 1)..];
+    match rest.first_chunk() {
+        Some(packet) => *packet,
+        None => fill_up(rest),
     }
 }
 

@@ -1,5 +1,5 @@
 //! Joining the packets of a message.
-ghost use Rattle.std.specs.Prelude.{◌≡◌, ◌+◌, ◌<◌, ◌≤◌, ◌↔◌, ◌++◌, true, false, length, IsTrue, IsOk, OnOk, OnErr, IfOk, IfErr, IsErrOf, vec_len, vec_capacity};
+ghost use Rattle.std.specs.Prelude.{◌≡◌, ◌+◌, ◌-◌, ◌*◌, ◌<◌, ◌≤◌, ◌↔◌, ◌++◌, true, false, length, IsTrue, IsOk, OnOk, OnErr, IfOk, IfErr, IsErrOf, replicate, vec_len, vec_capacity};
 ghost use Rattle.seg_cut.specs.Packets.{packet_count};
 ghost use Rattle.seg_cut.specs.Join.{IsJoin, empty_join, wants, joined, with_room, held};
 ghost use Rattle.seg_cut.specs.Join.{is_complete as is_complete_at, wants_last as wants_last_at};
@@ -9,6 +9,7 @@ mod image;
 use crate::cut::PACKET_BYTES;
 use std::alloc::{AllocError, Global};
 use std::marker::Model;
+use std::mem;
 use thiserror::Error;
 
 /// A message that comes packet by packet, in their order.
@@ -20,6 +21,7 @@ pub struct Join {
     size: u32,
     next: u32,
     room: u32,
+    // As many as there is memory for: those that have come, and behind them zeros. A packet is then written over them as a whole.
     bytes: Vec<u8>,
 }
 
@@ -95,14 +97,30 @@ impl Join {
     pub fn is_complete(&self) -> bool
         ensures { result ≡ is_complete_at self.now }
     {
-        self.bytes.len() == self.size as usize
+        self.begin_of_next() >= self.size as usize
     }
 
     /// Whether the next packet is the last.
     pub fn wants_last(&self) -> bool
         ensures { result ≡ wants_last_at self.now }
     {
-        !self.is_complete() && self.size as usize - self.bytes.len() <= PACKET_BYTES
+        !self.is_complete() && self.size as usize - self.begin_of_next() <= PACKET_BYTES
+    }
+
+    /// The place of the next packet's first byte.
+    #[inline]
+    fn begin_of_next(&self) -> usize
+        ensures value { result ≡ 7 * (self.now.next - 1) }
+        ensures valid { IsJoin self.now }
+    {
+        PACKET_BYTES * (self.next as usize - 1)
+    }
+
+    /// The bytes that have come.
+    fn front(&self) -> &[u8]
+        ensures { result.now ≡ self.now.bytes }
+    {
+        &self.bytes[..self.begin_of_next().min(self.size as usize)]
     }
 
     /// Makes room for so many further packets, or up to the end of the message where that is less.
@@ -120,6 +138,9 @@ impl Join {
         let end = PACKET_BYTES * (self.next as usize - 1 + packets as usize);
         let end = end.min(self.size as usize);
         self.bytes.reserve_exact(end - self.bytes.len())?;
+        let alloc = *self.bytes.allocator();
+        let bytes = mem::replace(&mut self.bytes, Vec::new(alloc));
+        self.bytes = written(bytes);
         self.room = packets;
         Ok(())
     }
@@ -140,7 +161,11 @@ impl Join {
         if self.room == 0 && self.make_room(1).is_err() {
             return Err(PutError::OutOfMemory);
         }
-        self.append(&packet);
+        if self.wants_last() {
+            self.put_last(&packet);
+        } else {
+            self.put_inner(&packet);
+        }
         Ok(())
     }
 
@@ -152,7 +177,8 @@ impl Join {
         ensures value { self.new ≡ joined self.old packet.now }
         ensures valid { IsJoin self.new }
     {
-        append_reserved(&mut self.bytes, packet);
+        let begin = self.begin_of_next();
+        self.bytes[begin..begin + PACKET_BYTES].copy_from_slice(packet);
         self.next += 1;
         self.room -= 1;
     }
@@ -164,23 +190,9 @@ impl Join {
         ensures value { self.new ≡ joined self.old packet.now }
         ensures valid { IsJoin self.new }
     {
-        self.append(packet);
-    }
-
-    /// Appends what the message has of its next packet.
-    #[inline]
-    fn append(&mut self, packet: &[u8; 7])
-        requires incomplete { is_complete_at self.old ≡ false }
-        requires room { 0 < self.old.room }
-        ensures value { self.new ≡ joined self.old packet.now }
-        ensures valid { IsJoin self.new }
-    {
-        let lacking = self.size as usize - self.bytes.len();
-        if lacking >= PACKET_BYTES {
-            append_reserved(&mut self.bytes, packet);
-        } else {
-            append_reserved(&mut self.bytes, &packet[..lacking]);
-        }
+        let begin = self.begin_of_next();
+        let lacking = self.size as usize - begin;
+        self.bytes[begin..].copy_from_slice(&packet[..lacking]);
         self.next += 1;
         self.room -= 1;
     }
@@ -205,15 +217,14 @@ impl Join {
     }
 }
 
-/// Appends to a vector that has room.
-#[inline]
-fn append_reserved(bytes: &mut Vec<u8>, more: &[u8])
-    requires { vec_len bytes.old + length more.now ≤ vec_capacity bytes.old }
-    ensures items { bytes.new.items ≡ bytes.old.items ++ more.now }
-    ensures len { vec_len bytes.new ≡ vec_len bytes.old + length more.now }
-    ensures capacity { vec_capacity bytes.new ≡ vec_capacity bytes.old }
+/// A vector that has zeros behind its bytes, as many as there is memory for. It is passed by value, so that its length stays in a register.
+fn written(mut bytes: Vec<u8>) -> Vec<u8>
+    ensures items { result.items ≡ bytes.items ++ replicate (vec_capacity bytes - vec_len bytes) 0 }
+    ensures len { vec_len result ≡ vec_capacity bytes }
+    ensures capacity { vec_capacity result ≡ vec_capacity bytes }
 {
-    for byte in more {
-        bytes.push_reserved(*byte);
+    for _ in bytes.len()..bytes.capacity() {
+        bytes.push_reserved(0);
     }
+    bytes
 }

@@ -164,11 +164,9 @@ fn write_packet(kind: Kind, sequence: u8, bytes: [u8; 7], from: Address, to: Add
         Kind::Tp => TP_DT,
         Kind::Etp => ETP_DT,
     };
-    let [b0, b1, b2, b3, b4, b5, b6] = bytes;
-    Frame::full(
-        pdu1_id(TRANSPORT_PRIORITY, pgn, from, to),
-        [sequence, b0, b1, b2, b3, b4, b5, b6],
-    )
+    let mut data = [sequence; 8];
+    data[1..].copy_from_slice(&bytes);
+    Frame::full(pdu1_id(TRANSPORT_PRIORITY, pgn, from, to), data)
 }
 
 // The frame of a Request.

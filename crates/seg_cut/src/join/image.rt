@@ -1,7 +1,7 @@
 //! The state of a join as plain data, which a join itself is.
 ghost use Rattle.std.specs.Prelude.{◌≡◌, ◌↔◌, IsTrue, IfOk};
 
-use super::{Join, append_reserved};
+use super::Join;
 use std::alloc::{AllocError, Global};
 
 impl Join {
@@ -10,7 +10,9 @@ impl Join {
         ensures { IfOk result (λ image. image ≡ self.now) }
     {
         let mut bytes = Vec::with_capacity(alloc, self.bytes.capacity())?;
-        append_reserved(&mut bytes, &self.bytes);
+        for byte in &self.bytes {
+            bytes.push_reserved(*byte);
+        }
         Ok(Join {
             size: self.size,
             next: self.next,
@@ -26,6 +28,6 @@ impl Join {
         self.size == join.size
             && self.next == join.next
             && self.room == join.room
-            && self.bytes.as_slice() == join.bytes.as_slice()
+            && self.front() == join.front()
     }
 }
