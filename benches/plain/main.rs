@@ -10,13 +10,14 @@ mod incoming;
 mod limit;
 mod segment;
 mod setting;
+mod single;
 mod station;
 mod wire;
 
 use crate::segment::{Call, DriveEnd, Reply, Segment};
-use crate::setting::{Case, DM1, FROM, TO, Work, foreign, given_by, make, message, segment, take_all};
+use crate::setting::{Case, DM1, FROM, TO, Work, given_by, make, message, segment, take_all};
 use crate::station::Refusal;
-use crate::wire::{Frame, GLOBAL};
+use crate::wire::GLOBAL;
 use std::hint::black_box;
 use std::time::Instant;
 
@@ -80,45 +81,6 @@ fn whole(segment: &mut Segment, case: &Case, bytes: &[u8]) -> (u64, u64) {
     (segment.bus.len() - before, given)
 }
 
-// One call, or a reader and a Tick: what was answered.
-fn once(segment: &mut Segment, case: &Case, frame: Frame) -> u64 {
-    let mut answer = 1;
-    match case.work {
-        Work::Foreign | Work::Other => {
-            make(segment, Call::Inject { frame });
-            take_all(segment, case);
-            return answer;
-        }
-        Work::Fire => {
-            segment.apply(Call::Fire { station: FROM });
-            return answer;
-        }
-        Work::Close => {
-            if let Reply::Opened(station, number) = segment.apply(Call::Open { station: FROM, pgn: DM1, max: 1785 }) {
-                make(segment, Call::Close { port: (station, number) });
-            }
-            return answer;
-        }
-        Work::IsDue => answer = u64::from(segment.stations[0].is_due(segment.now)),
-        Work::NextPump => answer = u64::from(segment.stations[0].next_pump(segment.now).is_some()),
-        Work::IsIdle => answer = u64::from(segment.is_idle()),
-        _ => {}
-    }
-    segment.apply(Call::Tick { ticks: 1 });
-    answer
-}
-
-// A round of single calls: how many there were, and the sum of the answers.
-fn single(segment: &mut Segment, case: &Case) -> (u64, u64) {
-    let frame = foreign(if case.work == Work::Other { 0x1CEB_F1F0 } else { 0x18FE_F1F0 });
-    let mut sum = 0;
-    for _ in 0..case.times {
-        // As far as the compiler knows, the segment was changed.
-        sum += once(black_box(&mut *segment), case, frame)
-    }
-    (case.times, sum)
-}
-
 fn main() {
     let words: Vec<String> = std::env::args().collect();
     let case = Case::of(&words).expect("WORK STATIONS LENGTH TIMES [PORTS LANES SESSIONS KEPT]");
@@ -126,7 +88,7 @@ fn main() {
     let mut segment = segment(&case);
     let start = Instant::now();
     let is_whole = matches!(case.work, Work::Drive | Work::DriveToAll | Work::Calls | Work::CallsToAll);
-    let (count, sum) = if is_whole { whole(&mut segment, &case, &bytes) } else { single(&mut segment, &case) };
+    let (count, sum) = if is_whole { whole(&mut segment, &case, &bytes) } else { single::round(&mut segment, &case) };
     let nanos = start.elapsed().as_nanos();
     black_box(&segment.counts.frames);
     println!("{nanos} {count} {sum}")

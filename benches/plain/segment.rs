@@ -155,6 +155,8 @@ impl Segment {
         if self.put(frame) { Reply::Done(Vec::new()) } else { Reply::Refused(Refusal::BusFull) }
     }
 
+    /// Makes a call. It is taken into its callers, so that one that names its call has the code of that call alone.
+    #[inline(always)]
     pub fn apply(&mut self, call: Call) -> Reply {
         match call {
             Call::Open { station, pgn, max } => {

@@ -85,6 +85,7 @@ pub fn foreign(id: u32) -> Frame {
 }
 
 /// Makes a call that isn't refused.
+#[inline(always)]
 pub fn make(segment: &mut Segment, call: Call) -> Reply {
     let reply = segment.apply(call);
     assert!(!matches!(reply, Reply::Refused(_)), "a call was refused");
