@@ -15,7 +15,6 @@ use std::alloc::{AllocError, Global};
 use std::marker::Model;
 
 /// One station on a real bus, what it remembers of that bus, and what a line has told so far.
-#[derive(Drop)]
 pub struct Node {
     pub(crate) segment: Segment,
     pub(crate) station: Address,
@@ -43,6 +42,22 @@ impl Model for Node {
     ghost coded = { node_code };
 
     ghost view = { node_value };
+}
+
+impl Drop for Node {
+    fn drop(self) {
+        let Node {
+            segment: _,
+            station: _,
+            iface: _,
+            quiet: _,
+            rests: _,
+            start: _,
+            unseen: _,
+            silent_until: _,
+            text: _,
+        } = self;
+    }
 }
 
 impl Node {

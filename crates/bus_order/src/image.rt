@@ -9,7 +9,7 @@ use std::collections::VecDeque;
 use std::marker::Model;
 
 /// What a bus was: the place of its first kept frame, the kept frames, and how far each station is.
-#[derive(Debug, Drop)]
+#[derive(Debug)]
 pub struct BusImage {
     first: u64,
     kept: Vec<Frame>,
@@ -22,6 +22,16 @@ impl Model for BusImage {
     ghost Value = { Bus };
 
     ghost view = { λ i. record { first = i.first; kept = i.kept.items; cursors = i.cursors.items } };
+}
+
+impl Drop for BusImage {
+    fn drop(self) {
+        let BusImage {
+            first: _,
+            kept: _,
+            cursors: _,
+        } = self;
+    }
 }
 
 impl BusLog {

@@ -30,7 +30,7 @@ pub enum PutError {
 
 /// The frames put on a bus, with a cursor for each station. Places count from 1. A station's cursor is the place of the
 /// frame that it took or passed over last, at first 0. Frames are dropped by `release` alone.
-#[derive(Debug, Drop)]
+#[derive(Debug)]
 pub struct BusLog {
     pub(crate) first: u64,
     pub(crate) kept: VecDeque<Frame>,
@@ -48,6 +48,17 @@ impl Model for BusLog {
     ghost view = { log_value };
 
     ghost invariant = { IsSoundLog };
+}
+
+impl Drop for BusLog {
+    fn drop(self) {
+        let BusLog {
+            first: _,
+            kept: _,
+            cursors: _,
+            rear: _,
+        } = self;
+    }
 }
 
 impl BusLog {

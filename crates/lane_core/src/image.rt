@@ -22,7 +22,6 @@ pub(crate) enum UnderWayImage {
 }
 
 /// What a lane was, with the messages that had no outcome. It holds no state that must be spent.
-#[derive(Drop)]
 pub struct LaneImage {
     from: Address,
     to: Address,
@@ -41,6 +40,20 @@ impl Model for LaneImage {
     ghost use Rattle.lane_core.specs.ImageFields.{lane_image_value};
 
     ghost view = { lane_image_value };
+}
+
+impl Drop for LaneImage {
+    fn drop(self) {
+        let LaneImage {
+            from: _,
+            to: _,
+            sent: _,
+            pending: _,
+            under_way: _,
+            standing: _,
+            token: _,
+        } = self;
+    }
 }
 
 impl Lane {

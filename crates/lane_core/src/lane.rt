@@ -22,7 +22,6 @@ const LANE_LIMIT: usize = 32;
 
 /// The messages of one station to one destination, of which one is under way at a time. What is under way when a lane is
 /// dropped ends without a frame or an outcome.
-#[derive(Drop)]
 pub struct Lane {
     pub(crate) from: Address,
     pub(crate) to: Address,
@@ -43,6 +42,20 @@ impl Model for Lane {
     ghost view = { lane_value };
 
     ghost invariant = { IsLaneInside };
+}
+
+impl Drop for Lane {
+    fn drop(self) {
+        let Lane {
+            from: _,
+            to: _,
+            sent: _,
+            pending: _,
+            place: _,
+            standing: _,
+            token: _,
+        } = self;
+    }
 }
 
 impl Lane {

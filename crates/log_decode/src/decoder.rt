@@ -19,7 +19,6 @@ use tp_wire::constants::{ETP_MAX_SIZE, MIN_SIZE, TP_MAX_SIZE};
 use tp_wire::{CmFrame, Kind, Wire, read};
 
 /// A listener that sees each frame of a log.
-#[derive(Drop)]
 pub struct Decoder {
     most: u32,
     time: u64,
@@ -37,6 +36,17 @@ impl Model for Decoder {
     ghost view = { λ d. record { most = d.most; time = d.time; sessions = d.sessions.entries } };
 
     ghost invariant = { λ d. NoneDueBefore d.due d.sessions.entries };
+}
+
+impl Drop for Decoder {
+    fn drop(self) {
+        let Decoder {
+            most: _,
+            time: _,
+            due: _,
+            sessions: _,
+        } = self;
+    }
 }
 
 /// A message of the transport protocol as it is announced, whose packets are to be as many as its size takes.

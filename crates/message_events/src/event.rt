@@ -32,7 +32,7 @@ pub enum Event {
 }
 
 /// The events of one call, in their order. The first stands in place, so that one event takes no memory.
-#[derive(Debug, Drop)]
+#[derive(Debug)]
 pub struct Events {
     first: Option<Event>,
     rest: Vec<Event>,
@@ -48,6 +48,12 @@ impl Model for Events {
     ghost view = { events_value };
 
     ghost invariant = { HasFirst };
+}
+
+impl Drop for Events {
+    fn drop(self) {
+        let Events { first: _, rest: _ } = self;
+    }
 }
 
 impl Events {

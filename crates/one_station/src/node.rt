@@ -20,7 +20,6 @@ use std::marker::Model;
 /// The program gives it each frame that comes from the bus (`feed`) and the time (`clock`, `fire`), and puts each frame that it
 /// has for the bus (`front`, `sent`). What it tells, a message given at a port or the outcome of one that was sent, waits until
 /// it is taken. Nothing changes a node but the calls on it.
-#[derive(Drop)]
 pub struct Node {
     pub(crate) alloc: Global,
     pub(crate) segment: Segment,
@@ -40,6 +39,17 @@ impl Model for Node {
     ghost view = { node_value };
 
     ghost invariant = { IsNodeInside };
+}
+
+impl Drop for Node {
+    fn drop(self) {
+        let Node {
+            alloc: _,
+            segment: _,
+            address: _,
+            told: _,
+        } = self;
+    }
 }
 
 impl Node {

@@ -15,7 +15,6 @@ use tick_timers::Clock;
 
 /// The state of a segment as plain data: its clock, its stations by rising address, its bus and its counts. Nothing in it
 /// has to be spent, and no call changes it.
-#[derive(Drop)]
 pub struct Image {
     clock: Clock,
     stations: Vec<StationImage>,
@@ -32,6 +31,17 @@ impl Model for Image {
     ghost coded = { segment_code };
 
     ghost view = { λ i. record { now = i.clock; stations = i.stations.items; bus = i.bus; counts = i.counts } };
+}
+
+impl Drop for Image {
+    fn drop(self) {
+        let Image {
+            clock: _,
+            stations: _,
+            bus: _,
+            counts: _,
+        } = self;
+    }
 }
 
 impl Segment {

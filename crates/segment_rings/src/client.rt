@@ -20,7 +20,6 @@ pub struct SubmitRefused {
 
 /// Submits messages of one station and reads their outcomes. It may move to a thread of its own; `submit` and `try_outcome` take
 /// no lock and never wait.
-#[derive(Drop)]
 pub struct Client {
     alloc: Global,
     id: u64,
@@ -41,6 +40,20 @@ impl Model for Client {
     ghost view = { λ c. record { id = c.id; station = c.station; submitted = sent c.submissions; read = received c.notes; free = known_free c.submissions } };
 
     ghost invariant = { λ c. (c.submitted.items ≡ sent c.submissions) × (c.read.items ≡ received c.notes) };
+}
+
+impl Drop for Client {
+    fn drop(self) {
+        let Client {
+            alloc: _,
+            id: _,
+            station: _,
+            submissions: _,
+            notes: _,
+            submitted: _,
+            read: _,
+        } = self;
+    }
 }
 
 ghost use Rattle.std.specs.Prelude.{◌≡◌, length, None};

@@ -8,7 +8,6 @@ use std::sync::Wait;
 use std::thread;
 
 /// Receives what a port is given. It may move to a thread of its own; `try_receive` takes no lock and never waits.
-#[derive(Drop)]
 pub struct Inbox {
     alloc: Global,
     port: PortId,
@@ -27,6 +26,18 @@ impl Model for Inbox {
     ghost view = { λ i. record { port = i.port; closed = i.closed; popped = received i.deliveries; received = i.taken.items; spare = vec_capacity i.taken - vec_len i.taken } };
 
     ghost invariant = { λ i. i.closed ≡ false → i.taken.items ≡ received i.deliveries };
+}
+
+impl Drop for Inbox {
+    fn drop(self) {
+        let Inbox {
+            alloc: _,
+            port: _,
+            closed: _,
+            deliveries: _,
+            taken: _,
+        } = self;
+    }
 }
 
 ghost use Rattle.std.specs.Prelude.{◌≡◌, OnErr, IfOk};

@@ -18,7 +18,6 @@ pub enum Offer {
 }
 
 /// The segment's side of a client.
-#[derive(Drop)]
 pub struct Seat {
     id: u64,
     station: Address,
@@ -39,6 +38,20 @@ impl Model for Seat {
     ghost view = { λ s. record { id = s.id; station = s.station; active = s.active; popped = received s.submissions; ahead = known_items s.submissions; kept = s.kept.items; noted = sent s.notes; free = known_free s.notes; spare = vec_capacity s.kept - vec_len s.kept } };
 
     ghost invariant = { λ s. s.taken ≡ length (received s.submissions) };
+}
+
+impl Drop for Seat {
+    fn drop(self) {
+        let Seat {
+            id: _,
+            station: _,
+            active: _,
+            submissions: _,
+            notes: _,
+            kept: _,
+            taken: _,
+        } = self;
+    }
 }
 
 impl Seat {

@@ -15,7 +15,6 @@ pub struct Piece {
 }
 
 /// All calls that were made. Those of a piece that was handed out are not kept: contracts alone see them.
-#[derive(Drop)]
 pub(crate) struct Calls {
     stored: Vec<Stored>,
     outlet: Outlet<Piece>,
@@ -36,6 +35,18 @@ impl Model for Calls {
     ghost view = { λ c. record { pieces = c.outlet; items = joined c.outlet ++ c.stored.items; image = c.image; spare = vec_capacity c.stored - vec_len c.stored } };
 
     ghost invariant = { λ c. (c.cuts ≡ length c.outlet) × (c.before ≡ length (joined c.outlet)) × (c.before + 1000000 < 2 ^ 64) × (vec_len c.stored ≤ 1000000) × NumberedAfter 0 c.outlet };
+}
+
+impl Drop for Calls {
+    fn drop(self) {
+        let Calls {
+            stored: _,
+            outlet: _,
+            cuts: _,
+            before: _,
+            image: _,
+        } = self;
+    }
 }
 
 impl Calls {

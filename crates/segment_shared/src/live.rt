@@ -23,7 +23,6 @@ pub const MOST_CLIENTS: usize = 16;
 /// A segment, the calls that were made on it, and the far ends of its clients' and ports' rings.
 ///
 /// Contracts see all calls that were made; in memory are those since the last cut.
-#[derive(Drop)]
 pub struct Live {
     pub(crate) alloc: Global,
     pub(crate) addresses: Vec<Address>,
@@ -45,6 +44,21 @@ impl Model for Live {
     ghost view = { λ s. live_view (keep s.stopped s.calls.pieces) s.addresses.items s.calls.items s.seats.items s.doors.items };
 
     ghost invariant = { λ s. Holds s.addresses.items s.segment s.calls.items s.owed.items s.seats.items s.doors.items × IsCutImage s.addresses.items s.calls.pieces s.calls.image };
+}
+
+impl Drop for Live {
+    fn drop(self) {
+        let Live {
+            alloc: _,
+            addresses: _,
+            segment: _,
+            calls: _,
+            owed: _,
+            seats: _,
+            doors: _,
+            stopped: _,
+        } = self;
+    }
 }
 
 impl Live {

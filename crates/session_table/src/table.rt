@@ -50,7 +50,6 @@ pub enum OpenRefused<T> {
 ///
 /// A key is held while its state is taken out: it stays in the table and counts, but has no state. What is dropped
 /// with a table is spent without a frame.
-#[derive(Drop)]
 pub struct SessionTable<T> {
     places: Slab<Place<T>>,
     index: Index,
@@ -69,6 +68,16 @@ impl<T> Model for SessionTable<T> {
     ghost view = { λ s. sessions_of s.places s.index.entries };
 
     ghost invariant = { λ s. IsTable s.places s.index.entries s.last };
+}
+
+impl<T: Drop> Drop for SessionTable<T> {
+    fn drop(self) {
+        let SessionTable {
+            places: _,
+            index: _,
+            last: _,
+        } = self;
+    }
 }
 
 impl<T> SessionTable<T> {

@@ -11,7 +11,6 @@ use std::marker::Model;
 use tx_queue::QueueImage;
 
 /// What a station was, as plain data: unlike it, this holds no state of a message under way.
-#[derive(Drop)]
 pub struct StationImage {
     address: Address,
     queue: QueueImage,
@@ -29,6 +28,18 @@ impl Model for StationImage {
     ghost coded = { station_code };
 
     ghost view = { λ i. record { address = i.address; queue = i.queue; lanes = i.lanes; sessions = i.sessions; ports = i.ports } };
+}
+
+impl Drop for StationImage {
+    fn drop(self) {
+        let StationImage {
+            address: _,
+            queue: _,
+            lanes: _,
+            sessions: _,
+            ports: _,
+        } = self;
+    }
 }
 
 impl Station {

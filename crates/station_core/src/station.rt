@@ -21,7 +21,6 @@ use tx_queue::TxQueue;
 ///
 /// It doesn't know the bus: which frame it takes is handed in. What is under way when it is dropped ends without a frame
 /// or an outcome.
-#[derive(Drop)]
 pub struct Station {
     pub(crate) alloc: Global,
     pub(crate) address: Address,
@@ -44,6 +43,19 @@ impl Model for Station {
     ghost view = { station_value };
 
     ghost invariant = { IsStationInside };
+}
+
+impl Drop for Station {
+    fn drop(self) {
+        let Station {
+            alloc: _,
+            address: _,
+            queue: _,
+            lanes: _,
+            sessions: _,
+            ports: _,
+        } = self;
+    }
 }
 
 /// Puts a frame behind the others, where there is a free place.

@@ -7,7 +7,6 @@ use std::alloc::{AllocError, Global};
 use std::marker::Model;
 
 /// What the lanes of a station were, with a place for each destination.
-#[derive(Drop)]
 pub struct LanesImage {
     places: Vec<Option<LaneImage>>,
 }
@@ -24,6 +23,12 @@ impl Model for LanesImage {
     ghost view = { lanes_image_value };
 
     ghost invariant = { ArePlaces };
+}
+
+impl Drop for LanesImage {
+    fn drop(self) {
+        let LanesImage { places: _ } = self;
+    }
 }
 
 impl Lanes {

@@ -67,7 +67,6 @@ impl Slot {
 
 /// The lanes of a station, by destination. There is a lane once a message was sent to its destination. Which of them have a frame
 /// to queue, and which a running timer, is kept beside them, so that the next one is found without looking at all.
-#[derive(Drop)]
 pub struct Lanes {
     pub(crate) slots: Vec<Slot>,
     ready: AddressSet,
@@ -87,6 +86,16 @@ impl Model for Lanes {
     ghost view = { lanes_value };
 
     ghost invariant = { AreSlots };
+}
+
+impl Drop for Lanes {
+    fn drop(self) {
+        let Lanes {
+            slots: _,
+            ready: _,
+            timed: _,
+        } = self;
+    }
 }
 
 impl Lanes {

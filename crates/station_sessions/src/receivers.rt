@@ -40,7 +40,6 @@ pub struct Told {
 /// opening found, less those that were closed since.
 ///
 /// What is under way when they are dropped ends without a frame.
-#[derive(Drop)]
 pub struct Receivers {
     alloc: Global,
     table: Table,
@@ -60,6 +59,12 @@ impl Model for Receivers {
     ghost view = { λ r. r.table };
 
     ghost invariant = { λ r. NoneHeld r.table };
+}
+
+impl Drop for Receivers {
+    fn drop(self) {
+        let Receivers { alloc: _, table: _ } = self;
+    }
 }
 
 /// Whether a session that gives to a set of ports may grant packets: it is held while one of them is paused.

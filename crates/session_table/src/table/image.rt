@@ -16,7 +16,6 @@ use std::marker::Model;
 
 /// What stands in a `SessionTable`, as plain data: its keys, each with what stands there, which is nothing while the key is
 /// held.
-#[derive(Drop)]
 pub struct TableImage<T> {
     entries: Vec<(Key, Option<(T, IncomingImage)>)>,
 }
@@ -36,6 +35,12 @@ impl<T> Model for TableImage<T> {
     ghost view = { λ s. map.from_entries s.entries.items };
 
     ghost invariant = { λ s. IsDistinct key_eq (keys_of s.entries.items) };
+}
+
+impl<T: Drop> Drop for TableImage<T> {
+    fn drop(self) {
+        let TableImage { entries: _ } = self;
+    }
 }
 
 impl<T: Copy> SessionTable<T> {

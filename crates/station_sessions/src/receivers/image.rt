@@ -11,7 +11,6 @@ use std::alloc::AllocError;
 use std::marker::Model;
 
 /// What the `Receivers` of a station stand at, as plain data.
-#[derive(Drop)]
 pub struct ReceiversImage {
     table: TableImage<PortSet>,
 }
@@ -26,6 +25,12 @@ impl Model for ReceiversImage {
     ghost coded = { sessions_code (coded_list coded_ℕ) };
 
     ghost view = { λ s. s.table };
+}
+
+impl Drop for ReceiversImage {
+    fn drop(self) {
+        let ReceiversImage { table: _ } = self;
+    }
 }
 
 impl Receivers {
