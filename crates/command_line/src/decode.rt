@@ -56,18 +56,24 @@ fn numbers_arg<'a>(alloc: Global, name: &'a str, value: &'a str, help: &'a str) 
         .help(help)
 }
 
-/// The command as it is parsed, with its help.
-pub(crate) fn decode_command<'a>(alloc: Global) -> Result<Command<'a>, AllocError> {
-    let most = Arg::new(alloc, "max-bytes")
+fn most_arg<'a>(alloc: Global) -> Arg<'a> {
+    Arg::new(alloc, "max-bytes")
         .long("max-bytes")
         .value_name("N")
         .action(ArgAction::Set)
         .value_parser(value_parser!(u32).range(1..=117_440_505))
-        .help("Longest message that is put together [default: 117440505]");
-    let all = Arg::new(alloc, "all")
+        .help("Longest message that is put together [default: 117440505]")
+}
+
+fn all_arg<'a>(alloc: Global) -> Arg<'a> {
+    Arg::new(alloc, "all")
         .long("all")
         .action(ArgAction::SetTrue)
-        .help("Prints frames that aren't of a transport too, as frame FROM TO PGN LENGTH HEX");
+        .help("Prints frames that aren't of a transport too, as frame FROM TO PGN LENGTH HEX")
+}
+
+/// The command as it is parsed, with its help.
+pub(crate) fn decode_command<'a>(alloc: Global) -> Result<Command<'a>, AllocError> {
     Command::new(alloc, "decode")
         .about("Prints the messages of the log of standard input, put together of their packets")
         .after_help(DECODE_HELP)
@@ -89,8 +95,8 @@ pub(crate) fn decode_command<'a>(alloc: Global) -> Result<Command<'a>, AllocErro
             "A",
             "Only messages to this address, FF for those to all",
         ))?
-        .arg(most)?
-        .arg(all)
+        .arg(most_arg(alloc))?
+        .arg(all_arg(alloc))
 }
 
 /// The number that hexadecimal digits write, where it is at most `most`.

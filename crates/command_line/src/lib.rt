@@ -5,7 +5,7 @@ mod decode;
 mod draw;
 mod node;
 
-use clap::{Arg, ArgAction, Command, Error, value_parser};
+use clap::{Arg, ArgAction, ArgMatches, Command, Error, value_parser};
 pub use decode::OfLog;
 use decode::{decode_command, read_decode};
 use draw::draw_command;
@@ -144,21 +144,35 @@ fn log_arg<'a>(alloc: Global) -> Arg<'a> {
         .help("Prints the frames alone, as a log, and the replies on standard error")
 }
 
-/// Reads the words of a command line, of which the first names the program. What it doesn't take is refused, and so is help, whose
-/// text is the error.
-pub fn read_command_line(alloc: Global, words: &[String]) -> Result<Asked, Error> {
-    let mut command = Command::new(alloc, "j1939bus")
+/// A command with one more among its words.
+fn with<'a>(
+    command: Command<'a>,
+    other: Result<Command<'a>, AllocError>,
+) -> Result<Command<'a>, AllocError> {
+    command.subcommand(other?)
+}
+
+/// The command as it is parsed, with its help.
+fn program<'a>(alloc: Global) -> Result<Command<'a>, AllocError> {
+    let command = Command::new(alloc, "j1939bus")
         .version("0.1.0")
         .about("Runs the script of standard input, and prints the reply to each line")
         .after_help(PROGRAM_HELP)
         .args_conflicts_with_subcommands(true)
-        .arg(log_arg(alloc))?
-        .subcommand(live_command(alloc)?)?
-        .subcommand(relay_command(alloc)?)?
-        .subcommand(decode_command(alloc)?)?
-        .subcommand(draw_command(alloc))?
-        .subcommand(node_command(alloc)?)?;
-    let matches = command.try_get_matches_from_mut(words)?;
+        .arg(log_arg(alloc))?;
+    let command = with(command, live_command(alloc))?;
+    let command = with(command, relay_command(alloc))?;
+    let command = with(command, decode_command(alloc))?;
+    let command = with(command, Ok(draw_command(alloc)))?;
+    with(command, node_command(alloc))
+}
+
+/// What its words ask for.
+fn read_asked<'a>(
+    alloc: Global,
+    command: &mut Command<'a>,
+    matches: &ArgMatches<'a>,
+) -> Result<Asked, Error> {
     if let Some(live) = matches.subcommand_matches("live") {
         return Ok(Asked::Live {
             turns: live.get_one::<u64>("turns").unwrap_or(TURNS),
@@ -176,10 +190,18 @@ pub fn read_command_line(alloc: Global, words: &[String]) -> Result<Asked, Error
         return Ok(Asked::Logged);
     }
     if let Some(node) = matches.subcommand_matches("node") {
-        return Ok(Asked::Node(read_node(alloc, &mut command, node)?));
+        return Ok(Asked::Node(read_node(alloc, command, node)?));
     }
     match matches.subcommand_matches("decode") {
-        Some(decode) => Ok(Asked::Decode(read_decode(alloc, &mut command, decode)?)),
+        Some(decode) => Ok(Asked::Decode(read_decode(alloc, command, decode)?)),
         None => Ok(Asked::Script),
     }
+}
+
+/// Reads the words of a command line, of which the first names the program. What it doesn't take is refused, and so is help, whose
+/// text is the error.
+pub fn read_command_line(alloc: Global, words: &[String]) -> Result<Asked, Error> {
+    let mut command = program(alloc)?;
+    let matches = command.try_get_matches_from_mut(words)?;
+    read_asked(alloc, &mut command, &matches)
 }

@@ -58,35 +58,47 @@ Status:
 
 docs/REAL-BUS.md describes what is read and printed.";
 
-/// The command as it is parsed, with its help.
-pub(crate) fn node_command<'a>(alloc: Global) -> Result<Command<'a>, AllocError> {
-    let address = Arg::new(alloc, "address")
+fn address_arg<'a>(alloc: Global) -> Arg<'a> {
+    Arg::new(alloc, "address")
         .value_name("ADDRESS")
         .required(true)
-        .help("Address of the station, 00 to FD, hexadecimal");
-    let interface = Arg::new(alloc, "interface")
+        .help("Address of the station, 00 to FD, hexadecimal")
+}
+
+fn interface_arg<'a>(alloc: Global) -> Arg<'a> {
+    Arg::new(alloc, "interface")
         .long("interface")
         .value_name("NAME")
         .action(ArgAction::Set)
-        .help("Interface that is named with the frames put [default: can0]");
-    let ports = Arg::new(alloc, "port")
+        .help("Interface that is named with the frames put [default: can0]")
+}
+
+fn port_arg<'a>(alloc: Global) -> Arg<'a> {
+    Arg::new(alloc, "port")
         .long("port")
         .value_name("PGN[:MAX]")
         .action(ArgAction::Append)
-        .help("Opens a port first, as the line open PGN MAX does [default MAX: 117440505]");
-    let quiet = Arg::new(alloc, "quiet")
+        .help("Opens a port first, as the line open PGN MAX does [default MAX: 117440505]")
+}
+
+fn quiet_arg<'a>(alloc: Global) -> Arg<'a> {
+    Arg::new(alloc, "quiet")
         .long("quiet")
         .value_name("MS")
         .action(ArgAction::Set)
         .value_parser(value_parser!(u64).range(0..=10_000))
-        .help("Milliseconds of rest after a failed connection, 0 to 10000 [default: 700]");
+        .help("Milliseconds of rest after a failed connection, 0 to 10000 [default: 700]")
+}
+
+/// The command as it is parsed, with its help.
+pub(crate) fn node_command<'a>(alloc: Global) -> Result<Command<'a>, AllocError> {
     Command::new(alloc, "node")
         .about("Is one station on a real bus, whose frames are read from standard input")
         .after_help(NODE_HELP)
-        .arg(address)?
-        .arg(interface)?
-        .arg(ports)?
-        .arg(quiet)
+        .arg(address_arg(alloc))?
+        .arg(interface_arg(alloc))?
+        .arg(port_arg(alloc))?
+        .arg(quiet_arg(alloc))
 }
 
 /// The port that a word writes, where it is one.
