@@ -1,10 +1,10 @@
--- Bits of a half, and of a half that is shifted.
+-- Bits of a word, and of a word that is shifted.
 use Rattle.std.proofs.Common.{◌≡◌, ℕ, ◌+◌, ◌-◌, ◌/◌, ◌%◌, ◌^◌, ◌<◌, ◌≤◌, Bool, true, false, nat_lt, Some, refl, sym, ap, ◌∙◌, arith}
 use Rattle.std.proofs.Math.Nat.{div-div-eq-div-mul, div-le_self}
 use Rattle.std.proofs.lemmas.Nat.{pow-add}
 use Rattle.std.proofs.lemmas.Bool.{ltb-true, ltb-false}
 use Rattle.std.proofs.lemmas.Nat.Bits.{bit_at-zero, bit_at_above, bit_at-trailing_zeros}
-use Rattle.std.specs.Int.{bit_at, trailing_zeros, w128}
+use Rattle.std.specs.Int.{bit_at, trailing_zeros, w64}
 use Rattle.address_set.specs.Sets.{IsLowest}
 
 shifted : (n k i : ℕ) → bit_at (n / 2 ^ k) i ≡ bit_at n (k + i)
@@ -16,15 +16,15 @@ unshifted n k at le =
     ap (bit_at n) back ∙ sym (shifted n k (at - k))
 
 -- where nothing is left of it
-pub none_is_lowest : (half from : ℕ) → half / 2 ^ from ≡ 0 → (at : ℕ) → from ≤ at → bit_at half at ≡ 0
-none_is_lowest half from none at le = unshifted half from at le ∙ ap (λ n. bit_at n (at - from)) none ∙ bit_at-zero (at - from)
+pub none_is_lowest : (word from : ℕ) → word / 2 ^ from ≡ 0 → (at : ℕ) → from ≤ at → bit_at word at ≡ 0
+none_is_lowest word from none at le = unshifted word from at le ∙ ap (λ n. bit_at n (at - from)) none ∙ bit_at-zero (at - from)
 
-module _ (half from : ℕ) (range : half < 2 ^ 128) (some : half / 2 ^ from ≡ 0 → ⊥) where
+module _ (word from : ℕ) (range : word < 2 ^ 64) (some : word / 2 ^ from ≡ 0 → ⊥) where
   abbrev pub rest : ℕ
-  rest = half / 2 ^ from
+  rest = word / 2 ^ from
 
   abbrev pub at : ℕ
-  at = trailing_zeros w128 rest
+  at = trailing_zeros w64 rest
 
   positive : 0 < rest
   positive = by (nat_lt 0 rest) refl
@@ -33,22 +33,22 @@ module _ (half from : ℕ) (range : half < 2 ^ 128) (some : half / 2 ^ from ≡ 
       by true e = ltb-true 0 rest e
       by false e = absurd (some (omega (arith, ltb-false 0 rest e)))
 
-  facts : (at < 128) × (bit_at rest at ≡ 1) × ((i : ℕ) → i < at → bit_at rest i ≡ 0)
-  facts = bit_at-trailing_zeros w128 rest positive (omega (arith, range, div-le_self half (2 ^ from)))
+  facts : (at < 64) × (bit_at rest at ≡ 1) × ((i : ℕ) → i < at → bit_at rest i ≡ 0)
+  facts = bit_at-trailing_zeros w64 rest positive (omega (arith, range, div-le_self word (2 ^ from)))
 
-  is_set : bit_at half (from + at) ≡ 1
-  is_set = sym (shifted half from at) ∙ facts.1
+  is_set : bit_at word (from + at) ≡ 1
+  is_set = sym (shifted word from at) ∙ facts.1
 
-  inside : from + at < 128
-  inside = by (nat_lt (from + at) 128) refl
+  inside : from + at < 64
+  inside = by (nat_lt (from + at) 64) refl
     where
-      by : (b : Bool) → nat_lt (from + at) 128 ≡ b → from + at < 128
-      by true e = ltb-true (from + at) 128 e
-      by false e = absurd (omega (arith, is_set, bit_at_above half 128 (from + at) range (ltb-false (from + at) 128 e)))
+      by : (b : Bool) → nat_lt (from + at) 64 ≡ b → from + at < 64
+      by true e = ltb-true (from + at) 64 e
+      by false e = absurd (omega (arith, is_set, bit_at_above word 64 (from + at) range (ltb-false (from + at) 64 e)))
 
-  clear : (i : ℕ) → from ≤ i → i < from + at → bit_at half i ≡ 0
-  clear i le below = unshifted half from i le ∙ facts.2 (i - from) (omega (arith, le, below))
+  clear : (i : ℕ) → from ≤ i → i < from + at → bit_at word i ≡ 0
+  clear i le below = unshifted word from i le ∙ facts.2 (i - from) (omega (arith, le, below))
 
   -- it is the lowest that is left
-  pub lowest_is : IsLowest half from (Some (from + at))
+  pub lowest_is : IsLowest word from (Some (from + at))
   lowest_is = (omega arith, inside, is_set, clear)

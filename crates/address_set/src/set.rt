@@ -5,24 +5,29 @@ ghost use Rattle.address_set.specs.Sets.{no_address, has, IsNext, IsLowest};
 
 use std::marker::Model;
 
-/// How many addresses each half holds.
-const HALF: usize = 128;
+/// How many words hold a set.
+const WORDS: usize = 4;
+
+/// How many addresses each word holds.
+const WIDTH: usize = 64;
 
 /// A set of addresses, each of 0 to 255.
 #[derive(Clone, Copy, Debug, PartialEq, Eq)]
 pub struct AddressSet {
-    low: u128,
-    high: u128,
+    words: [u64; WORDS],
 }
 
 impl Model for AddressSet {
     ghost use Rattle.address_set.specs.Sets.{AddressSet};
+    ghost use Rattle.std.specs.Prelude.{◌≡◌, length};
 
     ghost Value = { AddressSet };
 
-    ghost view = { λ s. record { low = s.low; high = s.high } };
+    ghost view = { λ s. record { words = s.words } };
 
-    ghost inverse = { λ s. record { low = s.low; high = s.high } };
+    ghost invariant = { λ s. length s.words ≡ 4 };
+
+    ghost inverse = { λ s. record { words = s.words } };
 }
 
 impl AddressSet {
@@ -30,7 +35,7 @@ impl AddressSet {
     pub const fn new() -> AddressSet
         ensures { result ≡ no_address }
     {
-        AddressSet { low: 0, high: 0 }
+        AddressSet { words: [0; WORDS] }
     }
 
     /// Whether an address is in the set.
@@ -39,11 +44,7 @@ impl AddressSet {
         ensures { result ≡ has self.now address }
     {
         let at = usize::from(address);
-        if at < HALF {
-            is_set(self.low, at)
-        } else {
-            is_set(self.high, at - HALF)
-        }
+        is_set(self.words[at / WIDTH], at % WIDTH)
     }
 
     /// Puts an address in, or takes it out.
@@ -52,15 +53,8 @@ impl AddressSet {
         ensures this { has self.new address ≡ is_in }
         ensures others { (other : ℕ) → other < 256 → other ≢ address → has self.new other ≡ has self.old other }
     {
-        if self.has(address) == is_in {
-            return;
-        }
         let at = usize::from(address);
-        if at < HALF {
-            self.low = with_bit(self.low, at, is_in);
-        } else {
-            self.high = with_bit(self.high, at - HALF, is_in);
-        }
+        self.words[at / WIDTH] = with_bit(self.words[at / WIDTH], at % WIDTH, is_in);
     }
 
     /// The lowest address of the set from one on, 0 to 256, if there is one.
@@ -68,58 +62,43 @@ impl AddressSet {
     pub fn next(&self, from: usize) -> Option<u8>
         ensures { IsNext self.now from result }
     {
-        if from < HALF {
-            return match lowest(self.low, from) {
-                Some(at) => Some(at as u8),
-                None => self.next_of_high(0),
-            };
-        }
-        if from < HALF + HALF {
-            return self.next_of_high(from - HALF);
+        for place in from / WIDTH..WORDS {
+            let first = from.saturating_sub(WIDTH * place);
+            if let Some(at) = lowest(self.words[place], first) {
+                return Some((WIDTH * place + at) as u8);
+            }
         }
         None
     }
-
-    // The lowest address of the high half from one of its places on.
-    #[inline]
-    fn next_of_high(&self, from: usize) -> Option<u8>
-        requires { from < 128 }
-        ensures { IsNext self.now (128 + from) result }
-    {
-        match lowest(self.high, from) {
-            Some(at) => Some((at + HALF) as u8),
-            None => None,
-        }
-    }
 }
 
-// Whether a bit of a half is set.
+// Whether a bit of a word is set.
 #[inline]
-fn is_set(half: u128, at: usize) -> bool
-    requires { at < 128 }
-    ensures { result ≡ (bit_at half at == 1) }
+fn is_set(word: u64, at: usize) -> bool
+    requires { at < 64 }
+    ensures { result ≡ (bit_at word at == 1) }
 {
-    (half >> at) & 1 == 1
+    (word >> at) & 1 == 1
 }
 
-// A half with this bit set or not.
+// A word with this bit set or not.
 #[inline]
-fn with_bit(half: u128, at: usize, is_in: bool) -> u128
-    requires { at < 128 }
+fn with_bit(word: u64, at: usize, is_in: bool) -> u64
+    requires { at < 64 }
     ensures this { (bit_at result at == 1) ≡ is_in }
-    ensures others { (i : ℕ) → i < 128 → i ≢ at → bit_at result i ≡ bit_at half i }
+    ensures others { (i : ℕ) → i < 64 → i ≢ at → bit_at result i ≡ bit_at word i }
 {
-    let mask = 1u128 << at;
-    if is_in { half | mask } else { half & !mask }
+    let mask = 1u64 << at;
+    if is_in { word | mask } else { word & !mask }
 }
 
-// The lowest bit of a half that is set, from one on.
+// The lowest bit of a word that is set, from one on.
 #[inline]
-fn lowest(half: u128, from: usize) -> Option<usize>
-    requires { from < 128 }
-    ensures { IsLowest half from result }
+fn lowest(word: u64, from: usize) -> Option<usize>
+    requires { from < 64 }
+    ensures { IsLowest word from result }
 {
-    let rest = half >> from;
+    let rest = word >> from;
     if rest == 0 {
         return None;
     }
