@@ -16,7 +16,7 @@ use thiserror::Error;
 ///
 /// It holds no more memory than it was asked to make room for, and has the bytes of the message alone, without the
 /// filling of the last packet.
-#[derive(Debug, Drop)]
+#[derive(Debug)]
 pub struct Join {
     size: u32,
     next: u32,
@@ -35,6 +35,17 @@ impl Model for Join {
     ghost view = { view_join };
 
     ghost invariant = { IsExact };
+}
+
+impl Drop for Join {
+    fn drop(self) {
+        let Join {
+            size: _,
+            next: _,
+            room: _,
+            bytes: _,
+        } = self;
+    }
 }
 
 /// Why a packet was not put.
