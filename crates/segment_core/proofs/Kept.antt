@@ -27,7 +27,7 @@ use Rattle.segment_law.specs.declared.reply.Reply.TheVariants.{Done}
 use Rattle.segment_law.specs.declared.refusal.Refusal.TheVariants.{NothingToTake}
 use Rattle.segment_core.specs.SegmentFields.{segment_value, IsSegmentInside}
 use Rattle.segment_core.specs.declared.segment.Segment.TheInside.{Inside}
-use Rattle.segment_core.proofs.Stations.{at_is, places_kept}
+use Rattle.segment_core.proofs.Stations.{at_is, places_kept, in_place_kept}
 use Rattle.segment_core.proofs.Refusals.{takes_are, repeats_are, goes_on}
 
 -- a station that keeps its address leaves all as it is to be
@@ -38,6 +38,7 @@ inside_kept s i st old h is same =
       few = omega (arith, long, h.few);
       cursors = h.cursors ∙ sym long;
       places = places_kept s.places s.stations.items i st old h.places is same;
+      in_place = in_place_kept s.stations.items i st old h.in_place is same;
     }
 
 -- and so does a bus with as many cursors
@@ -48,6 +49,7 @@ inside_moved s i st old b h is same cursors =
       few = omega (arith, long, h.few);
       cursors = cursors ∙ h.cursors ∙ sym long;
       places = places_kept s.places s.stations.items i st old h.places is same;
+      in_place = in_place_kept s.stations.items i st old h.in_place is same;
     }
 
 -- a call of the station that stands there

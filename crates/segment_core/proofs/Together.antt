@@ -1,7 +1,6 @@
 -- Stations that are abreast, of which the first take the newest frame: as many Takes.
 use Rattle.std.proofs.Common.{◌≡◌, ℕ, zero, suc, ◌+◌, ◌<◌, ◌≤◌, true, List, [], length, set, get_or, Option, Some, None, Ok, refl, sym, ap, ◌∙◌, subst, arith, append-nil, length-set}
 use Rattle.std.specs.Prelude.{slice_get}
-use Rattle.std.proofs.lemmas.Bool.{ltb-true}
 use Rattle.std.specs.Vec.{with_items}
 use Rattle.std.proofs.lemmas.List.{get_or-map, with_items_is}
 use Rattle.std.proofs.lemmas.Option.{get_or_from_slice_get, slice_get_within, slice_get_read}
@@ -26,31 +25,37 @@ use Rattle.segment_core.specs.SegmentFields.{segment_value, IsSegmentInside}
 use Rattle.segment_core.specs.declared.segment.Segment.TheInside.{Inside}
 use Rattle.segment_core.proofs.Addresses.{taken_keeps}
 use Rattle.segment_core.proofs.Kept.{said, takes_is}
-use Rattle.segment_core.proofs.Stations.{at_is, places_kept}
+use Rattle.segment_core.proofs.Stations.{StandInPlace, at_is, places_kept, in_place_kept}
 use Rattle.segment_core.proofs.Steps.{takes_made, has_taken}
 use Rattle.segment_core.proofs.Sweeps.{Sweeping, Taking}
 use Rattle.segment_core.proofs.Turns.{sweeping_goes, taking_goes, taking_ends}
 
 -- The stations
 
-after_keeps : (before : Station) (place : ℕ) (places : Places) (frame : CanFrame) (now : ℕ) (after : Station) → TakesInPlace before place places frame now after → after.address ≡ before.address
-after_keeps before place places frame now after t = sym (ap (λ s. s.station.address) t.step) ∙ taken_keeps before frame true now
+after_keeps : (before : Station) (frame : CanFrame) (now : ℕ) (after : Station) → TakesInPlace before frame now after → after.address ≡ before.address
+after_keeps before frame now after t = sym (ap (λ s. s.station.address) t.step) ∙ taken_keeps before frame true now
 
-pub first_length : (n : ℕ) (places : Places) (frame : CanFrame) (now : ℕ) (before after : List Station) → FirstTake n places frame now before after → length after ≡ length before
-first_length zero places frame now before after e = ap length e
-first_length (suc n) places frame now before after m = ap length m.left ∙ length-set m.others n m.after ∙ first_length n places frame now before m.others m.before
+pub first_length : (n : ℕ) (frame : CanFrame) (now : ℕ) (before after : List Station) → FirstTake n frame now before after → length after ≡ length before
+first_length zero frame now before after e = ap length e
+first_length (suc n) frame now before after m = ap length m.left ∙ length-set m.others n m.after ∙ first_length n frame now before m.others m.before
 
-pub first_placed : (n : ℕ) (places : Places) (frame : CanFrame) (now : ℕ) (before after : List Station) → FirstTake n places frame now before after → ArePlaces places before → ArePlaces places after
+pub first_placed : (n : ℕ) (places : Places) (frame : CanFrame) (now : ℕ) (before after : List Station) → FirstTake n frame now before after → ArePlaces places before → ArePlaces places after
 first_placed zero places frame now before after e a = subst (ArePlaces places) (sym e) a
 first_placed (suc n) places frame now before after m a =
     let others : ArePlaces places m.others = first_placed n places frame now before m.others m.before a in
-    subst (ArePlaces places) (sym m.left) (places_kept places m.others n m.after m.station others (sym (get_or_from_slice_get m.others n m.station m.station m.here)) (after_keeps m.station n places frame now m.after m.takes))
+    subst (ArePlaces places) (sym m.left) (places_kept places m.others n m.after m.station others (sym (get_or_from_slice_get m.others n m.station m.station m.here)) (after_keeps m.station frame now m.after m.takes))
 
-pub first_more : (n : ℕ) (places : Places) (frame : CanFrame) (now : ℕ) (before others : List Station) (station after : Station) → FirstTake n places frame now before others → n < length before → station ≡ get_or others n station → TakesInPlace station n places frame now after → FirstTake (n + 1) places frame now before (set others n after)
-first_more n places frame now before others station after steps within here takes =
-    let many : length others ≡ length before = first_length n places frame now before others steps in
+pub first_in_place : (n : ℕ) (frame : CanFrame) (now : ℕ) (before after : List Station) → FirstTake n frame now before after → StandInPlace before → StandInPlace after
+first_in_place zero frame now before after e a = subst StandInPlace (sym e) a
+first_in_place (suc n) frame now before after m a =
+    let others : StandInPlace m.others = first_in_place n frame now before m.others m.before a in
+    subst StandInPlace (sym m.left) (in_place_kept m.others n m.after m.station others (sym (get_or_from_slice_get m.others n m.station m.station m.here)) (after_keeps m.station frame now m.after m.takes))
+
+pub first_more : (n : ℕ) (frame : CanFrame) (now : ℕ) (before others : List Station) (station after : Station) → FirstTake n frame now before others → n < length before → station ≡ get_or others n station → TakesInPlace station frame now after → FirstTake (n + 1) frame now before (set others n after)
+first_more n frame now before others station after steps within here takes =
+    let many : length others ≡ length before = first_length n frame now before others steps in
     let on : suc n ≡ n + 1 = omega arith in
-    subst (λ (k : ℕ). FirstTake k places frame now before (set others n after)) on (record {
+    subst (λ (k : ℕ). FirstTake k frame now before (set others n after)) on (record {
       others = others;
       before = steps;
       station = station;
@@ -72,7 +77,7 @@ pub record Here (before : Segment) (n : ℕ) (frame : CanFrame) (others : List S
 abbrev pub then_at : Segment → ℕ → List Station → Segment
 then_at before n stations = record before { stations = stations; bus = passed_first n before.bus }
 
-module _ (before : Segment) (n : ℕ) (places : Places) (frame : CanFrame) (others : List Station) (station next : Station) (h : Here before n frame others) (placed : ArePlaces places others) (here : slice_get others n ≡ Some station) (t : TakesInPlace station n places frame before.now next) where
+module _ (before : Segment) (n : ℕ) (frame : CanFrame) (others : List Station) (station next : Station) (h : Here before n frame others) (in_place : StandInPlace others) (here : slice_get others n ≡ Some station) (t : TakesInPlace station frame before.now next) where
   abbrev pub seg : Segment
   seg = then_at before n others
 
@@ -80,9 +85,7 @@ module _ (before : Segment) (n : ℕ) (places : Places) (frame : CanFrame) (othe
   left = then_at before (suc n) (set others n next)
 
   stands : place_of seg station.address ≡ Some n
-  stands =
-      let own : station.address.0 < 254 = ltb-true station.address.0 254 t.own in
-      sym (placed.found station.address (omega arith)) ∙ t.placed
+  stands = in_place n station here
 
   follows : IsFollowed seg
   follows = record {
@@ -127,24 +130,24 @@ module _ (before : Segment) (n : ℕ) (places : Places) (frame : CanFrame) (othe
 
 -- As many as they are
 
-swept_steps : (n : ℕ) (before : Segment) (places : Places) (frame : CanFrame) (stations : List Station) → FirstTake n places frame before.now before.stations stations → n ≤ length before.stations → are_abreast before.bus ≡ true → IsFollowed before → ArePlaces places before.stations → frame_at before.bus (bus_len before.bus) ≡ Some frame
+swept_steps : (n : ℕ) (before : Segment) (frame : CanFrame) (stations : List Station) → FirstTake n frame before.now before.stations stations → n ≤ length before.stations → are_abreast before.bus ≡ true → IsFollowed before → StandInPlace before.stations → frame_at before.bus (bus_len before.bus) ≡ Some frame
     → (from to : Address) (was : Segment) (put_then : List CanFrame) (told_then : List (List Event)) (count : ℕ) (put : List CanFrame) (parts : List (List Event)) → length before.stations ≡ count → Sweeping from to was put_then told_then count 0 before put parts → Sweeping from to was put_then told_then count n (then_at before n stations) put parts
-swept_steps zero before places frame stations e le abreast followed placed newest from to was put_then told_then count put parts many w =
+swept_steps zero before frame stations e le abreast followed in_place newest from to was put_then told_then count put parts many w =
     subst (λ (xs : List Station). Sweeping from to was put_then told_then count 0 (then_at before 0 xs) put parts) (sym e) w
-swept_steps (suc n) before places frame stations m le abreast followed placed newest from to was put_then told_then count put parts many w =
+swept_steps (suc n) before frame stations m le abreast followed in_place newest from to was put_then told_then count put parts many w =
     let so_far : Sweeping from to was put_then told_then count n (then_at before n m.others) put parts =
-    swept_steps n before places frame m.others m.before (omega arith) abreast followed placed newest from to was put_then told_then count put parts many w in
+    swept_steps n before frame m.others m.before (omega arith) abreast followed in_place newest from to was put_then told_then count put parts many w in
     let within : n < length before.bus.cursors = omega (arith, followed.cursors) in
     let h : Here before n frame m.others = record {
       abreast = abreast;
       followed = followed;
       few = le;
       newest = passed_newest n before.bus followed.sound abreast within ∙ newest;
-      many = first_length n places frame before.now before.stations m.others m.before;
+      many = first_length n frame before.now before.stations m.others m.before;
     } in
     let on : n + 1 ≡ suc n = omega arith in
     let next : Sweeping from to was put_then told_then count (n + 1) (then_at before (suc n) (set m.others n m.after)) put parts =
-    one_swept before n places frame m.others m.station m.after h (first_placed n places frame before.now before.stations m.others m.before placed) m.here m.takes from to was put_then told_then count put parts many so_far in
+    one_swept before n frame m.others m.station m.after h (first_in_place n frame before.now before.stations m.others m.before in_place) m.here m.takes from to was put_then told_then count put parts many so_far in
     subst (λ (xs : List Station). Sweeping from to was put_then told_then count (suc n) (then_at before (suc n) xs) put parts) (sym m.left)
     (subst (λ (k : ℕ). Sweeping from to was put_then told_then count k (then_at before (suc n) (set m.others n m.after)) put parts) on next)
 
@@ -155,41 +158,41 @@ swept zero before after e from to was put_then told_then count put parts w =
     subst (λ (s : Segment). Sweeping from to was put_then told_then count 0 s put parts) (sym e) w
 swept (suc n) before after h from to was put_then told_then count put parts w =
     subst (λ (s : Segment). Sweeping from to was put_then told_then count (suc n) s put parts) (sym h.left)
-    (swept_steps (suc n) before h.places h.frame after.stations h.steps h.few h.abreast h.followed h.placed h.newest from to was put_then told_then count put parts w.stations w)
+    (swept_steps (suc n) before h.frame after.stations h.steps h.few h.abreast h.followed h.in_place h.newest from to was put_then told_then count put parts w.stations w)
 
 -- What the code did
 
 pub passed_are : (s : Inside) (after : Segment) (n now : ℕ) (frame : CanFrame) (stations : List Station) (moved_on : Bus) → IsSegmentInside s → IsSound s.bus → are_abreast s.bus ≡ true → frame_at s.bus (bus_len s.bus) ≡ Some frame → n ≤ length s.stations.items → now ≡ s.clock
-    → FirstTake n s.places frame now s.stations.items stations → moved_on ≡ passed_first n s.bus → after ≡ record { now = s.clock; stations = stations; bus = moved_on; counts = s.counts } → FirstPass n (segment_value s) after
+    → FirstTake n frame now s.stations.items stations → moved_on ≡ passed_first n s.bus → after ≡ record { now = s.clock; stations = stations; bus = moved_on; counts = s.counts } → FirstPass n (segment_value s) after
 passed_are s after zero now frame stations moved_on inside sound abreast newest few time steps passed is =
     is ∙ (λ k. record { now = s.clock; stations = steps k; bus = passed k; counts = s.counts })
 passed_are s after (suc n) now frame stations moved_on inside sound abreast newest few time steps passed is =
     let same : after.stations ≡ stations = ap (λ (x : Segment). x.stations) is in
-    let timed : FirstTake (suc n) s.places frame s.clock s.stations.items stations = subst (λ (t : ℕ). FirstTake (suc n) s.places frame t s.stations.items stations) time steps in
+    let timed : FirstTake (suc n) frame s.clock s.stations.items stations = subst (λ (t : ℕ). FirstTake (suc n) frame t s.stations.items stations) time steps in
     record {
       abreast = abreast;
       followed = record { sound = sound; cursors = inside.cursors };
       few = few;
       frame = frame;
       newest = newest;
-      places = s.places;
-      placed = inside.places;
-      steps = subst (λ (xs : List Station). FirstTake (suc n) s.places frame s.clock s.stations.items xs) (sym same) timed;
+      in_place = inside.in_place;
+      steps = subst (λ (xs : List Station). FirstTake (suc n) frame s.clock s.stations.items xs) (sym same) timed;
       left = is ∙ (λ k. record { now = s.clock; stations = sym same k; bus = passed k; counts = s.counts });
     }
 
 -- and the segment is whole then
-pub stations_left : (s : Inside) (n now : ℕ) (frame : CanFrame) (stations : List Station) → FirstTake n s.places frame now s.stations.items stations → (with_items s.stations stations).items ≡ stations
+pub stations_left : (s : Inside) (n now : ℕ) (frame : CanFrame) (stations : List Station) → FirstTake n frame now s.stations.items stations → (with_items s.stations stations).items ≡ stations
 stations_left s n now frame stations steps =
-    let long : length stations ≡ length s.stations.items = first_length n s.places frame now s.stations.items stations steps in
+    let long : length stations ≡ length s.stations.items = first_length n frame now s.stations.items stations steps in
     with_items_is s.stations stations (omega (arith, s.stations.ok.0))
 
-pub inside_together : (s : Inside) (n now : ℕ) (frame : CanFrame) (stations : List Station) (moved_on : Bus) → IsSegmentInside s → FirstTake n s.places frame now s.stations.items stations → moved_on ≡ passed_first n s.bus → IsSegmentInside (record s { stations = with_items s.stations stations; bus = moved_on })
+pub inside_together : (s : Inside) (n now : ℕ) (frame : CanFrame) (stations : List Station) (moved_on : Bus) → IsSegmentInside s → FirstTake n frame now s.stations.items stations → moved_on ≡ passed_first n s.bus → IsSegmentInside (record s { stations = with_items s.stations stations; bus = moved_on })
 inside_together s n now frame stations moved_on inside steps passed =
-    let long : length stations ≡ length s.stations.items = first_length n s.places frame now s.stations.items stations steps in
+    let long : length stations ≡ length s.stations.items = first_length n frame now s.stations.items stations steps in
     let items : (with_items s.stations stations).items ≡ stations = stations_left s n now frame stations steps in
     record {
       few = subst (λ (xs : List Station). length xs ≤ station_limit) (sym items) (omega (arith, inside.few));
       cursors = ap (λ (b : Bus). length b.cursors) passed ∙ passed_cursors n s.bus ∙ inside.cursors ∙ sym long ∙ sym (ap length items);
       places = subst (ArePlaces s.places) (sym items) (first_placed n s.places frame now s.stations.items stations steps inside.places);
+      in_place = subst StandInPlace (sym items) (first_in_place n frame now s.stations.items stations steps inside.in_place);
     }

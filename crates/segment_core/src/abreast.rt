@@ -1,54 +1,34 @@
 //! The newest frame, taken by the stations that are abreast before it: it is read once for all of them.
-ghost use Rattle.std.specs.Prelude.{◌≡◌, ◌≤◌, length, true, Some, IfSome};
+ghost use Rattle.std.specs.Prelude.{◌≡◌, ◌≤◌, length, true, IfSome};
 ghost use Rattle.std.specs.Bool.{OnTrue, OnFalse};
 ghost use Rattle.std.specs.Option.{option_map};
 ghost use Rattle.pgn_ids.specs.Identifier.{meaning_of};
 ghost use Rattle.tp_wire.specs.Reading.{reading};
 ghost use Rattle.tp_wire.specs.Heard.{meant, meant_between};
 ghost use Rattle.tp_wire.specs.Rows.{comes_from};
-ghost use Rattle.segment_core.specs.Places.{place_in};
 ghost use Rattle.segment_core.specs.Abreast.{TakesInPlace, FirstTake, FirstPass};
 
-use crate::places::Places;
 use crate::segment::Segment;
 use bus_frame::Frame;
 use pgn_ids::{Address, IdMeaning, read_id};
 use station_core::Station;
 use tp_wire::{Heard, is_transport, read_in_place};
 
-// Whether the station with an address stands at this place.
-#[inline(always)]
-fn stands_at(places: &Places, address: Address, place: usize) -> bool
-    requires { length places.now.by_address ≡ 256 }
-    ensures { OnTrue result (place_in places.now address ≡ Some place) }
-{
-    match places.get(address) {
-        Some(there) => there == place,
-        None => false,
-    }
-}
-
-// The station at a place takes a frame with room where that tells nothing; else nothing changes.
+// A station takes a frame with room where that tells nothing; else nothing changes.
 #[inline(always)]
 fn take_one(
     station: &mut Station,
-    place: usize,
-    places: &Places,
     frame: &Frame,
     meaning: &IdMeaning,
     heard: &Option<(Heard<'_>, Address, Address)>,
     now: u64,
 ) -> bool
-    requires places { length places.now.by_address ≡ 256 }
     requires meaning { meaning.now ≡ meaning_of frame.now.id }
     requires heard { option_map meant_between heard.now ≡ reading frame.now }
     requires source { IfSome heard.now (λ h. comes_from (meant h.0) h.1.0 ≡ true) }
-    ensures step { OnTrue result (TakesInPlace station.old place places.now frame.now now station.new) }
+    ensures step { OnTrue result (TakesInPlace station.old frame.now now station.new) }
     ensures other { OnFalse result (station.new ≡ station.old) }
 {
-    if !stands_at(places, station.address(), place) {
-        return false;
-    }
     if let Some(_cause) = station.take_refusal() {
         return false;
     }
@@ -63,17 +43,15 @@ fn take_one(
 
 // The first of the stations do, up to one that doesn't: how many. The frame is read once for all of them.
 #[inline(always)]
-fn take_first(stations: &mut [Station], places: &Places, frame: &Frame, now: u64) -> usize
-    requires { length places.now.by_address ≡ 256 }
+fn take_first(stations: &mut [Station], frame: &Frame, now: u64) -> usize
     ensures few { result ≤ length stations.old }
-    ensures steps { FirstTake result places.now frame.now now stations.old stations.new }
+    ensures steps { FirstTake result frame.now now stations.old stations.new }
 {
     let meaning = read_id(frame.id());
     let heard = read_in_place(frame, &meaning);
     let count = stations.len();
     for place in 0..count {
-        let station = &mut stations[place];
-        if !take_one(station, place, places, frame, &meaning, &heard, now) {
+        if !take_one(&mut stations[place], frame, &meaning, &heard, now) {
             return place;
         }
     }
@@ -94,7 +72,7 @@ impl Segment {
             return 0;
         };
         let now = self.clock.now();
-        let taken = take_first(&mut self.stations, &self.places, &frame, now);
+        let taken = take_first(&mut self.stations, &frame, now);
         self.bus.pass_first(taken);
         taken
     }

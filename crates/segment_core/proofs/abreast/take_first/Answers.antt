@@ -5,5 +5,5 @@ use Rattle.segment_core.proofs.abreast.take_first.Goals as goal
 
 pub loop-place-preserved : goal.loop-place-preserved
 loop-place-preserved c =
-    first_more c.loop-place.place c.args.places.now c.args.frame.now c.args.now c.args.stations.now c.loop-place.stations c.index-stations-place.result c.take_one.new.station c.loop-place.invariant c.loop-place-test.true c.index-stations-place.is
-    (subst (λ station. TakesInPlace station c.loop-place.place c.args.places.now c.args.frame.now c.args.now c.take_one.new.station) (sym c.index-stations-place.is) c.if-not-take_one.ensures.step)
+    first_more c.loop-place.place c.args.frame.now c.args.now c.args.stations.now c.loop-place.stations c.index-stations-place.result c.take_one.new.station c.loop-place.invariant c.loop-place-test.true c.index-stations-place.is
+    (subst (λ station. TakesInPlace station c.args.frame.now c.args.now c.take_one.new.station) (sym c.index-stations-place.is) c.if-not-take_one.ensures.step)

@@ -2,4 +2,4 @@ use Rattle.segment_core.specs.Abreast.{FirstTake}
 use Rattle.segment_core.proofs.abreast.take_first.Given as goal
 
 abbrev pub invariant-loop-place : goal.invariant-loop-place
-invariant-loop-place l = FirstTake l.place l.places l.frame l.now l.fn.stations l.stations
+invariant-loop-place l = FirstTake l.place l.frame l.now l.fn.stations l.stations

@@ -1,11 +1,13 @@
-use Rattle.std.proofs.Common.{◌≡◌, ◌<◌, ◌≤◌, ◌++◌, ◌∷◌, [], length, subst, sym, ap, ◌∙◌, arith}
+use Rattle.std.proofs.Common.{◌≡◌, ◌<◌, ◌≤◌, ◌++◌, ◌∷◌, [], length, map, subst, sym, ap, ◌∙◌, arith, take_all}
 use Rattle.std.proofs.lemmas.List.{length-replicate}
 use Rattle.bus_order.specs.Bus.{start}
 use Rattle.station_core.specs.Station.{new_station}
 use Rattle.segment_core.specs.Places.{noted, ArePlaces}
 use Rattle.segment_core.proofs.Placing.{placed_on, added, how_many}
-use Rattle.segment_law.proofs.New.{length_rising}
+use Rattle.segment_law.specs.Segment.{rising}
+use Rattle.segment_law.proofs.New.{length_rising, new_reached}
 use Rattle.segment_core.proofs.Rising.{one_here, rising_few}
+use Rattle.segment_core.proofs.Stations.{StandInPlace}
 use Rattle.segment_core.proofs.segment.Segment.of.Goals as goal
 
 pub loop-place-preserved : goal.loop-place-preserved
@@ -28,5 +30,12 @@ invariant_of-result c =
     let few : length c.in_ok-rising.rising.items ≤ 32 = subst (λ l. length l ≤ 32) (sym c.in_ok-rising.ensures) (rising_few c.args.addresses.now c.requires) in
     let all : length c.in_ok-rising.rising.items ≡ length c.args.addresses.now = ap length c.in_ok-rising.ensures ∙ length_rising c.args.addresses.now in
     let long : length c.loop-place.stations.items ≡ c.loop-place.place = how_many c.in_ok-rising.rising.items c.loop-place.stations.items c.loop-place.place c.loop-place.invariant.0 (omega arith) in
+    let all_there : c.loop-place.stations.items ≡ map new_station (rising c.args.addresses.now) =
+    c.loop-place.invariant.0 ∙ ap (map new_station) (take_all c.loop-place.place c.in_ok-rising.rising.items (omega arith) ∙ c.in_ok-rising.ensures) in
     let cursors : length c.in_ok-new.field-0.cursors ≡ length c.args.addresses.now = ap (λ b. length b.cursors) c.in_ok-new.ensures.new ∙ length-replicate (length c.args.addresses.now) start in
-    record { few = omega arith; cursors = omega arith; places = c.loop-place.invariant.2 }
+    record {
+      few = omega arith;
+      cursors = omega arith;
+      places = c.loop-place.invariant.2;
+      in_place = subst StandInPlace (sym all_there) (new_reached c.args.addresses.now c.requires).places;
+    }

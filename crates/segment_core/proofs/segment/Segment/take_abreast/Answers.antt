@@ -12,7 +12,7 @@ pub invariant_of-self : goal.invariant_of-self
 invariant_of-self c =
     let s = c.self.inside in
     let n = c.take_first-taken.result in
-    let steps : FirstTake n s.places c.in-Some.frame c.now-now.result s.stations.items c.take_first-taken.new.stations = rw (← c.deref_mut.ensures.value) c.take_first-taken.ensures.steps in
+    let steps : FirstTake n c.in-Some.frame c.now-now.result s.stations.items c.take_first-taken.new.stations = rw (← c.deref_mut.ensures.value) c.take_first-taken.ensures.steps in
     inside_together s n c.now-now.result c.in-Some.frame c.take_first-taken.new.stations c.pass_first.new.self c.self.invariant steps c.pass_first.ensures.passed
 
 pub returns : goal.returns
@@ -20,7 +20,7 @@ returns c =
     let s = c.self.inside in
     let n = c.take_first-taken.result in
     let left = c.take_first-taken.new.stations in
-    let steps : FirstTake n s.places c.in-Some.frame c.now-now.result s.stations.items left = rw (← c.deref_mut.ensures.value) c.take_first-taken.ensures.steps in
+    let steps : FirstTake n c.in-Some.frame c.now-now.result s.stations.items left = rw (← c.deref_mut.ensures.value) c.take_first-taken.ensures.steps in
     let few : n ≤ length s.stations.items = rw (← c.deref_mut.ensures.value) c.take_first-taken.ensures.few in
     let abreast : are_abreast s.bus ≡ true = search rules in
     let newest : frame_at s.bus (bus_len s.bus) ≡ Some c.in-Some.frame = ap (frame_at s.bus) (sym c.len.ensures.value) ∙ sym c.in-Some.ensures in
