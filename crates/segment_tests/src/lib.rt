@@ -1,23 +1,12 @@
-//! Tests of a segment, and of the words and the printing of scripts, through what these crates show.
+//! Tests of a segment, and of the words and the printing of scripts, through what these crates show (`segment`), and of a node through what its
+//! crate shows: two nodes, 21 and 35, joined by a bus in memory (`one_station`).
 #![tactic(auto)]
 
 #[cfg(test)]
-mod calls;
-#[cfg(test)]
 mod checks;
 #[cfg(test)]
-mod commands;
+mod one_station;
 #[cfg(test)]
-mod memory;
+mod segment;
 #[cfg(test)]
-mod missed;
-#[cfg(test)]
-mod pairs;
-#[cfg(test)]
-mod refusals;
-#[cfg(test)]
-mod replies;
-#[cfg(test)]
-mod segments;
-#[cfg(test)]
-mod texts;
+mod stations;

@@ -1,11 +1,14 @@
-//! Tests of what threads share: the ends of rings, and a segment under its lock.
+//! Tests of what threads share: the ends of rings, and a segment under its lock (`thread`), of the gateway between two segments (`relay`), and of
+//! scripts run by threads (`live`).
 #![tactic(auto)]
 
 #[cfg(test)]
-mod calls;
-#[cfg(test)]
 mod checks;
 #[cfg(test)]
-mod rings;
+mod live;
 #[cfg(test)]
-mod shared;
+mod messages;
+#[cfg(test)]
+mod relay;
+#[cfg(test)]
+mod thread;

@@ -1,0 +1,14 @@
+//! Tests of the protocol, through what its crates show: of the layers below the sessions (`frame`), of the messages that come in to a station and
+//! the table of their sessions (`session`), and of the lanes and the receivers of a station, and of a station (`station`).
+#![tactic(auto)]
+
+#[cfg(test)]
+mod checks;
+#[cfg(test)]
+mod frame;
+#[cfg(test)]
+mod pgns;
+#[cfg(test)]
+mod session;
+#[cfg(test)]
+mod station;

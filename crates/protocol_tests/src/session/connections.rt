@@ -1,0 +1,314 @@
+//! Exchanges of node 35 with node 21, frame by frame.
+use crate::checks::{got, holds, same};
+use crate::session::frames::{frame, heard, pgn, shows, wire_pgn};
+use crate::session::received::{aborted, answers, complete, goes_on, on};
+use bus_frame::Frame;
+use pgn_ids::Address;
+use responder::{Finished, Flow, Peer};
+use seg_cut::{Join, packets};
+use std::alloc::Global;
+use std::process::Abort;
+use tp_session::{InState, OutState, Received, accept, begin};
+use tp_wire::{Kind, Outcome, Wire};
+use tx_queue::TxQueue;
+
+// What 35 sends to 21 in TP.CM.
+const CM_TO_21: u32 = 0x1CEC_2135;
+
+// The last of the nine bytes.
+const LAST: Wire = Wire::Packet {
+    kind: Kind::Tp,
+    sequence: 2,
+    bytes: [8, 9, 255, 255, 255, 255, 255],
+};
+
+// A TP abort with this reason.
+fn abort(reason: u8) -> [u8; 8] {
+    [0xFF, reason, 0xFF, 0xFF, 0xFF, 0xCA, 0xFE, 0]
+}
+
+// Diagnostics, FECA, from node 21.
+fn diagnostics(rt: &impl Abort) -> Peer {
+    Peer::new(Address(0x21), Address(0x35), wire_pgn(rt, 0xFECA))
+}
+
+// A session begins to receive a message, in windows of at most so many packets.
+fn begun(
+    rt: &impl Abort,
+    alloc: Global,
+    peer: Peer,
+    most: u8,
+    size: u32,
+    flow: Flow,
+) -> (InState, Frame) {
+    holds(rt, size >= 9 && size <= 1785);
+    let mut join = Join::new(alloc, size);
+    got(rt, join.make_room(packets(size)));
+    accept(peer, most, join, flow, 0)
+}
+
+// Takes a frame. Nothing is made for it, so that no memory can be refused.
+fn step(
+    rt: &impl Abort,
+    mut state: InState,
+    wire: &Wire,
+    room: bool,
+    flow: Flow,
+    now: u64,
+) -> Received {
+    got(rt, state.prepare(wire, room, flow));
+    state.step(wire, room, flow, now)
+}
+
+fn expire(rt: &impl Abort, mut state: InState, flow: Flow, now: u64) -> Received {
+    got(rt, state.prepare_expire(flow));
+    state.expire(flow, now)
+}
+
+// It is due at this tick, and not at the one before.
+fn falls_due(rt: &impl Abort, state: &InState, now: u64) {
+    same(
+        rt,
+        (state.is_due(now.saturating_sub(1)), state.is_due(now)),
+        (false, true),
+    );
+}
+
+// Packet k of the message whose bytes are their places, from 1.
+fn packet(k: u8) -> Wire {
+    let first = k.wrapping_mul(7).wrapping_sub(6);
+    Wire::Packet {
+        kind: Kind::Tp,
+        sequence: k,
+        bytes: [
+            first,
+            first.wrapping_add(1),
+            first.wrapping_add(2),
+            first.wrapping_add(3),
+            first.wrapping_add(4),
+            first.wrapping_add(5),
+            first.wrapping_add(6),
+        ],
+    }
+}
+
+// The nine bytes, whole, where there is room for them as the last packet comes, or none.
+fn nine_bytes(rt: &impl Abort, alloc: Global, room: bool) -> Finished {
+    let (state, cts) = begun(rt, alloc, diagnostics(rt), 255, 9, Flow::Open);
+    shows(rt, cts, CM_TO_21, [0x11, 2, 1, 0xFF, 0xFF, 0xCA, 0xFE, 0]);
+    let state = goes_on(rt, step(rt, state, &packet(1), true, Flow::Open, 1));
+    let state = goes_on(rt, step(rt, state, &packet(1), false, Flow::Open, 2));
+    same(rt, state.size(), 9);
+    same(
+        rt,
+        (state.completes(&LAST), state.completes(&packet(1))),
+        (true, false),
+    );
+    complete(rt, step(rt, state, &LAST, room, Flow::Held, 3))
+}
+
+#[test]
+fn nine_bytes_are_given_or_refused(rt: HostRuntime) {
+    let (bytes, end) = nine_bytes(&rt, rt.alloc(), true).given();
+    same(
+        &rt,
+        bytes.as_slice(),
+        [1, 2, 3, 4, 5, 6, 7, 8, 9].as_slice(),
+    );
+    shows(&rt, end, CM_TO_21, [0x13, 9, 0, 2, 0xFF, 0xCA, 0xFE, 0]);
+    let refused = nine_bytes(&rt, rt.alloc(), false).refused();
+    shows(&rt, refused, CM_TO_21, abort(2));
+}
+
+// All packets but the last are taken: a CTS answers the last of each window. The last CTS.
+fn take_to_254(rt: &impl Abort, mut state: InState, mut cts: Frame) -> (InState, Frame) {
+    for k in 1..255 {
+        let (next, frame) = on(rt, step(rt, state, &packet(k), true, Flow::Open, 0));
+        state = next;
+        same(rt, (k, frame.is_some()), (k, k % 16 == 0));
+        cts = frame.unwrap_or(cts);
+    }
+    (state, cts)
+}
+
+fn are_places(rt: &impl Abort, bytes: &[u8]) {
+    for (i, byte) in bytes.iter().enumerate() {
+        same(rt, (i, usize::from(*byte)), (i, i.wrapping_add(1) % 256));
+    }
+}
+
+#[test]
+fn the_longest_message_has_sixteen_windows(rt: HostRuntime) {
+    let (state, cts) = begun(&rt, rt.alloc(), diagnostics(&rt), 255, 1785, Flow::Open);
+    let (state, cts) = take_to_254(&rt, state, cts);
+    shows(
+        &rt,
+        cts,
+        CM_TO_21,
+        [0x11, 0x0F, 0xF1, 0xFF, 0xFF, 0xCA, 0xFE, 0],
+    );
+    let (bytes, end) = complete(&rt, step(&rt, state, &packet(255), true, Flow::Open, 0)).given();
+    shows(
+        &rt,
+        end,
+        CM_TO_21,
+        [0x13, 0xF9, 6, 0xFF, 0xFF, 0xCA, 0xFE, 0],
+    );
+    same(&rt, bytes.len(), 1785);
+    are_places(&rt, bytes.as_slice());
+}
+
+#[test]
+fn a_window_is_what_the_rts_allows(rt: HostRuntime) {
+    let peer = Peer::new(Address(0x80), Address(0x35), wire_pgn(&rt, 0xEF35));
+    let (state, cts) = begun(&rt, rt.alloc(), peer, 1, 9, Flow::Open);
+    holds(&rt, state.peer() == peer);
+    shows(
+        &rt,
+        cts,
+        0x1CEC_8035,
+        [0x11, 1, 1, 0xFF, 0xFF, 0x35, 0xEF, 0],
+    );
+    let (state, cts) = answers(&rt, step(&rt, state, &packet(1), true, Flow::Open, 0));
+    shows(
+        &rt,
+        cts,
+        0x1CEC_8035,
+        [0x11, 1, 2, 0xFF, 0xFF, 0x35, 0xEF, 0],
+    );
+    let (_, end) = complete(&rt, step(&rt, state, &packet(2), true, Flow::Open, 0)).given();
+    shows(&rt, end, 0x1CEC_8035, [0x13, 9, 0, 2, 0xFF, 0x35, 0xEF, 0]);
+}
+
+// A window of 16 packets that is put on hold after the third of them, and what is then out of order.
+fn window_on_hold(rt: &impl Abort, mut state: InState) {
+    for k in 1..16 {
+        let flow = if k > 3 { Flow::Held } else { Flow::Open };
+        state = goes_on(rt, step(rt, state, &packet(k), true, flow, 1000));
+    }
+    let (state, hold) = answers(rt, step(rt, state, &packet(16), true, Flow::Held, 1000));
+    shows(
+        rt,
+        hold,
+        CM_TO_21,
+        [0x11, 0, 0x11, 0xFF, 0xFF, 0xCA, 0xFE, 0],
+    );
+    let state = goes_on(rt, step(rt, state, &packet(16), true, Flow::Open, 1001));
+    let ended = aborted(rt, step(rt, state, &packet(17), true, Flow::Open, 1001));
+    shows(rt, ended, CM_TO_21, abort(0xFA));
+}
+
+#[test]
+fn a_hold_is_repeated_until_the_session_is_open(rt: HostRuntime) {
+    let (state, hold) = begun(&rt, rt.alloc(), diagnostics(&rt), 255, 200, Flow::Held);
+    shows(&rt, hold, CM_TO_21, [0x11, 0, 1, 0xFF, 0xFF, 0xCA, 0xFE, 0]);
+    falls_due(&rt, &state, 500);
+    let (state, again) = answers(&rt, expire(&rt, state, Flow::Held, 500));
+    same(&rt, again, hold);
+    falls_due(&rt, &state, 1000);
+    let (state, cts) = answers(&rt, expire(&rt, state, Flow::Open, 1000));
+    shows(
+        &rt,
+        cts,
+        CM_TO_21,
+        [0x11, 0x10, 1, 0xFF, 0xFF, 0xCA, 0xFE, 0],
+    );
+    window_on_hold(&rt, state);
+}
+
+// Packet k comes while there is room or none, at a tick, and is taken in place, or not. A frame that is queued is the only one.
+fn takes(
+    rt: &impl Abort,
+    state: &mut InState,
+    queue: &mut TxQueue,
+    (k, room, flow, now, is_taken): (u8, bool, Flow, u64, bool),
+) {
+    holds(rt, queue.is_empty());
+    let taken = state.take_in_place(&heard(&packet(k)), room, flow, now, queue);
+    same(rt, (k, taken), (k, is_taken));
+}
+
+fn take_window(rt: &impl Abort, state: &mut InState, queue: &mut TxQueue) {
+    for arrival in [
+        (1, true, Flow::Open, 100, true),
+        (2, false, Flow::Held, 200, true),
+        // A packet that has come and one that is skipped change nothing, nor does the last of the window without room or on hold.
+        (2, true, Flow::Open, 300, false),
+        (4, true, Flow::Open, 300, false),
+        (3, false, Flow::Open, 300, false),
+        (3, true, Flow::Held, 300, false),
+    ] {
+        takes(rt, state, queue, arrival);
+    }
+    falls_due(rt, state, 950);
+    takes(rt, state, queue, (3, true, Flow::Open, 400, true));
+    falls_due(rt, state, 1650);
+}
+
+#[test]
+fn a_packet_in_a_window_is_taken_in_place(rt: HostRuntime) {
+    // Four packets, in windows of three and one.
+    let mut queue = got(&rt, TxQueue::new(rt.alloc()));
+    let (mut state, _) = begun(&rt, rt.alloc(), diagnostics(&rt), 3, 28, Flow::Open);
+    take_window(&rt, &mut state, &mut queue);
+    let cts = frame(&rt, CM_TO_21, [0x11, 1, 4, 0xFF, 0xFF, 0xCA, 0xFE, 0]);
+    same(&rt, queue.pop(), Some(cts));
+    takes(
+        &rt,
+        &mut state,
+        &mut queue,
+        (4, true, Flow::Open, 500, false),
+    );
+    let (bytes, _) = complete(&rt, step(&rt, state, &packet(4), true, Flow::Open, 500)).given();
+    same(&rt, bytes.len(), 28);
+    same(&rt, bytes.last(), Some(&28));
+}
+
+// What packet `last` leads to at tick 200, after packet 1 of three at tick 100, in windows of two.
+fn third_step(rt: &impl Abort, alloc: Global, last: u8, room: bool) -> Received {
+    let (state, _) = begun(rt, alloc, diagnostics(rt), 2, 21, Flow::Open);
+    let (state, _) = on(rt, step(rt, state, &packet(1), true, Flow::Open, 100));
+    step(rt, state, &packet(last), room, Flow::Open, 200)
+}
+
+#[test]
+fn a_session_ends_by_its_abort(rt: HostRuntime) {
+    for (last, room, reason) in [(2, false, 2), (3, true, 250), (255, true, 250)] {
+        let ended = aborted(&rt, third_step(&rt, rt.alloc(), last, room));
+        shows(&rt, ended, CM_TO_21, abort(reason));
+    }
+}
+
+#[test]
+fn a_session_waits_for_packets(rt: HostRuntime) {
+    // T2 after the CTS at tick 200, T1 after the repeated packet's first coming at tick 100.
+    for (last, due) in [(2, 1450), (1, 850)] {
+        let (state, _) = on(&rt, third_step(&rt, rt.alloc(), last, true));
+        falls_due(&rt, &state, due);
+        let ended = aborted(&rt, expire(&rt, state, Flow::Open, due));
+        shows(&rt, ended, CM_TO_21, abort(3));
+    }
+}
+
+fn new_session(rt: &impl Abort, alloc: Global, flow: Flow) -> InState {
+    let (state, _) = begun(rt, alloc, diagnostics(rt), 255, 9, flow);
+    state
+}
+
+#[test]
+fn a_session_is_closed_aborted_or_overrun(rt: HostRuntime) {
+    for flow in [Flow::Open, Flow::Held] {
+        let closed = new_session(&rt, rt.alloc(), flow).close();
+        shows(&rt, closed, CM_TO_21, abort(2));
+        new_session(&rt, rt.alloc(), flow).abort();
+        new_session(&rt, rt.alloc(), flow).overrun();
+    }
+}
+
+#[test]
+fn a_message_is_sent_by_its_rts(rt: HostRuntime) {
+    let (state, rts) = begin(Address(0x21), Address(0x35), pgn(&rt, 0xFECA), 9, 0);
+    shows(&rt, rts, 0x1CEC_3521, [0x10, 9, 0, 2, 0xFF, 0xCA, 0xFE, 0]);
+    let over = OutState::AwaitCts(state).overrun();
+    same(&rt, over.outcome, Outcome::Overrun);
+}

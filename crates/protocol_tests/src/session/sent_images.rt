@@ -1,0 +1,55 @@
+//! Images of what a sender has under way, the same where nothing happened and no longer so after a step.
+use crate::checks::{got, same};
+use crate::session::frames::{pgn, wire_pgn};
+use bam_session::BamOut;
+use pgn_ids::Address;
+use std::process::Abort;
+use tp_session::{OutState, begin};
+use tp_wire::{CmFrame, Heard};
+use tx_queue::TxQueue;
+
+const M9: [u8; 9] = [1, 2, 3, 4, 5, 6, 7, 8, 9];
+
+const SOURCE: Address = Address(0x21);
+
+#[test]
+fn a_broadcast_and_its_image(rt: HostRuntime) {
+    let mut queue = got(&rt, TxQueue::new(rt.alloc()));
+    let (mut out, _announcement) = BamOut::begin(SOURCE, pgn(&rt, 0xFECA), 9, 0);
+    let begun = out.image();
+    let went_early = out.pump_in_place(&M9, 49, &mut queue);
+    same(&rt, (went_early, begun.is_of(&out)), (false, true));
+    let went_on = out.pump_in_place(&M9, 50, &mut queue);
+    same(&rt, (went_on, begun.is_of(&out)), (true, false));
+    same(&rt, out.image().is_of(&out), true);
+    out.cancel();
+}
+
+#[test]
+fn a_connection_and_its_image(rt: HostRuntime) {
+    let mut queue = got(&rt, TxQueue::new(rt.alloc()));
+    let (state, _rts) = begin(SOURCE, Address(0x35), pgn(&rt, 0xFECA), 9, 0);
+    let mut state = OutState::AwaitCts(state);
+    let cts = CmFrame::Cts {
+        granted: 2,
+        next: 1,
+        pgn: wire_pgn(&rt, 0xFECA),
+    };
+    let awaits_cts = state.image();
+    same(&rt, awaits_cts.is_of(&state), true);
+    same(&rt, state.take_in_place(&Heard::Cm(cts), 1), true);
+    let sends = state.image();
+    same(
+        &rt,
+        (sends.is_of(&state), awaits_cts.is_of(&state)),
+        (true, false),
+    );
+    state.pump(&M9, 2, &mut queue);
+    let awaits_end = state.image();
+    same(
+        &rt,
+        (awaits_end.is_of(&state), sends.is_of(&state)),
+        (true, false),
+    );
+    let _over = state.overrun();
+}

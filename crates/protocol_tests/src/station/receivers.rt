@@ -1,0 +1,247 @@
+//! Messages to all from 21, received at the ports 35.1 and 35.2. Where memory is refused, a test ends by it.
+use crate::checks::{got, holds, same};
+use crate::station::frames::{pgn, wire_pgn};
+use bam_session::BamIn;
+use message_events::Event;
+use pgn_ids::Address;
+use port_table::PortTable;
+use seg_cut::{Join, packets};
+use session_table::{Incoming, Key, MAX_SESSIONS, SessionKind};
+use station_sessions::*;
+use std::alloc::Global;
+use std::process::Abort;
+use tp_wire::{Heard, Kind, Wire};
+use tx_queue::TxQueue;
+
+const FECA: u32 = 0xFECA;
+
+const KEY: Key = Key {
+    source: Address(0x21),
+    kind: SessionKind::Broadcast,
+};
+
+const FIRST: Wire = Wire::Packet {
+    kind: Kind::Tp,
+    sequence: 1,
+    bytes: [1, 2, 3, 4, 5, 6, 7],
+};
+
+const LAST: Wire = Wire::Packet {
+    kind: Kind::Tp,
+    sequence: 2,
+    bytes: [8, 9, 255, 255, 255, 255, 255],
+};
+
+fn two_ports(rt: &impl Abort, alloc: Global) -> PortTable {
+    let mut ports = got(rt, PortTable::new(alloc, Address(0x35)));
+    got(rt, ports.open(pgn(rt, FECA), 1785));
+    got(rt, ports.open(pgn(rt, FECA), 1785));
+    ports
+}
+
+// A message of nine bytes to all was announced.
+fn announce(rt: &impl Abort, alloc: Global, ports: &PortTable) -> Receivers {
+    let set = ports.find(pgn(rt, FECA), 9);
+    let mut join = Join::new(alloc, 9);
+    got(rt, join.make_room(packets(9)));
+    let mut sessions = Receivers::new(alloc);
+    holds(rt, sessions.others(KEY) < MAX_SESSIONS);
+    let state = BamIn::begin(KEY.source, wire_pgn(rt, FECA), join, 0);
+    got(rt, sessions.put(KEY, set, Incoming::Broadcast(state)));
+    sessions
+}
+
+// The event is a message of nine bytes that is given at this port.
+fn is_given(rt: &impl Abort, event: Option<&Event>, number: u64) {
+    match event {
+        Some(Event::Given { port, bytes, .. }) => same(rt, (port.number, bytes.len()), (number, 9)),
+        _ => panic!(rt; "no message is given"),
+    }
+}
+
+// Calls of which a test only looks at the answer: their contracts are not carried through it.
+fn receive(rt: &impl Abort, sessions: &mut Receivers, ports: &PortTable, wire: &Wire) -> Told {
+    got(rt, sessions.receive(ports, KEY, wire, true, 0))
+}
+
+// A frame is taken in place, or not.
+fn takes_in_place(
+    rt: &impl Abort,
+    sessions: &mut Receivers,
+    ports: &PortTable,
+    heard: &Heard<'_>,
+    queue: &mut TxQueue,
+    is_taken: bool,
+) {
+    holds(rt, queue.is_empty());
+    let taken = sessions.take_in_place(ports, KEY, heard, true, 0, queue);
+    same(rt, taken, is_taken);
+}
+
+fn fire(rt: &impl Abort, sessions: &mut Receivers, ports: &PortTable, now: u64) -> Told {
+    got(rt, sessions.fire(ports, KEY, now))
+}
+
+fn abort(rt: &impl Abort, sessions: &mut Receivers, pgn: u32) {
+    sessions.abort(KEY, wire_pgn(rt, pgn));
+}
+
+// What the step tells: no frame, and no message.
+fn tells_nothing(rt: &impl Abort, sessions: &mut Receivers, ports: &PortTable, wire: &Wire) {
+    let told = receive(rt, sessions, ports, wire);
+    same(rt, (told.frame, told.events.len()), (None, 0));
+}
+
+// The step gives the nine bytes at these ports, and queues nothing.
+fn gives(
+    rt: &impl Abort,
+    sessions: &mut Receivers,
+    ports: &PortTable,
+    wire: &Wire,
+    numbers: &[u64],
+) {
+    let told = receive(rt, sessions, ports, wire);
+    same(rt, (told.frame, told.events.len()), (None, numbers.len()));
+    for (place, number) in numbers.iter().enumerate() {
+        is_given(rt, told.events.get(place), *number);
+    }
+}
+
+// A port is no more one of the session, which goes on or ends without a frame.
+fn ends(rt: &impl Abort, sessions: &mut Receivers, number: u64) {
+    same(rt, sessions.unbind(KEY, number), None);
+}
+
+fn is_due_as(rt: &impl Abort, sessions: &Receivers, now: u64, key: Option<Key>) {
+    same(rt, sessions.next_due(now), key);
+}
+
+fn are_wanted(rt: &impl Abort, sessions: &Receivers, wire: &Wire) {
+    let (set, size) = sessions.wants(KEY, wire);
+    same(rt, (set.len(), size), (2, 9));
+}
+
+#[test]
+fn given_at_both_ports_once(rt: HostRuntime) {
+    let ports = two_ports(&rt, rt.alloc());
+    let mut sessions = announce(&rt, rt.alloc(), &ports);
+    same(&rt, sessions.others(KEY), 0);
+    tells_nothing(&rt, &mut sessions, &ports, &FIRST);
+    are_wanted(&rt, &sessions, &LAST);
+    gives(&rt, &mut sessions, &ports, &LAST, &[1, 2]);
+    tells_nothing(&rt, &mut sessions, &ports, &LAST);
+}
+
+#[test]
+fn one_of_its_ports_closes(rt: HostRuntime) {
+    let ports = two_ports(&rt, rt.alloc());
+    let mut sessions = announce(&rt, rt.alloc(), &ports);
+    ends(&rt, &mut sessions, 1);
+    tells_nothing(&rt, &mut sessions, &ports, &FIRST);
+    gives(&rt, &mut sessions, &ports, &LAST, &[2]);
+}
+
+#[test]
+fn both_of_its_ports_close(rt: HostRuntime) {
+    let ports = two_ports(&rt, rt.alloc());
+    let mut sessions = announce(&rt, rt.alloc(), &ports);
+    ends(&rt, &mut sessions, 1);
+    ends(&rt, &mut sessions, 2);
+    is_due_as(&rt, &sessions, u64::MAX, None);
+}
+
+fn is_source(rt: &impl Abort, sessions: &Receivers, from: u8, source: Option<Address>) {
+    same(rt, sessions.next_source(from), source);
+}
+
+// The first packet is taken in place, the last one is left: with it the message is given.
+#[test]
+fn packets_are_taken_in_place(rt: HostRuntime) {
+    let ports = two_ports(&rt, rt.alloc());
+    let mut sessions = announce(&rt, rt.alloc(), &ports);
+    let mut queue = got(&rt, TxQueue::new(rt.alloc()));
+    let first = Heard::Packet {
+        kind: Kind::Tp,
+        sequence: 1,
+        bytes: &[1, 2, 3, 4, 5, 6, 7],
+    };
+    let last = Heard::Packet {
+        kind: Kind::Tp,
+        sequence: 2,
+        bytes: &[8, 9, 255, 255, 255, 255, 255],
+    };
+    is_source(&rt, &sessions, 0x21, Some(KEY.source));
+    is_source(&rt, &sessions, 0x22, None);
+    takes_in_place(&rt, &mut sessions, &ports, &first, &mut queue, true);
+    takes_in_place(&rt, &mut sessions, &ports, &last, &mut queue, false);
+    gives(&rt, &mut sessions, &ports, &LAST, &[1, 2]);
+}
+
+#[test]
+fn a_silent_session_ends(rt: HostRuntime) {
+    let ports = two_ports(&rt, rt.alloc());
+    let mut sessions = announce(&rt, rt.alloc(), &ports);
+    is_due_as(&rt, &sessions, 749, None);
+    is_due_as(&rt, &sessions, 750, Some(KEY));
+    abort(&rt, &mut sessions, 0xFEC9);
+    is_due_as(&rt, &sessions, 750, Some(KEY));
+    same(&rt, fire(&rt, &mut sessions, &ports, 750).frame, None);
+    is_due_as(&rt, &sessions, 750, None);
+}
+
+#[test]
+fn an_abort_ends_the_session_of_its_pgn(rt: HostRuntime) {
+    let ports = two_ports(&rt, rt.alloc());
+    let mut sessions = announce(&rt, rt.alloc(), &ports);
+    abort(&rt, &mut sessions, FECA);
+    is_due_as(&rt, &sessions, 750, None);
+}
+
+#[test]
+fn a_session_is_ended(rt: HostRuntime) {
+    let ports = two_ports(&rt, rt.alloc());
+    let mut sessions = announce(&rt, rt.alloc(), &ports);
+    sessions.end(KEY);
+    is_due_as(&rt, &sessions, 750, None);
+}
+
+#[test]
+fn missed_frames_end_each_session(rt: HostRuntime) {
+    let ports = two_ports(&rt, rt.alloc());
+    let mut sessions = announce(&rt, rt.alloc(), &ports);
+    sessions.overrun();
+    is_due_as(&rt, &sessions, 750, None);
+}
+
+fn image(rt: &impl Abort, sessions: &Receivers) -> ReceiversImage {
+    got(rt, sessions.image())
+}
+
+// The sessions are those of the image, or not.
+fn are_of(rt: &impl Abort, sessions: &Receivers, image: &ReceiversImage, are: bool) {
+    same(rt, image.is_of(sessions), are);
+}
+
+fn until_a_packet_is_taken(rt: &impl Abort, sessions: &mut Receivers, ports: &PortTable) {
+    let image = image(rt, sessions);
+    are_of(rt, sessions, &image, true);
+    tells_nothing(rt, sessions, ports, &FIRST);
+    are_of(rt, sessions, &image, false);
+}
+
+fn until_a_port_is_closed(rt: &impl Abort, sessions: &mut Receivers) {
+    let image = image(rt, sessions);
+    are_of(rt, sessions, &image, true);
+    ends(rt, sessions, 1);
+    are_of(rt, sessions, &image, false);
+    ends(rt, sessions, 2);
+    are_of(rt, sessions, &image, false);
+}
+
+#[test]
+fn an_image_is_of_the_sessions_as_they_were(rt: HostRuntime) {
+    let ports = two_ports(&rt, rt.alloc());
+    let mut sessions = announce(&rt, rt.alloc(), &ports);
+    until_a_packet_is_taken(&rt, &mut sessions, &ports);
+    until_a_port_is_closed(&rt, &mut sessions);
+}

@@ -1,0 +1,10 @@
+//! Tests of a segment, and of the words and the printing of scripts, through what these crates show.
+mod calls;
+mod commands;
+mod memory;
+mod missed;
+mod pairs;
+mod refusals;
+mod replies;
+mod segments;
+mod texts;

@@ -1,0 +1,4 @@
+//! Tests of scripts run by threads.
+mod ended;
+mod gateways;
+mod runs;
