@@ -136,7 +136,7 @@ impl<T> SessionTable<T> {
     /// The state of a key takes a frame at tick `now` where it stands (SAE J1939-21, TP.DT; ISO 11783-3, ETP.DT, ETP.CM_DPO):
     /// a step that ends nothing. What it answers is queued behind the frames of a queue. Where the key isn't there or is held,
     /// nothing is to be done. Any other frame changes nothing. What is taken on hold is taken so whatever the flow.
-    #[inline]
+    #[inline(always)]
     pub fn take_in_place(
         &mut self,
         key: Key,

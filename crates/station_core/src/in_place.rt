@@ -62,11 +62,23 @@ impl Station {
         ensures other { OnFalse result (self.new ≡ self.old) }
     {
         match heard {
-            Heard::Packet { kind, .. } => {
+            Heard::Packet {
+                kind,
+                sequence,
+                bytes,
+            } => {
+                let packet = Heard::Packet {
+                    kind: *kind,
+                    sequence: *sequence,
+                    bytes,
+                };
                 let kind = packet_kind(*kind, to);
-                self.session_in_place(kind, from, heard, room, now)
+                self.session_in_place(kind, from, &packet, room, now)
             }
-            Heard::Cm(frame) => self.cm_in_place(frame, from, room, now),
+            Heard::Cm(frame) => {
+                let frame = *frame;
+                self.cm_in_place(&frame, from, room, now)
+            }
             Heard::Request { pgn } => {
                 self.take_request(from, to, *pgn);
                 true

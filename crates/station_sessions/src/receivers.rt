@@ -223,7 +223,7 @@ impl Receivers {
     /// Takes a frame of its source where the session of a key stands, at tick `now` (SAE J1939-21, TP.DT; ISO 11783-3, ETP.DT,
     /// ETP.CM_DPO): a step that ends nothing. What it answers is queued behind the frames of a queue; without a session
     /// nothing is done. Any other frame is left to `receive`, and changes nothing.
-    #[inline]
+    #[inline(always)]
     pub fn take_in_place(
         &mut self,
         ports: &PortTable,
