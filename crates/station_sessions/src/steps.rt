@@ -205,6 +205,7 @@ fn fire_connection(
 }
 
 // Puts the connection whose key is held back, or ends it.
+#[inline(always)]
 fn settle(
     alloc: Global,
     table: &mut Table,
