@@ -63,8 +63,12 @@ impl AddressSet {
         ensures { IsNext self.now from result }
     {
         for place in from / WIDTH..WORDS {
+            let word = self.words[place];
+            if word == 0 {
+                continue;
+            }
             let first = from.saturating_sub(WIDTH * place);
-            if let Some(at) = lowest(self.words[place], first) {
+            if let Some(at) = lowest(word, first) {
                 return Some((WIDTH * place + at) as u8);
             }
         }
