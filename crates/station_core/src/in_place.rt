@@ -26,6 +26,7 @@ impl Station {
     /// so is one whose session or window finds no memory. `room` is that of the step. Its queue has a free place, as `take_refusal`
     /// tells.
     #[inline]
+    #[tactic(auto, using(crate::proofs::Traffic::other_traffic))]
     pub fn take_in_place(&mut self, frame: &Frame, room: bool, now: u64) -> bool
         requires { taking_refusal self.old ≡ None }
         ensures quiet { OnTrue result (takes_quietly self.old frame.now room ≡ true) }
@@ -35,11 +36,12 @@ impl Station {
         ensures other { OnFalse result (self.new ≡ self.old) }
     {
         let meaning = read_id(frame.id());
-        if !self.is_meant(&meaning) {
+        // Most of a bus's frames are other traffic: they are passed over without a call.
+        if !self.is_meant(&meaning) || !is_transport(frame) {
             return true;
         }
         let Some((heard, from, to)) = read_in_place(frame, &meaning) else {
-            return !is_transport(frame);
+            return false;
         };
         self.hear_in_place(&heard, from, to, room, now)
     }
