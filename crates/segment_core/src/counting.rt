@@ -81,6 +81,7 @@ impl Segment {
     }
 
     /// The reply to a call that told events, which are counted.
+    #[inline(always)]
     pub(crate) fn told(&mut self, events: Events) -> Reply
         ensures reply { result ≡ Done events }
         ensures counts { self.new ≡ record self.old { counts = counted self.old.counts events } }

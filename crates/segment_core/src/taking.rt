@@ -18,6 +18,7 @@ use station_core::Taken;
 
 impl Segment {
     /// A station takes the next frame of the bus.
+    #[inline(always)]
     pub(crate) fn take(&mut self, station: Address, room: bool) -> Result<Reply, Stop>
         ensures { IsAnswer (at_address self.old station (takes self.old room)) self.old self.new result }
     {
@@ -112,6 +113,7 @@ impl Segment {
     }
 
     // The reply to a Take, which is counted.
+    #[inline(always)]
     fn looked(&mut self, looked: Taken) -> Reply
         ensures reply { result ≡ Done looked.events }
         ensures counts { self.new ≡ record self.old { counts = counted (counted_look self.old.counts looked.is_malformed) looked.events } }
