@@ -1,17 +1,20 @@
 -- What is found at a client's seat is what the segment shows of this client: its lists are those of the seats, place by place.
-use Rattle.std.proofs.Common.{◌≡◌, ℕ, ◌<◌, ◌≤◌, List, [], length, map, get_or, false, Option, None, sym, ◌∙◌, ap, subst, inl, inr, arith}
+use Rattle.std.proofs.Common.{◌≡◌, ℕ, ◌+◌, ◌<◌, ◌≤◌, List, [], length, map, get_or, false, Option, None, sym, ◌∙◌, ap, subst, inl, inr, arith}
 use Rattle.std.proofs.lemmas.List.{length-map, get_or-map}
 use Rattle.std.specs.Prelude.{slice_index, ◌⊎◌}
 use Rattle.pgn_ids.specs.declared.address.Address.{Address}
 use Rattle.segment_law.specs.Segment.{Segment}
+use Rattle.segment_law.specs.declared.call.Call.{Call}
 use Rattle.segment_law.specs.declared.refusal.Refusal.{Refusal as Cause}
 use Rattle.segment_rings.specs.Views.{SeatView, DoorView, SameSeat, with_spare}
 use Rattle.segment_shared.specs.declared.call.Stored.{Stored}
 use Rattle.segment_shared.specs.declared.call.Owed.{Owed}
+use Rattle.segment_shared.specs.declared.offer.Front.{Front}
 use Rattle.segment_shared.specs.declared.offer.Front.TheVariants as front
+use Rattle.segment_shared.specs.declared.offer.Ready.TheVariants as ready
 use Rattle.segment_shared.specs.Record.{owed_by}
 use Rattle.segment_shared.specs.LiveView.{ClientView, live_view, client_of, seat_seen, seat_free, Kept}
-use Rattle.segment_shared.specs.Offers.{IsWaiting, IsEmptyAt, WaitsAt, IsFrontIn, IsCauseFor, LacksRoomToSend}
+use Rattle.segment_shared.specs.Offers.{IsWaiting, IsEmptyAt, WaitsAt, IsFrontIn, IsSendOf, IsCauseFor, IsReadyToSend, LacksRoomToSend}
 
 -- room was made for notes that are kept
 pub same_seat-spare : (a b c : SeatView) → SameSeat a b → c ≡ with_spare b c.spare → b.spare ≤ c.spare → SameSeat a c
@@ -69,4 +72,21 @@ module _ (st : Segment) (n : ℕ) (ws : List Owed) (k : ℕ) where
   lacks_kept ts us e r = (
     (r.0.0, λ s. subst (λ (u : SeatView). IsWaiting u × (owed_by k ws < u.free)) (sym (e s)) (r.0.1 s)),
     λ s. subst (λ (u : SeatView). IsCauseFor st u None) (sym (e s)) (r.1 s),
+  )
+
+  -- what the code found of a submission that waits
+  pub found_at : (vs : List Owed) (ts us : List SeatView) (owed stored : ℕ) (r : Front) (o c : Option Cause) → owed ≡ owed_by k vs → vs ≡ ws → stored ≡ n → IsFrontIn ts k owed stored r → r ≡ front.Waits → us ≡ ts → ((s : SeatView) → IsCauseFor st (get_or us k s) o) → o ≡ c
+      → IsFrontIn ts k (owed_by k ws) n front.Waits × ((s : SeatView) → IsCauseFor st (get_or ts k s) c)
+  found_at vs ts us owed stored r o c same is count f waits seats h cause =
+      let g : IsFrontIn ts k owed stored front.Waits = subst (λ (q : Front). IsFrontIn ts k owed stored q) waits f in
+      found_cause ts owed stored o c (same ∙ ap (owed_by k) is) (subst (λ (m : ℕ). m < 1000000) count g.0) g (λ s. subst (λ (u : List SeatView). IsCauseFor st (get_or u k s) o) seats (h s)) cause
+
+  more : (a b m : ℕ) → a ≡ b → a + 1 ≤ m → b < m
+  more a b m e l = omega arith
+
+  -- and there is room to keep its note
+  pub ready_at : (us vs : List SeatView) (owed : ℕ) (call : Call) → owed ≡ owed_by k ws → LacksRoomToSend st n ws us k → ((s : SeatView) → owed + 1 ≤ (get_or us k s).spare) → vs ≡ us → ((s : SeatView) → IsSendOf (get_or vs k s) call) → IsReadyToSend st n ws us k (ready.Send call)
+  ready_at us vs owed call same r room seats h = (
+    (r.0.0, λ s. ((r.0.1 s).0, (r.0.1 s).1, more owed (owed_by k ws) (get_or us k s).spare same (room s))),
+    λ s. subst (λ (u : List SeatView). IsSendOf (get_or u k s) call) seats (h s),
   )

@@ -7,6 +7,7 @@ pub mod Buffers
 pub mod Preparing
 pub mod SeatsSame
 pub mod Holding
+pub mod Viewed
 pub mod Pieces
 pub mod Replays
 pub mod Laws

@@ -90,6 +90,15 @@ pub record ClosedFor (a b : LiveView) (i j : InboxEnd) (r : Closed) : Type 0 whe
   pub clients : b.clients ≡ told_clients a (reply_of (trail a.addresses a.calls).state (Close i.port))
   pub ports : b.ports ≡ map (closing i.port) a.ports
 
+-- the Close of a port was added, unless the port was closed already; nothing was given
+pub record CloseMade (a b : LiveView) (port : PortId) : Type 0 where
+  pub addresses : b.addresses ≡ a.addresses
+  pub stopped : b.stopped ≡ a.stopped
+  pub pieces : b.pieces ≡ a.pieces
+  pub calls : b.calls ≡ calls_after (reply_of (trail a.addresses a.calls).state (Close port)) a.calls (stored None (Close port))
+  pub clients : b.clients ≡ told_clients a (reply_of (trail a.addresses a.calls).state (Close port))
+  pub ports : b.ports ≡ a.ports
+
 -- why a port isn't closed: the inbox isn't of this segment, or else no more calls can be stored; or for want of memory, where
 -- neither holds
 abbrev pub IsCloseCause : LiveView → InboxEnd → NotMade → Type 0

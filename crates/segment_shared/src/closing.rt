@@ -47,12 +47,12 @@ fn hand_over(doors: &mut Vec<Door>, k: usize, inbox: &mut Inbox, kept: Vec<Deliv
 }
 
 impl Live {
-    ghost use Rattle.std.specs.Prelude.{◌≡◌, ◌<◌, length, slice_index_or, IfOk, IfErr, OnErr};
+    ghost use Rattle.std.specs.Prelude.{◌≡◌, ◌<◌, length, slice_index_or, IfOk, OnOk, IfErr, OnErr};
     ghost use mathlib.Core.List.{IsPrefix};
     ghost use Rattle.segment_rings.specs.Ends.{with_room_kept};
     ghost use Rattle.segment_shared.specs.Record.{trail, given};
     ghost use Rattle.segment_shared.specs.LiveView.{PortView, SameLive, stored_calls};
-    ghost use Rattle.segment_shared.specs.Reports.{ClosedFor, IsCloseCause};
+    ghost use Rattle.segment_shared.specs.Reports.{CloseMade, ClosedFor, IsCloseCause};
 
     /// Closes the port of an inbox, and hands out what the port was given and the inbox did not receive. No later call gives
     /// to it.
@@ -94,6 +94,17 @@ impl Live {
         let rest = rest_after(self.alloc, inbox.received(), self.doors[k].deliveries())?;
         let kept = copy_deliveries(self.alloc, rest.as_slice())?;
         inbox.reserve(kept.len())?;
+        self.make_close(port)?;
+        hand_over(&mut self.doors, k, inbox, kept);
+        Ok(Closed { port, rest })
+    }
+
+    // Makes the Close of a port, and notes what it tells. It is stored unless it is refused.
+    fn make_close(&mut self, port: PortId) -> Result<(), AllocError>
+        requires { stored_calls self.old < 1000000 }
+        ensures made { OnOk result (CloseMade self.old self.new port) }
+        ensures err { OnErr result (SameLive self.old self.new) }
+    {
         self.calls.reserve()?;
         match make(&mut self.segment, Call::Close { port })? {
             Reply::Done(events) => {
@@ -109,13 +120,9 @@ impl Live {
                     by: None,
                     call: Call::Close { port },
                 });
-                hand_over(&mut self.doors, k, inbox, kept);
-                Ok(Closed { port, rest })
+                Ok(())
             }
-            Reply::Refused(_) => {
-                hand_over(&mut self.doors, k, inbox, kept);
-                Ok(Closed { port, rest })
-            }
+            Reply::Refused(_) => Ok(()),
             Reply::Opened(_) => unreachable!(),
             Reply::Sent(_) => unreachable!(),
         }

@@ -1,11 +1,12 @@
 use Rattle.segment_shared.specs.Past.{count_since}
-use Rattle.std.proofs.Common.{◌≡◌, ◌<◌, List, [], ◌∷◌, ◌++◌, length, map, true, false, None, refl, sym, ap, ◌∙◌, subst, ◌^◌, ◌+◌}
-use Rattle.segment_law.specs.Calls.{called}
+use Rattle.std.proofs.Common.{◌≡◌, Bool, ◌<◌, List, [], ◌∷◌, ◌++◌, length, map, true, false, None, refl, sym, ap, ◌∙◌, subst, ◌^◌, ◌+◌}
+use Rattle.std.proofs.lemmas.Bool.{false≢true}
+use Rattle.segment_law.specs.Calls.{called, is_send}
 use Rattle.segment_law.specs.Record.{StandsAt}
 use Rattle.segment_law.specs.declared.call.Call.{Call}
 use Rattle.segment_law.specs.declared.reply.Reply.{Reply}
 use Rattle.segment_law.specs.declared.reply.Reply.TheVariants.{Done, Refused}
-use Rattle.reply_law.specs.Replies.{reply_of, left_by, IsRefusal, Follows}
+use Rattle.reply_law.specs.Replies.{reply_of, left_by, opens, IsRefusal, IsAnsweredBy, Follows}
 use Rattle.segment_rings.specs.Views.{SeatView}
 use Rattle.segment_shared.specs.declared.call.Stored.{Stored}
 use Rattle.segment_shared.specs.declared.call.Owed.{Owed}
@@ -14,27 +15,32 @@ use Rattle.segment_shared.specs.Words.{call_of, wanted_by}
 use Rattle.segment_shared.specs.Record.{settle_notes, settle_owed, trail}
 use Rattle.segment_shared.specs.Facts.{IdsFrom, HaveRoom, OwedWithin, note_all, Holds, give_all}
 use Rattle.segment_shared.specs.Places.{IsFound}
-use Rattle.segment_shared.specs.LiveView.{LiveView, stored, port_of, SparesClosed, keep, stored_calls}
-use Rattle.segment_shared.proofs.Applying.{applied_as, refused_as, told_as, given_as, found_false}
-use Rattle.segment_shared.proofs.Doors.{apart-same, give_all_unplaced}
+use Rattle.segment_shared.specs.LiveView.{LiveView, Applied, LacksMemory, stored, port_of, SparesClosed, keep, stored_calls}
+use Rattle.segment_shared.proofs.Applying.{applied_as, answered, refused_as, told_as, given_as, found_false, never_opens, never_sends}
+use Rattle.segment_shared.proofs.Doors.{apart-same, give_all_unplaced, same_doors-refl}
 use Rattle.segment_shared.proofs.Openings.{refused_reply}
 use Rattle.segment_shared.proofs.Ready.{found_ready, none_given}
 use Rattle.segment_shared.proofs.Refusing.{lacks_memory}
-use Rattle.segment_shared.proofs.Holding.{holds-same, holds-tell, on_err, same_live}
+use Rattle.segment_shared.proofs.Holding.{holds-same, holds-tell, on_err}
+use Rattle.segment_shared.proofs.Viewed.{holds_at, stays, viewed, still}
 use Rattle.segment_shared.proofs.SeatsSame.{same_seats-refl, ports-same}
 use Rattle.segment_shared.proofs.live.Live.apply_telling.Goals as goal
 
 pub invariant_of-self-in_err-room : goal.invariant_of-self-in_err-room
-invariant_of-self-in_err-room c = rw (c.reserve.ensures.items, c.reserve.ensures.pieces, c.reserve.ensures.image) (holds-same _ _ _ _ _ _ _ _ (same_seats-refl _) c.find_places.ensures.same c.self.invariant.0, c.self.invariant.1)
+invariant_of-self-in_err-room c = stays _ _ _ _ _ _ _ _ _ _ _ _ _ _ _ refl c.reserve.ensures.items c.reserve.ensures.pieces c.reserve.ensures.image refl (same_seats-refl _) c.find_places.ensures.same c.self.invariant
 
 pub returns-in_err-room-clause-err : goal.returns-in_err-room-clause-err
-returns-in_err-room-clause-err c = rw (← c.self.view_is, c.reserve.ensures.items, c.reserve.ensures.pieces) (on_err _ (same_live _ _ _ _ _ _ _ (same_seats-refl _) c.find_places.ensures.same))
+returns-in_err-room-clause-err c =
+    let i = c.self.inside in
+    on_err _ (still _ i.stopped i.addresses.items i.calls.pieces c.reserve.new.self.pieces i.calls.items c.reserve.new.self.items i.seats.items i.seats.items i.doors.items c.find_places.new.doors.items c.self.view_is c.reserve.ensures.items c.reserve.ensures.pieces (same_seats-refl _) c.find_places.ensures.same)
 
 pub invariant_of-self-in_err-events : goal.invariant_of-self-in_err-events
-invariant_of-self-in_err-events c = rw (c.in_err-events.ensures.err, c.reserve.ensures.items, c.reserve.ensures.pieces, c.reserve.ensures.image) (holds-same _ _ _ _ _ _ _ _ (same_seats-refl _) c.find_places.ensures.same c.self.invariant.0, c.self.invariant.1)
+invariant_of-self-in_err-events c = stays _ _ _ _ _ _ _ _ _ _ _ _ _ _ _ c.in_err-events.ensures.err c.reserve.ensures.items c.reserve.ensures.pieces c.reserve.ensures.image refl (same_seats-refl _) c.find_places.ensures.same c.self.invariant
 
 pub returns-in_err-events-clause-err : goal.returns-in_err-events-clause-err
-returns-in_err-events-clause-err c = rw (← c.self.view_is, c.reserve.ensures.items, c.reserve.ensures.pieces) (on_err _ (same_live _ _ _ _ _ _ _ (same_seats-refl _) c.find_places.ensures.same))
+returns-in_err-events-clause-err c =
+    let i = c.self.inside in
+    on_err _ (still _ i.stopped i.addresses.items i.calls.pieces c.reserve.new.self.pieces i.calls.items c.reserve.new.self.items i.seats.items i.seats.items i.doors.items c.find_places.new.doors.items c.self.view_is c.reserve.ensures.items c.reserve.ensures.pieces (same_seats-refl _) c.find_places.ensures.same)
 
 pub tell-told-requires-clause-apart : goal.tell-told-requires-clause-apart
 tell-told-requires-clause-apart c = apart-same _ _ c.find_places.ensures.same c.self.invariant.0.apart
@@ -99,14 +105,14 @@ invariant_of-self-in-Done c =
     let ids = subst (IdsFrom 0) seats c.tell-told.ensures.ids in
     let rm = subst (λ (u : List SeatView). HaveRoom (settle_owed ws es) u) seats (subst (λ (u : List Owed). HaveRoom u c.tell-told.new.seats.items) owed c.tell-told.ensures.room) in
     let within = subst (λ (u : List SeatView). OwedWithin (length u) (settle_owed ws es)) seats (subst (λ (u : List Owed). OwedWithin (length c.tell-told.new.seats.items) u) owed c.tell-told.ensures.within) in
-    rw (calls, pieces, image, owed, seats, doors) (holds-tell addrs st next xs ws ss ds call es h few rep left stands f ids rm within, c.self.invariant.1)
+    holds_at _ _ _ _ _ _ _ _ _ _ _ _ _ _ _ refl calls pieces image owed seats doors (holds-tell addrs st next xs ws ss ds call es h few rep left stands f ids rm within) c.self.invariant.1
 
 pub invariant_of-self-in-Refused-1 : goal.invariant_of-self-in-Refused-1
 invariant_of-self-in-Refused-1 c =
     let addrs = c.self.inside.addresses.items in
     let f0 = c.in_ok-events.ensures.follows addrs (trail addrs c.self.inside.calls.items).steps c.self.invariant.0.stands in
     let same = f0.refused (subst IsRefusal (sym c.in-Refused.is) tt) in
-    rw (same, c.reserve.ensures.items, c.reserve.ensures.pieces, c.reserve.ensures.image) (holds-same _ _ _ _ _ _ _ _ (same_seats-refl _) c.find_places.ensures.same c.self.invariant.0, c.self.invariant.1)
+    stays _ _ _ _ _ _ _ _ _ _ _ _ _ _ _ same c.reserve.ensures.items c.reserve.ensures.pieces c.reserve.ensures.image refl (same_seats-refl _) c.find_places.ensures.same c.self.invariant
 
 pub returns-in-Done-clause-applied : goal.returns-in-Done-clause-applied
 returns-in-Done-clause-applied c =
@@ -123,6 +129,7 @@ returns-in-Done-clause-applied c =
     let call = call_of c.args.call room in
     let next = c.make.new.segment in
     let told : c.tell-told.result ≡ es = c.tell-told.ensures.events in
+    let keeps = keep c.self.inside.stopped c.self.inside.calls.pieces in
     let rep : Done es ≡ reply_of st call = sym c.in-Done.is ∙ c.in_ok-events.ensures.reply ∙ ap (reply_of st) c.with_room.ensures in
     let calls : c.push_reserved.new.self.items ≡ xs ++ stored None call ∷ [] = c.push_reserved.ensures.items ∙ ap (λ (u : List Stored). u ++ stored None c.with_room-in-Done.result ∷ []) c.reserve.ensures.items ∙ ap (λ (u : Call). xs ++ stored None u ∷ []) c.with_room-in-Done.ensures in
     let found : IsFound (wanted_by st c.args.call) ds room bs = subst (λ (x : Wanted). IsFound x ds room bs) c.wanted_of-wanted.ensures c.in_ok-room.ensures.found in
@@ -133,7 +140,11 @@ returns-in-Done-clause-applied c =
     let clients = told_as (keep c.self.inside.stopped c.self.inside.calls.pieces) addrs xs ws ss c.tell-told.new.seats.items ds0 es c.self.invariant.0.ids c.self.invariant.0.owes c.tell-told.ensures.seats in
     let ports = given_as es ds0 ds c.tell-told.new.doors.items kept c.tell-told.ensures.doors in
     let closed = subst (SparesClosed es) kept (found_ready st c.args.call room es ds bs found f.ports f.fits).2 in
-    rw (← c.self.view_is, told, c.push_reserved.ensures.pieces, c.reserve.ensures.pieces) (room, applied_as (keep c.self.inside.stopped c.self.inside.calls.pieces) addrs st xs _ ss _ ds0 ds _ c.args.call (Done es) room bs c.self.invariant.0.at rep calls found same clients ports closed)
+    let gs = c.tell-told.new.doors.items in
+    let ts = c.tell-told.new.seats.items in
+    let ys = xs ++ stored None call ∷ [] in
+    viewed (λ (u v : LiveView). (b : Bool) × Applied u v c.args.call (Done c.tell-told.result) b) _ c.self.inside.stopped addrs c.self.inside.calls.pieces c.push_reserved.new.self.pieces xs ys c.push_reserved.new.self.items ss ts ts ds0 gs c.self.view_is calls (c.push_reserved.ensures.pieces ∙ c.reserve.ensures.pieces) refl
+    (room, answered keeps addrs xs ys ss ts ds0 gs c.args.call es c.tell-told.result room told (applied_as keeps addrs st xs ys ss ts ds0 ds gs c.args.call (Done es) room bs c.self.invariant.0.at rep refl found same clients ports closed))
 
 pub returns-in-Refused-clause-applied : goal.returns-in-Refused-clause-applied
 returns-in-Refused-clause-applied c =
@@ -147,8 +158,9 @@ returns-in-Refused-clause-applied c =
     let bs = c.in_ok-room.field-0.buffers.items in
     let rep : Refused c.in-Refused.refusal ≡ reply_of st (call_of c.args.call room) = sym c.in-Refused.is ∙ c.in_ok-events.ensures.reply ∙ ap (reply_of st) c.with_room.ensures in
     let found : IsFound (wanted_by st c.args.call) ds room bs = subst (λ (x : Wanted). IsFound x ds room bs) c.wanted_of-wanted.ensures c.in_ok-room.ensures.found in
-    rw (← c.self.view_is, c.reserve.ensures.items, c.reserve.ensures.pieces)
-    (room, refused_as (keep c.self.inside.stopped c.self.inside.calls.pieces) addrs st xs ss ss ds0 ds c.args.call c.in-Refused.refusal room c.self.invariant.0.at rep refl (ports-same ds0 ds c.find_places.ensures.same) (found_false (keep c.self.inside.stopped c.self.inside.calls.pieces) addrs st xs xs ss ss ds0 ds c.args.call room bs c.self.invariant.0.at found))
+    let keeps = keep c.self.inside.stopped c.self.inside.calls.pieces in
+    viewed (λ (u v : LiveView). (b : Bool) × Applied u v c.args.call (Refused c.in-Refused.refusal) b) _ c.self.inside.stopped addrs c.self.inside.calls.pieces c.reserve.new.self.pieces xs xs c.reserve.new.self.items ss ss ss ds0 ds c.self.view_is c.reserve.ensures.items c.reserve.ensures.pieces refl
+    (room, refused_as keeps addrs st xs ss ss ds0 ds c.args.call c.in-Refused.refusal room c.self.invariant.0.at rep refl (ports-same ds0 ds c.find_places.ensures.same) (found_false keeps addrs st xs xs ss ss ds0 ds c.args.call room bs c.self.invariant.0.at found))
 
 pub returns-in-Some-clause-applied : goal.returns-in-Some-clause-applied
 returns-in-Some-clause-applied c =
@@ -158,22 +170,48 @@ returns-in-Some-clause-applied c =
     let ss = c.self.inside.seats.items in
     let ds = c.self.inside.doors.items in
     let rep : Refused c.in-Some.refusal ≡ reply_of st (call_of c.args.call true) = refused_reply st c.in-Some.refusal (called st (call_of c.args.call true)) (sym c.in-Some.is ∙ c.refusal_for.ensures true) in
-    rw (← c.self.view_is) (true, refused_as (keep c.self.inside.stopped c.self.inside.calls.pieces) addrs st xs ss ss ds ds c.args.call c.in-Some.refusal true c.self.invariant.0.at rep refl refl (λ none. absurd (cc)))
+    let keeps = keep c.self.inside.stopped c.self.inside.calls.pieces in
+    subst (λ (v : LiveView). (b : Bool) × Applied v v c.args.call (Refused c.in-Some.refusal) b) c.self.view_is
+    (true, refused_as keeps addrs st xs ss ss ds ds c.args.call c.in-Some.refusal true c.self.invariant.0.at rep refl refl (λ none. absurd (false≢true (sym none))))
 
 pub returns-in_err-reserve-clause-not_refused : goal.returns-in_err-reserve-clause-not_refused
 returns-in_err-reserve-clause-not_refused c =
     let i = c.self.inside in
     let few : count_since i.calls.pieces i.calls.items < 1000000 = subst (λ (v : LiveView). stored_calls v < 1000000) (sym c.self.view_is) c.requires in
-    rw (← c.self.view_is) (on_err _ (lacks_memory (keep c.self.inside.stopped c.self.inside.calls.pieces) i.addresses.items i.segment i.calls.items i.seats.items i.doors.items c.args.call c.refusal_for.result c.self.invariant.0.at few c.in_default.is c.refusal_for.ensures))
+    on_err _ (subst (λ (v : LiveView). LacksMemory v c.args.call) c.self.view_is (lacks_memory (keep i.stopped i.calls.pieces) i.addresses.items i.segment i.calls.items i.seats.items i.doors.items c.args.call c.refusal_for.result c.self.invariant.0.at few c.in_default.is c.refusal_for.ensures))
 
 pub returns-in_err-room-clause-not_refused : goal.returns-in_err-room-clause-not_refused
 returns-in_err-room-clause-not_refused c =
     let i = c.self.inside in
     let few : count_since i.calls.pieces i.calls.items < 1000000 = subst (λ (v : LiveView). stored_calls v < 1000000) (sym c.self.view_is) c.requires in
-    rw (← c.self.view_is) (on_err _ (lacks_memory (keep c.self.inside.stopped c.self.inside.calls.pieces) i.addresses.items i.segment i.calls.items i.seats.items i.doors.items c.args.call c.refusal_for.result c.self.invariant.0.at few c.in_default.is c.refusal_for.ensures))
+    on_err _ (subst (λ (v : LiveView). LacksMemory v c.args.call) c.self.view_is (lacks_memory (keep i.stopped i.calls.pieces) i.addresses.items i.segment i.calls.items i.seats.items i.doors.items c.args.call c.refusal_for.result c.self.invariant.0.at few c.in_default.is c.refusal_for.ensures))
 
 pub returns-in_err-events-clause-not_refused : goal.returns-in_err-events-clause-not_refused
 returns-in_err-events-clause-not_refused c =
     let i = c.self.inside in
     let few : count_since i.calls.pieces i.calls.items < 1000000 = subst (λ (v : LiveView). stored_calls v < 1000000) (sym c.self.view_is) c.requires in
-    rw (← c.self.view_is) (on_err _ (lacks_memory (keep c.self.inside.stopped c.self.inside.calls.pieces) i.addresses.items i.segment i.calls.items i.seats.items i.doors.items c.args.call c.refusal_for.result c.self.invariant.0.at few c.in_default.is c.refusal_for.ensures))
+    on_err _ (subst (λ (v : LiveView). LacksMemory v c.args.call) c.self.view_is (lacks_memory (keep i.stopped i.calls.pieces) i.addresses.items i.segment i.calls.items i.seats.items i.doors.items c.args.call c.refusal_for.result c.self.invariant.0.at few c.in_default.is c.refusal_for.ensures))
+
+pub invariant_of-self : goal.invariant_of-self
+invariant_of-self c = holds_at _ _ _ _ _ _ _ _ _ _ _ _ _ _ _ refl c.reserve.ensures.items c.reserve.ensures.pieces c.reserve.ensures.image refl refl refl c.self.invariant.0 c.self.invariant.1
+
+pub returns-in_err-reserve-clause-err : goal.returns-in_err-reserve-clause-err
+returns-in_err-reserve-clause-err c =
+    let i = c.self.inside in
+    on_err _ (still _ i.stopped i.addresses.items i.calls.pieces c.reserve.new.self.pieces i.calls.items c.reserve.new.self.items i.seats.items i.seats.items i.doors.items i.doors.items c.self.view_is c.reserve.ensures.items c.reserve.ensures.pieces (same_seats-refl _) (same_doors-refl _))
+
+pub unreachable-requires : goal.unreachable-requires
+unreachable-requires c =
+    let addrs = c.self.inside.addresses.items in
+    let call = call_of c.args.call c.in_ok-room.field-0.room in
+    let f = c.in_ok-events.ensures.follows addrs (trail addrs c.self.inside.calls.items).steps c.self.invariant.0.stands in
+    let kind : opens call ≡ true = subst (λ (u : Call). opens u ≡ true) c.with_room.ensures (subst (IsAnsweredBy c.with_room.result) c.in-Opened.is f.kind) in
+    absurd (false≢true (sym (never_opens c.args.call c.in_ok-room.field-0.room) ∙ kind))
+
+pub unreachable-requires-in-Sent : goal.unreachable-requires-in-Sent
+unreachable-requires-in-Sent c =
+    let addrs = c.self.inside.addresses.items in
+    let call = call_of c.args.call c.in_ok-room.field-0.room in
+    let f = c.in_ok-events.ensures.follows addrs (trail addrs c.self.inside.calls.items).steps c.self.invariant.0.stands in
+    let kind : is_send call ≡ true = subst (λ (u : Call). is_send u ≡ true) c.with_room.ensures (subst (IsAnsweredBy c.with_room.result) c.in-Sent.is f.kind) in
+    absurd (false≢true (sym (never_sends c.args.call c.in_ok-room.field-0.room) ∙ kind))
