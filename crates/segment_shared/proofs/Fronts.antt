@@ -81,6 +81,12 @@ module _ (st : Segment) (n : ℕ) (ws : List Owed) (k : ℕ) where
       let g : IsFrontIn ts k owed stored front.Waits = subst (λ (q : Front). IsFrontIn ts k owed stored q) waits f in
       found_cause ts owed stored o c (same ∙ ap (owed_by k) is) (subst (λ (m : ℕ). m < 1000000) count g.0) g (λ s. subst (λ (u : List SeatView). IsCauseFor st (get_or u k s) o) seats (h s)) cause
 
+  -- what a look found
+  pub front_at : (vs : List Owed) (ts : List SeatView) (owed stored : ℕ) (r q : Front) → owed ≡ owed_by k vs → vs ≡ ws → stored ≡ n → IsFrontIn ts k owed stored r → r ≡ q → IsFrontIn ts k (owed_by k ws) n q
+  front_at vs ts owed stored r q same is count f e =
+      let g : IsFrontIn ts k (owed_by k ws) stored r = subst (λ (w : ℕ). IsFrontIn ts k w stored r) (same ∙ ap (owed_by k) is) f in
+      subst (λ (u : Front). IsFrontIn ts k (owed_by k ws) n u) e (subst (λ (m : ℕ). IsFrontIn ts k (owed_by k ws) m r) count g)
+
   more : (a b m : ℕ) → a ≡ b → a + 1 ≤ m → b < m
   more a b m e l = omega arith
 

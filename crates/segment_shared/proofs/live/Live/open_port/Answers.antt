@@ -43,24 +43,24 @@ invariant_of-self-in-Opened c =
 pub invariant_of-self : goal.invariant_of-self
 invariant_of-self c =
     let i = c.self.inside in
-    holds_at _ _ _ _ _ _ _ _ _ _ _ _ _ _ _ refl c.reserve.ensures.items c.reserve.ensures.pieces c.reserve.ensures.image refl refl refl c.self.invariant.0 c.self.invariant.1
+    holds_at c.self.inside.addresses.items c.self.inside.segment c.self.inside.segment c.self.inside.calls.items c.reserve.new.self.items c.self.inside.calls.pieces c.reserve.new.self.pieces c.self.inside.calls.image c.reserve.new.self.image c.self.inside.owed.items c.self.inside.owed.items c.self.inside.seats.items c.self.inside.seats.items c.self.inside.doors.items c.self.inside.doors.items refl c.reserve.ensures.items c.reserve.ensures.pieces c.reserve.ensures.image refl refl refl c.self.invariant.0 c.self.invariant.1
 
 pub invariant_of-self-in_err-reserve-2 : goal.invariant_of-self-in_err-reserve-2
 invariant_of-self-in_err-reserve-2 c =
     let i = c.self.inside in
-    holds_at _ _ _ _ _ _ _ _ _ _ _ _ _ _ _ refl c.reserve.ensures.items c.reserve.ensures.pieces c.reserve.ensures.image refl refl c.reserve-2.ensures.items c.self.invariant.0 c.self.invariant.1
+    holds_at c.self.inside.addresses.items c.self.inside.segment c.self.inside.segment c.self.inside.calls.items c.reserve.new.self.items c.self.inside.calls.pieces c.reserve.new.self.pieces c.self.inside.calls.image c.reserve.new.self.image c.self.inside.owed.items c.self.inside.owed.items c.self.inside.seats.items c.self.inside.seats.items c.self.inside.doors.items c.reserve-2.new.self.items refl c.reserve.ensures.items c.reserve.ensures.pieces c.reserve.ensures.image refl refl c.reserve-2.ensures.items c.self.invariant.0 c.self.invariant.1
 
 pub invariant_of-self-in_err-port : goal.invariant_of-self-in_err-port
 invariant_of-self-in_err-port c =
     let i = c.self.inside in
-    holds_at _ _ _ _ _ _ _ _ _ _ _ _ _ _ _ c.in_err-port.ensures.err c.reserve.ensures.items c.reserve.ensures.pieces c.reserve.ensures.image refl refl c.reserve-2.ensures.items c.self.invariant.0 c.self.invariant.1
+    holds_at c.self.inside.addresses.items c.self.inside.segment c.make.new.segment c.self.inside.calls.items c.reserve.new.self.items c.self.inside.calls.pieces c.reserve.new.self.pieces c.self.inside.calls.image c.reserve.new.self.image c.self.inside.owed.items c.self.inside.owed.items c.self.inside.seats.items c.self.inside.seats.items c.self.inside.doors.items c.reserve-2.new.self.items c.in_err-port.ensures.err c.reserve.ensures.items c.reserve.ensures.pieces c.reserve.ensures.image refl refl c.reserve-2.ensures.items c.self.invariant.0 c.self.invariant.1
 
 pub invariant_of-self-in-Refused-1 : goal.invariant_of-self-in-Refused-1
 invariant_of-self-in-Refused-1 c =
     let addrs = c.self.inside.addresses.items in
     let f = c.in_ok-port.ensures.follows addrs (trail addrs c.self.inside.calls.items).steps c.self.invariant.0.stands in
     let same = f.refused (subst IsRefusal (sym c.in-Refused.is) tt) in
-    holds_at _ _ _ _ _ _ _ _ _ _ _ _ _ _ _ same c.reserve.ensures.items c.reserve.ensures.pieces c.reserve.ensures.image refl refl c.reserve-2.ensures.items c.self.invariant.0 c.self.invariant.1
+    holds_at c.self.inside.addresses.items c.self.inside.segment c.make.new.segment c.self.inside.calls.items c.reserve.new.self.items c.self.inside.calls.pieces c.reserve.new.self.pieces c.self.inside.calls.image c.reserve.new.self.image c.self.inside.owed.items c.self.inside.owed.items c.self.inside.seats.items c.self.inside.seats.items c.self.inside.doors.items c.reserve-2.new.self.items same c.reserve.ensures.items c.reserve.ensures.pieces c.reserve.ensures.image refl refl c.reserve-2.ensures.items c.self.invariant.0 c.self.invariant.1
 
 pub returns-in-Some-clause-refused : goal.returns-in-Some-clause-refused
 returns-in-Some-clause-refused c =
