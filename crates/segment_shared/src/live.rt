@@ -207,8 +207,11 @@ impl Live {
             return Ok(Reply::Refused(refusal));
         }
         self.calls.reserve()?;
-        let wanted = wanted_of(&self.segment, &call);
-        let Found { room, buffers } = find_places(self.alloc, &mut self.doors, &wanted)?;
+        let Found { room, buffers } = find_places(
+            self.alloc,
+            &mut self.doors,
+            &wanted_of(&self.segment, &call),
+        )?;
         match make(&mut self.segment, call.with_room(room))? {
             Reply::Done(events) => {
                 let told = tell(

@@ -55,7 +55,7 @@ tell-told-requires-clause-takes c =
     let ds = c.find_places.new.doors.items in
     let bs = c.in_ok-room.field-0.buffers.items in
     let es = c.in-Done.events in
-    let found : IsFound (wanted_by st call) ds room bs = subst (λ (x : Wanted). IsFound x ds room bs) c.wanted_of-wanted.ensures c.in_ok-room.ensures.found in
+    let found : IsFound (wanted_by st call) ds room bs = subst (λ (x : Wanted). IsFound x ds room bs) c.wanted_of.ensures c.in_ok-room.ensures.found in
     let f0 = c.in_ok-events.ensures.follows addrs steps c.self.invariant.0.stands in
     let f : Follows st (call_of call room) c.make.new.segment (Done es) = subst (λ (u : Reply). Follows st (call_of call room) c.make.new.segment u) c.in-Done.is (subst (λ (u : Call). Follows st u c.make.new.segment c.in_ok-events.field-0) c.with_room.ensures f0) in
     (found_ready st call room es ds bs found f.ports f.fits).0
@@ -70,7 +70,7 @@ tell-told-requires-clause-enough c =
     let ds = c.find_places.new.doors.items in
     let bs = c.in_ok-room.field-0.buffers.items in
     let es = c.in-Done.events in
-    let found : IsFound (wanted_by st call) ds room bs = subst (λ (x : Wanted). IsFound x ds room bs) c.wanted_of-wanted.ensures c.in_ok-room.ensures.found in
+    let found : IsFound (wanted_by st call) ds room bs = subst (λ (x : Wanted). IsFound x ds room bs) c.wanted_of.ensures c.in_ok-room.ensures.found in
     let f0 = c.in_ok-events.ensures.follows addrs steps c.self.invariant.0.stands in
     let f : Follows st (call_of call room) c.make.new.segment (Done es) = subst (λ (u : Reply). Follows st (call_of call room) c.make.new.segment u) c.in-Done.is (subst (λ (u : Call). Follows st u c.make.new.segment c.in_ok-events.field-0) c.with_room.ensures f0) in
     (found_ready st call room es ds bs found f.ports f.fits).1
@@ -132,7 +132,7 @@ returns-in-Done-clause-applied c =
     let keeps = keep c.self.inside.stopped c.self.inside.calls.pieces in
     let rep : Done es ≡ reply_of st call = sym c.in-Done.is ∙ c.in_ok-events.ensures.reply ∙ ap (reply_of st) c.with_room.ensures in
     let calls : c.push_reserved.new.self.items ≡ xs ++ stored None call ∷ [] = c.push_reserved.ensures.items ∙ ap (λ (u : List Stored). u ++ stored None c.with_room-in-Done.result ∷ []) c.reserve.ensures.items ∙ ap (λ (u : Call). xs ++ stored None u ∷ []) c.with_room-in-Done.ensures in
-    let found : IsFound (wanted_by st c.args.call) ds room bs = subst (λ (x : Wanted). IsFound x ds room bs) c.wanted_of-wanted.ensures c.in_ok-room.ensures.found in
+    let found : IsFound (wanted_by st c.args.call) ds room bs = subst (λ (x : Wanted). IsFound x ds room bs) c.wanted_of.ensures c.in_ok-room.ensures.found in
     let f0 = c.in_ok-events.ensures.follows addrs (trail addrs xs).steps c.self.invariant.0.stands in
     let f : Follows st call next (Done es) = subst (λ (u : Reply). Follows st call next u) c.in-Done.is (subst (λ (u : Call). Follows st u next c.in_ok-events.field-0) c.with_room.ensures f0) in
     let same : room ≡ false → c.tell-told.new.doors.items ≡ ds = λ none. c.tell-told.ensures.doors ∙ give_all_unplaced es ds (none_given st c.args.call room es none f.ports) in
@@ -157,7 +157,7 @@ returns-in-Refused-clause-applied c =
     let room = c.in_ok-room.field-0.room in
     let bs = c.in_ok-room.field-0.buffers.items in
     let rep : Refused c.in-Refused.refusal ≡ reply_of st (call_of c.args.call room) = sym c.in-Refused.is ∙ c.in_ok-events.ensures.reply ∙ ap (reply_of st) c.with_room.ensures in
-    let found : IsFound (wanted_by st c.args.call) ds room bs = subst (λ (x : Wanted). IsFound x ds room bs) c.wanted_of-wanted.ensures c.in_ok-room.ensures.found in
+    let found : IsFound (wanted_by st c.args.call) ds room bs = subst (λ (x : Wanted). IsFound x ds room bs) c.wanted_of.ensures c.in_ok-room.ensures.found in
     let keeps = keep c.self.inside.stopped c.self.inside.calls.pieces in
     viewed (λ (u v : LiveView). (b : Bool) × Applied u v c.args.call (Refused c.in-Refused.refusal) b) _ c.self.inside.stopped addrs c.self.inside.calls.pieces c.reserve.new.self.pieces xs xs c.reserve.new.self.items ss ss ss ds0 ds c.self.view_is c.reserve.ensures.items c.reserve.ensures.pieces refl
     (room, refused_as keeps addrs st xs ss ss ds0 ds c.args.call c.in-Refused.refusal room c.self.invariant.0.at rep refl (ports-same ds0 ds c.find_places.ensures.same) (found_false keeps addrs st xs xs ss ss ds0 ds c.args.call room bs c.self.invariant.0.at found))
