@@ -1,5 +1,5 @@
 -- What holds of values holds of values equal to them: carried over once, and not at each goal that names a whole segment.
-use Rattle.std.proofs.Common.{◌≡◌, ℕ, ◌<◌, Bool, List, Option, length, map, false, true, refl, sym, ◌∙◌, ap, subst}
+use Rattle.std.proofs.Common.{◌≡◌, ℕ, ◌<◌, Bool, List, Option, length, map, refl, sym, ◌∙◌, ap, subst}
 use Rattle.std.proofs.lemmas.List.{length-map}
 use Rattle.pgn_ids.specs.declared.address.Address.{Address}
 use Rattle.segment_law.specs.Segment.{Segment}
@@ -8,8 +8,8 @@ use Rattle.segment_shared.specs.declared.call.Stored.{Stored}
 use Rattle.segment_shared.specs.declared.call.Owed.{Owed}
 use Rattle.segment_shared.specs.declared.calls.Piece.{Piece}
 use Rattle.segment_shared.specs.Facts.{SameDoors, SameSeats, Holds}
-use Rattle.segment_shared.specs.Past.{count_since, IsCutImage}
-use Rattle.segment_shared.specs.LiveView.{LiveView, live_view, keep, SameLive, port_of, stored_calls}
+use Rattle.segment_shared.specs.Past.{IsCutImage}
+use Rattle.segment_shared.specs.LiveView.{LiveView, live_view, keep, SameLive, port_of}
 use Rattle.segment_shared.proofs.Holding.{holds-same}
 use Rattle.segment_shared.proofs.SeatsSame.{clients-same, ports-same}
 

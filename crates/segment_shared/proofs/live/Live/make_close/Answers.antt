@@ -9,7 +9,7 @@ use Rattle.segment_rings.specs.Views.{SeatView}
 use Rattle.segment_shared.specs.declared.call.Stored.{Stored}
 use Rattle.segment_shared.specs.declared.call.Owed.{Owed}
 use Rattle.segment_shared.specs.Record.{settle_notes, settle_owed, trail}
-use Rattle.segment_shared.specs.Facts.{IdsFrom, HaveRoom, OwedWithin, note_all, Holds, give_all}
+use Rattle.segment_shared.specs.Facts.{IdsFrom, HaveRoom, OwedWithin, note_all}
 use Rattle.segment_shared.specs.LiveView.{LiveView, client_of, port_of, stored, keep, stored_calls}
 use Rattle.segment_shared.specs.Reports.{CloseMade}
 use Rattle.segment_shared.proofs.Applying.{told_as}

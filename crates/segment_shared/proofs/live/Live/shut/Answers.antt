@@ -1,9 +1,9 @@
-use Rattle.std.proofs.Common.{◌≡◌, ◌<◌, List, ◌++◌, length, map, get_or, set, refl, sym, ap, ◌∙◌, subst}
+use Rattle.std.proofs.Common.{◌≡◌, ◌<◌, List, ◌++◌, length, map, get_or, refl, sym, ap, ◌∙◌, subst}
 use Rattle.std.proofs.lemmas.List.{get_or-map}
 use mathlib.Core.List.{IsPrefix}
 use Rattle.segment_rings.specs.declared.words.Delivery.{Delivery}
 use Rattle.segment_rings.specs.Ends.{InboxEnd, closes}
-use Rattle.segment_rings.specs.Views.{DoorView, new_door, closed_door}
+use Rattle.segment_rings.specs.Views.{DoorView, new_door}
 use Rattle.segment_shared.specs.Record.{given, trail}
 use Rattle.segment_shared.specs.Facts.{Holds}
 use Rattle.segment_shared.specs.LiveView.{LiveView, PortView, port_of, keep}
