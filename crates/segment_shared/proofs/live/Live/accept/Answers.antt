@@ -1,5 +1,6 @@
 use Rattle.std.proofs.Common.{◌≡◌, ℕ, ◌+◌, ◌<◌, ◌≤◌, List, [], ◌∷◌, ◌++◌, length, map, get_or, set, refl, sym, ap, ◌∙◌, arith, subst, inl, inr, Some, None, IsOk, ◌^◌}
 use Rattle.std.proofs.lemmas.Bool.{false≢true}
+use Rattle.std.specs.Prelude.{vec_len, vec_capacity}
 use Rattle.std.proofs.lemmas.List.{get_or_default}
 use Rattle.segment_law.specs.Record.{StandsAt}
 use Rattle.segment_law.specs.Calls.{called}
@@ -11,6 +12,7 @@ use Rattle.segment_law.specs.declared.refusal.Refusal.TheVariants.{TraceFull}
 use Rattle.segment_rings.specs.Views.{SeatView, new_seat, popped_one}
 use Rattle.segment_shared.specs.declared.call.Stored.{Stored}
 use Rattle.segment_shared.specs.declared.call.Owed.{Owed}
+use Rattle.segment_shared.specs.declared.calls.Piece.{Piece}
 use Rattle.segment_shared.specs.declared.offer.Ready.{Ready}
 use Rattle.segment_shared.specs.declared.refused.Accepted.TheVariants as accepted
 use Rattle.segment_shared.specs.Record.{owed_by, trail}
@@ -20,10 +22,10 @@ use Rattle.segment_shared.specs.LiveView.{LiveView, seat_free, stored, keep}
 use Rattle.segment_shared.specs.Offers.{IsReadyToSend, IsCauseFor, LacksRoomToSend, HasSpace, AcceptedAs, LacksMemoryFor, send_call, owed_for}
 use Rattle.segment_shared.proofs.Trails.{accepted_le}
 use Rattle.segment_shared.proofs.Doors.{same_doors-refl}
-use Rattle.segment_shared.proofs.Fronts.{empty_at, waits_at, free_is}
+use Rattle.segment_shared.proofs.Fronts.{none_at, empty_at, waits_at, free_is}
 use Rattle.segment_shared.proofs.Holding.{holds-same, same_live, on_err}
 use Rattle.segment_shared.proofs.Viewed.{holds_at, stays, viewed, still}
-use Rattle.segment_shared.proofs.SeatsSame.{clients-same}
+use Rattle.segment_shared.proofs.SeatsSame.{same_seats-refl, clients-same}
 use Rattle.segment_shared.proofs.Sending.{holds-send, sent_for, refused_send, popped_at, same_front, lacks_memory_for}
 use Rattle.segment_shared.proofs.Openings.{refused_reply}
 use Rattle.segment_shared.proofs.Refusing.{no_cause}
@@ -31,6 +33,9 @@ use Rattle.segment_shared.proofs.live.Live.accept.Goals as goal
 
 abbrev nobody : SeatView
 nobody = new_seat 0 (record { 0 = 0 }) 0 0
+
+within : (k n m o p : ℕ) → k < n → n ≡ m → m ≡ o → p ≡ o → k < p
+within k n m o p l e f g = omega arith
 
 at_most : (a b m n : ℕ) → a ≡ m → b ≡ n → m ≤ b → a ≤ n
 at_most a b m n e f l = omega arith
@@ -56,8 +61,7 @@ returns-in_err-make_ready-clause-not_refused c =
     let ts = c.make_ready.new.seats.items in
     let ds = c.self.inside.doors.items in
     let k = c.args.client in
-    let l : k < length ss = omega (arith, c.self.inside.seats.ok.0, c.len.ensures) in
-    let l' : k < length ts = omega (arith, c.make_ready.ensures.count) in
+    let l' : k < length ts = within k c.len.result _ _ (length ts) c.if-client-len.false c.len.ensures c.self.inside.seats.ok.0 c.make_ready.ensures.count in
     let lacks : LacksRoomToSend st (count_since c.self.inside.calls.pieces xs) ws ts k = c.in_err-make_ready.ensures.err in
     on_err _ (viewed (λ (u v : LiveView). LacksMemoryFor u v k) _ c.self.inside.stopped addrs c.self.inside.calls.pieces c.make_ready.new.calls.pieces xs xs c.make_ready.new.calls.items ss ts ts ds ds c.self.view_is c.make_ready.ensures.calls c.make_ready.ensures.pieces refl (lacks_memory_for (keep c.self.inside.stopped c.self.inside.calls.pieces) addrs st xs ws ss ts ds ds k nobody c.self.invariant.0.at c.self.invariant.0.owes l' (clients-same ss ts c.make_ready.ensures.seats) lacks))
 
@@ -72,8 +76,7 @@ returns-in_err-number-in-Send-clause-not_refused c =
     let ds = c.self.inside.doors.items in
     let k = c.args.client in
     let d = nobody in
-    let l : k < length ss = omega (arith, c.self.inside.seats.ok.0, c.len.ensures) in
-    let l' : k < length ts = omega (arith, c.make_ready.ensures.count) in
+    let l' : k < length ts = within k c.len.result _ _ (length ts) c.if-client-len.false c.len.ensures c.self.inside.seats.ok.0 c.make_ready.ensures.count in
     let r = subst (λ (u : Ready). IsReadyToSend st (count_since c.self.inside.calls.pieces xs) ws ts k u) c.in-Send.is c.in_ok-make_ready.ensures.ready in
     let passes : IsOk (called st c.in-Send.call) = c.in_err-number-in-Send.ensures.not_refused in
     let cause : (s : SeatView) → IsCauseFor st (get_or ts k s) None = λ s. let q = r.1 s in (q.0, q.1, no_cause (called st (send_call (get_or ts k s).station q.0)) (subst (λ (u : Call). IsOk (called st u)) q.2 passes)) in
@@ -113,8 +116,7 @@ returns-in-Empty-clause-accepted c =
     let ts = c.make_ready.new.seats.items in
     let ds = c.self.inside.doors.items in
     let d = nobody in
-    let l : k < length ss = omega (arith, c.self.inside.seats.ok.0, c.len.ensures) in
-    let l' : k < length ts = omega (arith, c.make_ready.ensures.count) in
+    let l' : k < length ts = within k c.len.result _ _ (length ts) c.if-client-len.false c.len.ensures c.self.inside.seats.ok.0 c.make_ready.ensures.count in
     let r = subst (λ (u : Ready). IsReadyToSend c.self.inside.segment (count_since c.self.inside.calls.pieces xs) ws ts k u) c.in-Empty.is c.in_ok-make_ready.ensures.ready in
     viewed (λ (u v : LiveView). AcceptedAs u v k accepted.Empty) _ c.self.inside.stopped addrs c.self.inside.calls.pieces c.make_ready.new.calls.pieces xs xs c.make_ready.new.calls.items ss ts ts ds ds c.self.view_is c.make_ready.ensures.calls c.make_ready.ensures.pieces refl (same_live _ _ _ _ _ _ _ c.make_ready.ensures.seats (same_doors-refl _), empty_at (keep c.self.inside.stopped c.self.inside.calls.pieces) addrs xs ts ds k d l' (r d))
 
@@ -128,8 +130,7 @@ returns-in-Owed-clause-accepted c =
     let ts = c.make_ready.new.seats.items in
     let ds = c.self.inside.doors.items in
     let d = nobody in
-    let l : k < length ss = omega (arith, c.self.inside.seats.ok.0, c.len.ensures) in
-    let l' : k < length ts = omega (arith, c.make_ready.ensures.count) in
+    let l' : k < length ts = within k c.len.result _ _ (length ts) c.if-client-len.false c.len.ensures c.self.inside.seats.ok.0 c.make_ready.ensures.count in
     let r = subst (λ (u : Ready). IsReadyToSend c.self.inside.segment (count_since c.self.inside.calls.pieces xs) ws ts k u) c.in-Owed.is c.in_ok-make_ready.ensures.ready in
     let f : get_or (map seat_free ts) k 0 ≡ (get_or ts k d).free = free_is (keep c.self.inside.stopped c.self.inside.calls.pieces) addrs xs ts ds k d l' in
     let o : owed_by k ws ≡ owed_by k (trail addrs xs).owed = ap (owed_by k) c.self.invariant.0.owes in
@@ -145,8 +146,7 @@ returns-in-Full-clause-accepted c =
     let ts = c.make_ready.new.seats.items in
     let ds = c.self.inside.doors.items in
     let d = nobody in
-    let l : k < length ss = omega (arith, c.self.inside.seats.ok.0, c.len.ensures) in
-    let l' : k < length ts = omega (arith, c.make_ready.ensures.count) in
+    let l' : k < length ts = within k c.len.result _ _ (length ts) c.if-client-len.false c.len.ensures c.self.inside.seats.ok.0 c.make_ready.ensures.count in
     let r = subst (λ (u : Ready). IsReadyToSend c.self.inside.segment (count_since c.self.inside.calls.pieces xs) ws ts k u) c.in-Full.is c.in_ok-make_ready.ensures.ready in
     let f : get_or (map seat_free ts) k 0 ≡ (get_or ts k d).free = free_is (keep c.self.inside.stopped c.self.inside.calls.pieces) addrs xs ts ds k d l' in
     let o : owed_by k ws ≡ owed_by k (trail addrs xs).owed = ap (owed_by k) c.self.invariant.0.owes in
@@ -162,8 +162,7 @@ returns-in-Refused-clause-accepted c =
     let ts = c.make_ready.new.seats.items in
     let ds = c.self.inside.doors.items in
     let d = nobody in
-    let l : k < length ss = omega (arith, c.self.inside.seats.ok.0, c.len.ensures) in
-    let l' : k < length ts = omega (arith, c.make_ready.ensures.count) in
+    let l' : k < length ts = within k c.len.result _ _ (length ts) c.if-client-len.false c.len.ensures c.self.inside.seats.ok.0 c.make_ready.ensures.count in
     let r = subst (λ (u : Ready). IsReadyToSend c.self.inside.segment (count_since c.self.inside.calls.pieces xs) ws ts k u) c.in-Send.is c.in_ok-make_ready.ensures.ready in
     let f : get_or (map seat_free ts) k 0 ≡ (get_or ts k d).free = free_is (keep c.self.inside.stopped c.self.inside.calls.pieces) addrs xs ts ds k d l' in
     let o : owed_by k ws ≡ owed_by k (trail addrs xs).owed = ap (owed_by k) c.self.invariant.0.owes in
@@ -185,8 +184,7 @@ store-requires-clause-few c s =
     let xs = c.self.inside.calls.items in
     let ts = c.make_ready.new.seats.items in
     let h : Holds _ _ xs _ ts _ = holds-same _ _ _ _ _ _ _ _ c.make_ready.ensures.seats (same_doors-refl _) c.self.invariant.0 in
-    let l : k < length c.self.inside.seats.items = omega (arith, c.self.inside.seats.ok.0, c.len.ensures) in
-    let l' : k < length ts = omega (arith, c.make_ready.ensures.count) in
+    let l' : k < length ts = within k c.len.result _ _ (length ts) c.if-client-len.false c.len.ensures c.self.inside.seats.ok.0 c.make_ready.ensures.count in
     let e = ap length (popped_at 0 k xs ts s l' h.ids h.pops) in
     let fits : length xs + 1 < 2 ^ 64 = subst (λ (u : Ready). HasSpace (length xs + 1) (2 ^ 64) u) c.in-Send.is c.in_ok-make_ready.ensures.few in
     omega (arith, e, accepted_le (0 + k) xs, fits)
@@ -211,8 +209,7 @@ invariant_of-self-in-Sent c =
     let d = nobody in
     let s = get_or ts k d in
     let h : Holds addrs st xs ws ts ds = holds-same _ _ _ _ _ _ _ _ c.make_ready.ensures.seats (same_doors-refl _) c.self.invariant.0 in
-    let l : k < length c.self.inside.seats.items = omega (arith, c.self.inside.seats.ok.0, c.len.ensures) in
-    let l' : k < length ts = omega (arith, c.make_ready.ensures.count) in
+    let l' : k < length ts = within k c.len.result _ _ (length ts) c.if-client-len.false c.len.ensures c.self.inside.seats.ok.0 c.make_ready.ensures.count in
     let r = subst (λ (u : Ready). IsReadyToSend c.self.inside.segment (count_since c.self.inside.calls.pieces xs) ws ts k u) c.in-Send.is c.in_ok-make_ready.ensures.ready in
     let q = r.1 d in
     let e = c.store.ensures.stored d in
@@ -247,8 +244,7 @@ returns-in-Sent-clause-accepted c =
     let ds = c.self.inside.doors.items in
     let d = nobody in
     let s = get_or ts k d in
-    let l : k < length ss = omega (arith, c.self.inside.seats.ok.0, c.len.ensures) in
-    let l' : k < length ts = omega (arith, c.make_ready.ensures.count) in
+    let l' : k < length ts = within k c.len.result _ _ (length ts) c.if-client-len.false c.len.ensures c.self.inside.seats.ok.0 c.make_ready.ensures.count in
     let r = subst (λ (u : Ready). IsReadyToSend c.self.inside.segment (count_since c.self.inside.calls.pieces xs) ws ts k u) c.in-Send.is c.in_ok-make_ready.ensures.ready in
     let q = r.1 d in
     let e = c.store.ensures.stored d in
@@ -282,8 +278,7 @@ returns-in-NotSent-clause-accepted c =
     let ts = c.make_ready.new.seats.items in
     let ds = c.self.inside.doors.items in
     let d = nobody in
-    let l : k < length ss = omega (arith, c.self.inside.seats.ok.0, c.len.ensures) in
-    let l' : k < length ts = omega (arith, c.make_ready.ensures.count) in
+    let l' : k < length ts = within k c.len.result _ _ (length ts) c.if-client-len.false c.len.ensures c.self.inside.seats.ok.0 c.make_ready.ensures.count in
     let r = subst (λ (u : Ready). IsReadyToSend st (count_since c.self.inside.calls.pieces xs) ws ts k u) c.in-NotSent.is c.in_ok-make_ready.ensures.ready in
     let f : get_or (map seat_free ts) k 0 ≡ (get_or ts k d).free = free_is (keep c.self.inside.stopped c.self.inside.calls.pieces) addrs xs ts ds k d l' in
     let o : owed_by k ws ≡ owed_by k (trail addrs xs).owed = ap (owed_by k) c.self.invariant.0.owes in
@@ -297,3 +292,32 @@ returns-in-NotSent-clause-accepted c =
       below _ _ _ _ f o (r.0.1 d).1,
       inr (refused_send (keep c.self.inside.stopped c.self.inside.calls.pieces) addrs st xs ss ts ds ds k q.0 s _ c.self.invariant.0.at l' at (clients-same ss ts c.make_ready.ensures.seats) r.0.0 q.1 e),
     )
+
+pub store-requires-clause-within : goal.store-requires-clause-within
+store-requires-clause-within c = within c.args.client c.len.result _ _ (length c.make_ready.new.seats.items) c.if-client-len.false c.len.ensures c.self.inside.seats.ok.0 c.make_ready.ensures.count
+
+pub store-requires-clause-waits : goal.store-requires-clause-waits
+store-requires-clause-waits c s =
+    let r = subst (λ (u : Ready). IsReadyToSend c.self.inside.segment (count_since c.self.inside.calls.pieces c.self.inside.calls.items) c.self.inside.owed.items c.make_ready.new.seats.items c.args.client u) c.in-Send.is c.in_ok-make_ready.ensures.ready in
+    (r.0.1 s).0.1
+
+pub store-requires-clause-calls : goal.store-requires-clause-calls
+store-requires-clause-calls c = subst (λ (u : Ready). HasSpace 0 c.make_ready.new.calls.spare u) c.in-Send.is c.in_ok-make_ready.ensures.space.0
+
+pub store-requires-clause-owed : goal.store-requires-clause-owed
+store-requires-clause-owed c = subst (λ (u : Ready). HasSpace (vec_len c.make_ready.new.owed) (vec_capacity c.make_ready.new.owed) u) c.in-Send.is c.in_ok-make_ready.ensures.space.1
+
+pub store-requires-clause-stored : goal.store-requires-clause-stored
+store-requires-clause-stored c =
+    let i = c.self.inside in
+    let n = c.make_ready.new.calls in
+    let r = subst (λ (u : Ready). IsReadyToSend i.segment (count_since i.calls.pieces i.calls.items) i.owed.items c.make_ready.new.seats.items c.args.client u) c.in-Send.is c.in_ok-make_ready.ensures.ready in
+    let few : count_since n.pieces i.calls.items < 1000000 = subst (λ (u : List Piece). count_since u i.calls.items < 1000000) (sym c.make_ready.ensures.pieces) r.0.0 in
+    subst (λ (u : List Stored). count_since n.pieces u < 1000000) (sym c.make_ready.ensures.calls) few
+
+pub returns-then-client-len-clause-accepted : goal.returns-then-client-len-clause-accepted
+returns-then-client-len-clause-accepted c =
+    let i = c.self.inside in
+    let keeps = keep i.stopped i.calls.pieces in
+    let none : length i.seats.items ≤ c.args.client = subst (λ (m : ℕ). m ≤ c.args.client) (c.len.ensures ∙ i.seats.ok.0) c.if-client-len.true in
+    subst (λ (v : LiveView). AcceptedAs v v c.args.client accepted.Empty) c.self.view_is (same_live keeps i.addresses.items i.calls.items i.seats.items i.seats.items i.doors.items i.doors.items (same_seats-refl _) (same_doors-refl _), none_at keeps i.addresses.items i.calls.items i.seats.items i.doors.items c.args.client none)
