@@ -8,7 +8,7 @@ use Rattle.segment_shared.specs.declared.call.Stored.{Stored}
 use Rattle.segment_shared.specs.declared.call.Owed.{Owed}
 use Rattle.segment_shared.specs.declared.calls.Piece.{Piece}
 use Rattle.segment_shared.specs.Facts.{SameDoors, SameSeats, Holds}
-use Rattle.segment_shared.specs.Past.{IsCutImage}
+use Rattle.segment_shared.specs.Past.{count_since, IsCutImage}
 use Rattle.segment_shared.specs.LiveView.{LiveView, live_view, keep, SameLive, port_of}
 use Rattle.segment_shared.proofs.Holding.{holds-same}
 use Rattle.segment_shared.proofs.SeatsSame.{clients-same, ports-same}
@@ -48,3 +48,7 @@ unchanged a stopped addresses ps qs xs ys ss ds es is calls pieces doors =
 -- a port that is seen is at a door
 pub door_within : (k : ℕ) (ds : List DoorView) → k < length (map port_of ds) → k < length ds
 door_within k ds l = rw length-map at l
+
+-- as many calls are stored
+pub few_kept : (ps qs : List Piece) (xs ys : List Stored) → qs ≡ ps → ys ≡ xs → count_since ps xs < 1000000 → count_since qs ys < 1000000
+few_kept ps qs xs ys p e few = subst (λ (u : List Piece). count_since u ys < 1000000) (sym p) (subst (λ (u : List Stored). count_since ps u < 1000000) (sym e) few)

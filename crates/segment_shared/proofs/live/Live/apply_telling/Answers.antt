@@ -22,7 +22,7 @@ use Rattle.segment_shared.proofs.Openings.{refused_reply}
 use Rattle.segment_shared.proofs.Ready.{found_ready, none_given}
 use Rattle.segment_shared.proofs.Refusing.{lacks_memory}
 use Rattle.segment_shared.proofs.Holding.{holds-same, holds-tell, on_err}
-use Rattle.segment_shared.proofs.Viewed.{holds_at, stays, viewed, still}
+use Rattle.segment_shared.proofs.Viewed.{holds_at, stays, viewed, still, few_kept}
 use Rattle.segment_shared.proofs.SeatsSame.{same_seats-refl, ports-same}
 use Rattle.segment_shared.proofs.live.Live.apply_telling.Goals as goal
 
@@ -215,3 +215,21 @@ unreachable-requires-in-Sent c =
     let f = c.in_ok-events.ensures.follows addrs (trail addrs c.self.inside.calls.items).steps c.self.invariant.0.stands in
     let kind : is_send call ≡ true = subst (λ (u : Call). is_send u ≡ true) c.with_room.ensures (subst (IsAnsweredBy c.with_room.result) c.in-Sent.is f.kind) in
     absurd (false≢true (sym (never_sends c.args.call c.in_ok-room.field-0.room) ∙ kind))
+
+pub find_places-requires : goal.find_places-requires
+find_places-requires c = c.self.invariant.0.apart
+
+pub tell-told-requires-clause-ids : goal.tell-told-requires-clause-ids
+tell-told-requires-clause-ids c = c.self.invariant.0.ids
+
+pub tell-told-requires-clause-room : goal.tell-told-requires-clause-room
+tell-told-requires-clause-room c = c.self.invariant.0.room
+
+pub tell-told-requires-clause-within : goal.tell-told-requires-clause-within
+tell-told-requires-clause-within c = c.self.invariant.0.within
+
+pub push_reserved-requires-clause-room : goal.push_reserved-requires-clause-room
+push_reserved-requires-clause-room c = c.in_ok-reserve.ensures.room
+
+pub push_reserved-requires-clause-few : goal.push_reserved-requires-clause-few
+push_reserved-requires-clause-few c = few_kept c.self.inside.calls.pieces c.reserve.new.self.pieces c.self.inside.calls.items c.reserve.new.self.items c.reserve.ensures.pieces c.reserve.ensures.items (subst (λ (u : LiveView). stored_calls u < 1000000) (sym c.self.view_is) c.requires)

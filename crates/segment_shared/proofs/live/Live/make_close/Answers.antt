@@ -18,7 +18,7 @@ use Rattle.segment_shared.proofs.Doors.{give_all_unplaced}
 use Rattle.segment_shared.proofs.Telling.{clients_untold}
 use Rattle.segment_shared.proofs.Holding.{holds-tell}
 use Rattle.segment_shared.proofs.Ready.{none_ready}
-use Rattle.segment_shared.proofs.Viewed.{holds_at, viewed}
+use Rattle.segment_shared.proofs.Viewed.{holds_at, viewed, few_kept}
 use Rattle.segment_shared.proofs.live.Live.make_close.Goals as goal
 
 pub tell-told-requires-clause-takes : goal.tell-told-requires-clause-takes
@@ -123,3 +123,27 @@ unreachable-requires-in-Sent c =
     let addrs = c.self.inside.addresses.items in
     let f = c.in_ok-events.ensures.follows addrs (trail addrs c.self.inside.calls.items).steps c.self.invariant.0.stands in
     absurd (false≢true (subst (IsAnsweredBy (Close c.args.port)) c.in-Sent.is f.kind))
+
+pub invariant_of-self : goal.invariant_of-self
+invariant_of-self c = holds_at c.self.inside.addresses.items c.self.inside.segment c.self.inside.segment c.self.inside.calls.items c.reserve.new.self.items c.self.inside.calls.pieces c.reserve.new.self.pieces c.self.inside.calls.image c.reserve.new.self.image c.self.inside.owed.items c.self.inside.owed.items c.self.inside.seats.items c.self.inside.seats.items c.self.inside.doors.items c.self.inside.doors.items refl c.reserve.ensures.items c.reserve.ensures.pieces c.reserve.ensures.image refl refl refl c.self.invariant.0 c.self.invariant.1
+
+pub invariant_of-self-in_err-events : goal.invariant_of-self-in_err-events
+invariant_of-self-in_err-events c = holds_at c.self.inside.addresses.items c.self.inside.segment c.make.new.segment c.self.inside.calls.items c.reserve.new.self.items c.self.inside.calls.pieces c.reserve.new.self.pieces c.self.inside.calls.image c.reserve.new.self.image c.self.inside.owed.items c.self.inside.owed.items c.self.inside.seats.items c.self.inside.seats.items c.self.inside.doors.items c.self.inside.doors.items c.in_err-events.ensures.err c.reserve.ensures.items c.reserve.ensures.pieces c.reserve.ensures.image refl refl refl c.self.invariant.0 c.self.invariant.1
+
+pub tell-told-requires-clause-apart : goal.tell-told-requires-clause-apart
+tell-told-requires-clause-apart c = c.self.invariant.0.apart
+
+pub tell-told-requires-clause-ids : goal.tell-told-requires-clause-ids
+tell-told-requires-clause-ids c = c.self.invariant.0.ids
+
+pub tell-told-requires-clause-room : goal.tell-told-requires-clause-room
+tell-told-requires-clause-room c = c.self.invariant.0.room
+
+pub tell-told-requires-clause-within : goal.tell-told-requires-clause-within
+tell-told-requires-clause-within c = c.self.invariant.0.within
+
+pub push_reserved-requires-clause-room : goal.push_reserved-requires-clause-room
+push_reserved-requires-clause-room c = c.in_ok-reserve.ensures.room
+
+pub push_reserved-requires-clause-few : goal.push_reserved-requires-clause-few
+push_reserved-requires-clause-few c = few_kept c.self.inside.calls.pieces c.reserve.new.self.pieces c.self.inside.calls.items c.reserve.new.self.items c.reserve.ensures.pieces c.reserve.ensures.items (subst (λ (u : LiveView). stored_calls u < 1000000) (sym c.self.view_is) c.requires)

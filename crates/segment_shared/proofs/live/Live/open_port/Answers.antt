@@ -16,7 +16,7 @@ use Rattle.segment_shared.specs.declared.refused.NotMade.TheVariants as not_made
 use Rattle.segment_shared.specs.LiveView.{LiveView, stored, keep, IsOpenCause, OpenedFor}
 use Rattle.segment_shared.proofs.Holding.{holds-open, on_err}
 use Rattle.segment_shared.proofs.Openings.{refused_reply, open_free, open_lacks, open_cause, opened_for, out_of_memory}
-use Rattle.segment_shared.proofs.Viewed.{holds_at, unchanged, viewed}
+use Rattle.segment_shared.proofs.Viewed.{holds_at, unchanged, viewed, few_kept}
 use Rattle.segment_shared.proofs.live.Live.open_port.Goals as goal
 
 pub invariant_of-self-in-Opened : goal.invariant_of-self-in-Opened
@@ -145,3 +145,9 @@ unreachable-requires-in-Done c =
     let addrs = c.self.inside.addresses.items in
     let f = c.in_ok-port.ensures.follows addrs (trail addrs c.self.inside.calls.items).steps c.self.invariant.0.stands in
     absurd (false≢true (sym (subst (IsAnsweredBy (Open c.args.station c.args.pgn c.args.max_len)) c.in-Done.is f.kind).0))
+
+pub push_reserved-requires-in-Opened-clause-room : goal.push_reserved-requires-in-Opened-clause-room
+push_reserved-requires-in-Opened-clause-room c = c.in_ok-reserve.ensures.room
+
+pub push_reserved-requires-in-Opened-clause-few : goal.push_reserved-requires-in-Opened-clause-few
+push_reserved-requires-in-Opened-clause-few c = few_kept c.self.inside.calls.pieces c.reserve.new.self.pieces c.self.inside.calls.items c.reserve.new.self.items c.reserve.ensures.pieces c.reserve.ensures.items (c.is_full.ensures.few c.if-is_full.false)
