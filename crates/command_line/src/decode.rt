@@ -1,6 +1,7 @@
 //! The words of `decode`.
-use clap::error::ErrorKind;
-use clap::{Arg, ArgAction, ArgMatches, Command, Error, value_parser};
+use crate::parts::{described, flag, list, of_numbers, valued};
+use crate::refused::Refused;
+use clap::{Arg, ArgAction, ArgMatches, Command, value_parser};
 use std::alloc::{AllocError, Global};
 
 /// What of a log is asked for.
@@ -49,54 +50,54 @@ Status:
 docs/LOGS.md describes what is read and printed.";
 
 fn numbers_arg<'a>(alloc: Global, name: &'a str, value: &'a str, help: &'a str) -> Arg<'a> {
-    Arg::new(alloc, name)
-        .long(name)
-        .value_name(value)
-        .action(ArgAction::Append)
-        .help(help)
+    valued(alloc, name, value, ArgAction::Append, help)
 }
 
 fn most_arg<'a>(alloc: Global) -> Arg<'a> {
-    Arg::new(alloc, "max-bytes")
-        .long("max-bytes")
-        .value_name("N")
-        .action(ArgAction::Set)
-        .value_parser(value_parser!(u32).range(1..=117_440_505))
-        .help("Longest message that is put together [default: 117440505]")
+    let most = valued(
+        alloc,
+        "max-bytes",
+        "N",
+        ArgAction::Set,
+        "Longest message that is put together [default: 117440505]",
+    );
+    of_numbers(most, value_parser!(u32).range(1..=117_440_505))
 }
 
 fn all_arg<'a>(alloc: Global) -> Arg<'a> {
-    Arg::new(alloc, "all")
-        .long("all")
-        .action(ArgAction::SetTrue)
-        .help("Prints frames that aren't of a transport too, as frame FROM TO PGN LENGTH HEX")
+    flag(
+        alloc,
+        "all",
+        "Prints frames that aren't of a transport too, as frame FROM TO PGN LENGTH HEX",
+    )
+}
+
+/// Its arguments, in the order of the help.
+fn decode_args<'a>(alloc: Global) -> Result<Vec<Arg<'a>>, AllocError> {
+    let pgn = "Only messages of this PGN, hexadecimal";
+    let from = "Only messages from this address, hexadecimal";
+    let to = "Only messages to this address, FF for those to all";
+    list(
+        alloc,
+        [
+            numbers_arg(alloc, "pgn", "PGN", pgn),
+            numbers_arg(alloc, "from", "A", from),
+            numbers_arg(alloc, "to", "A", to),
+            most_arg(alloc),
+            all_arg(alloc),
+        ],
+    )
 }
 
 /// The command as it is parsed, with its help.
 pub(crate) fn decode_command<'a>(alloc: Global) -> Result<Command<'a>, AllocError> {
-    Command::new(alloc, "decode")
-        .about("Prints the messages of the log of standard input, put together of their packets")
-        .after_help(DECODE_HELP)
-        .arg(numbers_arg(
-            alloc,
-            "pgn",
-            "PGN",
-            "Only messages of this PGN, hexadecimal",
-        ))?
-        .arg(numbers_arg(
-            alloc,
-            "from",
-            "A",
-            "Only messages from this address, hexadecimal",
-        ))?
-        .arg(numbers_arg(
-            alloc,
-            "to",
-            "A",
-            "Only messages to this address, FF for those to all",
-        ))?
-        .arg(most_arg(alloc))?
-        .arg(all_arg(alloc))
+    described(
+        alloc,
+        "decode",
+        "Prints the messages of the log of standard input, put together of their packets",
+        DECODE_HELP,
+        decode_args(alloc),
+    )
 }
 
 /// The number that hexadecimal digits write, where it is at most `most`.
@@ -108,37 +109,36 @@ pub(crate) fn hexadecimal(word: &str, most: u32) -> Option<u32> {
     if number <= most { Some(number) } else { None }
 }
 
-/// The numbers that an argument names; where one of its words writes none, that word is refused.
-fn numbers<'a>(
+/// The number that a word of an argument writes; where it writes none, the word is refused.
+fn number(alloc: Global, name: &str, word: &str, most: u32) -> Result<u32, Refused> {
+    match hexadecimal(word, most) {
+        Some(number) => Ok(number),
+        None => Err(Refused::Word(format!(in alloc;
+            "invalid value '{word}' for '--{name}': not a hexadecimal number up to {most:X}"
+        )?)),
+    }
+}
+
+/// The numbers that an argument names.
+fn numbers(
     alloc: Global,
-    command: &mut Command<'a>,
-    matches: &ArgMatches<'a>,
+    matches: &ArgMatches,
     name: &str,
     most: u32,
-) -> Result<Vec<u32>, Error> {
+) -> Result<Vec<u32>, Refused> {
     let mut numbers = Vec::new(alloc);
     for word in matches.get_strs(name).unwrap_or(&[]) {
-        let Some(number) = hexadecimal(*word, most) else {
-            let text = format!(in alloc;
-                "invalid value '{word}' for '--{name}': not a hexadecimal number up to {most:X}"
-            )?;
-            return Err(command.error(ErrorKind::ValueValidation, text.as_str())?);
-        };
-        numbers.push(number)?;
+        numbers.push(number(alloc, name, *word, most)?)?;
     }
     Ok(numbers)
 }
 
 /// What its words ask for.
-pub(crate) fn read_decode<'a>(
-    alloc: Global,
-    command: &mut Command<'a>,
-    matches: &ArgMatches<'a>,
-) -> Result<OfLog, Error> {
+pub(crate) fn read_decode(alloc: Global, matches: &ArgMatches) -> Result<OfLog, Refused> {
     Ok(OfLog {
-        pgns: numbers(alloc, command, matches, "pgn", PGN_MOST)?,
-        from: numbers(alloc, command, matches, "from", ADDRESS_MOST)?,
-        to: numbers(alloc, command, matches, "to", ADDRESS_MOST)?,
+        pgns: numbers(alloc, matches, "pgn", PGN_MOST)?,
+        from: numbers(alloc, matches, "from", ADDRESS_MOST)?,
+        to: numbers(alloc, matches, "to", ADDRESS_MOST)?,
         most: matches.get_one::<u32>("max-bytes").unwrap_or(MOST),
         singles: matches.get_flag("all"),
     })

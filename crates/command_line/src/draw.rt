@@ -1,6 +1,7 @@
 //! The words of `draw`.
+use crate::parts::described;
 use clap::Command;
-use std::alloc::Global;
+use std::alloc::{AllocError, Global};
 
 const DRAW_HELP: &str = "The script is read from standard input. What each line puts on the bus is
 written to standard output before the next line is read, as the text of a
@@ -22,8 +23,12 @@ Status:
 docs/SCRIPTS.md describes the language.";
 
 /// The command as it is parsed, with its help.
-pub(crate) fn draw_command<'a>(alloc: Global) -> Command<'a> {
-    Command::new(alloc, "draw")
-        .about("Runs the script of standard input, and draws it as a sequence diagram")
-        .after_help(DRAW_HELP)
+pub(crate) fn draw_command<'a>(alloc: Global) -> Result<Command<'a>, AllocError> {
+    described(
+        alloc,
+        "draw",
+        "Runs the script of standard input, and draws it as a sequence diagram",
+        DRAW_HELP,
+        Ok(Vec::new(alloc)),
+    )
 }

@@ -4,13 +4,17 @@
 mod decode;
 mod draw;
 mod node;
+mod parts;
+mod refused;
 
-use clap::{Arg, ArgAction, ArgMatches, Command, Error, value_parser};
+use clap::{ArgAction, ArgMatches, Command, Error};
 pub use decode::OfLog;
 use decode::{decode_command, read_decode};
 use draw::draw_command;
 pub use node::{OfNode, OfPort};
 use node::{node_command, read_node};
+use parts::{add, described, flag, list, named, of_numbers, within};
+use refused::{Refused, or_error};
 use std::alloc::{AllocError, Global};
 
 /// What a command line asks for.
@@ -108,15 +112,14 @@ fn threads_command<'a>(
     about: &'a str,
     help: &'a str,
 ) -> Result<Command<'a>, AllocError> {
-    let turns = Arg::new(alloc, "turns")
-        .long("turns")
-        .action(ArgAction::Set)
-        .value_parser(value_parser!(u64).range(1..=1_000_000_000))
-        .help("Most turns of a worker, 1 to 1000000000 [default: 1000000]");
-    Command::new(alloc, name)
-        .about(about)
-        .after_help(help)
-        .arg(turns)
+    let turns = named(
+        alloc,
+        "turns",
+        "Most turns of a worker, 1 to 1000000000 [default: 1000000]",
+    )
+    .action(ArgAction::Set);
+    let turns = of_numbers(turns, within(1, 1_000_000_000));
+    described(alloc, name, about, help, list(alloc, [turns]))
 }
 
 fn live_command<'a>(alloc: Global) -> Result<Command<'a>, AllocError> {
@@ -137,51 +140,64 @@ fn relay_command<'a>(alloc: Global) -> Result<Command<'a>, AllocError> {
     )
 }
 
-fn log_arg<'a>(alloc: Global) -> Arg<'a> {
-    Arg::new(alloc, "log")
-        .long("log")
-        .action(ArgAction::SetTrue)
-        .help("Prints the frames alone, as a log, and the replies on standard error")
+/// The commands among the words, in the order of the help.
+fn commands<'a>(alloc: Global) -> Result<Vec<Command<'a>>, AllocError> {
+    let commands = add(Ok(Vec::new(alloc)), live_command(alloc));
+    let commands = add(commands, relay_command(alloc));
+    let commands = add(commands, decode_command(alloc));
+    let commands = add(commands, draw_command(alloc));
+    add(commands, node_command(alloc))
 }
 
-/// A command with one more among its words.
-fn with<'a>(
-    command: Command<'a>,
-    other: Result<Command<'a>, AllocError>,
-) -> Result<Command<'a>, AllocError> {
-    command.subcommand(other?)
+/// The program with what it takes where none of its commands is named.
+fn without_commands<'a>(alloc: Global) -> Result<Command<'a>, AllocError> {
+    let log = flag(
+        alloc,
+        "log",
+        "Prints the frames alone, as a log, and the replies on standard error",
+    );
+    described(
+        alloc,
+        "j1939bus",
+        "Runs the script of standard input, and prints the reply to each line",
+        PROGRAM_HELP,
+        list(alloc, [log]),
+    )
 }
 
 /// The command as it is parsed, with its help.
 fn program<'a>(alloc: Global) -> Result<Command<'a>, AllocError> {
-    let command = Command::new(alloc, "j1939bus")
+    let commands = commands(alloc)?;
+    without_commands(alloc)?
         .version("0.1.0")
-        .about("Runs the script of standard input, and prints the reply to each line")
-        .after_help(PROGRAM_HELP)
         .args_conflicts_with_subcommands(true)
-        .arg(log_arg(alloc))?;
-    let command = with(command, live_command(alloc))?;
-    let command = with(command, relay_command(alloc))?;
-    let command = with(command, decode_command(alloc))?;
-    let command = with(command, Ok(draw_command(alloc)))?;
-    with(command, node_command(alloc))
+        .subcommands(commands)
 }
 
-/// What its words ask for.
-fn read_asked<'a>(
-    alloc: Global,
-    command: &mut Command<'a>,
-    matches: &ArgMatches<'a>,
-) -> Result<Asked, Error> {
-    if let Some(live) = matches.subcommand_matches("live") {
-        return Ok(Asked::Live {
-            turns: live.get_one::<u64>("turns").unwrap_or(TURNS),
-        });
+/// The turns that a command is given, where it is the one that is named.
+fn turns_of(matches: &ArgMatches, name: &str) -> Option<u64> {
+    let threads = matches.subcommand_matches(name)?;
+    Some(threads.get_one::<u64>("turns").unwrap_or(TURNS))
+}
+
+/// What the words ask for that name no threads and no drawing.
+fn read_log_or_bus(alloc: Global, matches: &ArgMatches) -> Result<Asked, Refused> {
+    if let Some(node) = matches.subcommand_matches("node") {
+        return Ok(Asked::Node(read_node(alloc, node)?));
     }
-    if let Some(relay) = matches.subcommand_matches("relay") {
-        return Ok(Asked::Relay {
-            turns: relay.get_one::<u64>("turns").unwrap_or(TURNS),
-        });
+    match matches.subcommand_matches("decode") {
+        Some(decode) => Ok(Asked::Decode(read_decode(alloc, decode)?)),
+        None => Ok(Asked::Script),
+    }
+}
+
+/// What the words ask for that the command took.
+fn read_asked(alloc: Global, matches: &ArgMatches) -> Result<Asked, Refused> {
+    if let Some(turns) = turns_of(matches, "live") {
+        return Ok(Asked::Live { turns });
+    }
+    if let Some(turns) = turns_of(matches, "relay") {
+        return Ok(Asked::Relay { turns });
     }
     if matches.subcommand_matches("draw").is_some() {
         return Ok(Asked::Drawn);
@@ -189,19 +205,27 @@ fn read_asked<'a>(
     if matches.get_flag("log") {
         return Ok(Asked::Logged);
     }
-    if let Some(node) = matches.subcommand_matches("node") {
-        return Ok(Asked::Node(read_node(alloc, command, node)?));
-    }
-    match matches.subcommand_matches("decode") {
-        Some(decode) => Ok(Asked::Decode(read_decode(alloc, command, decode)?)),
-        None => Ok(Asked::Script),
-    }
+    read_log_or_bus(alloc, matches)
+}
+
+/// What words ask for, as the command parses them.
+fn read_words<'a>(
+    alloc: Global,
+    command: &mut Command<'a>,
+    words: &'a [String],
+) -> Result<Asked, Error> {
+    let matches = command.try_get_matches_from_mut(words)?;
+    let asked = read_asked(alloc, &matches);
+    drop(matches);
+    or_error(command, asked)
 }
 
 /// Reads the words of a command line, of which the first names the program. What it doesn't take is refused, and so is help, whose
 /// text is the error.
 pub fn read_command_line(alloc: Global, words: &[String]) -> Result<Asked, Error> {
     let mut command = program(alloc)?;
-    let matches = command.try_get_matches_from_mut(words)?;
-    read_asked(alloc, &mut command, &matches)
+    let asked = read_words(alloc, &mut command, words);
+    // By a call, since at the end of a function each of its fields is dropped, and proved to be, by itself.
+    drop(command);
+    asked
 }

@@ -1,7 +1,8 @@
 //! The words of `node`.
 use crate::decode::{MOST, PGN_MOST, hexadecimal};
-use clap::error::ErrorKind;
-use clap::{Arg, ArgAction, ArgMatches, Command, Error, value_parser};
+use crate::parts::{described, list, of_numbers, valued, within};
+use crate::refused::Refused;
+use clap::{Arg, ArgAction, ArgMatches, Command};
 use std::alloc::{AllocError, Global};
 
 /// A port that a node opens before it reads a line.
@@ -66,39 +67,58 @@ fn address_arg<'a>(alloc: Global) -> Arg<'a> {
 }
 
 fn interface_arg<'a>(alloc: Global) -> Arg<'a> {
-    Arg::new(alloc, "interface")
-        .long("interface")
-        .value_name("NAME")
-        .action(ArgAction::Set)
-        .help("Interface that is named with the frames put [default: can0]")
+    valued(
+        alloc,
+        "interface",
+        "NAME",
+        ArgAction::Set,
+        "Interface that is named with the frames put [default: can0]",
+    )
 }
 
 fn port_arg<'a>(alloc: Global) -> Arg<'a> {
-    Arg::new(alloc, "port")
-        .long("port")
-        .value_name("PGN[:MAX]")
-        .action(ArgAction::Append)
-        .help("Opens a port first, as the line open PGN MAX does [default MAX: 117440505]")
+    valued(
+        alloc,
+        "port",
+        "PGN[:MAX]",
+        ArgAction::Append,
+        "Opens a port first, as the line open PGN MAX does [default MAX: 117440505]",
+    )
 }
 
 fn quiet_arg<'a>(alloc: Global) -> Arg<'a> {
-    Arg::new(alloc, "quiet")
-        .long("quiet")
-        .value_name("MS")
-        .action(ArgAction::Set)
-        .value_parser(value_parser!(u64).range(0..=10_000))
-        .help("Milliseconds of rest after a failed connection, 0 to 10000 [default: 700]")
+    let quiet = valued(
+        alloc,
+        "quiet",
+        "MS",
+        ArgAction::Set,
+        "Milliseconds of rest after a failed connection, 0 to 10000 [default: 700]",
+    );
+    of_numbers(quiet, within(0, 10_000))
+}
+
+/// Its arguments, in the order of the help.
+fn node_args<'a>(alloc: Global) -> Result<Vec<Arg<'a>>, AllocError> {
+    list(
+        alloc,
+        [
+            address_arg(alloc),
+            interface_arg(alloc),
+            port_arg(alloc),
+            quiet_arg(alloc),
+        ],
+    )
 }
 
 /// The command as it is parsed, with its help.
 pub(crate) fn node_command<'a>(alloc: Global) -> Result<Command<'a>, AllocError> {
-    Command::new(alloc, "node")
-        .about("Is one station on a real bus, whose frames are read from standard input")
-        .after_help(NODE_HELP)
-        .arg(address_arg(alloc))?
-        .arg(interface_arg(alloc))?
-        .arg(port_arg(alloc))?
-        .arg(quiet_arg(alloc))
+    described(
+        alloc,
+        "node",
+        "Is one station on a real bus, whose frames are read from standard input",
+        NODE_HELP,
+        node_args(alloc),
+    )
 }
 
 /// The port that a word writes, where it is one.
@@ -115,43 +135,43 @@ fn port(word: &str) -> Option<OfPort> {
     })
 }
 
-/// The ports that are named; where a word writes none, that word is refused.
-fn ports<'a>(
-    alloc: Global,
-    command: &mut Command<'a>,
-    matches: &ArgMatches<'a>,
-) -> Result<Vec<OfPort>, Error> {
+/// The port that a word of `--port` writes; where it writes none, the word is refused.
+fn port_of(alloc: Global, word: &str) -> Result<OfPort, Refused> {
+    match port(word) {
+        Some(port) => Ok(port),
+        None => Err(Refused::Word(format!(in alloc;
+            "invalid value '{word}' for '--port': not a PGN of up to 3FFFF, hexadecimal, with :MAX bytes or without"
+        )?)),
+    }
+}
+
+/// The ports that are named.
+fn ports(alloc: Global, matches: &ArgMatches) -> Result<Vec<OfPort>, Refused> {
     let mut ports = Vec::new(alloc);
     for word in matches.get_strs("port").unwrap_or(&[]) {
-        let Some(port) = port(*word) else {
-            let text = format!(in alloc;
-                "invalid value '{word}' for '--port': not a PGN of up to 3FFFF, hexadecimal, with :MAX bytes or without"
-            )?;
-            return Err(command.error(ErrorKind::ValueValidation, text.as_str())?);
-        };
-        ports.push(port)?;
+        ports.push(port_of(alloc, *word)?)?;
     }
     Ok(ports)
 }
 
-/// What its words ask for.
-pub(crate) fn read_node<'a>(
-    alloc: Global,
-    command: &mut Command<'a>,
-    matches: &ArgMatches<'a>,
-) -> Result<OfNode, Error> {
-    let word = first_of(matches, "address", "");
-    let Some(address) = address(word) else {
-        let text = format!(in alloc;
+/// The address that is named; where its word writes none, it is refused.
+fn address_of(alloc: Global, word: &str) -> Result<u8, Refused> {
+    match address(word) {
+        Some(address) => Ok(address),
+        None => Err(Refused::Word(format!(in alloc;
             "invalid value '{word}' for '<ADDRESS>': not a hexadecimal number up to FD"
-        )?;
-        return Err(command.error(ErrorKind::ValueValidation, text.as_str())?);
-    };
+        )?)),
+    }
+}
+
+/// What its words ask for.
+pub(crate) fn read_node(alloc: Global, matches: &ArgMatches) -> Result<OfNode, Refused> {
+    let address = address_of(alloc, first_of(matches, "address", ""))?;
     let name = first_of(matches, "interface", INTERFACE);
     Ok(OfNode {
         address,
-        interface: format!(in alloc; "{name}")?,
-        ports: ports(alloc, command, matches)?,
+        interface: String::from_str(alloc, name)?,
+        ports: ports(alloc, matches)?,
         quiet: matches.get_one::<u64>("quiet").unwrap_or(QUIET),
     })
 }

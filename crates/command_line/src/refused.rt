@@ -1,0 +1,40 @@
+//! Words that `clap` takes, and that are refused when they are read.
+use crate::Asked;
+use clap::error::ErrorKind;
+use clap::{Command, Error};
+use std::alloc::{AllocError, AllocFailed};
+
+/// Why nothing was read.
+#[derive(Drop)]
+pub(crate) enum Refused {
+    /// A word is none that its argument takes, as this text tells.
+    Word(String),
+    /// There was no memory.
+    Memory,
+}
+
+impl From<AllocError> for Refused {
+    fn from(_error: AllocError) -> Refused {
+        Refused::Memory
+    }
+}
+
+impl<T: Drop> From<AllocFailed<T>> for Refused {
+    fn from(_error: AllocFailed<T>) -> Refused {
+        Refused::Memory
+    }
+}
+
+/// What was read, or the error that tells why nothing was: where it is a word, with the usage of the command below the text.
+pub(crate) fn or_error<'a>(
+    command: &mut Command<'a>,
+    read: Result<Asked, Refused>,
+) -> Result<Asked, Error> {
+    match read {
+        Ok(read) => Ok(read),
+        Err(Refused::Word(text)) => {
+            Err(command.error(ErrorKind::ValueValidation, text.as_str())?)
+        }
+        Err(Refused::Memory) => Err(Error::from(AllocError)),
+    }
+}
