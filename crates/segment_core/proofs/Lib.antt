@@ -3,6 +3,7 @@ pub mod Rising
 pub mod Placing
 pub mod Stations
 pub mod Kept
+pub mod Calling
 pub mod Refusals
 pub mod Causes
 pub mod Pumping

@@ -48,8 +48,8 @@ in_place_kept stations i st old h is same j s e = by (nat_lt i (length stations)
   where
     by : (b : Bool) → nat_lt i (length stations) ≡ b → place_among (set stations i st) s.address ≡ Some j
     by true lt = stays_in_place stations i old st (slice_get_read stations (length stations) i old refl (ltb-true i (length stations) lt) is) same h j s e
-    by false no =
-        let past : set stations i st ≡ stations = set_past stations i st (ltb-false i (length stations) no) in
+    by false past_it =
+        let past : set stations i st ≡ stations = set_past stations i st (ltb-false i (length stations) past_it) in
         subst (λ (xs : List Station). place_among xs s.address ≡ Some j) (sym past) (h j s (subst (λ (xs : List Station). slice_get xs j ≡ Some s) past e))
 
 pub ruleset call_laws = (at_is, at_none, places_kept, closed_keeps, taken_keeps, fired_keeps)

@@ -1,9 +1,18 @@
 use Rattle.std.proofs.Common.{refl, sym, ap, ◌∙◌}
+use Rattle.segment_law.specs.Calls.{closes}
 use Rattle.segment_core.proofs.Addresses.{closed_keeps}
 use Rattle.segment_core.proofs.Refusals.{closes_by, goes_on, refuses}
+use Rattle.segment_core.proofs.Stations.{at_none}
 use Rattle.segment_core.proofs.Kept.{inside_kept, at_here, stepped_view, unchanged_view}
+use Rattle.segment_core.proofs.Calling.{within_here}
 use Rattle.segment_core.proofs.segment.Segment.close.Goals as goal
 use Rattle.segment_core.proofs.segment.Segment.close.Goals.{in-Ok, in-Err}
+
+pub returns-in_default : goal.returns-in_default
+returns-in_default c = (at_none c.args.self.now c.args.port.station (closes c.args.self.now c.args.port.number) (sym c.place_of.ensures.value ∙ c.in_default.is), refl)
+
+pub index_mut-requires : goal.index_mut-requires
+index_mut-requires c = within_here c.self.inside c.args.self.now c.in-Some.place c.self.view_is c.in-Some.ensures.within
 
 pub invariant_of-self : goal.invariant_of-self
 invariant_of-self c = elim c.match-close.branch [

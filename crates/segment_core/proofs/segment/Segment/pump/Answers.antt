@@ -1,10 +1,26 @@
 use Rattle.std.proofs.Common.{◌≡◌, refl, sym, ap, ◌∙◌}
 use Rattle.station_core.specs.Sending.{pumped}
 use Rattle.station_core.specs.Refusals.{pumping_refusal}
-use Rattle.segment_law.specs.Calls.{stepped}
+use Rattle.segment_law.specs.Calls.{stepped, pumps}
 use Rattle.segment_core.proofs.Refusals.{pumps_are, goes_on, refuses}
-use Rattle.segment_core.proofs.Kept.{at_here, told_view, unchanged_view}
+use Rattle.segment_core.proofs.Stations.{at_none}
+use Rattle.segment_core.proofs.Kept.{inside_kept, at_here, told_view, unchanged_view}
+use Rattle.segment_core.proofs.Calling.{within_here}
 use Rattle.segment_core.proofs.segment.Segment.pump.Goals as goal
+
+pub returns-in_default : goal.returns-in_default
+returns-in_default c = (at_none c.args.self.now c.args.station (pumps c.args.self.now c.args.to) (sym c.place_of.ensures.value ∙ c.in_default.is), refl)
+
+pub index_mut-requires : goal.index_mut-requires
+index_mut-requires c = within_here c.self.inside c.args.self.now c.in-Some.place c.self.view_is c.in-Some.ensures.within
+
+pub invariant_of-self : goal.invariant_of-self
+invariant_of-self c =
+    inside_kept c.self.inside c.in-Some.place c.pump.new.self c.index_mut.result.now c.self.invariant c.index_mut.ensures.value (ap (λ s. s.station.address) (sym c.in-Ok.ensures.ok))
+
+pub invariant_of-self-in-Err : goal.invariant_of-self-in-Err
+invariant_of-self-in-Err c =
+    inside_kept c.self.inside c.in-Some.place c.pump.new.self c.index_mut.result.now c.self.invariant c.index_mut.ensures.value (ap (λ st. st.address) c.in-Err.ensures.err)
 
 pub returns-in-Ok : goal.returns-in-Ok
 returns-in-Ok c =

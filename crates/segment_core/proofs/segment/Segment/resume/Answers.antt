@@ -1,8 +1,23 @@
-use Rattle.std.proofs.Common.{refl, sym, ◌∙◌}
+use Rattle.std.proofs.Common.{refl, sym, ap, ◌∙◌}
+use Rattle.segment_law.specs.Calls.{resumes}
 use Rattle.segment_core.proofs.Refusals.{resumes_by, goes_on, refuses}
-use Rattle.segment_core.proofs.Kept.{at_here, stepped_view, unchanged_view}
+use Rattle.segment_core.proofs.Stations.{at_none}
+use Rattle.segment_core.proofs.Kept.{inside_kept, at_here, stepped_view, unchanged_view}
+use Rattle.segment_core.proofs.Calling.{within_here}
 use Rattle.segment_core.proofs.segment.Segment.resume.Goals as goal
 use Rattle.segment_core.proofs.segment.Segment.resume.Goals.{in-Ok, in-Err}
+
+pub returns-in_default : goal.returns-in_default
+returns-in_default c = (at_none c.args.self.now c.args.port.station (resumes c.args.self.now c.args.port.number) (sym c.place_of.ensures.value ∙ c.in_default.is), refl)
+
+pub index_mut-requires : goal.index_mut-requires
+index_mut-requires c = within_here c.self.inside c.args.self.now c.in-Some.place c.self.view_is c.in-Some.ensures.within
+
+pub invariant_of-self : goal.invariant_of-self
+invariant_of-self c = elim c.match-resume.branch [
+  | in-Ok w ↦ inside_kept c.self.inside c.in-Some.place c.resume.new.self c.index_mut.result.now c.self.invariant c.index_mut.ensures.value (ap (λ st. st.address) w.in-Ok.ensures.ok)
+  | in-Err w ↦ inside_kept c.self.inside c.in-Some.place c.resume.new.self c.index_mut.result.now c.self.invariant c.index_mut.ensures.value (ap (λ st. st.address) w.in-Err.ensures.err)
+]
 
 pub returns : goal.returns
 returns c = elim c.match-resume.branch [

@@ -1,8 +1,25 @@
-use Rattle.std.proofs.Common.{refl, ap, ◌∙◌}
+use Rattle.std.proofs.Common.{refl, sym, ap, ◌∙◌}
+use Rattle.segment_law.specs.Calls.{sends}
 use Rattle.segment_law.specs.declared.reply.Reply.TheVariants.{Sent}
 use Rattle.segment_core.proofs.Refusals.{sends_by, goes_on, stops}
-use Rattle.segment_core.proofs.Kept.{at_here, stepped_view, unchanged_view}
+use Rattle.segment_core.proofs.Stations.{at_none}
+use Rattle.segment_core.proofs.Kept.{inside_kept, at_here, stepped_view, unchanged_view}
+use Rattle.segment_core.proofs.Calling.{within_here}
 use Rattle.segment_core.proofs.segment.Segment.send.Goals as goal
+
+pub returns-in_default : goal.returns-in_default
+returns-in_default c = (at_none c.args.self.now c.args.from (sends c.args.self.now c.args.to c.args.pgn c.args.bytes) (sym c.place_of.ensures.value ∙ c.in_default.is), refl)
+
+pub index_mut-requires : goal.index_mut-requires
+index_mut-requires c = within_here c.self.inside c.args.self.now c.in-Some.place c.self.view_is c.in-Some.ensures.within
+
+pub invariant_of-self : goal.invariant_of-self
+invariant_of-self c =
+    inside_kept c.self.inside c.in-Some.place c.send.new.self c.index_mut.result.now c.self.invariant c.index_mut.ensures.value (ap (λ st. st.address) c.in-Err.ensures.err)
+
+pub invariant_of-self-2 : goal.invariant_of-self-2
+invariant_of-self-2 c =
+    inside_kept c.self.inside c.in-Some.place c.send.new.self c.index_mut.result.now c.self.invariant c.index_mut.ensures.value (ap (λ st. st.address) c.in-Ok.ensures.ok)
 
 pub returns : goal.returns
 returns c =

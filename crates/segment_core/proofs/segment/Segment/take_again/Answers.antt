@@ -1,16 +1,29 @@
 use Rattle.std.proofs.Common.{◌≡◌, refl, sym, ap, ◌∙◌}
 use Rattle.bus_order.specs.Bus.{frame_again}
 use Rattle.station_core.specs.Taking.{taken}
+use Rattle.segment_law.specs.Calls.{repeats}
 use Rattle.segment_core.proofs.Addresses.{taken_keeps}
 use Rattle.segment_core.proofs.Refusals.{repeats_are, stops}
+use Rattle.segment_core.proofs.Stations.{at_none}
 use Rattle.segment_core.proofs.Kept.{inside_kept, at_here, repeats_is, repeated_view, unchanged_view}
+use Rattle.segment_core.proofs.Calling.{within_here}
 use Rattle.segment_core.proofs.segment.Segment.take_again.Goals as goal
+
+pub returns-in_default : goal.returns-in_default
+returns-in_default c = (at_none c.args.self.now c.args.station (repeats c.args.self.now c.args.room) (sym c.place_of.ensures.value ∙ c.in_default.is), refl)
+
+pub index_mut-requires : goal.index_mut-requires
+index_mut-requires c = within_here c.self.inside c.args.self.now c.in-Some.place c.self.view_is c.in-Some.ensures.within
+
+pub invariant_of-self : goal.invariant_of-self
+invariant_of-self c =
+    inside_kept c.self.inside c.in-Some.place c.take.new.self c.index_mut.result.now c.self.invariant c.index_mut.ensures.value (ap (λ st. st.address) c.in-Err.ensures.err)
 
 pub invariant_of-self-2 : goal.invariant_of-self-2
 invariant_of-self-2 c =
     let kept = inside_kept c.self.inside c.in-Some.place c.take.new.self c.index_mut.result.now c.self.invariant c.index_mut.ensures.value
     (ap (λ s. s.station.address) (sym c.in-Ok.ensures.ok) ∙ taken_keeps c.index_mut.result.now c.in-Some-again.frame c.args.room c.now-now.result) in
-    record { few = kept.few; cursors = kept.cursors; places = kept.places }
+    record { few = kept.few; cursors = kept.cursors; places = kept.places; in_place = kept.in_place }
 
 pub returns : goal.returns
 returns c =
