@@ -1,5 +1,7 @@
 -- Where stations stand that are added one by one.
-use Rattle.std.proofs.Common.{◌≡◌, ◌≢◌, ℕ, zero, suc, ◌+◌, ◌<◌, ◌≤◌, ◌==◌, Bool, true, false, cond, not, List, [], ◌∷◌, ◌++◌, length, set, get_or, replicate, map, take, Option, Some, None, refl, sym, ap, ◌∙◌, arith, rules, length-set, length-take-le}
+use Rattle.std.proofs.Common.{◌≡◌, ◌≢◌, ℕ, zero, suc, ◌+◌, ◌<◌, ◌≤◌, ◌==◌, Bool, true, false, cond, not, List, [], ◌∷◌, ◌++◌, length, set, get_or, replicate, map, take, Fits, w8, Option, Some, None, refl, sym, ap, ◌∙◌, arith, rules, length-set, length-take-le, take_all}
+use Rattle.std.specs.Vec.{vec_len}
+use Rattle.std.specs.declared.vec.Vec.{Vec}
 use Rattle.std.specs.List.{position_or_len}
 use Rattle.std.proofs.lemmas.Grind.{common_steps}
 use Rattle.std.proofs.lemmas.List.{length-replicate, length-map, take_more, map-append, get_or-set_same}
@@ -101,3 +103,28 @@ added xs stations i a is within at =
 
 pub how_many : (xs : List Address) (stations : List Station) (i : ℕ) → stations ≡ map new_station (take i xs) → i ≤ length xs → length stations ≡ i
 how_many xs stations i is le = ap length is ∙ length-map (take i xs) new_station ∙ length-take-le i xs le
+
+-- The numbers of such a loop
+
+pub vec_long : {X Z : Type 0} (v : Vec X Z) → length v.items ≡ vec_len v
+vec_long v = omega (arith, v.ok.0)
+
+pub room_left : (items len place n capacity : ℕ) → items ≡ len → items ≡ place → place < n → n ≤ capacity → len < capacity
+room_left items len place n capacity is many lt le = omega arith
+
+pub at_end : (place end n : ℕ) → end ≤ place → place ≤ end → end ≡ n → place ≡ n
+at_end place end n le ge is = omega arith
+
+-- a place has one byte, and is none that stands for no place
+pub few_before : (place n : ℕ) → place < n → n ≤ 32 → place < NOWHERE
+few_before place n lt le = omega arith
+
+pub before_is : (place n : ℕ) → place < n → place ≤ n
+before_is place n lt = omega arith
+
+pub byte : (n : ℕ) → n < NOWHERE → Fits w8 n
+byte n lt = omega arith
+
+-- all of them stand at the end
+pub stands_whole : (place : ℕ) (xs : List Address) (stations : List Station) (all : List Address) → stations ≡ map new_station (take place xs) → place ≡ length xs → xs ≡ all → stations ≡ map new_station all
+stands_whole place xs stations all is whole same = is ∙ ap (map new_station) (take_all place xs (omega arith) ∙ same)
