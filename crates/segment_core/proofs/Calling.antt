@@ -1,6 +1,6 @@
 -- What the calls of a station come to, where it is known which one has the address.
 use Rattle.std.proofs.Common.{◌≡◌, ℕ, ◌<◌, ◌≤◌, Bool, true, false, cond, List, [], length, get_or, set, Option, Some, None, Result, Ok, Err, refl, sym, ap, ◌∙◌, subst, arith}
-use Rattle.std.specs.Prelude.{slice_get, ◌↔◌, IsTrue, IsErrOf, OnOk, OnErr, is_err}
+use Rattle.std.specs.Prelude.{slice_get, unwrap_or, ◌↔◌, IsTrue, IsErrOf, OnOk, OnErr, is_err}
 use Rattle.std.specs.Bool.{OnTrue, OnFalse}
 use Rattle.std.specs.Vec.{with_item, vec_len}
 use Rattle.std.proofs.lemmas.Bool.{both_ways, lt-ltb, le-ltb}
@@ -19,15 +19,16 @@ use Rattle.station_core.specs.Quiet.{takes_quietly, LacksRoom}
 use Rattle.station_core.specs.Refusals.{taking_refusal, pumping_refusal}
 use Rattle.station_core.specs.declared.refused.Refused.{Refused as Cause}
 use Rattle.station_core.specs.declared.refused.Refused.TheVariants as cause
-use Rattle.segment_law.specs.Segment.{Segment, place_of, station_of, with_station, counted}
+use Rattle.segment_law.specs.Segment.{Segment, place_of, station_of, station_at, waiting_at, with_station, counted}
 use Rattle.segment_law.specs.Calls.{Answer, at_address, done, stepped, no_place, pumps, with_frame, transmits_by, transmits, overruns}
 use Rattle.segment_law.specs.declared.refusal.Refusal.TheVariants as refusal
 use Rattle.segment_law.specs.declared.reply.Reply.{Reply}
 use Rattle.segment_law.specs.declared.reply.Reply.TheVariants.{Done}
+use Rattle.segment_core.specs.Answers.{refusal_of}
 use Rattle.segment_core.specs.InPlace.{take_quiet, next_at, TakeLacksRoom}
 use Rattle.segment_core.specs.SegmentFields.{segment_value, IsSegmentInside}
 use Rattle.segment_core.specs.declared.segment.Segment.TheInside.{Inside}
-use Rattle.segment_core.proofs.Stations.{at_is}
+use Rattle.segment_core.proofs.Stations.{at_is, at_none}
 use Rattle.segment_core.proofs.Kept.{at_here, said, stepped_view, told_view, same_item}
 use Rattle.segment_core.proofs.Refusals.{pumps_are, goes_on}
 
@@ -51,6 +52,27 @@ of_here s seg a i st view here within is =
 
 pub of_none : (seg : Segment) (a : Address) → place_of seg a ≡ None → station_of seg a ≡ None
 of_none seg a none = ap (λ (o : Option ℕ). elim o as (λ (_ : Option ℕ). Option Station) [ None ↦ None | Some k ↦ slice_get seg.stations k ]) none
+
+-- the same, or a new one where there is none
+pub station_here : (s : Inside) (seg : Segment) (a : Address) (i : ℕ) (st : Station) → segment_value s ≡ seg → Some i ≡ place_of seg a → i < length seg.stations → st ≡ get_or s.stations.items i st → station_at seg a ≡ st
+station_here s seg a i st view here within is = ap (λ (o : Option Station). unwrap_or o (new_station a)) (of_here s seg a i st view here within is)
+
+pub station_none : (seg : Segment) (a : Address) → place_of seg a ≡ None → station_at seg a ≡ new_station a
+station_none seg a none = ap (λ (o : Option Station). unwrap_or o (new_station a)) (of_none seg a none)
+
+-- how many frames wait for it
+abbrev waiting_by : Segment → Option ℕ → ℕ
+waiting_by seg o = elim o as (λ (_ : Option ℕ). ℕ) [ None ↦ 0 | Some k ↦ bus.waiting seg.bus k ]
+
+pub waiting_here : (s : Inside) (seg : Segment) (a : Address) (i : ℕ) → segment_value s ≡ seg → Some i ≡ place_of seg a → bus.waiting s.bus i ≡ waiting_at seg a
+waiting_here s seg a i view here = ap (λ (x : Segment). bus.waiting x.bus i) view ∙ ap (waiting_by seg) here
+
+pub waiting_none : (seg : Segment) (a : Address) → place_of seg a ≡ None → 0 ≡ waiting_at seg a
+waiting_none seg a none = sym (ap (waiting_by seg) none)
+
+-- a call of an address that no station has is refused
+pub no_station : (seg : Segment) (a : Address) (call : ℕ → Station → Answer) → place_of seg a ≡ None → Some refusal.NoSuchStation ≡ refusal_of (at_address seg a call)
+no_station seg a call none = sym (ap refusal_of (at_none seg a call none))
 
 -- what a call comes to whatever station has the address
 pub at_any : (seg : Segment) (a : Address) (i : ℕ) (call : ℕ → Station → Answer) (answer : Answer) → Some i ≡ place_of seg a → i < length seg.stations → ((st : Station) → call i st ≡ answer) → at_address seg a call ≡ answer

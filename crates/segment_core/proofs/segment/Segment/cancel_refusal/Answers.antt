@@ -1,8 +1,16 @@
-use Rattle.std.proofs.Common.{refl, ap, ◌∙◌}
+use Rattle.std.proofs.Common.{refl, sym, ap, ◌∙◌}
+use Rattle.segment_law.specs.Calls.{cancels}
 use Rattle.segment_core.specs.Answers.{first_refusal}
 use Rattle.segment_core.proofs.Refusals.{cancels_by, refused_for}
 use Rattle.segment_core.proofs.Kept.{at_here}
+use Rattle.segment_core.proofs.Calling.{within_here, no_station}
 use Rattle.segment_core.proofs.segment.Segment.cancel_refusal.Goals as goal
+
+pub returns-in_default : goal.returns-in_default
+returns-in_default c = no_station c.args.self.now c.args.from (cancels c.args.self.now c.args.to c.args.number) (sym c.place_of.ensures.value ∙ c.in_default.is)
+
+pub index-requires : goal.index-requires
+index-requires c = within_here c.self.inside c.args.self.now c.in-Some.place c.self.view_is c.in-Some.ensures.within
 
 pub returns : goal.returns
 returns c =

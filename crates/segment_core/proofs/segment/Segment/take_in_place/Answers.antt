@@ -2,7 +2,6 @@ use Rattle.std.proofs.Common.{◌≡◌, [], length, Some, None, false, refl, sy
 use Rattle.bus_order.specs.Bus.{taken as moved, next_frame}
 use Rattle.station_core.specs.Taking.{taken}
 use Rattle.station_core.specs.Refusals.{taking_refusal}
-use Rattle.segment_law.specs.Segment.{station_of}
 use Rattle.segment_law.specs.declared.reply.Reply.TheVariants.{Done}
 use Rattle.segment_core.proofs.Addresses.{taken_keeps}
 use Rattle.segment_core.proofs.Kept.{inside_kept, inside_moved, at_here, takes_is, taken_view, unchanged_view}

@@ -1,10 +1,9 @@
-use Rattle.std.proofs.Common.{◌≡◌, false, get_or, sym, ap, ◌∙◌}
+use Rattle.std.proofs.Common.{◌≡◌, false, sym, ap, ◌∙◌}
 use Rattle.tx_queue.specs.Queue.{front}
 use Rattle.bus_order.specs.Bus.{is_full}
 use Rattle.segment_law.specs.Calls.{with_frame}
 use Rattle.segment_core.proofs.Kept.{inside_kept}
-use Rattle.segment_core.proofs.Steps.{station_is}
-use Rattle.segment_core.proofs.Calling.{within_here, left_by_failure, left_by_success, had_room, transmits_here}
+use Rattle.segment_core.proofs.Calling.{within_here, station_here, left_by_failure, left_by_success, had_room, transmits_here}
 use Rattle.segment_core.proofs.segment.Segment.transmit_front.Goals as goal
 
 pub index-requires : goal.index-requires
@@ -31,5 +30,5 @@ returns-clause-put c =
 
 pub returns-clause-front : goal.returns-clause-front
 returns-clause-front c =
-    ap (λ st. front st.queue) (station_is c.args.self.now c.args.station c.in_ok-place.place c.index.result.now (sym c.in_ok-place.ensures.value) c.in_ok-place.ensures.within (c.index.ensures ∙ ap (λ x. get_or x.stations c.in_ok-place.place c.index.result.now) c.self.view_is))
+    ap (λ st. front st.queue) (station_here c.self.inside c.args.self.now c.args.station c.in_ok-place.place c.index.result.now c.self.view_is c.in_ok-place.ensures.value c.in_ok-place.ensures.within c.index.ensures)
     ∙ sym c.in_ok-frame.ensures
