@@ -19,7 +19,7 @@ use Rattle.station_core.specs.Quiet.{takes_quietly, LacksRoom}
 use Rattle.station_core.specs.Refusals.{taking_refusal, pumping_refusal}
 use Rattle.station_core.specs.declared.refused.Refused.{Refused as Cause}
 use Rattle.station_core.specs.declared.refused.Refused.TheVariants as cause
-use Rattle.segment_law.specs.Segment.{Segment, place_of, station_of, station_at, waiting_at, with_station, counted}
+use Rattle.segment_law.specs.Segment.{Segment, place_of, station_of, station_at, with_station, counted}
 use Rattle.segment_law.specs.Calls.{Answer, at_address, done, stepped, no_place, pumps, with_frame, transmits_by, transmits, overruns}
 use Rattle.segment_law.specs.declared.refusal.Refusal.TheVariants as refusal
 use Rattle.segment_law.specs.declared.reply.Reply.{Reply}
@@ -59,16 +59,6 @@ station_here s seg a i st view here within is = ap (λ (o : Option Station). unw
 
 pub station_none : (seg : Segment) (a : Address) → place_of seg a ≡ None → station_at seg a ≡ new_station a
 station_none seg a none = ap (λ (o : Option Station). unwrap_or o (new_station a)) (of_none seg a none)
-
--- how many frames wait for it
-abbrev waiting_by : Segment → Option ℕ → ℕ
-waiting_by seg o = elim o as (λ (_ : Option ℕ). ℕ) [ None ↦ 0 | Some k ↦ bus.waiting seg.bus k ]
-
-pub waiting_here : (s : Inside) (seg : Segment) (a : Address) (i : ℕ) → segment_value s ≡ seg → Some i ≡ place_of seg a → bus.waiting s.bus i ≡ waiting_at seg a
-waiting_here s seg a i view here = ap (λ (x : Segment). bus.waiting x.bus i) view ∙ ap (waiting_by seg) here
-
-pub waiting_none : (seg : Segment) (a : Address) → place_of seg a ≡ None → 0 ≡ waiting_at seg a
-waiting_none seg a none = sym (ap (waiting_by seg) none)
 
 -- a call of an address that no station has is refused
 pub no_station : (seg : Segment) (a : Address) (call : ℕ → Station → Answer) → place_of seg a ≡ None → Some refusal.NoSuchStation ≡ refusal_of (at_address seg a call)

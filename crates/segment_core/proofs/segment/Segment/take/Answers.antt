@@ -1,17 +1,28 @@
-use Rattle.std.proofs.Common.{◌≡◌, length, Some, refl, sym, ap, ◌∙◌, subst, length-set}
+use Rattle.std.proofs.Common.{◌≡◌, length, Some, Err, refl, sym, ap, ◌∙◌, subst, length-set}
 use Rattle.std.specs.Prelude.{OnSome}
 use Rattle.bus_order.specs.Bus.{taken as moved, released, next_frame}
 use Rattle.station_core.specs.Taking.{taken}
-use Rattle.segment_law.specs.Calls.{takes}
+use Rattle.segment_law.specs.Calls.{takes_by, takes}
+use Rattle.segment_law.specs.declared.refusal.Refusal.TheVariants.{NothingToTake}
 use Rattle.segment_core.proofs.Addresses.{taken_keeps}
 use Rattle.segment_core.proofs.Refusals.{takes_are, stops}
 use Rattle.segment_core.proofs.Stations.{at_none}
 use Rattle.segment_core.proofs.Kept.{inside_kept, inside_moved, at_here, takes_is, taken_view, unchanged_view}
-use Rattle.segment_core.proofs.Calling.{within_here}
+use Rattle.segment_core.proofs.Calling.{within_here, cursor_here, at_any}
 use Rattle.segment_core.proofs.segment.Segment.take.Goals as goal
 
 pub returns-in_default : goal.returns-in_default
 returns-in_default c = (at_none c.args.self.now c.args.station (takes c.args.self.now c.args.room) (sym c.place_of.ensures.value ∙ c.in_default.is), refl)
+
+pub next_frame-requires : goal.next_frame-requires
+next_frame-requires c = c.in-Some.ensures.within
+
+pub returns-in_default-next_frame : goal.returns-in_default-next_frame
+returns-in_default-next_frame c = (
+  at_any c.args.self.now c.args.station c.in-Some.place (takes c.args.self.now c.args.room) (Err NothingToTake) c.in-Some.ensures.value c.in-Some.ensures.within
+      (λ st. ap (takes_by c.args.self.now c.args.room c.in-Some.place st) (sym c.next_frame.ensures ∙ c.in_default-next_frame.is)),
+  refl,
+)
 
 pub index_mut-requires : goal.index_mut-requires
 index_mut-requires c = within_here c.self.inside c.args.self.now c.in-Some.place c.self.view_is c.in-Some.ensures.within
@@ -19,6 +30,9 @@ index_mut-requires c = within_here c.self.inside c.args.self.now c.in-Some.place
 pub invariant_of-self : goal.invariant_of-self
 invariant_of-self c =
     inside_kept c.self.inside c.in-Some.place c.take.new.self c.index_mut.result.now c.self.invariant c.index_mut.ensures.value (ap (λ st. st.address) c.in-Err.ensures.err)
+
+pub next-taken-requires : goal.next-taken-requires
+next-taken-requires c = cursor_here c.self.inside c.args.self.now c.in-Some.place c.self.invariant c.self.view_is c.in-Some.ensures.within
 
 pub invariant_of-self-2 : goal.invariant_of-self-2
 invariant_of-self-2 c =
