@@ -12,7 +12,6 @@ use Rattle.segment_law.specs.Calls.{Answer, at_station, at_place, at_address}
 use Rattle.segment_law.specs.declared.refusal.Refusal.TheVariants.{NoSuchStation}
 use Rattle.segment_law.proofs.Reaching.{places_kept as stays_in_place}
 use Rattle.segment_core.specs.declared.places.Places.{Places}
-use Rattle.segment_core.proofs.Addresses.{closed_keeps, taken_keeps, fired_keeps}
 use Rattle.segment_core.specs.Places.{place_among, ArePlaces}
 
 -- a call of an address is one of the station that stands at its place
@@ -52,4 +51,4 @@ in_place_kept stations i st old h is same j s e = by (nat_lt i (length stations)
         let past : set stations i st ≡ stations = set_past stations i st (ltb-false i (length stations) past_it) in
         subst (λ (xs : List Station). place_among xs s.address ≡ Some j) (sym past) (h j s (subst (λ (xs : List Station). slice_get xs j ≡ Some s) past e))
 
-pub ruleset call_laws = (at_is, at_none, places_kept, closed_keeps, taken_keeps, fired_keeps)
+pub ruleset call_laws = (at_is, at_none)

@@ -32,7 +32,6 @@ impl Segment {
     /// Puts the first frame of a station's queue on the bus, and tells which it was. None where the call is refused or finds no
     /// memory, and then nothing changes.
     #[inline(always)]
-    #[tactic(auto, using(crate::proofs::Stations::call_laws))]
     pub(crate) fn transmit_front(&mut self, station: Address) -> Option<Frame>
         ensures put { IfSome result (λ frame. at_address self.old station (transmits self.old) ≡ done self.new) }
         ensures front { IfSome result (λ frame. front (station_at self.old station).queue ≡ Some frame) }

@@ -12,7 +12,6 @@ use segment_law::Refusal;
 
 impl Segment {
     /// Opens a port of a station.
-    #[tactic(auto, using(crate::proofs::Stations::call_laws))]
     pub(crate) fn open(&mut self, station: Address, pgn: Pgn, max_len: u32) -> Result<PortId, Stop>
         ensures { IsAnswerBy Opened (at_address self.old station (opens self.old pgn max_len)) self.old self.new result }
     {
@@ -26,7 +25,6 @@ impl Segment {
     }
 
     /// Closes a port.
-    #[tactic(auto, using(crate::proofs::Stations::call_laws))]
     pub(crate) fn close(&mut self, port: PortId) -> Result<(), Stop>
         ensures { IsAnswerBy (λ _. Done []) (at_address self.old port.station (closes self.old port.number)) self.old self.new result }
     {
@@ -40,7 +38,6 @@ impl Segment {
     }
 
     /// Pauses a port.
-    #[tactic(auto, using(crate::proofs::Stations::call_laws))]
     pub(crate) fn pause(&mut self, port: PortId) -> Result<(), Stop>
         ensures { IsAnswerBy (λ _. Done []) (at_address self.old port.station (pauses self.old port.number)) self.old self.new result }
     {
@@ -54,7 +51,6 @@ impl Segment {
     }
 
     /// Ends the pause of a port.
-    #[tactic(auto, using(crate::proofs::Stations::call_laws))]
     pub(crate) fn resume(&mut self, port: PortId) -> Result<(), Stop>
         ensures { IsAnswerBy (λ _. Done []) (at_address self.old port.station (resumes self.old port.number)) self.old self.new result }
     {

@@ -58,7 +58,6 @@ impl Segment {
     }
 
     // Why a Close of a port would be refused.
-    #[tactic(auto, using(crate::proofs::Stations::call_laws))]
     fn close_refusal(&self, port: PortId) -> Option<Refusal>
         ensures { result ≡ refusal_of (at_address self.now port.station (closes self.now port.number)) }
     {
@@ -69,7 +68,6 @@ impl Segment {
     }
 
     // Why a Pause of a port would be refused.
-    #[tactic(auto, using(crate::proofs::Stations::call_laws))]
     fn pause_refusal(&self, port: PortId) -> Option<Refusal>
         ensures { result ≡ refusal_of (at_address self.now port.station (pauses self.now port.number)) }
     {
@@ -80,7 +78,6 @@ impl Segment {
     }
 
     // Why a Resume of a port would be refused.
-    #[tactic(auto, using(crate::proofs::Stations::call_laws))]
     fn resume_refusal(&self, port: PortId) -> Option<Refusal>
         ensures { result ≡ refusal_of (at_address self.now port.station (resumes self.now port.number)) }
     {
@@ -92,7 +89,6 @@ impl Segment {
 
     /// Why an Open at a station would be refused, whatever its PGN and length: the address isn't a station's, or the
     /// station has 16 open ports or no number left. It takes no memory.
-    #[tactic(auto, unfolding(segment_law::specs::Calls::called), using(crate::proofs::Stations::call_laws))]
     pub fn open_refusal(&self, station: Address) -> Option<Refusal>
         ensures { (pgn max_len : ℕ) → result ≡ refusal_of (called self.now (Open station pgn max_len)) }
     {
@@ -135,7 +131,6 @@ impl Segment {
     }
 
     /// Why a Pump of the lane from a station to a destination would be refused.
-    #[tactic(auto, using(crate::proofs::Stations::call_laws))]
     pub(crate) fn pump_refusal(&self, station: Address, to: Address) -> Option<Refusal>
         ensures { result ≡ refusal_of (at_address self.now station (pumps self.now to)) }
     {
@@ -146,7 +141,6 @@ impl Segment {
     }
 
     /// Why a station's Take would be refused, with room or without.
-    #[tactic(auto, using(crate::proofs::Stations::call_laws))]
     pub(crate) fn take_refusal(&self, station: Address, room: bool) -> Option<Refusal>
         ensures { result ≡ refusal_of (at_address self.now station (takes self.now room)) }
     {
@@ -160,7 +154,6 @@ impl Segment {
     }
 
     // Why a station's TakeAgain would be refused.
-    #[tactic(auto, using(crate::proofs::Stations::call_laws))]
     fn repeat_refusal(&self, station: Address, room: bool) -> Option<Refusal>
         ensures { result ≡ refusal_of (at_address self.now station (repeats self.now room)) }
     {
@@ -198,7 +191,6 @@ impl Segment {
     }
 
     // Why a station's Fire would be refused.
-    #[tactic(auto, using(crate::proofs::Stations::call_laws))]
     fn fire_refusal(&self, station: Address) -> Option<Refusal>
         ensures { result ≡ refusal_of (at_address self.now station (fires self.now)) }
     {
@@ -209,7 +201,6 @@ impl Segment {
     }
 
     // Why a Cancel of a message would be refused.
-    #[tactic(auto, using(crate::proofs::Stations::call_laws))]
     fn cancel_refusal(&self, from: Address, to: Address, number: u64) -> Option<Refusal>
         ensures { result ≡ refusal_of (at_address self.now from (cancels self.now to number)) }
     {

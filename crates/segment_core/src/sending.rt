@@ -14,7 +14,6 @@ use segment_law::{Refusal, Reply};
 
 impl Segment {
     /// Sends a message.
-    #[tactic(auto, using(crate::proofs::Stations::call_laws))]
     pub(crate) fn send(
         &mut self,
         from: Address,
@@ -35,7 +34,6 @@ impl Segment {
     }
 
     /// Queues what comes next in a lane.
-    #[tactic(auto, using(crate::proofs::Stations::call_laws))]
     pub(crate) fn pump(&mut self, station: Address, to: Address) -> Result<Reply, Stop>
         ensures { IsAnswer (at_address self.old station (pumps self.old to)) self.old self.new result }
     {
@@ -50,7 +48,6 @@ impl Segment {
     }
 
     /// Queues what comes next in a lane where that ends no message; any other pump changes nothing.
-    #[tactic(auto, using(crate::proofs::Stations::call_laws))]
     pub(crate) fn pump_in_place(&mut self, station: Address, to: Address) -> bool
         ensures value { result ≡ pump_quiet (station_of self.old station) to self.old.now }
         ensures step { OnTrue result (at_address self.old station (pumps self.old to) ≡ done self.new) }
@@ -64,7 +61,6 @@ impl Segment {
     }
 
     /// Cancels a message that has no outcome yet.
-    #[tactic(auto, using(crate::proofs::Stations::call_laws))]
     pub(crate) fn cancel(&mut self, from: Address, to: Address, number: u64) -> Result<Reply, Stop>
         ensures { IsAnswer (at_address self.old from (cancels self.old to number)) self.old self.new result }
     {

@@ -1,9 +1,9 @@
 use Rattle.std.proofs.Common.{◌≡◌, ◌<◌, ◌≤◌, ◌++◌, ◌∷◌, [], length, map, subst, sym, ap, ◌∙◌}
 use Rattle.std.proofs.lemmas.List.{length-replicate, length-map}
 use Rattle.std.specs.Vec.{vec_capacity}
-use Rattle.bus_order.specs.Bus.{start, new_bus}
+use Rattle.bus_order.specs.Bus.{start}
 use Rattle.station_core.specs.Station.{new_station}
-use Rattle.segment_core.specs.Places.{no_places, noted, ArePlaces}
+use Rattle.segment_core.specs.Places.{noted, ArePlaces}
 use Rattle.segment_core.proofs.Placing.{none_placed, placed_on, added, how_many, vec_long, room_left, at_end, few_before, before_is, byte, stands_whole}
 use Rattle.segment_law.specs.Segment.{no_counts, rising}
 use Rattle.segment_law.proofs.New.{length_rising, new_reached}

@@ -1,4 +1,4 @@
-use Rattle.std.proofs.Common.{◌≡◌, Err, refl, sym, ap, ◌∙◌}
+use Rattle.std.proofs.Common.{Err, refl, sym, ap, ◌∙◌}
 use Rattle.bus_order.specs.Bus.{frame_again}
 use Rattle.segment_law.specs.Calls.{repeats_by, repeats}
 use Rattle.segment_law.specs.declared.refusal.Refusal.TheVariants.{NothingToRepeat}

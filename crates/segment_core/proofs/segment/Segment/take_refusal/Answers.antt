@@ -1,4 +1,4 @@
-use Rattle.std.proofs.Common.{◌≡◌, Err, refl, sym, ap, ◌∙◌}
+use Rattle.std.proofs.Common.{Err, refl, sym, ap, ◌∙◌}
 use Rattle.segment_law.specs.Calls.{takes_by, takes}
 use Rattle.segment_law.specs.declared.refusal.Refusal.TheVariants.{NothingToTake}
 use Rattle.segment_core.specs.Answers.{refusal_of, first_refusal}
