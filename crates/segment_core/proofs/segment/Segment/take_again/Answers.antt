@@ -1,13 +1,12 @@
-use Rattle.std.proofs.Common.{◌≡◌, Err, refl, sym, ap, ◌∙◌}
+use Rattle.std.proofs.Common.{◌≡◌, refl, sym, ap, ◌∙◌}
 use Rattle.bus_order.specs.Bus.{frame_again}
 use Rattle.station_core.specs.Taking.{taken}
-use Rattle.segment_law.specs.Calls.{repeats_by, repeats}
-use Rattle.segment_law.specs.declared.refusal.Refusal.TheVariants.{NothingToRepeat}
+use Rattle.segment_law.specs.Calls.{repeats}
 use Rattle.segment_core.proofs.Addresses.{taken_keeps}
 use Rattle.segment_core.proofs.Refusals.{repeats_are, stops}
 use Rattle.segment_core.proofs.Stations.{at_none}
 use Rattle.segment_core.proofs.Kept.{inside_kept, at_here, repeats_is, repeated_view, unchanged_view}
-use Rattle.segment_core.proofs.Calling.{within_here, cursor_here, at_any}
+use Rattle.segment_core.proofs.Calling.{within_here, cursor_here}
 use Rattle.segment_core.proofs.segment.Segment.take_again.Goals as goal
 
 pub returns-in_default : goal.returns-in_default
@@ -15,13 +14,6 @@ returns-in_default c = (at_none c.args.self.now c.args.station (repeats c.args.s
 
 pub again-requires : goal.again-requires
 again-requires c = cursor_here c.self.inside c.args.self.now c.in-Some.place c.self.invariant c.self.view_is c.in-Some.ensures.within
-
-pub returns-in_default-again : goal.returns-in_default-again
-returns-in_default-again c = (
-  at_any c.args.self.now c.args.station c.in-Some.place (repeats c.args.self.now c.args.room) (Err NothingToRepeat) c.in-Some.ensures.value c.in-Some.ensures.within
-      (λ st. ap (repeats_by c.args.self.now c.args.room c.in-Some.place st) (ap (λ x. frame_again x.bus c.in-Some.place) (sym c.self.view_is) ∙ sym c.again.ensures.frame ∙ c.in_default-again.is)),
-  refl,
-)
 
 pub index_mut-requires : goal.index_mut-requires
 index_mut-requires c = within_here c.self.inside c.args.self.now c.in-Some.place c.self.view_is c.in-Some.ensures.within
