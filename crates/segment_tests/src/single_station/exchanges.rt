@@ -1,6 +1,6 @@
 //! Messages between two nodes: frames as SAE J1939-21 writes them.
 use crate::checks::same;
-use crate::one_station::calls::*;
+use crate::single_station::calls::*;
 use one_station::*;
 use pgn_ids::Address;
 use std::process::Abort;

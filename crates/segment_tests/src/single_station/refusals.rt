@@ -1,6 +1,6 @@
 //! Calls that are refused, and change nothing.
 use crate::checks::{got, same};
-use crate::one_station::calls::*;
+use crate::single_station::calls::*;
 use one_station::*;
 use pgn_ids::Address;
 use std::process::Abort;
