@@ -120,6 +120,12 @@ impl Segment {
         ensures err { OnErr result (self.new ≡ self.old) }
         ensures not_refused { OnErr result (IsOk (called self.old call)) }
     {
+        // Whoever sends a broadcast pumps too soon each time, so that refusal is told first.
+        if let Call::Pump { station, to } = &call {
+            if let Some(cause) = self.pump_refusal(*station, *to) {
+                return Ok(Reply::Refused(cause));
+            }
+        }
         match self.call(call) {
             Ok(reply) => Ok(reply),
             Err(Stop::Refused(cause)) => Ok(Reply::Refused(cause)),
