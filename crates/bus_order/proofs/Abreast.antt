@@ -16,7 +16,7 @@ use Rattle.bus_order.proofs.Steps.{sound_moved, sound_released, released_len, lo
 
 -- All stand at one place
 
-both : (x y : Bool) → (x && y) ≡ true → (x ≡ true) × (y ≡ true)
+pub both : (x y : Bool) → (x && y) ≡ true → (x ≡ true) × (y ≡ true)
 both true y e = (refl, e)
 both false y e = absurd cc
 

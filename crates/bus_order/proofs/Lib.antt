@@ -3,3 +3,4 @@ pub mod Steps
 pub mod Lists
 pub mod Order
 pub mod Abreast
+pub mod Level

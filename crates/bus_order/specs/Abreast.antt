@@ -1,11 +1,15 @@
 -- Stations that are abreast.
-use Rattle.std.specs.Prelude.{ℕ, zero, suc, ◌+◌, Bool, ◌&&◌, ◌==◌, length, count_by}
-use Rattle.bus_order.specs.Bus.{Bus, bus_len, lowest, taken, released}
+use Rattle.std.specs.Prelude.{ℕ, zero, suc, ◌+◌, Bool, not, ◌&&◌, ◌==◌, length, count_by}
+use Rattle.bus_order.specs.Bus.{Bus, bus_len, lowest, is_full, taken, released}
 
 -- the cursor furthest behind is right before the newest frame, and all others stand there too: that frame alone waits for each
 -- station
 abbrev pub are_abreast : Bus → Bool
 are_abreast bus = lowest bus.cursors + 1 == bus_len bus && count_by (λ c. c.place == lowest bus.cursors) bus.cursors == length bus.cursors
+
+-- all cursors stand at the newest frame, which alone is kept, and one more can be put
+abbrev pub are_level : Bus → Bool
+are_level bus = lowest bus.cursors == bus_len bus && count_by (λ c. c.place == lowest bus.cursors) bus.cursors == length bus.cursors && length bus.kept == 1 && not (is_full bus)
 
 -- the first n stations take the frame behind their cursors, one after the other; what nobody needs any more is dropped each time
 abbrev pub passed_first : ℕ → Bus → Bus

@@ -5,7 +5,7 @@ ghost use Rattle.std.specs.Option.{option_copied};
 ghost use Rattle.std.specs.VecDeque.{deque_capacity};
 ghost use Rattle.bus_order.specs.Bus.{new_bus, bus_len, lowest, cursor_at, frame_at, next_frame, frame_again, waiting, is_full, put, taken, passed, released};
 ghost use Rattle.bus_order.specs.Kept.{HoldsAhead, IsSound};
-ghost use Rattle.bus_order.specs.Abreast.{are_abreast, passed_first};
+ghost use Rattle.bus_order.specs.Abreast.{are_abreast, are_level, passed_first};
 
 use crate::cursor::{Cursor, Rear, bring_all, move_cursor};
 use bus_frame::Frame;
@@ -16,6 +16,9 @@ use thiserror::Error;
 
 /// How many frames are kept at most.
 const KEPT_LIMIT: usize = 4096;
+
+// Room for so many frames is made at once, so that a frame which stations that are level don't all take needs no memory.
+const ROOM: usize = 2;
 
 /// Why a frame isn't put.
 #[derive(Clone, Copy, Debug, PartialEq, Eq, Error)]
@@ -184,7 +187,7 @@ impl BusLog {
         if self.len() == u64::MAX {
             return Err(PutError::BusFull);
         }
-        if self.kept.len() == self.kept.capacity() {
+        if self.kept.capacity() - self.kept.len() < ROOM {
             match grow(&mut self.kept) {
                 Ok(()) => {}
                 Err(_) => return Err(PutError::OutOfMemory),
@@ -270,6 +273,63 @@ impl BusLog {
         }
     }
 
+    /// Whether the stations are level: all have taken or passed over the newest frame, which alone is kept, and one more can be
+    /// put without memory.
+    #[inline]
+    pub fn are_level(&self) -> bool
+        ensures { result ≡ are_level self.now }
+    {
+        self.kept.len() == 1
+            && self.rear.place == self.first
+            && self.rear.count == self.stations()
+            && self.first < u64::MAX
+    }
+
+    /// A frame is put, and the first n of the stations, which are level, take it, as by `put` and `pass_first` one after the
+    /// other. It takes no memory.
+    #[inline]
+    pub fn put_passed(&mut self, frame: Frame, n: usize)
+        requires n { n ≤ length self.old.cursors }
+        requires level { are_level self.old ≡ true }
+        ensures passed { self.new ≡ passed_first n (put self.old frame) }
+        ensures holds { HoldsAhead self.new }
+    {
+        if n == self.stations() {
+            return self.replace(frame);
+        }
+        self.put_level(frame, n)
+    }
+
+    // All of them take it: it takes the place of the newest frame, which nobody needs any more.
+    #[inline]
+    fn replace(&mut self, frame: Frame)
+        requires level { are_level self.old ≡ true }
+        ensures passed { self.new ≡ passed_first (length self.old.cursors) (put self.old frame) }
+        ensures holds { HoldsAhead self.new }
+    {
+        let to = Cursor::taken(self.first + 1);
+        let count = self.stations();
+        self.kept[0] = frame;
+        self.first = to.place;
+        bring_all(&mut self.cursors, to);
+        self.rear = Rear {
+            place: to.place,
+            count,
+        };
+    }
+
+    // Some of them take it.
+    #[inline(never)]
+    fn put_level(&mut self, frame: Frame, n: usize)
+        requires n { n ≤ length self.old.cursors }
+        requires level { are_level self.old ≡ true }
+        ensures passed { self.new ≡ passed_first n (put self.old frame) }
+        ensures holds { HoldsAhead self.new }
+    {
+        self.kept.push_back_reserved(frame);
+        self.pass_first(n)
+    }
+
     // All of them do. They stay abreast, so none of them is looked at.
     fn pass_all(&mut self)
         requires abreast { are_abreast self.old ≡ true }
@@ -338,18 +398,20 @@ impl BusLog {
     }
 }
 
-// Makes room for one more frame. It is kept out of `put`, which seldom needs it.
+// Makes room for one more frame and the next. It is kept out of `put`, which seldom needs it.
 #[inline(never)]
 fn grow(kept: &mut VecDeque<Frame>) -> Result<(), AllocError>
     ensures items { kept.new.items ≡ kept.old.items }
-    ensures room { OnOk result (length kept.new.items < deque_capacity kept.new) }
+    ensures capacity { deque_capacity kept.old ≤ deque_capacity kept.new }
+    ensures room { OnOk result (length kept.new.items + ROOM ≤ deque_capacity kept.new) }
 {
-    kept.reserve(1)
+    kept.reserve(ROOM)
 }
 
 // Frame by frame, so that what it costs is in proportion to what it drops.
 fn drop_front(kept: &mut VecDeque<Frame>, n: usize)
-    ensures { kept.new.items ≡ drop n kept.old.items }
+    ensures items { kept.new.items ≡ drop n kept.old.items }
+    ensures capacity { deque_capacity kept.new ≡ deque_capacity kept.old }
 {
     for _ in 0..n {
         let _dropped = kept.pop_front();

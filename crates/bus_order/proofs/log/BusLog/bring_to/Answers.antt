@@ -18,6 +18,7 @@ invariant_of-self c =
     record {
       sound = rw (items, brought) sound;
       rear = rw (items, brought) (log_rear (log_value c.self.inside) c.args.self.now c.args.to c.to.inside.place c.stations-count.result c.self.view_is c.requires.some place c.stations-count.ensures);
+      room = c.self.invariant.room;
     }
 
 pub returns-clause-holds : goal.returns-clause-holds

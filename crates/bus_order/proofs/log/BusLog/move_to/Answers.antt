@@ -15,6 +15,7 @@ invariant_of-self c =
     record {
       sound = rw (items, moved) sound;
       rear = rw items c.move_cursor-self-inside.ensures.rear;
+      room = c.self.invariant.room;
     }
 
 pub returns-clause-holds : goal.returns-clause-holds

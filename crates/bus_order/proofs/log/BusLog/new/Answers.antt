@@ -1,4 +1,4 @@
-use Rattle.std.proofs.Common.{◌≡◌, replicate}
+use Rattle.std.proofs.Common.{◌≡◌, ap, length, replicate, arith}
 use Rattle.bus_order.specs.Bus.{start}
 use Rattle.bus_order.proofs.Steps.{sound_new}
 use Rattle.bus_order.proofs.Cursors.{rear_new}
@@ -10,4 +10,5 @@ invariant_of-result c =
     record {
       sound = rw (c.new.ensures.items, cursors) (sound_new c.args.stations);
       rear = rw cursors (rear_new c.args.stations);
+      room = λ some. absurd (omega (arith, some, ap length c.new.ensures.items));
     }

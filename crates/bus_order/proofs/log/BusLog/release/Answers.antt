@@ -9,4 +9,4 @@ pub returns-clause-holds : goal.returns-clause-holds
 returns-clause-holds c =
     let s : IsSound (log_value c.self.inside) = c.self.invariant.sound in
     let e : c.self.inside.rear.place ≡ max 1 (lowest c.self.inside.cursors.items) = omega (arith, c.self.invariant.rear.place, s.from_one) in
-    sound_holds _ (rw (c.drop_front.ensures, e) (sound_released (log_value c.self.inside) s))
+    sound_holds _ (rw (c.drop_front.ensures.items, e) (sound_released (log_value c.self.inside) s))
