@@ -1,10 +1,10 @@
 -- Stations that are level, and the bus after a frame was put and all of them took it.
-use Rattle.std.proofs.Common.{◌≡◌, ℕ, zero, suc, ◌+◌, ◌-◌, ◌<◌, ◌≤◌, ◌++◌, max, Bool, true, false, ◌&&◌, ◌==◌, List, [], ◌∷◌, length, drop, replicate, set, count_by, refl, sym, ap, ◌∙◌, subst, arith}
-use Rattle.std.specs.Prelude.{not}
-use Rattle.std.proofs.lemmas.Bool.{eqb-true, eq-eqb}
+use Rattle.std.proofs.Common.{◌≡◌, ℕ, ◌+◌, ◌-◌, ◌<◌, ◌++◌, max, Bool, true, false, ◌&&◌, ◌==◌, List, [], ◌∷◌, length, drop, replicate, set, count_by, refl, ap, ◌∙◌, subst, arith}
+use Rattle.std.specs.Prelude.{not, Some, slice_get}
+use Rattle.std.proofs.lemmas.Bool.{eqb-true, eq-eqb, le-leb}
 use Rattle.std.proofs.lemmas.List.{length_push}
 use Rattle.bus_frame.specs.Frames.{CanFrame}
-use Rattle.bus_order.specs.Bus.{Bus, Cursor, lowest, bus_len, is_full, put, released}
+use Rattle.bus_order.specs.Bus.{Bus, Cursor, lowest, bus_len, frame_at, is_full, put}
 use Rattle.bus_order.specs.Kept.{IsSound}
 use Rattle.bus_order.specs.Rear.{IsRear}
 use Rattle.bus_order.specs.Abreast.{are_abreast, are_level, passed_first}
@@ -53,6 +53,20 @@ level_some bus s e =
     let l : Level bus = stand_level bus e in
     some_cursor bus.cursors (omega (arith, l.newest, l.alone, s.from_one))
 
+pub level_sound : (bus : Bus) (frame : CanFrame) → IsSound bus → are_level bus ≡ true → IsSound (put bus frame)
+level_sound bus frame s e = sound_put bus frame s (stand_level bus e).room
+
+-- and is the newest
+pub newest_put : (bus : Bus) (frame : CanFrame) → 0 < bus.first → frame_at (put bus frame) (bus_len (put bus frame)) ≡ Some frame
+newest_put bus frame from_one =
+    let more : length (put bus frame).kept ≡ length bus.kept + 1 = length_push bus.kept frame in
+    let at : bus_len (put bus frame) - bus.first ≡ length bus.kept = omega arith in
+    rw (le-leb bus.first (bus_len (put bus frame)) (omega arith), at) (last_pushed bus.kept)
+  where
+    last_pushed : (kept : List CanFrame) → slice_get (kept ++ frame ∷ []) (length kept) ≡ Some frame
+    last_pushed [] = refl
+    last_pushed (x ∷ xs) = last_pushed xs
+
 alone_kept : (kept : List CanFrame) (frame : CanFrame) → length kept ≡ 1 → drop 1 (kept ++ frame ∷ []) ≡ frame ∷ []
 alone_kept [] frame e = absurd (omega arith)
 alone_kept (x ∷ []) frame e = refl
@@ -71,14 +85,14 @@ replaced_is bus frame s e =
     let to : Cursor = record { place = lowest bus.cursors + 1; repeatable = true } in
     let from : max 1 (lowest (replicate n to)) ≡ bus.first + 1 = omega (arith, lowest_same to n some, at) in
     let one : max 1 (lowest (replicate n to)) - bus.first ≡ 1 = omega (arith, from) in
-    passed_all n (put bus frame) (sound_put bus frame s l.room) (level_abreast bus frame e s.from_one) refl some
+    passed_all n (put bus frame) (level_sound bus frame s e) (level_abreast bus frame e s.from_one) refl some
     ∙ (λ i. record { first = from i; kept = drop (one i) (bus.kept ++ frame ∷ []); cursors = replicate n to })
     ∙ (λ i. record { first = bus.first + 1; kept = alone_kept bus.kept frame l.alone i; cursors = replicate n (record { place = at i + 1; repeatable = true }) })
 
 pub sound_replaced : (bus : Bus) (frame : CanFrame) → IsSound bus → are_level bus ≡ true → IsSound (replaced bus frame)
 sound_replaced bus frame s e =
     let l : Level bus = stand_level bus e in
-    subst IsSound (replaced_is bus frame s e) (passed_sound (length bus.cursors) (put bus frame) (sound_put bus frame s l.room) (level_abreast bus frame e s.from_one) (omega arith))
+    subst IsSound (replaced_is bus frame s e) (passed_sound (length bus.cursors) (put bus frame) (level_sound bus frame s e) (level_abreast bus frame e s.from_one) (omega arith))
 
 pub rear_replaced : (bus : Bus) (frame : CanFrame) (place count : ℕ) → IsSound bus → are_level bus ≡ true → place ≡ bus.first + 1 → count ≡ length bus.cursors → IsRear (record { place = place; count = count }) (replaced bus frame).cursors
 rear_replaced bus frame place count s e at many =

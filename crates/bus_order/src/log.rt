@@ -277,7 +277,8 @@ impl BusLog {
     /// put without memory.
     #[inline]
     pub fn are_level(&self) -> bool
-        ensures { result ≡ are_level self.now }
+        ensures value { result ≡ are_level self.now }
+        ensures sound { IsSound self.now }
     {
         self.kept.len() == 1
             && self.rear.place == self.first

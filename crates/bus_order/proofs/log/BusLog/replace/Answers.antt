@@ -1,14 +1,11 @@
-use Rattle.std.proofs.Common.{◌≡◌, ◌∙◌, ◌+◌, true, refl, sym, ap, subst, length, replicate, set, List, [], ◌∷◌, arith}
+use Rattle.std.proofs.Common.{◌≡◌, ◌∙◌, ◌+◌, true, sym, ap, length, replicate, set, [], ◌∷◌, arith}
 use Rattle.std.proofs.lemmas.List.{with_items_is, length-replicate}
 use Rattle.std.specs.Vec.{with_items}
-use Rattle.bus_frame.specs.Frames.{CanFrame}
-use Rattle.bus_order.specs.Bus.{Bus, Cursor, put}
+use Rattle.bus_order.specs.Bus.{Bus, put}
 use Rattle.bus_order.specs.Abreast.{are_level, passed_first}
 use Rattle.bus_order.specs.LogFields.{log_value}
-use Rattle.bus_order.specs.Kept.{IsSound}
-use Rattle.bus_order.specs.Rear.{IsRear}
 use Rattle.bus_order.proofs.Steps.{sound_holds}
-use Rattle.bus_order.proofs.Level.{stand_level, replaced, replaced_is, sound_replaced, rear_replaced, alone_set}
+use Rattle.bus_order.proofs.Level.{stand_level, replaced_is, sound_replaced, rear_replaced, alone_set}
 use Rattle.bus_order.proofs.log.BusLog.replace.Goals as goal
 
 pub invariant_of-self : goal.invariant_of-self
