@@ -101,7 +101,7 @@ had_room (Err x) full e h = absurd cc
 had_room (Ok u) true e h = let never : Ok u ≡ Err BusFull = h.1 refl in absurd cc
 had_room (Ok u) false e h = refl
 
-transmits_is : (seg : Segment) (i : ℕ) (st : Station) (frame : CanFrame) → Some frame ≡ front st.queue → bus.is_full seg.bus ≡ false → transmits seg i st ≡ done (with_frame (with_station seg i (record st { queue = behind st.queue })) frame)
+pub transmits_is : (seg : Segment) (i : ℕ) (st : Station) (frame : CanFrame) → Some frame ≡ front st.queue → bus.is_full seg.bus ≡ false → transmits seg i st ≡ done (with_frame (with_station seg i (record st { queue = behind st.queue })) frame)
 transmits_is seg i st frame next free =
     ap (transmits_by seg i st) (sym next)
     ∙ ap (λ (b : Bool). cond {A = Answer} b (Err refusal.BusFull) (done (with_frame (with_station seg i (record st { queue = behind st.queue })) frame))) free

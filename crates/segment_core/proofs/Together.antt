@@ -1,22 +1,25 @@
 -- Stations that are abreast, of which the first take the newest frame: as many Takes.
-use Rattle.std.proofs.Common.{◌≡◌, ℕ, zero, suc, ◌+◌, ◌<◌, ◌≤◌, true, List, [], length, set, get_or, Option, Some, None, Ok, refl, sym, ap, ◌∙◌, subst, arith, append-nil, length-set}
+use Rattle.std.proofs.Common.{◌≡◌, ℕ, zero, suc, ◌+◌, ◌<◌, ◌≤◌, true, false, List, [], length, set, get_or, Option, Some, None, Ok, refl, sym, ap, ◌∙◌, subst, arith, append-nil, length-set}
 use Rattle.std.specs.Prelude.{slice_get}
-use Rattle.std.specs.Vec.{with_items}
+use Rattle.std.specs.Vec.{with_item, with_items}
 use Rattle.std.proofs.lemmas.List.{get_or-map, with_items_is}
 use Rattle.std.proofs.lemmas.Option.{get_or_from_slice_get, slice_get_within, slice_get_read}
 use Rattle.bus_frame.specs.Frames.{CanFrame}
 use Rattle.pgn_ids.specs.declared.address.Address.{Address}
-use Rattle.bus_order.specs.Bus.{Bus, bus_len, frame_at, next_frame, waiting, released, taken as moved}
+use Rattle.tx_queue.specs.Queue.{front, behind}
+use Rattle.bus_order.specs.Bus.{Bus, bus_len, frame_at, is_full, next_frame, put, waiting, released, taken as moved}
 use Rattle.bus_order.specs.Kept.{IsSound}
-use Rattle.bus_order.specs.Abreast.{are_abreast, passed_first}
+use Rattle.bus_order.specs.Abreast.{are_abreast, are_level, passed_first}
+use Rattle.bus_order.proofs.Level.{stand_level, level_sound, level_abreast, newest_put}
 use Rattle.bus_order.proofs.Abreast.{passed_cursors, passed_newest, passed_waits, passed_sound}
 use Rattle.message_events.specs.declared.event.Event.{Event}
 use Rattle.station_core.specs.Station.{Station, quietly}
-use Rattle.segment_law.specs.Segment.{Segment, station_limit, place_of, waiting_at, counted_look}
-use Rattle.segment_law.specs.Calls.{at_address, takes}
+use Rattle.segment_law.specs.Segment.{Segment, station_limit, place_of, waiting_at, with_station, counted_frame, counted_look}
+use Rattle.segment_law.specs.Calls.{at_address, done, takes, transmits, with_frame}
 use Rattle.segment_law.specs.Drive.{Driven, takes_all}
 use Rattle.segment_law.specs.declared.reply.Reply.TheVariants.{Done}
-use Rattle.segment_core.specs.Abreast.{TakesInPlace, FirstTake, FirstPass}
+use Rattle.segment_law.specs.declared.counts.Counts.{Counts}
+use Rattle.segment_core.specs.Abreast.{TakesInPlace, FirstTake, FirstPass, PutAbreast}
 use Rattle.segment_core.specs.Drives.{IsShown, IsFollowed, HasTaken, addresses_of}
 use Rattle.segment_core.specs.Joined.{joined}
 use Rattle.segment_core.specs.Places.{ArePlaces}
@@ -24,7 +27,8 @@ use Rattle.segment_core.specs.declared.places.Places.{Places}
 use Rattle.segment_core.specs.SegmentFields.{segment_value, IsSegmentInside}
 use Rattle.segment_core.specs.declared.segment.Segment.TheInside.{Inside}
 use Rattle.segment_core.proofs.Addresses.{taken_keeps}
-use Rattle.segment_core.proofs.Kept.{said, takes_is}
+use Rattle.segment_core.proofs.Kept.{said, takes_is, at_here, inside_moved, same_item}
+use Rattle.segment_core.proofs.Calling.{station_here, transmits_is}
 use Rattle.segment_core.proofs.Stations.{StandInPlace, at_is, places_kept, in_place_kept}
 use Rattle.segment_core.proofs.Steps.{takes_made, has_taken}
 use Rattle.segment_core.proofs.Sweeps.{Sweeping, Taking}
@@ -160,6 +164,10 @@ swept (suc n) before after h from to was put_then told_then count put parts w =
     subst (λ (s : Segment). Sweeping from to was put_then told_then count (suc n) s put parts) (sym h.left)
     (swept_steps (suc n) before h.frame after.stations h.steps h.few h.abreast h.followed h.in_place h.newest from to was put_then told_then count put parts w.stations w)
 
+pub pass_length : (n : ℕ) (before after : Segment) → FirstPass n before after → length after.stations ≡ length before.stations
+pass_length zero before after e = ap (λ (s : Segment). length s.stations) e
+pass_length (suc n) before after h = first_length (suc n) h.frame before.now before.stations after.stations h.steps
+
 -- What the code did
 
 pub passed_are : (s : Inside) (after : Segment) (n now : ℕ) (frame : CanFrame) (stations : List Station) (moved_on : Bus) → IsSegmentInside s → IsSound s.bus → are_abreast s.bus ≡ true → frame_at s.bus (bus_len s.bus) ≡ Some frame → n ≤ length s.stations.items → now ≡ s.clock
@@ -195,4 +203,31 @@ inside_together s n now frame stations moved_on inside steps passed =
       cursors = ap (λ (b : Bus). length b.cursors) passed ∙ passed_cursors n s.bus ∙ inside.cursors ∙ sym long ∙ sym (ap length items);
       places = subst (ArePlaces s.places) (sym items) (first_placed n s.places frame now s.stations.items stations steps inside.places);
       in_place = subst StandInPlace (sym items) (first_in_place n frame now s.stations.items stations steps inside.in_place);
+    }
+
+-- A frame is put by one of them, and taken by the first
+
+pub put_inside : (s : Inside) (i : ℕ) (popped old : Station) (frame : CanFrame) (counts : Counts) → IsSegmentInside s → old ≡ get_or s.stations.items i old → popped.address ≡ old.address → IsSegmentInside (record s { stations = with_item s.stations i popped; bus = put s.bus frame; counts = counts })
+put_inside s i popped old frame counts inside is same =
+    let m : IsSegmentInside (record s { stations = with_item s.stations i popped; bus = put s.bus frame }) = inside_moved s i popped old (put s.bus frame) inside is same refl in
+    record { few = m.few; cursors = m.cursors; places = m.places; in_place = m.in_place }
+
+pub put_together : (s : Inside) (seg after : Segment) (a : Address) (i n now : ℕ) (st old popped : Station) (frame : CanFrame) (counts : Counts) (stations : List Station) (moved_on : Bus) → IsSegmentInside s → segment_value s ≡ seg → IsSound s.bus → are_level s.bus ≡ true
+    → Some i ≡ place_of seg a → i < length seg.stations → st ≡ get_or s.stations.items i st → Some frame ≡ front st.queue → old ≡ get_or s.stations.items i old → popped ≡ record old { queue = behind old.queue } → counts ≡ counted_frame s.counts
+    → n ≤ length (set s.stations.items i popped) → now ≡ s.clock → FirstTake n frame now (set s.stations.items i popped) stations → moved_on ≡ passed_first n (put s.bus frame) → after ≡ record { now = s.clock; stations = stations; bus = moved_on; counts = counts } → PutAbreast a frame n seg after
+put_together s seg after a i n now st old popped frame counts stations moved_on inside view sound level here within is next there left counted few time steps passed whole =
+    let same : old ≡ st = same_item seg.stations i old st within (there ∙ ap (λ (x : Segment). get_or x.stations i old) view) (is ∙ ap (λ (x : Segment). get_or x.stations i st) view) in
+    let free : is_full seg.bus ≡ false = ap (λ (x : Segment). is_full x.bus) (sym view) ∙ (stand_level s.bus level).room in
+    let went : record st { queue = behind st.queue } ≡ popped = sym (left ∙ ap (λ (x : Station). record x { queue = behind x.queue }) same) in
+    let t : Inside = record s { stations = with_item s.stations i popped; bus = put s.bus frame; counts = counts } in
+    let inside_then : IsSegmentInside t = put_inside s i popped old frame counts inside there (ap (λ (x : Station). x.address) left) in
+    record {
+      between = segment_value t;
+      put =
+        at_here s seg a i st (transmits seg) view here within is
+        ∙ transmits_is seg i st frame next free
+        ∙ (λ k. done (with_frame (with_station (sym view k) i (went k)) frame))
+        ∙ (λ k. done (record { now = s.clock; stations = set s.stations.items i popped; bus = put s.bus frame; counts = sym counted k }));
+      front = ap (λ (x : Station). front x.queue) (station_here s seg a i st view here within is) ∙ sym next;
+      passed = passed_are t after n now frame stations moved_on inside_then (level_sound s.bus frame sound level) (level_abreast s.bus frame level sound.from_one) (newest_put s.bus frame sound.from_one) few time steps passed whole;
     }

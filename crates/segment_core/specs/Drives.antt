@@ -8,7 +8,7 @@ use Rattle.message_events.specs.declared.event.Event.{Event}
 use Rattle.segment_law.specs.Segment.{Segment, waiting_at}
 use Rattle.segment_law.specs.Calls.{called, is_call}
 use Rattle.segment_law.specs.Record.{Step, Record, StandsAt, replies_from, after, calls_of, replies_of}
-use Rattle.segment_law.specs.Drive.{Driven, events_in, end_by, end_of}
+use Rattle.segment_law.specs.Drive.{Driven, events_in, end_by, end_of, puts, turn_puts}
 use Rattle.segment_law.specs.declared.call.Call.{Call}
 use Rattle.segment_law.specs.declared.end.DriveEnd.{DriveEnd}
 use Rattle.segment_law.specs.declared.refusal.Refusal.{Refusal}
@@ -107,6 +107,12 @@ HasGone start next seg put told (Err OutOfMemory) = IsCut start next seg put tol
 
 abbrev pub Went : (start : Segment) (next : Driven) (seg : Segment) → Course → Result (Unit {0}) Stop → Type 0
 Went start next seg course result = HasGone start next seg course.frames.items (joined course.parts.items) result
+
+-- what a drive did so far comes to the frame of its next turn, which this station puts
+pub record PutsNext (from to a : Address) (start : Segment) (d : Driven) (seg : Segment) (course : Course) : Type 0 where
+  pub at : Driven
+  pub shown : IsCourse None start at seg course
+  pub on : puts at a ≡ turn_puts from to d
 
 -- each station has its cursor on the bus, whose places are right
 pub record IsFollowed (seg : Segment) : Type 0 where

@@ -1,13 +1,14 @@
 //! The newest frame, taken by the stations that are abreast before it: it is read once for all of them.
-ghost use Rattle.std.specs.Prelude.{◌≡◌, ◌≤◌, length, true, IfSome};
+ghost use Rattle.std.specs.Prelude.{◌≡◌, ◌≤◌, length, true, IfSome, IfNone};
 ghost use Rattle.std.specs.Bool.{OnTrue, OnFalse};
 ghost use Rattle.std.specs.Option.{option_map};
 ghost use Rattle.pgn_ids.specs.Identifier.{meaning_of};
 ghost use Rattle.tp_wire.specs.Reading.{reading};
 ghost use Rattle.tp_wire.specs.Heard.{meant, meant_between};
 ghost use Rattle.tp_wire.specs.Rows.{comes_from};
-ghost use Rattle.segment_core.specs.Abreast.{TakesInPlace, FirstTake, FirstPass};
+ghost use Rattle.segment_core.specs.Abreast.{TakesInPlace, FirstTake, FirstPass, PutAbreast};
 
+use crate::counting::count_frame;
 use crate::segment::Segment;
 use bus_frame::Frame;
 use pgn_ids::{Address, IdMeaning, read_id};
@@ -75,5 +76,27 @@ impl Segment {
         let taken = take_first(&mut self.stations, &frame, now);
         self.bus.pass_first(taken);
         taken
+    }
+
+    /// Where the stations are level, the first frame of a station's queue is put on the bus, and the first of the stations take
+    /// it, as by `transmit_front` and `take_abreast`: the frame, and how many do. It is read and sorted before it comes to the
+    /// bus, where it takes the place of the newest if all of them take it. None where they aren't level or there is no such
+    /// frame, and then nothing changes.
+    #[inline(always)]
+    pub(crate) fn put_abreast(&mut self, station: Address) -> Option<(Frame, usize)>
+        ensures put { IfSome result (λ r. PutAbreast station r.0 r.1 self.old self.new) }
+        ensures none { IfNone result (self.new ≡ self.old) }
+    {
+        if !self.bus.are_level() {
+            return None;
+        }
+        let place = self.place_of(station)?;
+        let frame = self.stations[place].front()?;
+        let _transmitted = self.stations[place].pop();
+        count_frame(&mut self.counts);
+        let now = self.clock.now();
+        let taken = take_first(&mut self.stations, &frame, now);
+        self.bus.put_passed(frame, taken);
+        Some((frame, taken))
     }
 }

@@ -1,5 +1,5 @@
 //! Driving one lane, turn by turn.
-ghost use Rattle.std.specs.Prelude.{◌≡◌, ◌≢◌, ◌<◌, ◌++◌, List, length, None, true, OnOk, slice_index_or};
+ghost use Rattle.std.specs.Prelude.{◌≡◌, ◌≢◌, ◌<◌, ◌++◌, List, length, None, Err, true, IfOk, IfErr, OnOk, slice_index_or};
 ghost use Rattle.pgn_ids.specs.declared.address.Address.{Address};
 ghost use Rattle.lane_core.specs.declared.message.Pending.{Pending};
 ghost use Rattle.station_lanes.specs.LaneReaders.{missing_at};
@@ -9,7 +9,8 @@ ghost use Rattle.segment_law.specs.Quiet.{quiet, IsQuiet};
 ghost use Rattle.segment_law.specs.Drive.{Driven as Drive, driven, makes, puts, pumps, turn_puts, takes_all, turn};
 ghost use Rattle.segment_law.specs.declared.call.Call.TheVariants.{Pump, Take, Tick};
 ghost use Rattle.segment_law.specs.declared.end.DriveEnd.TheVariants as end;
-ghost use Rattle.segment_core.specs.Drives.{IsDriven, IsBegun, IsCourse, Went, IsFollowed, HasTaken, addresses_of, stop_end, too_soon};
+ghost use Rattle.segment_core.specs.Drives.{IsDriven, IsBegun, IsCourse, PutsNext, Went, IsFollowed, HasTaken, addresses_of, stop_end, too_soon};
+ghost use Rattle.segment_core.specs.Abreast.{HasPut};
 ghost use Rattle.segment_core.specs.Promise.{KeepsPromise};
 ghost use Rattle.segment_core.specs.Undisturbed.{IsQuietDrive};
 
@@ -85,10 +86,9 @@ impl Segment {
     fn turn(&mut self, from: Address, to: Address, course: &mut Course) -> Result<(), Stop>
         ensures { (start : State) (d : Drive) → IsCourse None start d self.old course.old → Went start (turn from to d) self.new course.new result }
     {
-        self.turn_puts(from, to, course)?;
+        let station = self.transmitter(from, to, course)?;
+        let first = self.put_one(station, course)?;
         let count = self.station_count();
-        // As a rule one frame waits for each station: it is read once for all.
-        let first = self.take_abreast();
         for place in first..count {
             let station = self.address_at(place);
             self.take_all(station, place == first, course)?;
@@ -96,41 +96,53 @@ impl Segment {
         Ok(())
     }
 
-    // The first part of a turn: one frame is put.
-    fn turn_puts(&mut self, from: Address, to: Address, course: &mut Course) -> Result<(), Stop>
-        ensures { (start : State) (d : Drive) → IsCourse None start d self.old course.old → Went start (turn_puts from to d) self.new course.new result }
+    // The station that puts a frame in this turn. Where none has one queued, the lane is pumped.
+    fn transmitter(&mut self, from: Address, to: Address, course: &mut Course) -> Result<Address, Stop>
+        ensures found { IfOk result (λ a. (start : State) (d : Drive) → IsCourse None start d self.old course.old → PutsNext from to a start d self.new course.new) }
+        ensures stopped { IfErr result (λ stop. (start : State) (d : Drive) → IsCourse None start d self.old course.old → Went start (turn_puts from to d) self.new course.new (Err stop)) }
     {
         let queued = self.queue_len(from);
         if queued > 0 {
-            return self.put_one(from, course);
+            return Ok(from);
         }
         let answers = self.queue_len(to);
         if answers > 0 {
-            return self.put_one(to, course);
+            return Ok(to);
         }
         self.pump_lane(from, to, course)?;
-        self.put_one(from, course)
+        Ok(from)
     }
 
-    // A station transmits.
+    // A station transmits, and the first of the stations take what it puts: how many. As a rule one frame waits for each station,
+    // which is read once for all.
     #[inline(always)]
-    fn put_one(&mut self, station: Address, course: &mut Course) -> Result<(), Stop>
-        ensures { (start : State) (d : Drive) → IsCourse None start d self.old course.old → Went start (puts d station) self.new course.new result }
+    fn put_one(&mut self, station: Address, course: &mut Course) -> Result<usize, Stop>
+        ensures put { IfOk result (λ n. HasPut station n self.old course.old self.new course.new) }
+        ensures stopped { IfErr result (λ stop. (start : State) (d : Drive) → IsCourse None start d self.old course.old → Went start (puts d station) self.new course.new (Err stop)) }
     {
         if !course.has_room() {
-            return self.put_growing(station, course);
+            return self.put_apart(station, course);
         }
-        match self.transmit_front(station) {
-            Some(frame) => {
+        match self.put_abreast(station) {
+            Some((frame, taken)) => {
                 course.put(Some(frame));
-                Ok(())
+                Ok(taken)
             }
-            None => self.put_growing(station, course),
+            None => self.put_apart(station, course),
         }
     }
 
-    // The same where the course has no room for the frame: memory is taken only once the call isn't refused.
+    // The same, one after the other: where the course has no room or the stations aren't level.
     #[inline(never)]
+    fn put_apart(&mut self, station: Address, course: &mut Course) -> Result<usize, Stop>
+        ensures put { IfOk result (λ n. HasPut station n self.old course.old self.new course.new) }
+        ensures stopped { IfErr result (λ stop. (start : State) (d : Drive) → IsCourse None start d self.old course.old → Went start (puts d station) self.new course.new (Err stop)) }
+    {
+        self.put_growing(station, course)?;
+        Ok(self.take_abreast())
+    }
+
+    // A station transmits. Memory for what the course tells is taken only once the call isn't refused.
     fn put_growing(&mut self, station: Address, course: &mut Course) -> Result<(), Stop>
         ensures { (start : State) (d : Drive) → IsCourse None start d self.old course.old → Went start (puts d station) self.new course.new result }
     {

@@ -6,10 +6,16 @@ use Rattle.segment_core.proofs.Drives.{relisted}
 use Rattle.segment_core.proofs.Steps.{puts_made}
 use Rattle.segment_core.proofs.segment.Segment.put_one.Goals as goal
 
-pub returns-in-Some : goal.returns-in-Some
-returns-in-Some c = λ start d h.
+pub returns-in-Some-clause-put : goal.returns-in-Some-clause-put
+returns-in-Some-clause-put c =
     let put = c.args.course.now.frames.items in
     let told = joined c.put.new.self.parts.items in
-    puts_made start d c.args.self.now c.transmit_front.new.self put c.put.new.self.frames.items told c.args.station (Done [])
-    (relisted None start d c.args.self.now put put (joined c.args.course.now.parts.items) told refl (ap joined c.put.ensures.parts) h)
-    c.in-Some.ensures.put (c.put.ensures.frames ∙ ap (λ o. put ++ option_to_list o) (sym c.in-Some.ensures.front))
+    let done = c.in-Some.ensures.put in
+    record {
+      between = done.between;
+      put = λ start d h.
+          puts_made start d c.args.self.now done.between put c.put.new.self.frames.items told c.args.station (Done [])
+          (relisted None start d c.args.self.now put put (joined c.args.course.now.parts.items) told refl (ap joined c.put.ensures.parts) h)
+          done.put (c.put.ensures.frames ∙ ap (λ o. put ++ option_to_list o) (sym done.front));
+      passed = done.passed;
+    }

@@ -1,25 +1,42 @@
-use Rattle.std.proofs.Common.{◌≡◌, Err, sym, rules}
+use Rattle.std.proofs.Common.{◌≡◌, None, Err, sym, subst, ◌∙◌, rules}
 use Rattle.segment_core.specs.Joined.{joined}
-use Rattle.segment_law.specs.Drive.{turn}
+use Rattle.segment_law.specs.Drive.{Driven, turn}
+use Rattle.segment_core.specs.Drives.{HasGone, IsShown}
 use Rattle.segment_core.proofs.Steps.{gone_by}
-use Rattle.segment_core.proofs.Together.{swept}
+use Rattle.segment_core.proofs.Together.{pass_length, swept}
 use Rattle.segment_core.proofs.Turns.{turn_stops, sweeping_begins, sweeping_goes, sweeping_stops, sweeping_ends}
 use Rattle.segment_core.proofs.segment.Segment.turn.Goals as goal
 
-pub returns-in_err-turn_puts : goal.returns-in_err-turn_puts
-returns-in_err-turn_puts c = λ start d h.
-    let e : c.from_residual.result ≡ Err c.in_err-turn_puts.field-0.0 = search rules in
-    let put = c.turn_puts.new.course.frames.items in
-    let told = joined c.turn_puts.new.course.parts.items in
-    gone_by start (turn c.args.from c.args.to d) c.turn_puts.new.self put told c.from_residual.result c.in_err-turn_puts.field-0.0 e
-    (turn_stops c.args.from c.args.to start d c.turn_puts.new.self put told c.in_err-turn_puts.field-0.0 (c.in_err-turn_puts.ensures start d h))
+pub returns-in_err-station : goal.returns-in_err-station
+returns-in_err-station c = λ start d h.
+    let e : c.from_residual.result ≡ Err c.in_err-station.field-0.0 = search rules in
+    let put = c.transmitter.new.course.frames.items in
+    let told = joined c.transmitter.new.course.parts.items in
+    gone_by start (turn c.args.from c.args.to d) c.transmitter.new.self put told c.from_residual.result c.in_err-station.field-0.0 e
+    (turn_stops c.args.from c.args.to start d c.transmitter.new.self put told c.in_err-station.field-0.0 (c.in_err-station.ensures.stopped start d h))
+
+pub returns-in_err-first : goal.returns-in_err-first
+returns-in_err-first c = λ start d h.
+    let e : c.from_residual-in_err-first.result ≡ Err c.in_err-first.field-0.0 = search rules in
+    let put = c.put_one.new.course.frames.items in
+    let told = joined c.put_one.new.course.parts.items in
+    let next = c.in_ok-station.ensures.found start d h in
+    let gone = subst (λ (x : Driven). HasGone start x c.put_one.new.self put told (Err c.in_err-first.field-0.0)) next.on (c.in_err-first.ensures.stopped start next.at next.shown) in
+    gone_by start (turn c.args.from c.args.to d) c.put_one.new.self put told c.from_residual-in_err-first.result c.in_err-first.field-0.0 e
+    (turn_stops c.args.from c.args.to start d c.put_one.new.self put told c.in_err-first.field-0.0 gone)
 
 pub loop-place-init : goal.loop-place-init
 loop-place-init c =
-    swept c.take_abreast-first.result c.turn_puts.new.self c.take_abreast-first.new.self c.take_abreast-first.ensures
-    c.args.from c.args.to c.args.self.now c.args.course.now.frames.items c.args.course.now.parts.items c.station_count-count.result c.turn_puts.new.course.frames.items c.turn_puts.new.course.parts.items
+    let done = c.in_ok-first.ensures.put in
+    let put = c.put_one.new.course.frames.items in
+    let parts = c.put_one.new.course.parts.items in
+    swept c.in_ok-first.first done.between c.put_one.new.self done.passed
+    c.args.from c.args.to c.args.self.now c.args.course.now.frames.items c.args.course.now.parts.items c.station_count-count.result put parts
     (sweeping_begins c.args.from c.args.to c.args.self.now c.args.course.now.frames.items c.args.course.now.parts.items c.station_count-count.result
-    c.turn_puts.new.self c.turn_puts.new.course.frames.items c.turn_puts.new.course.parts.items (sym c.station_count-count.ensures) (λ start d h. c.in_ok-turn_puts.ensures start d h))
+    done.between put parts (sym (pass_length c.in_ok-first.first done.between c.put_one.new.self done.passed) ∙ sym c.station_count-count.ensures)
+    (λ start d h.
+    let next = c.in_ok-station.ensures.found start d h in
+    subst (λ (x : Driven). IsShown None start x done.between put (joined parts)) next.on (done.put start next.at next.shown)))
 
 pub loop-place-preserved : goal.loop-place-preserved
 loop-place-preserved c =
