@@ -42,7 +42,32 @@ fn take_one(
     }
 }
 
-// The first of the stations do, up to one that doesn't: how many. The frame is read once for all of them.
+// The first of the stations do, up to one that doesn't: how many.
+#[inline(always)]
+fn take_each(
+    stations: &mut [Station],
+    frame: &Frame,
+    meaning: &IdMeaning,
+    heard: &Option<(Heard<'_>, Address, Address)>,
+    now: u64,
+) -> usize
+    requires meaning { meaning.now ≡ meaning_of frame.now.id }
+    requires heard { option_map meant_between heard.now ≡ reading frame.now }
+    requires source { IfSome heard.now (λ h. comes_from (meant h.0) h.1.0 ≡ true) }
+    ensures few { result ≤ length stations.old }
+    ensures steps { FirstTake result frame.now now stations.old stations.new }
+{
+    let count = stations.len();
+    for place in 0..count {
+        if !take_one(&mut stations[place], frame, meaning, heard, now) {
+            return place;
+        }
+    }
+    count
+}
+
+// The same of a frame that is read once for all of them. Most frames are packets: what a station does with one is made apart, so
+// that it isn't sorted once more at each of them.
 #[inline(always)]
 fn take_first(stations: &mut [Station], frame: &Frame, now: u64) -> usize
     ensures few { result ≤ length stations.old }
@@ -50,13 +75,13 @@ fn take_first(stations: &mut [Station], frame: &Frame, now: u64) -> usize
 {
     let meaning = read_id(frame.id());
     let heard = read_in_place(frame, &meaning);
-    let count = stations.len();
-    for place in 0..count {
-        if !take_one(&mut stations[place], frame, &meaning, &heard, now) {
-            return place;
+    match heard {
+        Some((Heard::Packet { kind, sequence, bytes }, from, to)) => {
+            let packet = Heard::Packet { kind, sequence, bytes };
+            take_each(stations, frame, &meaning, &Some((packet, from, to)), now)
         }
+        _ => take_each(stations, frame, &meaning, &heard, now),
     }
-    count
 }
 
 impl Segment {

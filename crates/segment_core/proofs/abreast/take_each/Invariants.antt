@@ -1,5 +1,5 @@
 use Rattle.segment_core.specs.Abreast.{FirstTake}
-use Rattle.segment_core.proofs.abreast.take_first.Given as goal
+use Rattle.segment_core.proofs.abreast.take_each.Given as goal
 
 abbrev pub invariant-loop-place : goal.invariant-loop-place
 invariant-loop-place l = FirstTake l.place l.frame l.now l.fn.stations l.stations

@@ -1,7 +1,7 @@
 use Rattle.std.proofs.Common.{sym, subst}
 use Rattle.segment_core.specs.Abreast.{TakesInPlace}
 use Rattle.segment_core.proofs.Together.{first_more}
-use Rattle.segment_core.proofs.abreast.take_first.Goals as goal
+use Rattle.segment_core.proofs.abreast.take_each.Goals as goal
 
 pub loop-place-preserved : goal.loop-place-preserved
 loop-place-preserved c =
