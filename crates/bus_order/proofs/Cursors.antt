@@ -1,6 +1,6 @@
 -- The cursors furthest behind, where a cursor moves on.
-use Rattle.std.proofs.Common.{◌≡◌, ◌≢◌, ℕ, zero, suc, ◌+◌, ◌-◌, ◌<◌, ◌≤◌, ◌⊎◌, min, true, false, cond, ◌==◌, List, [], ◌∷◌, fold, length, get_or, set, replicate, count_by, filter, refl, sym, ap, ◌∙◌, inl, inr, ⊎_elim, arith, length-set, get_or-set_same, get_or-set_other}
-use Rattle.std.proofs.lemmas.List.Sums.{sum_by-set, length-filter, get_or-le-sum_by}
+use Rattle.std.proofs.Common.{◌≡◌, ◌≢◌, ℕ, zero, suc, ◌+◌, ◌-◌, ◌<◌, ◌≤◌, ◌⊎◌, min, Bool, true, false, cond, ◌==◌, List, [], ◌∷◌, ◌++◌, fold, length, get_or, set, replicate, count_by, filter, refl, sym, ap, ◌∙◌, inl, inr, ⊎_elim, arith, length-set, get_or-set_same, get_or-set_other}
+use Rattle.std.proofs.lemmas.List.Sums.{sum_by-cons, sum_by-set, length-filter, get_or-le-sum_by}
 use Rattle.std.proofs.lemmas.List.{get_or_default, length-replicate}
 use Rattle.std.proofs.lemmas.Bool.{cases_eq, cases_lt, ne_eqb, eq-eqb}
 use Rattle.bus_order.specs.Bus.{Cursor, start, lowest}
@@ -172,3 +172,53 @@ rear_new stations = record { place = place stations; count = sym (standing_new s
     place : (n : ℕ) → 0 ≡ lowest (replicate n start)
     place zero = refl
     place (suc n) = sym (lowest_from_new n)
+
+-- One cursor more
+
+lowest_from_push : (least : ℕ) (cs : List Cursor) (c : Cursor) → lowest_from least (cs ++ c ∷ []) ≡ min (lowest_from least cs) c.place
+lowest_from_push least [] c = refl
+lowest_from_push least (x ∷ xs) c = lowest_from_push (min least x.place) xs c
+
+lowest_push : (cs : List Cursor) (c : Cursor) → 0 < length cs → lowest (cs ++ c ∷ []) ≡ min (lowest cs) c.place
+lowest_push [] c some = absurd (omega arith)
+lowest_push (x ∷ xs) c some = lowest_from_push x.place xs c
+
+standing_push : (m : ℕ) (cs : List Cursor) (c : Cursor) → standing m (cs ++ c ∷ []) ≡ standing m cs + cond {A = ℕ} (c.place == m) 1 0
+standing_push m [] c = refl
+standing_push m (x ∷ xs) c =
+    let f : Cursor → ℕ = λ x. cond (x.place == m) 1 0 in
+    let whole : standing m (x ∷ (xs ++ c ∷ [])) ≡ f x + standing m (xs ++ c ∷ []) = sum_by-cons f x (xs ++ c ∷ []) in
+    let before : standing m (x ∷ xs) ≡ f x + standing m xs = sum_by-cons f x xs in
+    omega (arith, standing_push m xs c)
+
+-- below all before it,
+pub rear_below : (rear : Rear) (cs : List Cursor) (c : Cursor) → 0 < length cs → IsRear rear cs → c.place < rear.place → IsRear (record { place = c.place; count = 1 }) (cs ++ c ∷ [])
+rear_below rear cs c some h lt =
+    let on : cond {A = ℕ} (c.place == c.place) 1 0 ≡ 1 = ap (λ (b : Bool). cond {A = ℕ} b 1 0) (eq-eqb c.place c.place refl) in
+    let none : standing c.place cs ≡ 0 = nobody (standing c.place cs) (λ some. omega (arith, lowest_standing c.place cs some, h.place)) in
+    record {
+      place = omega (arith, lowest_push cs c some, h.place);
+      count = omega (arith, standing_push c.place cs c);
+    }
+  where
+    nobody : (n : ℕ) → (0 < n → ⊥) → n ≡ 0
+    nobody zero never = refl
+    nobody (suc n) never = absurd (never (omega arith))
+
+-- beside those furthest behind,
+pub rear_beside : (rear : Rear) (cs : List Cursor) (c : Cursor) → 0 < length cs → IsRear rear cs → c.place ≡ rear.place → IsRear (record { place = rear.place; count = rear.count + 1 }) (cs ++ c ∷ [])
+rear_beside rear cs c some h e =
+    let on : cond {A = ℕ} (c.place == rear.place) 1 0 ≡ 1 = ap (λ (b : Bool). cond {A = ℕ} b 1 0) (eq-eqb c.place rear.place e) in
+    record {
+      place = omega (arith, lowest_push cs c some, h.place);
+      count = omega (arith, standing_push rear.place cs c, h.count);
+    }
+
+-- or before them
+pub rear_before : (rear : Rear) (cs : List Cursor) (c : Cursor) → 0 < length cs → IsRear rear cs → rear.place < c.place → IsRear rear (cs ++ c ∷ [])
+rear_before rear cs c some h lt =
+    let off : cond {A = ℕ} (c.place == rear.place) 1 0 ≡ 0 = ap (λ (b : Bool). cond {A = ℕ} b 1 0) (ne_eqb c.place rear.place (λ e. omega arith)) in
+    record {
+      place = omega (arith, lowest_push cs c some, h.place);
+      count = omega (arith, standing_push rear.place cs c, h.count);
+    }

@@ -69,14 +69,25 @@ pub(crate) struct Rear {
 pub(crate) fn rear_of(cursors: &[Cursor]) -> Rear
     ensures { IsRear result cursors.now }
 {
-    let Some((first, others)) = cursors.split_first() else {
+    let Some(first) = cursors.first() else {
         return Rear { place: 0, count: 0 };
     };
-    let place = others
-        .iter()
-        .fold(first.place, |least, other| least.min(other.place));
-    let count = cursors.iter().filter(|c| c.place == place).count();
-    Rear { place, count }
+    let mut rear = Rear {
+        place: first.place,
+        count: 1,
+    };
+    for i in 1..cursors.len() {
+        let cursor = &cursors[i];
+        if cursor.place < rear.place {
+            rear = Rear {
+                place: cursor.place,
+                count: 1,
+            };
+        } else if cursor.place == rear.place {
+            rear.count += 1;
+        }
+    }
+    rear
 }
 
 /// Moves all cursors to one place.
