@@ -80,7 +80,7 @@ impl Segment {
         Reply::Done(Events::none(self.alloc))
     }
 
-    /// The reply to a call that told events, which are counted.
+    /// The reply to a call that told events, which are counted. Always inlined, since it takes them and gives a reply by value.
     #[inline(always)]
     pub(crate) fn told(&mut self, events: Events) -> Reply
         ensures reply { result ≡ Done events }

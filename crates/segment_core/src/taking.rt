@@ -112,7 +112,7 @@ impl Segment {
         self.bus.frame(self.bus.len() - waiting + 1)
     }
 
-    // The reply to a Take, which is counted.
+    // The reply to a Take, which is counted. Always inlined, since it takes what was told by value.
     #[inline(always)]
     fn looked(&mut self, looked: Taken) -> Reply
         ensures reply { result ≡ Done looked.events }

@@ -165,6 +165,7 @@ impl<T> SessionTable<T> {
 
     /// Takes the state of a key out, and leaves the key, which is held from now on. None where the key isn't there or
     /// is held.
+    // Always inlined, as what takes or gives a state by value is: a call would write it to memory in parts and read it as a whole.
     #[inline(always)]
     pub fn take_out(&mut self, key: Key) -> Option<(Held, T, Incoming)>
         ensures value { result ≡ option_map (λ v. (key, v.0, v.1)) (state_at self.old key) }

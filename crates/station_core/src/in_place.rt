@@ -69,6 +69,8 @@ impl Station {
                 sequence,
                 bytes,
             } => {
+                // A copy of what was read: of a value of its own the compiler keeps the parts in registers, where behind a reference it
+                // would read them from memory at each step. So it is with a management frame.
                 let packet = Heard::Packet {
                     kind: *kind,
                     sequence: *sequence,

@@ -204,7 +204,7 @@ fn fire_connection(
     ))
 }
 
-// Puts the connection whose key is held back, or ends it.
+// Puts the connection whose key is held back, or ends it. Always inlined, since it takes a state by value.
 #[inline(always)]
 fn settle(
     alloc: Global,
