@@ -50,6 +50,11 @@ fn pass(rt: &impl Abort, log: &mut BusLog, cursor: usize) {
     log.pass(cursor)
 }
 
+fn put_passed(rt: &impl Abort, log: &mut BusLog, frame: Frame, n: usize) {
+    holds(rt, log.are_level() && n <= log.stations());
+    log.put_passed(frame, n)
+}
+
 fn release(log: &mut BusLog) {
     log.release()
 }
@@ -180,6 +185,43 @@ fn see_and_take(rt: &impl Abort, log: &mut BusLog) {
     keeps(rt, log, 1, false);
     keeps(rt, log, 2, true);
     same(rt, waiting(rt, log, 1), 1);
+}
+
+fn is_level(rt: &impl Abort, log: &BusLog, level: bool) {
+    holds(rt, log.are_level() == level);
+}
+
+fn put_for_all(rt: &impl Abort, log: &mut BusLog) {
+    is_level(rt, log, false);
+    puts(rt, log, 1, Ok(()));
+    is_level(rt, log, false);
+    take_by_both(rt, log, 1);
+    is_level(rt, log, true);
+    put_passed(rt, log, frame_of(rt, 2), 2);
+    is_level(rt, log, true);
+    keeps(rt, log, 1, false);
+    repeats(rt, log, Some(2));
+    sees(rt, log, None)
+}
+
+fn put_for_some(rt: &impl Abort, log: &mut BusLog) {
+    put_passed(rt, log, frame_of(rt, 3), 1);
+    is_level(rt, log, false);
+    keeps(rt, log, 2, true);
+    repeats(rt, log, Some(3));
+    takes(rt, log, 1, Some(3));
+    release(log);
+    put_passed(rt, log, frame_of(rt, 4), 0);
+    sees(rt, log, Some(4));
+    take_by_both(rt, log, 4);
+    same(rt, log.len(), 4)
+}
+
+#[test]
+fn a_frame_that_all_take_comes_in_the_place_of_the_newest(rt: HostRuntime) {
+    let mut log = got(&rt, new_log(rt.alloc(), 2));
+    put_for_all(&rt, &mut log);
+    put_for_some(&rt, &mut log)
 }
 
 #[test]
