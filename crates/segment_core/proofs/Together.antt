@@ -224,10 +224,10 @@ put_together s seg after a i n now st old popped frame counts stations moved_on 
     record {
       between = segment_value t;
       put =
-        at_here s seg a i st (transmits seg) view here within is
-        ∙ transmits_is seg i st frame next free
-        ∙ (λ k. done (with_frame (with_station (sym view k) i (went k)) frame))
-        ∙ (λ k. done (record { now = s.clock; stations = set s.stations.items i popped; bus = put s.bus frame; counts = sym counted k }));
+          at_here s seg a i st (transmits seg) view here within is
+          ∙ transmits_is seg i st frame next free
+          ∙ (λ k. done (with_frame (with_station (sym view k) i (went k)) frame))
+          ∙ (λ k. done (record { now = s.clock; stations = set s.stations.items i popped; bus = put s.bus frame; counts = sym counted k }));
       front = ap (λ (x : Station). front x.queue) (station_here s seg a i st view here within is) ∙ sym next;
       passed = passed_are t after n now frame stations moved_on inside_then (level_sound s.bus frame sound level) (level_abreast s.bus frame level sound.from_one) (newest_put s.bus frame sound.from_one) few time steps passed whole;
     }

@@ -76,8 +76,22 @@ fn take_first(stations: &mut [Station], frame: &Frame, now: u64) -> usize
     let meaning = read_id(frame.id());
     let heard = read_in_place(frame, &meaning);
     match heard {
-        Some((Heard::Packet { kind, sequence, bytes }, from, to)) => {
-            let packet = Heard::Packet { kind, sequence, bytes };
+        Some(
+            (
+                Heard::Packet {
+                    kind,
+                    sequence,
+                    bytes,
+                },
+                from,
+                to,
+            ),
+        ) => {
+            let packet = Heard::Packet {
+                kind,
+                sequence,
+                bytes,
+            };
             take_each(stations, frame, &meaning, &Some((packet, from, to)), now)
         }
         _ => take_each(stations, frame, &meaning, &heard, now),

@@ -97,7 +97,12 @@ impl Segment {
     }
 
     // The station that puts a frame in this turn. Where none has one queued, the lane is pumped.
-    fn transmitter(&mut self, from: Address, to: Address, course: &mut Course) -> Result<Address, Stop>
+    fn transmitter(
+        &mut self,
+        from: Address,
+        to: Address,
+        course: &mut Course,
+    ) -> Result<Address, Stop>
         ensures found { IfOk result (λ a. (start : State) (d : Drive) → IsCourse None start d self.old course.old → PutsNext from to a start d self.new course.new) }
         ensures stopped { IfErr result (λ stop. (start : State) (d : Drive) → IsCourse None start d self.old course.old → Went start (turn_puts from to d) self.new course.new (Err stop)) }
     {

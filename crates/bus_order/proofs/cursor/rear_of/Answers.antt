@@ -15,9 +15,9 @@ loop-i-preserved c =
     let before : IsRear c.loop-i.rear cs = c.loop-i.invariant.1 in
     let more : IsRear c.if-cursor-rear.rear (cs ++ cursor ∷ []) =
     elim c.if-cursor-rear.branch [
-      then-cursor-rear w ↦ rw (w.rear-is, place) (rear_below c.loop-i.rear cs cursor some before (omega (arith, place, w.if-cursor-rear.true)))
-    | else-cursor-rear+then-cursor-rear-2 w ↦ rw w.rear-is (rear_beside c.loop-i.rear cs cursor some before (omega (arith, place, w.if-cursor-rear-2.true)))
-    | else-cursor-rear+else-cursor-rear-2 w ↦ rw w.rear-is (rear_before c.loop-i.rear cs cursor some before (omega (arith, place, w.if-cursor-rear.false, w.if-cursor-rear-2.false)))
+      | then-cursor-rear w ↦ rw (w.rear-is, place) (rear_below c.loop-i.rear cs cursor some before (omega (arith, place, w.if-cursor-rear.true)))
+      | else-cursor-rear+then-cursor-rear-2 w ↦ rw w.rear-is (rear_beside c.loop-i.rear cs cursor some before (omega (arith, place, w.if-cursor-rear-2.true)))
+      | else-cursor-rear+else-cursor-rear-2 w ↦ rw w.rear-is (rear_before c.loop-i.rear cs cursor some before (omega (arith, place, w.if-cursor-rear.false, w.if-cursor-rear-2.false)))
     ] in
     let next : take (c.loop-i.i + 1) c.args.cursors.now ≡ cs ++ cursor ∷ [] = take_more c.args.cursors.now c.loop-i.i cursor c.loop-i-test.true ∙ ap (λ y. cs ++ y ∷ []) (sym c.index-cursors-i.is) in
     (omega arith, subst (IsRear c.if-cursor-rear.rear) (sym next) more)
