@@ -170,14 +170,15 @@ impl<const KEEPS: bool> Live<KEEPS> {
         }
     }
 
-    fn accept(&mut self, k: usize) {
+    /// Whether the front submission of a client was there and could be accepted.
+    fn accept(&mut self, k: usize) -> bool {
         let seat = &mut self.seats[k];
         let station = seat.station;
-        let Some(front) = seat.submissions.front() else { return };
+        let Some(front) = seat.submissions.front() else { return false };
         if !self.segment.has_place(station, front.to) || seat.notes.free() <= seat.owed.len() {
-            return;
+            return false;
         }
-        let Some(submission) = seat.submissions.pop() else { return };
+        let Some(submission) = seat.submissions.pop() else { return false };
         let copy = if KEEPS { Some(submission.clone()) } else { None };
         let Submission { to, pgn, bytes } = submission;
         if let Ok(number) = self.segment.send(station, to, pgn, bytes) {
@@ -187,19 +188,24 @@ impl<const KEEPS: bool> Live<KEEPS> {
         if let Some(submission) = copy {
             self.calls.push(Call::Send { by: k as u64, from: station, submission });
         }
+        true
     }
 
-    fn station_turn(&mut self, station: u8) {
+    /// Whether there was something to do.
+    fn station_turn(&mut self, station: u8) -> bool {
+        let mut did = false;
         for k in 0..self.seats.len() {
             if self.seats[k].station == station {
-                self.accept(k);
+                did |= self.accept(k);
             }
         }
         if let Some(to) = self.segment.next_pump(station) {
             self.segment.pump(station, to);
+            did = true;
             self.store(|| Call::Pump { station, to });
         }
         if self.segment.can_take(station) {
+            did = true;
             let doors = &mut self.doors;
             let mut room = true;
             let events = self.segment.take(station, |to, ports| {
@@ -210,32 +216,42 @@ impl<const KEEPS: bool> Live<KEEPS> {
             self.store(|| Call::Take { station, room });
         }
         if self.segment.is_due(station) {
+            did = true;
             let events = self.segment.fire(station);
             self.tell(events);
             self.store(|| Call::Fire { station });
         }
+        did
     }
 
-    fn bus_turn(&mut self) {
+    /// Whether there was something to do but to let the time go on.
+    fn bus_turn(&mut self) -> bool {
         if let Some(station) = self.segment.lowest() {
             self.segment.transmit(station);
             self.store(|| Call::Transmit { station });
-        } else if self.segment.is_idle() {
+            return true;
+        }
+        if self.segment.is_idle() {
             self.segment.tick(IDLE_TICKS);
             self.store(|| Call::Tick { ticks: IDLE_TICKS });
         }
+        false
     }
 }
 
-/// A worker's turns until it is stopped. It yields before each: without that, the one that has just had the lock keeps the others from it.
-fn work<const KEEPS: bool>(shared: &Mutex<Live<KEEPS>>, turn: impl Fn(&mut Live<KEEPS>)) {
+/// A worker's turns until it is stopped. It yields where another thread has the lock, and after a turn with nothing to do, as the service's
+/// does: with a yield before each turn, or where it sleeps until the lock is free, messages take longer here too.
+fn work<const KEEPS: bool>(shared: &Mutex<Live<KEEPS>>, turn: impl Fn(&mut Live<KEEPS>) -> bool) {
     loop {
-        thread::yield_now();
-        let mut live = shared.lock().expect("no thread panics");
-        if live.stopped {
-            return;
+        if let Ok(mut live) = shared.try_lock() {
+            if live.stopped {
+                return;
+            }
+            if turn(&mut live) {
+                continue;
+            }
         }
-        turn(&mut live);
+        thread::yield_now();
     }
 }
 
