@@ -20,10 +20,15 @@ use std::marker::Model;
 /// How many clients a station has at most.
 pub const MOST_CLIENTS: usize = 16;
 
+/// How many words stand before what is under a lock: two lines of a processor's cache, which may be fetched as one.
+const WORDS_BEFORE: usize = 16;
+
 /// A segment, the calls that were made on it, and the far ends of its clients' and ports' rings.
 ///
 /// Contracts see all calls that were made; in memory are those since the last cut.
 pub struct Live {
+    // The word of the lock lies before these. A thread that tries the lock so doesn't take away from its holder what that works on.
+    before: [u64; WORDS_BEFORE],
     pub(crate) alloc: Global,
     pub(crate) addresses: Vec<Address>,
     pub(crate) segment: Segment,
@@ -49,6 +54,7 @@ impl Model for Live {
 impl Drop for Live {
     fn drop(self) {
         let Live {
+            before: _,
             alloc: _,
             addresses: _,
             segment: _,
@@ -92,6 +98,7 @@ impl Live {
         };
         let calls = Calls::new(alloc)?;
         Ok(Live {
+            before: [0; WORDS_BEFORE],
             alloc,
             addresses,
             segment,
