@@ -4,8 +4,8 @@
 use crate::bus::{Event, Outcome, Segment};
 use crate::ring::{Consumer, Producer, ring};
 use crate::{DM1, FROM, TO, message};
-use std::hint::{black_box, spin_loop};
-use std::sync::{Mutex, MutexGuard};
+use std::hint::black_box;
+use std::sync::Mutex;
 use std::sync::atomic::{AtomicU64, Ordering};
 use std::thread;
 use std::time::{Duration, Instant};
@@ -239,36 +239,20 @@ impl<const KEEPS: bool> Live<KEEPS> {
     }
 }
 
-/// How often a worker tries to get the lock before it yields.
-const TRIES: u32 = 12;
-
-/// The segment, once the lock is free. A worker tries for a while, and yields between its tries then, as the service's does: where it
-/// sleeps until the lock is free, messages take longer here too.
-fn lock<const KEEPS: bool>(shared: &Mutex<Live<KEEPS>>) -> MutexGuard<'_, Live<KEEPS>> {
-    loop {
-        for _ in 0..TRIES {
-            if let Ok(live) = shared.try_lock() {
-                return live;
-            }
-            spin_loop();
-        }
-        thread::yield_now();
-    }
-}
-
-/// A worker's turns until it is stopped. It yields after a turn with nothing to do, as the service's does: with a yield before each turn
-/// messages take longer here too.
+/// A worker's turns until it is stopped. It yields where another thread has the lock, and after a turn with nothing to do: with a yield before
+/// each turn, or where it sleeps until the lock is free, messages take longer here too, and to try the lock several times before it
+/// yields, as the service's worker does, makes nothing faster here.
 fn work<const KEEPS: bool>(shared: &Mutex<Live<KEEPS>>, turn: impl Fn(&mut Live<KEEPS>) -> bool) {
     loop {
-        let mut live = lock(shared);
-        if live.stopped {
-            return;
+        if let Ok(mut live) = shared.try_lock() {
+            if live.stopped {
+                return;
+            }
+            if turn(&mut live) {
+                continue;
+            }
         }
-        let did = turn(&mut live);
-        drop(live);
-        if !did {
-            thread::yield_now();
-        }
+        thread::yield_now();
     }
 }
 
