@@ -90,6 +90,21 @@ impl Segment {
         if self.call_at_once(&call) {
             return Ok(self.done());
         }
+        self.apply_tried(call)
+    }
+
+    /// Makes one call as `apply` does, but doesn't try to make it in place first: for who has tried that by `apply_in_place`.
+    #[inline(always)]
+    pub fn apply_tried(&mut self, call: Call) -> Result<Reply, AllocError>
+        ensures ok { IfOk result (λ reply. applied self.old call ≡ (self.new, reply)) }
+        ensures err { OnErr result (self.new ≡ self.old) }
+        ensures not_refused { OnErr result (IsOk (called self.old call)) }
+        ensures stands { (addresses : List AddressValue) (steps : Record) → StandsAt addresses steps self.old → IfOk result (λ reply. StandsAt addresses (steps ++ (call, reply) ∷ []) self.new) }
+        ensures headline { KeepsPromise self.new }
+    {
+        // A law, for the last clause: the call does nothing.
+        the_headline_holds();
+        fits(&call);
         self.apply_opening(call)
     }
 

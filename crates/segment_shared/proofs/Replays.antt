@@ -1,5 +1,6 @@
 -- Calls that are made once more.
-use Rattle.std.proofs.Common.{◌≡◌, List, [], ◌∷◌, ◌++◌, true, refl, sym, ◌∙◌, ap, subst, append-nil, append_assoc}
+use Rattle.std.proofs.Common.{◌≡◌, ℕ, ◌+◌, ◌<◌, List, [], ◌∷◌, ◌++◌, length, take, get_or, true, refl, sym, ◌∙◌, ap, subst, append-nil, append_assoc}
+use Rattle.std.proofs.lemmas.List.{take_more}
 use Rattle.std.specs.List.{list_all}
 use Rattle.pgn_ids.specs.declared.address.Address.{Address}
 use Rattle.segment_law.specs.Segment.{Segment}
@@ -23,6 +24,14 @@ one_more addresses xs x st next call r at is reply left stands =
       stands-more addresses st next xs x r at.1 (sym (reply ∙ ap (reply_of st) is)) (subst (λ (c : Call). StandsAt addresses (steps ++ (c, r) ∷ []) next) is stands),
       state-more addresses st next xs x at.1 (left ∙ ap (left_by st) is),
     )
+
+-- the same of the next one of a list
+pub next_more : (addresses : List Address) (made xs : List Stored) (i : ℕ) (x : Stored) (st next : Segment) (call : Call) (r : Reply) → i < length xs → x ≡ get_or xs i x → StandsAfter addresses (made ++ take i xs) st → call ≡ x.call
+    → r ≡ reply_of st call → next ≡ left_by st call → StandsAt addresses ((trail addresses (made ++ take i xs)).steps ++ (call, r) ∷ []) next → StandsAfter addresses (made ++ take (i + 1) xs) next
+next_more addresses made xs i x st next call r within item at is reply left stands =
+    let more : take (i + 1) xs ≡ take i xs ++ x ∷ [] = take_more xs i x within ∙ ap (λ (y : Stored). take i xs ++ y ∷ []) (sym item) in
+    let all : (made ++ take i xs) ++ x ∷ [] ≡ made ++ take (i + 1) xs = append_assoc made (take i xs) (x ∷ []) ∙ ap (λ (ys : List Stored). made ++ ys) (sym more) in
+    subst (λ (ys : List Stored). StandsAfter addresses ys next) all (one_more addresses (made ++ take i xs) x st next call r at is reply left stands)
 
 -- calls made on a segment, with their replies
 abbrev steps_of : Segment → List Stored → Record

@@ -7,7 +7,7 @@ ghost use Rattle.segment_shared.specs.Rejoining.{IsJoined, IsJoinCause, StandsAf
 use crate::call::Stored;
 use crate::calls::Piece;
 use crate::live::Live;
-use crate::step::make;
+use crate::step::{make, make_in_place};
 use pgn_ids::Address;
 use segment_core::{Call, NewRefused, Refusal, Segment, the_headline_holds};
 use std::alloc::{AllocError, Global};
@@ -92,6 +92,9 @@ fn make_all(alloc: Global, segment: &mut Segment, calls: &[Stored]) -> Result<()
 {
     for stored in calls {
         let call = stored.call.copy(alloc)?;
+        if make_in_place(segment, &call) {
+            continue;
+        }
         make(segment, call)?;
     }
     Ok(())

@@ -73,8 +73,8 @@ fn packet_between(
     Some((heard, from, to))
 }
 
-// Any frame but a packet.
-#[inline(never)]
+// Any frame but a packet. Always inlined: a call would write what it means to memory in parts and read it as a whole.
+#[inline(always)]
 fn read_other(frame: &Frame) -> Option<(Heard<'_>, Address, Address)>
     requires tp { ((meaning_of frame.now.id).pgn == tp_dt) ≡ false }
     requires etp { ((meaning_of frame.now.id).pgn == etp_dt) ≡ false }
