@@ -19,6 +19,10 @@ abbrev pub TurnsOnly : (old new : List (Key × ℕ)) → Key → Option ℕ → 
 TurnsOnly old new k at =
     (q : Key) → lookup (key_eq q) new ≡ (if key_eq q k then at else lookup (key_eq q) old)
 
+-- both lead each key to the same place
+abbrev pub LeadsAlike : (old new : List (Key × ℕ)) → Type 0
+LeadsAlike old new = (length new ≡ length old) × ((q : Key) → lookup (key_eq q) new ≡ lookup (key_eq q) old)
+
 -- what was found last is what the index leads to
 abbrev pub IsLast : List (Key × ℕ) → Option Found → Type 0
 IsLast entries last = IfSome last (λ found. lookup (key_eq found.key) entries ≡ Some found.at)

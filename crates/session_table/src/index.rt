@@ -1,14 +1,16 @@
 //! The index from keys to places.
-ghost use Rattle.std.specs.Prelude.{◌≡◌, ◌+◌, ◌<◌, ◌≤◌, length, Some, None};
-ghost use Rattle.std.specs.Map.{lookup};
-ghost use Rattle.indexmap.specs.IndexMap.{spare};
+ghost use Rattle.std.specs.Prelude.{◌≡◌, ◌+◌, ◌<◌, ◌≤◌, length, Some, None, OnOk};
+ghost use Rattle.std.specs.HashMap.{spare};
+ghost use Rattle.std.specs.List.{IsDistinct};
+ghost use Rattle.std.specs.Map.{keys_of, lookup};
 ghost use Rattle.session_table.specs.Key.{key_eq};
-ghost use Rattle.session_table.specs.Shape.{TurnsOnly, IsLast};
+ghost use Rattle.session_table.specs.Shape.{LeadsAlike, TurnsOnly, IsLast};
 
 use crate::key::Key;
-use indexmap::IndexMap;
+use std::alloc::AllocError;
+use std::collections::HashMap;
 
-pub(crate) type Index = IndexMap<Key, usize>;
+pub(crate) type Index = HashMap<Key, usize>;
 
 /// The place of a key.
 #[inline]
@@ -44,6 +46,15 @@ pub(crate) fn find_again(last: &mut Option<Found>, index: &Index, key: Key) -> O
     Some(at)
 }
 
+/// Makes room for one key more. The keys may come to stand in another order.
+pub(crate) fn reserve(index: &mut Index) -> Result<(), AllocError>
+    ensures alike { LeadsAlike index.old.entries index.new.entries }
+    ensures distinct { IsDistinct key_eq (keys_of index.new.entries) }
+    ensures room { OnOk result (0 < spare index.new) }
+{
+    index.reserve(1)
+}
+
 /// Leads a key to a place, where there is room for it.
 pub(crate) fn link(index: &mut Index, key: Key, at: usize)
     requires { 0 < spare index.old }
@@ -62,5 +73,5 @@ pub(crate) fn unlink(index: &mut Index, key: Key) -> Option<usize>
     ensures turns { TurnsOnly index.old.entries index.new.entries key None }
     ensures len { length index.new.entries ≤ length index.old.entries }
 {
-    index.swap_remove(&key)
+    index.remove(&key)
 }

@@ -7,8 +7,9 @@ ghost use Rattle.std.specs.List.{IsDistinct};
 ghost use Rattle.std.specs.Map.{keys_of};
 ghost use Rattle.std.specs.Map.Iter.{deref_pair};
 ghost use Rattle.slab.specs.Slab.{HasRoomFor};
-ghost use Rattle.indexmap.specs.IndexMap.{spare};
+ghost use Rattle.std.specs.HashMap.{spare};
 ghost use Rattle.session_table.specs.Key.{key_eq};
+ghost use Rattle.session_table.specs.Shape.{LeadsAlike};
 ghost use Rattle.session_table.specs.Sessions.{IsHeld, state_at};
 ghost use Rattle.session_table.specs.DueOrder.{IsLeastPicked, first_above, first_due, is_above_low, is_due_now};
 ghost use Rattle.responder.specs.declared.flow.Flow.{Flow};
@@ -24,15 +25,15 @@ mod image;
 use crate::MAX_SESSIONS;
 use crate::held::Held;
 use crate::incoming::Incoming;
-use crate::index::{Found, Index, find, find_again, link, unlink};
+use crate::index::{Found, Index, find, find_again, link, reserve, unlink};
 use crate::key::Key;
 use crate::place::{Place, Slot, content};
 use crate::walk::{is_above_at, is_due_at, lesser};
 pub use image::TableImage;
-use indexmap::IndexMap;
 use responder::Flow;
 use slab::Slab;
 use std::alloc::{AllocError, Global};
+use std::collections::HashMap;
 use std::marker::Model;
 use std::mem;
 use tp_wire::Heard;
@@ -87,7 +88,7 @@ impl<T> SessionTable<T> {
     {
         SessionTable {
             places: Slab::new(alloc),
-            index: IndexMap::new(alloc),
+            index: HashMap::new(alloc),
             last: None,
         }
     }
@@ -259,14 +260,14 @@ impl<T> SessionTable<T> {
     }
 }
 
-// Makes room for one more in both. Neither changes but in its capacity.
+// Makes room for one more in both. Neither changes but in its capacity and the order of its keys.
 fn make_room<T>(places: &mut Slab<Place<T>>, index: &mut Index) -> Result<(), AllocError>
     ensures places { places.new ≡ record places.old { capacity = places.new.capacity } }
-    ensures entries { index.new.entries ≡ index.old.entries }
-    ensures distinct { IsDistinct key_eq (keys_of index.old.entries) }
+    ensures alike { LeadsAlike index.old.entries index.new.entries }
+    ensures distinct { IsDistinct key_eq (keys_of index.new.entries) }
     ensures room_in_places { OnOk result (HasRoomFor places.new 1) }
     ensures room_in_index { OnOk result (0 < spare index.new) }
 {
-    index.reserve(1)?;
+    reserve(index)?;
     places.reserve(1)
 }
