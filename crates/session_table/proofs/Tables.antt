@@ -1,5 +1,5 @@
 -- A table's meaning after a write of one place and of the index at one key.
-use Rattle.std.proofs.Common.{◌≡◌, ℕ, ◌+◌, ◌≤◌, Bool, true, false, cond, List, [], ◌∷◌, length, map as map_list, Option, Some, None, refl, sym, ap, subst, ◌∙◌, true≢false, inl, inr, is_some, add-one, slice_index_or}
+use Rattle.std.proofs.Common.{◌≡◌, ℕ, ◌+◌, ◌≤◌, Bool, true, false, cond, List, [], ◌∷◌, length, map as map_list, Option, Some, None, refl, sym, ap, subst, ◌∙◌, true≢false, inl, inr, is_some, add-one, slice_index_or, arith}
 use Rattle.std.proofs.lemmas.Bool.{cases_eq}
 use Rattle.std.specs.Bool.{OnTrue}
 use Rattle.std.specs.Option.{option_and_then, option_flatten, option_map}
@@ -184,6 +184,10 @@ module _ {T : Type 0} (places : Slab (Place T)) (es : List (Key × ℕ)) (k : Ke
 pub lookup_absent : (k : Key) (es : List (Key × ℕ)) → AllByRecursion (λ y. key_eq k y ≡ false) (keys_of es) → lookup (key_eq k) es ≡ None
 lookup_absent k [] h = refl
 lookup_absent k (e ∷ es) h = ap (λ b. cond b (Some e.1) (lookup (key_eq k) es)) h.0 ∙ lookup_absent k es h.1
+
+pub lookup_nowhere : (k : Key) (es : List (Key × ℕ)) → length es ≡ 0 → None ≡ lookup (key_eq k) es
+lookup_nowhere k [] h = refl
+lookup_nowhere k (e ∷ es) h = absurd (omega (arith, h))
 
 -- the table has as many keys as the index
 pub len_of_distinct : {T : Type 0} (places : Slab (Place T)) (es : List (Key × ℕ)) → IsDistinct key_eq (keys_of es) → map.len (sessions_of places es) ≡ length es

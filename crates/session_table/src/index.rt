@@ -17,6 +17,10 @@ pub(crate) type Index = HashMap<Key, usize>;
 pub(crate) fn find(index: &Index, key: Key) -> Option<usize>
     ensures { result ≡ lookup (key_eq key) index.now.entries }
 {
+    // As a rule no session is under way when one begins.
+    if index.is_empty() {
+        return None;
+    }
     index.get(&key).copied()
 }
 

@@ -174,7 +174,7 @@ impl<T> SessionTable<T> {
         ensures token { IfSome result (λ r. IsHeld self.new r.0) }
         ensures absent { IfNone result (self.new ≡ self.old) }
     {
-        let at = find(&self.index, key)?;
+        let at = find_again(&mut self.last, &self.index, key)?;
         let place = self.places.get_mut(at)?;
         let (bound, state) = mem::replace(&mut place.slot, Slot::Empty).into_content()?;
         Some((Held::new(key), bound, state))
