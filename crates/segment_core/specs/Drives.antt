@@ -76,6 +76,10 @@ pub record IsShown (ended : Option DriveEnd) (start : Segment) (d : Driven) (seg
 abbrev pub IsCourse : (ended : Option DriveEnd) (start : Segment) (d : Driven) (seg : Segment) → Course → Type 0
 IsCourse ended start d seg course = IsShown ended start d seg course.frames.items (joined course.parts.items)
 
+-- a course tells what another one did
+abbrev pub SameTold : (old new : Course) → Type 0
+SameTold old new = (new.frames.items ≡ old.frames.items) × (new.parts.items ≡ old.parts.items)
+
 -- a drive comes to another by further calls
 pub record GoesOn (e d : Driven) : Type 0 where
   pub rest : Record

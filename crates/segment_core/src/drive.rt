@@ -1,5 +1,5 @@
 //! Driving one lane, turn by turn.
-ghost use Rattle.std.specs.Prelude.{◌≡◌, ◌≢◌, ◌<◌, ◌++◌, List, length, None, Err, true, IfOk, IfErr, OnOk, slice_index_or};
+ghost use Rattle.std.specs.Prelude.{◌≡◌, ◌≢◌, ◌<◌, ◌++◌, List, length, None, Err, true, IfOk, IfErr, OnOk, slice_index_or, vec_len, vec_capacity};
 ghost use Rattle.pgn_ids.specs.declared.address.Address.{Address};
 ghost use Rattle.lane_core.specs.declared.message.Pending.{Pending};
 ghost use Rattle.station_lanes.specs.LaneReaders.{missing_at};
@@ -9,7 +9,9 @@ ghost use Rattle.segment_law.specs.Quiet.{quiet, IsQuiet};
 ghost use Rattle.segment_law.specs.Drive.{Driven as Drive, driven, makes, puts, pumps, turn_puts, takes_all, turn};
 ghost use Rattle.segment_law.specs.declared.call.Call.TheVariants.{Pump, Take, Tick};
 ghost use Rattle.segment_law.specs.declared.end.DriveEnd.TheVariants as end;
-ghost use Rattle.segment_core.specs.Drives.{IsDriven, IsBegun, IsCourse, PutsNext, Went, IsFollowed, HasTaken, addresses_of, stop_end, too_soon};
+ghost use Rattle.segment_law.specs.Calls.{at_address, transmits};
+ghost use Rattle.segment_core.specs.Answers.{IsAnswer};
+ghost use Rattle.segment_core.specs.Drives.{IsDriven, IsBegun, IsCourse, SameTold, PutsNext, Went, IsFollowed, HasTaken, addresses_of, stop_end, too_soon};
 ghost use Rattle.segment_core.specs.Abreast.{HasPut};
 ghost use Rattle.segment_core.specs.Promise.{KeepsPromise};
 ghost use Rattle.segment_core.specs.Undisturbed.{IsQuietDrive};
@@ -125,40 +127,53 @@ impl Segment {
         ensures put { IfOk result (λ n. HasPut station n self.old course.old self.new course.new) }
         ensures stopped { IfErr result (λ stop. (start : State) (d : Drive) → IsCourse None start d self.old course.old → Went start (puts d station) self.new course.new (Err stop)) }
     {
-        if !course.has_room() {
-            return self.put_apart(station, course);
+        self.make_way(station, course)?;
+        if let Some((frame, taken)) = self.put_abreast(station) {
+            course.put(Some(frame));
+            return Ok(taken);
         }
-        match self.put_abreast(station) {
-            Some((frame, taken)) => {
-                course.put(Some(frame));
-                Ok(taken)
-            }
-            None => self.put_apart(station, course),
-        }
+        let taken = self.put_apart(station, course)?;
+        Ok(taken)
     }
 
-    // The same, one after the other: where the course has no room or the stations aren't level.
-    #[inline(never)]
-    fn put_apart(&mut self, station: Address, course: &mut Course) -> Result<usize, Stop>
-        ensures put { IfOk result (λ n. HasPut station n self.old course.old self.new course.new) }
-        ensures stopped { IfErr result (λ stop. (start : State) (d : Drive) → IsCourse None start d self.old course.old → Went start (puts d station) self.new course.new (Err stop)) }
+    // Room in a course for the frame that a station transmits.
+    #[inline(always)]
+    fn make_way(&self, station: Address, course: &mut Course) -> Result<(), Stop>
+        ensures room { OnOk result (vec_len course.new.frames < vec_capacity course.new.frames) }
+        ensures same { SameTold course.old course.new }
+        ensures stopped { IfErr result (λ stop. IsAnswer (at_address self.now station (transmits self.now)) self.now self.now (Err stop)) }
     {
-        self.put_growing(station, course)?;
-        Ok(self.take_abreast())
+        if course.has_room() {
+            return Ok(());
+        }
+        self.grow_course(station, course)
     }
 
-    // A station transmits. Memory for what the course tells is taken only once the call isn't refused.
-    fn put_growing(&mut self, station: Address, course: &mut Course) -> Result<(), Stop>
-        ensures { (start : State) (d : Drive) → IsCourse None start d self.old course.old → Went start (puts d station) self.new course.new result }
+    // The same where there is none. Memory is taken only once the frame isn't refused.
+    #[inline(never)]
+    fn grow_course(&self, station: Address, course: &mut Course) -> Result<(), Stop>
+        ensures room { OnOk result (vec_len course.new.frames < vec_capacity course.new.frames) }
+        ensures same { SameTold course.old course.new }
+        ensures stopped { IfErr result (λ stop. IsAnswer (at_address self.now station (transmits self.now)) self.now self.now (Err stop)) }
     {
         if let Some(cause) = self.transmit_refusal(station) {
             return Err(Stop::Refused(cause));
         }
         course.frames.reserve(FRAMES_AT_ONCE)?;
+        Ok(())
+    }
+
+    // A station transmits, and the stations take, one after the other: where they aren't level.
+    #[inline(never)]
+    fn put_apart(&mut self, station: Address, course: &mut Course) -> Result<usize, Stop>
+        requires { vec_len course.old.frames < vec_capacity course.old.frames }
+        ensures put { IfOk result (λ n. HasPut station n self.old course.old self.new course.new) }
+        ensures stopped { IfErr result (λ stop. (start : State) (d : Drive) → IsCourse None start d self.old course.old → Went start (puts d station) self.new course.new (Err stop)) }
+    {
         let front = self.front(station);
         let _done = self.transmit(station)?;
         course.put(front);
-        Ok(())
+        Ok(self.take_abreast())
     }
 
     // The lane is pumped, once more at its time where it answers that it is too soon.
