@@ -90,7 +90,7 @@ impl Segment {
         if self.call_at_once(&call) {
             return Ok(self.done());
         }
-        self.apply_tried(call)
+        self.apply_opening(call)
     }
 
     /// Makes one call as `apply` does, but doesn't try to make it in place first: for who has tried that by `apply_in_place`.
