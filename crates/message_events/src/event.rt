@@ -87,6 +87,23 @@ impl Events {
         }
     }
 
+    /// Tells one event, or none, where nothing was told yet. It takes no memory.
+    pub fn tell(&mut self, event: Option<Event>)
+        requires { self.old ≡ [] }
+        ensures { self.new ≡ option_to_list event }
+    {
+        self.first = event;
+    }
+
+    /// Tells an event and those behind it, where nothing was told yet. It takes no memory.
+    pub fn tell_all(&mut self, first: Event, rest: Vec<Event>)
+        requires { self.old ≡ [] }
+        ensures { self.new ≡ first ∷ rest.items }
+    {
+        self.first = Some(first);
+        self.rest = rest;
+    }
+
     /// How many there are.
     pub fn len(&self) -> usize
         ensures { result ≡ length self.now }

@@ -61,6 +61,7 @@ pub fn begin(kind: Kind, peer: Peer, most: u8, join: Join, flow: Flow, now: u64)
 }
 
 /// Asks for the window from the next packet on, or tells the peer to hold.
+#[inline(always)]
 pub(crate) fn ask(message: Unfinished, flow: Flow, now: u64) -> (InState, Frame)
     requires room { HasRoom flow message }
     requires within_window { message.kind ≡ Etp → message.join.room ≤ ETP_MAX_WINDOW }

@@ -1,5 +1,5 @@
 -- The calls that a segment makes in place: the Pumps, Takes, Transmits and Ticks that are not refused and tell nothing.
-use Rattle.std.specs.Prelude.{ℕ, ⊤, Bool, false, if◌then◌else◌, Option, Some, None, is_ok}
+use Rattle.std.specs.Prelude.{ℕ, ⊤, Bool, true, false, if◌then◌else◌, Option, Some, None, is_ok}
 use Rattle.bus_frame.specs.Frames.{CanFrame}
 use Rattle.bus_order.specs.Bus.{next_frame}
 use Rattle.pgn_ids.specs.declared.address.Address.{Address}
@@ -24,6 +24,11 @@ take_quiet _ _ room = false
 abbrev pub next_at : Segment → Option ℕ → Option CanFrame
 next_at seg None = None
 next_at seg (Some i) = next_frame seg.bus i
+
+-- a station takes the next frame
+abbrev pub is_take : Call → Bool
+is_take (Take a room) = true
+is_take call = false
 
 abbrev pub is_quiet : Segment → Call → Bool
 is_quiet seg (Pump a to) = pump_quiet (station_of seg a) to seg.now

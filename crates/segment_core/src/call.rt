@@ -4,16 +4,18 @@ ghost use Rattle.std.specs.Bool.{OnTrue, OnFalse};
 ghost use Rattle.segment_law.specs.Segment.{Segment as State};
 ghost use Rattle.segment_law.specs.Calls.{Answer, are_bytes, is_address, is_call, done, called, applied};
 ghost use Rattle.segment_law.specs.Record.{Record, StandsAt};
+ghost use Rattle.segment_law.specs.declared.call.Call.TheVariants.{Send};
 ghost use Rattle.segment_law.specs.declared.reply.Reply.TheVariants.{Done};
 ghost use Rattle.pgn_ids.specs.declared.address.Address.{Address as AddressValue};
 ghost use Rattle.segment_core.specs.Answers.{IsAnswer, IsAnswerBy};
-ghost use Rattle.segment_core.specs.InPlace.{is_quiet, MayLackMemory};
+ghost use Rattle.segment_core.specs.InPlace.{is_take, is_quiet, MayLackMemory};
 ghost use Rattle.segment_core.specs.Promise.{KeepsPromise};
 
 use crate::segment::Segment;
 use crate::stop::Stop;
 use connection_law::the_headline_holds;
-use pgn_ids::Address;
+use message_events::Bytes;
+use pgn_ids::{Address, Pgn};
 use segment_law::{Call, Reply};
 use station_core::Events;
 use std::alloc::{AllocError, Global};
@@ -108,13 +110,23 @@ impl Segment {
         self.apply_opening(call)
     }
 
-    // The same of a call that tells something, where a port is opened at once.
+    // The same of a call that tells something. What most messages take comes first, and its reply is made where it is asked for: a port is
+    // opened, a pump refused, a frame taken and a message sent.
     #[inline(always)]
     fn apply_opening(&mut self, call: Call) -> Result<Reply, AllocError>
         ensures ok { IfOk result (λ reply. applied self.old call ≡ (self.new, reply)) }
         ensures err { OnErr result (self.new ≡ self.old) }
         ensures not_refused { OnErr result (IsOk (called self.old call)) }
     {
+        // Whoever sends a broadcast pumps too soon each time.
+        if let Call::Pump { station, to } = &call {
+            if let Some(cause) = self.pump_refusal(*station, *to) {
+                return Ok(Reply::Refused(cause));
+            }
+        }
+        if let Call::Take { .. } = &call {
+            return self.apply_take(&call);
+        }
         if let Call::Open {
             station,
             pgn,
@@ -125,7 +137,56 @@ impl Segment {
                 return Ok(Reply::Opened(port));
             }
         }
-        self.apply_telling(call)
+        match call {
+            Call::Send {
+                from,
+                to,
+                pgn,
+                bytes,
+            } => self.apply_send(from, to, pgn, bytes),
+            call => self.apply_telling(call),
+        }
+    }
+
+    // The same of a Take. By its reference the call stays in memory, and the compiler does what follows a quiet one apart.
+    #[inline(never)]
+    #[tactic(auto, unfolding(segment_law::specs::Calls::called))]
+    fn apply_take(&mut self, call: &Call) -> Result<Reply, AllocError>
+        requires { is_take call.now ≡ true }
+        ensures ok { IfOk result (λ reply. applied self.old call.now ≡ (self.new, reply)) }
+        ensures err { OnErr result (self.new ≡ self.old) }
+        ensures not_refused { OnErr result (IsOk (called self.old call.now)) }
+    {
+        let Call::Take { station, room } = call else {
+            unreachable!()
+        };
+        let mut told = Events::none(self.alloc);
+        match self.take_telling(*station, *room, &mut told) {
+            Ok(()) => Ok(Reply::Done(told)),
+            Err(Stop::Refused(cause)) => Ok(Reply::Refused(cause)),
+            Err(Stop::OutOfMemory) => Err(AllocError),
+        }
+    }
+
+    // The same of a Send.
+    #[inline(never)]
+    #[tactic(auto, unfolding(segment_law::specs::Calls::called))]
+    fn apply_send(
+        &mut self,
+        from: Address,
+        to: Address,
+        pgn: Pgn,
+        bytes: Bytes,
+    ) -> Result<Reply, AllocError>
+        ensures ok { IfOk result (λ reply. applied self.old (Send from to pgn bytes) ≡ (self.new, reply)) }
+        ensures err { OnErr result (self.new ≡ self.old) }
+        ensures not_refused { OnErr result (IsOk (called self.old (Send from to pgn bytes))) }
+    {
+        match self.send(from, to, pgn, bytes) {
+            Ok(number) => Ok(Reply::Sent(number)),
+            Err(Stop::Refused(cause)) => Ok(Reply::Refused(cause)),
+            Err(Stop::OutOfMemory) => Err(AllocError),
+        }
     }
 
     // The same of any call.
@@ -135,12 +196,6 @@ impl Segment {
         ensures err { OnErr result (self.new ≡ self.old) }
         ensures not_refused { OnErr result (IsOk (called self.old call)) }
     {
-        // Whoever sends a broadcast pumps too soon each time, so that refusal is told first.
-        if let Call::Pump { station, to } = &call {
-            if let Some(cause) = self.pump_refusal(*station, *to) {
-                return Ok(Reply::Refused(cause));
-            }
-        }
         match self.call(call) {
             Ok(reply) => Ok(reply),
             Err(Stop::Refused(cause)) => Ok(Reply::Refused(cause)),
@@ -220,7 +275,10 @@ impl Segment {
                 to,
                 pgn,
                 bytes,
-            } => self.send(from, to, pgn, bytes),
+            } => match self.send(from, to, pgn, bytes) {
+                Ok(number) => Ok(Reply::Sent(number)),
+                Err(stop) => Err(stop),
+            },
             Call::Pump { station, to } => self.pump(station, to),
             Call::Transmit { station } => self.transmit(station),
             Call::Take { station, room } => self.take(station, room),

@@ -19,6 +19,7 @@ impl Segment {
     }
 
     /// Fires the first timer of a station that is due.
+    #[inline(never)]
     pub(crate) fn fire(&mut self, station: Address) -> Result<Reply, Stop>
         ensures { IsAnswer (at_address self.old station (fires self.old)) self.old self.new result }
     {

@@ -86,10 +86,19 @@ impl Segment {
         ensures reply { result ≡ Done events }
         ensures counts { self.new ≡ record self.old { counts = counted self.old.counts events } }
     {
-        if let Some(first) = events.get(0) {
-            count_event(&mut self.counts, first);
-            count_all(&mut self.counts, events.rest());
-        }
+        self.count_told(&events);
         Reply::Done(events)
+    }
+
+    /// Counts events that a call told.
+    #[inline(always)]
+    pub(crate) fn count_told(&mut self, events: &Events)
+        ensures { self.new ≡ record self.old { counts = counted self.old.counts events.now } }
+    {
+        let Some(first) = events.get(0) else {
+            return;
+        };
+        count_event(&mut self.counts, first);
+        count_all(&mut self.counts, events.rest());
     }
 }

@@ -37,6 +37,14 @@ impl Course {
         self.frames.len() < self.frames.capacity()
     }
 
+    /// Whether there is room for what one more call tells.
+    #[inline(always)]
+    pub(crate) fn has_part(&self) -> bool
+        ensures { OnTrue result (vec_len self.now.parts < vec_capacity self.now.parts) }
+    {
+        self.parts.len() < self.parts.capacity()
+    }
+
     /// The frame that a call put, for which there is room.
     pub(crate) fn put(&mut self, frame: Option<Frame>)
         requires room { vec_len self.old.frames < vec_capacity self.old.frames }
@@ -48,17 +56,26 @@ impl Course {
         }
     }
 
-    /// What a call told, for which there is room.
-    #[tactic(auto, using(crate::proofs::Joining::joined_push))]
+    /// What the reply to a call tells, for which there is room.
     pub(crate) fn tell(&mut self, reply: Reply)
         requires room { vec_len self.old.parts < vec_capacity self.old.parts }
         ensures told { joined self.new.parts.items ≡ joined self.old.parts.items ++ events_of reply }
         ensures frames { self.new.frames.items ≡ self.old.frames.items }
     {
         if let Reply::Done(events) = reply {
-            if !events.is_empty() {
-                self.parts.push_reserved(events);
-            }
+            self.note(events);
+        }
+    }
+
+    /// What a call told, for which there is room.
+    #[tactic(auto, using(crate::proofs::Joining::joined_push))]
+    pub(crate) fn note(&mut self, events: Events)
+        requires room { vec_len self.old.parts < vec_capacity self.old.parts }
+        ensures told { joined self.new.parts.items ≡ joined self.old.parts.items ++ events }
+        ensures frames { self.new.frames.items ≡ self.old.frames.items }
+    {
+        if !events.is_empty() {
+            self.parts.push_reserved(events);
         }
     }
 

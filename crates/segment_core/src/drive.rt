@@ -9,7 +9,7 @@ ghost use Rattle.segment_law.specs.Quiet.{quiet, IsQuiet};
 ghost use Rattle.segment_law.specs.Drive.{Driven as Drive, driven, makes, puts, pumps, turn_puts, takes_all, turn};
 ghost use Rattle.segment_law.specs.declared.call.Call.TheVariants.{Pump, Take, Tick};
 ghost use Rattle.segment_law.specs.declared.end.DriveEnd.TheVariants as end;
-ghost use Rattle.segment_law.specs.Calls.{at_address, transmits};
+ghost use Rattle.segment_law.specs.Calls.{at_address, takes, transmits};
 ghost use Rattle.segment_core.specs.Answers.{IsAnswer};
 ghost use Rattle.segment_core.specs.Drives.{IsDriven, IsBegun, IsCourse, SameTold, PutsNext, Went, IsFollowed, HasTaken, addresses_of, stop_end, too_soon};
 ghost use Rattle.segment_core.specs.Abreast.{HasPut};
@@ -25,6 +25,7 @@ use connection_law::the_headline_holds;
 use exchange_law::messages_are_undisturbed;
 use pgn_ids::Address;
 use segment_law::{DriveEnd, Refusal};
+use station_core::Events;
 
 // Room for so many frames is taken at once, so that an exchange of a few frames takes memory once.
 const FRAMES_AT_ONCE: usize = 8;
@@ -185,6 +186,9 @@ impl Segment {
         if is_too_soon(cause) {
             return self.pump_in_time(from, to, course);
         }
+        if let Some(cause) = cause {
+            return Err(Stop::Refused(cause));
+        }
         self.pump_once(from, to, course)
     }
 
@@ -259,18 +263,32 @@ impl Segment {
         self.take_one(station, course)
     }
 
-    // A station takes the next frame, with room, and what it tells is told. Memory is taken only once it isn't refused.
+    // A station takes the next frame, with room, and what it tells is told.
     fn take_one(&mut self, station: Address, course: &mut Course) -> Result<(), Stop>
         requires { IsFollowed self.old }
         ensures took { (start : State) (d : Drive) → IsCourse None start d self.old course.old → Went start (makes d (Take station true)) self.new course.new result }
         ensures taken { OnOk result (HasTaken station self.old self.new) }
     {
+        self.make_part(station, course)?;
+        let mut told = Events::none(self.alloc);
+        self.take_telling(station, true, &mut told)?;
+        course.note(told);
+        Ok(())
+    }
+
+    // Room in a course for what a station tells that takes the next frame. Memory is taken only once that isn't refused.
+    fn make_part(&self, station: Address, course: &mut Course) -> Result<(), Stop>
+        ensures room { OnOk result (vec_len course.new.parts < vec_capacity course.new.parts) }
+        ensures same { SameTold course.old course.new }
+        ensures stopped { IfErr result (λ stop. IsAnswer (at_address self.now station (takes self.now true)) self.now self.now (Err stop)) }
+    {
+        if course.has_part() {
+            return Ok(());
+        }
         if let Some(cause) = self.take_refusal(station, true) {
             return Err(Stop::Refused(cause));
         }
         course.parts.reserve(1)?;
-        let reply = self.take(station, true)?;
-        course.tell(reply);
         Ok(())
     }
 

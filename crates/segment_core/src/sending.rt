@@ -4,7 +4,8 @@ ghost use Rattle.std.specs.Bool.{OnTrue, OnFalse};
 ghost use Rattle.segment_law.specs.Calls.{at_address, done, sends, pumps, cancels};
 ghost use Rattle.segment_law.specs.Segment.{station_of};
 ghost use Rattle.segment_core.specs.InPlace.{pump_quiet};
-ghost use Rattle.segment_core.specs.Answers.{IsAnswer};
+ghost use Rattle.segment_core.specs.Answers.{IsAnswer, IsAnswerBy};
+ghost use Rattle.segment_law.specs.declared.reply.Reply.TheVariants.{Sent};
 
 use crate::segment::Segment;
 use crate::stop::{Stop, stop_of};
@@ -20,8 +21,8 @@ impl Segment {
         to: Address,
         pgn: Pgn,
         bytes: Bytes,
-    ) -> Result<Reply, Stop>
-        ensures { IsAnswer (at_address self.old from (sends self.old to pgn bytes)) self.old self.new result }
+    ) -> Result<u64, Stop>
+        ensures { IsAnswerBy Sent (at_address self.old from (sends self.old to pgn bytes)) self.old self.new result }
     {
         let Some(place) = self.place_of(from) else {
             return Err(Stop::Refused(Refusal::NoSuchStation));
@@ -30,10 +31,11 @@ impl Segment {
             Ok(number) => number,
             Err(refused) => return Err(stop_of(refused.cause)),
         };
-        Ok(Reply::Sent(number))
+        Ok(number)
     }
 
     /// Queues what comes next in a lane.
+    #[inline(never)]
     pub(crate) fn pump(&mut self, station: Address, to: Address) -> Result<Reply, Stop>
         ensures { IsAnswer (at_address self.old station (pumps self.old to)) self.old self.new result }
     {
@@ -61,6 +63,7 @@ impl Segment {
     }
 
     /// Cancels a message that has no outcome yet.
+    #[inline(never)]
     pub(crate) fn cancel(&mut self, from: Address, to: Address, number: u64) -> Result<Reply, Stop>
         ensures { IsAnswer (at_address self.old from (cancels self.old to number)) self.old self.new result }
     {

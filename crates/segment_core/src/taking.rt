@@ -3,8 +3,8 @@ ghost use Rattle.segment_law.specs.Calls.{at_address, done, takes, repeats, over
 ghost use Rattle.segment_law.specs.Segment.{place_of, station_of, counted, counted_look};
 ghost use Rattle.segment_law.specs.declared.reply.Reply.TheVariants.{Done};
 ghost use Rattle.segment_core.specs.InPlace.{take_quiet, next_at, TakeLacksRoom};
-ghost use Rattle.segment_core.specs.Answers.{IsAnswer};
-ghost use Rattle.std.specs.Prelude.{◌≡◌, ◌<◌, length, true};
+ghost use Rattle.segment_core.specs.Answers.{IsAnswer, IsAnswerBy};
+ghost use Rattle.std.specs.Prelude.{◌≡◌, ◌<◌, [], length, true};
 ghost use Rattle.std.specs.Bool.{OnTrue, OnFalse};
 ghost use Rattle.bus_order.specs.Bus.{next_frame};
 
@@ -14,13 +14,29 @@ use crate::stop::{Stop, stop_of};
 use bus_frame::Frame;
 use pgn_ids::Address;
 use segment_law::{Refusal, Reply};
-use station_core::Taken;
+use station_core::Events;
 
 impl Segment {
     /// A station takes the next frame of the bus.
-    #[inline(always)]
     pub(crate) fn take(&mut self, station: Address, room: bool) -> Result<Reply, Stop>
         ensures { IsAnswer (at_address self.old station (takes self.old room)) self.old self.new result }
+    {
+        let mut told = Events::none(self.alloc);
+        match self.take_telling(station, room, &mut told) {
+            Ok(()) => Ok(Reply::Done(told)),
+            Err(stop) => Err(stop),
+        }
+    }
+
+    /// The same, where what it tells is put down in a place in which nothing was told yet.
+    pub(crate) fn take_telling(
+        &mut self,
+        station: Address,
+        room: bool,
+        told: &mut Events,
+    ) -> Result<(), Stop>
+        requires { told.old ≡ [] }
+        ensures { IsAnswerBy (λ _. Done told.new) (at_address self.old station (takes self.old room)) self.old self.new result }
     {
         let Some(place) = self.place_of(station) else {
             return Err(Stop::Refused(Refusal::NoSuchStation));
@@ -29,13 +45,14 @@ impl Segment {
             return Err(Stop::Refused(Refusal::NothingToTake));
         };
         let now = self.clock.now();
-        let looked = match self.stations[place].take(&frame, room, now) {
-            Ok(looked) => looked,
+        let is_malformed = match self.stations[place].take_telling(&frame, room, now, told) {
+            Ok(is_malformed) => is_malformed,
             Err(cause) => return Err(stop_of(cause)),
         };
         let _taken = self.bus.next(place);
         self.bus.release();
-        Ok(self.looked(looked))
+        self.looked(is_malformed, told);
+        Ok(())
     }
 
     /// A station takes the next frame of the bus where that tells nothing. Any other frame is left to `take`,
@@ -66,6 +83,7 @@ impl Segment {
     }
 
     /// A station takes the frame that it took last once more.
+    #[inline(never)]
     pub(crate) fn take_again(&mut self, station: Address, room: bool) -> Result<Reply, Stop>
         ensures { IsAnswer (at_address self.old station (repeats self.old room)) self.old self.new result }
     {
@@ -76,15 +94,18 @@ impl Segment {
             return Err(Stop::Refused(Refusal::NothingToRepeat));
         };
         let now = self.clock.now();
-        let looked = match self.stations[place].take(&frame, room, now) {
-            Ok(looked) => looked,
+        let mut told = Events::none(self.alloc);
+        let is_malformed = match self.stations[place].take_telling(&frame, room, now, &mut told) {
+            Ok(is_malformed) => is_malformed,
             Err(cause) => return Err(stop_of(cause)),
         };
         count_repeat(&mut self.counts);
-        Ok(self.looked(looked))
+        self.looked(is_malformed, &told);
+        Ok(Reply::Done(told))
     }
 
     /// A station missed the next n frames.
+    #[inline(never)]
     pub(crate) fn overrun(&mut self, station: Address, n: u64) -> Result<Reply, Stop>
         ensures { IsAnswer (at_address self.old station (overruns self.old n)) self.old self.new result }
     {
@@ -112,13 +133,12 @@ impl Segment {
         self.bus.frame(self.bus.len() - waiting + 1)
     }
 
-    // The reply to a Take, which is counted. Always inlined, since it takes what was told by value.
+    // Counts what a station made of a frame.
     #[inline(always)]
-    fn looked(&mut self, looked: Taken) -> Reply
-        ensures reply { result ≡ Done looked.events }
-        ensures counts { self.new ≡ record self.old { counts = counted (counted_look self.old.counts looked.is_malformed) looked.events } }
+    fn looked(&mut self, is_malformed: bool, told: &Events)
+        ensures { self.new ≡ record self.old { counts = counted (counted_look self.old.counts is_malformed) told.now } }
     {
-        count_look(&mut self.counts, looked.is_malformed);
-        self.told(looked.events)
+        count_look(&mut self.counts, is_malformed);
+        self.count_told(told);
     }
 }

@@ -181,6 +181,7 @@ impl<T> SessionTable<T> {
     }
 
     /// Puts a state, which may be that of a new session, under the key that is held. It takes no memory.
+    #[inline(always)]
     pub fn put_back(&mut self, held: Held, bound: T, state: Incoming)
         requires { IsHeld self.old held }
         ensures { self.new ≡ map.insert self.old held (Some (bound, state)) }

@@ -1,5 +1,5 @@
 //! Frames that are taken, row by row (SAE J1939-21; ISO 11783-3).
-ghost use Rattle.std.specs.Prelude.{◌≡◌, ◌<◌, ◌+◌, ◌++◌, true, false, None, length, IfOk, OnOk, OnErr, option_to_list};
+ghost use Rattle.std.specs.Prelude.{◌≡◌, ◌<◌, ◌+◌, ◌++◌, [], true, false, None, length, IfOk, OnOk, OnErr, option_to_list};
 ghost use Rattle.std.specs.Result.{result_err};
 ghost use Rattle.pgn_ids.specs.Address.{is_one};
 ghost use Rattle.tp_wire.specs.Rows.{comes_from};
@@ -20,7 +20,6 @@ use pgn_ids::{Address, IdMeaning, WirePgn, read_id};
 use port_table::PortSet;
 use session_table::{Key, SessionKind};
 use station_lanes::outcome;
-use station_sessions::Told;
 use std::alloc::AllocError;
 use tp_wire::{CmFrame, Kind, Wire, is_transport, read, write};
 
@@ -120,53 +119,74 @@ impl Station {
         ensures refused { IsAnswered (taking_refusal self.old) (result_err result) }
         ensures err { OnErr result (self.new ≡ self.old) }
     {
+        let mut events = Events::none(self.alloc);
+        let is_malformed = self.take_telling(frame, room, now, &mut events)?;
+        Ok(Taken {
+            is_malformed,
+            events,
+        })
+    }
+
+    /// The same where what it tells is put down in a place that the caller keeps, in which nothing was told yet: whether the frame is
+    /// malformed. A value that is handed up instead is copied at each step of the way.
+    pub fn take_telling(
+        &mut self,
+        frame: &Frame,
+        room: bool,
+        now: u64,
+        told: &mut Events,
+    ) -> Result<bool, Refused>
+        requires { told.old ≡ [] }
+        ensures ok { OnOk result (taken self.old frame.now room now ≡ record { station = self.new; events = told.new }) }
+        ensures malformed { IfOk result (λ is_malformed. is_malformed ≡ is_malformed_for self.old frame.now) }
+        ensures refused { IsAnswered (taking_refusal self.old) (result_err result) }
+        ensures err { OnErr result (self.new ≡ self.old) }
+        ensures silent { OnErr result (told.new ≡ []) }
+    {
         if let Some(cause) = self.take_refusal() {
             return Err(cause);
         }
         if !self.looks_at(frame) {
-            return Ok(Taken {
-                is_malformed: false,
-                events: Events::none(self.alloc),
-            });
+            return Ok(false);
         }
         match read(frame) {
-            None => Ok(Taken {
-                is_malformed: is_transport(frame),
-                events: Events::none(self.alloc),
-            }),
-            Some((wire, from, to)) => Ok(Taken {
-                is_malformed: false,
-                events: self.take_wire(wire, from, to, room, now)?,
-            }),
+            None => Ok(is_transport(frame)),
+            Some((wire, from, to)) => {
+                self.take_wire(&wire, from, to, room, now, told)?;
+                Ok(false)
+            }
         }
     }
 
     /// Takes a frame with this meaning.
     fn take_wire(
         &mut self,
-        wire: Wire,
+        wire: &Wire,
         from: Address,
         to: Address,
         room: bool,
         now: u64,
-    ) -> Result<Events, AllocError>
+        told: &mut Events,
+    ) -> Result<(), AllocError>
         requires place { length self.old.queue < queue_limit }
-        requires source { comes_from wire from.0 ≡ true }
-        ensures ok { IfOk result (λ events. wire_taken self.old wire from to room now ≡ record { station = self.new; events = events }) }
+        requires source { comes_from wire.now from.0 ≡ true }
+        requires before { told.old ≡ [] }
+        ensures ok { OnOk result (wire_taken self.old wire.now from to room now ≡ record { station = self.new; events = told.new }) }
         ensures err { OnErr result (self.new ≡ self.old) }
+        ensures silent { OnErr result (told.new ≡ []) }
     {
         match wire {
-            Wire::Cm(frame) => self.take_cm(frame, from, room, now),
+            Wire::Cm(frame) => self.take_cm(*frame, from, room, now, told),
             Wire::Packet { kind, .. } => {
-                self.take_in_session(packet_kind(kind, to), from, &wire, room, now)
+                self.take_in_session(packet_kind(*kind, to), from, wire, room, now, told)
             }
             Wire::Request { pgn } => {
-                self.take_request(from, to, pgn);
-                Ok(Events::none(self.alloc))
+                self.take_request(from, to, *pgn);
+                Ok(())
             }
             Wire::Ack { address, pgn, .. } => {
-                self.take_ack(from, to, address, pgn);
-                Ok(Events::none(self.alloc))
+                self.take_ack(from, to, *address, *pgn);
+                Ok(())
             }
         }
     }
@@ -178,30 +198,46 @@ impl Station {
         from: Address,
         room: bool,
         now: u64,
-    ) -> Result<Events, AllocError>
+        told: &mut Events,
+    ) -> Result<(), AllocError>
         requires place { length self.old.queue < queue_limit }
         requires source { comes_from (Cm frame) from.0 ≡ true }
-        ensures ok { IfOk result (λ events. cm_taken self.old frame from room now ≡ record { station = self.new; events = events }) }
+        requires before { told.old ≡ [] }
+        ensures ok { OnOk result (cm_taken self.old frame from room now ≡ record { station = self.new; events = told.new }) }
         ensures err { OnErr result (self.new ≡ self.old) }
+        ensures silent { OnErr result (told.new ≡ []) }
     {
         let wire = Wire::Cm(frame);
         match &frame {
             CmFrame::Rts { .. } | CmFrame::Bam { .. } | CmFrame::EtpRts { .. } => {
-                self.take_opening(&frame, from, room, now)?;
-                Ok(Events::none(self.alloc))
+                self.take_opening(&frame, from, room, now)
             }
-            CmFrame::Cts { .. } => Ok(self.take_in_lane(from, &wire, now)),
-            CmFrame::EndOfMsgAck { .. } => Ok(self.take_in_lane(from, &wire, now)),
-            CmFrame::Abort { pgn, .. } => {
-                Ok(self.take_abort(SessionKind::Tp, from, *pgn, &wire, now))
-            }
-            CmFrame::EtpCts { .. } => Ok(self.take_in_lane(from, &wire, now)),
             CmFrame::EtpDpo { .. } => {
-                self.take_in_session(SessionKind::Etp, from, &wire, room, now)
+                self.take_in_session(SessionKind::Etp, from, &wire, room, now, told)
             }
-            CmFrame::EtpEoma { .. } => Ok(self.take_in_lane(from, &wire, now)),
+            CmFrame::Cts { .. } => {
+                self.take_in_lane(from, &wire, now, told);
+                Ok(())
+            }
+            CmFrame::EndOfMsgAck { .. } => {
+                self.take_in_lane(from, &wire, now, told);
+                Ok(())
+            }
+            CmFrame::EtpCts { .. } => {
+                self.take_in_lane(from, &wire, now, told);
+                Ok(())
+            }
+            CmFrame::EtpEoma { .. } => {
+                self.take_in_lane(from, &wire, now, told);
+                Ok(())
+            }
+            CmFrame::Abort { pgn, .. } => {
+                self.take_abort(SessionKind::Tp, from, *pgn, &wire, now, told);
+                Ok(())
+            }
             CmFrame::EtpAbort { pgn, .. } => {
-                Ok(self.take_abort(SessionKind::Etp, from, *pgn, &wire, now))
+                self.take_abort(SessionKind::Etp, from, *pgn, &wire, now, told);
+                Ok(())
             }
         }
     }
@@ -235,35 +271,41 @@ impl Station {
         wire: &Wire,
         room: bool,
         now: u64,
-    ) -> Result<Events, AllocError>
-        requires { length self.old.queue < queue_limit }
-        ensures ok { IfOk result (λ events. in_session self.old (key_of from kind) wire.now room now ≡ record { station = self.new; events = events }) }
+        told: &mut Events,
+    ) -> Result<(), AllocError>
+        requires place { length self.old.queue < queue_limit }
+        requires before { told.old ≡ [] }
+        ensures ok { OnOk result (in_session self.old (key_of from kind) wire.now room now ≡ record { station = self.new; events = told.new }) }
         ensures err { OnErr result (self.new ≡ self.old) }
+        ensures silent { OnErr result (told.new ≡ []) }
     {
         let key = Key { source: from, kind };
-        let Told { frame, events } = self.sessions.receive(&self.ports, key, wire, room, now)?;
+        let frame = self
+            .sessions
+            .receive(&self.ports, key, wire, room, now, told)?;
         enqueue_option(&mut self.queue, frame);
-        Ok(events)
+        Ok(())
     }
 
     /// The lane to the source makes its step.
-    fn take_in_lane(&mut self, from: Address, wire: &Wire, now: u64) -> Events
-        requires { length self.old.queue < queue_limit }
-        ensures { in_lane self.old from wire.now now ≡ record { station = self.new; events = result } }
+    fn take_in_lane(&mut self, from: Address, wire: &Wire, now: u64, told: &mut Events)
+        requires place { length self.old.queue < queue_limit }
+        requires before { told.old ≡ [] }
+        ensures { in_lane self.old from wire.now now ≡ record { station = self.new; events = told.new } }
     {
         let step = self.lanes.hear(from, wire, now);
-        self.finish_lane_step(from, step)
+        self.finish_lane_step(from, step, told);
     }
 
     /// What a step of the lane to a destination left to do.
-    pub(crate) fn finish_lane_step(&mut self, to: Address, step: LaneStep) -> Events
-        requires { length self.old.queue < queue_limit }
+    pub(crate) fn finish_lane_step(&mut self, to: Address, step: LaneStep, told: &mut Events)
+        requires place { length self.old.queue < queue_limit }
+        requires before { told.old ≡ [] }
         ensures queue { self.new ≡ record self.old { queue = self.old.queue ++ option_to_list step.frame } }
-        ensures told { result ≡ outcome_of self.old.address to step.ended }
+        ensures told { told.new ≡ outcome_of self.old.address to step.ended }
     {
         enqueue_option(&mut self.queue, step.frame);
-        let event = outcome(self.address, to, step.ended);
-        Events::of(self.alloc, event)
+        told.tell(outcome(self.address, to, step.ended));
     }
 
     /// An abort ends the incoming session and the message under way of its kind and PGN.
@@ -274,12 +316,14 @@ impl Station {
         pgn: WirePgn,
         wire: &Wire,
         now: u64,
-    ) -> Events
-        requires { length self.old.queue < queue_limit }
-        ensures { abort_taken self.old from kind pgn wire.now now ≡ record { station = self.new; events = result } }
+        told: &mut Events,
+    )
+        requires place { length self.old.queue < queue_limit }
+        requires before { told.old ≡ [] }
+        ensures { abort_taken self.old from kind pgn wire.now now ≡ record { station = self.new; events = told.new } }
     {
         self.sessions.abort(Key { source: from, kind }, pgn);
-        self.take_in_lane(from, wire, now)
+        self.take_in_lane(from, wire, now, told);
     }
 
     /// A Request to the own address is answered.

@@ -7,7 +7,6 @@ ghost use Rattle.station_core.specs.Timers.{is_due as is_due_station, fired};
 use crate::refused::Refused;
 use crate::station::{Station, enqueue_option};
 use message_events::Events;
-use station_sessions::Told;
 
 impl Station {
     /// Whether one of its timers is due at tick `now`.
@@ -44,7 +43,8 @@ impl Station {
             if self.queue.free() == 0 {
                 return Err(Refused::TxFull);
             }
-            let Told { frame, events } = self.sessions.fire(&self.ports, key, now)?;
+            let mut events = Events::none(self.alloc);
+            let frame = self.sessions.fire(&self.ports, key, now, &mut events)?;
             enqueue_option(&mut self.queue, frame);
             return Ok(events);
         }
@@ -55,6 +55,8 @@ impl Station {
             return Err(Refused::TxFull);
         }
         let step = self.lanes.fire(to, now);
-        Ok(self.finish_lane_step(to, step))
+        let mut events = Events::none(self.alloc);
+        self.finish_lane_step(to, step, &mut events);
+        Ok(events)
     }
 }

@@ -1,5 +1,5 @@
 //! The memory for a message that is given at several ports, made before the step that completes the message.
-ghost use Rattle.std.specs.Prelude.{◌≡◌, ◌≤◌, ◌-◌, [], length, All, IfOk, vec_capacity};
+ghost use Rattle.std.specs.Prelude.{◌≡◌, ◌≤◌, ◌-◌, [], length, All, IfOk, OnOk, vec_capacity};
 ghost use Rattle.station_sessions.specs.Given.{given_at, given_to};
 
 use message_events::{Bytes, Event, Events};
@@ -76,17 +76,25 @@ impl Copies {
         }
     }
 
-    /// Room for so many copies of a message of `size` bytes.
-    pub(crate) fn make(alloc: Global, count: usize, size: usize) -> Result<Copies, AllocError>
-        ensures count { IfOk result (λ copies. length copies ≡ count) }
-        ensures size { IfOk result (λ copies. All (λ room. room ≡ size) copies) }
+    /// Makes room for so many copies of a message of `size` bytes, where there is none yet.
+    pub(crate) fn make(
+        &mut self,
+        alloc: Global,
+        count: usize,
+        size: usize,
+    ) -> Result<(), AllocError>
+        requires { self.old ≡ [] }
+        ensures count { OnOk result (length self.new ≡ count) }
+        ensures size { OnOk result (All (λ room. room ≡ size) self.new) }
     {
         let events = Vec::with_capacity(alloc, count)?;
         let mut rooms = Vec::with_capacity(alloc, count)?;
         for _ in 0..count {
             rooms.push_reserved(Room::new(alloc, size)?);
         }
-        Ok(Copies { rooms, events })
+        self.rooms = rooms;
+        self.events = events;
+        Ok(())
     }
 
     /// The events that give a copy of the message at each of these ports of a station.
@@ -155,23 +163,24 @@ impl Message {
 }
 
 /// Gives a message at each port of a set of a station, by rising number, with the room that was made for the copies at all
-/// ports but one. It takes no memory.
+/// ports but one, which is told where nothing was told yet. It takes no memory.
 pub(crate) fn give(
-    alloc: Global,
     station: Address,
     set: &PortSet,
     message: Message,
     copies: Copies,
-) -> Events
+    told: &mut Events,
+)
+    requires silent { told.old ≡ [] }
     requires count { length copies ≡ length set.now - 1 }
     requires enough { All (λ room. length message.bytes ≤ room) copies }
-    ensures { result ≡ given_to station set.now message }
+    ensures { told.new ≡ given_to station set.now message }
 {
     match set.numbers() {
-        [] => Events::none(alloc),
+        [] => {}
         [first, others @ ..] => {
             let rest = copies.give(station, others, &message);
-            Events::all(message.last_at(station, *first), rest)
+            told.tell_all(message.last_at(station, *first), rest);
         }
     }
 }

@@ -6,4 +6,4 @@ mod copies;
 mod receivers;
 mod steps;
 
-pub use receivers::{Receivers, ReceiversImage, Told, flow};
+pub use receivers::{Receivers, ReceiversImage, flow};

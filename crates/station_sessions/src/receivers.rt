@@ -16,7 +16,7 @@ mod image;
 mod opening;
 mod sources;
 
-use crate::steps::{self, Table, quiet};
+use crate::steps::{self, Table};
 use bus_frame::Frame;
 pub use image::ReceiversImage;
 use message_events::Events;
@@ -28,13 +28,6 @@ use std::alloc::{AllocError, Global};
 use std::marker::Model;
 use tp_wire::{Heard, Wire};
 use tx_queue::TxQueue;
-
-/// What a step of an incoming session leaves to do: the frame that is to be queued, if there is one, and what is told.
-#[derive(Drop)]
-pub struct Told {
-    pub frame: Option<Frame>,
-    pub events: Events,
-}
 
 /// The incoming sessions of a station by source and kind, at most 32, each with the ports that it gives to: those that its
 /// opening found, less those that were closed since.
@@ -198,16 +191,18 @@ impl Receivers {
         wire: &Wire,
         room: bool,
         now: u64,
-    ) -> Result<Told, AllocError>
-        ensures ok { IfOk result (λ told. received ports.now key wire.now room now self.old ≡ record { sessions = self.new; frame = told.frame; events = told.events }) }
+        told: &mut Events,
+    ) -> Result<Option<Frame>, AllocError>
+        requires { told.old ≡ [] }
+        ensures ok { IfOk result (λ frame. received ports.now key wire.now room now self.old ≡ record { sessions = self.new; frame = frame; events = told.new }) }
         ensures err { OnErr result (self.new ≡ self.old) }
+        ensures silent { OnErr result (told.new ≡ []) }
     {
-        let alloc = self.alloc;
         let Some((held, set, state)) = self.table.take_out(key) else {
-            return Ok(quiet(alloc, None));
+            return Ok(None);
         };
-        let told = steps::step(
-            alloc,
+        let frame = steps::step(
+            self.alloc,
             &mut self.table,
             ports,
             held,
@@ -216,8 +211,9 @@ impl Receivers {
             wire,
             room,
             now,
+            told,
         )?;
-        Ok(told)
+        Ok(frame)
     }
 
     /// Takes a frame of its source where the session of a key stands, at tick `now` (SAE J1939-21, TP.DT; ISO 11783-3, ETP.DT,
@@ -277,16 +273,32 @@ impl Receivers {
     ///
     /// All memory is taken first: want of it changes nothing.
     #[tactic(auto, using(crate::proofs::SessionMaps::session_maps))]
-    pub fn fire(&mut self, ports: &PortTable, key: Key, now: u64) -> Result<Told, AllocError>
-        ensures ok { IfOk result (λ told. fired_at ports.now key now self.old ≡ record { sessions = self.new; frame = told.frame; events = told.events }) }
+    pub fn fire(
+        &mut self,
+        ports: &PortTable,
+        key: Key,
+        now: u64,
+        told: &mut Events,
+    ) -> Result<Option<Frame>, AllocError>
+        requires { told.old ≡ [] }
+        ensures ok { IfOk result (λ frame. fired_at ports.now key now self.old ≡ record { sessions = self.new; frame = frame; events = told.new }) }
         ensures err { OnErr result (self.new ≡ self.old) }
+        ensures silent { OnErr result (told.new ≡ []) }
     {
-        let alloc = self.alloc;
         let Some((held, set, state)) = self.table.take_out(key) else {
-            return Ok(quiet(alloc, None));
+            return Ok(None);
         };
-        let told = steps::fire(alloc, &mut self.table, ports, held, set, state, now)?;
-        Ok(told)
+        let frame = steps::fire(
+            self.alloc,
+            &mut self.table,
+            ports,
+            held,
+            set,
+            state,
+            now,
+            told,
+        )?;
+        Ok(frame)
     }
 
     /// Takes a port out of the set of the session of a key. A session whose set is then empty ends: the abort of a

@@ -16,7 +16,7 @@ ghost use Rattle.station_sessions.specs.Receiving.{Inbound, flow_at, concluded, 
 ghost use Rattle.station_sessions.specs.Steps.{broadcast_message, connection_message, given_answer, refused_answer};
 
 use crate::copies::{Copies, Message, give};
-use crate::receivers::{Told, flow};
+use crate::receivers::flow;
 use bam_session::{BamIn, BamStepped};
 use bus_frame::Frame;
 use message_events::{Bytes, Events};
@@ -41,10 +41,13 @@ pub(crate) fn step(
     wire: &Wire,
     room: bool,
     now: u64,
-) -> Result<Told, AllocError>
-    requires { IsHeld table.old held }
-    ensures ok { IfOk result (λ told. session_stepped ports.now.station held set room table.old (flow_at ports.now set) state wire.now now ≡ record { sessions = table.new; frame = told.frame; events = told.events }) }
+    told: &mut Events,
+) -> Result<Option<Frame>, AllocError>
+    requires held { IsHeld table.old held }
+    requires silent { told.old ≡ [] }
+    ensures ok { IfOk result (λ frame. session_stepped ports.now.station held set room table.old (flow_at ports.now set) state wire.now now ≡ record { sessions = table.new; frame = frame; events = told.new }) }
     ensures err { OnErr result (table.new ≡ map.insert table.old held (Some (set, state))) }
+    ensures silent { OnErr result (told.new ≡ []) }
 {
     match state {
         Incoming::Broadcast(state) => {
@@ -58,10 +61,11 @@ pub(crate) fn step(
                 wire,
                 room,
                 now,
+                told,
             )
         }
         Incoming::Connection(state) => {
-            step_connection(alloc, table, ports, held, set, state, wire, room, now)
+            step_connection(alloc, table, ports, held, set, state, wire, room, now, told)
         }
     }
 }
@@ -77,31 +81,34 @@ fn step_broadcast(
     wire: &Wire,
     room: bool,
     now: u64,
-) -> Result<Told, AllocError>
-    requires { IsHeld table.old held }
-    ensures ok { IfOk result (λ told. broadcast_settled station held set room table.old state (bam_stepped state wire.now now) ≡ record { sessions = table.new; frame = told.frame; events = told.events }) }
+    told: &mut Events,
+) -> Result<Option<Frame>, AllocError>
+    requires held { IsHeld table.old held }
+    requires silent { told.old ≡ [] }
+    ensures ok { IfOk result (λ frame. broadcast_settled station held set room table.old state (bam_stepped state wire.now now) ≡ record { sessions = table.new; frame = frame; events = told.new }) }
     ensures err { OnErr result (table.new ≡ map.insert table.old held (Some (set, Broadcast state))) }
+    ensures silent { OnErr result (told.new ≡ []) }
 {
-    let copies = match make_copies(alloc, &set, room && state.completes(wire), state.size()) {
-        Ok(copies) => copies,
-        Err(error) => {
-            table.put_back(held, set, Incoming::Broadcast(state));
-            return Err(error);
-        }
-    };
+    let mut copies = Copies::none(alloc);
+    let is_given = room && state.completes(wire);
+    if let Err(error) = make_copies(alloc, &set, is_given, state.size(), &mut copies) {
+        table.put_back(held, set, Incoming::Broadcast(state));
+        return Err(error);
+    }
     let (from, pgn) = (state.from(), state.pgn().clean());
     match take_broadcast(state, wire, now) {
         BamStepped::On(state) => {
             table.put_back(held, set, Incoming::Broadcast(state));
-            Ok(quiet(alloc, None))
+            Ok(None)
         }
         BamStepped::Complete(bytes) => {
             table.end(held);
-            Ok(conclude_broadcast(alloc, station, &set, room, from, pgn, bytes, copies))
+            conclude_broadcast(station, &set, room, from, pgn, bytes, copies, told);
+            Ok(None)
         }
         BamStepped::Dropped => {
             table.end(held);
-            Ok(quiet(alloc, None))
+            Ok(None)
         }
     }
 }
@@ -117,22 +124,22 @@ fn step_connection(
     wire: &Wire,
     room: bool,
     now: u64,
-) -> Result<Told, AllocError>
-    requires { IsHeld table.old held }
-    ensures ok { IfOk result (λ told. session_stepped ports.now.station held set room table.old (flow_at ports.now set) (Connection state) wire.now now ≡ record { sessions = table.new; frame = told.frame; events = told.events }) }
+    told: &mut Events,
+) -> Result<Option<Frame>, AllocError>
+    requires held { IsHeld table.old held }
+    requires silent { told.old ≡ [] }
+    ensures ok { IfOk result (λ frame. session_stepped ports.now.station held set room table.old (flow_at ports.now set) (Connection state) wire.now now ≡ record { sessions = table.new; frame = frame; events = told.new }) }
     ensures err { OnErr result (table.new ≡ map.insert table.old held (Some (set, Connection state))) }
+    ensures silent { OnErr result (told.new ≡ []) }
 {
     let flow = flow(ports, &set);
-    let copies = match make_room(alloc, &set, &mut state, wire, room, flow) {
-        Ok(copies) => copies,
-        Err(error) => {
-            table.put_back(held, set, Incoming::Connection(state));
-            return Err(error);
-        }
-    };
+    let mut copies = Copies::none(alloc);
+    if let Err(error) = make_room(alloc, &set, &mut state, wire, room, flow, &mut copies) {
+        table.put_back(held, set, Incoming::Connection(state));
+        return Err(error);
+    }
     let received = take_packet(state, wire, room, flow, now);
     Ok(settle(
-        alloc,
         table,
         ports.station(),
         held,
@@ -140,6 +147,7 @@ fn step_connection(
         room,
         received,
         copies,
+        told,
     ))
 }
 
@@ -153,18 +161,23 @@ pub(crate) fn fire(
     set: PortSet,
     state: Incoming,
     now: u64,
-) -> Result<Told, AllocError>
-    requires { IsHeld table.old held }
-    ensures ok { IfOk result (λ told. session_fired ports.now.station held set table.old (flow_at ports.now set) state now ≡ record { sessions = table.new; frame = told.frame; events = told.events }) }
+    told: &mut Events,
+) -> Result<Option<Frame>, AllocError>
+    requires held { IsHeld table.old held }
+    requires silent { told.old ≡ [] }
+    ensures ok { IfOk result (λ frame. session_fired ports.now.station held set table.old (flow_at ports.now set) state now ≡ record { sessions = table.new; frame = frame; events = told.new }) }
     ensures err { OnErr result (table.new ≡ map.insert table.old held (Some (set, state))) }
+    ensures silent { OnErr result (told.new ≡ []) }
 {
     match state {
         Incoming::Broadcast(state) => {
             state.expire();
             table.end(held);
-            Ok(quiet(alloc, None))
+            Ok(None)
         }
-        Incoming::Connection(state) => fire_connection(alloc, table, ports, held, set, state, now),
+        Incoming::Connection(state) => {
+            fire_connection(alloc, table, ports, held, set, state, now, told)
+        }
     }
 }
 
@@ -177,10 +190,13 @@ fn fire_connection(
     set: PortSet,
     mut state: InState,
     now: u64,
-) -> Result<Told, AllocError>
-    requires { IsHeld table.old held }
-    ensures ok { IfOk result (λ told. session_fired ports.now.station held set table.old (flow_at ports.now set) (Connection state) now ≡ record { sessions = table.new; frame = told.frame; events = told.events }) }
+    told: &mut Events,
+) -> Result<Option<Frame>, AllocError>
+    requires held { IsHeld table.old held }
+    requires silent { told.old ≡ [] }
+    ensures ok { IfOk result (λ frame. session_fired ports.now.station held set table.old (flow_at ports.now set) (Connection state) now ≡ record { sessions = table.new; frame = frame; events = told.new }) }
     ensures err { OnErr result (table.new ≡ map.insert table.old held (Some (set, Connection state))) }
+    ensures silent { OnErr result (told.new ≡ []) }
 {
     let flow = flow(ports, &set);
     match state.prepare_expire(flow) {
@@ -193,7 +209,6 @@ fn fire_connection(
     let received = state.expire(flow, now);
     let copies = Copies::none(alloc);
     Ok(settle(
-        alloc,
         table,
         ports.station(),
         held,
@@ -201,13 +216,13 @@ fn fire_connection(
         true,
         received,
         copies,
+        told,
     ))
 }
 
 // Puts the connection whose key is held back, or ends it. Always inlined, since it takes a state by value.
 #[inline(always)]
 fn settle(
-    alloc: Global,
     table: &mut Table,
     station: Address,
     held: Held,
@@ -215,23 +230,25 @@ fn settle(
     room: bool,
     received: Received,
     copies: Copies,
-) -> Told
+    told: &mut Events,
+) -> Option<Frame>
     requires held { IsHeld table.old held }
+    requires silent { told.old ≡ [] }
     requires covered { IsCovered received room set copies }
-    ensures { connection_settled station held set room table.old received ≡ record { sessions = table.new; frame = result.frame; events = result.events } }
+    ensures { connection_settled station held set room table.old received ≡ record { sessions = table.new; frame = result; events = told.new } }
 {
     match received {
         Received::On(state, frame) => {
             table.put_back(held, set, Incoming::Connection(state));
-            quiet(alloc, frame)
+            frame
         }
         Received::Complete(finished) => {
             table.end(held);
-            conclude_connection(alloc, station, &set, room, finished, copies)
+            Some(conclude_connection(station, &set, room, finished, copies, told))
         }
         Received::Ended(frame) => {
             table.end(held);
-            quiet(alloc, frame)
+            frame
         }
     }
 }
@@ -255,7 +272,7 @@ fn take_packet(state: InState, wire: &Wire, room: bool, flow: Flow, now: u64) ->
 }
 
 // Makes all the room that a step needs: for the copies of a message that it completes and gives, or for the next window.
-// An error changes nothing.
+// An error changes no state.
 fn make_room(
     alloc: Global,
     set: &PortSet,
@@ -263,18 +280,19 @@ fn make_room(
     wire: &Wire,
     room: bool,
     flow: Flow,
-) -> Result<Copies, AllocError>
+    copies: &mut Copies,
+) -> Result<(), AllocError>
+    requires { copies.old ≡ [] }
     ensures ok { OnOk result (state.new ≡ prepared state.old wire.now room flow) }
     ensures ready { OnOk result (IsPrepared state.new wire.now room flow) }
-    ensures count { IfOk result (λ copies. room ≡ true → completes_at state.new wire.now ≡ true → length copies ≡ length set.now - 1) }
-    ensures enough { IfOk result (λ copies. All (λ size. size ≡ (unfinished_of state.new).join.size) copies) }
+    ensures count { OnOk result (room ≡ true → completes_at state.new wire.now ≡ true → length copies.new ≡ length set.now - 1) }
+    ensures enough { OnOk result (All (λ size. size ≡ (unfinished_of state.new).join.size) copies.new) }
     ensures err { OnErr result (state.new ≡ state.old) }
 {
     if room && state.completes(wire) {
-        return make_copies(alloc, set, true, state.size());
+        return make_copies(alloc, set, true, state.size(), copies);
     }
-    state.prepare(wire, room, flow)?;
-    Ok(Copies::none(alloc))
+    state.prepare(wire, room, flow)
 }
 
 // Makes the room for the copies of a message of so many bytes, where it is given.
@@ -283,19 +301,20 @@ fn make_copies(
     set: &PortSet,
     is_given: bool,
     size: u32,
-) -> Result<Copies, AllocError>
-    ensures count { IfOk result (λ copies. is_given ≡ true → length copies ≡ length set.now - 1) }
-    ensures enough { IfOk result (λ copies. All (λ room. room ≡ size) copies) }
+    copies: &mut Copies,
+) -> Result<(), AllocError>
+    requires { copies.old ≡ [] }
+    ensures count { OnOk result (is_given ≡ true → length copies.new ≡ length set.now - 1) }
+    ensures enough { OnOk result (All (λ room. room ≡ size) copies.new) }
 {
     if !is_given {
-        return Ok(Copies::none(alloc));
+        return Ok(());
     }
-    Copies::make(alloc, set.len().saturating_sub(1), size as usize)
+    copies.make(alloc, set.len().saturating_sub(1), size as usize)
 }
 
 // Gives a message to all that is complete, or drops it where there is no room.
 fn conclude_broadcast(
-    alloc: Global,
     station: Address,
     set: &PortSet,
     room: bool,
@@ -303,13 +322,15 @@ fn conclude_broadcast(
     pgn: Pgn,
     bytes: Vec<u8>,
     copies: Copies,
-) -> Told
-    requires { IsRoomFor (length bytes.items) room set.now copies }
+    told: &mut Events,
+)
+    requires silent { told.old ≡ [] }
+    requires room { IsRoomFor (length bytes.items) room set.now copies }
     ensures { (s : Coming) (sessions : Inbound) → from.0 ≡ s.from → pgn ≡ clean s.pgn
-        → concluded station set.now room sessions None None (broadcast_message s bytes.items) ≡ record { sessions = sessions; frame = result.frame; events = result.events } }
+        → concluded station set.now room sessions None None (broadcast_message s bytes.items) ≡ record { sessions = sessions; frame = None; events = told.new } }
 {
     if !room {
-        return quiet(alloc, None);
+        return;
     }
     let message = Message {
         from,
@@ -317,26 +338,24 @@ fn conclude_broadcast(
         pgn,
         bytes: Bytes::new(bytes),
     };
-    Told {
-        frame: None,
-        events: give(alloc, station, set, message, copies),
-    }
+    give(station, set, message, copies, told);
 }
 
-// Gives a message of a connection that is complete, or refuses it where there is no room.
+// Gives a message of a connection that is complete, or refuses it where there is no room: the frame that answers it.
 fn conclude_connection(
-    alloc: Global,
     station: Address,
     set: &PortSet,
     room: bool,
     finished: Finished,
     copies: Copies,
-) -> Told
-    requires { IsRoomFor finished.size room set.now copies }
-    ensures { (sessions : Inbound) → concluded station set.now room sessions (Some (given_answer finished)) (Some (refused_answer finished)) (connection_message finished) ≡ record { sessions = sessions; frame = result.frame; events = result.events } }
+    told: &mut Events,
+) -> Frame
+    requires silent { told.old ≡ [] }
+    requires room { IsRoomFor finished.size room set.now copies }
+    ensures { (sessions : Inbound) → concluded station set.now room sessions (Some (given_answer finished)) (Some (refused_answer finished)) (connection_message finished) ≡ record { sessions = sessions; frame = Some result; events = told.new } }
 {
     if !room {
-        return quiet(alloc, Some(finished.refused()));
+        return finished.refused();
     }
     let peer = finished.peer();
     let (bytes, end) = finished.given();
@@ -346,20 +365,6 @@ fn conclude_connection(
         pgn: peer.pgn().clean(),
         bytes: Bytes::new(bytes),
     };
-    Told {
-        frame: Some(end),
-        events: give(alloc, station, set, message, copies),
-    }
-}
-
-// A frame to be queued and nothing to tell.
-#[inline]
-pub(crate) fn quiet(alloc: Global, frame: Option<Frame>) -> Told
-    ensures frame { result.frame ≡ frame }
-    ensures events { result.events ≡ [] }
-{
-    Told {
-        frame,
-        events: Events::none(alloc),
-    }
+    give(station, set, message, copies, told);
+    end
 }

@@ -2,7 +2,8 @@
 use crate::checks::{got, holds, same};
 use crate::station::frames::{pgn, wire_pgn};
 use bam_session::BamIn;
-use message_events::Event;
+use bus_frame::Frame;
+use message_events::{Event, Events};
 use pgn_ids::Address;
 use port_table::PortTable;
 use seg_cut::{Join, packets};
@@ -60,8 +61,16 @@ fn is_given(rt: &impl Abort, event: Option<&Event>, number: u64) {
 }
 
 // Calls of which a test only looks at the answer: their contracts are not carried through it.
-fn receive(rt: &impl Abort, sessions: &mut Receivers, ports: &PortTable, wire: &Wire) -> Told {
-    got(rt, sessions.receive(ports, KEY, wire, true, 0))
+fn receive(
+    rt: &impl Abort,
+    alloc: Global,
+    sessions: &mut Receivers,
+    ports: &PortTable,
+    wire: &Wire,
+) -> (Option<Frame>, Events) {
+    let mut told = Events::none(alloc);
+    let frame = got(rt, sessions.receive(ports, KEY, wire, true, 0, &mut told));
+    (frame, told)
 }
 
 // A frame is taken in place, or not.
@@ -78,8 +87,17 @@ fn takes_in_place(
     same(rt, taken, is_taken);
 }
 
-fn fire(rt: &impl Abort, sessions: &mut Receivers, ports: &PortTable, now: u64) -> Told {
-    got(rt, sessions.fire(ports, KEY, now))
+fn fire(
+    rt: &impl Abort,
+    alloc: Global,
+    sessions: &mut Receivers,
+    ports: &PortTable,
+    now: u64,
+) -> Option<Frame> {
+    let mut told = Events::none(alloc);
+    let frame = got(rt, sessions.fire(ports, KEY, now, &mut told));
+    holds(rt, told.is_empty());
+    frame
 }
 
 fn abort(rt: &impl Abort, sessions: &mut Receivers, pgn: u32) {
@@ -87,23 +105,30 @@ fn abort(rt: &impl Abort, sessions: &mut Receivers, pgn: u32) {
 }
 
 // What the step tells: no frame, and no message.
-fn tells_nothing(rt: &impl Abort, sessions: &mut Receivers, ports: &PortTable, wire: &Wire) {
-    let told = receive(rt, sessions, ports, wire);
-    same(rt, (told.frame, told.events.len()), (None, 0));
+fn tells_nothing(
+    rt: &impl Abort,
+    alloc: Global,
+    sessions: &mut Receivers,
+    ports: &PortTable,
+    wire: &Wire,
+) {
+    let (frame, told) = receive(rt, alloc, sessions, ports, wire);
+    same(rt, (frame, told.len()), (None, 0));
 }
 
 // The step gives the nine bytes at these ports, and queues nothing.
 fn gives(
     rt: &impl Abort,
+    alloc: Global,
     sessions: &mut Receivers,
     ports: &PortTable,
     wire: &Wire,
     numbers: &[u64],
 ) {
-    let told = receive(rt, sessions, ports, wire);
-    same(rt, (told.frame, told.events.len()), (None, numbers.len()));
+    let (frame, told) = receive(rt, alloc, sessions, ports, wire);
+    same(rt, (frame, told.len()), (None, numbers.len()));
     for (place, number) in numbers.iter().enumerate() {
-        is_given(rt, told.events.get(place), *number);
+        is_given(rt, told.get(place), *number);
     }
 }
 
@@ -126,10 +151,10 @@ fn given_at_both_ports_once(rt: HostRuntime) {
     let ports = two_ports(&rt, rt.alloc());
     let mut sessions = announce(&rt, rt.alloc(), &ports);
     same(&rt, sessions.others(KEY), 0);
-    tells_nothing(&rt, &mut sessions, &ports, &FIRST);
+    tells_nothing(&rt, rt.alloc(), &mut sessions, &ports, &FIRST);
     are_wanted(&rt, &sessions, &LAST);
-    gives(&rt, &mut sessions, &ports, &LAST, &[1, 2]);
-    tells_nothing(&rt, &mut sessions, &ports, &LAST);
+    gives(&rt, rt.alloc(), &mut sessions, &ports, &LAST, &[1, 2]);
+    tells_nothing(&rt, rt.alloc(), &mut sessions, &ports, &LAST);
 }
 
 #[test]
@@ -137,8 +162,8 @@ fn one_of_its_ports_closes(rt: HostRuntime) {
     let ports = two_ports(&rt, rt.alloc());
     let mut sessions = announce(&rt, rt.alloc(), &ports);
     ends(&rt, &mut sessions, 1);
-    tells_nothing(&rt, &mut sessions, &ports, &FIRST);
-    gives(&rt, &mut sessions, &ports, &LAST, &[2]);
+    tells_nothing(&rt, rt.alloc(), &mut sessions, &ports, &FIRST);
+    gives(&rt, rt.alloc(), &mut sessions, &ports, &LAST, &[2]);
 }
 
 #[test]
@@ -174,7 +199,7 @@ fn packets_are_taken_in_place(rt: HostRuntime) {
     is_source(&rt, &sessions, 0x22, None);
     takes_in_place(&rt, &mut sessions, &ports, &first, &mut queue, true);
     takes_in_place(&rt, &mut sessions, &ports, &last, &mut queue, false);
-    gives(&rt, &mut sessions, &ports, &LAST, &[1, 2]);
+    gives(&rt, rt.alloc(), &mut sessions, &ports, &LAST, &[1, 2]);
 }
 
 #[test]
@@ -185,7 +210,7 @@ fn a_silent_session_ends(rt: HostRuntime) {
     is_due_as(&rt, &sessions, 750, Some(KEY));
     abort(&rt, &mut sessions, 0xFEC9);
     is_due_as(&rt, &sessions, 750, Some(KEY));
-    same(&rt, fire(&rt, &mut sessions, &ports, 750).frame, None);
+    same(&rt, fire(&rt, rt.alloc(), &mut sessions, &ports, 750), None);
     is_due_as(&rt, &sessions, 750, None);
 }
 

@@ -1,8 +1,10 @@
-use Rattle.std.proofs.Common.{sym, ap, ◌∙◌, subst}
+use Rattle.std.proofs.Common.{Err, refl, sym, ap, ◌∙◌, subst}
 use Rattle.segment_core.specs.Joined.{joined}
 use Rattle.segment_law.specs.Drive.{Driven}
 use Rattle.segment_core.specs.Drives.{HasGone, too_soon}
-use Rattle.segment_core.proofs.Steps.{pumps_once, pumps_later}
+use Rattle.segment_core.specs.declared.stop.Stop.TheVariants.{Refused}
+use Rattle.segment_core.proofs.Causes.{cause_refused}
+use Rattle.segment_core.proofs.Steps.{pumps_once, pumps_later, pump_stopped}
 use Rattle.segment_core.proofs.segment.Segment.pump_lane.Goals as goal
 
 pub returns-then-is_too_soon : goal.returns-then-is_too_soon
@@ -16,3 +18,12 @@ returns c = λ start d h.
     let gone = c.pump_once in
     let same = pumps_once d c.args.self.now c.args.from c.args.to h.segment h.end (ap too_soon (sym c.pump_refusal-cause.ensures) ∙ sym c.if-is_too_soon.ensures) in
     subst (λ (x : Driven). HasGone start x gone.new.self gone.new.course.frames.items (joined gone.new.course.parts.items) gone.result) same (gone.ensures start d h)
+
+pub returns-in-Some : goal.returns-in-Some
+returns-in-Some c = λ start d h.
+    let put = c.args.course.now.frames.items in
+    let told = joined c.args.course.now.parts.items in
+    let same = pumps_once d c.args.self.now c.args.from c.args.to h.segment h.end (ap too_soon (sym c.pump_refusal-cause.ensures) ∙ sym c.if-is_too_soon.ensures) in
+    subst (λ (x : Driven). HasGone start x c.args.self.now put told (Err (Refused c.in-Some.cause))) same
+    (pump_stopped start d c.args.self.now c.args.self.now put told c.args.from c.args.to (Refused c.in-Some.cause) h c.one_byte.ensures
+    (cause_refused _ c.in-Some.cause (sym c.in-Some.is ∙ c.pump_refusal-cause.ensures), refl))

@@ -6,4 +6,4 @@ use Rattle.station_sessions.proofs.receivers.Receivers.receive.Goals as goal
 pub returns-clause-ok : goal.returns-clause-ok
 returns-clause-ok c =
     ap (λ m. received c.args.ports.now c.args.key c.args.wire.now c.args.room c.args.now m) (sym c.self.view_is)
-    ∙ received_is c.args.ports.now c.args.key c.in-Some.held c.in-Some.set c.in-Some.state c.args.now _ _ _ c.in-Some.ensures.value c.in-Some.ensures.held c.args.wire.now c.args.room c.in_ok-told.ensures.ok
+    ∙ received_is c.args.ports.now c.args.key c.in-Some.held c.in-Some.set c.in-Some.state c.args.now _ _ _ c.in-Some.ensures.value c.in-Some.ensures.held c.args.wire.now c.args.room c.in_ok-frame.ensures.ok

@@ -9,7 +9,7 @@ use Rattle.segment_core.proofs.Refusals.{takes_are, stops}
 use Rattle.segment_core.proofs.Stations.{at_none}
 use Rattle.segment_core.proofs.Kept.{inside_kept, inside_moved, at_here, takes_is, taken_view, unchanged_view}
 use Rattle.segment_core.proofs.Calling.{within_here, cursor_here, at_any}
-use Rattle.segment_core.proofs.segment.Segment.take.Goals as goal
+use Rattle.segment_core.proofs.segment.Segment.take_telling.Goals as goal
 
 pub returns-in_default : goal.returns-in_default
 returns-in_default c = (at_none c.args.self.now c.args.station (takes c.args.self.now c.args.room) (sym c.place_of.ensures.value ∙ c.in_default.is), refl)
@@ -29,7 +29,7 @@ index_mut-requires c = within_here c.self.inside c.args.self.now c.in-Some.place
 
 pub invariant_of-self : goal.invariant_of-self
 invariant_of-self c =
-    inside_kept c.self.inside c.in-Some.place c.take.new.self c.index_mut.result.now c.self.invariant c.index_mut.ensures.value (ap (λ st. st.address) c.in-Err.ensures.err)
+    inside_kept c.self.inside c.in-Some.place c.take_telling.new.self c.index_mut.result.now c.self.invariant c.index_mut.ensures.value (ap (λ st. st.address) c.in-Err.ensures.err)
 
 pub next-taken-requires : goal.next-taken-requires
 next-taken-requires c = cursor_here c.self.inside c.args.self.now c.in-Some.place c.self.invariant c.self.view_is c.in-Some.ensures.within
@@ -38,7 +38,7 @@ pub invariant_of-self-2 : goal.invariant_of-self-2
 invariant_of-self-2 c =
     let is_some : c.next-taken.result ≡ Some c.in-Some-next_frame.frame = c.next-taken.ensures.frame ∙ ap (λ x. next_frame x.bus c.in-Some.place) c.self.view_is ∙ sym c.in-Some-next_frame.ensures in
     let move : c.next-taken.new.self ≡ moved c.self.inside.bus c.in-Some.place = subst (λ o. OnSome o (c.next-taken.new.self ≡ moved c.self.inside.bus c.in-Some.place)) is_some c.next-taken.ensures.some in
-    inside_moved c.self.inside c.in-Some.place c.take.new.self c.index_mut.result.now c.release.new.self c.self.invariant c.index_mut.ensures.value
+    inside_moved c.self.inside c.in-Some.place c.take_telling.new.self c.index_mut.result.now c.release.new.self c.self.invariant c.index_mut.ensures.value
     (ap (λ s. s.station.address) (sym c.in-Ok.ensures.ok) ∙ taken_keeps c.index_mut.result.now c.in-Some-next_frame.frame c.args.room c.now-now.result)
     (ap (λ b. length b.cursors) (c.release.ensures.released ∙ ap released move) ∙ length-set c.self.inside.bus.cursors c.in-Some.place _)
 
@@ -49,7 +49,7 @@ returns c =
     let move : c.next-taken.new.self ≡ moved c.self.inside.bus c.in-Some.place = subst (λ o. OnSome o (c.next-taken.new.self ≡ moved c.self.inside.bus c.in-Some.place)) is_some c.next-taken.ensures.some in
     at_here c.self.inside _ _ c.in-Some.place c.index_mut.result.now _ c.self.view_is c.in-Some.ensures.value c.in-Some.ensures.within c.index_mut.ensures.value
     ∙ takes_is _ c.args.room c.in-Some.place c.index_mut.result.now c.in-Some-next_frame.frame _ c.in-Some-next_frame.ensures c.in-Ok.ensures.refused (ap (λ n. taken c.index_mut.result.now c.in-Some-next_frame.frame c.args.room n) (sym now_is) ∙ c.in-Ok.ensures.ok)
-    ∙ taken_view c.self.inside _ c.in-Some.place c.index_mut.result.now c.in-Some-next_frame.frame c.take.new.self c.in-Ok.looked.events c.in-Ok.looked.is_malformed _ _ _ _ c.self.view_is c.in-Ok.ensures.malformed move c.release.ensures.released c.looked.ensures.counts c.looked.ensures.reply
+    ∙ taken_view c.self.inside _ c.in-Some.place c.index_mut.result.now c.in-Some-next_frame.frame c.take_telling.new.self c.take_telling.new.told c.in-Ok.is_malformed _ _ _ _ c.self.view_is c.in-Ok.ensures.malformed move c.release.ensures.released c.looked.ensures refl
 
 pub returns-in-Err : goal.returns-in-Err
 returns-in-Err c =
