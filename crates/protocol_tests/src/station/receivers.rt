@@ -247,10 +247,15 @@ fn are_of(rt: &impl Abort, sessions: &Receivers, image: &ReceiversImage, are: bo
     same(rt, image.is_of(sessions), are);
 }
 
-fn until_a_packet_is_taken(rt: &impl Abort, sessions: &mut Receivers, ports: &PortTable) {
+fn until_a_packet_is_taken(
+    rt: &impl Abort,
+    alloc: Global,
+    sessions: &mut Receivers,
+    ports: &PortTable,
+) {
     let image = image(rt, sessions);
     are_of(rt, sessions, &image, true);
-    tells_nothing(rt, sessions, ports, &FIRST);
+    tells_nothing(rt, alloc, sessions, ports, &FIRST);
     are_of(rt, sessions, &image, false);
 }
 
@@ -267,6 +272,6 @@ fn until_a_port_is_closed(rt: &impl Abort, sessions: &mut Receivers) {
 fn an_image_is_of_the_sessions_as_they_were(rt: HostRuntime) {
     let ports = two_ports(&rt, rt.alloc());
     let mut sessions = announce(&rt, rt.alloc(), &ports);
-    until_a_packet_is_taken(&rt, &mut sessions, &ports);
+    until_a_packet_is_taken(&rt, rt.alloc(), &mut sessions, &ports);
     until_a_port_is_closed(&rt, &mut sessions);
 }
