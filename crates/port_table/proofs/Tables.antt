@@ -1,5 +1,8 @@
 -- What holds of every table holds after a close, a pause and a resume.
-use Rattle.std.proofs.Common.{◌≡◌, ℕ, ◌+◌, ◌<◌, ◌≤◌, ◌≢◌, Bool, true, false, cond, not, ◌==◌, List, ◌++◌, length, map, take, drop, set, get_or, refl, sym, ap, ◌∙◌, subst, arith}
+use Rattle.std.proofs.Common.{◌≡◌, ℕ, suc, ◌+◌, ◌<◌, ◌≤◌, ◌≢◌, Bool, true, false, cond, not, ◌==◌, List, [], ◌∷◌, ◌++◌, length, map, take, drop, set, get_or, Option, Some, None, is_some, refl, sym, ap, ◌∙◌, subst, arith}
+use Rattle.std.specs.Prelude.{find}
+use Rattle.std.specs.Vec.{vec_len}
+use Rattle.std.specs.declared.vec.Vec.{Vec}
 use Rattle.std.specs.List.{AllPairs, filter}
 use Rattle.std.proofs.lemmas.Bool.{eq-eqb, ne_eqb}
 use Rattle.std.proofs.lemmas.List.{length-map, get_or-map, get_or_default}
@@ -71,6 +74,49 @@ less_port_valid ports number left e valid =
       opened_fits = valid.opened_fits;
     } in
     subst (λ xs. ArePorts (record ports { open_ports = xs })) (sym e) is
+
+-- a port with this number is open exactly where one goes when it is taken out
+abbrev KeptAll : ℕ → List Port → Type 0
+KeptAll number ports = (less_port number ports ≡ ports) × (find (λ p. p.number == number) ports ≡ None)
+
+module _ (number : ℕ) where
+  fewer : (ports : List Port) → length (less_port number ports) ≤ length ports
+  fewer ports = omega (arith, length-filter_both (λ p. not (p.number == number)) (λ p. not (not (p.number == number))) (λ _. refl) ports)
+
+  pub kept_all : (ports : List Port) → length (less_port number ports) ≡ length ports → KeptAll number ports
+  kept_all [] e = (refl, refl)
+  kept_all (p ∷ ports) e = by (kept_all ports) (p.number == number) e
+    where
+      by : (length (less_port number ports) ≡ length ports → KeptAll number ports) → (b : Bool) → length (cond (not b) (p ∷ less_port number ports) (less_port number ports)) ≡ suc (length ports)
+          → (cond (not b) (p ∷ less_port number ports) (less_port number ports) ≡ p ∷ ports) × (cond b (Some p) (find (λ q. q.number == number) ports) ≡ None)
+      by others true e = absurd (omega (arith, e, fewer ports))
+      by others false e = let rest = others (omega (arith, e)) in (ap (λ xs. p ∷ xs) rest.0, rest.1)
+
+  pub none_goes : (ports : List Port) → find (λ p. p.number == number) ports ≡ None → less_port number ports ≡ ports
+  none_goes [] e = refl
+  none_goes (p ∷ ports) e = by (none_goes ports) (p.number == number) e
+    where
+      by : (find (λ q. q.number == number) ports ≡ None → less_port number ports ≡ ports) → (b : Bool) → cond b (Some p) (find (λ q. q.number == number) ports) ≡ None → cond (not b) (p ∷ less_port number ports) (less_port number ports) ≡ p ∷ ports
+      by others true e = absurd (cc)
+      by others false e = ap (λ xs. p ∷ xs) (others e)
+
+  pub one_goes : (ports : List Port) → (length (less_port number ports) ≡ length ports → ⊥) → is_some (find (λ p. p.number == number) ports) ≡ true
+  one_goes ports fewer = by (find (λ p. p.number == number) ports) refl
+    where
+      by : (o : Option Port) → find (λ p. p.number == number) ports ≡ o → is_some o ≡ true
+      by None e = absurd (fewer (ap (λ xs. length xs) (none_goes ports e)))
+      by (Some p) e = refl
+
+-- the same of the vectors that keep them
+module _ {Z : Type 0} (before after : Vec Port Z) (number : ℕ) (left : after.items ≡ less_port number before.items) where
+  long : (v : Vec Port Z) → length v.items ≡ vec_len v
+  long v = omega (arith, v.ok.0)
+
+  pub all_stay : vec_len after ≡ vec_len before → length (less_port number before.items) ≡ length before.items
+  all_stay e = sym (ap (λ xs. length xs) left) ∙ long after ∙ e ∙ sym (long before)
+
+  pub as_many : length (less_port number before.items) ≡ length before.items → vec_len after ≡ vec_len before
+  as_many e = sym (long after) ∙ ap (λ xs. length xs) left ∙ e ∙ long before
 
 pub numbers_rise : (test : Port → Bool) (ports : List Port) → AllPairs (λ p q. p.number < q.number) ports → AllPairs ◌<◌ (numbers_of test ports)
 numbers_rise test ports rising i j d below within =

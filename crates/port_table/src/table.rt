@@ -122,10 +122,12 @@ impl PortTable {
         ensures err { OnErr result (self.new ≡ self.old) }
         ensures valid { ArePorts self.new }
     {
-        if let Some(cause) = self.close_refusal(number) {
-            return Err(cause);
-        }
+        // The ports are looked through once: where all stay, none has the number.
+        let open = self.ports.len();
         remove(&mut self.ports, number);
+        if self.ports.len() == open {
+            return Err(Refused::NoSuchPort);
+        }
         Ok(())
     }
 

@@ -25,6 +25,7 @@ impl Segment {
     }
 
     /// Closes a port.
+    #[inline(always)]
     pub(crate) fn close(&mut self, port: PortId) -> Result<(), Stop>
         ensures { IsAnswerBy (λ _. Done []) (at_address self.old port.station (closes self.old port.number)) self.old self.new result }
     {

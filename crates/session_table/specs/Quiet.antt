@@ -1,9 +1,10 @@
 -- The steps of incoming sessions that are taken where their states stand: those that end nothing (SAE J1939-21, TP.DT;
 -- ISO 11783-3, ETP.DT, ETP.CM_DPO).
-use Rattle.std.specs.Prelude.{◌≡◌, ℕ, ◌<◌, Bool, true, List, Option, Some, None}
+use Rattle.std.specs.Prelude.{◌≡◌, ℕ, ◌<◌, Bool, true, false, List, Option, Some, None}
 use Rattle.std.specs.FinMap as map
 use Rattle.bus_frame.specs.Frames.{CanFrame}
 use Rattle.tp_wire.specs.declared.wire.Wire.{Wire}
+use Rattle.tp_wire.specs.declared.wire.Wire.TheVariants.{Packet}
 use Rattle.seg_cut.specs.Join.{held}
 use Rattle.bam_session.specs.Receiving as bam
 use Rattle.responder.specs.Readers.{unfinished_of}
@@ -19,6 +20,11 @@ use Rattle.session_table.specs.Sessions.{Sessions}
 abbrev pub is_quiet : Incoming → Wire → (room : Bool) → Flow → Bool
 is_quiet (Broadcast s) wire room flow = bam.is_quiet s wire
 is_quiet (Connection s) wire room flow = responder.is_quiet s wire room flow
+
+-- the frame is a packet of a connection that takes none in place
+abbrev pub leaves : Incoming → Wire → Bool
+leaves (Connection s) (Packet kind sequence bytes) = responder.leaves_packets s
+leaves _ _ = false
 
 -- but for want of memory
 abbrev pub LacksRoom : Incoming → Wire → (room : Bool) → Flow → Type 0

@@ -1,12 +1,12 @@
 //! The state of an incoming session, whatever its kind.
-ghost use Rattle.std.specs.Prelude.{◌≡◌, ◌<◌, length, true};
+ghost use Rattle.std.specs.Prelude.{◌≡◌, ◌<◌, Bool, length, true, false};
 ghost use Rattle.std.specs.Bool.{OnTrue, OnFalse};
 ghost use Rattle.tick_timers.specs.Timers.{is_due as is_due_at};
 ghost use Rattle.tp_wire.specs.Heard.{meant};
 ghost use Rattle.tx_queue.specs.Queue.{queue_limit};
 ghost use Rattle.responder.specs.declared.flow.Flow.{Flow};
 ghost use Rattle.responder.specs.declared.flow.Flow.TheVariants.{Held};
-ghost use Rattle.session_table.specs.Quiet.{is_quiet, LacksRoom, GoesOn};
+ghost use Rattle.session_table.specs.Quiet.{leaves as leaves_at, is_quiet, LacksRoom, GoesOn};
 ghost use Rattle.session_table.specs.Incoming.{kind_of, pgn_of, timer_of};
 
 mod image;
@@ -92,6 +92,22 @@ impl Incoming {
         match self {
             Incoming::Broadcast(state) => state.take_in_place(heard, now),
             Incoming::Connection(state) => state.take_in_place(heard, room, flow, now, queue),
+        }
+    }
+
+    /// Whether a frame is a packet of a connection of which `take_in_place` leaves each, whatever the flow, as where the last one is
+    /// awaited.
+    #[inline]
+    pub fn leaves(&self, heard: &Heard<'_>) -> bool
+        ensures value { result ≡ leaves_at self.now (meant heard.now) }
+        ensures quiet { OnTrue result ((room : Bool) (flow : Flow) → is_quiet self.now (meant heard.now) room flow ≡ false) }
+    {
+        match self {
+            Incoming::Broadcast(_) => false,
+            Incoming::Connection(state) => match heard {
+                Heard::Packet { .. } => state.leaves_packets(),
+                _ => false,
+            },
         }
     }
 

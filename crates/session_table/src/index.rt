@@ -1,5 +1,6 @@
 //! The index from keys to places.
-ghost use Rattle.std.specs.Prelude.{◌≡◌, ◌+◌, ◌<◌, ◌≤◌, length, Some, None, OnOk};
+ghost use Rattle.std.specs.Prelude.{◌≡◌, ◌+◌, ◌<◌, ◌≤◌, ℕ, List, length, Some, None, IfSome, OnOk};
+ghost use Rattle.session_table.specs.declared.key.Key.{Key};
 ghost use Rattle.std.specs.HashMap.{spare};
 ghost use Rattle.std.specs.List.{IsDistinct};
 ghost use Rattle.std.specs.Map.{keys_of, lookup};
@@ -31,19 +32,39 @@ pub(crate) struct Found {
     pub(crate) at: usize,
 }
 
-/// The place of a key, which is looked for only where it isn't the one that was found last: packets of a message come one after
-/// another.
+// The place of a key, if it is the one that was found last.
 #[inline]
 #[tactic(auto, using(crate::proofs::Tables::leads_same))]
+fn known(last: Option<Found>, key: Key) -> Option<usize>
+    ensures { IfSome result (λ at. (entries : List (Key × ℕ)) → IsLast entries last → Some at ≡ lookup (key_eq key) entries) }
+{
+    match last {
+        Some(found) if found.key.is_same(key) => Some(found.at),
+        _ => None,
+    }
+}
+
+/// The place of a key, which is looked for only where it isn't the one that was found last.
+#[inline]
+pub(crate) fn find_known(last: Option<Found>, index: &Index, key: Key) -> Option<usize>
+    requires { IsLast index.now.entries last }
+    ensures { result ≡ lookup (key_eq key) index.now.entries }
+{
+    match known(last, key) {
+        Some(at) => Some(at),
+        None => find(index, key),
+    }
+}
+
+/// The same, which is then the one that was found last: packets of a message come one after another.
+#[inline]
 pub(crate) fn find_again(last: &mut Option<Found>, index: &Index, key: Key) -> Option<usize>
     requires { IsLast index.now.entries last.old }
     ensures value { result ≡ lookup (key_eq key) index.now.entries }
     ensures last { IsLast index.now.entries last.new }
 {
-    if let Some(found) = *last {
-        if found.key.is_same(key) {
-            return Some(found.at);
-        }
+    if let Some(at) = known(*last, key) {
+        return Some(at);
     }
     let at = find(index, key)?;
     *last = Some(Found { key, at });

@@ -25,7 +25,7 @@ mod image;
 use crate::MAX_SESSIONS;
 use crate::held::Held;
 use crate::incoming::Incoming;
-use crate::index::{Found, Index, find, find_again, link, reserve, unlink};
+use crate::index::{Found, Index, find, find_again, find_known, link, reserve, unlink};
 use crate::key::Key;
 use crate::place::{Place, Slot, content};
 use crate::walk::{is_above_at, is_due_at, lesser};
@@ -187,7 +187,7 @@ impl<T> SessionTable<T> {
         ensures { self.new ≡ map.insert self.old held (Some (bound, state)) }
     {
         let key = held.spend();
-        let Some(at) = find(&self.index, key) else {
+        let Some(at) = find_known(self.last, &self.index, key) else {
             unreachable!()
         };
         let Some(place) = self.places.get_mut(at) else {
@@ -229,7 +229,7 @@ impl<T> SessionTable<T> {
     pub fn get(&self, key: Key) -> Option<(&T, &Incoming)>
         ensures { option_map deref_pair result ≡ state_at self.now key }
     {
-        content(&self.places, find(&self.index, key)?)
+        content(&self.places, find_known(self.last, &self.index, key)?)
     }
 
     /// The least key whose timer is due at tick `now`. Held keys are passed over.

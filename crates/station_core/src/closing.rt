@@ -40,6 +40,7 @@ impl Station {
     /// abort as far as the queue has places: by rising source, TP before ETP.
     ///
     /// Refused as `NoSuchPort` exactly where no open port has this number; then nothing changes. It takes no memory.
+    #[inline]
     pub fn close(&mut self, number: u64) -> Result<(), Refused>
         ensures ok { OnOk result (self.new ≡ closed self.old number) }
         ensures refused { result_err result ≡ closing_refusal self.old number }
@@ -47,7 +48,10 @@ impl Station {
     {
         match self.ports.close(number) {
             Ok(()) => {
-                self.unbind_all(number);
+                // As a rule no session is under way.
+                if !self.sessions.is_empty() {
+                    self.unbind_all(number);
+                }
                 Ok(())
             }
             Err(cause) => Err(by_ports(cause)),
@@ -55,6 +59,7 @@ impl Station {
     }
 
     /// Takes a port out of the sets of all sessions, by rising source: those without a session are passed over.
+    #[inline(never)]
     fn unbind_all(&mut self, number: u64)
         ensures { self.new ≡ closed_below self.old number 254 }
     {

@@ -1,5 +1,5 @@
 //! A station: its parts, its ports and its queue.
-ghost use Rattle.std.specs.Prelude.{◌≡◌, ◌≤◌, ◌<◌, ◌+◌, ◌++◌, ◌∷◌, [], true, false, length, IfOk, OnOk, OnErr, option_to_list};
+ghost use Rattle.std.specs.Prelude.{◌≡◌, ◌≤◌, ◌<◌, ◌+◌, ◌++◌, ◌∷◌, [], true, false, length, IfOk, OnOk, OnErr};
 ghost use Rattle.std.specs.Result.{result_err};
 ghost use Rattle.pgn_ids.specs.Address.{is_one};
 ghost use Rattle.tx_queue.specs.Queue.{queue_limit, free_places, front, behind};
@@ -64,16 +64,6 @@ pub(crate) fn enqueue(queue: &mut TxQueue, frame: Frame)
     ensures { queue.new ≡ queue.old ++ frame ∷ [] }
 {
     queue.push_free(frame);
-}
-
-/// Puts a frame, if there is one, behind the others, where there is a free place.
-pub(crate) fn enqueue_option(queue: &mut TxQueue, frame: Option<Frame>)
-    requires { length queue.old < queue_limit }
-    ensures { queue.new ≡ queue.old ++ option_to_list frame }
-{
-    if let Some(frame) = frame {
-        enqueue(queue, frame);
-    }
 }
 
 impl Station {

@@ -12,7 +12,7 @@ ghost use Rattle.station_core.specs.Refusals.{IsAnswered, taking_refusal};
 ghost use Rattle.station_core.specs.Taking.{packet_kind as packet_kind_of, in_opening, in_session, in_lane, abort_taken, cm_taken, answer, request_taken, ack_taken, wire_taken, is_meant_for, looks_at as looks_at_frame, is_malformed_for, wanted, wire_wanted, taken};
 
 use crate::refused::Refused;
-use crate::station::{Station, enqueue, enqueue_option};
+use crate::station::{Station, enqueue};
 use bus_frame::Frame;
 use lane_core::LaneStep;
 use message_events::Events;
@@ -20,6 +20,7 @@ use pgn_ids::{Address, IdMeaning, WirePgn, read_id};
 use port_table::PortSet;
 use session_table::{Key, SessionKind};
 use station_lanes::outcome;
+use station_sessions::enqueue_option;
 use std::alloc::AllocError;
 use tp_wire::{CmFrame, Kind, Wire, is_transport, read, write};
 
@@ -215,19 +216,10 @@ impl Station {
             CmFrame::EtpDpo { .. } => {
                 self.take_in_session(SessionKind::Etp, from, &wire, room, now, told)
             }
-            CmFrame::Cts { .. } => {
-                self.take_in_lane(from, &wire, now, told);
-                Ok(())
-            }
-            CmFrame::EndOfMsgAck { .. } => {
-                self.take_in_lane(from, &wire, now, told);
-                Ok(())
-            }
-            CmFrame::EtpCts { .. } => {
-                self.take_in_lane(from, &wire, now, told);
-                Ok(())
-            }
-            CmFrame::EtpEoma { .. } => {
+            CmFrame::Cts { .. }
+            | CmFrame::EndOfMsgAck { .. }
+            | CmFrame::EtpCts { .. }
+            | CmFrame::EtpEoma { .. } => {
                 self.take_in_lane(from, &wire, now, told);
                 Ok(())
             }
@@ -256,11 +248,15 @@ impl Station {
         ensures ok { OnOk result (in_opening self.old frame.now from room now ≡ quietly self.new) }
         ensures err { OnErr result (self.new ≡ self.old) }
     {
-        let frame = self
-            .sessions
-            .open(self.address, &self.ports, frame, from, room, now)?;
-        enqueue_option(&mut self.queue, frame);
-        Ok(())
+        self.sessions.open(
+            self.address,
+            &self.ports,
+            frame,
+            from,
+            room,
+            now,
+            &mut self.queue,
+        )
     }
 
     /// The incoming session of this kind from the source makes its step.
@@ -280,11 +276,8 @@ impl Station {
         ensures silent { OnErr result (told.new ≡ []) }
     {
         let key = Key { source: from, kind };
-        let frame = self
-            .sessions
-            .receive(&self.ports, key, wire, room, now, told)?;
-        enqueue_option(&mut self.queue, frame);
-        Ok(())
+        self.sessions
+            .receive(&self.ports, key, wire, room, now, &mut self.queue, told)
     }
 
     /// The lane to the source makes its step.

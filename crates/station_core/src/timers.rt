@@ -5,7 +5,7 @@ ghost use Rattle.station_core.specs.Refusals.{IsAnswered, firing_refusal};
 ghost use Rattle.station_core.specs.Timers.{is_due as is_due_station, fired};
 
 use crate::refused::Refused;
-use crate::station::{Station, enqueue_option};
+use crate::station::Station;
 use message_events::Events;
 
 impl Station {
@@ -44,8 +44,8 @@ impl Station {
                 return Err(Refused::TxFull);
             }
             let mut events = Events::none(self.alloc);
-            let frame = self.sessions.fire(&self.ports, key, now, &mut events)?;
-            enqueue_option(&mut self.queue, frame);
+            self.sessions
+                .fire(&self.ports, key, now, &mut self.queue, &mut events)?;
             return Ok(events);
         }
         let Some(to) = self.lanes.next_due(now) else {

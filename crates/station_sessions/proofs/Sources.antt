@@ -1,10 +1,12 @@
 -- From which sources there are sessions, by the least key that a table finds above another.
-use Rattle.std.proofs.Common.{◌≡◌, ℕ, zero, suc, ◌≤◌, ◌<◌, Bool, true, false, nat_lt, List, Option, Some, None, refl, sym, ap, ◌∙◌, arith, true≢false, ltb-true, ltb-false, IfNone, IsSome, subst}
+use Rattle.std.proofs.Common.{◌≡◌, ℕ, zero, suc, ◌≤◌, ◌<◌, Bool, true, false, nat_lt, ◌==◌, List, Option, Some, None, refl, sym, ap, ◌∙◌, arith, true≢false, ltb-true, ltb-false, eqb-true, IfNone, IsSome, subst}
 use Rattle.std.specs.Option.{option_flatten}
 use Rattle.std.specs.Cmp.{nat_cmp_is}
 use Rattle.std.specs.Ordering.{is_lt, is_gt, ordering_then}
 use Rattle.std.specs.declared.cmp.Ordering.TheVariants.{Less, Equal, Greater}
+use Rattle.std.specs.Bool.{OnTrue}
 use Rattle.std.specs.FinMap as map
+use Rattle.std.specs.FinMap.{empty_of_len, get-empty}
 use Rattle.session_table.specs.declared.key.Key.{Key}
 use Rattle.session_table.specs.declared.key.SessionKind.{SessionKind}
 use Rattle.session_table.specs.declared.key.SessionKind.TheVariants.{Broadcast, Tp, Etp}
@@ -91,3 +93,10 @@ none_is m n high h = λ s from below kind.
 pub if_none : {A : Type 0} {P : Type 0} (o : Option A) → P → IfNone o P
 if_none None p = p
 if_none (Some a) p = tt
+
+-- an empty table has no session
+pub none_of_empty : (m : Inbound) (b : Bool) → b ≡ (map.len m == 0) → OnTrue b (HasNoneBetween m 0 256)
+none_of_empty m false e = tt
+none_of_empty m true e = λ s from below kind.
+    let k : Key = key_of (record { 0 = s }) kind in
+    ap (λ (x : Inbound). state_at x k) (empty_of_len m (eqb-true (map.len m) 0 (sym e))) ∙ ap option_flatten (get-empty key_cmp k)

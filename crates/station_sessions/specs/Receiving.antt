@@ -1,5 +1,5 @@
 -- What a station makes of frames for its incoming sessions (SAE J1939-21, TP.DT; ISO 11783-3, ETP.DT, ETP.CM_DPO).
-use Rattle.std.specs.Prelude.{ℕ, Bool, true, ◌==◌, if◌then◌else◌, List, [], length, Option, Some, None}
+use Rattle.std.specs.Prelude.{ℕ, ◌≡◌, Bool, true, ◌==◌, if◌then◌else◌, List, [], ◌++◌, length, Option, Some, None, option_to_list}
 use Rattle.std.specs.FinMap as map
 use Rattle.bus_frame.specs.Frames.{CanFrame}
 use Rattle.pgn_ids.specs.declared.address.Address.{Address}
@@ -38,6 +38,12 @@ pub record Reception : Type 0 where
   pub sessions : Inbound
   pub frame : Option CanFrame
   pub events : List Event
+
+-- a step leaves these sessions, its frame stands behind those that were queued, and what it tells is told
+pub record Leaves (step : Reception) (left : Inbound) (before after : List CanFrame) (told : List Event) : Type 0 where
+  pub sessions_left : left ≡ step.sessions
+  pub queued : after ≡ before ++ option_to_list step.frame
+  pub says : told ≡ step.events
 
 -- nothing is done
 abbrev pub unheard : Inbound → Reception

@@ -7,3 +7,4 @@ mod receivers;
 mod steps;
 
 pub use receivers::{Receivers, ReceiversImage, flow};
+pub use steps::enqueue_option;

@@ -1,5 +1,5 @@
 //! The incoming sessions of a station.
-ghost use Rattle.std.specs.Prelude.{◌≡◌, ◌<◌, ◌-◌, Some, None, [], IfOk, IfErr, OnOk, OnErr, length, true};
+ghost use Rattle.std.specs.Prelude.{◌≡◌, ◌<◌, ◌-◌, ◌==◌, Some, None, [], IfErr, OnOk, OnErr, length, true};
 ghost use Rattle.std.specs.Bool.{OnTrue, OnFalse};
 ghost use Rattle.std.specs.FinMap as map;
 ghost use Rattle.session_table.specs.Sessions.{state_at};
@@ -9,7 +9,8 @@ ghost use Rattle.station_sessions.specs.Steps.{completes as completes_at, size_o
 ghost use Rattle.tp_wire.specs.Heard.{meant};
 ghost use Rattle.tx_queue.specs.Queue.{queue_limit};
 ghost use Rattle.station_sessions.specs.Quiet.{LeavesQuietly, receives_quietly, ReceivesLackingRoom};
-ghost use Rattle.station_sessions.specs.Receiving.{flow_at, received, fired_at, aborted_at, unbound_at, wanted_by};
+ghost use Rattle.station_sessions.specs.Sources.{HasNoneBetween};
+ghost use Rattle.station_sessions.specs.Receiving.{Leaves, flow_at, received, fired_at, aborted_at, unbound_at, wanted_by};
 
 mod due;
 mod image;
@@ -81,6 +82,14 @@ impl Receivers {
             alloc,
             table: SessionTable::new(alloc),
         }
+    }
+
+    /// Whether there is no session.
+    pub fn is_empty(&self) -> bool
+        ensures value { result ≡ (map.len self.now == 0) }
+        ensures none { OnTrue result (HasNoneBetween self.now 0 256) }
+    {
+        self.table.is_empty()
     }
 
     /// How many sessions there are beside that of a key.
@@ -182,7 +191,7 @@ impl Receivers {
     /// rising number, with the end of message acknowledgement of a connection. `room` says whether each of them has room for
     /// the message, and whether there is room for the next window; without room a connection ends by an abort.
     ///
-    /// All memory is taken first: want of it changes nothing.
+    /// What it answers is queued behind the frames of a queue. All memory is taken first: want of it changes nothing.
     #[tactic(auto, using(crate::proofs::SessionMaps::session_maps))]
     pub fn receive(
         &mut self,
@@ -191,19 +200,23 @@ impl Receivers {
         wire: &Wire,
         room: bool,
         now: u64,
+        queue: &mut TxQueue,
         told: &mut Events,
-    ) -> Result<Option<Frame>, AllocError>
-        requires { told.old ≡ [] }
-        ensures ok { IfOk result (λ frame. received ports.now key wire.now room now self.old ≡ record { sessions = self.new; frame = frame; events = told.new }) }
+    ) -> Result<(), AllocError>
+        requires place { length queue.old < queue_limit }
+        requires silent { told.old ≡ [] }
+        ensures ok { OnOk result (Leaves (received ports.now key wire.now room now self.old) self.new queue.old queue.new told.new) }
         ensures err { OnErr result (self.new ≡ self.old) }
+        ensures kept { OnErr result (queue.new ≡ queue.old) }
         ensures silent { OnErr result (told.new ≡ []) }
     {
         let Some((held, set, state)) = self.table.take_out(key) else {
-            return Ok(None);
+            return Ok(());
         };
-        let frame = steps::step(
+        steps::step(
             self.alloc,
             &mut self.table,
+            queue,
             ports,
             held,
             set,
@@ -212,8 +225,7 @@ impl Receivers {
             room,
             now,
             told,
-        )?;
-        Ok(frame)
+        )
     }
 
     /// Takes a frame of its source where the session of a key stands, at tick `now` (SAE J1939-21, TP.DT; ISO 11783-3, ETP.DT,
@@ -242,8 +254,8 @@ impl Receivers {
             || self.grant_in_place(ports, key, heard, room, now, queue)
     }
 
-    // The same, asking whether a port of its set is paused, as the last packet of a window wants. It is kept out of line, since
-    // few frames come here.
+    // The same, asking whether a port of its set is paused, as the last packet of a window wants, and that of a message doesn't. It is
+    // kept out of line, since few frames come here.
     #[inline(never)]
     fn grant_in_place(
         &mut self,
@@ -261,44 +273,50 @@ impl Receivers {
         ensures other { OnFalse result (self.new ≡ self.old) }
         ensures kept { OnFalse result (queue.new ≡ queue.old) }
     {
-        let flow = match self.table.get(key) {
-            Some((set, _)) => flow(ports, set),
-            None => return true,
+        let Some((set, state)) = self.table.get(key) else {
+            return true;
         };
+        if state.leaves(heard) {
+            return false;
+        }
+        let flow = flow(ports, set);
         self.table.take_in_place(key, heard, room, flow, now, queue)
     }
 
     /// The timer of the session of a key fires at tick `now`; without one nothing is done. A session on hold asks again or
     /// goes on, any other ends, a connection by an abort (SAE J1939-21, timers T1, T2 and Th).
     ///
-    /// All memory is taken first: want of it changes nothing.
+    /// What it asks or ends with is queued behind the frames of a queue. All memory is taken first: want of it changes nothing.
     #[tactic(auto, using(crate::proofs::SessionMaps::session_maps))]
     pub fn fire(
         &mut self,
         ports: &PortTable,
         key: Key,
         now: u64,
+        queue: &mut TxQueue,
         told: &mut Events,
-    ) -> Result<Option<Frame>, AllocError>
-        requires { told.old ≡ [] }
-        ensures ok { IfOk result (λ frame. fired_at ports.now key now self.old ≡ record { sessions = self.new; frame = frame; events = told.new }) }
+    ) -> Result<(), AllocError>
+        requires place { length queue.old < queue_limit }
+        requires silent { told.old ≡ [] }
+        ensures ok { OnOk result (Leaves (fired_at ports.now key now self.old) self.new queue.old queue.new told.new) }
         ensures err { OnErr result (self.new ≡ self.old) }
+        ensures kept { OnErr result (queue.new ≡ queue.old) }
         ensures silent { OnErr result (told.new ≡ []) }
     {
         let Some((held, set, state)) = self.table.take_out(key) else {
-            return Ok(None);
+            return Ok(());
         };
-        let frame = steps::fire(
+        steps::fire(
             self.alloc,
             &mut self.table,
+            queue,
             ports,
             held,
             set,
             state,
             now,
             told,
-        )?;
-        Ok(frame)
+        )
     }
 
     /// Takes a port out of the set of the session of a key. A session whose set is then empty ends: the abort of a

@@ -1,18 +1,19 @@
 //! The step of an incoming session whose key is held: it is put back, or has ended.
-ghost use Rattle.std.specs.Prelude.{◌≡◌, ◌-◌, true, length, All, Some, IfOk, OnOk, OnErr, [], None};
+ghost use Rattle.std.specs.Prelude.{◌≡◌, ◌<◌, ◌-◌, ◌++◌, true, length, All, Some, OnOk, OnErr, [], None, option_to_list};
 ghost use Rattle.std.specs.FinMap as map;
 ghost use Rattle.bam_session.specs.Receiving.{stepped as bam_stepped};
 ghost use Rattle.responder.specs.Readers.{unfinished_of};
 ghost use Rattle.responder.specs.Room.{IsPrepared, prepared};
 ghost use Rattle.responder.specs.Steps.{completes as completes_at};
 ghost use Rattle.session_table.specs.Sessions.{IsHeld};
+ghost use Rattle.tx_queue.specs.Queue.{queue_limit};
 ghost use Rattle.session_table.specs.declared.incoming.Incoming.TheVariants.{Broadcast, Connection};
 ghost use Rattle.bam_session.specs.Shown.{shown};
 ghost use Rattle.bam_session.specs.States.{Incoming as Coming};
 ghost use Rattle.pgn_ids.specs.Pgn.{clean};
 ghost use Rattle.responder.specs.Steps.{stepped};
 ghost use Rattle.station_sessions.specs.CopyRoom.{IsCovered, IsRoomFor, IsBroadcastOf, IsConnectionOf};
-ghost use Rattle.station_sessions.specs.Receiving.{Inbound, flow_at, concluded, broadcast_settled, connection_settled, session_stepped, session_fired};
+ghost use Rattle.station_sessions.specs.Receiving.{Inbound, Leaves, flow_at, concluded, broadcast_settled, connection_settled, session_stepped, session_fired};
 ghost use Rattle.station_sessions.specs.Steps.{broadcast_message, connection_message, given_answer, refused_answer};
 
 use crate::copies::{Copies, Message, give};
@@ -26,6 +27,7 @@ use responder::{Finished, Flow, InState, Received};
 use session_table::{Held, Incoming, SessionTable};
 use std::alloc::{AllocError, Global};
 use tp_wire::Wire;
+use tx_queue::TxQueue;
 
 pub(crate) type Table = SessionTable<PortSet>;
 
@@ -34,6 +36,7 @@ pub(crate) type Table = SessionTable<PortSet>;
 pub(crate) fn step(
     alloc: Global,
     table: &mut Table,
+    queue: &mut TxQueue,
     ports: &PortTable,
     held: Held,
     set: PortSet,
@@ -42,11 +45,13 @@ pub(crate) fn step(
     room: bool,
     now: u64,
     told: &mut Events,
-) -> Result<Option<Frame>, AllocError>
+) -> Result<(), AllocError>
+    requires place { length queue.old < queue_limit }
     requires held { IsHeld table.old held }
     requires silent { told.old ≡ [] }
-    ensures ok { IfOk result (λ frame. session_stepped ports.now.station held set room table.old (flow_at ports.now set) state wire.now now ≡ record { sessions = table.new; frame = frame; events = told.new }) }
+    ensures ok { OnOk result (Leaves (session_stepped ports.now.station held set room table.old (flow_at ports.now set) state wire.now now) table.new queue.old queue.new told.new) }
     ensures err { OnErr result (table.new ≡ map.insert table.old held (Some (set, state))) }
+    ensures kept { OnErr result (queue.new ≡ queue.old) }
     ensures silent { OnErr result (told.new ≡ []) }
 {
     match state {
@@ -65,7 +70,9 @@ pub(crate) fn step(
             )
         }
         Incoming::Connection(state) => {
-            step_connection(alloc, table, ports, held, set, state, wire, room, now, told)
+            step_connection(
+                alloc, table, queue, ports, held, set, state, wire, room, now, told,
+            )
         }
     }
 }
@@ -82,10 +89,10 @@ fn step_broadcast(
     room: bool,
     now: u64,
     told: &mut Events,
-) -> Result<Option<Frame>, AllocError>
+) -> Result<(), AllocError>
     requires held { IsHeld table.old held }
     requires silent { told.old ≡ [] }
-    ensures ok { IfOk result (λ frame. broadcast_settled station held set room table.old state (bam_stepped state wire.now now) ≡ record { sessions = table.new; frame = frame; events = told.new }) }
+    ensures ok { OnOk result (broadcast_settled station held set room table.old state (bam_stepped state wire.now now) ≡ record { sessions = table.new; frame = None; events = told.new }) }
     ensures err { OnErr result (table.new ≡ map.insert table.old held (Some (set, Broadcast state))) }
     ensures silent { OnErr result (told.new ≡ []) }
 {
@@ -99,16 +106,16 @@ fn step_broadcast(
     match take_broadcast(state, wire, now) {
         BamStepped::On(state) => {
             table.put_back(held, set, Incoming::Broadcast(state));
-            Ok(None)
+            Ok(())
         }
         BamStepped::Complete(bytes) => {
             table.end(held);
             conclude_broadcast(station, &set, room, from, pgn, bytes, copies, told);
-            Ok(None)
+            Ok(())
         }
         BamStepped::Dropped => {
             table.end(held);
-            Ok(None)
+            Ok(())
         }
     }
 }
@@ -117,6 +124,7 @@ fn step_broadcast(
 fn step_connection(
     alloc: Global,
     table: &mut Table,
+    queue: &mut TxQueue,
     ports: &PortTable,
     held: Held,
     set: PortSet,
@@ -125,11 +133,13 @@ fn step_connection(
     room: bool,
     now: u64,
     told: &mut Events,
-) -> Result<Option<Frame>, AllocError>
+) -> Result<(), AllocError>
+    requires place { length queue.old < queue_limit }
     requires held { IsHeld table.old held }
     requires silent { told.old ≡ [] }
-    ensures ok { IfOk result (λ frame. session_stepped ports.now.station held set room table.old (flow_at ports.now set) (Connection state) wire.now now ≡ record { sessions = table.new; frame = frame; events = told.new }) }
+    ensures ok { OnOk result (Leaves (session_stepped ports.now.station held set room table.old (flow_at ports.now set) (Connection state) wire.now now) table.new queue.old queue.new told.new) }
     ensures err { OnErr result (table.new ≡ map.insert table.old held (Some (set, Connection state))) }
+    ensures kept { OnErr result (queue.new ≡ queue.old) }
     ensures silent { OnErr result (told.new ≡ []) }
 {
     let flow = flow(ports, &set);
@@ -139,8 +149,9 @@ fn step_connection(
         return Err(error);
     }
     let received = take_packet(state, wire, room, flow, now);
-    Ok(settle(
+    settle(
         table,
+        queue,
         ports.station(),
         held,
         set,
@@ -148,7 +159,8 @@ fn step_connection(
         received,
         copies,
         told,
-    ))
+    );
+    Ok(())
 }
 
 /// The timer of a session fires at tick `now`. All memory is taken first: where it is refused, the session is put back as it
@@ -156,27 +168,30 @@ fn step_connection(
 pub(crate) fn fire(
     alloc: Global,
     table: &mut Table,
+    queue: &mut TxQueue,
     ports: &PortTable,
     held: Held,
     set: PortSet,
     state: Incoming,
     now: u64,
     told: &mut Events,
-) -> Result<Option<Frame>, AllocError>
+) -> Result<(), AllocError>
+    requires place { length queue.old < queue_limit }
     requires held { IsHeld table.old held }
     requires silent { told.old ≡ [] }
-    ensures ok { IfOk result (λ frame. session_fired ports.now.station held set table.old (flow_at ports.now set) state now ≡ record { sessions = table.new; frame = frame; events = told.new }) }
+    ensures ok { OnOk result (Leaves (session_fired ports.now.station held set table.old (flow_at ports.now set) state now) table.new queue.old queue.new told.new) }
     ensures err { OnErr result (table.new ≡ map.insert table.old held (Some (set, state))) }
+    ensures kept { OnErr result (queue.new ≡ queue.old) }
     ensures silent { OnErr result (told.new ≡ []) }
 {
     match state {
         Incoming::Broadcast(state) => {
             state.expire();
             table.end(held);
-            Ok(None)
+            Ok(())
         }
         Incoming::Connection(state) => {
-            fire_connection(alloc, table, ports, held, set, state, now, told)
+            fire_connection(alloc, table, queue, ports, held, set, state, now, told)
         }
     }
 }
@@ -185,17 +200,20 @@ pub(crate) fn fire(
 fn fire_connection(
     alloc: Global,
     table: &mut Table,
+    queue: &mut TxQueue,
     ports: &PortTable,
     held: Held,
     set: PortSet,
     mut state: InState,
     now: u64,
     told: &mut Events,
-) -> Result<Option<Frame>, AllocError>
+) -> Result<(), AllocError>
+    requires place { length queue.old < queue_limit }
     requires held { IsHeld table.old held }
     requires silent { told.old ≡ [] }
-    ensures ok { IfOk result (λ frame. session_fired ports.now.station held set table.old (flow_at ports.now set) (Connection state) now ≡ record { sessions = table.new; frame = frame; events = told.new }) }
+    ensures ok { OnOk result (Leaves (session_fired ports.now.station held set table.old (flow_at ports.now set) (Connection state) now) table.new queue.old queue.new told.new) }
     ensures err { OnErr result (table.new ≡ map.insert table.old held (Some (set, Connection state))) }
+    ensures kept { OnErr result (queue.new ≡ queue.old) }
     ensures silent { OnErr result (told.new ≡ []) }
 {
     let flow = flow(ports, &set);
@@ -208,8 +226,9 @@ fn fire_connection(
     }
     let received = state.expire(flow, now);
     let copies = Copies::none(alloc);
-    Ok(settle(
+    settle(
         table,
+        queue,
         ports.station(),
         held,
         set,
@@ -217,13 +236,15 @@ fn fire_connection(
         received,
         copies,
         told,
-    ))
+    );
+    Ok(())
 }
 
 // Puts the connection whose key is held back, or ends it. Always inlined, since it takes a state by value.
 #[inline(always)]
 fn settle(
     table: &mut Table,
+    queue: &mut TxQueue,
     station: Address,
     held: Held,
     set: PortSet,
@@ -231,24 +252,25 @@ fn settle(
     received: Received,
     copies: Copies,
     told: &mut Events,
-) -> Option<Frame>
+)
+    requires place { length queue.old < queue_limit }
     requires held { IsHeld table.old held }
     requires silent { told.old ≡ [] }
     requires covered { IsCovered received room set copies }
-    ensures { connection_settled station held set room table.old received ≡ record { sessions = table.new; frame = result; events = told.new } }
+    ensures { Leaves (connection_settled station held set room table.old received) table.new queue.old queue.new told.new }
 {
     match received {
         Received::On(state, frame) => {
             table.put_back(held, set, Incoming::Connection(state));
-            frame
+            enqueue_option(queue, frame);
         }
         Received::Complete(finished) => {
             table.end(held);
-            Some(conclude_connection(station, &set, room, finished, copies, told))
+            conclude_connection(queue, station, &set, room, finished, copies, told);
         }
         Received::Ended(frame) => {
             table.end(held);
-            frame
+            enqueue_option(queue, frame);
         }
     }
 }
@@ -341,24 +363,28 @@ fn conclude_broadcast(
     give(station, set, message, copies, told);
 }
 
-// Gives a message of a connection that is complete, or refuses it where there is no room: the frame that answers it.
+// Gives a message of a connection that is complete, or refuses it where there is no room, and queues the frame that answers it.
 fn conclude_connection(
+    queue: &mut TxQueue,
     station: Address,
     set: &PortSet,
     room: bool,
     finished: Finished,
     copies: Copies,
     told: &mut Events,
-) -> Frame
+)
+    requires place { length queue.old < queue_limit }
     requires silent { told.old ≡ [] }
     requires room { IsRoomFor finished.size room set.now copies }
-    ensures { (sessions : Inbound) → concluded station set.now room sessions (Some (given_answer finished)) (Some (refused_answer finished)) (connection_message finished) ≡ record { sessions = sessions; frame = Some result; events = told.new } }
+    ensures { (sessions : Inbound) → Leaves (concluded station set.now room sessions (Some (given_answer finished)) (Some (refused_answer finished)) (connection_message finished)) sessions queue.old queue.new told.new }
 {
     if !room {
-        return finished.refused();
+        queue.push_free(finished.refused());
+        return;
     }
     let peer = finished.peer();
     let (bytes, end) = finished.given();
+    queue.push_free(end);
     let message = Message {
         from: peer.from(),
         to: peer.to(),
@@ -366,5 +392,14 @@ fn conclude_connection(
         bytes: Bytes::new(bytes),
     };
     give(station, set, message, copies, told);
-    end
+}
+
+/// Queues a frame, if there is one, where there is a free place.
+pub fn enqueue_option(queue: &mut TxQueue, frame: Option<Frame>)
+    requires { length queue.old < queue_limit }
+    ensures { queue.new ≡ queue.old ++ option_to_list frame }
+{
+    if let Some(frame) = frame {
+        queue.push_free(frame);
+    }
 }

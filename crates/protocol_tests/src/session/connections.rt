@@ -245,12 +245,19 @@ fn take_window(rt: &impl Abort, state: &mut InState, queue: &mut TxQueue) {
     falls_due(rt, state, 1650);
 }
 
+// Whether each packet is left where packets are taken in place.
+fn leaves_packets(rt: &impl Abort, state: &InState, leaves: bool) {
+    same(rt, state.leaves_packets(), leaves);
+}
+
 #[test]
 fn a_packet_in_a_window_is_taken_in_place(rt: HostRuntime) {
     // Four packets, in windows of three and one.
     let mut queue = got(&rt, TxQueue::new(rt.alloc()));
     let (mut state, _) = begun(&rt, rt.alloc(), diagnostics(&rt), 3, 28, Flow::Open);
+    leaves_packets(&rt, &state, false);
     take_window(&rt, &mut state, &mut queue);
+    leaves_packets(&rt, &state, true);
     let cts = frame(&rt, CM_TO_21, [0x11, 1, 4, 0xFF, 0xFF, 0xCA, 0xFE, 0]);
     same(&rt, queue.pop(), Some(cts));
     takes(

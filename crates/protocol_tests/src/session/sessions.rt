@@ -274,6 +274,28 @@ fn a_packet_is_taken_in_place(rt: HostRuntime) {
     holds(&rt, queue.is_empty());
 }
 
+// Whether the session of a key leaves this packet, as a connection that awaits its last one does.
+fn leaves(table: &SessionTable<u8>, key: Key, wire: &Wire) -> Option<bool> {
+    let (_bound, state) = table.get(key)?;
+    Some(state.leaves(&heard(wire)))
+}
+
+#[test]
+fn the_last_packet_is_left(rt: HostRuntime) {
+    let mut table = new_table(rt.alloc());
+    let mut queue = new_queue(&rt, rt.alloc());
+    let key = key(0x80, SessionKind::Tp);
+    same(&rt, leaves(&table, key, &LAST), None);
+    open(&rt, rt.alloc(), &mut table, key);
+    same(&rt, leaves(&table, key, &FIRST), Some(false));
+    same(
+        &rt,
+        take_in_place(&rt, &mut table, key, &FIRST, 100, &mut queue),
+        true,
+    );
+    same(&rt, leaves(&table, key, &LAST), Some(true));
+}
+
 #[test]
 fn a_new_session_takes_the_place(rt: HostRuntime) {
     let mut table = new_table(rt.alloc());

@@ -68,9 +68,13 @@ fn receive(
     ports: &PortTable,
     wire: &Wire,
 ) -> (Option<Frame>, Events) {
+    let mut queue = got(rt, TxQueue::new(alloc));
     let mut told = Events::none(alloc);
-    let frame = got(rt, sessions.receive(ports, KEY, wire, true, 0, &mut told));
-    (frame, told)
+    got(
+        rt,
+        sessions.receive(ports, KEY, wire, true, 0, &mut queue, &mut told),
+    );
+    (queue.pop(), told)
 }
 
 // A frame is taken in place, or not.
@@ -94,10 +98,11 @@ fn fire(
     ports: &PortTable,
     now: u64,
 ) -> Option<Frame> {
+    let mut queue = got(rt, TxQueue::new(alloc));
     let mut told = Events::none(alloc);
-    let frame = got(rt, sessions.fire(ports, KEY, now, &mut told));
+    got(rt, sessions.fire(ports, KEY, now, &mut queue, &mut told));
     holds(rt, told.is_empty());
-    frame
+    queue.pop()
 }
 
 fn abort(rt: &impl Abort, sessions: &mut Receivers, pgn: u32) {
@@ -139,6 +144,11 @@ fn ends(rt: &impl Abort, sessions: &mut Receivers, number: u64) {
 
 fn is_due_as(rt: &impl Abort, sessions: &Receivers, now: u64, key: Option<Key>) {
     same(rt, sessions.next_due(now), key);
+}
+
+// There is no session, or there is one.
+fn are_none(rt: &impl Abort, sessions: &Receivers, are: bool) {
+    same(rt, sessions.is_empty(), are);
 }
 
 fn are_wanted(rt: &impl Abort, sessions: &Receivers, wire: &Wire) {
@@ -234,7 +244,9 @@ fn a_session_is_ended(rt: HostRuntime) {
 fn missed_frames_end_each_session(rt: HostRuntime) {
     let ports = two_ports(&rt, rt.alloc());
     let mut sessions = announce(&rt, rt.alloc(), &ports);
+    are_none(&rt, &sessions, false);
     sessions.overrun();
+    are_none(&rt, &sessions, true);
     is_due_as(&rt, &sessions, 750, None);
 }
 

@@ -1,5 +1,5 @@
 //! Sessions that open (SAE J1939-21, TP.CM_RTS, TP.CM_BAM; ISO 11783-3, ETP.CM_RTS).
-ghost use Rattle.std.specs.Prelude.{◌≡◌, ◌≤◌, ◌<◌, true, None, [], IfOk, IsOk, OnErr};
+ghost use Rattle.std.specs.Prelude.{◌≡◌, ◌≤◌, ◌<◌, true, None, [], length, IfOk, IsOk, OnOk, OnErr};
 ghost use Rattle.pgn_ids.specs.Address.{is_one};
 ghost use Rattle.session_table.specs.declared.TheConstants.{MAX_SESSIONS};
 ghost use Rattle.station_sessions.specs.Opening.{is_tp_size as is_tp_size_of, is_etp_size as is_etp_size_of, refusal as refusal_of, whole_join as whole_join_of, rts_received, bam_received, opening_received};
@@ -9,11 +9,12 @@ ghost use Rattle.responder.specs.Room.{first_join as first_join_of};
 ghost use Rattle.responder.specs.declared.flow.Flow.TheVariants.{Open, Held};
 ghost use Rattle.tp_wire.specs.declared.constants.TheConstants.{ETP_MAX_WINDOW};
 ghost use Rattle.tp_wire.specs.Sizes.{IsSizeOf};
+ghost use Rattle.station_sessions.specs.Quiet.{LeavesQuietly};
+ghost use Rattle.tx_queue.specs.Queue.{queue_limit};
 ghost use Rattle.tp_wire.specs.declared.wire.Kind.TheVariants.{Tp, Etp};
 
 use super::{Receivers, flow};
 use bam_session::BamIn;
-use bus_frame::Frame;
 use pgn_ids::{Address, WirePgn};
 use port_table::{PortSet, PortTable};
 use responder::{Flow, Peer, begin, most_packets};
@@ -22,6 +23,7 @@ use session_table::{Incoming, Key, MAX_SESSIONS, SessionKind};
 use std::alloc::{AllocError, Global};
 use tp_wire::constants::{ETP_MAX_SIZE, ETP_MAX_WINDOW, MIN_SIZE, TP_MAX_SIZE};
 use tp_wire::{AbortReason, CmFrame, Kind};
+use tx_queue::TxQueue;
 
 // Whether TP carries messages of this size, and they have so many packets.
 fn is_tp_size(size: u16, packet_count: u8) -> bool
@@ -102,7 +104,7 @@ struct Asked {
 }
 
 impl Receivers {
-    /// Takes an RTS: its session opens with a CTS or a hold, or it is answered by an abort, which is handed out.
+    /// Takes an RTS: its session opens with a CTS or a hold, or it is answered by an abort. Each is queued.
     fn take_rts(
         &mut self,
         own: Address,
@@ -110,14 +112,17 @@ impl Receivers {
         asked: Asked,
         room: bool,
         now: u64,
-    ) -> Result<Option<Frame>, AllocError>
+        queue: &mut TxQueue,
+    ) -> Result<(), AllocError>
+        requires place { length queue.old < queue_limit }
         requires own { is_one own.0 ≡ true }
         requires source { is_one asked.from.0 ≡ true }
         requires size { asked.is_size ≡ true → IsSizeOf asked.kind asked.size }
         requires some { 0 < asked.most }
         requires narrow { asked.most ≤ ETP_MAX_WINDOW }
-        ensures ok { IfOk result (λ queued. rts_received own ports.now asked.kind asked.is_size asked.from asked.size asked.most asked.pgn room now self.old ≡ record { sessions = self.new; frame = queued; events = [] }) }
+        ensures ok { OnOk result (LeavesQuietly (rts_received own ports.now asked.kind asked.is_size asked.from asked.size asked.most asked.pgn room now self.old) self.new queue.old queue.new) }
         ensures err { OnErr result (self.new ≡ self.old) }
+        ensures kept { OnErr result (queue.new ≡ queue.old) }
     {
         let Asked {
             kind,
@@ -137,14 +142,16 @@ impl Receivers {
         match refusal(is_size, room, &set, others) {
             Some(reason) => {
                 self.end(key);
-                Ok(Some(peer.abort(kind, reason)))
+                queue.push_free(peer.abort(kind, reason));
+                Ok(())
             }
             None => {
                 let flow = flow(ports, &set);
                 let join = first_join(self.alloc, kind, size, flow)?;
                 let (state, frame) = begin(kind, peer, most, join, flow, now);
                 self.put(key, set, Incoming::Connection(state))?;
-                Ok(Some(frame))
+                queue.push_free(frame);
+                Ok(())
             }
         }
     }
@@ -159,8 +166,8 @@ impl Receivers {
         pgn: WirePgn,
         room: bool,
         now: u64,
-    ) -> Result<Option<Frame>, AllocError>
-        ensures ok { IfOk result (λ queued. bam_received ports.now from size packet_count pgn room now self.old ≡ record { sessions = self.new; frame = queued; events = [] }) }
+    ) -> Result<(), AllocError>
+        ensures ok { OnOk result (bam_received ports.now from size packet_count pgn room now self.old ≡ record { sessions = self.new; frame = None; events = [] }) }
         ensures err { OnErr result (self.new ≡ self.old) }
     {
         let key = Key {
@@ -172,13 +179,13 @@ impl Receivers {
         match refusal(is_tp_size(size, packet_count), room, &set, others) {
             Some(_) => {
                 self.end(key);
-                Ok(None)
+                Ok(())
             }
             None => {
                 let join = whole_join(self.alloc, u32::from(size))?;
                 let state = BamIn::begin(from, pgn, join, now);
                 self.put(key, set, Incoming::Broadcast(state))?;
-                Ok(None)
+                Ok(())
             }
         }
     }
@@ -186,7 +193,8 @@ impl Receivers {
     /// A frame that opens a session is taken by the station of address `own` at tick `now`: an RTS or a BAM of another node.
     /// Any other is passed over. The new session takes the place of an older one of its kind from the same source, which ends
     /// without an abort, also where the new one is refused. It opens for the ports that receive its message; a connection is
-    /// answered by a CTS, a hold or an abort, which is handed out. `room` says whether there is room for it. Nothing is told.
+    /// answered by a CTS, a hold or an abort, which is queued behind the frames of a queue. `room` says whether there is room for it.
+    /// Nothing is told.
     ///
     /// Want of memory changes nothing.
     pub fn open(
@@ -197,11 +205,14 @@ impl Receivers {
         from: Address,
         room: bool,
         now: u64,
-    ) -> Result<Option<Frame>, AllocError>
+        queue: &mut TxQueue,
+    ) -> Result<(), AllocError>
+        requires place { length queue.old < queue_limit }
         requires own { is_one own.0 ≡ true }
         requires source { is_one from.0 ≡ true }
-        ensures ok { IfOk result (λ queued. opening_received own ports.now frame.now from room now self.old ≡ record { sessions = self.new; frame = queued; events = [] }) }
+        ensures ok { OnOk result (LeavesQuietly (opening_received own ports.now frame.now from room now self.old) self.new queue.old queue.new) }
         ensures err { OnErr result (self.new ≡ self.old) }
+        ensures kept { OnErr result (queue.new ≡ queue.old) }
     {
         match *frame {
             CmFrame::Rts {
@@ -218,7 +229,7 @@ impl Receivers {
                     most: most_packets(Kind::Tp, most),
                     pgn,
                 };
-                self.take_rts(own, ports, asked, room, now)
+                self.take_rts(own, ports, asked, room, now, queue)
             }
             CmFrame::Bam { size, packets, pgn } => {
                 self.take_bam(ports, from, size, packets, pgn, room, now)
@@ -232,9 +243,9 @@ impl Receivers {
                     most: ETP_MAX_WINDOW,
                     pgn,
                 };
-                self.take_rts(own, ports, asked, room, now)
+                self.take_rts(own, ports, asked, room, now, queue)
             }
-            _ => Ok(None),
+            _ => Ok(()),
         }
     }
 }

@@ -17,4 +17,4 @@ returns-clause-step c =
     let is = sym c.get.ensures ∙ ap (option_map deref_pair) c.in-Some.is in
     let left = c.take_in_place.new in
     subst (λ m. OnTrue c.take_in_place.result (LeavesQuietly (received c.args.ports.now c.args.key (meant c.args.heard.now) c.args.room c.args.now m) left.self c.args.queue.now left.queue)) c.self.view_is
-    (leaves_there c.args.ports.now c.args.key (meant c.args.heard.now) c.args.room _ c.in-Some.set.now c.in-Some.field-0-1.now c.flow-flow.ensures c.take_in_place.result c.args.now _ _ _ _ is c.take_in_place.ensures.step)
+    (leaves_there c.args.ports.now c.args.key (meant c.args.heard.now) c.args.room _ c.in-Some.set.now c.in-Some.state.now c.flow-flow.ensures c.take_in_place.result c.args.now _ _ _ _ is c.take_in_place.ensures.step)
