@@ -72,6 +72,18 @@ fn count_all(counts: &mut Counts, events: &[Event])
     }
 }
 
+/// Counts events that a call told.
+#[inline(always)]
+pub(crate) fn count_events(counts: &mut Counts, events: &Events)
+    ensures { counts.new ≡ counted counts.old events.now }
+{
+    let Some(first) = events.get(0) else {
+        return;
+    };
+    count_event(counts, first);
+    count_all(counts, events.rest());
+}
+
 impl Segment {
     /// The reply to a call that told nothing.
     pub(crate) fn done(&self) -> Reply
@@ -95,10 +107,6 @@ impl Segment {
     pub(crate) fn count_told(&mut self, events: &Events)
         ensures { self.new ≡ record self.old { counts = counted self.old.counts events.now } }
     {
-        let Some(first) = events.get(0) else {
-            return;
-        };
-        count_event(&mut self.counts, first);
-        count_all(&mut self.counts, events.rest());
+        count_events(&mut self.counts, events);
     }
 }

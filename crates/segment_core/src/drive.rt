@@ -30,6 +30,9 @@ use station_core::Events;
 // Room for so many frames is taken at once, so that an exchange of a few frames takes memory once.
 const FRAMES_AT_ONCE: usize = 8;
 
+// So is room for what a few calls tell: a message that is sent to one node is given there, and has its outcome.
+const PARTS_AT_ONCE: usize = 2;
+
 // How a drive ends where one of its calls isn't done.
 fn end_at(stop: Stop) -> DriveEnd
     ensures { result ≡ stop_end stop }
@@ -129,8 +132,7 @@ impl Segment {
         ensures stopped { IfErr result (λ stop. (start : State) (d : Drive) → IsCourse None start d self.old course.old → Went start (puts d station) self.new course.new (Err stop)) }
     {
         self.make_way(station, course)?;
-        if let Some((frame, taken)) = self.put_abreast(station) {
-            course.put(Some(frame));
+        if let Some(taken) = self.put_abreast(station, course) {
             return Ok(taken);
         }
         let taken = self.put_apart(station, course)?;
@@ -161,6 +163,7 @@ impl Segment {
             return Err(Stop::Refused(cause));
         }
         course.frames.reserve(FRAMES_AT_ONCE)?;
+        course.parts.reserve(PARTS_AT_ONCE)?;
         Ok(())
     }
 
@@ -174,7 +177,7 @@ impl Segment {
         let front = self.front(station);
         let _done = self.transmit(station)?;
         course.put(front);
-        Ok(self.take_abreast())
+        Ok(self.take_abreast(course))
     }
 
     // The lane is pumped, once more at its time where it answers that it is too soon.

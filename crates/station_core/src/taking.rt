@@ -2,6 +2,7 @@
 ghost use Rattle.std.specs.Prelude.{◌≡◌, ◌<◌, ◌+◌, ◌++◌, [], true, false, None, length, IfOk, OnOk, OnErr, option_to_list};
 ghost use Rattle.std.specs.Result.{result_err};
 ghost use Rattle.pgn_ids.specs.Address.{is_one};
+ghost use Rattle.tp_wire.specs.Heard.{meant};
 ghost use Rattle.tp_wire.specs.Rows.{comes_from};
 ghost use Rattle.tp_wire.specs.declared.wire.Wire.TheVariants.{Cm};
 ghost use Rattle.tx_queue.specs.Queue.{queue_limit};
@@ -22,7 +23,7 @@ use session_table::{Key, SessionKind};
 use station_lanes::outcome;
 use station_sessions::enqueue_option;
 use std::alloc::AllocError;
-use tp_wire::{CmFrame, Kind, Wire, is_transport, read, write};
+use tp_wire::{CmFrame, Heard, Kind, Wire, is_transport, read, write};
 
 /// The control byte of the Acknowledgement that a station sends: positive.
 const POSITIVE: u8 = 1;
@@ -40,6 +41,34 @@ pub(crate) fn packet_kind(kind: Kind, to: Address) -> SessionKind
             }
         }
         Kind::Etp => SessionKind::Etp,
+    }
+}
+
+// What a frame means, with a packet's bytes copied.
+fn wire_of(heard: &Heard<'_>) -> Wire
+    ensures { result ≡ meant heard.now }
+{
+    match heard {
+        Heard::Cm(frame) => Wire::Cm(*frame),
+        Heard::Packet {
+            kind,
+            sequence,
+            bytes,
+        } => Wire::Packet {
+            kind: *kind,
+            sequence: *sequence,
+            bytes: **bytes,
+        },
+        Heard::Request { pgn } => Wire::Request { pgn: *pgn },
+        Heard::Ack {
+            control,
+            address,
+            pgn,
+        } => Wire::Ack {
+            control: *control,
+            address: *address,
+            pgn: *pgn,
+        },
     }
 }
 
@@ -159,7 +188,28 @@ impl Station {
         }
     }
 
+    /// The same of a frame that it looks at and of which it was read what it means, as one is for many stations.
+    pub fn hear_telling(
+        &mut self,
+        heard: &Heard<'_>,
+        from: Address,
+        to: Address,
+        room: bool,
+        now: u64,
+        told: &mut Events,
+    ) -> Result<(), AllocError>
+        requires place { taking_refusal self.old ≡ None }
+        requires source { comes_from (meant heard.now) from.0 ≡ true }
+        requires before { told.old ≡ [] }
+        ensures ok { OnOk result (wire_taken self.old (meant heard.now) from to room now ≡ record { station = self.new; events = told.new }) }
+        ensures err { OnErr result (self.new ≡ self.old) }
+        ensures silent { OnErr result (told.new ≡ []) }
+    {
+        self.take_wire(&wire_of(heard), from, to, room, now, told)
+    }
+
     /// Takes a frame with this meaning.
+    #[inline(always)]
     fn take_wire(
         &mut self,
         wire: &Wire,
@@ -193,6 +243,7 @@ impl Station {
     }
 
     /// Takes a connection management frame.
+    #[inline(always)]
     fn take_cm(
         &mut self,
         frame: CmFrame,

@@ -3,9 +3,11 @@ use super::{B, new_station, open};
 use crate::checks::{got, holds, same};
 use crate::station::frames::frame;
 use bus_frame::Frame;
+use pgn_ids::read_id;
 use station_core::*;
 use std::alloc::Global;
 use std::process::Abort;
+use tp_wire::read_in_place;
 
 // A frame by its identifier and its bytes.
 type Shown = (u32, [u8; 8]);
@@ -73,6 +75,21 @@ fn gives_nine(rt: &impl Abort, station: &mut Station, shown: &Shown) {
         Some(Event::Given { port, bytes, .. }) => same(rt, (port.number, bytes.len()), (1, 9)),
         _ => panic!(rt; "no message is given"),
     }
+}
+
+// So it does where the packet was read before.
+fn hears_nine(rt: &impl Abort, alloc: Global, station: &mut Station, shown: &Shown) {
+    let frame = frame_of(rt, shown);
+    let mut told = Events::none(alloc);
+    let Some((heard, from, to)) = read_in_place(&frame, &read_id(frame.id())) else {
+        panic!(rt; "a packet without a meaning")
+    };
+    holds(rt, station.take_refusal().is_none());
+    got(
+        rt,
+        station.hear_telling(&heard, from, to, true, 0, &mut told),
+    );
+    same(rt, told.len(), 1);
 }
 
 // A frame that has no meaning changes nothing.
@@ -197,6 +214,19 @@ fn give_a_message(rt: &impl Abort, station: &mut Station) {
 fn a_message_is_given(rt: HostRuntime) {
     let mut station = station_35(&rt, rt.alloc());
     give_a_message(&rt, &mut station);
+}
+
+fn give_what_was_read(rt: &impl Abort, alloc: Global, station: &mut Station) {
+    answers(rt, station, &RTS, &CTS);
+    is_silent(rt, station, &FIRST);
+    hears_nine(rt, alloc, station, &LAST);
+    pops(rt, station, &END);
+}
+
+#[test]
+fn a_message_is_given_by_what_was_read(rt: HostRuntime) {
+    let mut station = station_35(&rt, rt.alloc());
+    give_what_was_read(&rt, rt.alloc(), &mut station);
 }
 
 fn refuse_a_session(rt: &impl Abort, station: &mut Station) {

@@ -2,7 +2,7 @@ use Rattle.std.proofs.Common.{◌≡◌, ◌≤◌, true, length, set, sym, ap, 
 use Rattle.std.specs.Vec.{with_item, with_items}
 use Rattle.bus_order.specs.Bus.{put}
 use Rattle.bus_order.specs.Abreast.{are_level}
-use Rattle.segment_core.specs.Abreast.{FirstTake}
+use Rattle.segment_core.specs.Abreast.{FirstTell}
 use Rattle.segment_core.specs.declared.segment.Segment.TheInside.{Inside}
 use Rattle.segment_core.proofs.Together.{inside_together, put_inside, put_together, stations_left}
 use Rattle.segment_core.proofs.segment.Segment.put_abreast.Goals as goal
@@ -14,10 +14,11 @@ invariant_of-self c =
     let popped = c.pop-transmitted.new.self in
     let n = c.take_first-taken.result in
     let frame = c.in_ok-frame.frame in
+    let left = c.take_first-taken.new in
     let then : Inside = record s { stations = with_item s.stations i popped; bus = put s.bus frame; counts = c.count_frame.new.counts } in
-    let steps : FirstTake n frame c.now-now.result then.stations.items c.take_first-taken.new.stations = rw (← c.deref_mut.ensures.value) c.take_first-taken.ensures.steps in
-    inside_together then n c.now-now.result frame c.take_first-taken.new.stations c.put_passed.new.self
-    (put_inside s i popped c.index_mut.result.now frame c.count_frame.new.counts c.self.invariant c.index_mut.ensures.value (ap (λ st. st.address) c.pop-transmitted.ensures.left)) steps c.put_passed.ensures.passed
+    let tells : FirstTell n frame c.now-now.result then.stations.items left.stations c.put.new.self left.course c.count_frame.new.counts left.counts = rw (← c.deref_mut.ensures.value) c.take_first-taken.ensures.steps in
+    inside_together then n c.now-now.result frame left.stations tells.told c.put_passed.new.self left.counts
+    (put_inside s i popped c.index_mut.result.now frame c.count_frame.new.counts c.self.invariant c.index_mut.ensures.value (ap (λ st. st.address) c.pop-transmitted.ensures.left)) tells.steps c.put_passed.ensures.passed
 
 pub returns-clause-put : goal.returns-clause-put
 returns-clause-put c =
@@ -26,13 +27,14 @@ returns-clause-put c =
     let popped = c.pop-transmitted.new.self in
     let n = c.take_first-taken.result in
     let frame = c.in_ok-frame.frame in
-    let left = c.take_first-taken.new.stations in
+    let left = c.take_first-taken.new in
     let then : Inside = record s { stations = with_item s.stations i popped; bus = put s.bus frame; counts = c.count_frame.new.counts } in
-    let steps : FirstTake n frame c.now-now.result (set s.stations.items i popped) left = rw (← c.deref_mut.ensures.value) c.take_first-taken.ensures.steps in
+    let tells : FirstTell n frame c.now-now.result (set s.stations.items i popped) left.stations c.put.new.self left.course c.count_frame.new.counts left.counts = rw (← c.deref_mut.ensures.value) c.take_first-taken.ensures.steps in
     let few : n ≤ length (set s.stations.items i popped) = rw (← c.deref_mut.ensures.value) c.take_first-taken.ensures.few in
     let level : are_level s.bus ≡ true = sym c.are_level.ensures.value ∙ c.if-not-are_level.false in
-    let items : (with_items then.stations left).items ≡ left = stations_left then n c.now-now.result frame left steps in
-    put_together s c.args.self.now _ c.args.station i n c.now-now.result c.index.result.now c.index_mut.result.now popped frame c.count_frame.new.counts left c.put_passed.new.self
+    let items : (with_items then.stations left.stations).items ≡ left.stations = stations_left then n c.now-now.result frame left.stations tells.told tells.steps in
+    put_together s c.args.self.now _ c.args.station i n c.now-now.result c.index.result.now c.index_mut.result.now popped frame c.count_frame.new.counts left.counts left.stations c.put_passed.new.self c.args.course.now c.put.new.self left.course
     c.self.invariant c.self.view_is c.are_level.ensures.sound level c.in_ok-place.ensures.value c.in_ok-place.ensures.within c.index.ensures c.in_ok-frame.ensures c.index_mut.ensures.value c.pop-transmitted.ensures.left c.count_frame.ensures
-    few c.now-now.ensures.value steps c.put_passed.ensures.passed
-    (λ k. record { now = s.clock; stations = items k; bus = c.put_passed.new.self; counts = c.count_frame.new.counts })
+    c.put.ensures.frames c.put.ensures.parts
+    few c.now-now.ensures.value tells c.put_passed.ensures.passed
+    (λ k. record { now = s.clock; stations = items k; bus = c.put_passed.new.self; counts = left.counts })

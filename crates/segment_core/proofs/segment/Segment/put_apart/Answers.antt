@@ -18,6 +18,7 @@ returns-clause-put c =
     let told = joined c.put.new.self.parts.items in
     record {
       between = c.transmit.new.self;
+      shown = c.put.new.self;
       put = λ start d h.
           puts_made start d c.args.self.now c.transmit.new.self put c.put.new.self.frames.items told c.args.station c.in_ok-_done._done
           (relisted None start d c.args.self.now put put (joined c.args.course.now.parts.items) told refl (ap joined c.put.ensures.parts) h)

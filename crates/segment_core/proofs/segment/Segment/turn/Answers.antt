@@ -28,12 +28,12 @@ returns-in_err-first c = λ start d h.
 pub loop-place-init : goal.loop-place-init
 loop-place-init c =
     let done = c.in_ok-first.ensures.put in
-    let put = c.put_one.new.course.frames.items in
-    let parts = c.put_one.new.course.parts.items in
-    swept c.in_ok-first.first done.between c.put_one.new.self done.passed
-    c.args.from c.args.to c.args.self.now c.args.course.now.frames.items c.args.course.now.parts.items c.station_count-count.result put parts
+    let put = done.shown.frames.items in
+    let parts = done.shown.parts.items in
+    swept c.in_ok-first.first done.between c.put_one.new.self done.shown c.put_one.new.course done.passed
+    c.args.from c.args.to c.args.self.now c.args.course.now.frames.items c.args.course.now.parts.items c.station_count-count.result
     (sweeping_begins c.args.from c.args.to c.args.self.now c.args.course.now.frames.items c.args.course.now.parts.items c.station_count-count.result
-    done.between put parts (sym (pass_length c.in_ok-first.first done.between c.put_one.new.self done.passed) ∙ sym c.station_count-count.ensures)
+    done.between put parts (sym (pass_length c.in_ok-first.first done.between c.put_one.new.self done.shown c.put_one.new.course done.passed) ∙ sym c.station_count-count.ensures)
     (λ start d h.
     let next = c.in_ok-station.ensures.found start d h in
     subst (λ (x : Driven). IsShown None start x done.between put (joined parts)) next.on (done.put start next.at next.shown)))
