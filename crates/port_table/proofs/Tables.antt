@@ -3,7 +3,7 @@ use Rattle.std.proofs.Common.{◌≡◌, ℕ, suc, ◌+◌, ◌<◌, ◌≤◌, 
 use Rattle.std.specs.Prelude.{find}
 use Rattle.std.specs.Vec.{vec_len}
 use Rattle.std.specs.declared.vec.Vec.{Vec}
-use Rattle.std.specs.List.{AllPairs, filter}
+use Rattle.std.specs.List.{All, AllPairs, filter}
 use Rattle.std.proofs.lemmas.Bool.{eq-eqb, ne_eqb}
 use Rattle.std.proofs.lemmas.List.{length-map, get_or-map, get_or_default}
 use Rattle.std.proofs.lemmas.List.Edits.{map_over_more}
@@ -74,6 +74,19 @@ less_port_valid ports number left e valid =
       opened_fits = valid.opened_fits;
     } in
     subst (λ xs. ArePorts (record ports { open_ports = xs })) (sym e) is
+
+-- no port that is left has the number 0
+pub less_port_above : (number : ℕ) (ports left : List Port) → left ≡ less_port number ports → All (λ p. 0 < p.number) ports → All (λ p. 0 < p.number) left
+less_port_above number ports left e above =
+    subst (All (λ p. 0 < p.number)) (sym e) (All-filter (λ p. not (p.number == number)) (λ p. 0 < p.number) ports above)
+
+-- and none that is marked
+pub marked_above : (number : ℕ) (paused : Bool) (ports now : List Port) → now ≡ map (marked number paused) ports → All (λ p. 0 < p.number) ports → All (λ p. 0 < p.number) now
+marked_above number paused ports now e above =
+    let f : Port → Port = marked number paused in
+    subst (All (λ p. 0 < p.number)) (sym e)
+    (All-map (λ p. 0 < p.number) f ports
+    (All-weaker (λ p. 0 < p.number) (λ p. 0 < (f p).number) (λ p h. omega (arith, marked-number number paused p, h)) ports above))
 
 -- a port with this number is open exactly where one goes when it is taken out
 abbrev KeptAll : ℕ → List Port → Type 0

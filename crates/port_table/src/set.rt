@@ -1,17 +1,19 @@
 //! Sets of ports.
-ghost use Rattle.std.specs.Prelude.{◌≡◌, ℕ, ◌+◌, ◌<◌, ◌≤◌, ◌==◌, [], ◌∷◌, ◌++◌, length, slice_get};
+ghost use Rattle.std.specs.Prelude.{◌≡◌, ℕ, ◌+◌, ◌<◌, ◌≤◌, ◌==◌, [], ◌∷◌, ◌++◌, length, slice_get, All};
 ghost use Rattle.std.specs.Slice.Iter.{iter_rest};
 ghost use Rattle.std.specs.Iterator.Adapters.{IterYieldsInOrder};
 ghost use Rattle.port_table.specs.PortSet.{port_limit, has_number, without_number};
+ghost use Rattle.port_table.specs.SetFields.{ports_in};
 
 use crate::MAX_PORTS;
 use std::marker::Model;
 use std::slice::Iter;
 
 /// The numbers of at most 16 ports of one station, in the order in which they are given a message. It takes no memory.
+// What follows the ports is 0, which is no port's number. A count beside them would make a set longer than what the compiler copies in
+// place, and a set is copied at each step of the way into a session.
 #[derive(Clone, Copy, Debug, PartialEq, Eq)]
 pub struct PortSet {
-    len: usize,
     kept: [u64; MAX_PORTS],
 }
 
@@ -31,24 +33,37 @@ impl Model for PortSet {
     ghost inverse_ok = { set_fields_back };
 }
 
+// How many of these numbers stand before the first 0.
+#[inline(always)]
+fn count(kept: &[u64]) -> usize
+    ensures { result ≡ ports_in kept.now }
+{
+    for place in 0..kept.len() {
+        if kept[place] == 0 {
+            return place;
+        }
+    }
+    kept.len()
+}
+
 impl PortSet {
     /// The set of no port.
     pub fn empty() -> PortSet
         ensures { result ≡ [] }
     {
         PortSet {
-            len: 0,
             kept: [0; MAX_PORTS],
         }
     }
 
     /// Adds a port at the end of a set of less than 16.
     pub(crate) fn push(&mut self, number: u64)
-        requires { length self.old < port_limit }
+        requires few { length self.old < port_limit }
+        requires above { 0 < number }
         ensures { self.new ≡ self.old ++ number ∷ [] }
     {
-        self.kept[self.len] = number;
-        self.len += 1;
+        let len = self.len();
+        self.kept[len] = number;
     }
 
     /// How many ports it has.
@@ -56,22 +71,23 @@ impl PortSet {
         ensures value { result ≡ length self.now }
         ensures bounded { result ≤ port_limit }
     {
-        self.len
+        count(&self.kept)
     }
 
     /// Whether it has no port.
     pub fn is_empty(&self) -> bool
         ensures { result ≡ (length self.now == 0) }
     {
-        self.len == 0
+        self.kept[0] == 0
     }
 
     /// The numbers of its ports.
     pub fn numbers(&self) -> &[u64]
         ensures value { result.now ≡ self.now }
         ensures bounded { length result.now ≤ port_limit }
+        ensures above { All (λ number. 0 < number) result.now }
     {
-        &self.kept[..self.len]
+        &self.kept[..self.len()]
     }
 
     /// The number at a place, counted from 0.

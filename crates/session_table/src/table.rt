@@ -112,6 +112,8 @@ impl<T> SessionTable<T> {
     ///
     /// Refused as `TableFull` exactly where 32 keys are there, and else as `OutOfMemory` where memory is refused. A
     /// refusal hands back what was handed in, and changes nothing.
+    // Always inlined, as `take_out` is.
+    #[inline(always)]
     pub fn open(&mut self, key: Key, bound: T, state: Incoming) -> Result<(), OpenRefused<T>>
         requires { map.get self.old key ≡ None }
         ensures opened { OnOk result (self.new ≡ map.insert self.old key (Some (bound, state))) }

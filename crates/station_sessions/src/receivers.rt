@@ -106,6 +106,8 @@ impl Receivers {
 
     /// Opens a session in the place of an older one of its key, which ends without a frame, where there are less than 32
     /// others (`others`). It takes memory only where there is no older one, and want of it changes nothing.
+    // Always inlined, since it takes a state and a set by value.
+    #[inline(always)]
     #[tactic(auto, using(crate::proofs::SessionMaps::session_maps))]
     pub fn put(&mut self, key: Key, set: PortSet, state: Incoming) -> Result<(), AllocError>
         requires { map.len (map.remove self.old key) < MAX_SESSIONS }

@@ -4,13 +4,14 @@ use Rattle.port_table.specs.Refusals.{closing_refusal}
 use Rattle.port_table.specs.declared.port.Port.{Port}
 use Rattle.port_table.specs.declared.refused.Refused.{Refused}
 use Rattle.port_table.specs.declared.refused.Refused.TheVariants.{NoSuchPort}
-use Rattle.port_table.proofs.Tables.{less_port_valid, kept_all, one_goes, all_stay, as_many}
+use Rattle.port_table.proofs.Tables.{less_port_valid, less_port_above, kept_all, one_goes, all_stay, as_many}
 use Rattle.port_table.proofs.table.PortTable.close.Goals as goal
 
 pub invariant_of-self : goal.invariant_of-self
 invariant_of-self c = record {
   valid = less_port_valid _ c.args.number _ c.remove.ensures.items c.self.invariant.valid;
   room = omega (arith, c.remove.ensures.capacity, c.self.invariant.room);
+  above = less_port_above c.args.number c.self.inside.ports.items _ c.remove.ensures.items c.self.invariant.above;
 }
 
 pub returns-then-len-open-clause-refused : goal.returns-then-len-open-clause-refused
@@ -35,6 +36,7 @@ pub invariant_of-self-2 : goal.invariant_of-self-2
 invariant_of-self-2 c = record {
   valid = less_port_valid _ c.args.number _ c.remove.ensures.items c.self.invariant.valid;
   room = omega (arith, c.remove.ensures.capacity, c.self.invariant.room);
+  above = less_port_above c.args.number c.self.inside.ports.items _ c.remove.ensures.items c.self.invariant.above;
 }
 
 pub returns-clause-refused : goal.returns-clause-refused
