@@ -1,15 +1,16 @@
 //! Writing bytes to a writer.
-ghost use Rattle.std.specs.Prelude.{take, MatchResult};
+ghost use Rattle.std.specs.Prelude.{◌≡◌, ◌<◌, [], take, length, MatchResult, IfErr, IsOk};
 ghost use Rattle.std.specs.Io.KnownBytes.{Appends};
 ghost use Rattle.text_lines.specs.Known.{IsFront};
 
 use std::io;
 use std::io::Write;
 
-/// Writes all the bytes. Where that fails, it says how many of them were written.
+/// Writes all the bytes. Where that fails, it says how many of them were written, which aren't all.
 pub fn put_all<W: Write>(writer: &mut W, bytes: &[u8]) -> Result<(), usize>
-    ensures { MatchResult result (λ _. Appends (W.contents writer.old) (W.contents writer.new) bytes.now)
+    ensures written { MatchResult result (λ _. Appends (W.contents writer.old) (W.contents writer.new) bytes.now)
         (λ n. Appends (W.contents writer.old) (W.contents writer.new) (take n bytes.now)) }
+    ensures short { IfErr result (λ n. n < length bytes.now) }
 {
     let mut put = 0;
     for _ in 0..u64::MAX {
@@ -26,15 +27,19 @@ pub fn put_all<W: Write>(writer: &mut W, bytes: &[u8]) -> Result<(), usize>
             }
         }
     }
+    if put >= bytes.len() {
+        return Ok(());
+    }
     Err(put)
 }
 
 /// Writes a text at once and flushes it, so that who reads it has it before anything else is done. Where that fails, a front of
-/// the text was written.
+/// the text was written. A text without a byte never fails.
 #[tactic(auto, using(crate::proofs::Known::front_of_part, crate::proofs::Known::front_of_all, crate::proofs::Known::appends_keeps))]
 pub fn tell<W: Write>(writer: &mut W, text: &[u8]) -> Result<(), ()>
-    ensures { MatchResult result (λ _. Appends (W.contents writer.old) (W.contents writer.new) text.now)
+    ensures told { MatchResult result (λ _. Appends (W.contents writer.old) (W.contents writer.new) text.now)
         (λ _. IsFront (W.contents writer.old) (W.contents writer.new) text.now) }
+    ensures empty { text.now ≡ [] → IsOk result }
 {
     if text.is_empty() {
         return Ok(());

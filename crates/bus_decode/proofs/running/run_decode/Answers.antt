@@ -40,4 +40,4 @@ lines-preserved g c =
     let line = c.read_line.new.line.items in
     let seen = rw c.clear.ensures.items at (rw c.as_slice-text.ensures.value at c.in-Ok.ensures) in
     at_line _ _ _ _ line _ _ _ _ _ _ _ c.lines.invariant (reads_as _ _ _ _ line c.in-Ok-Line.field-0-is c.in-Ok-Line.ensures.reads)
-    c.if-number-ge-LINES_END.false c.in-Ok-Line.ensures.short (was_told _ _ _ _ seen) (rw c.as_slice.ensures.value at c.in-Ok-tell.ensures)
+    c.if-number-ge-LINES_END.false c.in-Ok-Line.ensures.short (was_told _ _ _ _ seen) (rw c.as_slice.ensures.value at c.in-Ok-tell.ensures.told)
