@@ -1,4 +1,4 @@
--- What the steps of a lane keep, and lanes that are taken out and put back.
+-- What the steps of a lane keep, and a lane that is taken out and put back.
 use Rattle.std.proofs.Common.{◌≡◌, ℕ, ◌+◌, ◌==◌, nat_lt, Bool, true, false, cond, List, [], ◌∷◌, length, Option, Some, None, refl, sym, ap, ◌∙◌, true≢false, IfNone}
 use Rattle.std.specs.Bool.{OnTrue, OnFalse}
 use Rattle.std.specs.Cmp.{nat_cmp_total, unsigned_tied}
@@ -101,11 +101,7 @@ overrun_to lane = overrun_by-to lane.under_way lane
 pub overrun_none : (lane : Lane) → (overrun lane).1.frames ≡ []
 overrun_none lane = overrun_by-none lane.under_way lane
 
-pub ruleset heard_laws = (put_back, remove_absent, heard_to)
-
 pub ruleset quiet_laws = (put_back, remove_absent, insert_same, quiet_to)
-
-pub ruleset answered_laws = (put_back, remove_absent, answered_to)
 
 pub ruleset overrun_laws = (put_back, remove_absent, overrun_to, overrun_none)
 
@@ -157,11 +153,7 @@ pub pumped_quiet_to : (b : Bool) (lane last : Lane) (now : ℕ) → OnTrue b (la
 pumped_quiet_to true lane last now done other = ap (λ l. l.to) done ∙ pumped_to lane now
 pumped_quiet_to false lane last now done other = ap (λ l. l.to) other
 
-pub ruleset pumped_laws = (put_back, remove_absent, pumped_to)
-
 pub ruleset pumped_quiet_laws = (put_back, remove_absent, insert_same, pumped_quiet_to)
-
-pub ruleset fired_laws = (put_back, remove_absent, fired_to)
 
 module _ (lane : Lane) (number : ℕ) where
   -- the front message is cancelled, or another one

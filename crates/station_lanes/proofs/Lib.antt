@@ -7,3 +7,4 @@ pub mod Dues
 pub mod Resting
 pub mod Marked
 pub mod Imaged
+pub mod InPlace

@@ -1,13 +1,17 @@
 -- The lanes of a station as they are kept: one place for each destination.
-use Rattle.std.specs.Prelude.{ℕ, zero, suc, ◌≡◌, ◌||◌, ◌==◌, true, List, length, Option, Some, None, slice_index_or}
+use Rattle.std.specs.Prelude.{ℕ, zero, suc, ◌≡◌, ◌≢◌, ◌<◌, ◌||◌, ◌==◌, Bool, true, List, length, Option, Some, None, slice_index_or}
 use Rattle.std.specs.FinMap as map
 use Rattle.pgn_ids.specs.Address.{is_one, global_address}
-use Rattle.address_set.specs.Sets.{has}
+use Rattle.address_set.specs.Sets.{AddressSet, has}
 use Rattle.lane_core.specs.Lane.{Lane}
 use Rattle.lane_core.specs.Pump.{is_ready}
 use Rattle.lane_core.specs.Fire.{is_timed}
 use Rattle.station_lanes.specs.Lanes.{Lanes}
 use Rattle.station_lanes.specs.declared.lanes.Lanes.TheInside.{Inside}
+
+-- an address is in a set or not, and each other one is as before
+abbrev pub IsMarked : (before after : AddressSet) → (to : ℕ) → (is_in : Bool) → Type 0
+IsMarked before after to is_in = (has after to ≡ is_in) × ((other : ℕ) → other < 256 → other ≢ to → has after other ≡ has before other)
 
 -- what the place of a destination holds
 abbrev pub slot_at : List (Option Lane) → ℕ → Option Lane

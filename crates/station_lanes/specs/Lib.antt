@@ -3,3 +3,4 @@ pub mod LaneSlots
 pub mod ImageFields
 pub mod LaneCalls
 pub mod LaneReaders
+pub mod LaneLends

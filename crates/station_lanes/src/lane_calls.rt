@@ -19,7 +19,7 @@ ghost use Rattle.station_lanes.specs.LaneCalls.{stepped_lanes, step_at, lane_to}
 ghost use Rattle.station_lanes.specs.LaneReaders.{refusal_at, pumping_lane, missing_at, is_pending_at, queues_abort_at, is_due_at, hears_quietly_at, pumps_quietly_at, due_lane, overrun_lanes, overrun_events, is_waiting_at, count_below, sight_at, HasNoConnection};
 ghost use Rattle.std.specs.Option.{option_map};
 
-use crate::lanes::{Lanes, PLACES};
+use crate::lanes::{Lanes, PLACES, mark};
 use crate::outcomes::{append, outcome};
 use lane_core::{Ended, Lane, LaneSight, LaneStep, PumpRefused, PushRefused};
 use message_events::{Bytes, Events};
@@ -30,16 +30,15 @@ use tx_queue::TxQueue;
 
 impl Lanes {
     /// A frame of its destination is taken at tick `now`.
-    #[tactic(auto, using(crate::proofs::LaneLaws::heard_laws))]
     pub fn hear(&mut self, to: Address, wire: &Wire, now: u64) -> LaneStep
         ensures lanes { self.new ≡ stepped_lanes self.old to.0 (λ lane. heard_lane lane wire.now now) }
         ensures step { step_left result ≡ step_at self.old to.0 (λ lane. heard_lane lane wire.now now) }
     {
-        let Some(mut lane) = self.take_out(to) else {
+        let Some(lane) = self.slots[usize::from(to.0)].get_mut() else {
             return LaneStep::none();
         };
         let step = lane.hear(wire, now);
-        self.put(to, lane);
+        mark(lane, &mut self.ready, &mut self.timed, to.0);
         step
     }
 
@@ -52,24 +51,23 @@ impl Lanes {
         ensures step { OnTrue result (step_at self.old to.0 (λ lane. heard_lane lane (meant heard.now) now) ≡ nothing_to_do) }
         ensures other { OnFalse result (self.new ≡ self.old) }
     {
-        let Some(mut lane) = self.take_out(to) else {
+        let Some(lane) = self.slots[usize::from(to.0)].get_mut() else {
             return false;
         };
         let is_taken = lane.take_in_place(heard, now);
-        self.put(to, lane);
+        mark(lane, &mut self.ready, &mut self.timed, to.0);
         is_taken
     }
 
     /// An Acknowledgement of its destination is taken.
-    #[tactic(auto, using(crate::proofs::LaneLaws::answered_laws))]
     pub fn answer(&mut self, to: Address, pgn: WirePgn)
         ensures { self.new ≡ stepped_lanes self.old to.0 (λ lane. (answered lane pgn, nothing_to_do)) }
     {
-        let Some(mut lane) = self.take_out(to) else {
+        let Some(lane) = self.slots[usize::from(to.0)].get_mut() else {
             return;
         };
         lane.answer(pgn);
-        self.put(to, lane);
+        mark(lane, &mut self.ready, &mut self.timed, to.0);
     }
 
     /// The station missed frames.
@@ -79,11 +77,11 @@ impl Lanes {
         ensures step { step_left result ≡ step_at self.old to.0 overrun_lane }
         ensures none { result.frame ≡ None }
     {
-        let Some(mut lane) = self.take_out(to) else {
+        let Some(lane) = self.slots[usize::from(to.0)].get_mut() else {
             return LaneStep::none();
         };
         let step = lane.overrun();
-        self.put(to, lane);
+        mark(lane, &mut self.ready, &mut self.timed, to.0);
         step
     }
 
@@ -107,22 +105,42 @@ impl Lanes {
         ensures back { IfErr result (IsHandedBack (is_full_lane (lane_to from self.old to.0)) bytes) }
         ensures full { is_full_lane (lane_to from self.old to.0) ≡ true → IsErr result }
     {
-        match self.take_out(to) {
-            None => {
-                let mut lane = match Box::new(alloc, Lane::new(alloc, from, to)) {
-                    Ok(lane) => lane,
-                    Err(_) => return Err(PushRefused::OutOfMemory(bytes)),
-                };
-                let number = lane.push(pgn, bytes)?;
-                self.put(to, lane);
-                Ok(number)
-            }
-            Some(mut lane) => {
-                let pushed = lane.push(pgn, bytes);
-                self.put(to, lane);
-                pushed
-            }
-        }
+        let Some(lane) = self.slots[usize::from(to.0)].get_mut() else {
+            return self.push_first(alloc, from, to, pgn, bytes);
+        };
+        let pushed = lane.push(pgn, bytes);
+        mark(lane, &mut self.ready, &mut self.timed, to.0);
+        pushed
+    }
+
+    /// The first message to a destination is sent: its lane is made.
+    #[tactic(auto, using(crate::proofs::LaneLaws::pushed_laws))]
+    fn push_first(
+        &mut self,
+        alloc: Global,
+        from: Address,
+        to: Address,
+        pgn: Pgn,
+        bytes: Bytes,
+    ) -> Result<u64, PushRefused>
+        requires absent { map.get self.old to.0 ≡ None }
+        requires source { is_one from.0 ≡ true }
+        requires destination { (is_one to.0 || to.0 == global_address) ≡ true }
+        requires least { 9 ≤ length bytes }
+        requires most { length bytes ≤ longest_to to.0 }
+        ensures number { IfOk result (λ n. n ≡ (lane_to from self.old to.0).sent + 1) }
+        ensures pushed { OnOk result (self.new ≡ map.insert self.old to.0 (pushed (lane_to from self.old to.0) pgn bytes)) }
+        ensures refused { OnErr result (self.new ≡ self.old) }
+        ensures back { IfErr result (IsHandedBack (is_full_lane (lane_to from self.old to.0)) bytes) }
+        ensures full { is_full_lane (lane_to from self.old to.0) ≡ true → IsErr result }
+    {
+        let mut lane = match Box::new(alloc, Lane::new(alloc, from, to)) {
+            Ok(lane) => lane,
+            Err(_) => return Err(PushRefused::OutOfMemory(bytes)),
+        };
+        let number = lane.push(pgn, bytes)?;
+        self.put(to, lane);
+        Ok(number)
     }
 
     /// Why the lane to a destination queues nothing at tick `now`, or `None` where a pump queues a frame.
@@ -175,16 +193,17 @@ impl Lanes {
 
     /// Queues what comes next to a destination at tick `now` behind the frames of a queue, where `pump_refusal` gives no cause;
     /// the message that it ends is told.
-    #[tactic(auto, using(crate::proofs::LaneLaws::pumped_laws))]
     pub fn pump(&mut self, to: Address, now: u64, queue: &mut TxQueue) -> Option<Ended>
         requires { length queue.old + most_frames ≤ queue_limit }
         ensures lanes { self.new ≡ stepped_lanes self.old to.0 (λ lane. pumped_lane lane now) }
         ensures queued { queue.new ≡ queue.old ++ (step_at self.old to.0 (λ lane. pumped_lane lane now)).frames }
         ensures ended { result ≡ (step_at self.old to.0 (λ lane. pumped_lane lane now)).ended }
     {
-        let mut lane = self.take_out(to)?;
+        let Some(lane) = self.slots[usize::from(to.0)].get_mut() else {
+            return None;
+        };
         let ended = lane.pump(now, queue);
-        self.put(to, lane);
+        mark(lane, &mut self.ready, &mut self.timed, to.0);
         ended
     }
 
@@ -199,11 +218,11 @@ impl Lanes {
         ensures other { OnFalse result (self.new ≡ self.old) }
         ensures kept { OnFalse result (queue.new ≡ queue.old) }
     {
-        let Some(mut lane) = self.take_out(to) else {
+        let Some(lane) = self.slots[usize::from(to.0)].get_mut() else {
             return false;
         };
         let is_pumped = lane.pump_in_place(now, queue);
-        self.put(to, lane);
+        mark(lane, &mut self.ready, &mut self.timed, to.0);
         is_pumped
     }
 
@@ -237,16 +256,15 @@ impl Lanes {
     }
 
     /// The timer of the lane to a destination fired at tick `now`, as `is_due` told.
-    #[tactic(auto, using(crate::proofs::LaneLaws::fired_laws))]
     pub fn fire(&mut self, to: Address, now: u64) -> LaneStep
         ensures lanes { self.new ≡ stepped_lanes self.old to.0 (λ lane. fired_lane lane now) }
         ensures step { step_left result ≡ step_at self.old to.0 (λ lane. fired_lane lane now) }
     {
-        let Some(mut lane) = self.take_out(to) else {
+        let Some(lane) = self.slots[usize::from(to.0)].get_mut() else {
             return LaneStep::none();
         };
         let step = lane.fire(now);
-        self.put(to, lane);
+        mark(lane, &mut self.ready, &mut self.timed, to.0);
         step
     }
 

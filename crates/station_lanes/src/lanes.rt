@@ -1,10 +1,14 @@
 //! The lanes of a station, by destination.
 ghost use Rattle.std.specs.Prelude.{◌≡◌, ◌<◌, ◌≤◌, Option, Some, None, IfOk, IfSome, IfNone, slice_set, vec_len};
-ghost use Rattle.std.specs.Option.{option_map, option_copied};
+ghost use Rattle.std.specs.Option.{option_map, option_copied, option_copied_mut};
+ghost use Rattle.std.specs.Borrow.{sem};
 ghost use Rattle.std.specs.FinMap as map;
 ghost use Rattle.pgn_ids.specs.Address.{null_address};
 ghost use Rattle.lane_core.specs.Lane.{Lane};
-ghost use Rattle.station_lanes.specs.LaneSlots.{slot_at};
+ghost use Rattle.lane_core.specs.Pump.{is_ready};
+ghost use Rattle.lane_core.specs.Fire.{is_timed};
+ghost use Rattle.station_lanes.specs.LaneSlots.{slot_at, IsMarked};
+ghost use Rattle.station_lanes.specs.LaneLends.{LendsLane};
 ghost use Rattle.station_lanes.specs.LaneReaders.{is_ready_at, is_timed_at, NonePasses};
 
 use address_set::AddressSet;
@@ -49,6 +53,18 @@ impl Slot {
         }
     }
 
+    /// The lane, to be stepped where it stands.
+    #[inline(always)]
+    pub(crate) fn get_mut(&mut self) -> Option<&mut Lane>
+        ensures* stands { sem 𝓛 (LendsLane self.entry result) }
+        ensures value { option_copied_mut result ≡ self.old }
+    {
+        match &mut self.lane {
+            None => None,
+            Some(lane) => Some(lane),
+        }
+    }
+
     /// Takes the lane out.
     fn take(&mut self) -> Option<Box<Lane>>
         ensures value { option_map (λ b. b.value) result ≡ self.old }
@@ -69,8 +85,8 @@ impl Slot {
 /// to queue, and which a running timer, is kept beside them, so that the next one is found without looking at all.
 pub struct Lanes {
     pub(crate) slots: Vec<Slot>,
-    ready: AddressSet,
-    timed: AddressSet,
+    pub(crate) ready: AddressSet,
+    pub(crate) timed: AddressSet,
 }
 
 impl Model for Lanes {
@@ -138,8 +154,7 @@ impl Lanes {
     {
         // A reader of it tells that no lane has the null address.
         let _to = lane.to();
-        self.ready.set(to.0, lane.is_ready());
-        self.timed.set(to.0, lane.is_timed());
+        mark(&lane, &mut self.ready, &mut self.timed, to.0);
         put_at(&mut self.slots, to.0, lane);
     }
 
@@ -171,6 +186,16 @@ impl Lanes {
             Some(to) => Some(Address(to)),
         }
     }
+}
+
+/// Marks in the sets whether the lane to a destination has a frame to queue, and whether a timer of it runs.
+#[inline(always)]
+pub(crate) fn mark(lane: &Lane, ready: &mut AddressSet, timed: &mut AddressSet, to: u8)
+    ensures ready { IsMarked ready.old ready.new to (is_ready lane.now) }
+    ensures timed { IsMarked timed.old timed.new to (is_timed lane.now) }
+{
+    ready.set(to, lane.is_ready());
+    timed.set(to, lane.is_timed());
 }
 
 // The lane in the place of a destination.

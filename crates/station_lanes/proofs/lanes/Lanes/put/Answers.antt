@@ -27,6 +27,6 @@ invariant_of-self c =
       places = ap length is ∙ length-set slots to (Some lane) ∙ c.self.invariant.places;
       in_place = subst (λ (s : List (Option Lane)). (q : ℕ) (other : Lane) → slot_at s q ≡ Some other → other.to ≡ q) (sym is) (in_place_after slots to inside (Some lane) c.self.invariant.in_place (λ other e. sym (ap (place_of lane) e) ∙ c.requires));
       nodes = subst (λ (s : List (Option Lane)). (q : ℕ) (other : Lane) → slot_at s q ≡ Some other → (is_one q || q == global_address) ≡ true) (sym is) (nodes_put slots to lane (subst (λ n. (is_one n || n == global_address) ≡ true) (ap (λ (l : Lane). l.to) c.deref.ensures ∙ c.requires) c.to-to.ensures.node) c.self.invariant.nodes);
-      ready = subst (λ (s : List (Option Lane)). Marks s c.set.new.self is_ready) (sym is) (marked_put slots c.self.inside.ready c.set.new.self is_ready to lane c.self.invariant.places here c.self.invariant.ready (c.set.ensures.this ∙ c.is_ready.ensures ∙ ap is_ready c.deref-2.ensures) c.set.ensures.others);
-      timed = subst (λ (s : List (Option Lane)). Marks s c.set-2.new.self is_timed) (sym is) (marked_put slots c.self.inside.timed c.set-2.new.self is_timed to lane c.self.invariant.places here c.self.invariant.timed (c.set-2.ensures.this ∙ c.is_timed.ensures ∙ ap is_timed c.deref-3.ensures) c.set-2.ensures.others);
+      ready = subst (λ (s : List (Option Lane)). Marks s c.mark.new.ready is_ready) (sym is) (marked_put slots c.self.inside.ready c.mark.new.ready is_ready to lane c.self.invariant.places here c.self.invariant.ready (c.mark.ensures.ready.0 ∙ ap is_ready c.deref-2.ensures) c.mark.ensures.ready.1);
+      timed = subst (λ (s : List (Option Lane)). Marks s c.mark.new.timed is_timed) (sym is) (marked_put slots c.self.inside.timed c.mark.new.timed is_timed to lane c.self.invariant.places here c.self.invariant.timed (c.mark.ensures.timed.0 ∙ ap is_timed c.deref-2.ensures) c.mark.ensures.timed.1);
     }

@@ -1,0 +1,29 @@
+use Rattle.std.proofs.Common.{◌++◌, Some, arith, rules, sym, ap, ◌∙◌}
+use Rattle.std.proofs.Math.ListN.{set}
+use Rattle.lane_core.specs.Pump.{pumped}
+use Rattle.station_lanes.proofs.LaneLaws.{pumped_to}
+use Rattle.station_lanes.proofs.InPlace.{marked_again, there, as_before, stepped_there, stepped_at, left_at}
+use Rattle.station_lanes.proofs.lanes.Lanes.pump.Goals as goal
+
+pub returns-in_default-clause-lanes : goal.returns-in_default-clause-lanes
+returns-in_default-clause-lanes c = as_before c.self.inside.slots.items c.self.view_is c.from.ensures c.index_mut.ensures.value c.in_default.ensures.value (omega arith) ∙ sym (stepped_at c.self.inside.slots.items c.self.view_is c.from.ensures c.index_mut.ensures.value c.in_default.ensures.value (omega arith) (λ lane. pumped lane c.args.now))
+
+pub returns-in_default-clause-queued : goal.returns-in_default-clause-queued
+returns-in_default-clause-queued c = search rules ∙ ap (λ s. c.args.queue.now ++ s.frames) (sym (left_at c.self.inside.slots.items c.self.view_is c.from.ensures c.index_mut.ensures.value c.in_default.ensures.value (omega arith) (λ lane. pumped lane c.args.now)))
+
+pub returns-in_default-clause-ended : goal.returns-in_default-clause-ended
+returns-in_default-clause-ended c = ap (λ s. s.ended) (sym (left_at c.self.inside.slots.items c.self.view_is c.from.ensures c.index_mut.ensures.value c.in_default.ensures.value (omega arith) (λ lane. pumped lane c.args.now)))
+
+pub invariant_of-self-2 : goal.invariant_of-self-2
+invariant_of-self-2 c =
+    marked_again c.self.inside _ c.args.to.0 c.in-Some.lane.now c.pump-ended.new.self (omega arith) c.self.invariant (there c.self.inside.slots.items c.self.view_is c.from.ensures c.index_mut.ensures.value c.in-Some.ensures.value (omega arith)) (ap (λ n. set c.self.inside.slots.items n (Some c.pump-ended.new.self)) c.from.ensures)
+    (ap (λ l. l.to) c.pump-ended.ensures.lane ∙ pumped_to c.in-Some.lane.now c.args.now) c.mark.ensures.ready c.mark.ensures.timed
+
+pub returns-clause-lanes : goal.returns-clause-lanes
+returns-clause-lanes c = stepped_there c.self.inside.slots.items c.self.view_is c.from.ensures c.index_mut.ensures.value c.in-Some.ensures.value (omega arith) c.pump-ended.new.self _ c.pump-ended.ensures.lane ∙ sym (stepped_at c.self.inside.slots.items c.self.view_is c.from.ensures c.index_mut.ensures.value c.in-Some.ensures.value (omega arith) (λ lane. pumped lane c.args.now))
+
+pub returns-clause-queued : goal.returns-clause-queued
+returns-clause-queued c = c.pump-ended.ensures.queued ∙ ap (λ s. c.args.queue.now ++ s.frames) (sym (left_at c.self.inside.slots.items c.self.view_is c.from.ensures c.index_mut.ensures.value c.in-Some.ensures.value (omega arith) (λ lane. pumped lane c.args.now)))
+
+pub returns-clause-ended : goal.returns-clause-ended
+returns-clause-ended c = c.pump-ended.ensures.ended ∙ ap (λ s. s.ended) (sym (left_at c.self.inside.slots.items c.self.view_is c.from.ensures c.index_mut.ensures.value c.in-Some.ensures.value (omega arith) (λ lane. pumped lane c.args.now)))
