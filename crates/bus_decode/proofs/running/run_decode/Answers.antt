@@ -33,7 +33,7 @@ returns-in_default g c =
     let line = c.read_line.new.line.items in
     let seen = rw c.clear.ensures.items at (rw c.as_slice-text.ensures.value at c.in-Ok.ensures) in
     rw c.failed-in_default.ensures (at_write _ _ _ _ line _ _ _ _ _ _ _ c.lines.invariant (reads_as _ _ _ _ line c.in-Ok-Line.field-0-is c.in-Ok-Line.ensures.reads)
-    c.if-number-ge-LINES_END.false c.in-Ok-Line.ensures.short (was_told _ _ _ _ seen) (rw c.as_slice.ensures.value at c.in_default.ensures))
+    c.if-number-ge-LINES_END.false c.in-Ok-Line.ensures.short (was_told _ _ _ _ seen) (rw c.as_slice.ensures.value at c.in_default.ensures.told))
 
 pub lines-preserved : goal.lines-preserved
 lines-preserved g c =
