@@ -1,6 +1,5 @@
 -- The order of keys is total, tells all keys apart, and its `==` is the one that is derived.
-use Rattle.std.proofs.Common.{◌≡◌, refl, List, sym, ap, ◌∙◌, ◌&&◌, arith}
-use Rattle.std.specs.Map.{lookup}
+use Rattle.std.proofs.Common.{◌≡◌, refl, sym, ◌∙◌, ◌&&◌, arith}
 use Rattle.std.specs.Cmp.{IsTotalOrder, on_total, then_total, nat_cmp_total, unsigned_tied}
 use denote.Enum.Bare.{sameb}
 use Rattle.session_table.specs.contracts.key.SessionKind.{the_type}
@@ -17,7 +16,7 @@ use Rattle.session_table.specs.contracts.key.KeyPartialEq.TheImpl as derived
 pub key_total : IsTotalOrder key_cmp
 key_total = then_total (on_total (λ (k : Key). k.source.0) nat_cmp_total) (on_total (λ (k : Key). kind_number k.kind) nat_cmp_total)
 
-same_kind : (a b : SessionKind) → kind_number a ≡ kind_number b → a ≡ b
+pub same_kind : (a b : SessionKind) → kind_number a ≡ kind_number b → a ≡ b
 same_kind Broadcast Broadcast e = refl
 same_kind Broadcast Tp e = absurd (omega arith)
 same_kind Broadcast Etp e = absurd (omega arith)
@@ -60,7 +59,3 @@ pub derived_eq : (a b : Key) → (derived.eq-value).it a b ≡ key_eq a b
 derived_eq a b =
     (λ i. sym (unsigned_tied a.source.0 b.source.0) i && kind_eq a.kind b.kind i)
     ∙ sym (is_eq-then (by_source a b) (by_kind a b))
-
--- a look-up by the derived `==` is one by `key_eq`
-pub lookup_same : {X : Type 0} (k : Key) (es : List (Key × X)) → lookup ((derived.eq-value).it k) es ≡ lookup (key_eq k) es
-lookup_same k es = ap (λ t. lookup t es) (λ i q. derived_eq k q i)

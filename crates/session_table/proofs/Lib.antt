@@ -1,5 +1,6 @@
 pub mod Keys
 pub mod Tables
+pub mod Positions
 pub mod Least
 pub mod First
 pub mod Dues

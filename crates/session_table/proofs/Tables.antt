@@ -1,12 +1,11 @@
 -- A table's meaning after a write of one place and of the index at one key.
-use Rattle.std.proofs.Common.{◌≡◌, ℕ, ◌+◌, ◌≤◌, Bool, true, false, cond, List, [], ◌∷◌, length, map as map_list, Option, Some, None, refl, sym, ap, subst, ◌∙◌, true≢false, inl, inr, is_some, add-one, slice_index_or, arith}
+use Rattle.std.proofs.Common.{◌≡◌, ℕ, ◌+◌, ◌≤◌, Bool, true, false, cond, List, [], ◌∷◌, length, map as map_list, Option, Some, None, refl, sym, ap, subst, ◌∙◌, true≢false, inl, inr, is_some, add-one, slice_index_or}
 use Rattle.std.proofs.lemmas.Bool.{cases_eq}
 use Rattle.std.specs.Bool.{OnTrue}
 use Rattle.std.specs.Option.{option_and_then, option_flatten, option_map}
 use Rattle.std.specs.Map.{lookup, keys_of}
 use Rattle.std.specs.List.{AllByRecursion, IsDistinct}
 use Rattle.std.proofs.lemmas.Map.Keys.{IsDistinct-head, IsDistinct-tail}
-use Rattle.session_table.specs.contracts.key.KeyPartialEq.TheImpl as derived
 use Rattle.std.specs.Cmp.{eq_by_cmp_equiv, Equal-is}
 use Rattle.std.specs.FinMap as map
 use Rattle.std.specs.FinMap.{get, insert, remove, find, get-from_entries, get-insert, get-remove, same_map}
@@ -26,7 +25,7 @@ use Rattle.tp_wire.specs.declared.wire.Wire.{Wire}
 use Rattle.session_table.specs.Key.{key_cmp, key_eq}
 use Rattle.session_table.specs.declared.index.Found.{Found}
 use Rattle.session_table.specs.Shape.{content_at, sessions_of, IsPlaceOf, IsLinked, IsLast, LeadsAlike}
-use Rattle.session_table.proofs.Keys.{key_total, key_apart, derived_eq}
+use Rattle.session_table.proofs.Keys.{key_total, key_apart}
 
 pub key_eq-refl : (k : Key) → key_eq k k ≡ true
 key_eq-refl k = (eq_by_cmp_equiv key_total).refl k
@@ -108,11 +107,11 @@ module _ {T : Type 0} (places after : Slab (Place T)) (es : List (Key × ℕ)) (
         | inr differs ↦ updates.others other differs
       ]
 
--- the index stays, and k leads to `at`
-pub same_index : (es : List (Key × ℕ)) (k : Key) (at : ℕ) → lookup (key_eq k) es ≡ Some at → (q : Key) → lookup (key_eq q) es ≡ cond (key_eq q k) (Some at) (lookup (key_eq q) es)
-same_index es k at h q = by (key_eq q k) refl
+-- the index stays, and k leads to `w`
+pub same_index : (es : List (Key × ℕ)) (k : Key) (w : Option ℕ) → lookup (key_eq k) es ≡ w → (q : Key) → lookup (key_eq q) es ≡ cond (key_eq q k) w (lookup (key_eq q) es)
+same_index es k w h q = by (key_eq q k) refl
   where
-    by : (b : Bool) → key_eq q k ≡ b → lookup (key_eq q) es ≡ cond b (Some at) (lookup (key_eq q) es)
+    by : (b : Bool) → key_eq q k ≡ b → lookup (key_eq q) es ≡ cond b w (lookup (key_eq q) es)
     by true e = ap (λ x. lookup (key_eq x) es) (key_eq-same q k e) ∙ h
     by false e = refl
 
@@ -171,7 +170,7 @@ module _ {T : Type 0} (places : Slab (Place T)) (es : List (Key × ℕ)) (k : Ke
       updated = Updates-with_value places at _ (rw there refl)
 
       turned : IsTurned places written es es k (Some at)
-      turned = record { turns = same_index es k at leads; keeps = keeps-linked places written es k at _ old updated leads }
+      turned = record { turns = same_index es k (Some at) leads; keeps = keeps-linked places written es k at _ old updated leads }
 
       pub view-written : sessions_of (with_value places at (record { key = place.key; slot = slot })) es ≡ insert (sessions_of places es) k (content_of slot)
       unfolding written
@@ -185,10 +184,6 @@ pub lookup_absent : (k : Key) (es : List (Key × ℕ)) → AllByRecursion (λ y.
 lookup_absent k [] h = refl
 lookup_absent k (e ∷ es) h = ap (λ b. cond b (Some e.1) (lookup (key_eq k) es)) h.0 ∙ lookup_absent k es h.1
 
-pub lookup_nowhere : (k : Key) (es : List (Key × ℕ)) → length es ≡ 0 → None ≡ lookup (key_eq k) es
-lookup_nowhere k [] h = refl
-lookup_nowhere k (e ∷ es) h = absurd (omega (arith, h))
-
 -- the table has as many keys as the index
 pub len_of_distinct : {T : Type 0} (places : Slab (Place T)) (es : List (Key × ℕ)) → IsDistinct key_eq (keys_of es) → map.len (sessions_of places es) ≡ length es
 unfolding sessions_of
@@ -200,9 +195,6 @@ len_of_distinct places (e ∷ es) d =
     map.len-insert key_total (sessions_of places es) e.0 (content_at places e.1)
     ∙ ap (λ o. cond (is_some o) (map.len (sessions_of places es)) (map.len (sessions_of places es) + 1)) none
     ∙ ap (λ n. n + 1) rest ∙ add-one (length es)
-
-pub len-sessions_of : {T : Type 0} (places : Slab (Place T)) (es : List (Key × ℕ)) → IsDistinct (derived.eq-value).it (keys_of es) → map.len (sessions_of places es) ≡ length es
-len-sessions_of places es d = len_of_distinct places es (subst (λ e. IsDistinct e (keys_of es)) (λ i a b. derived_eq a b i) d)
 
 -- a vacant place becomes that of a new key
 module _ {T : Type 0} (places mid after : Slab (Place T)) (es mids fs : List (Key × ℕ)) (k : Key) (at : ℕ) (place : Place T)
@@ -256,9 +248,6 @@ linked_alike places after es fs old kept alike = record {
 pub last_alike : (es fs : List (Key × ℕ)) → LeadsAlike es fs → (last : Option Found) → IsLast es last → IsLast fs last
 last_alike es fs alike None h = h
 last_alike es fs alike (Some found) h = alike.1 found.key ∙ h
-
-pub distinct_by_key : (ks : List Key) → IsDistinct (derived.eq-value).it ks → IsDistinct key_eq ks
-distinct_by_key ks d = subst (λ e. IsDistinct e ks) (λ i a b. derived_eq a b i) d
 
 is_some-map : {A B : Type 0} (f : A → B) (o : Option A) → is_some (option_map f o) ≡ is_some o
 is_some-map f None = refl

@@ -1,5 +1,5 @@
 -- Keys of incoming sessions.
-use Rattle.std.specs.Prelude.{ℕ, Bool, true, if◌then◌else◌, Option, Some, None}
+use Rattle.std.specs.Prelude.{ℕ, ◌+◌, ◌*◌, Bool, true, if◌then◌else◌, Option, Some, None}
 use Rattle.std.specs.Ordering.{nat_cmp, then_cmp, eq_by_cmp, is_lt}
 use Rattle.std.specs.declared.cmp.Ordering.{Ordering}
 use Rattle.tp_wire.specs.declared.wire.Kind.{Kind}
@@ -18,6 +18,10 @@ abbrev pub kind_number : SessionKind → ℕ
 kind_number Broadcast = 0
 kind_number Tp = 1
 kind_number Etp = 2
+
+-- its number: three to a source
+abbrev pub key_number : Key → ℕ
+key_number k = 3 * k.source.0 + kind_number k.kind
 
 -- by source
 abbrev pub by_source : Key → Key → Ordering

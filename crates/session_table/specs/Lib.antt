@@ -5,4 +5,5 @@ pub mod DueOrder
 pub mod Quiet
 pub mod Refusal
 pub mod Shape
+pub mod Index
 pub mod Image

@@ -1,7 +1,7 @@
 //! Keys of sessions.
-ghost use Rattle.std.specs.Prelude.{◌≡◌};
+ghost use Rattle.std.specs.Prelude.{◌≡◌, ◌<◌};
 ghost use Rattle.std.specs.Ordering.{is_lt};
-ghost use Rattle.session_table.specs.Key.{is_above_key, key_cmp, key_eq, session_for};
+ghost use Rattle.session_table.specs.Key.{is_above_key, key_cmp, key_eq, key_number, kind_number, session_for};
 
 use pgn_ids::Address;
 use tp_wire::Kind;
@@ -27,7 +27,21 @@ impl SessionKind {
             Kind::Etp => SessionKind::Etp,
         }
     }
+
+    #[inline]
+    fn number(self) -> usize
+        ensures { result ≡ kind_number self }
+    {
+        match self {
+            SessionKind::Broadcast => 0,
+            SessionKind::Tp => 1,
+            SessionKind::Etp => 2,
+        }
+    }
 }
+
+/// How many keys there can be: three kinds from each of 256 sources.
+pub(crate) const KEY_NUMBERS: usize = 768;
 
 /// What tells the sessions of a station apart: a source sends at most one message of each kind at a time. Keys are
 /// ordered by source, then by kind.
@@ -45,6 +59,15 @@ impl Key {
         ensures { result ≡ is_lt (key_cmp self other) }
     {
         self < other
+    }
+
+    /// Its number, which is no other key's.
+    #[inline]
+    pub(crate) fn number(self) -> usize
+        ensures value { result ≡ key_number self }
+        ensures within { result < KEY_NUMBERS }
+    {
+        3 * usize::from(self.source.0) + self.kind.number()
     }
 
     /// Whether both are the same.

@@ -7,7 +7,6 @@ ghost use Rattle.std.specs.List.{IsDistinct};
 ghost use Rattle.std.specs.Map.{keys_of};
 ghost use Rattle.std.specs.Map.Iter.{deref_pair};
 ghost use Rattle.slab.specs.Slab.{HasRoomFor};
-ghost use Rattle.std.specs.HashMap.{spare};
 ghost use Rattle.session_table.specs.Key.{key_eq};
 ghost use Rattle.session_table.specs.Shape.{LeadsAlike};
 ghost use Rattle.session_table.specs.Sessions.{IsHeld, state_at};
@@ -33,7 +32,6 @@ pub use image::TableImage;
 use responder::Flow;
 use slab::Slab;
 use std::alloc::{AllocError, Global};
-use std::collections::HashMap;
 use std::marker::Model;
 use std::mem;
 use tp_wire::Heard;
@@ -88,7 +86,7 @@ impl<T> SessionTable<T> {
     {
         SessionTable {
             places: Slab::new(alloc),
-            index: HashMap::new(alloc),
+            index: Index::new(alloc),
             last: None,
         }
     }
@@ -240,7 +238,7 @@ impl<T> SessionTable<T> {
         ensures first { result ≡ first_due self.now now }
     {
         let mut least = None;
-        for (key, at) in self.index.iter() {
+        for (key, at) in self.index.entries() {
             if is_due_at(&self.places, *at, now) {
                 least = lesser(least, *key);
             }
@@ -254,7 +252,7 @@ impl<T> SessionTable<T> {
         ensures first { result ≡ first_above self.now low }
     {
         let mut least = None;
-        for (key, at) in self.index.iter() {
+        for (key, at) in self.index.entries() {
             if is_above_at(&self.places, *key, *at, low) {
                 least = lesser(least, *key);
             }
@@ -263,13 +261,13 @@ impl<T> SessionTable<T> {
     }
 }
 
-// Makes room for one more in both. Neither changes but in its capacity and the order of its keys.
+// Makes room for one more in both. Neither changes but in its capacity.
 fn make_room<T>(places: &mut Slab<Place<T>>, index: &mut Index) -> Result<(), AllocError>
     ensures places { places.new ≡ record places.old { capacity = places.new.capacity } }
     ensures alike { LeadsAlike index.old.entries index.new.entries }
     ensures distinct { IsDistinct key_eq (keys_of index.new.entries) }
     ensures room_in_places { OnOk result (HasRoomFor places.new 1) }
-    ensures room_in_index { OnOk result (0 < spare index.new) }
+    ensures room_in_index { OnOk result (0 < index.new.spare) }
 {
     reserve(index)?;
     places.reserve(1)

@@ -27,7 +27,7 @@ impl<T> SessionTable<T> {
         ensures { IsDueFrom (λ now. is_some (first_due self.now now)) result }
     {
         let mut tick = None;
-        for (_, at) in self.index.iter() {
+        for (_, at) in self.index.entries() {
             tick = earlier(tick, due_at(&self.places, *at));
         }
         tick

@@ -49,7 +49,7 @@ impl<T: Copy> SessionTable<T> {
         ensures { IfOk result (λ image. image ≡ self.now) }
     {
         let mut entries = Vec::with_capacity(alloc, self.index.len())?;
-        for (key, at) in self.index.iter() {
+        for (key, at) in self.index.entries() {
             let content = content_image(alloc, &self.places, *at)?;
             entries.push((*key, content))?;
         }
