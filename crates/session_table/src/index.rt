@@ -62,7 +62,7 @@ impl Index {
 }
 
 /// The place of a key.
-#[inline]
+#[inline(never)]
 pub(crate) fn find(index: &Index, key: Key) -> Option<usize>
     ensures { result ≡ lookup (key_eq key) index.now.entries }
 {

@@ -194,8 +194,11 @@ pub(crate) fn mark(lane: &Lane, ready: &mut AddressSet, timed: &mut AddressSet, 
     ensures ready { IsMarked ready.old ready.new to (is_ready lane.now) }
     ensures timed { IsMarked timed.old timed.new to (is_timed lane.now) }
 {
-    ready.set(to, lane.is_ready());
-    timed.set(to, lane.is_timed());
+    // Both are asked for first: a store between them would have the second read what it asks for once more.
+    let is_ready = lane.is_ready();
+    let is_timed = lane.is_timed();
+    ready.set(to, is_ready);
+    timed.set(to, is_timed);
 }
 
 // The lane in the place of a destination.
