@@ -23,8 +23,7 @@ use Rattle.responder.specs.declared.flow.Flow.TheVariants.{Held}
 use Rattle.bus_frame.specs.Frames.{CanFrame}
 use Rattle.tp_wire.specs.declared.wire.Wire.{Wire}
 use Rattle.session_table.specs.Key.{key_cmp, key_eq}
-use Rattle.session_table.specs.declared.index.Found.{Found}
-use Rattle.session_table.specs.Shape.{content_at, sessions_of, IsPlaceOf, IsLinked, IsLast, LeadsAlike}
+use Rattle.session_table.specs.Shape.{content_at, sessions_of, IsPlaceOf, IsLinked}
 use Rattle.session_table.proofs.Keys.{key_total, key_apart}
 
 pub key_eq-refl : (k : Key) → key_eq k k ≡ true
@@ -115,10 +114,6 @@ same_index es k w h q = by (key_eq q k) refl
     by true e = ap (λ x. lookup (key_eq x) es) (key_eq-same q k e) ∙ h
     by false e = refl
 
--- the same key leads to the same place
-pub leads_same : (es : List (Key × ℕ)) (a b : Key) (at : ℕ) → key_eq a b ≡ true → lookup (key_eq a) es ≡ Some at → Some at ≡ lookup (key_eq b) es
-leads_same es a b at same leads = sym leads ∙ ap (λ x. lookup (key_eq x) es) (key_eq-same a b same)
-
 -- k leads to a place with this content
 pub record IsFound {T : Type 0} (places : Slab (Place T)) (es : List (Key × ℕ)) (k : Key) (c : Option (T × Incoming)) (at : ℕ) : Type 0 where
   pub leads : lookup (key_eq k) es ≡ Some at
@@ -198,7 +193,7 @@ len_of_distinct places (e ∷ es) d =
 
 -- a vacant place becomes that of a new key
 module _ {T : Type 0} (places mid after : Slab (Place T)) (es mids fs : List (Key × ℕ)) (k : Key) (at : ℕ) (place : Place T)
-    (old : IsLinked places es) (kept : mid.slots ≡ places.slots) (alike : LeadsAlike es mids)
+    (old : IsLinked places es) (kept : mid.slots ≡ places.slots) (same : mids ≡ es)
     (vacant : place_at mid at ≡ None) (updates : Updates mid after at (Some place)) (own : place.key ≡ k)
     (turns : (q : Key) → lookup (key_eq q) fs ≡ cond (key_eq q k) (Some at) (lookup (key_eq q) mids)) where
   same_place : (at : ℕ) → place_at mid at ≡ place_at places at
@@ -209,7 +204,7 @@ module _ {T : Type 0} (places mid after : Slab (Place T)) (es mids fs : List (Ke
 
   turned-opened : IsTurned places after es fs k (Some at)
   turned-opened = record {
-    turns = λ q. turns q ∙ ap (cond (key_eq q k) (Some at)) (alike.1 q);
+    turns = λ q. turns q ∙ ap (λ xs. cond (key_eq q k) (Some at) (lookup (key_eq q) xs)) same;
     keeps = λ q other e l. keeps-vacant mid after es k at (Some place) linked_mid updates vacant q other e l ∙ same_place other;
   }
 
@@ -232,22 +227,16 @@ module _ {T : Type 0} (places after : Slab (Place T)) (es fs : List (Key × ℕ)
   pub linked-ended : length fs ≤ 32 → IsLinked after fs
   linked-ended few = linked-after places after es fs k None turned-ended old (λ a e. absurd (cc)) few
 
--- the room of the places and the order of the keys are no part of the meaning
-pub same_sessions : {T : Type 0} (places after : Slab (Place T)) (n : ℕ) (es fs : List (Key × ℕ)) → after ≡ record places { capacity = n } → LeadsAlike es fs → sessions_of after fs ≡ sessions_of places es
+-- the room of the places is no part of the meaning
+pub same_sessions : {T : Type 0} (places after : Slab (Place T)) (n : ℕ) (es fs : List (Key × ℕ)) → after ≡ record places { capacity = n } → fs ≡ es → sessions_of after fs ≡ sessions_of places es
 unfolding sessions_of
-same_sessions places after n es fs p alike =
-    (λ i. sessions_of (p i) fs)
-    ∙ same_map key_total key_apart (sessions_of places fs) (sessions_of places es) (λ q. get-sessions_of places fs q ∙ ap (option_map (content_at places)) (alike.1 q) ∙ sym (get-sessions_of places es q))
+same_sessions places after n es fs p same = λ i. sessions_of (p i) (same i)
 
-pub linked_alike : {T : Type 0} (places after : Slab (Place T)) (es fs : List (Key × ℕ)) → IsLinked places es → after.slots ≡ places.slots → LeadsAlike es fs → IsLinked after fs
-linked_alike places after es fs old kept alike = record {
-  linked = λ q n h. let p = old.linked q n (sym (alike.1 q) ∙ h) in (p.0, ap (λ s. slice_index_or s n None) kept ∙ p.1, p.2);
-  few = subst (λ n. n ≤ 32) (sym alike.0) old.few;
+pub linked_same : {T : Type 0} (places after : Slab (Place T)) (es fs : List (Key × ℕ)) → IsLinked places es → after.slots ≡ places.slots → fs ≡ es → IsLinked after fs
+linked_same places after es fs old kept same = record {
+  linked = λ q n h. let p = old.linked q n (sym (ap (lookup (key_eq q)) same) ∙ h) in (p.0, ap (λ s. slice_index_or s n None) kept ∙ p.1, p.2);
+  few = subst (λ xs. length xs ≤ 32) (sym same) old.few;
 }
-
-pub last_alike : (es fs : List (Key × ℕ)) → LeadsAlike es fs → (last : Option Found) → IsLast es last → IsLast fs last
-last_alike es fs alike None h = h
-last_alike es fs alike (Some found) h = alike.1 found.key ∙ h
 
 is_some-map : {A B : Type 0} (f : A → B) (o : Option A) → is_some (option_map f o) ≡ is_some o
 is_some-map f None = refl

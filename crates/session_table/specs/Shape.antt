@@ -1,12 +1,11 @@
 -- How a table is kept: its places and the index that leads to them.
-use Rattle.std.specs.Prelude.{ℕ, ◌≡◌, ◌≤◌, if◌then◌else◌, List, Option, Some, None, length, map as map_list, IfSome}
+use Rattle.std.specs.Prelude.{ℕ, ◌≡◌, ◌≤◌, if◌then◌else◌, List, Option, Some, None, length, map as map_list}
 use Rattle.std.specs.Option.{option_and_then}
 use Rattle.std.specs.FinMap as map
 use Rattle.std.specs.Map.{lookup}
 use Rattle.slab.specs.Slab.{Slab, get as place_at}
 use Rattle.session_table.specs.declared.TheConstants.{MAX_SESSIONS}
 use Rattle.session_table.specs.declared.key.Key.{Key}
-use Rattle.session_table.specs.declared.index.Found.{Found}
 use Rattle.session_table.specs.declared.place.Place.{Place}
 use Rattle.session_table.specs.declared.place.Slot.{Slot}
 use Rattle.session_table.specs.declared.place.Slot.TheVariants.{Empty, Full}
@@ -18,14 +17,6 @@ use Rattle.session_table.specs.Sessions.{Sessions}
 abbrev pub TurnsOnly : (old new : List (Key × ℕ)) → Key → Option ℕ → Type 0
 TurnsOnly old new k at =
     (q : Key) → lookup (key_eq q) new ≡ (if key_eq q k then at else lookup (key_eq q) old)
-
--- both lead each key to the same place
-abbrev pub LeadsAlike : (old new : List (Key × ℕ)) → Type 0
-LeadsAlike old new = (length new ≡ length old) × ((q : Key) → lookup (key_eq q) new ≡ lookup (key_eq q) old)
-
--- what was found last is what the index leads to
-abbrev pub IsLast : List (Key × ℕ) → Option Found → Type 0
-IsLast entries last = IfSome last (λ found. lookup (key_eq found.key) entries ≡ Some found.at)
 
 module _ {T : Type 0} where
   -- a state with what it is bound to, or nothing
@@ -49,8 +40,3 @@ module _ {T : Type 0} where
   pub record IsLinked (places : Slab (Place T)) (entries : List (Key × ℕ)) : Type 0 where
     pub linked : (k : Key) (at : ℕ) → lookup (key_eq k) entries ≡ Some at → IsPlaceOf places k at
     pub few : length entries ≤ MAX_SESSIONS
-
-  -- the place that was found last is that of its key
-  pub record IsTable (places : Slab (Place T)) (entries : List (Key × ℕ)) (found : Option Found) : Type 0 where
-    pub linked : IsLinked places entries
-    pub last : IsLast entries found

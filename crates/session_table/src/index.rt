@@ -1,10 +1,10 @@
 //! The index from keys to places.
-ghost use Rattle.std.specs.Prelude.{◌≡◌, ◌+◌, ◌<◌, ◌≤◌, ℕ, List, [], length, Some, None, IfSome, OnOk};
+ghost use Rattle.std.specs.Prelude.{◌≡◌, ◌+◌, ◌<◌, ◌≤◌, ℕ, List, [], length, Some, None, OnOk};
 ghost use Rattle.session_table.specs.declared.key.Key.{Key};
 ghost use Rattle.std.specs.List.{IsDistinct};
 ghost use Rattle.std.specs.Map.{keys_of, lookup};
 ghost use Rattle.session_table.specs.Key.{key_eq};
-ghost use Rattle.session_table.specs.Shape.{LeadsAlike, TurnsOnly, IsLast};
+ghost use Rattle.session_table.specs.Shape.{TurnsOnly};
 
 use crate::MAX_SESSIONS;
 use crate::key::{KEY_NUMBERS, Key};
@@ -62,7 +62,7 @@ impl Index {
 }
 
 /// The place of a key.
-#[inline(never)]
+#[inline]
 pub(crate) fn find(index: &Index, key: Key) -> Option<usize>
     ensures { result ≡ lookup (key_eq key) index.now.entries }
 {
@@ -74,55 +74,9 @@ pub(crate) fn find(index: &Index, key: Key) -> Option<usize>
     Some(at)
 }
 
-/// A key with the place that it was found at.
-#[derive(Clone, Copy)]
-pub(crate) struct Found {
-    pub(crate) key: Key,
-    pub(crate) at: usize,
-}
-
-// The place of a key, if it is the one that was found last.
-#[inline]
-#[tactic(auto, using(crate::proofs::Tables::leads_same))]
-fn known(last: Option<Found>, key: Key) -> Option<usize>
-    ensures { IfSome result (λ at. (entries : List (Key × ℕ)) → IsLast entries last → Some at ≡ lookup (key_eq key) entries) }
-{
-    match last {
-        Some(found) if found.key.is_same(key) => Some(found.at),
-        _ => None,
-    }
-}
-
-/// The place of a key, which is looked for only where it isn't the one that was found last.
-#[inline]
-pub(crate) fn find_known(last: Option<Found>, index: &Index, key: Key) -> Option<usize>
-    requires { IsLast index.now.entries last }
-    ensures { result ≡ lookup (key_eq key) index.now.entries }
-{
-    match known(last, key) {
-        Some(at) => Some(at),
-        None => find(index, key),
-    }
-}
-
-/// The same, which is then the one that was found last: packets of a message come one after another.
-#[inline]
-pub(crate) fn find_again(last: &mut Option<Found>, index: &Index, key: Key) -> Option<usize>
-    requires { IsLast index.now.entries last.old }
-    ensures value { result ≡ lookup (key_eq key) index.now.entries }
-    ensures last { IsLast index.now.entries last.new }
-{
-    if let Some(at) = known(*last, key) {
-        return Some(at);
-    }
-    let at = find(index, key)?;
-    *last = Some(Found { key, at });
-    Some(at)
-}
-
 /// Makes room for one key more.
 pub(crate) fn reserve(index: &mut Index) -> Result<(), AllocError>
-    ensures alike { LeadsAlike index.old.entries index.new.entries }
+    ensures same { index.new.entries ≡ index.old.entries }
     ensures distinct { IsDistinct key_eq (keys_of index.new.entries) }
     ensures room { OnOk result (0 < index.new.spare) }
 {

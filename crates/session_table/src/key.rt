@@ -1,7 +1,7 @@
 //! Keys of sessions.
 ghost use Rattle.std.specs.Prelude.{◌≡◌, ◌<◌};
 ghost use Rattle.std.specs.Ordering.{is_lt};
-ghost use Rattle.session_table.specs.Key.{is_above_key, key_cmp, key_eq, key_number, kind_number, session_for};
+ghost use Rattle.session_table.specs.Key.{is_above_key, key_cmp, key_number, kind_number, session_for};
 
 use pgn_ids::Address;
 use tp_wire::Kind;
@@ -68,15 +68,6 @@ impl Key {
         ensures within { result < KEY_NUMBERS }
     {
         3 * usize::from(self.source.0) + self.kind.number()
-    }
-
-    /// Whether both are the same.
-    #[inline]
-    #[tactic(auto, using(crate::proofs::Keys::derived_eq))]
-    pub(crate) fn is_same(self, other: Key) -> bool
-        ensures { result ≡ key_eq self other }
-    {
-        self == other
     }
 
     /// Whether it is above that key; where there is none, each key is.

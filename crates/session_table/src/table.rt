@@ -8,7 +8,6 @@ ghost use Rattle.std.specs.Map.{keys_of};
 ghost use Rattle.std.specs.Map.Iter.{deref_pair};
 ghost use Rattle.slab.specs.Slab.{HasRoomFor};
 ghost use Rattle.session_table.specs.Key.{key_eq};
-ghost use Rattle.session_table.specs.Shape.{LeadsAlike};
 ghost use Rattle.session_table.specs.Sessions.{IsHeld, state_at};
 ghost use Rattle.session_table.specs.DueOrder.{IsLeastPicked, first_above, first_due, is_above_low, is_due_now};
 ghost use Rattle.responder.specs.declared.flow.Flow.{Flow};
@@ -24,7 +23,7 @@ mod image;
 use crate::MAX_SESSIONS;
 use crate::held::Held;
 use crate::incoming::Incoming;
-use crate::index::{Found, Index, find, find_again, find_known, link, reserve, unlink};
+use crate::index::{Index, find, link, reserve, unlink};
 use crate::key::Key;
 use crate::place::{Place, Slot, content};
 use crate::walk::{is_above_at, is_due_at, lesser};
@@ -52,7 +51,6 @@ pub enum OpenRefused<T> {
 pub struct SessionTable<T> {
     places: Slab<Place<T>>,
     index: Index,
-    last: Option<Found>,
 }
 
 impl<T> Model for SessionTable<T> {
@@ -62,11 +60,11 @@ impl<T> Model for SessionTable<T> {
 
     ghost coded = { sessions_code T.code };
 
-    ghost use Rattle.session_table.specs.Shape.{sessions_of, IsTable};
+    ghost use Rattle.session_table.specs.Shape.{sessions_of, IsLinked};
 
     ghost view = { λ s. sessions_of s.places s.index.entries };
 
-    ghost invariant = { λ s. IsTable s.places s.index.entries s.last };
+    ghost invariant = { λ s. IsLinked s.places s.index.entries };
 }
 
 impl<T: Drop> Drop for SessionTable<T> {
@@ -74,7 +72,6 @@ impl<T: Drop> Drop for SessionTable<T> {
         let SessionTable {
             places: _,
             index: _,
-            last: _,
         } = self;
     }
 }
@@ -87,7 +84,6 @@ impl<T> SessionTable<T> {
         SessionTable {
             places: Slab::new(alloc),
             index: Index::new(alloc),
-            last: None,
         }
     }
 
@@ -130,7 +126,6 @@ impl<T> SessionTable<T> {
             slot: Slot::Full(bound, state),
         });
         link(&mut self.index, key, at);
-        self.last = Some(Found { key, at });
         Ok(())
     }
 
@@ -155,7 +150,7 @@ impl<T> SessionTable<T> {
         ensures other { OnFalse result (self.new ≡ self.old) }
         ensures kept { OnFalse result (queue.new ≡ queue.old) }
     {
-        let Some(at) = find_again(&mut self.last, &self.index, key) else {
+        let Some(at) = find(&self.index, key) else {
             return true;
         };
         let Some(found) = self.places.get_mut(at) else {
@@ -174,7 +169,7 @@ impl<T> SessionTable<T> {
         ensures token { IfSome result (λ r. IsHeld self.new r.0) }
         ensures absent { IfNone result (self.new ≡ self.old) }
     {
-        let at = find_again(&mut self.last, &self.index, key)?;
+        let at = find(&self.index, key)?;
         let place = self.places.get_mut(at)?;
         let (bound, state) = mem::replace(&mut place.slot, Slot::Empty).into_content()?;
         Some((Held::new(key), bound, state))
@@ -187,7 +182,7 @@ impl<T> SessionTable<T> {
         ensures { self.new ≡ map.insert self.old held (Some (bound, state)) }
     {
         let key = held.spend();
-        let Some(at) = find_known(self.last, &self.index, key) else {
+        let Some(at) = find(&self.index, key) else {
             unreachable!()
         };
         let Some(place) = self.places.get_mut(at) else {
@@ -205,7 +200,6 @@ impl<T> SessionTable<T> {
         ensures { self.new ≡ map.remove self.old held }
     {
         let key = held.spend();
-        self.last = None;
         let Some(at) = unlink(&mut self.index, key) else {
             unreachable!()
         };
@@ -229,7 +223,7 @@ impl<T> SessionTable<T> {
     pub fn get(&self, key: Key) -> Option<(&T, &Incoming)>
         ensures { option_map deref_pair result ≡ state_at self.now key }
     {
-        content(&self.places, find_known(self.last, &self.index, key)?)
+        content(&self.places, find(&self.index, key)?)
     }
 
     /// The least key whose timer is due at tick `now`. Held keys are passed over.
@@ -264,7 +258,7 @@ impl<T> SessionTable<T> {
 // Makes room for one more in both. Neither changes but in its capacity.
 fn make_room<T>(places: &mut Slab<Place<T>>, index: &mut Index) -> Result<(), AllocError>
     ensures places { places.new ≡ record places.old { capacity = places.new.capacity } }
-    ensures alike { LeadsAlike index.old.entries index.new.entries }
+    ensures same { index.new.entries ≡ index.old.entries }
     ensures distinct { IsDistinct key_eq (keys_of index.new.entries) }
     ensures room_in_places { OnOk result (HasRoomFor places.new 1) }
     ensures room_in_index { OnOk result (0 < index.new.spare) }
