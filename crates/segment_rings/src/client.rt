@@ -184,8 +184,11 @@ impl Client {
         Ok(Some(note))
     }
 
-    /// Tries to read a note at most so often, and ends at the first, or at want of memory.
-    pub fn outcome<R: Wait>(&mut self, _rt: &R, turns: u64) -> Result<Option<Note>, AllocError> {
+    /// Tries to read a note at most so often, and ends at the first, or at want of memory, which leaves it in the ring.
+    pub fn outcome<R: Wait>(&mut self, _rt: &R, turns: u64) -> Result<Option<Note>, AllocError>
+        ensures note { IfOk result (λ r. MatchOption r (self.new ≡ self.old) (λ n. self.new ≡ reads self.old n)) }
+        ensures err { OnErr result (self.new ≡ self.old) }
+    {
         for _ in 0..turns {
             if let Some(note) = self.try_outcome()? {
                 return Ok(Some(note));

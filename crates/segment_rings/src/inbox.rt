@@ -106,12 +106,12 @@ impl Inbox {
         Ok(Some(delivery))
     }
 
-    /// Tries to receive at most so often, and ends at the first delivery, or at want of memory.
-    pub fn receive<R: Wait>(
-        &mut self,
-        _rt: &R,
-        turns: u64,
-    ) -> Result<Option<Delivery>, AllocError> {
+    /// Tries to receive at most so often, and ends at the first delivery, or at want of memory, which leaves it in the ring.
+    pub fn receive<R: Wait>(&mut self, _rt: &R, turns: u64) -> Result<Option<Delivery>, AllocError>
+        ensures delivery { IfOk result (λ r. MatchOption r (self.new ≡ self.old) (λ d. self.new ≡ receives self.old d self.new.spare)) }
+        ensures closed { self.old.closed ≡ true → result ≡ Ok None }
+        ensures err { OnErr result (self.new ≡ with_room_kept self.old self.new.spare) }
+    {
         for _ in 0..turns {
             if let Some(delivery) = self.try_receive()? {
                 return Ok(Some(delivery));
