@@ -8,7 +8,7 @@ use Rattle.port_table.specs.declared.port.PortId.{PortId}
 use Rattle.segment_rings.specs.declared.words.Submission.{Submission}
 use Rattle.segment_rings.specs.declared.words.Delivery.{Delivery}
 use Rattle.segment_rings.specs.Ends.{ClientEnd, InboxEnd}
-use Rattle.segment_shared.specs.declared.call.Stored.{Stored}
+use Rattle.stored_calls.specs.declared.stored.Stored.{Stored}
 use Rattle.segment_shared.specs.declared.report.ClientReport.{ClientReport}
 use Rattle.segment_shared.specs.declared.report.InboxReport.{InboxReport}
 use Rattle.segment_shared.specs.LiveView.{LiveView}

@@ -4,7 +4,7 @@ use Rattle.pgn_ids.specs.declared.address.Address.{Address}
 use Rattle.port_table.specs.declared.port.PortId.{PortId}
 use Rattle.segment_law.specs.Headline.{Headline}
 use Rattle.segment_shared.specs.Record.{Trail, trail}
-use Rattle.segment_shared.specs.declared.call.Stored.{Stored}
+use Rattle.stored_calls.specs.declared.stored.Stored.{Stored}
 use Rattle.segment_shared.specs.LiveView.{LiveView, Laws}
 use Rattle.script_text.specs.Parts.{line}
 use Rattle.script_text.specs.Counts.{relayed_line}

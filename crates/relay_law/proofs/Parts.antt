@@ -14,7 +14,7 @@ use Rattle.segment_law.specs.Told.{Message, Placed, told_from, items_of, same_po
 use Rattle.record_law.proofs.Told.{told_last, items_placed}
 use Rattle.reply_law.specs.Replies.{reply_of}
 use Rattle.segment_rings.specs.declared.words.Delivery.{Delivery}
-use Rattle.segment_shared.specs.declared.call.Stored.{Stored}
+use Rattle.stored_calls.specs.declared.stored.Stored.{Stored}
 use Rattle.segment_shared.specs.Record.{given, start, step, trail, trail_from, Trail}
 use Rattle.segment_shared.proofs.Doors.{given-append}
 use Rattle.relay_law.specs.Chain.{delivered, is_from_to}

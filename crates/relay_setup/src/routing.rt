@@ -1,5 +1,6 @@
 //! Where a route leads.
-ghost use Rattle.std.specs.Prelude.{◌≡◌, map};
+ghost use Rattle.std.specs.Prelude.{◌≡◌, ◌<◌, length, map, slice_index_or};
+ghost use Rattle.stored_calls.specs.declared.stored.Stored.{Stored};
 ghost use Rattle.segment_law.specs.Told.{same_port};
 ghost use Rattle.script_commands.specs.Words.{texts};
 ghost use Rattle.script_setup.specs.Plan.{plan_of, port_of};
@@ -11,8 +12,9 @@ use port_table::PortId;
 use script_commands::{Fault, LineError, RouteWords, read_route};
 use script_setup::{Message, Setup, Uncut};
 use segment_law::{Call, Refusal};
-use segment_shared::{Inbox, Stored};
+use segment_shared::Inbox;
 use std::alloc::Global;
+use stored_calls::StoredCalls;
 
 // The PGN of the port that a call opens.
 fn pgn_asked(call: &Call) -> Option<Pgn>
@@ -24,6 +26,17 @@ fn pgn_asked(call: &Call) -> Option<Pgn>
     }
 }
 
+// The PGN of the port that the call at a place opens: one that is kept short opens none.
+fn pgn_asked_at(calls: &StoredCalls, at: usize) -> Option<Pgn>
+    requires { at < length calls.now.items }
+    ensures { (x : Stored) → result ≡ pgn_asked (slice_index_or calls.now.items at x).call }
+{
+    let Some(stored) = calls.whole(at) else {
+        return None;
+    };
+    pgn_asked(&stored.call)
+}
+
 fn is_of(inbox: &Inbox, port: PortId) -> bool
     ensures { result ≡ same_port (port_of inbox.now) port }
 {
@@ -32,15 +45,15 @@ fn is_of(inbox: &Inbox, port: PortId) -> bool
 }
 
 // The PGN of a port, where it is one of these. Each call opened the port of its place.
-fn pgn_of_port(inboxes: &[Inbox], calls: &[Stored], port: PortId) -> Option<Pgn>
-    ensures { result ≡ pgn_of_port (map port_of inboxes.now) calls.now port }
+fn pgn_of_port(inboxes: &[Inbox], calls: &StoredCalls, port: PortId) -> Option<Pgn>
+    ensures { result ≡ pgn_of_port (map port_of inboxes.now) calls.now.items port }
 {
     for (k, inbox) in inboxes.iter().enumerate() {
         if k >= calls.len() {
             return None;
         }
         if is_of(inbox, port) {
-            return pgn_asked(&calls[k].call);
+            return pgn_asked_at(calls, k);
         }
     }
     None

@@ -13,7 +13,7 @@ use Rattle.segment_law.specs.declared.reply.Reply.TheVariants.{Opened, Sent, Ref
 use Rattle.reply_law.specs.Replies.{reply_of}
 use Rattle.segment_rings.specs.Ends.{InboxEnd}
 use Rattle.segment_rings.specs.Submitting.{submit_refusal}
-use Rattle.segment_shared.specs.declared.call.Stored.{Stored}
+use Rattle.stored_calls.specs.declared.stored.Stored.{Stored}
 use Rattle.segment_shared.specs.Record.{trail}
 use Rattle.segment_shared.specs.LiveView.{LiveView, stored, is_station_of}
 use Rattle.script_commands.specs.Words.{words_of}

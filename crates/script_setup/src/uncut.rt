@@ -2,9 +2,10 @@
 ghost use Rattle.std.specs.Prelude.{◌≡◌, []};
 
 use pgn_ids::{Address, Pgn};
-use segment_shared::{Inbox, Live, NotMade, Stored};
+use segment_shared::{Inbox, Live, NotMade};
 use std::alloc::Global;
 use std::marker::Model;
+use stored_calls::StoredCalls;
 
 /// A segment of which nothing was cut yet, so that all calls that were made are stored.
 #[derive(Drop)]
@@ -62,8 +63,8 @@ impl Uncut {
     }
 
     /// All calls that were made.
-    pub fn calls(&self) -> &[Stored]
-        ensures { result.now ≡ self.now.calls }
+    pub fn calls(&self) -> &StoredCalls
+        ensures { result.now.items ≡ self.now.calls }
     {
         self.live.calls()
     }

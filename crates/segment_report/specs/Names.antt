@@ -1,7 +1,7 @@
 -- What the text of a segment names.
 use Rattle.std.specs.Prelude.{◌≡◌, List, Option, Some, None, option_map}
 use Rattle.pgn_ids.specs.declared.address.Address.{Address}
-use Rattle.segment_shared.specs.declared.call.Stored.{Stored}
+use Rattle.stored_calls.specs.declared.stored.Stored.{Stored}
 use Rattle.script_setup.specs.Plan.{Plan}
 use Rattle.segment_report.specs.declared.names.Names.{Names}
 

@@ -10,7 +10,7 @@ use Rattle.segment_law.specs.declared.reply.Reply.{Reply}
 use Rattle.reply_law.specs.Replies.{reply_of}
 use Rattle.segment_rings.specs.Ends.{InboxEnd, closes}
 use Rattle.segment_rings.specs.Views.{SeatView, DoorView}
-use Rattle.segment_shared.specs.declared.call.Stored.{Stored}
+use Rattle.stored_calls.specs.declared.stored.Stored.{Stored}
 use Rattle.segment_shared.specs.declared.call.Owed.{Owed}
 use Rattle.segment_shared.specs.declared.closing.Closed.{Closed}
 use Rattle.segment_shared.specs.Record.{given, trail}

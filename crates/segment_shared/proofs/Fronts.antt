@@ -7,7 +7,7 @@ use Rattle.segment_law.specs.Segment.{Segment}
 use Rattle.segment_law.specs.declared.call.Call.{Call}
 use Rattle.segment_law.specs.declared.refusal.Refusal.{Refusal as Cause}
 use Rattle.segment_rings.specs.Views.{SeatView, DoorView, SameSeat, with_spare}
-use Rattle.segment_shared.specs.declared.call.Stored.{Stored}
+use Rattle.stored_calls.specs.declared.stored.Stored.{Stored}
 use Rattle.segment_shared.specs.declared.call.Owed.{Owed}
 use Rattle.segment_shared.specs.declared.offer.Front.{Front}
 use Rattle.segment_shared.specs.declared.offer.Front.TheVariants as front

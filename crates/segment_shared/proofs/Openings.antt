@@ -15,7 +15,7 @@ use Rattle.segment_core.specs.Answers.{refusal_of}
 use Rattle.reply_law.specs.Replies.{reply_of}
 use Rattle.segment_rings.specs.Ends.{InboxEnd, new_inbox_end}
 use Rattle.segment_rings.specs.Views.{SeatView, DoorView, new_door}
-use Rattle.segment_shared.specs.declared.call.Stored.{Stored}
+use Rattle.stored_calls.specs.declared.stored.Stored.{Stored}
 use Rattle.segment_shared.specs.declared.refused.NotMade.{NotMade}
 use Rattle.segment_shared.specs.declared.refused.NotMade.TheVariants as not_made
 use Rattle.segment_shared.specs.Record.{trail}

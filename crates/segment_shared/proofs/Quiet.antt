@@ -7,7 +7,7 @@ use Rattle.segment_law.specs.declared.call.Call.{Call}
 use Rattle.segment_law.specs.declared.reply.Reply.TheVariants.{Done}
 use Rattle.reply_law.specs.Replies.{reply_of, left_by, Follows}
 use Rattle.segment_rings.specs.Views.{SeatView, DoorView}
-use Rattle.segment_shared.specs.declared.call.Stored.{Stored}
+use Rattle.stored_calls.specs.declared.stored.Stored.{Stored}
 use Rattle.segment_shared.specs.declared.call.Owed.{Owed}
 use Rattle.segment_shared.specs.declared.call.WorkerCall.{WorkerCall}
 use Rattle.segment_shared.specs.Words.{call_of}

@@ -10,7 +10,7 @@ use Rattle.segment_law.specs.declared.refusal.Refusal.{Refusal}
 use Rattle.segment_core.specs.Answers.{refusal_of}
 use Rattle.segment_shared.specs.declared.call.WorkerCall.{WorkerCall}
 use Rattle.segment_shared.specs.declared.call.WorkerCall.TheVariants.{Pump, Transmit, Take, TakeAgain, Overrun, Tick, Fire, Cancel, Inject, Pause, Resume}
-use Rattle.segment_shared.specs.declared.call.Stored.{Stored}
+use Rattle.stored_calls.specs.declared.stored.Stored.{Stored}
 use Rattle.segment_rings.specs.Views.{SeatView, DoorView}
 use Rattle.segment_shared.specs.Words.{call_of}
 use Rattle.segment_shared.specs.Record.{trail}

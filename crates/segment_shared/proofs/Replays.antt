@@ -11,7 +11,7 @@ use Rattle.segment_law.specs.declared.reply.Reply.{Reply}
 use Rattle.segment_law.proofs.Booleans.{both_pass}
 use Rattle.segment_law.proofs.Records.{stands_on}
 use Rattle.reply_law.specs.Replies.{reply_of, left_by}
-use Rattle.segment_shared.specs.declared.call.Stored.{Stored}
+use Rattle.stored_calls.specs.declared.stored.Stored.{Stored}
 use Rattle.segment_shared.specs.Record.{Trail, start, step, trail_from, trail}
 use Rattle.segment_shared.specs.Rejoining.{StandsAfter}
 use Rattle.segment_shared.proofs.Holding.{stands-more, state-more}

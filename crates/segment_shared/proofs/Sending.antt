@@ -16,7 +16,7 @@ use Rattle.reply_law.specs.Replies.{reply_of, left_by, Follows, EachKnown, IsAns
 use Rattle.segment_rings.specs.declared.words.Submission.{Submission}
 use Rattle.segment_rings.specs.declared.words.Note.{Note}
 use Rattle.segment_rings.specs.Views.{SeatView, DoorView, popped_one}
-use Rattle.segment_shared.specs.declared.call.Stored.{Stored}
+use Rattle.stored_calls.specs.declared.stored.Stored.{Stored}
 use Rattle.segment_shared.specs.declared.call.Owed.{Owed}
 use Rattle.segment_shared.specs.Record.{accepted, owed_by, settle_notes, settle_owed, owe, Trail, trail, step}
 use Rattle.segment_shared.specs.Facts.{IdsFrom, HaveRoom, OwedWithin, PopsAccepted, PushesNotes, PushesGiven, Holds, NotedWithin}

@@ -14,7 +14,7 @@ use Rattle.segment_law.specs.declared.reply.Reply.TheVariants.{Sent, Refused}
 use Rattle.reply_law.specs.Replies.{reply_of}
 use Rattle.segment_rings.specs.declared.words.Submission.{Submission}
 use Rattle.segment_rings.specs.Views.{SeatView, popped_one}
-use Rattle.segment_shared.specs.declared.call.Stored.{Stored}
+use Rattle.stored_calls.specs.declared.stored.Stored.{Stored}
 use Rattle.segment_shared.specs.declared.call.Owed.{Owed}
 use Rattle.segment_shared.specs.declared.refused.Accepted.{Accepted}
 use Rattle.segment_shared.specs.declared.refused.Accepted.TheVariants as accepted

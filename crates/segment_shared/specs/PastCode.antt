@@ -3,8 +3,8 @@ use Rattle.std.specs.Prelude.{ℕ, List, Option, refl}
 use Rattle.std.specs.Coded.{Coded, code_by, coded×, coded_ℕ, coded_list, coded_option}
 use Rattle.segment_law.specs.Segment.{Segment}
 use Rattle.segment_core.specs.SegmentCode.{segment_code}
-use Rattle.segment_shared.specs.declared.call.Stored.{Stored}
-use Rattle.segment_shared.specs.contracts.call.Stored as stored
+use Rattle.stored_calls.specs.declared.stored.Stored.{Stored}
+use Rattle.stored_calls.specs.contracts.stored.Stored as stored
 use Rattle.segment_shared.specs.declared.calls.Piece.{Piece}
 use Rattle.segment_shared.specs.contracts.calls.Piece as piece
 use Rattle.segment_shared.specs.Past.{CallsView}

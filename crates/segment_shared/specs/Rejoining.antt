@@ -7,7 +7,7 @@ use Rattle.segment_law.specs.Headline.{Headline}
 use Rattle.segment_law.specs.declared.call.Call.{Call}
 use Rattle.segment_law.specs.declared.refusal.Refusal.{Refusal}
 use Rattle.segment_law.specs.declared.refusal.Refusal.TheVariants.{TraceFull, PiecesDontJoin}
-use Rattle.segment_shared.specs.declared.call.Stored.{Stored}
+use Rattle.stored_calls.specs.declared.stored.Stored.{Stored}
 use Rattle.segment_shared.specs.declared.calls.Piece.{Piece}
 use Rattle.segment_shared.specs.declared.refused.NotMade.{NotMade}
 use Rattle.segment_shared.specs.declared.refused.NotMade.TheVariants as not_made

@@ -1,22 +1,22 @@
 //! The calls that were made: those that are stored, and the pieces in which those before them were handed out.
-use crate::call::Stored;
 use crate::offer::MOST_CALLS;
 use segment_core::Image;
 use segment_rings::Outlet;
 use std::alloc::{AllocError, Global};
 use std::marker::Model;
+use stored_calls::{Stored, StoredCalls};
 
 /// The calls that were stored between two cuts, each with the client whose message it sends. The pieces of a segment are
 /// numbered from 1.
 #[derive(Debug, Drop)]
 pub struct Piece {
     pub number: u64,
-    pub calls: Vec<Stored>,
+    pub calls: StoredCalls,
 }
 
 /// All calls that were made. Those of a piece that was handed out are not kept: contracts alone see them.
 pub(crate) struct Calls {
-    stored: Vec<Stored>,
+    stored: StoredCalls,
     outlet: Outlet<Piece>,
     cuts: u64,
     before: u64,
@@ -24,7 +24,7 @@ pub(crate) struct Calls {
 }
 
 impl Model for Calls {
-    ghost use Rattle.std.specs.Prelude.{◌≡◌, ◌-◌, ◌+◌, ◌<◌, ◌≤◌, ◌^◌, ◌++◌, length, vec_len, vec_capacity};
+    ghost use Rattle.std.specs.Prelude.{◌≡◌, ◌+◌, ◌<◌, ◌≤◌, ◌^◌, ◌++◌, length};
     ghost use Rattle.segment_shared.specs.Past.{CallsView, joined, NumberedAfter};
     ghost use Rattle.segment_shared.specs.PastCode.{calls_code};
 
@@ -32,9 +32,9 @@ impl Model for Calls {
 
     ghost coded = { calls_code };
 
-    ghost view = { λ c. record { pieces = c.outlet; items = joined c.outlet ++ c.stored.items; image = c.image; spare = vec_capacity c.stored - vec_len c.stored } };
+    ghost view = { λ c. record { pieces = c.outlet; items = joined c.outlet ++ c.stored.items; image = c.image; spare = c.stored.spare } };
 
-    ghost invariant = { λ c. (c.cuts ≡ length c.outlet) × (c.before ≡ length (joined c.outlet)) × (c.before + 1000000 < 2 ^ 64) × (vec_len c.stored ≤ 1000000) × NumberedAfter 0 c.outlet };
+    ghost invariant = { λ c. (c.cuts ≡ length c.outlet) × (c.before ≡ length (joined c.outlet)) × (c.before + 1000000 < 2 ^ 64) × (length c.stored.items ≤ 1000000) × NumberedAfter 0 c.outlet };
 }
 
 impl Drop for Calls {
@@ -61,7 +61,7 @@ impl Calls {
     {
         let outlet = Outlet::new(alloc)?;
         Ok(Calls {
-            stored: Vec::new(alloc),
+            stored: StoredCalls::new(alloc),
             outlet,
             cuts: 0,
             before: 0,
@@ -99,10 +99,10 @@ impl Calls {
     }
 
     /// The calls that are stored.
-    pub(crate) fn stored(&self) -> &[Stored]
-        ensures { result.now ≡ since self.now.pieces self.now.items }
+    pub(crate) fn stored(&self) -> &StoredCalls
+        ensures { result.now.items ≡ since self.now.pieces self.now.items }
     {
-        self.stored.as_slice()
+        &self.stored
     }
 
     /// The segment as it stood at the last cut.
@@ -117,7 +117,7 @@ impl Calls {
         ensures room { IsTrue result ↔ (0 < self.now.spare) }
         ensures few { count_since self.now.pieces self.now.items < 1000000 → length self.now.items + 1 < 2 ^ 64 }
     {
-        self.stored.len() < self.stored.capacity()
+        self.stored.has_room()
     }
 
     /// Makes room for one call more.
@@ -128,10 +128,12 @@ impl Calls {
         ensures room { OnOk result (0 < self.new.spare) }
         ensures few { count_since self.old.pieces self.old.items < 1000000 → length self.old.items + 1 < 2 ^ 64 }
     {
-        self.stored.reserve(1)
+        self.stored.reserve()
     }
 
     /// Stores one call more, for which there is room.
+    // As a rule its caller says which call it is, and so how it is stored.
+    #[inline(always)]
     pub(crate) fn push_reserved(&mut self, call: Stored)
         requires room { 0 < self.old.spare }
         requires few { count_since self.old.pieces self.old.items < 1000000 }
@@ -163,7 +165,7 @@ impl Calls {
         self.before += self.stored.len() as u64;
         self.cuts += 1;
         self.image = Some(image);
-        let calls = std::mem::replace(&mut self.stored, Vec::new(alloc));
+        let calls = std::mem::replace(&mut self.stored, StoredCalls::new(alloc));
         self.outlet.hand_out(Piece {
             number: self.cuts,
             calls,

@@ -4,7 +4,6 @@ ghost use mathlib.Core.List.{IsPrefix};
 ghost use Rattle.segment_rings.specs.Ends.{closes};
 ghost use Rattle.segment_rings.specs.Views.{DoorView, closed_door};
 
-use crate::call::Stored;
 use crate::compare::{begins, copy_deliveries};
 use crate::live::Live;
 use crate::places::door_of;
@@ -14,6 +13,7 @@ use crate::tell::tell;
 use segment_core::{Call, PortId, Refusal, Reply};
 use segment_rings::{Delivery, Door, Inbox};
 use std::alloc::{AllocError, Global};
+use stored_calls::Stored;
 
 /// What a closed port was given and its inbox did not receive.
 #[derive(Debug, Drop)]

@@ -30,7 +30,7 @@ mod turns;
 mod wanted;
 mod workers;
 
-pub use call::{Owed, Stored, WorkerCall};
+pub use call::{Owed, WorkerCall};
 pub use calls::Piece;
 pub use closing::Closed;
 pub use ending::finish;
@@ -42,5 +42,6 @@ pub use report::{ClientReport, FinishRefused, InboxReport, Report};
 pub use segment_core::{Bytes, Event, Events, PortId, Refusal, Reply};
 pub use segment_rings::{Client, Delivery, Inbox, Note, Submission, SubmitRefused};
 pub use shared::{PortKept, SharedSegment};
+pub use stored_calls::{Stored, StoredCalls};
 pub use turns::Turn;
 pub use workers::{Gate, Tally, bus_worker, station_worker};

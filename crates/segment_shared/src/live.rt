@@ -2,7 +2,7 @@
 ghost use Rattle.std.specs.Prelude.{◌≡◌, ◌≤◌, map, true};
 ghost use Rattle.segment_shared.specs.LiveView.{is_station_of, clients_at, client_of};
 
-use crate::call::{Owed, Stored, WorkerCall};
+use crate::call::{Owed, WorkerCall};
 use crate::calls::Calls;
 use crate::offer::{Ready, make_ready, store};
 use crate::places::{Found, find_places};
@@ -16,6 +16,7 @@ use segment_law::Counts;
 use segment_rings::{Client, Door, Doorway, Inbox, Seat};
 use std::alloc::{AllocError, Global};
 use std::marker::Model;
+use stored_calls::{Stored, StoredCalls};
 
 /// How many clients a station has at most.
 pub const MOST_CLIENTS: usize = 16;
@@ -152,8 +153,8 @@ impl Live {
     }
 
     /// The calls that are stored since the last cut.
-    pub fn calls(&self) -> &[Stored]
-        ensures { result.now ≡ since_cut self.now }
+    pub fn calls(&self) -> &StoredCalls
+        ensures { result.now.items ≡ since_cut self.now }
     {
         self.calls.stored()
     }

@@ -1,5 +1,5 @@
 //! Whether a client's front submission can be accepted now.
-ghost use Rattle.std.specs.Prelude.{◌≡◌, ◌<◌, ◌≤◌, ◌+◌, ◌^◌, length, IfOk, OnOk, OnErr, slice_index_or, vec_len, vec_capacity};
+ghost use Rattle.std.specs.Prelude.{◌≡◌, ◌<◌, ◌≤◌, ◌+◌, ◌^◌, ℕ, length, IfOk, OnOk, OnErr, IsTrue, slice_index_or, vec_len, vec_capacity};
 ghost use Rattle.segment_rings.specs.Views.{SeatView, with_spare};
 ghost use Rattle.segment_rings.specs.declared.words.Submission.{Submission};
 ghost use Rattle.segment_shared.specs.Record.{owed_by};
@@ -8,11 +8,12 @@ ghost use Rattle.segment_shared.specs.Past.{count_since};
 ghost use Rattle.segment_shared.specs.Offers.{IsFrontIn, IsSendOf, IsCauseFor, IsReadyToSend, LacksRoomToSend, HasSpace, IsStored};
 ghost use Rattle.segment_shared.specs.declared.offer.Front.TheVariants as front;
 
-use crate::call::{Owed, Stored};
+use crate::call::Owed;
 use crate::calls::Calls;
 use segment_core::{Call, Refusal, Segment};
 use segment_rings::{Offer, Seat, Submission};
 use std::alloc::{AllocError, Global};
+use stored_calls::Stored;
 
 /// How many calls are stored at most since the last cut.
 pub const MOST_CALLS: usize = 1_000_000;
@@ -114,8 +115,50 @@ pub(crate) enum Ready {
     Send(Call),
 }
 
+// Whether a client has nothing to accept, as at most turns. What is owed is counted only where it has.
+fn has_nothing(seats: &mut Vec<Seat>, k: usize) -> bool
+    requires { k < length seats.old.items }
+    ensures same { SameSeats seats.old.items seats.new.items }
+    ensures nothing { IsTrue result → (owed stored : ℕ) → IsFrontIn seats.new.items k owed stored front.Empty }
+    ensures count { length seats.new.items ≡ length seats.old.items }
+{
+    let seat = &mut seats[k];
+    match seat.offer(0) {
+        Offer::Empty => true,
+        Offer::Owed => false,
+        Offer::Ready => false,
+    }
+}
+
 /// All that can fail before the front submission is sent. Memory is looked for only where nothing else stands against it.
 pub(crate) fn make_ready(
+    alloc: Global,
+    segment: &Segment,
+    calls: &mut Calls,
+    owed: &mut Vec<Owed>,
+    seats: &mut Vec<Seat>,
+    k: usize,
+) -> Result<Ready, AllocError>
+    requires { k < length seats.old.items }
+    ensures calls { calls.new.items ≡ calls.old.items }
+    ensures pieces { calls.new.pieces ≡ calls.old.pieces }
+    ensures image { calls.new.image ≡ calls.old.image }
+    ensures owed { owed.new.items ≡ owed.old.items }
+    ensures seats { SameSeats seats.old.items seats.new.items }
+    ensures ready { IfOk result (λ r. IsReadyToSend segment.now (count_since calls.old.pieces calls.old.items) owed.old.items seats.new.items k r) }
+    ensures space { IfOk result (λ r. HasSpace 0 calls.new.spare r × HasSpace (vec_len owed.new) (vec_capacity owed.new) r) }
+    ensures few { IfOk result (λ r. HasSpace (length calls.old.items + 1) (2 ^ 64) r) }
+    ensures count { length seats.new.items ≡ length seats.old.items }
+    ensures err { OnErr result (LacksRoomToSend segment.now (count_since calls.old.pieces calls.old.items) owed.old.items seats.new.items k) }
+{
+    if has_nothing(seats, k) {
+        return Ok(Ready::Empty);
+    }
+    make_front_ready(alloc, segment, calls, owed, seats, k)
+}
+
+// The same of a client that may have one.
+fn make_front_ready(
     alloc: Global,
     segment: &Segment,
     calls: &mut Calls,

@@ -1,16 +1,17 @@
 //! The pieces of a segment are joined again: the calls of its whole record.
-ghost use Rattle.std.specs.Prelude.{◌≡◌, ◌≤◌, ◌+◌, [], ◌++◌, length, map, IfOk, OnOk, IfErr, IfSome, IsTrue, ◌↔◌, List, vec_capacity};
+ghost use Rattle.std.specs.Prelude.{◌≡◌, ◌++◌, map, IfOk, OnOk, IfErr, IsTrue, ◌↔◌, List};
 ghost use Rattle.segment_law.specs.Segment.{are_addresses};
 ghost use Rattle.segment_shared.specs.Past.{joined, NumberedAfter};
+ghost use Rattle.stored_calls.specs.declared.stored.Stored.{Stored as StoredCall};
 ghost use Rattle.segment_shared.specs.Rejoining.{IsJoined, IsJoinCause, StandsAfter, call_in};
 
-use crate::call::Stored;
 use crate::calls::Piece;
 use crate::live::Live;
 use crate::step::{make, make_in_place};
 use pgn_ids::Address;
 use segment_core::{Call, NewRefused, Refusal, Segment, the_headline_holds};
 use std::alloc::{AllocError, Global};
+use stored_calls::{Stored, StoredCalls};
 
 /// The pieces come back. Without a refusal there was no memory.
 #[derive(Debug, Drop)]
@@ -49,13 +50,13 @@ pub fn rejoin(pieces: Vec<Piece>, live: &Live) -> Result<Vec<Call>, RejoinRefuse
             pieces,
         });
     }
-    let Ok((calls, stored)) = make_room(live.alloc, pieces.as_slice(), live.calls()) else {
+    let Ok(calls) = copy_all(live.alloc, pieces.as_slice(), live.calls()) else {
         return Err(RejoinRefused {
             refusal: None,
             pieces,
         });
     };
-    Ok(join(calls, pieces, stored))
+    Ok(calls)
 }
 
 // Whether pieces are numbered from 1.
@@ -81,17 +82,17 @@ fn replay(alloc: Global, addresses: &[Address], pieces: &[Piece]) -> Result<Segm
         Err(NewRefused::OutOfMemory) => return Err(AllocError),
     };
     for piece in pieces {
-        make_all(alloc, &mut segment, piece.calls.as_slice())?;
+        make_all(alloc, &mut segment, &piece.calls)?;
     }
     Ok(segment)
 }
 
 // Makes stored calls once more.
-fn make_all(alloc: Global, segment: &mut Segment, calls: &[Stored]) -> Result<(), AllocError>
-    ensures { (addresses : List Address) (made : List Stored) → StandsAfter addresses made segment.old → OnOk result (StandsAfter addresses (made ++ calls.now) segment.new) }
+fn make_all(alloc: Global, segment: &mut Segment, calls: &StoredCalls) -> Result<(), AllocError>
+    ensures { (addresses : List Address) (made : List StoredCall) → StandsAfter addresses made segment.old → OnOk result (StandsAfter addresses (made ++ calls.now.items) segment.new) }
 {
-    for stored in calls {
-        let call = stored.call.copy(alloc)?;
+    for at in 0..calls.len() {
+        let Stored { by: _, call } = calls.copy(alloc, at)?;
         if make_in_place(segment, &call) {
             continue;
         }
@@ -100,78 +101,25 @@ fn make_all(alloc: Global, segment: &mut Segment, calls: &[Stored]) -> Result<()
     Ok(())
 }
 
-// How many calls pieces have, where a count holds that.
-fn count_calls(pieces: &[Piece]) -> Option<usize>
-    ensures { IfSome result (λ n. n ≡ length (joined pieces.now)) }
+// Copies of the calls of pieces, one after another, and then of those that are stored.
+fn copy_all(alloc: Global, pieces: &[Piece], stored: &StoredCalls) -> Result<Vec<Call>, AllocError>
+    ensures { IfOk result (λ v. v.items ≡ map call_in (joined pieces.now ++ stored.now.items)) }
 {
-    let mut count = 0usize;
+    let mut calls = Vec::new(alloc);
     for piece in pieces {
-        count = count.checked_add(piece.calls.len())?;
+        copy_behind(alloc, &mut calls, &piece.calls)?;
     }
-    Some(count)
+    copy_behind(alloc, &mut calls, stored)?;
+    Ok(calls)
 }
 
-// A list for all calls of pieces and the stored ones, and copies of the stored ones.
-fn make_room(
-    alloc: Global,
-    pieces: &[Piece],
-    stored: &[Stored],
-) -> Result<(Vec<Call>, Vec<Call>), AllocError>
-    ensures empty { IfOk result (λ r. r.0.items ≡ []) }
-    ensures room { IfOk result (λ r. length (joined pieces.now) + length stored.now ≤ vec_capacity r.0) }
-    ensures copies { IfOk result (λ r. r.1.items ≡ map call_in stored.now) }
+// Copies of stored calls follow these.
+fn copy_behind(alloc: Global, calls: &mut Vec<Call>, stored: &StoredCalls) -> Result<(), AllocError>
+    ensures { OnOk result (calls.new.items ≡ calls.old.items ++ map call_in stored.now.items) }
 {
-    // More calls than a count holds are more than memory holds.
-    let Some(before) = count_calls(pieces) else {
-        return Err(AllocError);
-    };
-    let Some(all) = before.checked_add(stored.len()) else {
-        return Err(AllocError);
-    };
-    let calls = Vec::with_capacity(alloc, all)?;
-    let copies = copy_calls(alloc, stored)?;
-    Ok((calls, copies))
-}
-
-fn copy_calls(alloc: Global, stored: &[Stored]) -> Result<Vec<Call>, AllocError>
-    ensures { IfOk result (λ v. v.items ≡ map call_in stored.now) }
-{
-    let mut copies = Vec::with_capacity(alloc, stored.len())?;
-    for item in stored {
-        let call = item.call.copy(alloc)?;
-        copies.push(call)?;
+    for at in 0..stored.len() {
+        let Stored { by: _, call } = stored.copy(alloc, at)?;
+        calls.push(call)?;
     }
-    Ok(copies)
-}
-
-// The calls of pieces, one after another, and then these. It takes no memory.
-fn join(room: Vec<Call>, pieces: Vec<Piece>, stored: Vec<Call>) -> Vec<Call>
-    requires empty { room.items ≡ [] }
-    requires room { length (joined pieces.items) + length stored.items ≤ vec_capacity room }
-    ensures { result.items ≡ map call_in (joined pieces.items) ++ stored.items }
-{
-    let mut calls = room;
-    for piece in pieces {
-        move_calls(&mut calls, piece);
-    }
-    for call in stored {
-        calls.push_reserved(call);
-    }
-    calls
-}
-
-// The calls of a piece follow these.
-fn move_calls(calls: &mut Vec<Call>, piece: Piece)
-    requires { length calls.old.items + length piece.calls.items ≤ vec_capacity calls.old }
-    ensures items { calls.new.items ≡ calls.old.items ++ map call_in piece.calls.items }
-    ensures capacity { vec_capacity calls.new ≡ vec_capacity calls.old }
-{
-    let Piece {
-        number: _,
-        calls: stored,
-    } = piece;
-    for item in stored {
-        let Stored { by: _, call } = item;
-        calls.push_reserved(call);
-    }
+    Ok(())
 }

@@ -4,4 +4,4 @@ use Rattle.relay_setup.specs.Gateway.{pgn_of_port}
 use Rattle.relay_setup.proofs.routing.pgn_of_port.Given as goal
 
 abbrev pub invariant-loop-k : goal.invariant-loop-k
-invariant-loop-k l = pgn_of_port (map port_of (drop l.k l.inboxes)) (drop l.k l.calls) l.port ≡ pgn_of_port (map port_of l.inboxes) l.calls l.port
+invariant-loop-k l = pgn_of_port (map port_of (drop l.k l.inboxes)) (drop l.k l.calls.items) l.port ≡ pgn_of_port (map port_of l.inboxes) l.calls.items l.port

@@ -1,5 +1,5 @@
 use Rattle.std.proofs.Common.{◌≡◌, ℕ, ◌+◌, List, length, sym, ap, ◌∙◌, arith, length-append}
-use Rattle.segment_shared.specs.declared.call.Stored.{Stored}
+use Rattle.stored_calls.specs.declared.stored.Stored.{Stored}
 use Rattle.segment_shared.specs.Record.{accepted}
 use Rattle.segment_shared.specs.Past.{joined}
 use Rattle.segment_shared.specs.LiveView.{LiveView, Laws, since_cut}

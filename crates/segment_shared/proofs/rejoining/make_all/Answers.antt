@@ -1,4 +1,4 @@
-use Rattle.std.proofs.Common.{◌<◌, ◌++◌, [], length, take, sym, subst, arith}
+use Rattle.std.proofs.Common.{◌<◌, ◌++◌, [], length, take, refl, sym, subst, arith}
 use Rattle.segment_law.specs.Segment.{Segment}
 use Rattle.segment_law.specs.declared.reply.Reply.TheVariants.{Done}
 use Rattle.segment_shared.specs.Record.{trail}
@@ -6,22 +6,22 @@ use Rattle.segment_shared.specs.Rejoining.{StandsAfter}
 use Rattle.segment_shared.proofs.Replays.{next_more}
 use Rattle.segment_shared.proofs.rejoining.make_all.Goals as goal
 
-pub loop-stored-preserved-then-make_in_place : goal.loop-stored-preserved-then-make_in_place
-loop-stored-preserved-then-make_in_place c = λ addresses made h.
-    let xs = c.args.calls.now in
-    let i = c.loop-stored.stored-index in
+pub loop-at-preserved-then-make_in_place : goal.loop-at-preserved-then-make_in_place
+loop-at-preserved-then-make_in_place c = λ addresses made h.
+    let xs = c.args.calls.now.items in
+    let i = c.loop-at.at in
     let l : i < length xs = omega arith in
-    let at = c.loop-stored.invariant addresses made h in
+    let at = c.loop-at.invariant addresses made h in
     let stands = c.if-make_in_place.ensures.stands addresses (trail addresses (made ++ take i xs)).steps at.0 in
-    next_more addresses made xs i c.stored-item.result c.loop-stored.segment c.make_in_place.new.segment c.in_ok-call.call (Done []) l c.stored-item.is at c.in_ok-call.ensures
+    next_more addresses made xs i c.in_ok-call.field-0 c.loop-at.segment c.make_in_place.new.segment c.in_ok-call.field-0.call (Done []) l (c.in_ok-call.ensures c.in_ok-call.field-0) at refl
     (sym c.if-make_in_place.ensures.reply) c.if-make_in_place.ensures.after stands
 
-pub loop-stored-preserved : goal.loop-stored-preserved
-loop-stored-preserved c = λ addresses made h.
-    let xs = c.args.calls.now in
-    let i = c.loop-stored.stored-index in
+pub loop-at-preserved : goal.loop-at-preserved
+loop-at-preserved c = λ addresses made h.
+    let xs = c.args.calls.now.items in
+    let i = c.loop-at.at in
     let l : i < length xs = omega arith in
-    let at = subst (λ (s : Segment). StandsAfter addresses (made ++ take i xs) s) (sym c.if-make_in_place.ensures.other) (c.loop-stored.invariant addresses made h) in
+    let at = subst (λ (s : Segment). StandsAfter addresses (made ++ take i xs) s) (sym c.if-make_in_place.ensures.other) (c.loop-at.invariant addresses made h) in
     let stands = c.in_ok-make.ensures.stands addresses (trail addresses (made ++ take i xs)).steps at.0 in
-    next_more addresses made xs i c.stored-item.result c.make_in_place.new.segment c.make.new.segment c.in_ok-call.call c.in_ok-make.field-0 l c.stored-item.is at c.in_ok-call.ensures
+    next_more addresses made xs i c.in_ok-call.field-0 c.make_in_place.new.segment c.make.new.segment c.in_ok-call.field-0.call c.in_ok-make.field-0 l (c.in_ok-call.ensures c.in_ok-call.field-0) at refl
     c.in_ok-make.ensures.reply c.in_ok-make.ensures.after stands

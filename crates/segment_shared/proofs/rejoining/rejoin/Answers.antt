@@ -1,9 +1,7 @@
 use Rattle.std.proofs.Common.{◌≡◌, List, ◌++◌, length, map, sym, ap, ◌∙◌, subst, arith}
-use Rattle.std.proofs.lemmas.List.{map-append}
 use Rattle.pgn_ids.specs.declared.address.Address.{Address}
 use Rattle.segment_law.specs.Record.{StandsAt}
-use Rattle.segment_law.specs.declared.call.Call.{Call}
-use Rattle.segment_shared.specs.declared.call.Stored.{Stored}
+use Rattle.stored_calls.specs.declared.stored.Stored.{Stored}
 use Rattle.segment_shared.specs.declared.calls.Piece.{Piece}
 use Rattle.segment_shared.specs.Record.{trail}
 use Rattle.segment_shared.specs.Past.{joined, NumberedAfter}
@@ -28,10 +26,11 @@ returns-clause-joined c =
     subst (λ (xs : List Stored). StandsAt v.addresses (trail v.addresses xs).steps (trail v.addresses xs).state) (sym law.past.whole) law.stands in
     let stands : StandsAt v.addresses (trail v.addresses (all_calls v ps)).steps (trail v.addresses v.calls).state =
     subst (λ (xs : List Stored). StandsAt v.addresses (trail v.addresses (joined ps ++ ys)).steps (trail v.addresses xs).state) law.past.whole (same_after v.addresses (joined ps) (joined v.pieces) ys c.in-Ok.segment at same whole) in
-    let copies = c.in-Ok-make_room.ensures.copies ∙ ap (λ (xs : List Stored). map call_in xs) c.calls.ensures in
+    let copies : c.in-Ok-copy_all.calls.items ≡ map call_in (joined ps ++ ys) =
+    c.in-Ok-copy_all.ensures ∙ ap (λ (qs : List Piece). map call_in (joined qs ++ c.calls.result.now.items)) c.as_slice-4.ensures.value ∙ ap (λ (xs : List Stored). map call_in (joined ps ++ xs)) c.calls.ensures in
     record {
       join = ((count, numbered), same);
-      calls = c.join.ensures ∙ ap (λ (cs : List Call). map call_in (joined ps) ++ cs) copies ∙ sym (map-append call_in (joined ps) ys);
+      calls = copies;
       stands = stands;
       headline = c.the_headline_holds.ensures _ _ _ stands;
     }

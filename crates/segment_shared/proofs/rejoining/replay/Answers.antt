@@ -1,7 +1,7 @@
 use Rattle.std.proofs.Common.{◌≡◌, ◌+◌, ◌<◌, List, [], ◌∷◌, ◌++◌, length, take, sym, ap, ◌∙◌, subst, arith}
 use Rattle.std.proofs.lemmas.List.{take_more}
 use Rattle.segment_law.specs.Record.{StandsAt}
-use Rattle.segment_shared.specs.declared.call.Stored.{Stored}
+use Rattle.stored_calls.specs.declared.stored.Stored.{Stored}
 use Rattle.segment_shared.specs.declared.calls.Piece.{Piece}
 use Rattle.segment_shared.specs.Record.{Trail}
 use Rattle.segment_shared.specs.Past.{joined}
@@ -26,7 +26,7 @@ loop-piece-preserved c =
     let p = c.piece-item.result in
     let next = c.make_all.new.segment in
     let l : i < length ps = omega arith in
-    let done : StandsAfter addresses (joined (take i ps) ++ c.as_slice.result.now) next = c.in_ok-make_all.ensures addresses (joined (take i ps)) c.loop-piece.invariant in
+    let done : StandsAfter addresses (joined (take i ps) ++ p.calls.items) next = c.in_ok-make_all.ensures addresses (joined (take i ps)) c.loop-piece.invariant in
     let more : take (i + 1) ps ≡ take i ps ++ p ∷ [] = take_more ps i p l ∙ ap (λ (q : Piece). take i ps ++ q ∷ []) (sym c.piece-item.is) in
-    let all : joined (take i ps) ++ c.as_slice.result.now ≡ joined (take (i + 1) ps) = ap (λ (xs : List Stored). joined (take i ps) ++ xs) c.as_slice.ensures.value ∙ sym (joined_push (take i ps) p) ∙ ap joined (sym more) in
+    let all : joined (take i ps) ++ p.calls.items ≡ joined (take (i + 1) ps) = sym (joined_push (take i ps) p) ∙ ap joined (sym more) in
     subst (λ (xs : List Stored). StandsAfter addresses xs next) all done

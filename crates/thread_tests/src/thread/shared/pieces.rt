@@ -1,26 +1,23 @@
 //! A segment that is cut, and its pieces joined again.
 use super::exchange;
 use super::steps::*;
-use segment_shared::{Accepted, Client, Inbox, Live, Piece, Refusal, Stored, WorkerCall, rejoin};
+use segment_shared::{
+    Accepted, Client, Inbox, Live, MOST_CALLS, Piece, Refusal, StoredCalls, WorkerCall, rejoin,
+};
 use std::alloc::{AllocError, Global};
 use std::process::Abort;
 
 // The same piece once more.
 fn again(rt: &impl Abort, alloc: Global, piece: &Piece) -> Piece {
-    let mut calls = Vec::new(alloc);
-    for stored in &piece.calls {
-        got(rt, calls.push(copy_of(rt, alloc, stored)));
+    let mut calls = StoredCalls::new(alloc);
+    for at in 0..piece.calls.len() {
+        got(rt, calls.reserve());
+        holds(rt, calls.len() < MOST_CALLS);
+        calls.push_reserved(got(rt, piece.calls.copy(alloc, at)));
     }
     Piece {
         number: piece.number,
         calls,
-    }
-}
-
-fn copy_of(rt: &impl Abort, alloc: Global, stored: &Stored) -> Stored {
-    Stored {
-        by: stored.by,
-        call: got(rt, stored.call.copy(alloc)),
     }
 }
 
@@ -59,12 +56,18 @@ fn come_back(rt: &impl Abort, live: &Live, pieces: Vec<Piece>) {
     same(rt, joined(rt, live, pieces), Err(count));
 }
 
+// Whose message a call sends that is kept whole.
+fn by_of(rt: &impl Abort, calls: &StoredCalls, at: usize) -> Option<u64> {
+    holds(rt, at < calls.len());
+    got(rt, calls.whole(at).ok_or("kept short")).by
+}
+
 // The opening of a port and a message of the first client are cut off.
 fn is_first(rt: &impl Abort, piece: &Piece) {
     same(rt, piece.number, 1);
     holds(rt, piece.calls.len() == 2);
-    same(rt, piece.calls[0].by, None);
-    same(rt, piece.calls[1].by, Some(0));
+    same(rt, by_of(rt, &piece.calls, 0), None);
+    same(rt, by_of(rt, &piece.calls, 1), Some(0));
 }
 
 // The pieces of a whole exchange, of 16 calls behind the first piece.

@@ -10,7 +10,7 @@ use Rattle.segment_law.specs.declared.reply.Reply.TheVariants.{Opened, Sent, Ref
 use Rattle.reply_law.specs.Replies.{reply_of, left_by, IsRefusal, IsAnsweredBy, Follows}
 use Rattle.segment_law.specs.declared.refusal.Refusal.TheVariants.{TraceFull}
 use Rattle.segment_rings.specs.Views.{SeatView, new_seat, popped_one}
-use Rattle.segment_shared.specs.declared.call.Stored.{Stored}
+use Rattle.stored_calls.specs.declared.stored.Stored.{Stored}
 use Rattle.segment_shared.specs.declared.call.Owed.{Owed}
 use Rattle.segment_shared.specs.declared.calls.Piece.{Piece}
 use Rattle.segment_shared.specs.declared.offer.Ready.{Ready}

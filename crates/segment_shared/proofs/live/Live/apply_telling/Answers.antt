@@ -8,7 +8,7 @@ use Rattle.segment_law.specs.declared.reply.Reply.{Reply}
 use Rattle.segment_law.specs.declared.reply.Reply.TheVariants.{Done, Refused}
 use Rattle.reply_law.specs.Replies.{reply_of, left_by, opens, IsRefusal, IsAnsweredBy, Follows}
 use Rattle.segment_rings.specs.Views.{SeatView}
-use Rattle.segment_shared.specs.declared.call.Stored.{Stored}
+use Rattle.stored_calls.specs.declared.stored.Stored.{Stored}
 use Rattle.segment_shared.specs.declared.call.Owed.{Owed}
 use Rattle.segment_shared.specs.declared.wanted.Wanted.{Wanted}
 use Rattle.segment_shared.specs.Words.{call_of, wanted_by}

@@ -6,7 +6,7 @@ use Rattle.segment_law.specs.declared.reply.Reply.{Reply}
 use Rattle.segment_law.specs.declared.reply.Reply.TheVariants.{Done, Refused}
 use Rattle.reply_law.specs.Replies.{reply_of, IsRefusal, IsAnsweredBy, Follows}
 use Rattle.segment_rings.specs.Views.{SeatView}
-use Rattle.segment_shared.specs.declared.call.Stored.{Stored}
+use Rattle.stored_calls.specs.declared.stored.Stored.{Stored}
 use Rattle.segment_shared.specs.declared.call.Owed.{Owed}
 use Rattle.segment_shared.specs.Record.{settle_notes, settle_owed, trail}
 use Rattle.segment_shared.specs.Facts.{IdsFrom, HaveRoom, OwedWithin, note_all}

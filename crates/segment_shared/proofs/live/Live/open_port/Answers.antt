@@ -9,7 +9,7 @@ use Rattle.segment_law.specs.declared.reply.Reply.TheVariants.{Opened}
 use Rattle.segment_core.specs.Answers.{refusal_of}
 use Rattle.reply_law.specs.Replies.{reply_of, IsRefusal, IsAnsweredBy, Follows}
 use Rattle.segment_rings.specs.Views.{DoorView, new_door}
-use Rattle.segment_shared.specs.declared.call.Stored.{Stored}
+use Rattle.stored_calls.specs.declared.stored.Stored.{Stored}
 use Rattle.segment_shared.specs.Record.{trail}
 use Rattle.segment_shared.specs.declared.refused.NotMade.{NotMade}
 use Rattle.segment_shared.specs.declared.refused.NotMade.TheVariants as not_made
