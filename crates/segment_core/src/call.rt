@@ -169,7 +169,7 @@ impl Segment {
     }
 
     // The same of a Send.
-    #[inline(never)]
+    #[inline]
     #[tactic(auto, unfolding(segment_law::specs::Calls::called))]
     fn apply_send(
         &mut self,

@@ -15,6 +15,7 @@ use segment_law::{Refusal, Reply};
 
 impl Segment {
     /// Sends a message.
+    #[inline(never)]
     pub(crate) fn send(
         &mut self,
         from: Address,

@@ -29,6 +29,7 @@ impl Segment {
     }
 
     /// The same, where what it tells is put down in a place in which nothing was told yet.
+    #[inline(always)]
     pub(crate) fn take_telling(
         &mut self,
         station: Address,
@@ -38,19 +39,18 @@ impl Segment {
         requires { told.old ≡ [] }
         ensures { IsAnswerBy (λ _. Done told.new) (at_address self.old station (takes self.old room)) self.old self.new result }
     {
-        let Some(place) = self.place_of(station) else {
+        let Some(at) = self.place_of(station) else {
             return Err(Stop::Refused(Refusal::NoSuchStation));
         };
-        let Some(frame) = self.next_frame(place) else {
+        let Some(frame) = self.bus.peek(at) else {
             return Err(Stop::Refused(Refusal::NothingToTake));
         };
         let now = self.clock.now();
-        let is_malformed = match self.stations[place].take_telling(&frame, room, now, told) {
+        let is_malformed = match self.stations[at].take_telling(frame, room, now, told) {
             Ok(is_malformed) => is_malformed,
             Err(cause) => return Err(stop_of(cause)),
         };
-        let _taken = self.bus.next(place);
-        self.bus.release();
+        self.bus.pass(at);
         self.looked(is_malformed, told);
         Ok(())
     }

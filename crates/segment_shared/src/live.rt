@@ -172,24 +172,35 @@ impl Live {
         ensures err { OnErr result (SameLive self.old self.new) }
         ensures not_refused { OnErr result (LacksMemory self.old call) }
     {
-        if self.calls.is_full() {
-            return Ok(Reply::Refused(Refusal::TraceFull));
-        }
         if self.apply_in_place(&call) {
             return Ok(Reply::Done(Events::none(self.alloc)));
+        }
+        self.apply_tried(call)
+    }
+
+    /// Makes a call as `apply` does, but doesn't try to make it in place first: for who has tried that by `apply_in_place`.
+    #[inline(always)]
+    pub(crate) fn apply_tried(&mut self, call: WorkerCall) -> Result<Reply, AllocError>
+        ensures full { 1000000 ≤ stored_calls self.old → (result ≡ Ok (Refused TraceFull)) × (self.new ≡ self.old) }
+        ensures applied { stored_calls self.old < 1000000 → IfOk result (λ r. (room : Bool) × Applied self.old self.new call r room) }
+        ensures err { OnErr result (SameLive self.old self.new) }
+        ensures not_refused { OnErr result (LacksMemory self.old call) }
+    {
+        if self.calls.is_full() {
+            return Ok(Reply::Refused(Refusal::TraceFull));
         }
         self.apply_telling(call)
     }
 
-    // A call that tells nothing and ends nothing is made and stored, where the list of calls has its place. Any other changes
-    // nothing.
+    /// Makes and stores a call that tells nothing and ends nothing, where the list of calls has its place, and answers whether it did:
+    /// faster than `apply`, since no reply is made. Any other changes nothing.
     #[inline(always)]
-    fn apply_in_place(&mut self, call: &WorkerCall) -> bool
-        requires { stored_calls self.old < 1000000 }
+    pub(crate) fn apply_in_place(&mut self, call: &WorkerCall) -> bool
+        ensures few { OnTrue result (stored_calls self.old < 1000000) }
         ensures applied { OnTrue result (Applied self.old self.new call.now (Done []) true) }
         ensures other { OnFalse result (self.new ≡ self.old) }
     {
-        if !self.calls.has_room() {
+        if self.calls.is_full() || !self.calls.has_room() {
             return false;
         }
         let asked = call.with_room(true);
