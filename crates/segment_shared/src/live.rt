@@ -200,7 +200,10 @@ impl Live {
         ensures applied { OnTrue result (Applied self.old self.new call.now (Done []) true) }
         ensures other { OnFalse result (self.new ≡ self.old) }
     {
-        if self.calls.is_full() || !self.calls.has_room() {
+        if self.calls.is_full() {
+            return false;
+        }
+        if !self.calls.has_room() {
             return false;
         }
         let asked = call.with_room(true);

@@ -1,11 +1,11 @@
-use Rattle.std.proofs.Common.{◌≡◌, ◌<◌, ◌∷◌, ◌++◌, [], length, true, None, sym, ap, ◌∙◌, subst, ◌^◌, ◌+◌}
+use Rattle.std.proofs.Common.{◌≡◌, ◌<◌, ◌∷◌, ◌++◌, [], length, true, None, refl, sym, ap, ◌∙◌, subst, ◌^◌, ◌+◌}
 use Rattle.segment_law.specs.Record.{StandsAt}
 use Rattle.segment_law.specs.declared.call.Call.{Call}
 use Rattle.segment_law.specs.declared.reply.Reply.TheVariants.{Done}
 use Rattle.reply_law.specs.Replies.{reply_of, left_by, Follows}
 use Rattle.segment_shared.specs.Words.{call_of}
 use Rattle.segment_shared.specs.Record.{trail}
-use Rattle.segment_shared.specs.LiveView.{LiveView, stored, keep, stored_calls}
+use Rattle.segment_shared.specs.LiveView.{stored, keep}
 use Rattle.segment_shared.proofs.Quiet.{holds_untold, applied_untold}
 use Rattle.segment_shared.proofs.live.Live.apply_in_place.Goals as goal
 
@@ -17,7 +17,7 @@ invariant_of-self-2 c =
     let next = c.make_in_place.new.segment in
     let call = call_of c.args.call.now true in
     let steps = (trail addrs xs).steps in
-    let few : length xs + 1 < 2 ^ 64 = c.has_room.ensures.few (subst (λ (v : LiveView). stored_calls v < 1000000) (sym c.self.view_is) c.requires) in
+    let few : length xs + 1 < 2 ^ 64 = c.has_room.ensures.few (c.if-is_full.ensures.few refl) in
     let same : c.with_room-asked.result ≡ call = c.with_room-asked.ensures in
     let r : reply_of st call ≡ Done [] = ap (reply_of st) (sym same) ∙ c.if-not-make_in_place.ensures.reply in
     let left : next ≡ left_by st call = c.if-not-make_in_place.ensures.after ∙ ap (left_by st) same in
