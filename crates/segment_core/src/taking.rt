@@ -29,7 +29,6 @@ impl Segment {
     }
 
     /// The same, where what it tells is put down in a place in which nothing was told yet.
-    #[inline(always)]
     pub(crate) fn take_telling(
         &mut self,
         station: Address,
