@@ -34,6 +34,10 @@ refused_by cause = reply_alone (line (refusal_text cause))
 abbrev pub counted : Counts → Telling
 counted counts = reply_alone (counts_line counts)
 
+-- a call found no memory
+abbrev pub without_memory : Telling
+without_memory = reply_alone (line (codes "no memory"))
+
 -- a tick is a thousand microseconds; the last time of a log is that of 2 ^ 64 - 1 microseconds
 abbrev pub log_time : ℕ → ℕ
 log_time now = min (now * 1000) (2 ^ 64 - 1)

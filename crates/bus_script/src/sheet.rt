@@ -1,6 +1,6 @@
 //! Where what the lines of a script tell is shown.
 ghost use Rattle.std.specs.Prelude.{◌≡◌, ◌++◌, [], List, ℕ, Some, OnOk};
-ghost use Rattle.bus_script.specs.Telling.{Telling, reply_alone, made_of, refused_by, counted};
+ghost use Rattle.bus_script.specs.Telling.{Telling, reply_alone, made_of, refused_by, counted, without_memory};
 ghost use Rattle.bus_script.specs.Script.{Obeyed, told_of, drove};
 
 use bus_frame::Frame;
@@ -54,7 +54,9 @@ pub trait Sheet {
         ensures log { OnOk result (log_shown self.new ≡ log_shown self.old ++ in_log (told_of now put reply)) };
 
     /// A call found no memory.
-    fn show_no_memory(&mut self) -> Result<(), AllocError>;
+    fn show_no_memory(&mut self) -> Result<(), AllocError>
+        ensures text { OnOk result (text_shown self.new ≡ text_shown self.old ++ in_text without_memory) }
+        ensures log { OnOk result (log_shown self.new ≡ log_shown self.old ++ in_log without_memory) };
 
     /// Drives a lane, and shows what that does.
     fn drive(

@@ -1,6 +1,8 @@
 -- Texts printed one behind the other: those of the numbers below one are the text of each in turn.
-use Rattle.std.proofs.Common.{◌≡◌, ℕ, ◌+◌, ◌≤◌, suc, List, ◌++◌, refl, sym, ◌∙◌, ap, append_assoc, arith}
-use Rattle.std.proofs.lemmas.List.{append-nil}
+use Rattle.std.proofs.Common.{◌≡◌, ℕ, ◌+◌, ◌<◌, ◌≤◌, suc, List, [], ◌∷◌, ◌++◌, length, take, get_or, refl, sym, ◌∙◌, ap, append_assoc, arith}
+use Rattle.std.specs.List.{flat_map}
+use Rattle.std.proofs.lemmas.Grind.{flat_map-append}
+use Rattle.std.proofs.lemmas.List.{append-nil, take_more}
 use Rattle.segment_report.specs.Texts.{below}
 
 -- nothing is printed yet
@@ -22,3 +24,10 @@ last_put old mid new n top last text below_top above_top is h k =
     let e : suc last ≡ top + 1 = omega (arith, is) in
     let f : n ≡ top = omega (arith, below_top, above_top) in
     rw e (more_put old mid new top text (h ∙ ap (λ m. old ++ below m text) f) k)
+
+-- texts of the elements of a list, one more
+pub one_put : {X : Type 0} (text : X → List ℕ) (xs : List X) (i : ℕ) (x : X) (old mid new : List ℕ) → i < length xs → mid ≡ old ++ flat_map text (take i xs) → new ≡ mid ++ text (get_or xs i x) → new ≡ old ++ flat_map text (take (i + 1) xs)
+one_put text xs i x old mid new l h k =
+    let one : flat_map text (take (i + 1) xs) ≡ flat_map text (take i xs) ++ text (get_or xs i x) =
+    ap (flat_map text) (take_more xs i x l) ∙ flat_map-append text (take i xs) (get_or xs i x ∷ []) ∙ ap (λ v. flat_map text (take i xs) ++ v) (append-nil (text (get_or xs i x))) in
+    k ∙ ap (λ v. v ++ text (get_or xs i x)) h ∙ append_assoc old (flat_map text (take i xs)) (text (get_or xs i x)) ∙ ap (λ v. old ++ v) (sym one)

@@ -1,1 +1,2 @@
 pub mod Belows
+pub mod Knowns

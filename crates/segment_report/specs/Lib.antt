@@ -1,4 +1,5 @@
 pub mod Texts
 pub mod Noted
+pub mod Known
 pub mod Names
 pub mod Ending

@@ -1,7 +1,10 @@
 //! The text that is printed once the threads have ended.
-ghost use Rattle.std.specs.Prelude.{◌≡◌, ◌++◌, OnOk, IfOk};
+ghost use Rattle.std.specs.Prelude.{◌≡◌, ◌++◌, OnOk, IfOk, IfErr};
+ghost use Rattle.script_runs.specs.declared.ending.Lost.TheVariants.{NotThisSegment};
 ghost use Rattle.segment_shared.specs.Record.{trail};
 ghost use Rattle.segment_report.specs.Ending.{Came, end_text};
+ghost use Rattle.segment_report.specs.Known.{AreKnown, IsThisSegment};
+ghost use Rattle.segment_report.specs.Noted.{HasRunOut};
 
 use crate::text::{are_same, has_run_out, print_clients, print_ports};
 use pgn_ids::Address;
@@ -21,7 +24,9 @@ fn print_end(
     ports: &[PortId],
     ran_out: bool,
 ) -> Result<(), Lost>
-    ensures { OnOk result (out.new.items ≡ out.old.items ++ end_text stations.now ports.now ran_out (trail live.now.addresses live.now.calls)) }
+    ensures text { OnOk result (out.new.items ≡ out.old.items ++ end_text stations.now ports.now ran_out (trail live.now.addresses live.now.calls)) }
+    ensures known { OnOk result (AreKnown stations.now ports.now live.now) }
+    ensures unknown { IfErr result (λ lost. lost ≡ NotThisSegment → AreKnown stations.now ports.now live.now → ⊥) }
 {
     print_ports(out, live, ports)?;
     print_clients(out, live, stations)?;
@@ -34,7 +39,7 @@ fn print_end(
 /// The text of what the threads leave, where it is a segment of these stations that has these ports and a client of each station.
 /// The turns ran out unless each message has its outcome and the bus was drained.
 ///
-/// `NotThisSegment` where it is another segment, `OutOfMemory` where memory was refused.
+/// `NotThisSegment` where it is another segment, and only there; `OutOfMemory` where memory was refused.
 pub fn text_of(
     alloc: Global,
     live: &Live,
@@ -43,7 +48,10 @@ pub fn text_of(
     messages: &[Message],
     drained: bool,
 ) -> Result<Told, Lost>
-    ensures { IfOk result (λ told. Came stations.now ports.now messages.now told.ran_out told.text.items live.now) }
+    ensures came { IfOk result (λ told. Came stations.now ports.now messages.now told.ran_out told.text.items live.now) }
+    ensures ran_out { IfOk result (λ told. HasRunOut told.ran_out stations.now messages.now drained live.now) }
+    ensures known { OnOk result (IsThisSegment stations.now ports.now live.now) }
+    ensures unknown { IfErr result (λ lost. lost ≡ NotThisSegment → IsThisSegment stations.now ports.now live.now → ⊥) }
 {
     if !are_same(live.addresses(), stations) {
         return Err(Lost::NotThisSegment);

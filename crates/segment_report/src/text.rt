@@ -1,8 +1,11 @@
 //! The text of what threads leave of a segment.
-ghost use Rattle.std.specs.Prelude.{◌≡◌, ◌++◌, ◌==◌, suc, OnOk, IsTrue, true, false};
+ghost use Rattle.std.specs.Prelude.{◌≡◌, ◌++◌, ◌==◌, ◌<◌, ◌↔◌, suc, length, OnOk, IfErr, IsTrue};
+ghost use Rattle.script_runs.specs.declared.ending.Lost.TheVariants.{NotThisSegment};
 ghost use Rattle.segment_shared.specs.Record.{trail, given, notes_of};
+ghost use Rattle.segment_shared.specs.Reports.{HasPort};
 ghost use Rattle.segment_report.specs.Texts.{below, given_lines, port_lines, ports_at, numbered_lines, highest, outcome_lines, clients_at};
-ghost use Rattle.segment_report.specs.Noted.{count_from, all_noted};
+ghost use Rattle.segment_report.specs.Known.{ArePorts, ArePortsAt, HaveClients, HaveClientsAt};
+ghost use Rattle.segment_report.specs.Noted.{count_from, HasRunOut};
 
 use pgn_ids::Address;
 use port_table::PortId;
@@ -17,7 +20,8 @@ const ADDRESSES: u16 = 256;
 
 // Whether an address is this number.
 fn is_at(address: Address, number: u16) -> bool
-    ensures { result ≡ (address.0 == number) }
+    ensures value { result ≡ (address.0 == number) }
+    ensures small { address.0 < 256 }
 {
     u16::from(address.0) == number
 }
@@ -75,7 +79,9 @@ fn print_deliveries(out: &mut Vec<u8>, port: PortId, given: &[Delivery]) -> Resu
 // A port, and what it was given.
 #[tactic(auto, unfolding(crate::specs::Texts::port_lines))]
 fn print_given_to(out: &mut Vec<u8>, live: &Live, port: PortId) -> Result<(), Lost>
-    ensures { OnOk result (out.new.items ≡ out.old.items ++ port_lines port (given port (trail live.now.addresses live.now.calls).events)) }
+    ensures text { OnOk result (out.new.items ≡ out.old.items ++ port_lines port (given port (trail live.now.addresses live.now.calls).events)) }
+    ensures known { OnOk result (HasPort live.now.ports port) }
+    ensures unknown { IfErr result (λ lost. lost ≡ NotThisSegment → HasPort live.now.ports port → ⊥) }
 {
     let Some(given) = live.given_to(port) else {
         return Err(Lost::NotThisSegment);
@@ -92,7 +98,9 @@ fn print_ports_at(
     ports: &[PortId],
     station: u16,
 ) -> Result<(), Lost>
-    ensures { OnOk result (out.new.items ≡ out.old.items ++ ports_at station ports.now (trail live.now.addresses live.now.calls)) }
+    ensures text { OnOk result (out.new.items ≡ out.old.items ++ ports_at station ports.now (trail live.now.addresses live.now.calls)) }
+    ensures known { OnOk result (ArePortsAt station live.now.ports ports.now) }
+    ensures unknown { IfErr result (λ lost. lost ≡ NotThisSegment → ArePorts live.now.ports ports.now → ⊥) }
 {
     for port in ports {
         if is_at(port.station, station) {
@@ -108,7 +116,9 @@ fn print_ports_at(
 /// `NotThisSegment` where one of them is no port of the segment, `OutOfMemory` where memory was refused; what the buffer holds then is
 /// not said.
 pub fn print_ports(out: &mut Vec<u8>, live: &Live, ports: &[PortId]) -> Result<(), Lost>
-    ensures { OnOk result (out.new.items ≡ out.old.items ++ below 256 (λ station. ports_at station ports.now (trail live.now.addresses live.now.calls))) }
+    ensures text { OnOk result (out.new.items ≡ out.old.items ++ below 256 (λ station. ports_at station ports.now (trail live.now.addresses live.now.calls))) }
+    ensures known { OnOk result (ArePorts live.now.ports ports.now) }
+    ensures unknown { IfErr result (λ lost. lost ≡ NotThisSegment → ArePorts live.now.ports ports.now → ⊥) }
 {
     for station in 0..ADDRESSES {
         print_ports_at(out, live, ports, station)?;
@@ -174,7 +184,9 @@ fn print_outcomes(out: &mut Vec<u8>, from: Address, notes: &[Note]) -> Result<()
 }
 
 fn print_client(out: &mut Vec<u8>, live: &Live, client: u64, from: Address) -> Result<(), Lost>
-    ensures { OnOk result (out.new.items ≡ out.old.items ++ outcome_lines from (notes_of client (trail live.now.addresses live.now.calls).noted)) }
+    ensures text { OnOk result (out.new.items ≡ out.old.items ++ outcome_lines from (notes_of client (trail live.now.addresses live.now.calls).noted)) }
+    ensures known { OnOk result (client < length live.now.clients) }
+    ensures unknown { IfErr result (λ lost. lost ≡ NotThisSegment → client < length live.now.clients → ⊥) }
 {
     let Some(notes) = live.notes_of(client) else {
         return Err(Lost::NotThisSegment);
@@ -190,7 +202,9 @@ fn print_clients_at(
     stations: &[Address],
     station: u16,
 ) -> Result<(), Lost>
-    ensures { OnOk result (out.new.items ≡ out.old.items ++ clients_at station 0 stations.now (trail live.now.addresses live.now.calls)) }
+    ensures text { OnOk result (out.new.items ≡ out.old.items ++ clients_at station 0 stations.now (trail live.now.addresses live.now.calls)) }
+    ensures known { OnOk result (HaveClientsAt station live.now.clients stations.now) }
+    ensures unknown { IfErr result (λ lost. lost ≡ NotThisSegment → HaveClients live.now.clients stations.now → ⊥) }
 {
     for (client, address) in stations.iter().enumerate() {
         if is_at(*address, station) {
@@ -205,7 +219,9 @@ fn print_clients_at(
 ///
 /// `NotThisSegment` where one of them has none, `OutOfMemory` where memory was refused; what the buffer holds then is not said.
 pub fn print_clients(out: &mut Vec<u8>, live: &Live, stations: &[Address]) -> Result<(), Lost>
-    ensures { OnOk result (out.new.items ≡ out.old.items ++ below 256 (λ station. clients_at station 0 stations.now (trail live.now.addresses live.now.calls))) }
+    ensures text { OnOk result (out.new.items ≡ out.old.items ++ below 256 (λ station. clients_at station 0 stations.now (trail live.now.addresses live.now.calls))) }
+    ensures known { OnOk result (HaveClients live.now.clients stations.now) }
+    ensures unknown { IfErr result (λ lost. lost ≡ NotThisSegment → HaveClients live.now.clients stations.now → ⊥) }
 {
     for station in 0..ADDRESSES {
         print_clients_at(out, live, stations, station)?;
@@ -213,9 +229,9 @@ pub fn print_clients(out: &mut Vec<u8>, live: &Live, stations: &[Address]) -> Re
     Ok(())
 }
 
-/// Whether two lists have the same addresses in the same order. True only where they have.
+/// Whether two lists have the same addresses in the same order.
 pub fn are_same(stations: &[Address], others: &[Address]) -> bool
-    ensures { IsTrue result → stations.now ≡ others.now }
+    ensures { IsTrue result ↔ (stations.now ≡ others.now) }
 {
     if stations.len() != others.len() {
         return false;
@@ -241,10 +257,10 @@ fn count_from(station: Address, messages: &[Message]) -> usize
     count
 }
 
-/// Whether the turns ran out before the bus was drained and each message had its outcome. Each station has a client, and they are
-/// numbered from 0 in the order of the stations. False only where each of the messages has its outcome in the record.
+/// Whether the turns ran out before the bus was drained and each message had its outcome in the record. Each station has a client, and
+/// they are numbered from 0 in the order of the stations; where one has none, the turns ran out.
 pub fn has_run_out(live: &Live, stations: &[Address], messages: &[Message], drained: bool) -> bool
-    ensures { result ≡ false → all_noted 0 stations.now messages.now (trail live.now.addresses live.now.calls) ≡ true }
+    ensures { HasRunOut result stations.now messages.now drained live.now }
 {
     if !drained {
         return true;

@@ -16,4 +16,4 @@ pub returns-in_ok-print_text : goal.returns-in_ok-print_text
 unfolding end_text
 returns-in_ok-print_text c =
     subst (λ (b : Bool). c.print_text.new.out.items ≡ c.args.out.now.items ++ end_text c.args.near_stations.now c.args.far_stations.now c.args.ports.now c.args.carriage b (trail c.args.near.now.addresses c.args.near.now.calls) (trail c.args.far.now.addresses c.args.far.now.calls)) (sym c.if-ran_out.true)
-    (joined _ _ _ _ _ _ _ _ _ _ c.in_ok-print_ports.ensures c.in_ok-print_relayed.ensures c.in_ok-print_outcomes.ensures c.in_ok-print_text.ensures)
+    (joined _ _ _ _ _ _ _ _ _ _ c.in_ok-print_ports.ensures.text c.in_ok-print_relayed.ensures c.in_ok-print_outcomes.ensures c.in_ok-print_text.ensures)

@@ -1,7 +1,11 @@
-use Rattle.std.proofs.Common.{◌≡◌, ◌++◌}
+use Rattle.std.proofs.Common.{◌≡◌, ◌<◌, ◌++◌, ℕ}
 use Rattle.segment_shared.specs.Record.{trail}
 use Rattle.segment_report.specs.Texts.{below, clients_at}
+use Rattle.segment_report.specs.Known.{HaveClientsAt}
 use Rattle.segment_report.proofs.text.print_clients.Given as goal
 
 abbrev pub invariant-loop-station : goal.invariant-loop-station
-invariant-loop-station l = l.out.items ≡ l.fn.out.items ++ below l.station (λ station. clients_at station 0 l.stations (trail l.live.addresses l.live.calls))
+invariant-loop-station l = record {
+  text : l.out.items ≡ l.fn.out.items ++ below l.station (λ station. clients_at station 0 l.stations (trail l.live.addresses l.live.calls));
+  known : (k : ℕ) → k < l.station → HaveClientsAt k l.live.clients l.stations;
+}

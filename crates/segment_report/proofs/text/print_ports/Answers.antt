@@ -1,8 +1,21 @@
+use Rattle.std.proofs.Common.{refl, arith}
+use Rattle.std.specs.Prelude.{slice_index_or}
+use Rattle.segment_report.specs.Known.{ArePortsAt}
 use Rattle.segment_report.proofs.Belows.{none_put, more_put}
+use Rattle.segment_report.proofs.Knowns.{up_to}
 use Rattle.segment_report.proofs.text.print_ports.Goals as goal
 
 pub loop-station-init : goal.loop-station-init
-loop-station-init c = none_put _ _
+loop-station-init c = record {
+  text = none_put _ _;
+  known = λ k l. absurd (omega (arith, l));
+}
 
 pub loop-station-preserved : goal.loop-station-preserved
-loop-station-preserved c = more_put _ _ _ _ _ c.loop-station.invariant c.in_ok-print_ports_at.ensures
+loop-station-preserved c = record {
+  text = more_put _ _ _ _ _ c.loop-station.invariant.text c.in_ok-print_ports_at.ensures.text;
+  known = up_to (λ station. ArePortsAt station c.args.live.now.ports c.args.ports.now) c.loop-station.station c.loop-station.invariant.known c.in_ok-print_ports_at.ensures.known;
+}
+
+pub returns-clause-known : goal.returns-clause-known
+returns-clause-known c = λ k p l below. c.loop-station.invariant.known (slice_index_or c.args.ports.now k p).station.0 (omega (arith, below)) k p l refl

@@ -1,7 +1,11 @@
-use Rattle.std.proofs.Common.{◌≡◌, ◌++◌}
+use Rattle.std.proofs.Common.{◌≡◌, ◌<◌, ◌++◌, ℕ}
 use Rattle.segment_shared.specs.Record.{trail}
 use Rattle.segment_report.specs.Texts.{below, ports_at}
+use Rattle.segment_report.specs.Known.{ArePortsAt}
 use Rattle.segment_report.proofs.text.print_ports.Given as goal
 
 abbrev pub invariant-loop-station : goal.invariant-loop-station
-invariant-loop-station l = l.out.items ≡ l.fn.out.items ++ below l.station (λ station. ports_at station l.ports (trail l.live.addresses l.live.calls))
+invariant-loop-station l = record {
+  text : l.out.items ≡ l.fn.out.items ++ below l.station (λ station. ports_at station l.ports (trail l.live.addresses l.live.calls));
+  known : (k : ℕ) → k < l.station → ArePortsAt k l.live.ports l.ports;
+}
