@@ -12,6 +12,14 @@ up_to P i before at k l = by (nat_lt k i) refl
     by true e = before k (ltb-true k i e)
     by false e = let above : i ≤ k = ltb-false k i e in subst P (omega (arith, above, l)) at
 
+-- each number below one is below another
+pub as_many : (n m : ℕ) → ((k : ℕ) → k < n → k < m) → n ≤ m
+as_many n m below = by (nat_lt m n) refl
+  where
+    by : (b : Bool) → nat_lt m n ≡ b → n ≤ m
+    by true e = let less : m < m = below m (ltb-true m n e) in absurd (omega (arith, less))
+    by false e = ltb-false m n e
+
 -- a refusal that is handed up
 pub handed_up : {T : Type 0} (r : Result T Lost) (first : Lost) (P : Type 0) → IsErrAnd r (λ lost. lost ≡ first) → (first ≡ NotThisSegment → P → ⊥) → IfErr r (λ lost. lost ≡ NotThisSegment → P → ⊥)
 handed_up (Ok x) first P e none = tt

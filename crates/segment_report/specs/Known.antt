@@ -1,5 +1,5 @@
 -- What a segment has: the ports and clients that a text of it names.
-use Rattle.std.specs.Prelude.{◌≡◌, ℕ, ◌<◌, List, length, slice_index_or, All}
+use Rattle.std.specs.Prelude.{◌≡◌, ℕ, ◌<◌, ◌≤◌, List, length, slice_index_or, All}
 use Rattle.pgn_ids.specs.declared.address.Address.{Address}
 use Rattle.port_table.specs.declared.port.PortId.{PortId}
 use Rattle.segment_shared.specs.LiveView.{LiveView, ClientView, PortView}
@@ -9,17 +9,17 @@ use Rattle.segment_shared.specs.Reports.{HasPort}
 abbrev pub ArePortsAt : (station : ℕ) → List PortView → List PortId → Type 0
 ArePortsAt station opened ports = All (λ p. p.station.0 ≡ station → HasPort opened p) ports
 
--- so are all; an address is below 256
+-- so are all
 abbrev pub ArePorts : List PortView → List PortId → Type 0
-ArePorts opened ports = All (λ p. p.station.0 < 256 → HasPort opened p) ports
+ArePorts opened ports = All (HasPort opened) ports
 
 -- the segment has a client for each of these stations with one address, numbered by its place among them
 abbrev pub HaveClientsAt : (station : ℕ) → List ClientView → List Address → Type 0
 HaveClientsAt station clients stations = (k : ℕ) → (a : Address) → k < length stations → (slice_index_or stations k a).0 ≡ station → k < length clients
 
--- it has one for each
+-- it has one for each of all
 abbrev pub HaveClients : List ClientView → List Address → Type 0
-HaveClients clients stations = (k : ℕ) → (a : Address) → k < length stations → (slice_index_or stations k a).0 < 256 → k < length clients
+HaveClients clients stations = length stations ≤ length clients
 
 -- the segment has these ports, and a client of each of these stations
 pub record AreKnown (stations : List Address) (ports : List PortId) (v : LiveView) : Type 0 where

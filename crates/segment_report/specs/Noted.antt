@@ -1,10 +1,11 @@
 -- Which of the messages of a script have their outcomes.
-use Rattle.std.specs.Prelude.{◌≡◌, ℕ, ◌+◌, ◌==◌, ◌≤◌, List, [], ◌∷◌, length, nat_lt, cond, Bool, true, false, if◌then◌else◌}
+use Rattle.std.specs.Prelude.{◌≡◌, ℕ, ◌+◌, ◌==◌, List, [], ◌∷◌, length, nat_lt, cond, Bool, true, false, if◌then◌else◌}
 use Rattle.std.specs.Bool.{MatchBool}
 use Rattle.pgn_ids.specs.declared.address.Address.{Address}
 use Rattle.segment_shared.specs.Record.{Trail, trail, notes_of}
 use Rattle.segment_shared.specs.LiveView.{LiveView}
 use Rattle.script_setup.specs.declared.setup.Message.{Message}
+use Rattle.segment_report.specs.Known.{HaveClients}
 
 -- how many of the messages are of one station
 abbrev pub count_from : Address → List Message → ℕ
@@ -19,7 +20,7 @@ all_noted client (a ∷ more) messages t = if nat_lt (length (notes_of client t.
 -- the bus was drained, each station has a client, and each of the messages has its outcome
 pub record IsDone (stations : List Address) (messages : List Message) (drained : Bool) (v : LiveView) : Type 0 where
   pub bus : drained ≡ true
-  pub clients : length stations ≤ length v.clients
+  pub clients : HaveClients v.clients stations
   pub noted : all_noted 0 stations messages (trail v.addresses v.calls) ≡ true
 
 -- whether the turns ran out: whether that isn't so

@@ -1,5 +1,5 @@
 //! The text of what threads leave of a segment.
-ghost use Rattle.std.specs.Prelude.{◌≡◌, ◌++◌, ◌==◌, ◌<◌, ◌↔◌, suc, length, OnOk, IfErr, IsTrue};
+ghost use Rattle.std.specs.Prelude.{◌≡◌, ◌++◌, ◌==◌, ◌<◌, ◌↔◌, suc, length, All, OnOk, IfErr, IsTrue};
 ghost use Rattle.script_runs.specs.declared.ending.Lost.TheVariants.{NotThisSegment};
 ghost use Rattle.segment_shared.specs.Record.{trail, given, notes_of};
 ghost use Rattle.segment_shared.specs.Reports.{HasPort};
@@ -100,6 +100,7 @@ fn print_ports_at(
 ) -> Result<(), Lost>
     ensures text { OnOk result (out.new.items ≡ out.old.items ++ ports_at station ports.now (trail live.now.addresses live.now.calls)) }
     ensures known { OnOk result (ArePortsAt station live.now.ports ports.now) }
+    ensures small { OnOk result (All (λ port. port.station.0 < 256) ports.now) }
     ensures unknown { IfErr result (λ lost. lost ≡ NotThisSegment → ArePorts live.now.ports ports.now → ⊥) }
 {
     for port in ports {
@@ -204,6 +205,7 @@ fn print_clients_at(
 ) -> Result<(), Lost>
     ensures text { OnOk result (out.new.items ≡ out.old.items ++ clients_at station 0 stations.now (trail live.now.addresses live.now.calls)) }
     ensures known { OnOk result (HaveClientsAt station live.now.clients stations.now) }
+    ensures small { OnOk result (All (λ address. address.0 < 256) stations.now) }
     ensures unknown { IfErr result (λ lost. lost ≡ NotThisSegment → HaveClients live.now.clients stations.now → ⊥) }
 {
     for (client, address) in stations.iter().enumerate() {

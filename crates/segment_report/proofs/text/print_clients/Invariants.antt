@@ -1,4 +1,5 @@
 use Rattle.std.proofs.Common.{◌≡◌, ◌<◌, ◌++◌, ℕ}
+use Rattle.std.specs.Prelude.{All}
 use Rattle.segment_shared.specs.Record.{trail}
 use Rattle.segment_report.specs.Texts.{below, clients_at}
 use Rattle.segment_report.specs.Known.{HaveClientsAt}
@@ -8,4 +9,5 @@ abbrev pub invariant-loop-station : goal.invariant-loop-station
 invariant-loop-station l = record {
   text : l.out.items ≡ l.fn.out.items ++ below l.station (λ station. clients_at station 0 l.stations (trail l.live.addresses l.live.calls));
   known : (k : ℕ) → k < l.station → HaveClientsAt k l.live.clients l.stations;
+  small : 0 < l.station → All (λ address. address.0 < 256) l.stations;
 }
