@@ -24,4 +24,4 @@ pub returns-clause-known : goal.returns-clause-known
 returns-clause-known c =
     let any : Address = record { 0 = 0 } in
     as_many _ _ (λ k l. let small = c.loop-station.invariant.small (omega arith) k any l in
-        c.loop-station.invariant.known (slice_index_or c.args.stations.now k any).0 (omega (arith, small)) k any l refl)
+    c.loop-station.invariant.known (slice_index_or c.args.stations.now k any).0 (omega (arith, small)) k any l refl)
