@@ -3,6 +3,7 @@
 use Rattle.std.proofs.Common.{◌≡◌, ℕ, zero, suc, ◌+◌, ◌<◌, ◌≤◌, ◌==◌, ◌^◌, ◌%◌, ◌/◌, ◌*◌, ◌||◌, not, nat_lt, Bool, true, false, cond, List, [], ◌∷◌, ◌++◌, map, length, Option, Some, None, refl, sym, ap, ◌∙◌, subst, arith, append-nil, append_assoc}
 use Rattle.std.specs.Prelude.{slice_get}
 use Rattle.std.proofs.lemmas.Bool.{and_parts, ltb-true, eqb-true, eq-eqb, true≢false}
+use Rattle.std.proofs.lemmas.List.{map-append}
 use Rattle.pgn_ids.specs.Pgn.{is_pdu1, is_pgn, clean}
 use Rattle.pgn_ids.specs.declared.address.Address.{Address}
 use Rattle.station_core.specs.Sending.{lane_of}
@@ -36,6 +37,20 @@ told_last {A} tells place (w ∷ steps) x =
     let e : (place + 1) + length steps ≡ place + length (w ∷ steps) = omega arith in
     ap (λ ys. map (λ (y : A). (place, y)) (tells w) ++ ys) (told_last tells (place + 1) steps x ∙ ap (λ n. told_from tells (place + 1) steps ++ map (λ (y : A). (n, y)) (tells x)) e)
     ∙ sym (append_assoc (map (λ (y : A). (place, y)) (tells w)) (told_from tells (place + 1) steps) (map (λ (y : A). (place + length (w ∷ steps), y)) (tells x)))
+
+-- all of it, without places
+
+abbrev pub flat : {A : Type 0} → (Step → List A) → Record → List A
+flat tells [] = []
+flat tells (step ∷ steps) = tells step ++ flat tells steps
+
+pub items_flat : {A : Type 0} (tells : Step → List A) (place : ℕ) (steps : Record) → items_of (told_from tells place steps) ≡ flat tells steps
+items_flat tells place [] = refl
+items_flat {A} tells place (step ∷ steps) = map-append (λ (z : Placed A). z.1) (map (λ (x : A). (place, x)) (tells step)) (told_from tells (place + 1) steps) ∙ (λ k. items_placed place (tells step) k ++ items_flat tells (place + 1) steps k)
+
+pub flat_append : {A : Type 0} (tells : Step → List A) (xs ys : Record) → flat tells (xs ++ ys) ≡ flat tells xs ++ flat tells ys
+flat_append tells [] ys = refl
+flat_append tells (x ∷ xs) ys = ap (λ zs. tells x ++ zs) (flat_append tells xs ys) ∙ sym (append_assoc (tells x) (flat tells xs) (flat tells ys))
 
 -- What was sent
 

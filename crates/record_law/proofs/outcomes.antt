@@ -9,3 +9,4 @@ pub mod Calls
 pub mod Books
 pub mod Beginning
 pub mod Records
+pub mod Numbers
