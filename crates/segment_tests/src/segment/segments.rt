@@ -1,7 +1,9 @@
 //! Exchanges between stations 21 and 35. A test ends where a call finds no memory.
 use crate::checks::{got, holds, same};
 use crate::segment::calls::*;
-use crate::segment::replies::{is_done, is_opened, is_refused, tells_given, tells_outcome};
+use crate::segment::replies::{
+    is_done, is_opened, is_refused, is_sent, tells_given, tells_outcome,
+};
 use pgn_ids::Address;
 use segment_core::*;
 use std::alloc::{AllocError, Global};
@@ -147,6 +149,18 @@ fn refuses(rt: &impl Abort, segment: &mut Segment, call: Call, cause: Refusal) {
     is_refused(rt, apply(rt, segment, call), cause);
 }
 
+// No segment is made of these addresses.
+fn is_no_segment(rt: &impl Abort, alloc: Global, addresses: &[Address]) {
+    let refused = Segment::new(alloc, addresses).err();
+    same(rt, refused, Some(NewRefused::BadAddresses));
+}
+
+#[test]
+fn a_segment_has_distinct_stations(rt: HostRuntime) {
+    is_no_segment(&rt, rt.alloc(), &[]);
+    is_no_segment(&rt, rt.alloc(), &[A, A]);
+}
+
 fn refuses_frames(rt: &impl Abort, segment: &mut Segment) {
     let again = Call::TakeAgain {
         station: B,
@@ -181,7 +195,6 @@ fn refuses_timers_and_ports(rt: &impl Abort, segment: &mut Segment) {
 
 #[test]
 fn refusals(rt: HostRuntime) {
-    holds(&rt, Segment::new(rt.alloc(), &[A, A]).is_err());
     let mut segment = segment(&rt, rt.alloc());
     refuses_timers_and_ports(&rt, &mut segment);
     refuses_frames(&rt, &mut segment);
@@ -223,6 +236,39 @@ fn readers(rt: HostRuntime) {
     let mut segment = segment(&rt, rt.alloc());
     open_and_send(&rt, rt.alloc(), &mut segment, B, 9);
     read_before_and_behind(&rt, &mut segment);
+}
+
+// A message of 100,000 bytes is sent to a port that takes it.
+fn send_long(rt: &impl Abort, alloc: Global, segment: &mut Segment) {
+    let open = Call::Open {
+        station: B,
+        pgn: pgn(rt),
+        max_len: 100_000,
+    };
+    is_opened(rt, apply(rt, segment, open), PORT);
+    is_sent(rt, apply(rt, segment, sending(rt, alloc, B, 100_000)), 1);
+}
+
+// Each station has taken all 14,736 frames but may take the newest again, so that one is kept.
+fn keeps_the_newest(rt: &impl Abort, segment: &Segment) {
+    same(rt, segment.bus_len(), 14_736);
+    let end = (0x1CC8_2135, [0x17, 0xA0, 0x86, 1, 0, 0xCA, 0xFE, 0]);
+    shows(rt, segment, 14_736, &end);
+    same(rt, segment.frame(14_735), None);
+    same(rt, segment.frame(14_737), None);
+}
+
+fn drive_long(rt: &impl Abort, alloc: Global, segment: &mut Segment) {
+    send_long(rt, alloc, segment);
+    puts_frames(rt, segment, B, 14_736);
+    same(rt, counts(segment).acknowledged, 1);
+    keeps_the_newest(rt, segment);
+}
+
+#[test]
+fn the_bus_keeps_the_newest_frame(rt: HostRuntime) {
+    let mut segment = segment(&rt, rt.alloc());
+    drive_long(&rt, rt.alloc(), &mut segment);
 }
 
 fn listed(alloc: Global) -> Result<Vec<Call>, AllocError> {

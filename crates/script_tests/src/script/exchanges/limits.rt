@@ -29,6 +29,19 @@ fn values_out_of_range_are_refused(rt: HostRuntime) {
     all_shown(&rt, rt.alloc(), &[REFUSED_VALUES])
 }
 
+/// A message to one station that is longer than the extended transport carries.
+const TOO_LONG: (&str, &str) = (
+    "stations 21 35\n\
+send 21 35 FECA fill 117440506\n",
+    "done\n\
+refused 16 TooLong\n",
+);
+
+#[test]
+fn a_message_of_117440506_bytes_is_refused(rt: HostRuntime) {
+    all_shown(&rt, rt.alloc(), &[TOO_LONG])
+}
+
 /// 32 messages in a lane, and one more.
 fn fill_lane(rt: &impl Abort, exchange: &mut Exchange) {
     for number in 1..=32u8 {

@@ -50,6 +50,53 @@ fn a_port_whose_ring_is_full_is_given_nothing(rt: HostRuntime) {
     drop(live);
 }
 
+// The ring of a second port of 35 is empty and that of the first full: a message is given to both or to neither.
+fn give_both_or_neither(
+    rt: &impl Abort,
+    alloc: Global,
+    live: &mut Live,
+    inboxes: (&mut Inbox, &mut Inbox),
+    sender: &mut Client,
+) {
+    let (first, second) = inboxes;
+    ends(rt, live, sender, alloc, Outcome::Aborted(2));
+    are_given(rt, live, 64);
+    holds(rt, !receive(rt, second));
+    holds(rt, receive(rt, first));
+    ends(rt, live, sender, alloc, Outcome::Acknowledged);
+    are_given(rt, live, 66);
+    holds(rt, receive(rt, second));
+}
+
+fn fill_first(
+    rt: &impl Abort,
+    alloc: Global,
+    live: &mut Live,
+    first: &mut Inbox,
+    sender: &mut Client,
+) {
+    for _ in 0..64 {
+        ends(rt, live, sender, alloc, Outcome::Acknowledged);
+    }
+    let mut second = port(rt, live);
+    give_both_or_neither(rt, alloc, live, (first, &mut second), sender);
+    drop(second);
+}
+
+fn fill_first_of(rt: &impl Abort, alloc: Global, live: &mut Live) {
+    let (mut first, mut sender) = port_and_client(rt, live);
+    fill_first(rt, alloc, live, &mut first, &mut sender);
+    drop(first);
+    drop(sender);
+}
+
+#[test]
+fn a_full_ring_keeps_a_message_from_every_port(rt: HostRuntime) {
+    let mut live = three(&rt, rt.alloc());
+    fill_first_of(&rt, rt.alloc(), &mut live);
+    drop(live);
+}
+
 // The front submission of a client is accepted so.
 fn accepts(rt: &impl Abort, live: &mut Live, sender: &Client, expected: Accepted) {
     same(rt, accept(rt, live, sender), expected);
