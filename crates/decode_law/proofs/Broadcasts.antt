@@ -23,7 +23,7 @@ use Rattle.log_decode.specs.View.{State}
 use Rattle.log_decode.specs.declared.told.Told.{Told}
 use Rattle.log_decode.specs.declared.told.Told.TheVariants.{Given}
 use Rattle.decode_law.specs.Hearing.{Log, heard_all, end_of, IsSendable, IsLogOf, IsHeard, kind_to}
-use Rattle.decode_law.proofs.Steps.{Laws, Case, key_with, key, with_one, Stands, Over, begins, whole}
+use Rattle.decode_law.proofs.Steps.{Laws, Case, key_with, key, with_one, first_place, Stands, Over, begins, whole}
 use Rattle.decode_law.proofs.Announcements.{tp_opens}
 use Rattle.decode_law.proofs.Frames.{meaning}
 use Rattle.decode_law.proofs.Walks.{packets_end}
@@ -64,13 +64,13 @@ module _ (laws : Laws) (m : Pending) (s d : Address) (h : IsSendable m s d) (to_
       free = subst (λ kind. session_at (key_with iface s d kind) l.sessions ≡ None) kind_is g.free;
     }
 
-    opens : (now : ℕ) → frame_taken iface (written (Cm (Bam len (packet_count len) m.pgn)) s.0 d.0) l.most now (l.sessions, told) ≡ (with_one laws c (opened m.pgn len now), told)
+    opens : (now : ℕ) → frame_taken iface (written (Cm (Bam len (packet_count len) m.pgn)) s.0 d.0) l.most now (l.sessions, told) ≡ (with_one laws c (opened (key laws c).transport m.pgn len now), told)
     unfolding wire_taken cm_frame_taken
     opens now =
         meaning laws c (Cm (Bam len (packet_count len) m.pgn)) s d now (l.sessions, told) (record { numbers = tt; widths = h.pgn; source = h.source; destination = to_all })
         ∙ tp_opens (key laws c) l.sessions told m.pgn len l.most now c.free g.room h.least short
 
-    stands : Stands laws c 1 0 (map frames (range_with_len 1 (packet_count len)) ++ [])
+    stands : Stands laws c 1 (first_place Tp) (map frames (range_with_len 1 (packet_count len)) ++ [])
     stands =
         begins laws c (written (Cm (Bam len (packet_count len) m.pgn)) s.0 d.0) (map frames (range_with_len 1 (packet_count len)) ++ []) l.time log
         (g.frames_are ∙ quiet_is ∙ ap (λ fs. written (Cm (Bam len (packet_count len) m.pgn)) s.0 d.0 ∷ fs) (sym (append-nil (map frames (range_with_len 1 (packet_count len))))))
@@ -81,7 +81,7 @@ module _ (laws : Laws) (m : Pending) (s d : Address) (h : IsSendable m s d) (to_
         let n : ℕ = packet_count len - 1 in
         let some : packet_count len ≡ suc n = omega (arith, h.least) in
         let same : (i : ℕ) → 1 ≤ i → frames i ≡ written (Packet Tp i (packet m.bytes (0 + i))) s.0 d.0 = λ i from_first. (let e : i ≡ 0 + i = omega arith in ap (λ k. written (Packet Tp i (packet m.bytes k)) s.0 d.0) e) in
-        packets_end laws c 0 frames same n 1 [] (omega arith) (omega (arith, some)) (subst (λ k. Stands laws c 1 0 (map frames (range_with_len 1 k) ++ [])) some stands)
+        packets_end laws c (first_place Tp) (packet_count len) (λ i up_to. refl) frames same n 1 [] (omega arith) (omega (arith, some)) (omega (arith, some)) (subst (λ k. Stands laws c 1 (first_place Tp) (map frames (range_with_len 1 k) ++ [])) some stands)
 
     heard : heard_all l iface log told ≡ (record { most = l.most; time = end_of l.time log; sessions = l.sessions }, told ++ Given (key_with iface s d (kind_to m d)) (clean m.pgn) m.bytes ∷ [])
     heard = whole laws c over ∙ ap (λ (kind : Kind). (let after : State = record { most = l.most; time = end_of l.time log; sessions = l.sessions } in (after, told ++ Given (key_with iface s d kind) (clean m.pgn) m.bytes ∷ []))) (sym kind_is)

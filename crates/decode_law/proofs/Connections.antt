@@ -24,7 +24,7 @@ use Rattle.log_decode.specs.View.{State}
 use Rattle.log_decode.specs.declared.told.Told.{Told}
 use Rattle.log_decode.specs.declared.told.Told.TheVariants.{Given}
 use Rattle.decode_law.specs.Hearing.{Log, heard_all, end_of, IsSendable, IsLogOf, IsHeard, kind_to}
-use Rattle.decode_law.proofs.Steps.{Laws, Case, key_with, key, with_one, Stands, begins, passes, whole}
+use Rattle.decode_law.proofs.Steps.{Laws, Case, key_with, key, with_one, first_place, Stands, begins, passes, whole}
 use Rattle.decode_law.proofs.Announcements.{tp_opens, etp_opens}
 use Rattle.decode_law.proofs.Frames.{meaning}
 use Rattle.decode_law.proofs.Managing.{ack_passes, etp_ack_passes}
@@ -90,13 +90,13 @@ module _ (laws : Laws) (m : Pending) (s d : Address) (h : IsSendable m s d) (to_
       abbrev ack : CanFrame
       ack = written (Cm (EndOfMsgAck len (packet_count len) m.pgn)) d.0 s.0
 
-      opens : (now : ℕ) → frame_taken iface rts l.most now (l.sessions, told) ≡ (with_one laws c (opened m.pgn len now), told)
+      opens : (now : ℕ) → frame_taken iface rts l.most now (l.sessions, told) ≡ (with_one laws c (opened (key laws c).transport m.pgn len now), told)
       unfolding wire_taken cm_frame_taken
       opens now =
           meaning laws c (Cm (Rts len (packet_count len) 255 m.pgn)) s d now (l.sessions, told) (record { numbers = tt; widths = h.pgn; source = h.source; destination = own })
           ∙ tp_opens (key laws c) l.sessions told m.pgn len l.most now c.free g.room h.least short
 
-      stands : Stands laws c 1 0 (flat_map (tp_window m s d) (groups 16 (packet_count len)) ++ ack ∷ [])
+      stands : Stands laws c 1 (first_place Tp) (flat_map (tp_window m s d) (groups 16 (packet_count len)) ++ ack ∷ [])
       stands = begins laws c rts (flat_map (tp_window m s d) (groups 16 (packet_count len)) ++ ack ∷ []) l.time log (g.frames_are ∙ quiet_is Tp is) g.times g.others refl refl opens
 
       tp_heard : Hears Tp
@@ -114,13 +114,13 @@ module _ (laws : Laws) (m : Pending) (s d : Address) (h : IsSendable m s d) (to_
       abbrev etp_ack : CanFrame
       etp_ack = written (Cm (EtpEoma len m.pgn)) d.0 s.0
 
-      etp_begins : (now : ℕ) → frame_taken iface etp_rts l.most now (l.sessions, told) ≡ (with_one laws ce (opened m.pgn len now), told)
+      etp_begins : (now : ℕ) → frame_taken iface etp_rts l.most now (l.sessions, told) ≡ (with_one laws ce (opened (key laws ce).transport m.pgn len now), told)
       unfolding wire_taken cm_frame_taken
       etp_begins now =
           meaning laws ce (Cm (EtpRts len m.pgn)) s d now (l.sessions, told) (record { numbers = tt; widths = h.pgn; source = h.source; destination = own })
           ∙ etp_opens (key laws ce) l.sessions told m.pgn len l.most now ce.free g.room long most
 
-      etp_stands : Stands laws ce 1 0 (flat_map (etp_window m s d) (groups 64 (packet_count len)) ++ etp_ack ∷ [])
+      etp_stands : Stands laws ce 1 (first_place Etp) (flat_map (etp_window m s d) (groups 64 (packet_count len)) ++ etp_ack ∷ [])
       etp_stands = begins laws ce etp_rts (flat_map (etp_window m s d) (groups 64 (packet_count len)) ++ etp_ack ∷ []) l.time log (g.frames_are ∙ quiet_is Etp is) g.times g.others refl refl etp_begins
 
       etp_heard : Hears Etp

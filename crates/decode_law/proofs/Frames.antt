@@ -10,7 +10,7 @@ use Rattle.tp_wire.specs.declared.wire.Wire.{Wire}
 use Rattle.tp_wire.specs.declared.wire.Wire.TheVariants.{Packet}
 use Rattle.seg_cut.specs.Packets.{packet_count, packet}
 use Rattle.seg_cut.specs.Join.{Join, IsFrontOf, joined, wants, is_complete}
-use Rattle.log_decode.specs.Session.{roomy, accepted, packet_heard, given_of}
+use Rattle.log_decode.specs.Session.{roomy, accepted, packet_heard, is_within, sequence_heard, given_of}
 use Rattle.log_decode.specs.Sessions.{Heard, session_at, put, without, settled, packet_taken}
 use Rattle.log_decode.specs.Decoder.{wire_taken, frame_taken}
 use Rattle.log_decode.specs.declared.session.Session.{Session}
@@ -18,7 +18,7 @@ use Rattle.log_decode.specs.declared.told.Told.{Told}
 use Rattle.log_decode.specs.declared.told.Told.TheVariants.{Given}
 use Rattle.log_decode.proofs.AtKey.{by_session}
 use Rattle.decode_law.proofs.Entries.{found, put_again, taken_out}
-use Rattle.decode_law.proofs.Steps.{Laws, Case, roomy_front, roomy_next, last, key, with_one, news, IsGoing, Goes, Stands, Over, step, gives}
+use Rattle.decode_law.proofs.Steps.{Laws, Case, roomy_front, roomy_next, last, key, with_one, news, Place, IsGoing, Goes, Stands, Over, step, gives}
 
 module _ (laws : Laws) (c : Case) where
   -- what is written is read
@@ -32,7 +32,7 @@ module _ (laws : Laws) (c : Case) where
   abbrev by_given : Heard → Option Session → Heard
   by_given h o = elim o [ None ↦ h | Some s ↦ (without (key laws c) h.0, h.1 ++ option_to_list (given_of (key laws c) (clean s.pgn) s.join)) ]
 
-  module _ (p offset sequence : ℕ) (from_first : 1 ≤ sequence) (sum : offset + sequence ≡ p) (within : p ≤ last laws c) (time now : ℕ) (x : Session) (g : IsGoing laws c p offset time x) where
+  module _ (p : ℕ) (place : Place) (sequence : ℕ) (from_first : 1 ≤ sequence) (inside : is_within place.window sequence ≡ true) (sum : place.offset + sequence ≡ p) (within : p ≤ last laws c) (time now : ℕ) (x : Session) (g : IsGoing laws c p place time x) where
     abbrev bytes : List ℕ
     bytes = packet c.m.bytes p
 
@@ -71,12 +71,16 @@ module _ (laws : Laws) (c : Case) where
         let le : nat_le p (packet_count x.join.size) ≡ true = le-leb p (packet_count x.join.size) (omega (arith, packets, within)) in
         rw (same, le) refl
 
+    -- the packet is one of the window
+    heard_as : sequence_heard c.d x sequence bytes now ≡ packet_heard c.d x p bytes now
+    heard_as = rw (ap (λ w. is_within w sequence) g.window_is ∙ inside) (ap (λ n. packet_heard c.d x n bytes now) number)
+
     -- the message of the key takes the packet
     takes : (told : List Told) → packet_taken (key laws c) sequence bytes now (with_one laws c x, told)
         ≡ settled (key laws c) (packet_heard c.d x p bytes now).1 (put (key laws c) (packet_heard c.d x p bytes now).0 (with_one laws c x), told)
     takes told =
-        ap (by_session (λ s. packet_heard c.d s (s.offset + sequence) bytes now) (key laws c) (with_one laws c x, told)) (found (key laws c) c.others x c.free)
-        ∙ ap (λ n. settled (key laws c) (packet_heard c.d x n bytes now).1 (put (key laws c) (packet_heard c.d x n bytes now).0 (with_one laws c x), told)) number
+        ap (by_session (λ s. sequence_heard c.d s sequence bytes now) (key laws c) (with_one laws c x, told)) (found (key laws c) c.others x c.free)
+        ∙ (λ i. settled (key laws c) (heard_as i).1 (put (key laws c) (heard_as i).0 (with_one laws c x), told))
 
     row : IsRow frame c.s.0 c.d.0
     row = record { numbers = from_first; widths = laws.seven c.m.bytes p within; source = c.sendable.source; destination = c.carries sequence bytes }
@@ -93,10 +97,10 @@ module _ (laws : Laws) (c : Case) where
     heard_on more told = rw (wanted, some more) refl
 
     -- more are to come
-    goes : p < last laws c → Goes laws c (p + 1) offset now (written frame c.s.0 c.d.0) x
+    goes : p < last laws c → Goes laws c (p + 1) place now (written frame c.s.0 c.d.0) x
     goes more = record {
       y = after;
-      going = record { pgn = g.pgn; offset_is = g.offset_is; heard_at_time = refl; front = front_next; next_is = ap (λ n. n + 1) next };
+      going = record { pgn = g.pgn; offset_is = g.offset_is; window_is = g.window_is; heard_at_time = refl; front = front_next; next_is = ap (λ n. n + 1) next };
       is = λ told. taken_as told ∙ takes told ∙ heard_on more told ∙ ap (λ es. (es, told)) (put_again (key laws c) c.others x after c.free);
     }
 
@@ -122,11 +126,11 @@ module _ (laws : Laws) (c : Case) where
         ∙ (λ i. (taken_out (key laws c) c.others after c.free i, told ++ given is_last i))
 
   -- packet p comes, with more to come
-  pub packet_goes : (p offset sequence : ℕ) (rest : List CanFrame) → 1 ≤ sequence → offset + sequence ≡ p → p < last laws c
-      → Stands laws c p offset (written (Packet c.kind sequence (packet c.m.bytes p)) c.s.0 c.d.0 ∷ rest) → Stands laws c (p + 1) offset rest
-  packet_goes p offset sequence rest from_first sum more = step laws c (written (Packet c.kind sequence (packet c.m.bytes p)) c.s.0 c.d.0) rest p offset (p + 1) offset (λ time now x g. goes p offset sequence from_first sum (omega (arith, more)) time now x g more)
+  pub packet_goes : (p : ℕ) (place : Place) (sequence : ℕ) (rest : List CanFrame) → 1 ≤ sequence → is_within place.window sequence ≡ true → place.offset + sequence ≡ p → p < last laws c
+      → Stands laws c p place (written (Packet c.kind sequence (packet c.m.bytes p)) c.s.0 c.d.0 ∷ rest) → Stands laws c (p + 1) place rest
+  packet_goes p place sequence rest from_first inside sum more = step laws c (written (Packet c.kind sequence (packet c.m.bytes p)) c.s.0 c.d.0) rest p place (p + 1) place (λ time now x g. goes p place sequence from_first inside sum (omega (arith, more)) time now x g more)
 
   -- the last packet comes
-  pub packet_ends : (p offset sequence : ℕ) (rest : List CanFrame) → 1 ≤ sequence → offset + sequence ≡ p → p ≡ last laws c
-      → Stands laws c p offset (written (Packet c.kind sequence (packet c.m.bytes p)) c.s.0 c.d.0 ∷ rest) → Over laws c rest
-  packet_ends p offset sequence rest from_first sum is_last = gives laws c (written (Packet c.kind sequence (packet c.m.bytes p)) c.s.0 c.d.0) rest p offset (λ time now x g. ends p offset sequence from_first sum (omega (arith, is_last)) time now x g is_last c.told)
+  pub packet_ends : (p : ℕ) (place : Place) (sequence : ℕ) (rest : List CanFrame) → 1 ≤ sequence → is_within place.window sequence ≡ true → place.offset + sequence ≡ p → p ≡ last laws c
+      → Stands laws c p place (written (Packet c.kind sequence (packet c.m.bytes p)) c.s.0 c.d.0 ∷ rest) → Over laws c rest
+  packet_ends p place sequence rest from_first inside sum is_last = gives laws c (written (Packet c.kind sequence (packet c.m.bytes p)) c.s.0 c.d.0) rest p place (λ time now x g. ends p place sequence from_first inside sum (omega (arith, is_last)) time now x g is_last c.told)

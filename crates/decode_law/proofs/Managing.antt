@@ -1,5 +1,5 @@
 -- What each connection management frame of a message to one node does to the listener's message under way.
-use Rattle.std.proofs.Common.{◌≡◌, ℕ, ◌<◌, ◌^◌, ◌==◌, List, true, refl, sym, ap, ◌∙◌}
+use Rattle.std.proofs.Common.{◌≡◌, ℕ, ◌<◌, ◌^◌, ◌==◌, List, true, Some, refl, sym, ap, ◌∙◌}
 use Rattle.std.proofs.lemmas.Bool.{eq-eqb}
 use Rattle.pgn_ids.specs.Address.{is_one}
 use Rattle.pgn_ids.specs.Pgn.{clean}
@@ -15,11 +15,11 @@ use Rattle.log_decode.specs.declared.session.Session.{Session}
 use Rattle.log_decode.specs.declared.told.Told.{Told}
 use Rattle.log_decode.proofs.AtKey.{by_session}
 use Rattle.decode_law.proofs.Entries.{found, put_again}
-use Rattle.decode_law.proofs.Steps.{Laws, Case, key, key_with, with_one, IsGoing, Goes}
+use Rattle.decode_law.proofs.Steps.{Laws, Case, key, key_with, with_one, Place, IsGoing, Goes}
 use Rattle.decode_law.proofs.Frames.{meaning}
 
 module _ (laws : Laws) (c : Case) (own : is_one c.d.0 ≡ true) where
-  module _ (next offset time now : ℕ) (x : Session) (g : IsGoing laws c next offset time x) where
+  module _ (next : ℕ) (place : Place) (time now : ℕ) (x : Session) (g : IsGoing laws c next place time x) where
     same : (clean c.m.pgn == clean x.pgn) ≡ true
     same = eq-eqb (clean c.m.pgn) (clean x.pgn) (ap clean (sym g.pgn))
 
@@ -33,10 +33,10 @@ module _ (laws : Laws) (c : Case) (own : is_one c.d.0 ≡ true) where
     abbrev seen : Session
     seen = renewed x now
 
-    going_on : IsGoing laws c next offset now seen
-    going_on = record { pgn = g.pgn; offset_is = g.offset_is; heard_at_time = refl; front = g.front; next_is = g.next_is }
+    going_on : IsGoing laws c next place now seen
+    going_on = record { pgn = g.pgn; offset_is = g.offset_is; window_is = g.window_is; heard_at_time = refl; front = g.front; next_is = g.next_is }
 
-    pub cts_goes : c.kind ≡ Tp → (granted first : ℕ) → Goes laws c next offset now (written (Cm (Cts granted first c.m.pgn)) c.d.0 c.s.0) x
+    pub cts_goes : c.kind ≡ Tp → (granted first : ℕ) → Goes laws c next place now (written (Cm (Cts granted first c.m.pgn)) c.d.0 c.s.0) x
     unfolding wire_taken cm_frame_taken
     cts_goes is granted first = record {
       y = seen;
@@ -52,40 +52,50 @@ module _ (laws : Laws) (c : Case) (own : is_one c.d.0 ≡ true) where
         renews : (told : List Told) → settled (key laws c) (heard x (Cts granted first c.m.pgn) now).1 (put (key laws c) (heard x (Cts granted first c.m.pgn) now).0 (with_one laws c x), told) ≡ (put (key laws c) seen (with_one laws c x), told)
         renews told = rw (same, heard) refl
 
-    pub etp_cts_goes : c.kind ≡ Etp → (granted first : ℕ) → first < 2 ^ 24 → Goes laws c next offset now (written (Cm (EtpCts granted first c.m.pgn)) c.d.0 c.s.0) x
+    -- the window is closed
+    abbrev closed : Place
+    closed = record { offset = place.offset; window = Some 0 }
+
+    pub etp_cts_goes : c.kind ≡ Etp → (granted first : ℕ) → first < 2 ^ 24 → Goes laws c next closed now (written (Cm (EtpCts granted first c.m.pgn)) c.d.0 c.s.0) x
     unfolding wire_taken cm_frame_taken
     etp_cts_goes is granted first fits = record {
-      y = seen;
-      going = going_on;
+      y = asked;
+      going = record { pgn = g.pgn; offset_is = g.offset_is; window_is = refl; heard_at_time = refl; front = g.front; next_is = g.next_is };
       is = λ told.
           meaning laws c (Cm (EtpCts granted first c.m.pgn)) c.d c.s now (with_one laws c x, told) (record { numbers = fits; widths = c.sendable.pgn; source = own; destination = c.sendable.source })
           ∙ ap (λ kind. cm_taken (key_with c.iface c.s c.d kind) (EtpCts granted first c.m.pgn) now (with_one laws c x, told)) (sym is)
           ∙ cm_found (EtpCts granted first c.m.pgn) told
           ∙ renews told
-          ∙ again seen told;
+          ∙ again asked told;
     }
       where
-        renews : (told : List Told) → settled (key laws c) (heard x (EtpCts granted first c.m.pgn) now).1 (put (key laws c) (heard x (EtpCts granted first c.m.pgn) now).0 (with_one laws c x), told) ≡ (put (key laws c) seen (with_one laws c x), told)
+        asked : Session
+        asked = record x { window = Some 0; heard = now }
+
+        renews : (told : List Told) → settled (key laws c) (heard x (EtpCts granted first c.m.pgn) now).1 (put (key laws c) (heard x (EtpCts granted first c.m.pgn) now).0 (with_one laws c x), told) ≡ (put (key laws c) asked (with_one laws c x), told)
         renews told = rw (same, heard) refl
 
-    -- behind this offset
-    pub dpo_goes : c.kind ≡ Etp → (packets offset' : ℕ) → offset' < 2 ^ 24 → Goes laws c next offset' now (written (Cm (EtpDpo packets offset' c.m.pgn)) c.s.0 c.d.0) x
+    -- behind this offset the next one opens
+    abbrev moved : (packets offset : ℕ) → Place
+    moved packets offset = record { offset = offset; window = Some packets }
+
+    pub dpo_goes : c.kind ≡ Etp → (packets offset : ℕ) → offset < 2 ^ 24 → Goes laws c next (moved packets offset) now (written (Cm (EtpDpo packets offset c.m.pgn)) c.s.0 c.d.0) x
     unfolding wire_taken cm_frame_taken
-    dpo_goes is packets offset' fits = record {
+    dpo_goes is packets offset fits = record {
       y = behind;
-      going = record { pgn = g.pgn; offset_is = refl; heard_at_time = refl; front = g.front; next_is = g.next_is };
+      going = record { pgn = g.pgn; offset_is = refl; window_is = refl; heard_at_time = refl; front = g.front; next_is = g.next_is };
       is = λ told.
-          meaning laws c (Cm (EtpDpo packets offset' c.m.pgn)) c.s c.d now (with_one laws c x, told) (record { numbers = fits; widths = c.sendable.pgn; source = c.sendable.source; destination = own })
-          ∙ ap (λ kind. cm_taken (key_with c.iface c.s c.d kind) (EtpDpo packets offset' c.m.pgn) now (with_one laws c x, told)) (sym is)
-          ∙ cm_found (EtpDpo packets offset' c.m.pgn) told
+          meaning laws c (Cm (EtpDpo packets offset c.m.pgn)) c.s c.d now (with_one laws c x, told) (record { numbers = fits; widths = c.sendable.pgn; source = c.sendable.source; destination = own })
+          ∙ ap (λ kind. cm_taken (key_with c.iface c.s c.d kind) (EtpDpo packets offset c.m.pgn) now (with_one laws c x, told)) (sym is)
+          ∙ cm_found (EtpDpo packets offset c.m.pgn) told
           ∙ moves told
           ∙ again behind told;
     }
       where
         behind : Session
-        behind = record x { offset = offset'; heard = now }
+        behind = record x { offset = offset; window = Some packets; heard = now }
 
-        moves : (told : List Told) → settled (key laws c) (heard x (EtpDpo packets offset' c.m.pgn) now).1 (put (key laws c) (heard x (EtpDpo packets offset' c.m.pgn) now).0 (with_one laws c x), told) ≡ (put (key laws c) behind (with_one laws c x), told)
+        moves : (told : List Told) → settled (key laws c) (heard x (EtpDpo packets offset c.m.pgn) now).1 (put (key laws c) (heard x (EtpDpo packets offset c.m.pgn) now).0 (with_one laws c x), told) ≡ (put (key laws c) behind (with_one laws c x), told)
         moves told = rw (same, heard) refl
 
   -- the end acknowledgement of a message that was given

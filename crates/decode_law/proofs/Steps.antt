@@ -1,5 +1,5 @@
 -- A listener takes the frames of one message: what it has under way after each of them, ahead of what is still to come.
-use Rattle.std.proofs.Common.{◌≡◌, ℕ, ◌+◌, ◌-◌, ◌<◌, ◌≤◌, ◌==◌, List, [], ◌∷◌, ◌++◌, Bool, true, false, cond, length, Some, None, refl, sym, ap, ◌∙◌, subst, arith, max}
+use Rattle.std.proofs.Common.{◌≡◌, ℕ, ◌+◌, ◌-◌, ◌<◌, ◌≤◌, ◌==◌, List, [], ◌∷◌, ◌++◌, Bool, true, false, cond, length, Option, Some, None, refl, sym, ap, ◌∙◌, subst, arith, max}
 use Rattle.std.specs.Prelude.{All, IsTrue}
 use Rattle.std.proofs.lemmas.List.Elements.{All-head, All-tail}
 use Rattle.bus_frame.specs.Frames.{CanFrame}
@@ -15,7 +15,7 @@ use Rattle.seg_cut.specs.Packets.{packet_count, packet}
 use Rattle.seg_cut.specs.Join.{Join, IsFrontOf, joined, is_complete, with_room}
 use Rattle.lane_core.specs.declared.message.Pending.{Pending}
 use Rattle.log_decode.specs.Keys.{transport_of}
-use Rattle.log_decode.specs.Session.{patience, opened, roomy}
+use Rattle.log_decode.specs.Session.{patience, first_window, opened, roomy}
 use Rattle.log_decode.specs.Sessions.{Sessions, Heard, session_at, silenced}
 use Rattle.log_decode.specs.Decoder.{frame_taken, taken}
 use Rattle.log_decode.specs.View.{State}
@@ -35,6 +35,14 @@ pub record Laws : Type 0 where
 
 abbrev pub key_with : Iface → (s d : Address) → Kind → Key
 key_with iface s d kind = record { iface = iface; from = s; to = d; transport = transport_of kind }
+
+-- behind which offset packets are numbered, and within which window
+pub record Place : Type 0 where
+  pub offset : ℕ
+  pub window : Option ℕ
+
+abbrev pub first_place : Kind → Place
+first_place kind = record { offset = 0; window = first_window (transport_of kind) }
 
 -- a message by one transport, a listener that has others under way, what it told before, and what it comes to in the end
 pub record Case : Type 0 where
@@ -101,25 +109,26 @@ module _ (laws : Laws) (c : Case) where
   news = Given key (clean c.m.pgn) c.m.bytes ∷ []
 
   -- the packets before the next one have come, and it was heard at this time
-  pub record IsGoing (next offset time : ℕ) (x : Session) : Type 0 where
+  pub record IsGoing (next : ℕ) (place : Place) (time : ℕ) (x : Session) : Type 0 where
     pub pgn : x.pgn ≡ c.m.pgn
-    pub offset_is : x.offset ≡ offset
+    pub offset_is : x.offset ≡ place.offset
+    pub window_is : x.window ≡ place.window
     pub heard_at_time : x.heard ≡ time
     pub front : IsFrontOf c.m.bytes x.join
     pub next_is : x.join.next ≡ next
 
   -- a frame that it goes on by
-  pub record Goes (next offset now : ℕ) (f : CanFrame) (x : Session) : Type 0 where
+  pub record Goes (next : ℕ) (place : Place) (now : ℕ) (f : CanFrame) (x : Session) : Type 0 where
     pub y : Session
-    pub going : IsGoing next offset now y
+    pub going : IsGoing next place now y
     pub is : (told : List Told) → frame_taken c.iface f c.most now (with_one x, told) ≡ (with_one y, told)
 
   -- the message is under way, and these frames are still to come
-  pub record Stands (next offset : ℕ) (rest : List CanFrame) : Type 0 where
+  pub record Stands (next : ℕ) (place : Place) (rest : List CanFrame) : Type 0 where
     pub time : ℕ
     pub session : Session
     pub log : Log
-    pub going : IsGoing next offset time session
+    pub going : IsGoing next place time session
     pub frames : frames_in log ≡ rest
     pub times : ComeWithin (patience c.d) time log
     pub loud : All (λ f. NoneSilent f.0 c.others) log
@@ -145,20 +154,20 @@ module _ (laws : Laws) (c : Case) where
   -- the announcement
   pub begins : (f : CanFrame) (rest : List CanFrame) (time : ℕ) (log : Log) → frames_in log ≡ f ∷ rest → ComeInTime (patience c.d) time log → All LoudAt log → end_of time log ≡ c.until
       → heard_all (state c.most time c.others) c.iface log c.told ≡ c.total
-      → ((now : ℕ) → frame_taken c.iface f c.most now (c.others, c.told) ≡ (with_one (opened c.m.pgn len now), c.told))
-      → Stands 1 0 rest
+      → ((now : ℕ) → frame_taken c.iface f c.most now (c.others, c.told) ≡ (with_one (opened (transport_of c.kind) c.m.pgn len now), c.told))
+      → Stands 1 (first_place c.kind) rest
   begins f rest time [] frames times loud ends is does = absurd cc
   begins f rest time (g ∷ gs) frames times loud ends is does = record {
     time = g.0;
-    session = opened c.m.pgn len g.0;
+    session = opened (transport_of c.kind) c.m.pgn len g.0;
     log = gs;
-    going = record { pgn = refl; offset_is = refl; heard_at_time = refl; front = record { same_size = refl; from_packet = omega arith; front = refl }; next_is = refl };
+    going = record { pgn = refl; offset_is = refl; window_is = refl; heard_at_time = refl; front = record { same_size = refl; from_packet = omega arith; front = refl }; next_is = refl };
     frames = cc;
     times = times.1;
     loud = All-tail LoudAt g gs loud;
     ends = ends;
     is =
-        sym (ap (and_then gs) (taken_is c.most time g.0 c.others c.iface g.1 c.told (with_one (opened c.m.pgn len g.0), c.told) times.0 (All-head LoudAt g gs loud) (ap (λ x. frame_taken c.iface x c.most g.0 (c.others, c.told)) first ∙ does g.0)))
+        sym (ap (and_then gs) (taken_is c.most time g.0 c.others c.iface g.1 c.told (with_one (opened (transport_of c.kind) c.m.pgn len g.0), c.told) times.0 (All-head LoudAt g gs loud) (ap (λ x. frame_taken c.iface x c.most g.0 (c.others, c.told)) first ∙ does g.0)))
         ∙ is;
   }
     where
@@ -166,15 +175,15 @@ module _ (laws : Laws) (c : Case) where
       first = cc
 
   -- a frame that it goes on by
-  pub step : (f : CanFrame) (rest : List CanFrame) (next offset next' offset' : ℕ) → ((time now : ℕ) (x : Session) → IsGoing next offset time x → Goes next' offset' now f x) → Stands next offset (f ∷ rest) → Stands next' offset' rest
-  step f rest next offset next' offset' does a = by a.log a.frames a.times a.loud a.ends a.is
+  pub step : (f : CanFrame) (rest : List CanFrame) (next : ℕ) (place : Place) (next' : ℕ) (place' : Place) → ((time now : ℕ) (x : Session) → IsGoing next place time x → Goes next' place' now f x) → Stands next place (f ∷ rest) → Stands next' place' rest
+  step f rest next place next' place' does a = by a.log a.frames a.times a.loud a.ends a.is
     where
       by : (log : Log) → frames_in log ≡ f ∷ rest → ComeWithin (patience c.d) a.time log → All LoudAt log → end_of a.time log ≡ c.until
-          → heard_all (state c.most a.time (with_one a.session)) c.iface log c.told ≡ c.total → Stands next' offset' rest
+          → heard_all (state c.most a.time (with_one a.session)) c.iface log c.told ≡ c.total → Stands next' place' rest
       by [] frames times loud ends is = absurd cc
       by (g ∷ gs) frames times loud ends is =
           let first : g.1 ≡ f = cc in
-          let n : Goes next' offset' g.0 f a.session = does a.time g.0 a.session a.going in
+          let n : Goes next' place' g.0 f a.session = does a.time g.0 a.session a.going in
           let before : a.session.heard ≡ a.time = a.going.heard_at_time in
           let soon : g.0 < a.session.heard + patience c.d = subst (λ t. g.0 < t + patience c.d) (sym before) times.1 in
           record {
@@ -193,10 +202,10 @@ module _ (laws : Laws) (c : Case) where
           }
 
   -- a frame by which it is given
-  pub gives : (f : CanFrame) (rest : List CanFrame) (next offset : ℕ)
-      → ((time now : ℕ) (x : Session) → IsGoing next offset time x → frame_taken c.iface f c.most now (with_one x, c.told) ≡ (c.others, c.told ++ news))
-      → Stands next offset (f ∷ rest) → Over rest
-  gives f rest next offset does a = by a.log a.frames a.times a.loud a.ends a.is
+  pub gives : (f : CanFrame) (rest : List CanFrame) (next : ℕ) (place : Place)
+      → ((time now : ℕ) (x : Session) → IsGoing next place time x → frame_taken c.iface f c.most now (with_one x, c.told) ≡ (c.others, c.told ++ news))
+      → Stands next place (f ∷ rest) → Over rest
+  gives f rest next place does a = by a.log a.frames a.times a.loud a.ends a.is
     where
       by : (log : Log) → frames_in log ≡ f ∷ rest → ComeWithin (patience c.d) a.time log → All LoudAt log → end_of a.time log ≡ c.until
           → heard_all (state c.most a.time (with_one a.session)) c.iface log c.told ≡ c.total → Over rest

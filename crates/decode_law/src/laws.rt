@@ -11,7 +11,7 @@ use tp_wire::what_is_written_is_read;
 /// announce message and connection mode data transfer; ISO 11783-3).
 ///
 /// A listener that has no message of the same interface, sender, destination and transport under way takes these frames one after
-/// another, at times that don't go back, between two of which less passes than the ends of the message wait; and no other message
+/// another, at times that don't go back, between two of which less passes than it waits for a frame; and no other message
 /// under way becomes silent meanwhile. Then it tells that the message was given, with its PGN and its bytes, and nothing else, and
 /// has afterwards under way what it had before. Nothing is said of other frames between them.
 pub fn undisturbed_messages_are_heard()

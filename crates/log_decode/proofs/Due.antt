@@ -4,18 +4,19 @@ use Rattle.std.proofs.lemmas.Bool.Decides.{nat_tests}
 use Rattle.std.proofs.lemmas.List.{take_all}
 use Rattle.pgn_ids.specs.Address.{global_address}
 use Rattle.pgn_ids.specs.declared.address.Address.{Address}
-use Rattle.tick_timers.specs.declared.durations.TheConstants.{T1, T3}
+use Rattle.tick_timers.specs.declared.durations.TheConstants.{T1}
 use Rattle.log_decode.specs.Session.{patience}
 use Rattle.log_decode.specs.Sessions.{Sessions, silent_entry, silent_in, silenced}
 use Rattle.log_decode.specs.Due.{NoneDueBefore}
 use Rattle.log_decode.specs.declared.key.Key.{Key}
 use Rattle.log_decode.specs.declared.session.Session.{Session}
+use Rattle.log_decode.specs.declared.session.TheConstants.{CONNECTION_PATIENCE}
 use Rattle.log_decode.specs.declared.told.Told.{Told}
 use Rattle.log_decode.proofs.Silences.{none_out, same_some}
 
 -- the ends of a broadcast wait least
 pub patience_least : (to : Address) → T1 * 1000 ≤ patience to
-patience_least to = elim (to.0 == global_address) as (λ b. T1 * 1000 ≤ (if b then T1 * 1000 else T3 * 1000)) [ true ↦ omega arith | false ↦ omega arith ]
+patience_least to = elim (to.0 == global_address) as (λ b. T1 * 1000 ≤ (if b then T1 * 1000 else CONNECTION_PATIENCE)) [ true ↦ omega arith | false ↦ omega arith ]
 
 pub from_zero : (es : Sessions) → NoneDueBefore 0 es
 from_zero [] = tt

@@ -17,7 +17,7 @@ use Rattle.tp_wire.specs.declared.wire.CmFrame.TheVariants as frames
 use Rattle.tp_wire.specs.declared.wire.Wire.{Wire}
 use Rattle.tp_wire.specs.declared.wire.Wire.TheVariants.{Cm, Packet, Request, Ack}
 use Rattle.log_decode.specs.Keys.{same_key, key_of, key_back}
-use Rattle.log_decode.specs.Session.{opened, accepted, renewed, roomy, packet_heard, cm_heard, heard, abort_heard, told_of, patience}
+use Rattle.log_decode.specs.Session.{opened, accepted, renewed, roomy, packet_heard, is_within, sequence_heard, cm_heard, heard, abort_heard, told_of, patience}
 use Rattle.log_decode.specs.Sessions.{Sessions, Heard, session_at, put, without, ended_at, settled, heard_at, packet_taken, cm_taken, abort_taken, renewed_at, is_again_at, opened_at, announced}
 use Rattle.log_decode.specs.Decoder.{tp_news, etp_news, aborted, cm_frame_taken, wire_taken, frame_taken}
 use Rattle.log_decode.specs.Due.{NoneDueBefore}
@@ -96,6 +96,10 @@ packet_fresh to s k bytes now =
     (if nat_lt s.join.next k && to.0 == global_address then (s, fates.Lost Missing) else (renewed s now, fates.GoesOn)) (inl refl)
     (either now s (nat_lt s.join.next k && to.0 == global_address) (s, fates.Lost Missing) (renewed s now, fates.GoesOn) (inr refl) (inl refl))
 
+sequence_fresh : (to : Address) (s : Session) (k : ℕ) (bytes : List ℕ) (now : ℕ) → IsHeard now s (sequence_heard to s k bytes now).0
+sequence_fresh to s k bytes now =
+    either now s (is_within s.window k) (packet_heard to s (s.offset + k) bytes now) (renewed s now, fates.GoesOn) (packet_fresh to s (s.offset + k) bytes now) (inl refl)
+
 cm_fresh : (s : Session) (frame : CmFrame) (now : ℕ) → IsHeard now s (cm_heard s frame now).0
 cm_fresh s (frames.Cts granted next pgn) now = inl refl
 cm_fresh s (frames.EtpCts granted next pgn) now = inl refl
@@ -115,7 +119,7 @@ at_cm : (key : Key) (frame : CmFrame) (now n : ℕ) (h : Heard) → n ≤ now + 
 at_cm key frame now n h later d = at_session (λ s. heard s frame now) now (λ s. heard_fresh s frame now) key n h later d
 
 at_packet : (key : Key) (sequence : ℕ) (bytes : List ℕ) (now n : ℕ) (h : Heard) → n ≤ now + T1 * 1000 → NoneDueBefore n h.0 → NoneDueBefore n (packet_taken key sequence bytes now h).0
-at_packet key sequence bytes now n h later d = at_session (λ s. packet_heard key.to s (s.offset + sequence) bytes now) now (λ s. packet_fresh key.to s (s.offset + sequence) bytes now) key n h later d
+at_packet key sequence bytes now n h later d = at_session (λ s. sequence_heard key.to s sequence bytes now) now (λ s. sequence_fresh key.to s sequence bytes now) key n h later d
 
 abbrev by_abort : Key → Address → ℕ → ℕ → Heard → Option Session → Heard
 by_abort key who reason pgn h o = elim o [ None ↦ h | Some s ↦ settled key (abort_heard s who reason pgn) h ]
@@ -137,9 +141,9 @@ at_renewal key now n es later d = elim (session_at key es) as (λ o. NoneDueBefo
 at_opening : (key : Key) (news : News) (most now n : ℕ) (h : Heard) → n ≤ now + T1 * 1000 → NoneDueBefore n h.0 → NoneDueBefore n (opened_at key news most now h).0
 at_opening key news most now n h later d =
     let long : Heard = (h.0, h.1 ++ Lost key (clean news.pgn) 0 news.size TooLong ∷ []) in
-    let begun : Heard = (put key (opened news.pgn news.size now) h.0, h.1) in
+    let begun : Heard = (put key (opened key.transport news.pgn news.size now) h.0, h.1) in
     one_of n (not news.is_sound) h (if nat_lt most news.size then long else begun) d
-    (one_of n (nat_lt most news.size) long begun d (put_now key n now (opened news.pgn news.size now) h.0 later refl d))
+    (one_of n (nat_lt most news.size) long begun d (put_now key n now (opened key.transport news.pgn news.size now) h.0 later refl d))
 
 at_news : (key : Key) (news : News) (most now n : ℕ) (h : Heard) → n ≤ now + T1 * 1000 → NoneDueBefore n h.0 → NoneDueBefore n (announced key news most now h).0
 at_news key news most now n h later d =

@@ -1,14 +1,17 @@
 -- A message under way, as a listener sees it (SAE J1939-21, transport protocol; ISO 11783-3, extended transport protocol).
-use Rattle.std.specs.Prelude.{ℕ, ◌-◌, ◌*◌, List, length, Bool, ◌&&◌, ◌==◌, nat_lt, nat_le, max, if◌then◌else◌, Option, Some, None}
+use Rattle.std.specs.Prelude.{ℕ, ◌+◌, ◌-◌, ◌*◌, List, length, Bool, true, ◌&&◌, ◌==◌, nat_lt, nat_le, max, if◌then◌else◌, Option, Some, None}
 use Rattle.pgn_ids.specs.Address.{global_address}
 use Rattle.pgn_ids.specs.Pgn.{clean}
 use Rattle.pgn_ids.specs.declared.address.Address.{Address}
 use Rattle.seg_cut.specs.Join.{Join, empty_join, wants, joined, with_room, is_complete}
-use Rattle.tick_timers.specs.declared.durations.TheConstants.{T1, T3}
+use Rattle.tick_timers.specs.declared.durations.TheConstants.{T1}
 use Rattle.tp_wire.specs.Rows.{cm_pgn}
 use Rattle.tp_wire.specs.declared.wire.CmFrame.{CmFrame}
 use Rattle.tp_wire.specs.declared.wire.CmFrame.TheVariants as frames
 use Rattle.log_decode.specs.declared.key.Key.{Key}
+use Rattle.log_decode.specs.declared.key.Transport.{Transport}
+use Rattle.log_decode.specs.declared.key.Transport.TheVariants.{Tp, Etp}
+use Rattle.log_decode.specs.declared.session.TheConstants.{CONNECTION_PATIENCE}
 use Rattle.log_decode.specs.declared.session.Session.{Session}
 use Rattle.log_decode.specs.declared.session.Fate.{Fate}
 use Rattle.log_decode.specs.declared.session.Fate.TheVariants as fates
@@ -16,9 +19,14 @@ use Rattle.log_decode.specs.declared.told.Cause.TheVariants.{Missing, Acknowledg
 use Rattle.log_decode.specs.declared.told.Told.{Told}
 use Rattle.log_decode.specs.declared.told.Told.TheVariants.{Given, Aborted, Lost}
 
+-- a packet of TP has its own number, whatever the window; one of ETP counts within the window that a data packet offset opened
+abbrev pub first_window : Transport → Option ℕ
+first_window Tp = None
+first_window Etp = Some 0
+
 -- nothing of it has come
-abbrev pub opened : (pgn size now : ℕ) → Session
-opened pgn size now = record { pgn = pgn; join = empty_join size; offset = 0; heard = now }
+abbrev pub opened : Transport → (pgn size now : ℕ) → Session
+opened transport pgn size now = record { pgn = pgn; join = empty_join size; offset = 0; window = first_window transport; heard = now }
 
 -- an announcement of this PGN and size is the one that it began with, seen once more
 abbrev pub is_again : Session → (pgn size : ℕ) → Bool
@@ -44,15 +52,23 @@ packet_heard to s n bytes now =
     else if nat_lt s.join.next n && to.0 == global_address then (s, fates.Lost Missing)
     else (renewed s now, fates.GoesOn)
 
+-- a packet of this sequence number is one of the window
+abbrev pub is_within : Option ℕ → (sequence : ℕ) → Bool
+is_within window sequence = elim window [ None ↦ true | Some last ↦ nat_le sequence last ]
+
+-- a packet of a sequence number comes, behind the offset: one that isn't of the window says nothing of which it is
+abbrev pub sequence_heard : (to : Address) → Session → (sequence : ℕ) → List ℕ → (now : ℕ) → Session × Fate
+sequence_heard to s sequence bytes now = if is_within s.window sequence then packet_heard to s (s.offset + sequence) bytes now else (renewed s now, fates.GoesOn)
+
 -- its receiver acknowledges a message of this size, and not all packets of it were seen
 abbrev pub acknowledged : Session → (size : ℕ) → Fate
 acknowledged s size = if size == s.join.size then fates.Lost Acknowledged else fates.GoesOn
 
--- a connection management frame of one of its ends comes
+-- a connection management frame of one of its ends comes: in ETP a CTS closes the window, and a data packet offset opens the next one
 abbrev pub cm_heard : Session → CmFrame → (now : ℕ) → Session × Fate
 cm_heard s (frames.Cts granted next pgn) now = (renewed s now, fates.GoesOn)
-cm_heard s (frames.EtpCts granted next pgn) now = (renewed s now, fates.GoesOn)
-cm_heard s (frames.EtpDpo packets offset pgn) now = (record s { offset = offset; heard = now }, fates.GoesOn)
+cm_heard s (frames.EtpCts granted next pgn) now = (record s { window = Some 0; heard = now }, fates.GoesOn)
+cm_heard s (frames.EtpDpo packets offset pgn) now = (record s { offset = offset; window = Some packets; heard = now }, fates.GoesOn)
 cm_heard s (frames.EndOfMsgAck size packets pgn) now = (s, acknowledged s size)
 cm_heard s (frames.EtpEoma size pgn) now = (s, acknowledged s size)
 cm_heard s (frames.Rts size packets window pgn) now = (s, fates.GoesOn)
@@ -69,9 +85,10 @@ heard s frame now = if clean (cm_pgn frame) == clean s.pgn then cm_heard s frame
 abbrev pub abort_heard : Session → (who : Address) → (reason pgn : ℕ) → Fate
 abort_heard s who reason pgn = if clean pgn == clean s.pgn then fates.Aborted reason who else fates.GoesOn
 
--- how long, in microseconds, its ends wait for a frame at most: T1 for a broadcast, else T2 and T3 (SAE J1939-21)
+-- how long, in microseconds, a frame of it is waited for: T1 for a broadcast, whose receivers say nothing; else for longer than T2 and T3
+-- (SAE J1939-21), so that the abort of an end that waited in vain comes before
 abbrev pub patience : (to : Address) → ℕ
-patience to = if to.0 == global_address then T1 * 1000 else T3 * 1000
+patience to = if to.0 == global_address then T1 * 1000 else CONNECTION_PATIENCE
 
 -- no frame of it was seen for so long
 abbrev pub is_silent : (to : Address) → Session → (now : ℕ) → Bool

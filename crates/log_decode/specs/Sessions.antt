@@ -6,7 +6,7 @@ use Rattle.pgn_ids.specs.Pgn.{clean}
 use Rattle.pgn_ids.specs.declared.address.Address.{Address}
 use Rattle.tp_wire.specs.declared.wire.CmFrame.{CmFrame}
 use Rattle.log_decode.specs.Keys.{same_key}
-use Rattle.log_decode.specs.Session.{opened, renewed, is_again, packet_heard, heard, abort_heard, is_silent, told_of}
+use Rattle.log_decode.specs.Session.{opened, renewed, is_again, sequence_heard, heard, abort_heard, is_silent, told_of}
 use Rattle.log_decode.specs.declared.key.Key.{Key}
 use Rattle.log_decode.specs.declared.session.Session.{Session}
 use Rattle.log_decode.specs.declared.session.Fate.{Fate}
@@ -50,9 +50,9 @@ settled key (fates.Aborted reason who) h = ended_at key (fates.Aborted reason wh
 abbrev pub heard_at : (Session → Session × Fate) → Key → Heard → Heard
 heard_at f key h = elim (session_at key h.0) [ None ↦ h | Some s ↦ settled key (f s).1 (put key (f s).0 h.0, h.1) ]
 
--- a packet comes: its number is its sequence number, behind the offset
+-- a packet comes
 abbrev pub packet_taken : Key → (sequence : ℕ) → List ℕ → (now : ℕ) → Heard → Heard
-packet_taken key sequence bytes now h = heard_at (λ s. packet_heard key.to s (s.offset + sequence) bytes now) key h
+packet_taken key sequence bytes now h = heard_at (λ s. sequence_heard key.to s sequence bytes now) key h
 
 -- a connection management frame that is neither an announcement nor an abort
 abbrev pub cm_taken : Key → CmFrame → (now : ℕ) → Heard → Heard
@@ -74,7 +74,7 @@ abbrev pub opened_at : Key → News → (most now : ℕ) → Heard → Heard
 opened_at key news most now h =
     if not news.is_sound then h
     else if nat_lt most news.size then (h.0, h.1 ++ Lost key (clean news.pgn) 0 news.size TooLong ∷ [])
-    else (put key (opened news.pgn news.size now) h.0, h.1)
+    else (put key (opened key.transport news.pgn news.size now) h.0, h.1)
 
 -- a message is announced: it takes the place of the one before it
 abbrev pub announced : Key → News → (most now : ℕ) → Heard → Heard

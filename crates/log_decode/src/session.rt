@@ -1,17 +1,17 @@
 //! A message under way, as a listener sees it.
 ghost use Rattle.std.specs.Prelude.{◌≡◌, ◌+◌, ◌*◌, ◌≤◌, length, true, OnOk, IfOk, Some};
 ghost use Rattle.seg_cut.specs.Join.{wants};
-ghost use Rattle.log_decode.specs.Session.{opened, accepted, renewed, packet_heard, cm_heard, acknowledged, heard, abort_heard, is_silent, patience, given_of, told_of, is_again};
+ghost use Rattle.log_decode.specs.Session.{first_window, opened, accepted, renewed, packet_heard, is_within, sequence_heard, cm_heard, acknowledged, heard, abort_heard, is_silent, patience, given_of, told_of, is_again};
 ghost use Rattle.log_decode.specs.declared.session.Fate.TheVariants.{GoesOn, Lost};
 ghost use Rattle.tick_timers.specs.declared.durations.TheConstants.{T1};
 
-use crate::key::Key;
+use crate::key::{Key, Transport};
 use crate::told::{Cause, Told};
 use message_events::Bytes;
 use pgn_ids::{Address, Pgn, WirePgn};
 use seg_cut::Join;
 use std::alloc::{AllocError, Global};
-use tick_timers::{T1, T3};
+use tick_timers::T1;
 use tp_wire::CmFrame;
 
 /// What becomes of a message under way by a frame.
@@ -36,6 +36,9 @@ pub struct Session {
     join: Join,
     /// The offset of the last data packet offset, 0 before the first and where there is none.
     offset: u32,
+    /// The last sequence number of the window that a data packet offset opened, 0 before the first and once a CTS has closed it. None
+    /// where sequence numbers are those of the message's packets.
+    window: Option<u8>,
     /// When a frame of it was last seen, in microseconds.
     heard: u64,
 }
@@ -46,15 +49,36 @@ const WINDOW: u32 = 64;
 /// How many microseconds a tick has.
 const TICK: u64 = 1_000;
 
+/// How many microseconds a frame of a connection is waited for: more than its ends wait, so that the abort of one that waited in vain comes
+/// before.
+pub const CONNECTION_PATIENCE: u64 = 1_500_000;
+
+/// The window of a message of which nothing has come.
+fn first_window(transport: Transport) -> Option<u8>
+    ensures { result ≡ first_window transport }
+{
+    match transport {
+        Transport::Tp => None,
+        Transport::Etp => Some(0),
+    }
+}
+
 impl Session {
     /// One of which nothing has come. It takes no memory.
-    pub(crate) fn new(alloc: Global, pgn: WirePgn, size: u32, now: u64) -> Session
-        ensures { result ≡ opened pgn size now }
+    pub(crate) fn new(
+        alloc: Global,
+        transport: Transport,
+        pgn: WirePgn,
+        size: u32,
+        now: u64,
+    ) -> Session
+        ensures { result ≡ opened transport pgn size now }
     {
         Session {
             pgn,
             join: Join::new(alloc, size),
             offset: 0,
+            window: first_window(transport),
             heard: now,
         }
     }
@@ -82,19 +106,18 @@ impl Session {
         Ok(())
     }
 
-    /// A packet of it comes, or one that looks so.
+    /// A packet of this number comes.
     #[tactic(auto, unfolding(crate::specs::Session::packet_heard))]
-    pub(crate) fn hear_packet(
+    fn hear_number(
         &mut self,
         to: Address,
-        sequence: u8,
+        number: u64,
         bytes: [u8; 7],
         now: u64,
     ) -> Result<Fate, AllocError>
-        ensures { IfOk result (λ fate. (self.new, fate) ≡ packet_heard to self.old (self.old.offset + sequence) bytes now) }
+        ensures { IfOk result (λ fate. (self.new, fate) ≡ packet_heard to self.old number bytes now) }
     {
         let next = u64::from(self.join.next());
-        let number = u64::from(self.offset) + u64::from(sequence);
         if number == next && !self.join.is_complete() {
             self.accept(bytes, now)?;
             return Ok(if self.join.is_complete() {
@@ -107,6 +130,33 @@ impl Session {
             return Ok(Fate::Lost(Cause::Missing));
         }
         Ok(self.go_on(now))
+    }
+
+    /// Whether a packet of this sequence number is one of the window.
+    fn is_within(&self, sequence: u8) -> bool
+        ensures { result ≡ is_within self.now.window sequence }
+    {
+        match self.window {
+            None => true,
+            Some(last) => sequence <= last,
+        }
+    }
+
+    /// A packet of it comes, or one that looks so.
+    pub(crate) fn hear_packet(
+        &mut self,
+        to: Address,
+        sequence: u8,
+        bytes: [u8; 7],
+        now: u64,
+    ) -> Result<Fate, AllocError>
+        ensures { IfOk result (λ fate. (self.new, fate) ≡ sequence_heard to self.old sequence bytes now) }
+    {
+        if !self.is_within(sequence) {
+            return Ok(self.go_on(now));
+        }
+        let number = u64::from(self.offset) + u64::from(sequence);
+        self.hear_number(to, number, bytes, now)
     }
 
     /// A frame of it is seen.
@@ -123,9 +173,17 @@ impl Session {
     {
         match frame {
             CmFrame::Cts { .. } => self.go_on(now),
-            CmFrame::EtpCts { .. } => self.go_on(now),
-            CmFrame::EtpDpo { offset, .. } => {
+            CmFrame::EtpCts { .. } => {
+                self.window = Some(0);
+                self.go_on(now)
+            }
+            CmFrame::EtpDpo {
+                packets,
+                offset,
+                ..
+            } => {
                 self.offset = *offset;
+                self.window = Some(*packets);
                 self.go_on(now)
             }
             CmFrame::EndOfMsgAck { size, .. } => self.acknowledged(u32::from(*size)),
@@ -178,7 +236,7 @@ impl Session {
         self.heard = now;
     }
 
-    /// Whether no frame of it was seen for so long that both of its ends have given it up.
+    /// Whether no frame of it was seen for so long that its ends have given it up.
     pub(crate) fn is_silent(&self, to: Address, now: u64) -> bool
         ensures { result ≡ is_silent to self.now now }
     {
@@ -216,6 +274,7 @@ impl Session {
                     pgn,
                     join,
                     offset: _,
+                    window: _,
                     heard: _,
                 } = self;
                 given(key, pgn.clean(), join)
@@ -238,14 +297,14 @@ pub(crate) fn soonest(now: u64) -> u64
     now.saturating_add(T1 * TICK)
 }
 
-/// How long the ends of a message wait for a frame at most, in microseconds.
+/// For how long a frame of a message is waited for, in microseconds.
 fn patience(to: Address) -> u64
     ensures { result ≡ patience to }
 {
     if to == Address::GLOBAL {
         T1 * TICK
     } else {
-        T3 * TICK
+        CONNECTION_PATIENCE
     }
 }
 

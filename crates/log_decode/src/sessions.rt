@@ -146,7 +146,8 @@ fn begin(
         })?;
         return Ok(());
     }
-    sessions.insert(key, Session::new(alloc, news.pgn, news.size, now))?;
+    let session = Session::new(alloc, key.transport, news.pgn, news.size, now);
+    sessions.insert(key, session)?;
     Ok(())
 }
 

@@ -1,7 +1,9 @@
 //! Tests of logs: their lines, and the messages that are put together of them, with the exact text that is printed.
+mod decoding;
 mod failures;
 mod lines;
 mod listeners;
 mod logs;
 mod progress;
 mod scripts;
+mod windows;

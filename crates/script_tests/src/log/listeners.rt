@@ -49,15 +49,15 @@ fn message_to_all(rt: &impl Abort, alloc: Global, decoder: &mut Decoder, told: &
     holds(rt, told.first().is_some_and(is_given));
 }
 
-// A connection waits for 1,250 ms.
+// A connection is waited for 1,500 ms.
 fn silence(rt: &impl Abort, alloc: Global, decoder: &mut Decoder, told: &mut Vec<Told>) {
     let other = got(rt, Frame::new(got(rt, CanId::new(0x18FE_F100)), &[]));
-    see(rt, decoder, alloc, 1_250_999, &other, told);
+    see(rt, decoder, alloc, 1_500_999, &other, told);
     same(rt, told.len(), 1);
-    see(rt, decoder, alloc, 1_251_000, &other, told);
+    see(rt, decoder, alloc, 1_501_000, &other, told);
     same(rt, told.len(), 2);
     holds(rt, told.last().is_some_and(is_timed_out));
-    same(rt, decoder.time(), 1_251_000);
+    same(rt, decoder.time(), 1_501_000);
 }
 
 fn finishes(rt: &impl Abort, decoder: Decoder, told: &mut Vec<Told>) {
