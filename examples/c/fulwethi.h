@@ -21,6 +21,13 @@
 extern "C" {
 #endif
 
+/* The version of this header, and its three numbers, two hexadecimal digits each. */
+#define FULWETHI_VERSION "0.3.0"
+#define FULWETHI_VERSION_NUMBER 0x000300
+
+/* The version of the library that is linked, as FULWETHI_VERSION_NUMBER. */
+uint32_t fulwethi_version(void);
+
 struct fulwethi { void *ptr; };
 
 /* A frame: 29 bits of identifier, and 0 to 8 bytes. */

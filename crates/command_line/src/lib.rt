@@ -169,7 +169,7 @@ fn without_commands<'a>(alloc: Global) -> Result<Command<'a>, AllocError> {
 fn program<'a>(alloc: Global) -> Result<Command<'a>, AllocError> {
     let commands = commands(alloc)?;
     without_commands(alloc)?
-        .version("0.1.0")
+        .version("0.3.0")
         .args_conflicts_with_subcommands(true)
         .subcommands(commands)
 }

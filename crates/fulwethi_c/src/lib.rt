@@ -73,3 +73,11 @@ pub extern "C" fn fulwethi_raw_fire(of: Handle, out: &mut Handle) -> u32
     *out = Handle::of_parts(Parts::of(held));
     code
 }
+
+/// The version of the library: its three numbers, two hexadecimal digits each, as `FULWETHI_VERSION_NUMBER` of the header has them.
+#[unsafe(no_mangle)]
+pub extern "C" fn fulwethi_version() -> u32
+    ensures { result ≡ 768 }
+{
+    0x00_03_00
+}

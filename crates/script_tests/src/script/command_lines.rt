@@ -118,7 +118,7 @@ fn refuses_turns(rt: &impl Abort, alloc: Global, turns: &str, told: &str) {
 #[test]
 fn whatever_else_is_asked_for_is_answered_by_a_text(rt: HostRuntime) {
     let alloc = rt.alloc();
-    tells(&rt, alloc, &["j1939bus", "--version"], "j1939bus 0.1.0");
+    tells(&rt, alloc, &["j1939bus", "--version"], "j1939bus 0.3.0");
     tells(&rt, alloc, &["j1939bus", "lives"], "'lives'");
     tells(
         &rt,
