@@ -1,5 +1,5 @@
 -- Calls that a node made.
-use Rattle.std.proofs.Common.{◌≡◌, Bool, true, false, List, [], ◌∷◌, ◌++◌, Err, refl, sym, ap, ◌∙◌, subst}
+use Rattle.std.proofs.Common.{◌≡◌, Bool, true, false, List, [], ◌∷◌, ◌++◌, Err, sym, ap, ◌∙◌, subst}
 use Rattle.std.specs.Bool.{OnTrue, OnFalse}
 use Rattle.std.proofs.lemmas.List.{append-nil}
 use Rattle.pgn_ids.specs.declared.address.Address.{Address}
