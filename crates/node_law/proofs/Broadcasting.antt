@@ -419,7 +419,7 @@ met = record {
   given = refl;
 }
 
--- and so it is where the sender wasn't told yet
+-- and so it is if the sender wasn't told yet
 pub met_untold : Met 9 2 3 outcome.Broadcast
 unfolding untold_on_bus lives_up_to second_on_bus second_life
 met_untold = record {

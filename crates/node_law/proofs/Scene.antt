@@ -88,7 +88,7 @@ module _ (to : Address) where
   pub lane_there : (m : Lanes) (l : Lane) → finmap.get (finmap.insert m to.0 l) to.0 ≡ Some l
   lane_there m l = get-insert nat_cmp_total m to.0 l to.0 ∙ ap (λ (b : Bool). cond b (Some l) (finmap.get m to.0)) (unsigned_tied to.0 to.0 ∙ eq-eqb to.0 to.0 refl)
 
-  -- a message is sent, where there is a lane or none yet
+  -- a message is sent, whether or not there is a lane yet
   abbrev pub send_by : List ℕ → Option Lane → Answer
   send_by bytes o =
       cond (is_full (elim o as (λ (_ : Option Lane). Lane) [ None ↦ new_lane 1 to.0 | Some l ↦ l ])) (Err refusal.LaneFull)
