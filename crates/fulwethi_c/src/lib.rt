@@ -2,7 +2,7 @@
 //! over these that take a pointer to the handle.
 #![tactic(auto)]
 
-ghost use Rattle.std.specs.Prelude.{IsSome};
+ghost use Rattle.std.specs.Prelude.{◌≡◌, IsSome};
 ghost use Rattle.segment_law.specs.declared.call.Call.TheVariants.{Fire};
 ghost use Rattle.one_station.specs.Answers.{IsAnswered};
 ghost use Rattle.fulwethi_c.specs.Codes.{done_code, new_code};
