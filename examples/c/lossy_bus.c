@@ -3,6 +3,9 @@
  *   lossy_bus COUNT               so many messages; each loss is reported (fulwethi_missed)
  *   lossy_bus COUNT unreported    the same without the reports, until a message is given that nobody sent
  *
+ * At first one station is fed two messages of which three frames are lost, so that what comes could be one message: it is given where the
+ * loss isn't reported, and nothing is where it is.
+ *
  * They send each other messages of two lengths, to one and to all. Each message that is given must be one that was sent to its station
  * or to all, byte for byte, behind those of the same sender and destination that were given before. */
 #include "fulwethi.h"
@@ -140,12 +143,30 @@ static void run(struct bus *bus, uint32_t messages) {
     }
 }
 
+/* Of two messages of 20 bytes the last packet of the first, the second announcement and the first packet of the second are lost. */
+static void lose_three(int reports) {
+    static const struct fulwethi_frame frames[5] = {
+        {0x1CECFF21, 8, {0x20, 20, 0, 3, 0xFF, 0, 0xEF, 0}}, {0x1CEBFF21, 8, {1, 1, 1, 1, 1, 1, 1, 1}}, {0x1CEBFF21, 8, {2, 1, 1, 1, 1, 1, 1, 1}},
+        {0x1CEBFF21, 8, {2, 2, 2, 2, 2, 2, 2, 2}}, {0x1CEBFF21, 8, {3, 2, 2, 2, 2, 2, 2, 0xFF}}};
+    struct fulwethi node = {0};
+    struct fulwethi_event event;
+    uint64_t port;
+    WANT(fulwethi_new(&node, 0x35) == FULWETHI_DONE && fulwethi_open(&node, PGN, MOST, &port) == FULWETHI_DONE);
+    for (int i = 0; i < 5; i++) {
+        if (i == 3 && reports) WANT(fulwethi_missed(&node) == FULWETHI_DONE);
+        WANT(fulwethi_feed(&node, &frames[i]) == FULWETHI_DONE);
+    }
+    WANT(fulwethi_event(&node, &event) == (reports ? FULWETHI_NOTHING : FULWETHI_DONE));
+    fulwethi_free(&node);
+}
+
 int main(int count, char **words) {
     static struct bus bus;
     uint64_t port;
     if (count < 2 || count > 3) return 2;
     uint32_t messages = (uint32_t)atol(words[1]);
     bus.reports = count == 2;
+    lose_three(bus.reports);
     WANT(bus.messages = calloc(messages + 1, sizeof *bus.messages));
     for (int at = 0; at < STATIONS; at++) {
         WANT(fulwethi_new(&bus.node[at], ADDRESS[at]) == FULWETHI_DONE);
