@@ -4,10 +4,12 @@
  * Frames and ticks go in, frames and events come out. No call waits, reads a clock, starts a thread or calls back.
  *
  * What a caller upholds:
- *   - a `struct fulwethi` starts as all zeros (`= {0}`), is made by fulwethi_new, and ends by fulwethi_free;
+ *   - a `struct fulwethi` starts as all zeros (`= {0}`), is made by fulwethi_new, and ends by fulwethi_free; only these two take one
+ *     that isn't made;
  *   - it isn't copied: of two copies, the one that isn't passed is spent by the first call;
  *   - every call on it is made by the thread that made it, and no two at the same time;
- *   - a pointer to room for n bytes has n bytes behind it.
+ *   - no pointer is null, also where its length is 0; a pointer to room for n bytes has n bytes behind it;
+ *   - where frames of the bus were lost, fulwethi_missed is called before a later frame is fed.
  *
  * Units: a message is 9 to 1,785 bytes to all (address 255), 9 to 117,440,505 bytes to one node (0 to 253); a tick is 1 ms.
  */
@@ -36,6 +38,12 @@ struct fulwethi_frame { uint32_t id, len; uint8_t bytes[8]; };
 /* Kind 1: a message at port `number`, of `len` bytes. Kind 2: the outcome of message `number` to `to`. */
 struct fulwethi_event { uint32_t kind, from, to, pgn; uint64_t number, len; uint32_t outcome, reason; };
 
+/* What a node counted: frames that were put or fed, malformed ones among them, messages that were given, and messages by their outcome. */
+struct fulwethi_counts { uint64_t frames, malformed, given, acknowledged, broadcast, aborted, timed_out, overrun, cancelled, unreachable; };
+
+/* A lane: how many messages to a destination have no outcome, and 1 where it is in doubt after one that failed. */
+struct fulwethi_lane { uint64_t pending; uint32_t in_doubt; };
+
 enum { FULWETHI_GIVEN = 1, FULWETHI_OUTCOME = 2 };
 
 enum {
@@ -51,11 +59,14 @@ enum {
     FULWETHI_LANE_FULL = 9, FULWETHI_PORTS_FULL = 11, FULWETHI_NO_SUCH_PORT = 12, FULWETHI_BAD_ADDRESS = 13,
     FULWETHI_NO_SUCH_STATION = 14, FULWETHI_TOO_SHORT = 15, FULWETHI_TOO_LONG = 16, FULWETHI_SAME_STATION = 17,
     FULWETHI_NOTHING_TO_TAKE = 18, FULWETHI_NOTHING_DUE = 20, FULWETHI_NOTHING_TO_SEND = 21, FULWETHI_STATION_ADDRESS = 23,
+    FULWETHI_PORT_PAUSED = 27, FULWETHI_PORT_NOT_PAUSED = 28,
     /* not done: */
     FULWETHI_NO_MEMORY = 64, FULWETHI_NOTHING = 65, FULWETHI_FRAME_WAITS = 66, FULWETHI_CLOCK_PASSED = 67,
     FULWETHI_TOO_LITTLE_ROOM = 68,
-    /* done but for this: the node has the frame, and looks at it when settle is called */
-    FULWETHI_HELD = 69
+    /* done but for this: the node has the frame, or knows of those that were missed, and settle is to be called until it is done */
+    FULWETHI_HELD = 69,
+    /* done: the node has looked at the frame, but took nothing of what it brings, since there was no memory */
+    FULWETHI_WITHOUT_ROOM = 70
 };
 
 /* The exports: a handle goes in by value, and comes back by `out`. */
@@ -63,15 +74,21 @@ uint32_t fulwethi_raw_new(uint8_t address, struct fulwethi *out);
 void fulwethi_raw_free(struct fulwethi of);
 uint32_t fulwethi_raw_open(struct fulwethi of, uint32_t pgn, uint32_t max_len, uint64_t *port, struct fulwethi *out);
 uint32_t fulwethi_raw_close(struct fulwethi of, uint64_t port, struct fulwethi *out);
+uint32_t fulwethi_raw_pause(struct fulwethi of, uint64_t port, struct fulwethi *out);
+uint32_t fulwethi_raw_resume(struct fulwethi of, uint64_t port, struct fulwethi *out);
 uint32_t fulwethi_raw_send(struct fulwethi of, uint8_t to, uint32_t pgn, const uint8_t *bytes, size_t len, uint64_t *number, struct fulwethi *out);
 uint32_t fulwethi_raw_cancel(struct fulwethi of, uint8_t to, uint64_t number, struct fulwethi *out);
 uint32_t fulwethi_raw_feed(struct fulwethi of, uint32_t id, const uint8_t *bytes, size_t len, struct fulwethi *out);
+uint32_t fulwethi_raw_missed(struct fulwethi of, struct fulwethi *out);
 uint32_t fulwethi_raw_settle(struct fulwethi of, struct fulwethi *out);
 uint32_t fulwethi_raw_front(struct fulwethi of, struct fulwethi_frame *frame, struct fulwethi *out);
 uint32_t fulwethi_raw_sent(struct fulwethi of, struct fulwethi *out);
 uint32_t fulwethi_raw_clock(struct fulwethi of, uint64_t tick, struct fulwethi *out);
 uint32_t fulwethi_raw_fire(struct fulwethi of, struct fulwethi *out);
 uint32_t fulwethi_raw_next_due_at(struct fulwethi of, uint64_t *tick, struct fulwethi *out);
+uint32_t fulwethi_raw_send_refusal(struct fulwethi of, uint8_t to, uint32_t pgn, size_t len, struct fulwethi *out);
+uint32_t fulwethi_raw_lane(struct fulwethi of, uint8_t to, struct fulwethi_lane *lane, struct fulwethi *out);
+uint32_t fulwethi_raw_counts(struct fulwethi of, struct fulwethi_counts *counts, struct fulwethi *out);
 uint32_t fulwethi_raw_event(struct fulwethi of, struct fulwethi_event *event, struct fulwethi *out);
 uint32_t fulwethi_raw_take(struct fulwethi of, uint8_t *room, size_t len, struct fulwethi *out);
 
@@ -93,10 +110,31 @@ static inline uint32_t fulwethi_open(struct fulwethi *node, uint32_t pgn, uint32
 /* Closes a port: nothing is given at it any more. NO_SUCH_PORT, NO_MEMORY. */
 static inline uint32_t fulwethi_close(struct fulwethi *node, uint64_t port) { return fulwethi_raw_close(*node, port, node); }
 
+/* Pauses a port: a connection that brings it a message is held, and goes on once the port is resumed. NO_SUCH_PORT, PORT_PAUSED, NO_MEMORY. */
+static inline uint32_t fulwethi_pause(struct fulwethi *node, uint64_t port) { return fulwethi_raw_pause(*node, port, node); }
+
+/* Ends the pause of a port. NO_SUCH_PORT, PORT_NOT_PAUSED, NO_MEMORY. */
+static inline uint32_t fulwethi_resume(struct fulwethi *node, uint64_t port) { return fulwethi_raw_resume(*node, port, node); }
+
 /* Sends a message, whose bytes are copied, and writes its number, from 1 for each destination. Its frames come by front, its end
  * by an event. BAD_PGN, NO_SUCH_STATION (254), SAME_STATION, TOO_SHORT, TOO_LONG, LANE_FULL (32 without an outcome), NO_MEMORY. */
 static inline uint32_t fulwethi_send(struct fulwethi *node, uint8_t to, uint32_t pgn, const uint8_t *bytes, size_t len, uint64_t *number) {
     return fulwethi_raw_send(*node, to, pgn, bytes, len, number, node);
+}
+
+/* Why fulwethi_send of so many bytes would be refused, or DONE. It takes no memory. */
+static inline uint32_t fulwethi_send_refusal(struct fulwethi *node, uint8_t to, uint32_t pgn, size_t len) {
+    return fulwethi_raw_send_refusal(*node, to, pgn, len, node);
+}
+
+/* Writes how the lane to a destination stands. */
+static inline uint32_t fulwethi_lane(struct fulwethi *node, uint8_t to, struct fulwethi_lane *lane) {
+    return fulwethi_raw_lane(*node, to, lane, node);
+}
+
+/* Writes what was counted. */
+static inline uint32_t fulwethi_counts(struct fulwethi *node, struct fulwethi_counts *counts) {
+    return fulwethi_raw_counts(*node, counts, node);
 }
 
 /* Cancels a message that has no outcome yet. NOTHING_TO_SEND (there is none), NO_SUCH_STATION, TX_FULL, NO_MEMORY. */
@@ -104,13 +142,21 @@ static inline uint32_t fulwethi_cancel(struct fulwethi *node, uint8_t to, uint64
     return fulwethi_raw_cancel(*node, to, number, node);
 }
 
-/* Looks at the frame that waits, since there was no memory when it was fed. NOTHING_TO_TAKE (none waits), TX_FULL, NO_MEMORY. */
+/* Looks at the frame that waits, since there was no memory when it was fed; where none waits, ends what was under way when frames were
+ * missed. NOTHING_TO_TAKE (nothing waits), TX_FULL (put frames first), NO_MEMORY. */
 static inline uint32_t fulwethi_settle(struct fulwethi *node) { return fulwethi_raw_settle(*node, node); }
 
+/* Frames of the bus were lost, by the driver or since they weren't fed: to be called before a later frame is fed. Messages that are
+ * coming in end, and connections under way, with outcome OVERRUN: else a message could be put together of the packets of two. HELD:
+ * the node remembers it, feed and sent answer FRAME_WAITS, and settle is to be called until it is done. */
+static inline uint32_t fulwethi_missed(struct fulwethi *node) { return fulwethi_raw_missed(*node, node); }
+
 /* A frame of another node comes from the bus. STATION_ADDRESS (it has the own source: don't loop own frames back), TX_FULL (put
- * frames first), FRAME_WAITS (settle first), NO_MEMORY, ID_TOO_LARGE, DATA_TOO_LONG: the node doesn't have it. HELD: the node has
- * it, and settle is to be called until it is done. */
+ * frames first), FRAME_WAITS (settle first), NO_MEMORY, ID_TOO_LARGE, DATA_TOO_LONG (len is above 8; its bytes aren't read): the node
+ * doesn't have it; it is fed again before any other, or told by missed. HELD: the node has it, and settle is to be called until it is
+ * done. WITHOUT_ROOM: the node has looked at it, and there was no memory for what it brings. */
 static inline uint32_t fulwethi_feed(struct fulwethi *node, const struct fulwethi_frame *frame) {
+    if (frame->len > 8) return frame->id >> 29 ? FULWETHI_ID_TOO_LARGE : FULWETHI_DATA_TOO_LONG;
     return fulwethi_raw_feed(*node, frame->id, frame->bytes, frame->len, node);
 }
 

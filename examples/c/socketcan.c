@@ -3,10 +3,16 @@
  *   socketcan INTERFACE ADDRESS PGN      (numbers in hexadecimal)
  *
  * A port is open for the PGN. Messages are written to standard output as 'FROM TO PGN BYTES..'; a line 'TO PGN BYTES..' of standard
- * input sends a message. The socket doesn't give the program its own frames. */
+ * input sends a message.
+ *
+ * What the node is told comes in the order of the bus. A frame of its own has its place there once the kernel loops it back, so one is
+ * outstanding at a time, and what comes before its echo is fed before it is told to be sent. A loss (a full receive queue, a controller
+ * that restarted or was overrun) is told before the frame that was read with it. If it is told while a frame is outstanding, nothing more
+ * is fed until the echo comes; what was read before counts as missed too. */
 #include "fulwethi.h"
 #include <errno.h>
 #include <linux/can.h>
+#include <linux/can/error.h>
 #include <linux/can/raw.h>
 #include <net/if.h>
 #include <poll.h>
@@ -18,61 +24,190 @@
 #include <time.h>
 #include <unistd.h>
 
+enum {
+    ECHO_FLAG = 1 << 18,  /* IFF_ECHO: the interface loops a frame back once it was put */
+    ECHO_WAIT = 200,      /* so long an echo is waited for after a loss was told */
+    ECHO_LOST = 1000,     /* after so long without one it counts as lost */
+    PACE = 50,            /* between the frames of a broadcast */
+    RETRY = 10            /* what found no memory, or no place in the interface's queue, is tried again */
+};
+
+struct station {
+    struct fulwethi node;
+    int bus;
+    uint64_t start;
+    uint32_t drops;             /* how many frames the socket dropped so far */
+    struct fulwethi_frame kept; /* a frame that the node didn't take yet */
+    int has_kept;
+    char tell[8];               /* what the node is to be told next: m missed, s sent, w to settle */
+    int outstanding, is_lost;   /* a frame was put without an echo yet; and a loss was told since */
+    uint64_t put_at, lost_at;   /* when */
+    uint64_t paced_until;       /* when the next frame of a broadcast may go out */
+    int is_blocked, has_said;   /* the interface didn't take a frame; and that was said */
+};
+
+static uint64_t milliseconds(void) {
+    struct timespec now;
+    if (clock_gettime(CLOCK_MONOTONIC, &now)) abort();
+    return (uint64_t)now.tv_sec * 1000 + (uint64_t)now.tv_nsec / 1000000;
+}
+
+static uint64_t ticks(const struct station *at) { return milliseconds() - at->start; }
+
+/* Whether the interface tells when a frame was put. Else the kernel loops a frame back at once, whenever it is put. */
+static int tells_order(const char *name) {
+    char path[64];
+    unsigned flags = 0;
+    if (snprintf(path, sizeof path, "/sys/class/net/%s/flags", name) >= (int)sizeof path) return 0;
+    FILE *file = fopen(path, "r");
+    if (!file) return 0;
+    int count = fscanf(file, "%x", &flags);
+    fclose(file);
+    return count == 1 && flags & ECHO_FLAG;
+}
+
 static int open_bus(const char *name) {
     struct ifreq interface = {0};
     struct sockaddr_can address = {.can_family = AF_CAN};
-    int off = 0, bus = socket(PF_CAN, SOCK_RAW | SOCK_NONBLOCK, CAN_RAW);
+    int on = 1, bus = socket(PF_CAN, SOCK_RAW | SOCK_NONBLOCK, CAN_RAW);
+    can_err_mask_t errors = CAN_ERR_RESTARTED | CAN_ERR_BUSOFF | CAN_ERR_CRTL;
     if (bus < 0) return -1;
     strncpy(interface.ifr_name, name, IFNAMSIZ - 1);
     if (ioctl(bus, SIOCGIFINDEX, &interface) < 0) return -1;
     address.can_ifindex = interface.ifr_ifindex;
-    setsockopt(bus, SOL_CAN_RAW, CAN_RAW_RECV_OWN_MSGS, &off, sizeof off);
-    return bind(bus, (struct sockaddr *)&address, sizeof address) < 0 ? -1 : bus;
+    if (setsockopt(bus, SOL_CAN_RAW, CAN_RAW_RECV_OWN_MSGS, &on, sizeof on) < 0) return -1;
+    if (setsockopt(bus, SOL_CAN_RAW, CAN_RAW_ERR_FILTER, &errors, sizeof errors) < 0) return -1;
+    if (setsockopt(bus, SOL_SOCKET, SO_RXQ_OVFL, &on, sizeof on) < 0) return -1;
+    if (bind(bus, (struct sockaddr *)&address, sizeof address) < 0) return -1;
+    if (!tells_order(name)) fprintf(stderr, "%s doesn't tell when a frame was put: the order of its own frames isn't known\n", name);
+    return bus;
 }
 
-static uint64_t milliseconds(void) {
-    struct timespec now;
-    clock_gettime(CLOCK_MONOTONIC, &now);
-    return (uint64_t)now.tv_sec * 1000 + (uint64_t)now.tv_nsec / 1000000;
+/* The node is to be told this, behind what it is to be told already. */
+static void note(struct station *at, const char *what) {
+    if (strlen(at->tell) + strlen(what) < sizeof at->tell) strcat(at->tell, what);
 }
 
-/* Reads frames while there are some and the node takes them. 0 where the socket fails. */
-static int receive(int bus, struct fulwethi *node) {
-    static struct fulwethi_frame frame;
-    static int kept; /* a frame that the node didn't take yet */
-    for (;;) {
-        if (!kept) {
-            struct can_frame got;
-            ssize_t n = read(bus, &got, sizeof got);
-            if (n < 0) return errno == EAGAIN || errno == EINTR;
-            if (n != sizeof got || !(got.can_id & CAN_EFF_FLAG) || got.can_id & (CAN_RTR_FLAG | CAN_ERR_FLAG)) continue;
-            frame.id = got.can_id & CAN_EFF_MASK;
-            frame.len = got.can_dlc;
-            memcpy(frame.bytes, got.data, 8);
+/* 1 where nothing waits in the node for memory or a place. */
+static int is_settled(struct station *at) {
+    uint32_t code;
+    do code = fulwethi_settle(&at->node); while (code == FULWETHI_DONE);
+    return code == FULWETHI_NOTHING_TO_TAKE;
+}
+
+/* Tells the node what it is to be told; 0 where something is left, for want of memory. */
+static int is_told(struct station *at) {
+    while (at->tell[0]) {
+        uint32_t code = FULWETHI_DONE;
+        if (at->tell[0] == 's') code = fulwethi_sent(&at->node);
+        else if (at->tell[0] == 'm') code = fulwethi_missed(&at->node);
+        if (code == FULWETHI_NO_MEMORY) return 0;
+        if (code != FULWETHI_DONE && !is_settled(at)) return 0;
+        if (code != FULWETHI_FRAME_WAITS) memmove(at->tell, at->tell + 1, strlen(at->tell));
+    }
+    return is_settled(at);
+}
+
+/* Frames were lost: that is told now, or once the place of the outstanding frame is known. */
+static void lose(struct station *at) {
+    if (!at->outstanding) note(at, "m");
+    else if (!at->is_lost) at->is_lost = 1, at->lost_at = ticks(at);
+}
+
+/* The outstanding frame was put. */
+static void see_echo(struct station *at) {
+    if (!at->outstanding) note(at, "m"); /* one that counted as lost: what came since isn't in order */
+    else note(at, at->is_lost ? "ms" : "s");
+    at->outstanding = at->is_lost = 0;
+}
+
+/* An echo that doesn't come: the frame counts as put, wherever among those that were lost. */
+static void give_up_echo(struct station *at) {
+    if (at->outstanding && !at->is_lost && ticks(at) - at->put_at >= ECHO_LOST) lose(at);
+    if (!at->is_lost || ticks(at) - at->lost_at < ECHO_WAIT) return;
+    note(at, "msm");
+    at->outstanding = at->is_lost = at->has_kept = 0;
+}
+
+/* Reads a frame, and whether frames were lost before it. 1 for one to feed, 0 for another, -1 where none is there. */
+static int read_frame(struct station *at) {
+    struct can_frame got;
+    char control[CMSG_SPACE(sizeof(uint32_t)) + 64];
+    struct iovec place = {.iov_base = &got, .iov_len = sizeof got};
+    struct msghdr message = {.msg_iov = &place, .msg_iovlen = 1, .msg_control = control, .msg_controllen = sizeof control};
+    ssize_t n = recvmsg(at->bus, &message, 0);
+    if (n < 0) {
+        if (errno == ENETDOWN) lose(at);
+        return -1;
+    }
+    for (struct cmsghdr *part = CMSG_FIRSTHDR(&message); part; part = CMSG_NXTHDR(&message, part)) {
+        uint32_t drops;
+        if (part->cmsg_level != SOL_SOCKET || part->cmsg_type != SO_RXQ_OVFL) continue;
+        memcpy(&drops, CMSG_DATA(part), sizeof drops);
+        if (drops != at->drops) lose(at);
+        at->drops = drops;
+    }
+    if (n != sizeof got) return 0;
+    if (got.can_id & CAN_ERR_FLAG) {
+        int is_overrun = got.can_id & CAN_ERR_CRTL && got.data[1] & CAN_ERR_CRTL_RX_OVERFLOW;
+        if (got.can_id & (CAN_ERR_RESTARTED | CAN_ERR_BUSOFF) || is_overrun) lose(at);
+        return 0;
+    }
+    if (message.msg_flags & MSG_CONFIRM) {
+        see_echo(at);
+        return 0;
+    }
+    if (at->is_lost || !(got.can_id & CAN_EFF_FLAG) || got.can_id & CAN_RTR_FLAG) return 0;
+    at->kept = (struct fulwethi_frame){.id = got.can_id & CAN_EFF_MASK, .len = got.can_dlc};
+    memcpy(at->kept.bytes, got.data, 8);
+    return 1;
+}
+
+/* Reads frames while there are some and the node takes them. */
+static void receive(struct station *at) {
+    while (is_told(at)) {
+        if (!at->has_kept) {
+            int read = read_frame(at);
+            if (read < 0) return;
+            at->has_kept = read;
+            continue; /* what was lost is told before the frame */
         }
-        uint32_t code = fulwethi_settle(node);
-        if (code == FULWETHI_NO_MEMORY || code == FULWETHI_TX_FULL) { kept = 1; return 1; }
-        code = fulwethi_feed(node, &frame);
-        kept = code == FULWETHI_NO_MEMORY || code == FULWETHI_TX_FULL;
-        if (kept) return 1;
+        uint32_t code = fulwethi_feed(&at->node, &at->kept);
+        if (code == FULWETHI_NO_MEMORY || code == FULWETHI_TX_FULL || code == FULWETHI_FRAME_WAITS) return;
+        if (code == FULWETHI_STATION_ADDRESS) fprintf(stderr, "another node has the address\n");
+        at->has_kept = 0;
     }
 }
 
-/* Puts frames while the socket takes them. 1 where one is left, 0 where none is, -1 where the socket fails. */
-static int transmit(int bus, struct fulwethi *node) {
-    static int written; /* the front was put, and the node doesn't know it yet */
+/* The interface didn't take a frame, which is tried again later. */
+static void block(struct station *at) {
+    at->is_blocked = 1;
+    if (!at->has_said) fprintf(stderr, "not put yet: %s\n", strerror(errno));
+    at->has_said = 1;
+}
+
+/* Whether it is one of a broadcast (TP.CM, TP.DT). */
+static int is_broadcast(const struct fulwethi_frame *frame) {
+    uint32_t kind = frame->id >> 8 & 0xFFFF;
+    return kind == 0xECFF || kind == 0xEBFF;
+}
+
+/* Puts the next frame where none is outstanding: 1 where it did. */
+static int transmit(struct station *at) {
     struct fulwethi_frame frame;
-    while (written || fulwethi_front(node, &frame) == FULWETHI_DONE) {
-        if (!written) {
-            struct can_frame put = {.can_id = frame.id | CAN_EFF_FLAG, .can_dlc = (uint8_t)frame.len};
-            memcpy(put.data, frame.bytes, frame.len);
-            if (write(bus, &put, sizeof put) < 0) return errno == EAGAIN || errno == ENOBUFS || errno == EINTR ? 1 : -1;
-        }
-        uint32_t code = fulwethi_sent(node);
-        written = code == FULWETHI_NO_MEMORY || code == FULWETHI_FRAME_WAITS;
-        if (written) return 1;
+    at->is_blocked = 0;
+    if (at->outstanding || !is_told(at) || fulwethi_front(&at->node, &frame) != FULWETHI_DONE) return 0;
+    struct can_frame put = {.can_id = frame.id | CAN_EFF_FLAG, .can_dlc = (uint8_t)frame.len};
+    memcpy(put.data, frame.bytes, frame.len);
+    if (write(at->bus, &put, sizeof put) != sizeof put) {
+        block(at);
+        return 0;
     }
-    return 0;
+    at->outstanding = 1;
+    at->has_said = 0;
+    at->put_at = ticks(at);
+    if (is_broadcast(&frame)) at->paced_until = at->put_at + PACE;
+    return 1;
 }
 
 /* Writes what is told. A message for which there is no room now stays. */
@@ -81,7 +216,7 @@ static void tell(struct fulwethi *node) {
     while (fulwethi_event(node, &event) == FULWETHI_DONE) {
         uint8_t *room = malloc(event.len ? event.len : 1);
         if (!room) return;
-        fulwethi_take(node, room, event.len);
+        if (fulwethi_take(node, room, event.len) != FULWETHI_DONE) abort();
         if (event.kind == FULWETHI_GIVEN) {
             printf("%02X %02X %05X", event.from, event.to, event.pgn);
             for (uint64_t i = 0; i < event.len; i++) printf(" %02X", room[i]);
@@ -91,59 +226,71 @@ static void tell(struct fulwethi *node) {
         }
         free(room);
     }
-    fflush(stdout);
+    if (fflush(stdout)) perror("output");
 }
 
 /* Sends the message of a line. */
 static void send_line(struct fulwethi *node, char *line) {
+    static uint8_t bytes[65536];
+    size_t len = 0;
+    uint64_t number;
     char *word = strtok(line, " \n");
     unsigned long to = word ? strtoul(word, NULL, 16) : 256;
     word = strtok(NULL, " \n");
     uint32_t pgn = word ? (uint32_t)strtoul(word, NULL, 16) : 0;
-    uint8_t *bytes = malloc(strlen(line) + 1 + 65536);
-    size_t len = 0;
-    uint64_t number;
-    if (!bytes || to > 255) { free(bytes); return; }
-    while (len < 65536 && (word = strtok(NULL, " \n"))) bytes[len++] = (uint8_t)strtoul(word, NULL, 16);
+    if (to > 255) return;
+    while (len < sizeof bytes && (word = strtok(NULL, " \n"))) bytes[len++] = (uint8_t)strtoul(word, NULL, 16);
     uint32_t code = fulwethi_send(node, (uint8_t)to, pgn, bytes, len, &number);
     if (code) fprintf(stderr, "not sent: code %u\n", code);
-    free(bytes);
 }
 
-/* How long to wait at most, in milliseconds. */
-static int pause_for(struct fulwethi *node, uint64_t start) {
-    uint64_t due, now = milliseconds() - start;
-    if (fulwethi_next_due_at(node, &due) != FULWETHI_DONE) return 1000;
-    if (due <= now) return 1;
-    return due - now < 1000 ? (int)(due - now) : 1000;
+/* The earlier of a pause and that until a tick. */
+static int until(int pause, uint64_t now, uint64_t tick) {
+    uint64_t left = tick <= now ? 0 : tick - now;
+    if (left > 1000000) left = 1000000;
+    return pause < 0 || left < (uint64_t)pause ? (int)left : pause;
+}
+
+/* How long to wait for the bus, in milliseconds; -1 where nothing else is to be done. */
+static int pause_for(struct station *at) {
+    uint64_t due, now = ticks(at);
+    int pause = -1;
+    if (at->tell[0] || at->is_blocked || at->has_kept) pause = RETRY;
+    if (fulwethi_next_due_at(&at->node, &due) == FULWETHI_DONE) pause = until(pause, now, due);
+    if (at->is_lost) return until(pause, now, at->lost_at + ECHO_WAIT);
+    if (at->outstanding) return until(pause, now, at->put_at + ECHO_LOST);
+    return at->paced_until > now ? until(pause, now, at->paced_until) : pause;
+}
+
+/* One turn: waits, and does what is to be done. */
+static void turn(struct station *at, int *input) {
+    static char line[65536 * 3];
+    struct pollfd from[2] = {{.fd = at->bus, .events = POLLIN}, {.fd = *input, .events = POLLIN}};
+    if (poll(from, 2, pause_for(at)) < 0 && errno != EINTR) abort();
+    uint32_t code = fulwethi_clock(&at->node, ticks(at));
+    if (code) fprintf(stderr, "clock: code %u\n", code);
+    receive(at);
+    give_up_echo(at);
+    while (fulwethi_fire(&at->node) == FULWETHI_DONE) { }
+    if (from[1].revents & (POLLIN | POLLHUP)) {
+        if (fgets(line, sizeof line, stdin)) send_line(&at->node, line);
+        else *input = -1;
+    }
+    while (transmit(at)) receive(at);
+    tell(&at->node);
 }
 
 int main(int count, char **words) {
-    struct fulwethi node = {0};
-    uint64_t port, start = milliseconds();
-    static char line[65536 * 3];
+    static struct station at;
+    uint64_t port;
+    int input = 0;
     if (count != 4) return fprintf(stderr, "usage: %s INTERFACE ADDRESS PGN\n", words[0]), 2;
-    int bus = open_bus(words[1]), left = 0, input = 0;
-    if (bus < 0) return perror(words[1]), 1;
-    uint32_t code = fulwethi_new(&node, (uint8_t)strtoul(words[2], NULL, 16));
-    if (!code) code = fulwethi_open(&node, (uint32_t)strtoul(words[3], NULL, 16), 117440505, &port);
+    at.bus = open_bus(words[1]);
+    if (at.bus < 0) return perror(words[1]), 1;
+    at.start = milliseconds();
+    uint32_t code = fulwethi_new(&at.node, (uint8_t)strtoul(words[2], NULL, 16));
+    if (!code) code = fulwethi_open(&at.node, (uint32_t)strtoul(words[3], NULL, 16), 117440505, &port);
     if (code) return fprintf(stderr, "no station: code %u\n", code), 1;
-    do {
-        struct pollfd from[2] = {{.fd = bus, .events = (short)(POLLIN | (left ? POLLOUT : 0))}, {.fd = input, .events = POLLIN}};
-        /* a broadcast waits 50 ms between frames, which no timer shows: 10 ms is the longest pause while something may be left */
-        int pause = pause_for(&node, start);
-        poll(from, 2, pause < 10 ? pause : 10);
-        fulwethi_clock(&node, milliseconds() - start);
-        if (!receive(bus, &node)) break;
-        while (fulwethi_fire(&node) == FULWETHI_DONE) { }
-        if (from[1].revents & (POLLIN | POLLHUP)) {
-            if (fgets(line, sizeof line, stdin)) send_line(&node, line);
-            else input = -1;
-        }
-        left = transmit(bus, &node);
-        tell(&node);
-    } while (left >= 0);
-    perror("bus");
-    fulwethi_free(&node);
-    return 1;
+    if (setvbuf(stdin, NULL, _IONBF, 0)) return perror("input"), 1;
+    for (;;) turn(&at, &input);
 }

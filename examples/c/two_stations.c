@@ -2,6 +2,8 @@
  *
  *   two_stations COUNT       so many messages of 9 to 100,000 bytes, each compared byte for byte
  *   two_stations memory      a short exchange, with each allocation refused in turn
+ *   two_stations starved     a station alone, with all allocations refused from each on: it answers Requests, ends its messages and puts
+ *                            its frames
  *
  * A message that isn't acknowledged is sent again. Each one that is given must be one that was sent, none before an earlier one, and
  * each one that is acknowledged must have been given. Linked with --wrap=malloc and --wrap=realloc. */
@@ -12,11 +14,12 @@
 
 enum { A = 0x21, B = 0x35, PGN = 0xEF00, MOST = 100000 };
 
-static unsigned long allocations, refused_at;
+static unsigned long allocations, refused_at, starved_from;
 void *__real_malloc(size_t n);
 void *__real_realloc(void *p, size_t n);
-void *__wrap_malloc(size_t n) { return ++allocations == refused_at ? NULL : __real_malloc(n); }
-void *__wrap_realloc(void *p, size_t n) { return ++allocations == refused_at ? NULL : __real_realloc(p, n); }
+static int is_refused(void) { return ++allocations == refused_at || (starved_from && allocations >= starved_from); }
+void *__wrap_malloc(size_t n) { return is_refused() ? NULL : __real_malloc(n); }
+void *__wrap_realloc(void *p, size_t n) { return is_refused() ? NULL : __real_realloc(p, n); }
 
 #define WANT(is) do { if (!(is)) { fprintf(stderr, "line %d: %s\n", __LINE__, #is); exit(1); } } while (0)
 
@@ -44,7 +47,7 @@ static void feed(struct fulwethi *to, const struct fulwethi_frame *frame) {
     if (code == FULWETHI_NO_MEMORY) code = fulwethi_feed(to, frame);
     if (code == FULWETHI_TX_FULL) return; /* lost */
     if (code == FULWETHI_HELD) code = fulwethi_settle(to);
-    WANT(code == FULWETHI_DONE);
+    WANT(code == FULWETHI_DONE || code == FULWETHI_WITHOUT_ROOM);
 }
 
 static int carry(struct run *run, int from) {
@@ -138,6 +141,77 @@ static void end(struct run *run) {
     fulwethi_free(&run->node[1]);
 }
 
+/* A Request of 40 for FECA, and its answer. */
+static const struct fulwethi_frame REQUEST = {0x18EA2140, 3, {0xCA, 0xFE, 0}};
+
+static void is_asked(struct fulwethi *node) {
+    static const uint8_t answer[8] = {1, 0xFF, 0xFF, 0xFF, 0x40, 0xCA, 0xFE, 0};
+    struct fulwethi_frame frame;
+    int found = 0;
+    WANT(fulwethi_feed(node, &REQUEST) == FULWETHI_DONE);
+    while (fulwethi_front(node, &frame) == FULWETHI_DONE) {
+        found += frame.id == 0x18E8FF21 && !memcmp(frame.bytes, answer, 8);
+        WANT(fulwethi_sent(node) == FULWETHI_DONE);
+    }
+    WANT(found == 1);
+}
+
+/* A message to another node; 1 where there was memory for it. */
+static int sends(struct fulwethi *node, uint8_t to) {
+    static const uint8_t bytes[100];
+    uint64_t number;
+    uint32_t code = fulwethi_send(node, to, PGN, bytes, sizeof bytes, &number);
+    WANT(code == FULWETHI_DONE || code == FULWETHI_NO_MEMORY);
+    return code == FULWETHI_DONE;
+}
+
+/* Another node begins a message, and sends its packets. */
+static void is_sent(struct fulwethi *node) {
+    static const struct fulwethi_frame frames[3] = {
+        {0x1CECFF40, 8, {0x20, 9, 0, 2, 0xFF, 0, 0xEF, 0}}, {0x1CEBFF40, 8, {1}}, {0x1CEBFF40, 8, {2}}};
+    for (int i = 0; i < 3; i++) {
+        uint32_t code = fulwethi_feed(node, &frames[i]);
+        WANT(code == FULWETHI_DONE || code == FULWETHI_WITHOUT_ROOM);
+    }
+}
+
+/* How many of its messages have ended. */
+static int ended(struct fulwethi *node) {
+    struct fulwethi_event event;
+    static uint8_t room[MOST];
+    int count = 0;
+    for (; fulwethi_event(node, &event) == FULWETHI_DONE; count += event.kind == FULWETHI_OUTCOME)
+        WANT(fulwethi_take(node, room, sizeof room) == FULWETHI_DONE);
+    return count;
+}
+
+/* From this allocation on there is no memory: 0 where none was refused. */
+static int starve(unsigned long from) {
+    struct fulwethi node = {0};
+    uint64_t port, tick;
+    int sent = 0;
+    WANT(fulwethi_new(&node, A) == FULWETHI_DONE && fulwethi_open(&node, PGN, MOST, &port) == FULWETHI_DONE);
+    is_asked(&node); /* the first frame makes the places of those that follow */
+    allocations = 0;
+    starved_from = from;
+    sent += sends(&node, B);
+    is_sent(&node);
+    sent += sends(&node, 0x36);
+    is_asked(&node);
+    is_sent(&node);
+    sent += sends(&node, B);
+    is_asked(&node);
+    while (fulwethi_next_due_at(&node, &tick) == FULWETHI_DONE) {
+        WANT(fulwethi_clock(&node, tick) == FULWETHI_DONE);
+        WANT(fulwethi_fire(&node) == FULWETHI_DONE);
+        is_asked(&node);
+    }
+    WANT(ended(&node) == sent);
+    starved_from = 0;
+    fulwethi_free(&node);
+    return allocations >= from;
+}
+
 int main(int count, char **words) {
     struct run run;
     if (count != 2) return 2;
@@ -151,6 +225,12 @@ int main(int count, char **words) {
             if (allocations < refused_at) break;
         }
         printf("allocations refused in turn: %lu\n", refused_at - 1);
+        return 0;
+    }
+    if (!strcmp(words[1], "starved")) {
+        unsigned long from = 1;
+        while (starve(from)) from++;
+        printf("allocations refused from each on: %lu\n", from - 1);
         return 0;
     }
     uint32_t messages = (uint32_t)atol(words[1]);

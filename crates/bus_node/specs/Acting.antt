@@ -14,7 +14,7 @@ use Rattle.node_lines.specs.Lines.{node_line}
 use Rattle.node_lines.specs.declared.line.NodeLine.{NodeLine}
 use Rattle.node_lines.specs.declared.line.NodeLine.TheVariants.{Passed, Frame, Now, Command}
 use Rattle.node_lines.specs.declared.command.NodeCommand.{NodeCommand}
-use Rattle.node_lines.specs.declared.command.NodeCommand.TheVariants.{Send, Open, Close, Pause, Resume, Cancel, Counts, State, Refused}
+use Rattle.node_lines.specs.declared.command.NodeCommand.TheVariants.{Send, Open, Close, Pause, Resume, Cancel, Missed, Counts, State, Refused}
 use Rattle.bus_node.specs.Rests.{wakes}
 use Rattle.bus_node.specs.Node.{Node, cleared, told, asked}
 use Rattle.bus_node.specs.Putting.{heard}
@@ -49,6 +49,7 @@ commanded n (Close number) = asked n (calls.Close (record { station = n.station;
 commanded n (Pause number) = asked n (calls.Pause (record { station = n.station; number = number }))
 commanded n (Resume number) = asked n (calls.Resume (record { station = n.station; number = number }))
 commanded n (Cancel to number) = asked n (calls.Cancel n.station to number)
+commanded n Missed = asked n (calls.Overrun n.station 0)
 commanded n Counts = told n (counts_line n.segment.counts)
 commanded n State = told n (state_line n)
 commanded n (Refused cause) = told n (line (refusal_text cause))

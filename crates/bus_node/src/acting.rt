@@ -3,7 +3,8 @@ ghost use Rattle.std.specs.Prelude.{◌≡◌, ◌+◌, ◌++◌, OnOk};
 ghost use Rattle.script_text.specs.Parts.{line};
 ghost use Rattle.script_text.specs.Replies.{refusal_text};
 ghost use Rattle.script_text.specs.Counts.{counts_line};
-ghost use Rattle.bus_node.specs.Node.{told};
+ghost use Rattle.segment_law.specs.declared.call.Call.TheVariants.{Overrun};
+ghost use Rattle.bus_node.specs.Node.{told, asked};
 ghost use Rattle.bus_node.specs.LaneCounts.{lane_counts_text};
 ghost use Rattle.bus_node.specs.Acting.{due_text, first_of, next_due, state_line, commanded, time_in, acted, obeyed, obey_line, Obeyed};
 
@@ -39,6 +40,14 @@ fn first_of(due: Option<u64>, wake: u64) -> Option<u64>
             }
             Some(wake)
         }
+    }
+}
+
+// Whether a line shows a frame of the bus.
+fn is_frame(line: &NodeLine) -> bool {
+    match line {
+        NodeLine::Frame { .. } => true,
+        _ => false,
     }
 }
 
@@ -106,6 +115,17 @@ impl Node {
         print_refused(&mut self.text, cause)
     }
 
+    // Frames were missed: what is under way ends. Where that finds no memory, it is remembered.
+    fn miss(&mut self) -> Result<(), AllocError>
+        ensures { OnOk result (self.new ≡ asked self.old (Overrun self.old.station 0)) }
+    {
+        let station = self.station;
+        self.has_missed = true;
+        self.ask(Call::Overrun { station, n: 0 })?;
+        self.has_missed = false;
+        Ok(())
+    }
+
     // A command to the station.
     #[tactic(auto, unfolding(crate::specs::Acting::commanded))]
     fn command(&mut self, command: NodeCommand) -> Result<(), AllocError>
@@ -138,6 +158,7 @@ impl Node {
                 to,
                 number,
             }),
+            NodeCommand::Missed => self.miss(),
             NodeCommand::Counts => self.print_counted(),
             NodeCommand::State => self.print_state(),
             NodeCommand::Refused(cause) => self.refuse(cause),
@@ -178,6 +199,23 @@ impl Node {
         print_text(&mut self.text, "no memory")
     }
 
+    // The same of a line before which frames were missed, and there was no memory to end what was under way: that is tried again, and as
+    // long as it isn't done frames are passed by.
+    fn obey_behind(&mut self, meant: NodeLine) -> Result<(), AllocError> {
+        let station = self.station;
+        match self.call(Call::Overrun { station, n: 0 }) {
+            Ok(()) => {
+                self.has_missed = false;
+            }
+            Err(_) => {
+                if is_frame(&meant) {
+                    return Ok(());
+                }
+            }
+        }
+        self.obey(meant)
+    }
+
     /// Obeys a line. What it tells is then the node's text.
     #[tactic(auto, unfolding(crate::specs::Acting::obey_line))]
     pub(crate) fn act_on(&mut self, alloc: Global, line: &[u8]) -> Result<Told, LineError>
@@ -185,6 +223,11 @@ impl Node {
     {
         self.clear();
         let meant = read_node_line(alloc, line)?;
+        if self.has_missed {
+            let _obeyed = self.obey_behind(meant);
+            self.lack_memory()?;
+            return Ok(Told::NoMemory);
+        }
         match self.obey(meant) {
             Ok(()) => Ok(Told::Answered),
             Err(_) => {

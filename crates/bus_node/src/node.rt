@@ -30,6 +30,8 @@ pub struct Node {
     /// The tick before which no conflict of addresses is told.
     pub(crate) silent_until: u64,
     pub(crate) text: Vec<u8>,
+    /// Frames were missed, and there was no memory yet to end what was under way.
+    pub(crate) has_missed: bool,
 }
 
 impl Model for Node {
@@ -56,6 +58,7 @@ impl Drop for Node {
             unseen: _,
             silent_until: _,
             text: _,
+            has_missed: _,
         } = self;
     }
 }
@@ -85,6 +88,7 @@ impl Node {
             unseen: Vec::new(alloc),
             silent_until: 0,
             text: Vec::new(alloc),
+            has_missed: false,
         })
     }
 

@@ -1,5 +1,5 @@
 -- Calls on the node of a handle.
-use Rattle.std.specs.Prelude.{◌≡◌, ℕ, ◌<◌, ◌≤◌, ◌-◌, ◌↔◌, List, [], ◌∷◌, slice_get, Option, Some, None, Result, Ok, Err, IfOk, OnOk, IfErr, OnErr, IsErrOf}
+use Rattle.std.specs.Prelude.{◌≡◌, ℕ, ◌<◌, ◌≤◌, ◌-◌, ◌↔◌, List, [], ◌∷◌, length, slice_get, Option, Some, None, Result, Ok, Err, IfOk, OnOk, IfErr, OnErr, IsErrOf}
 use Rattle.std.specs.Prelude.{false}
 use Rattle.bus_frame.specs.Frames.{CanFrame}
 use Rattle.message_events.specs.declared.event.Event.{Event}
@@ -7,7 +7,7 @@ use Rattle.tick_timers.specs.Due.{IsDueFrom}
 use Rattle.pgn_ids.specs.declared.address.Address.{Address}
 use Rattle.port_table.specs.declared.port.PortId.{PortId}
 use Rattle.segment_law.specs.Segment.{are_addresses}
-use Rattle.segment_law.specs.Calls.{applied}
+use Rattle.segment_law.specs.Calls.{called, applied}
 use Rattle.segment_law.specs.Record.{StandsAt}
 use Rattle.segment_law.specs.Readers.{front_at}
 use Rattle.segment_law.specs.declared.call.Call.TheVariants.{Tick, Open, Send}
@@ -16,6 +16,7 @@ use Rattle.segment_law.specs.declared.refusal.Refusal.{Refusal}
 use Rattle.segment_core.specs.declared.segment.NewRefused.{NewRefused}
 use Rattle.segment_core.specs.declared.segment.NewRefused.TheVariants as made
 use Rattle.segment_core.specs.Due.{any_due}
+use Rattle.segment_core.specs.Answers.{refusal_of}
 use Rattle.one_station.specs.Node.{Node, Did, new_node}
 use Rattle.one_station.specs.Answers.{IsAnswered, IsFed, front_calls}
 use Rattle.one_station.specs.Events.{IsTaken}
@@ -119,3 +120,13 @@ IsNextEvent before after answer = (after ≡ before) × (answer ≡ slice_get be
 
 abbrev pub IsDueNext : (before after : Node) → Option ℕ → Type 0
 IsDueNext before after answer = (after ≡ before) × IsDueFrom (any_due before.segment) answer
+
+-- a value of the node is written
+abbrev pub IsRead : {A : Type 0} → (shown : Node → A) → (written : A) → (before after : Node) → Unit {0} → Type 0
+IsRead shown written before after answer = (after ≡ before) × (written ≡ shown before)
+
+-- why a message of so many bytes would be refused, whatever they are
+abbrev pub IsSendRefused : (to : Address) → (len : ℕ) → Result ℕ Refusal → (before after : Node) → Option Refusal → Type 0
+IsSendRefused to len (Err cause) before after answer = (after ≡ before) × (answer ≡ Some cause)
+IsSendRefused to len (Ok pgn) before after answer =
+    (after ≡ before) × ((bytes : List ℕ) → length bytes ≡ len → answer ≡ refusal_of (called before.segment (Send before.address to pgn bytes)))

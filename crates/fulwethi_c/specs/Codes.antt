@@ -1,13 +1,16 @@
 -- The codes of answers.
 use Rattle.std.specs.Prelude.{ℕ, Option, Some, None, Result, Ok, Err}
 use Rattle.segment_law.specs.Refusals.{refusal_number}
+use Rattle.segment_law.specs.declared.refusal.Refusal.{Refusal}
 use Rattle.segment_core.specs.declared.segment.NewRefused.{NewRefused}
 use Rattle.segment_core.specs.declared.segment.NewRefused.TheVariants as made
 use Rattle.bus_frame.specs.Frames.{CanFrame}
 use Rattle.one_station.specs.declared.error.NodeError.{NodeError}
 use Rattle.one_station.specs.declared.error.NodeError.TheVariants.{Refused, FrameWaits, ClockPassed, OutOfMemory}
 use Rattle.one_station.specs.declared.error.Fed.{Fed}
-use Rattle.one_station.specs.declared.error.Fed.TheVariants.{Taken, Waits}
+use Rattle.one_station.specs.declared.error.Fed.TheVariants.{Taken, WithoutRoom, Waits}
+use Rattle.one_station.specs.declared.error.Missed.{Missed}
+use Rattle.one_station.specs.declared.error.Missed.TheVariants as missed
 use Rattle.one_station.specs.declared.error.TakeError.{TakeError}
 use Rattle.one_station.specs.declared.error.TakeError.TheVariants.{Nothing, TooLittleRoom}
 
@@ -16,6 +19,11 @@ error_code (Refused cause) = refusal_number cause
 error_code FrameWaits = 66
 error_code ClockPassed = 67
 error_code OutOfMemory = 64
+
+-- of a call that would be refused, or wouldn't
+abbrev pub refusal_code : Option Refusal → ℕ
+refusal_code None = 0
+refusal_code (Some cause) = refusal_number cause
 
 abbrev pub value_code : {A : Type 0} → Result A NodeError → ℕ
 value_code (Ok _) = 0
@@ -27,8 +35,13 @@ done_code (Err error) = error_code error
 
 abbrev pub fed_code : Result Fed NodeError → ℕ
 fed_code (Ok Taken) = 0
+fed_code (Ok WithoutRoom) = 70
 fed_code (Ok Waits) = 69
 fed_code (Err error) = error_code error
+
+abbrev pub missed_code : Missed → ℕ
+missed_code missed.Ended = 0
+missed_code missed.Waits = 69
 
 abbrev pub taken_code : Result ℕ TakeError → ℕ
 taken_code (Ok len) = 0

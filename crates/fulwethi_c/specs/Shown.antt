@@ -1,12 +1,16 @@
 -- Frames and events as C reads them.
-use Rattle.std.specs.Prelude.{ℕ, ◌-◌, ◌++◌, length, replicate}
+use Rattle.std.specs.Prelude.{ℕ, ◌-◌, ◌++◌, Bool, true, false, length, replicate}
 use Rattle.bus_frame.specs.Frames.{CanFrame}
 use Rattle.tp_wire.specs.declared.outcome.Outcome.{Outcome}
 use Rattle.tp_wire.specs.declared.outcome.Outcome.TheVariants as end
+use Rattle.lane_core.specs.declared.sight.LaneSight.{LaneSight}
+use Rattle.segment_law.specs.declared.counts.Counts.{Counts}
 use Rattle.message_events.specs.declared.event.Event.{Event}
 use Rattle.message_events.specs.declared.event.Event.TheVariants as told
 use Rattle.fulwethi_c.specs.declared.shown.CFrame.{CFrame}
 use Rattle.fulwethi_c.specs.declared.shown.CEvent.{CEvent}
+use Rattle.fulwethi_c.specs.declared.shown.CCounts.{CCounts}
+use Rattle.fulwethi_c.specs.declared.shown.CLane.{CLane}
 
 -- what follows the bytes of a frame is 0
 abbrev pub shown_frame : CanFrame → CFrame
@@ -37,3 +41,24 @@ shown_event (told.Given port from to pgn bytes) =
     record { kind = 1; from = from.0; to = to.0; pgn = pgn; number = port.number; len = length bytes; outcome = 0; reason = 0 }
 shown_event (told.Outcome from to number outcome) =
     record { kind = 2; from = from.0; to = to.0; pgn = 0; number = number; len = 0; outcome = outcome_number outcome; reason = outcome_reason outcome }
+
+abbrev pub shown_counts : Counts → CCounts
+shown_counts c = record {
+  frames = c.frames;
+  malformed = c.malformed;
+  given = c.given;
+  acknowledged = c.acknowledged;
+  broadcast = c.broadcast;
+  aborted = c.aborted;
+  timed_out = c.timed_out;
+  overrun = c.overrun;
+  cancelled = c.cancelled;
+  unreachable = c.unreachable;
+}
+
+abbrev pub shown_doubt : Bool → ℕ
+shown_doubt true = 1
+shown_doubt false = 0
+
+abbrev pub shown_lane : LaneSight → CLane
+shown_lane lane = record { pending = lane.pending; in_doubt = shown_doubt lane.in_doubt }

@@ -1,8 +1,8 @@
 //! What a call comes to, as C reads it: 0 where it is done, 1 to 30 the number of its refusal, and these.
 ghost use Rattle.std.specs.Prelude.{◌≡◌};
-ghost use Rattle.fulwethi_c.specs.Codes.{error_code, done_code, fed_code, taken_code, new_code};
+ghost use Rattle.fulwethi_c.specs.Codes.{error_code, refusal_code, done_code, fed_code, missed_code, taken_code, new_code};
 
-use one_station::{Fed, NewRefused, NodeError, TakeError};
+use one_station::{Fed, Missed, NewRefused, NodeError, Refusal, TakeError};
 
 pub(crate) const DONE: u32 = 0;
 
@@ -17,6 +17,8 @@ pub(crate) const CLOCK_PASSED: u32 = 67;
 pub(crate) const TOO_LITTLE_ROOM: u32 = 68;
 
 pub(crate) const HELD: u32 = 69;
+
+pub(crate) const WITHOUT_ROOM: u32 = 70;
 
 /// The number of the refusal `BadAddresses`.
 const BAD_ADDRESS: u32 = 13;
@@ -33,6 +35,16 @@ pub(crate) fn error_code(error: NodeError) -> u32
     }
 }
 
+/// The code of a call that would be refused, or wouldn't.
+pub(crate) fn refusal_code(refusal: Option<Refusal>) -> u32
+    ensures { result ≡ refusal_code refusal }
+{
+    match refusal {
+        None => DONE,
+        Some(cause) => cause.number() as u32,
+    }
+}
+
 /// The code of a call that is done, or isn't.
 pub(crate) fn done_code(done: Result<(), NodeError>) -> u32
     ensures { result ≡ done_code done }
@@ -43,14 +55,25 @@ pub(crate) fn done_code(done: Result<(), NodeError>) -> u32
     }
 }
 
-/// The code of a frame that was fed: `HELD` where it waits to be looked at.
+/// The code of a frame that was fed: `WITHOUT_ROOM` where it was looked at so, `HELD` where it waits to be looked at.
 pub(crate) fn fed_code(fed: Result<Fed, NodeError>) -> u32
     ensures { result ≡ fed_code fed }
 {
     match fed {
         Ok(Fed::Taken) => DONE,
+        Ok(Fed::WithoutRoom) => WITHOUT_ROOM,
         Ok(Fed::Waits) => HELD,
         Err(error) => error_code(error),
+    }
+}
+
+/// The code of frames that were missed: `HELD` where what was under way has yet to end.
+pub(crate) fn missed_code(missed: Missed) -> u32
+    ensures { result ≡ missed_code missed }
+{
+    match missed {
+        Missed::Ended => DONE,
+        Missed::Waits => HELD,
     }
 }
 

@@ -1,11 +1,11 @@
 //! Frames from the bus and for the bus.
 ghost use Rattle.std.specs.Prelude.{◌≡◌, IsSome};
-ghost use Rattle.one_station.specs.Answers.{IsAnswered, IsSent, looks};
-ghost use Rattle.fulwethi_c.specs.Codes.{done_code, fed_code, front_code};
+ghost use Rattle.one_station.specs.Answers.{IsSent, IsMissed, IsSettled};
+ghost use Rattle.fulwethi_c.specs.Codes.{done_code, fed_code, missed_code, front_code};
 ghost use Rattle.fulwethi_c.specs.Reads.{read_frame};
 ghost use Rattle.fulwethi_c.specs.Calls.{IsMadeOn, IsFrameFed, IsFront, IsFrameWritten};
 
-use crate::codes::{done_code, fed_code};
+use crate::codes::{done_code, fed_code, missed_code};
 use crate::handle::Handle;
 use crate::parts::Parts;
 use crate::shown::{CFrame, write_frame};
@@ -45,11 +45,23 @@ fn read_frame(id: u32, bytes: &[u8]) -> Result<Frame, Refusal>
     }
 }
 
-/// Looks at the frame that waits.
+/// Frames of the bus were lost: what is under way ends.
+#[unsafe(no_mangle)]
+pub extern "C" fn fulwethi_raw_missed(of: Handle, out: &mut Handle) -> u32
+    requires { IsSome of.node }
+    ensures { IsMadeOn missed_code IsMissed of.node out.new.node result }
+{
+    let mut held = of.into_parts().into_box();
+    let code = missed_code(held.missed());
+    *out = Handle::of_parts(Parts::of(held));
+    code
+}
+
+/// Looks at the frame that waits, or ends what was under way when frames were missed.
 #[unsafe(no_mangle)]
 pub extern "C" fn fulwethi_raw_settle(of: Handle, out: &mut Handle) -> u32
     requires { IsSome of.node }
-    ensures { IsMadeOn done_code (λ before after. IsAnswered before (looks before) after) of.node out.new.node result }
+    ensures { IsMadeOn done_code IsSettled of.node out.new.node result }
 {
     let mut held = of.into_parts().into_box();
     let code = done_code(held.settle());

@@ -14,6 +14,7 @@ mod frames;
 mod handle;
 mod parts;
 mod ports;
+mod readers;
 mod shown;
 
 use codes::{done_code, new_code};

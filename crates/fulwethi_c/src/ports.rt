@@ -1,6 +1,6 @@
 //! Ports and messages.
 ghost use Rattle.std.specs.Prelude.{◌≡◌, IsSome};
-ghost use Rattle.segment_law.specs.declared.call.Call.TheVariants.{Close, Cancel};
+ghost use Rattle.segment_law.specs.declared.call.Call.TheVariants.{Close, Pause, Resume, Cancel};
 ghost use Rattle.one_station.specs.Answers.{IsAnswered};
 ghost use Rattle.fulwethi_c.specs.Codes.{done_code, value_code};
 ghost use Rattle.fulwethi_c.specs.Reads.{read_pgn};
@@ -40,7 +40,7 @@ fn open(node: &mut Node, pgn: u32, max_len: u32) -> Result<PortId, NodeError>
     }
 }
 
-fn read_pgn(raw: u32) -> Result<Pgn, Refusal>
+pub(crate) fn read_pgn(raw: u32) -> Result<Pgn, Refusal>
     ensures { result ≡ read_pgn raw }
 {
     match Pgn::new(raw) {
@@ -101,6 +101,38 @@ pub extern "C" fn fulwethi_raw_cancel(of: Handle, to: u8, number: u64, out: &mut
 {
     let mut held = of.into_parts().into_box();
     let code = done_code(held.cancel(Address(to), number));
+    *out = Handle::of_parts(Parts::of(held));
+    code
+}
+
+/// Pauses a port.
+#[unsafe(no_mangle)]
+pub extern "C" fn fulwethi_raw_pause(of: Handle, port: u64, out: &mut Handle) -> u32
+    requires { IsSome of.node }
+    ensures { IsMadeOn done_code (λ before after. IsAnswered before (Pause (record { station = before.address; number = port })) after) of.node out.new.node result }
+{
+    let mut held = of.into_parts().into_box();
+    let station = held.address();
+    let code = done_code(held.pause_port(PortId {
+        station,
+        number: port,
+    }));
+    *out = Handle::of_parts(Parts::of(held));
+    code
+}
+
+/// Ends the pause of a port.
+#[unsafe(no_mangle)]
+pub extern "C" fn fulwethi_raw_resume(of: Handle, port: u64, out: &mut Handle) -> u32
+    requires { IsSome of.node }
+    ensures { IsMadeOn done_code (λ before after. IsAnswered before (Resume (record { station = before.address; number = port })) after) of.node out.new.node result }
+{
+    let mut held = of.into_parts().into_box();
+    let station = held.address();
+    let code = done_code(held.resume_port(PortId {
+        station,
+        number: port,
+    }));
     *out = Handle::of_parts(Parts::of(held));
     code
 }

@@ -1,12 +1,12 @@
 //! Frames, events and numbers as they are written for C.
 ghost use Rattle.std.specs.Prelude.{◌≡◌, slice_get};
 ghost use Rattle.fulwethi_c.specs.Codes.{value_code, front_code, found_code};
-ghost use Rattle.fulwethi_c.specs.Shown.{shown_frame, shown_event, outcome_number, outcome_reason};
+ghost use Rattle.fulwethi_c.specs.Shown.{shown_frame, shown_event, shown_counts, shown_lane, outcome_number, outcome_reason};
 ghost use Rattle.fulwethi_c.specs.Calls.{IsWritten, IsTickWritten, IsFrameWritten, IsEventWritten};
 
 use crate::codes::{DONE, NOTHING, error_code};
 use bus_frame::Frame;
-use one_station::{Event, Node, NodeError, PortId};
+use one_station::{Counts, Event, LaneSight, Node, NodeError, PortId};
 use tp_wire::Outcome;
 
 /// A frame: its identifier of 29 bits, and `len` bytes, 0 to 8. The other bytes are 0 where a frame is shown.
@@ -31,6 +31,30 @@ pub struct CEvent {
     pub len: u64,
     pub outcome: u32,
     pub reason: u32,
+}
+
+/// What a node counted.
+#[repr(C)]
+#[derive(Drop)]
+pub struct CCounts {
+    pub frames: u64,
+    pub malformed: u64,
+    pub given: u64,
+    pub acknowledged: u64,
+    pub broadcast: u64,
+    pub aborted: u64,
+    pub timed_out: u64,
+    pub overrun: u64,
+    pub cancelled: u64,
+    pub unreachable: u64,
+}
+
+/// What is seen of a lane: `in_doubt` is 1 where it is in doubt, else 0.
+#[repr(C)]
+#[derive(Drop)]
+pub struct CLane {
+    pub pending: u64,
+    pub in_doubt: u32,
 }
 
 pub(crate) fn write_port(answer: Result<PortId, NodeError>, port: &mut u64) -> u32
@@ -176,5 +200,31 @@ fn outcome_reason(outcome: &Outcome) -> u32
         Outcome::Overrun => 0,
         Outcome::Cancelled => 0,
         Outcome::Unreachable => 0,
+    }
+}
+
+pub(crate) fn show_counts(counts: &Counts) -> CCounts
+    ensures { result ≡ shown_counts counts.now }
+{
+    CCounts {
+        frames: counts.frames,
+        malformed: counts.malformed,
+        given: counts.given,
+        acknowledged: counts.acknowledged,
+        broadcast: counts.broadcast,
+        aborted: counts.aborted,
+        timed_out: counts.timed_out,
+        overrun: counts.overrun,
+        cancelled: counts.cancelled,
+        unreachable: counts.unreachable,
+    }
+}
+
+pub(crate) fn show_lane(lane: &LaneSight) -> CLane
+    ensures { result ≡ shown_lane lane.now }
+{
+    CLane {
+        pending: lane.pending as u64,
+        in_doubt: u32::from(lane.in_doubt),
     }
 }

@@ -8,7 +8,7 @@ use Rattle.script_commands.specs.Values.{◌>>=◌, address_of, number_of, pgn_o
 use Rattle.script_commands.specs.declared.fault.Fault.{Fault}
 use Rattle.script_commands.specs.declared.fault.Fault.TheVariants.{WrongNumberOfWords, UnknownCommand}
 use Rattle.node_lines.specs.declared.command.NodeCommand.{NodeCommand}
-use Rattle.node_lines.specs.declared.command.NodeCommand.TheVariants.{Send, Open, Close, Pause, Resume, Cancel, Counts, State, Refused}
+use Rattle.node_lines.specs.declared.command.NodeCommand.TheVariants.{Send, Open, Close, Pause, Resume, Cancel, Missed, Counts, State, Refused}
 
 abbrev pub Meaning : Type 0
 Meaning = Result NodeCommand Fault
@@ -53,6 +53,10 @@ cancel_of (t ∷ n ∷ []) = do
   Ok (Cancel to number)
 cancel_of words = Err WrongNumberOfWords
 
+unfoldable pub missed_of : List (List ℕ) → Meaning
+missed_of [] = Ok Missed
+missed_of words = Err WrongNumberOfWords
+
 unfoldable pub counts_of : List (List ℕ) → Meaning
 counts_of [] = Ok Counts
 counts_of words = Err WrongNumberOfWords
@@ -70,6 +74,7 @@ command_of name words =
     else if bytes_eq name (codes "pause") then pause_of words
     else if bytes_eq name (codes "resume") then resume_of words
     else if bytes_eq name (codes "cancel") then cancel_of words
+    else if bytes_eq name (codes "missed") then missed_of words
     else if bytes_eq name (codes "counts") then counts_of words
     else if bytes_eq name (codes "state") then state_of words
     else Err UnknownCommand

@@ -1,7 +1,7 @@
 //! The commands to a node: those of a script for one station, without its address.
 ghost use Rattle.script_commands.specs.Words.{texts};
 ghost use Rattle.script_commands.specs.Values.{Gives};
-ghost use Rattle.node_lines.specs.Commands.{send_of, open_of, close_of, pause_of, resume_of, cancel_of, counts_of, state_of, command_of};
+ghost use Rattle.node_lines.specs.Commands.{send_of, open_of, close_of, pause_of, resume_of, cancel_of, missed_of, counts_of, state_of, command_of};
 
 use message_events::Bytes;
 use pgn_ids::{Address, Pgn};
@@ -25,6 +25,8 @@ pub enum NodeCommand {
     Resume { number: u64 },
     /// The message of this number is taken back from the lane to a node.
     Cancel { to: Address, number: u64 },
+    /// Frames of the bus were lost.
+    Missed,
     /// What was counted.
     Counts,
     /// The state of the station.
@@ -112,6 +114,17 @@ fn cancel(words: &[&[u8]]) -> Result<NodeCommand, LineError>
     Ok(NodeCommand::Cancel { to, number })
 }
 
+#[tactic(auto, unfolding(crate::specs::Commands::missed_of))]
+fn missed(words: &[&[u8]]) -> Result<NodeCommand, LineError>
+    ensures { Gives (λ c. c) result (missed_of (texts words.now)) }
+{
+    if words.is_empty() {
+        Ok(NodeCommand::Missed)
+    } else {
+        Err(WRONG_NUMBER)
+    }
+}
+
 #[tactic(auto, unfolding(crate::specs::Commands::counts_of))]
 fn counts(words: &[&[u8]]) -> Result<NodeCommand, LineError>
     ensures { Gives (λ c. c) result (counts_of (texts words.now)) }
@@ -164,6 +177,9 @@ pub(crate) fn read_node_command(
     }
     if is(name, "cancel") {
         return cancel(words);
+    }
+    if is(name, "missed") {
+        return missed(words);
     }
     if is(name, "counts") {
         return counts(words);

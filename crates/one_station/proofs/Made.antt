@@ -1,5 +1,5 @@
 -- Calls that a node made.
-use Rattle.std.proofs.Common.{◌≡◌, Bool, true, false, List, [], ◌∷◌, ◌++◌, Err, refl, sym, ap, ◌∙◌, subst}
+use Rattle.std.proofs.Common.{◌≡◌, Bool, true, false, List, [], ◌∷◌, ◌++◌, Err, sym, ap, ◌∙◌, subst}
 use Rattle.std.specs.Bool.{OnTrue, OnFalse}
 use Rattle.std.proofs.lemmas.List.{append-nil}
 use Rattle.pgn_ids.specs.declared.address.Address.{Address}
@@ -15,12 +15,12 @@ use Rattle.segment_law.specs.declared.reply.Reply.TheVariants.{Refused, Done}
 use Rattle.segment_core.specs.InPlace.{is_quiet, MayLackMemory}
 use Rattle.segment_core.proofs.Records.{answered_stands}
 use Rattle.record_law.proofs.Replies.{refused_for}
-use Rattle.one_station.specs.Node.{Node, Did}
+use Rattle.one_station.specs.Node.{Node, Did, answered}
 use Rattle.one_station.specs.NodeFields.{IsStood}
-use Rattle.one_station.specs.Answers.{LooksInPlace}
+use Rattle.one_station.specs.Answers.{LooksInPlace, caught_up}
 
-abbrev pub node_of : Segment → Address → List Event → Node
-node_of segment address events = record { segment = segment; address = address; events = events }
+abbrev pub node_of : Segment → Address → List Event → Bool → Node
+node_of segment address events missed = record { segment = segment; address = address; events = events; has_missed = missed }
 
 -- the segment goes on by a call
 pub stood_on : (address : Address) (before after : Segment) (call : Call) (reply : Reply)
@@ -34,10 +34,10 @@ stood_in_place true address before after call stands other (steps, h) = (steps +
 stood_in_place false address before after call stands other h = subst (IsStood address) (sym other) h
 
 -- a look that wasn't made in place wants memory, or isn't one that could be
-pub not_in_place : (made : Bool) (now : Node) (segment : Segment) (address : Address) (events : List Event) → node_of segment address events ≡ now
+pub not_in_place : (made : Bool) (now : Node) (segment : Segment) (address : Address) (events : List Event) (missed : Bool) → node_of segment address events missed ≡ now
     → OnFalse made (is_quiet segment (Take address true) ≡ true → MayLackMemory segment (Take address true)) → OnFalse made (LooksInPlace now → ⊥)
-not_in_place true now segment address events view wants = tt
-not_in_place false now segment address events view wants = subst (λ (n : Node). LooksInPlace n → ⊥) view (λ h. h.1 (wants h.0))
+not_in_place true now segment address events missed view wants = tt
+not_in_place false now segment address events missed view wants = subst (λ (n : Node). LooksInPlace n → ⊥) view (λ h. h.1 (wants h.0))
 
 -- one call, as the segment answered it
 pub did_one : (before after : Node) (call : Call) (seg : Segment) (reply : Reply) → applied before.segment call ≡ (seg, reply)
@@ -62,20 +62,27 @@ did_refused before after call cause fit says same =
     (answered_stands before.segment before.segment call (Refused cause) fit (ap (replied before.segment) says))
 
 -- a call that the segment refused
-pub make_refused : (now : Node) (segment new : Segment) (address : Address) (events told : List Event) (call : Address → Call) (reply : Reply) (cause : Refusal)
-    → node_of segment address events ≡ now → told ≡ events → applied segment (call address) ≡ (new, reply) → reply ≡ Refused cause
-    → (called now.segment (call now.address) ≡ Err cause) × (node_of new address told ≡ now)
-make_refused now segment new address events told call reply cause view same says is =
+pub make_refused : (now : Node) (segment new : Segment) (address : Address) (events told : List Event) (missed : Bool) (call : Address → Call) (reply : Reply) (cause : Refusal)
+    → node_of segment address events missed ≡ now → told ≡ events → applied segment (call address) ≡ (new, reply) → reply ≡ Refused cause
+    → (called now.segment (call now.address) ≡ Err cause) × (node_of new address told missed ≡ now)
+make_refused now segment new address events told missed call reply cause view same says is =
     let r : (called segment (call address) ≡ Err cause) × (new ≡ segment) = refused_for segment (call address) new cause (says ∙ ap (λ (x : Reply). (new, x)) is) in
-    let P : Node → Type 0 = λ n. (called n.segment (call n.address) ≡ Err cause) × (node_of new address told ≡ n) in
-    subst P view (r.0, λ k. node_of (r.1 k) address (same k))
+    let P : Node → Type 0 = λ n. (called n.segment (call n.address) ≡ Err cause) × (node_of new address told missed ≡ n) in
+    subst P view (r.0, λ k. node_of (r.1 k) address (same k) missed)
 
 -- a call that told nothing
-pub did_quietly : (now : Node) (segment new : Segment) (address : Address) (events : List Event) (call : Address → Call)
-    → node_of segment address events ≡ now → applied segment (call address) ≡ (new, Done [])
+pub did_quietly : (now : Node) (segment new : Segment) (address : Address) (events : List Event) (missed : Bool) (call : Address → Call)
+    → node_of segment address events missed ≡ now → applied segment (call address) ≡ (new, Done [])
     → ((addresses : List Address) (steps : Record) → StandsAt addresses steps segment → StandsAt addresses (steps ++ (call address, Done []) ∷ []) new)
-    → Did now (call now.address ∷ []) (node_of new address events)
-did_quietly now segment new address events call view says stands =
-    let none : node_of new address events ≡ node_of new address (events ++ []) = λ k. node_of new address (sym (append-nil events) k) in
-    subst (λ (n : Node). Did n (call n.address ∷ []) (node_of new address events)) view
-    (did_one (node_of segment address events) (node_of new address events) (call address) new (Done []) says none stands)
+    → Did now (call now.address ∷ []) (node_of new address events missed)
+did_quietly now segment new address events missed call view says stands =
+    let none : node_of new address events missed ≡ node_of new address (events ++ []) missed = λ k. node_of new address (sym (append-nil events) k) missed in
+    subst (λ (n : Node). Did n (call n.address ∷ []) (node_of new address events missed)) view
+    (did_one (node_of segment address events missed) (node_of new address events missed) (call address) new (Done []) says none stands)
+
+-- what was under way when frames were missed has ended
+pub did_caught_up : (before mid after : Node) (call : Call) → Did before (call ∷ []) mid → after ≡ record mid { has_missed = false } → Did (caught_up before) (call ∷ []) after
+did_caught_up before mid after call did is = record {
+  node = is ∙ (λ k. record (did.node k) { has_missed = false });
+  stands = λ addresses steps h. subst (λ (s : Segment). StandsAt addresses (steps ++ answered before.segment (call ∷ [])) s) (sym (ap (λ (n : Node). n.segment) is)) (did.stands addresses steps h);
+}

@@ -1,5 +1,5 @@
 -- A station looks at its own frame in place: it passes it by, so that it asks for no memory.
-use Rattle.std.proofs.Common.{◌≡◌, ℕ, ◌-◌, ◌==◌, ◌≤◌, nat_lt, Bool, true, false, List, [], ◌∷◌, length, Option, Some, None, Ok, Err, IsOk, refl, sym, ap, ◌∙◌, subst, arith, eqb-true}
+use Rattle.std.proofs.Common.{◌≡◌, ℕ, ◌-◌, ◌==◌, ◌≤◌, nat_lt, ◌||◌, Bool, true, false, List, [], ◌∷◌, length, Option, Some, None, Ok, Err, IsOk, refl, sym, ap, ◌∙◌, subst, arith, eqb-true}
 use Rattle.std.specs.Prelude.{slice_get, unwrap_or, Result, OnOk}
 use Rattle.std.proofs.lemmas.Bool.{eq-eqb, ltb-false}
 use Rattle.std.proofs.lemmas.Option.{none-some, slice_get_within}
@@ -113,20 +113,24 @@ module _ (seg : Segment) (r : IsReached seg) (own : QueueTheirOwn seg) where
   pub passes : (a : Address) (step : Segment × Reply) → called seg (Transmit a) ≡ Ok step → Passes (Transmit a) step
   passes a step e = subst (Holds seg Passes (Transmit a)) e (each_called seg Passes each_passes (Transmit a))
 
--- a node put its own frame, where none waited
+no_frame : (missed frame : Bool) → (missed || frame) ≡ false → frame ≡ false
+no_frame true frame e = absurd (cc)
+no_frame false frame e = e
+
+-- a node put its own frame, where nothing waited
 pub own_passed : ((addresses : List Address) (steps : Record) (seg : Segment) → StandsAt addresses steps seg → QueueTheirOwn seg)
-    → (now after : Node) (segment : Segment) (address : Address) (events : List Event) (result : Result (Unit {0}) NodeError) → node_of segment address events ≡ now → IsStood address segment
+    → (now after : Node) (segment : Segment) (address : Address) (events : List Event) (missed : Bool) (result : Result (Unit {0}) NodeError) → node_of segment address events missed ≡ now → IsStood address segment
     → queue_len segment address ≤ queue_limit → is_waiting now ≡ false → IsAnswered now (Transmit address) after result → OnOk result (LooksInPlace after)
-own_passed law now after segment address events result view stood few none answered = subst Goal view goes after none result answered
+own_passed law now after segment address events missed result view stood few none answered = subst Goal view goes after none result answered
   where
     Goal : Node → Type 0
     Goal node = (after : Node) → is_waiting node ≡ false → (result : Result (Unit {0}) NodeError) → IsAnswered node (Transmit address) after result → OnOk result (LooksInPlace after)
 
-    goes : Goal (node_of segment address events)
+    goes : Goal (node_of segment address events missed)
     goes after none (Err error) answered = tt
     goes after none (Ok u) (ok, did) = subst LooksInPlace (sym did.node) (by (called segment (Transmit address)) refl ok)
       where
-        by : (x : Answer) → called segment (Transmit address) ≡ x → IsOk x → LooksInPlace (makes (node_of segment address events) (Transmit address))
+        by : (x : Answer) → called segment (Transmit address) ≡ x → IsOk x → LooksInPlace (makes (node_of segment address events missed) (Transmit address))
         by (Err cause) e ok = absurd (cc)
         by (Ok step) e ok = subst (λ (s : Segment × Reply). IsInPlace (station_of s.0 address) (next_at s.0 (place_of s.0 address))) (sym (ap (replied segment) e))
-            (passes segment (stands_reached (address ∷ []) stood.0 segment stood.1) (law (address ∷ []) stood.0 segment stood.1) address step e few none)
+            (passes segment (stands_reached (address ∷ []) stood.0 segment stood.1) (law (address ∷ []) stood.0 segment stood.1) address step e few (no_frame missed _ none))

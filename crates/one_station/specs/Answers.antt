@@ -1,5 +1,5 @@
 -- How a node answers.
-use Rattle.std.specs.Prelude.{◌≡◌, Bool, true, nat_lt, nat_le, ◌==◌, if◌then◌else◌, List, [], ◌∷◌, Option, Some, None, Result, Ok, Err, IsOk}
+use Rattle.std.specs.Prelude.{◌≡◌, Bool, true, false, ◌&&◌, ◌||◌, not, nat_lt, nat_le, ◌==◌, if◌then◌else◌, List, [], ◌∷◌, Option, Some, None, Result, Ok, Err, IsOk}
 use Rattle.std.specs.Option.{option_map}
 use Rattle.bus_frame.specs.Frames.{CanFrame}
 use Rattle.pgn_ids.specs.Identifier.{meaning_of}
@@ -9,7 +9,7 @@ use Rattle.segment_law.specs.Segment.{waiting_at}
 use Rattle.segment_law.specs.Calls.{Answer, called}
 use Rattle.segment_law.specs.Readers.{queue_len, front_at, next_pump}
 use Rattle.segment_law.specs.declared.call.Call.{Call}
-use Rattle.segment_law.specs.declared.call.Call.TheVariants.{Pump, Transmit, Take, Inject}
+use Rattle.segment_law.specs.declared.call.Call.TheVariants.{Pump, Transmit, Take, Overrun, Inject}
 use Rattle.segment_law.specs.declared.refusal.Refusal.{Refusal}
 use Rattle.segment_law.specs.declared.refusal.Refusal.TheVariants as refusal
 use Rattle.segment_core.specs.Answers.{refusal_of}
@@ -18,7 +18,9 @@ use Rattle.one_station.specs.Node.{Node, Did}
 use Rattle.one_station.specs.declared.error.NodeError.{NodeError}
 use Rattle.one_station.specs.declared.error.NodeError.TheVariants.{Refused, FrameWaits, ClockPassed, OutOfMemory}
 use Rattle.one_station.specs.declared.error.Fed.{Fed}
-use Rattle.one_station.specs.declared.error.Fed.TheVariants.{Taken, Waits}
+use Rattle.one_station.specs.declared.error.Fed.TheVariants.{Taken, WithoutRoom, Waits}
+use Rattle.one_station.specs.declared.error.Missed.{Missed}
+use Rattle.one_station.specs.declared.error.Missed.TheVariants as missed
 
 -- One call of the segment
 
@@ -45,20 +47,29 @@ abbrev pub as_error : Option Refusal → Option NodeError
 as_error cause = option_map (λ refusal. Refused refusal) cause
 
 -- a frame waits on the inner bus
+abbrev pub has_frame : Node → Bool
+has_frame node = nat_lt 0 (waiting_at node.segment node.address)
+
+-- something waits for memory: what has yet to end since frames were missed, or a frame
 abbrev pub is_waiting : Node → Bool
-is_waiting node = nat_lt 0 (waiting_at node.segment node.address)
+is_waiting node = node.has_missed || has_frame node
 
 -- the station takes the next frame of the inner bus
 abbrev pub looks : Node → Call
 looks node = Take node.address true
 
+-- the same without room for what the frame brings
+abbrev pub looks_roomless : Node → Call
+looks_roomless node = Take node.address false
+
 -- that Take isn't refused, tells nothing, and asks for no memory
 abbrev pub LooksInPlace : Node → Type 0
 LooksInPlace node = (is_quiet node.segment (looks node) ≡ true) × (MayLackMemory node.segment (looks node) → ⊥)
 
--- that Take was made; or it isn't refused and found no memory, and the frame waits
+-- that Take was made, with room or, where that found no memory, without; or it isn't refused and found none, and the frame waits
 abbrev pub HasLooked : (before after : Node) → Fed → Type 0
 HasLooked before after Taken = Did before (looks before ∷ []) after
+HasLooked before after WithoutRoom = Did before (looks_roomless before ∷ []) after
 HasLooked before after Waits = IsOk (called before.segment (looks before)) × (after ≡ before)
 
 -- Frames from the bus
@@ -82,12 +93,45 @@ feed_refusal node frame =
 -- a call, and then the Take of the frame that it put; or that frame waits, where the Take found no memory
 abbrev pub DidAndLooked : (before : Node) → Call → (after : Node) → Fed → Type 0
 DidAndLooked before call after Taken = Did before (call ∷ looks before ∷ []) after
+DidAndLooked before call after WithoutRoom = Did before (call ∷ looks_roomless before ∷ []) after
 DidAndLooked before call after Waits = Did before (call ∷ []) after × IsOk (called after.segment (looks before))
 
 -- the frame comes on the inner bus, and the station takes it
 abbrev pub IsFed : (before : Node) → CanFrame → (after : Node) → Result Fed NodeError → Type 0
 IsFed before frame after (Ok fed) = (feed_refusal before frame ≡ None) × DidAndLooked before (Inject frame) after fed
 IsFed before frame after (Err error) = IsUndone (feed_refusal before frame) before after error
+
+-- Frames that were missed
+
+-- what is under way ends: incoming sessions, and connections with their outcomes
+abbrev pub overruns : Node → Call
+overruns node = Overrun node.address 0
+
+-- it did; or the node remembers that it is to
+abbrev pub IsMissed : (before after : Node) → Missed → Type 0
+IsMissed before after missed.Ended = (is_waiting before ≡ false) × Did before (overruns before ∷ []) after
+IsMissed before after missed.Waits = after ≡ record before { has_missed = true }
+
+-- it is to, and no frame waits that came before those that were missed
+abbrev pub is_behind : Node → Bool
+is_behind node = node.has_missed && not (has_frame node)
+
+-- it has ended, and nothing is remembered
+abbrev pub caught_up : Node → Node
+caught_up node = record node { has_missed = false }
+
+abbrev pub IsCaughtUp : (before after : Node) → Result (Unit {0}) NodeError → Type 0
+IsCaughtUp before after (Ok _) = Did (caught_up before) (overruns before ∷ []) after
+IsCaughtUp before after (Err error) = IsStopped (called before.segment (overruns before)) error × (after ≡ before)
+
+-- What waits: a frame is looked at, and then what was under way ends
+
+abbrev pub IsSettledBy : (behind : Bool) → (before after : Node) → Result (Unit {0}) NodeError → Type 0
+IsSettledBy true before after result = IsCaughtUp before after result
+IsSettledBy false before after result = IsAnswered before (looks before) after result
+
+abbrev pub IsSettled : (before after : Node) → Result (Unit {0}) NodeError → Type 0
+IsSettled before after result = IsSettledBy (is_behind before) before after result
 
 -- Frames for the bus
 

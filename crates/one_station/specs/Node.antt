@@ -1,5 +1,5 @@
 -- A node: one station, and what it told.
-use Rattle.std.specs.Prelude.{◌≡◌, List, [], ◌∷◌, ◌++◌}
+use Rattle.std.specs.Prelude.{◌≡◌, Bool, false, List, [], ◌∷◌, ◌++◌}
 use Rattle.pgn_ids.specs.declared.address.Address.{Address}
 use Rattle.message_events.specs.declared.event.Event.{Event}
 use Rattle.segment_law.specs.Segment.{Segment, new_segment}
@@ -7,15 +7,17 @@ use Rattle.segment_law.specs.Calls.{applied, events_of}
 use Rattle.segment_law.specs.Record.{Record, StandsAt}
 use Rattle.segment_law.specs.declared.call.Call.{Call}
 
--- the segment that its station stands on alone, the station's address, and the events that were told and not taken
+-- the segment that its station stands on alone, the station's address, the events that were told and not taken, and whether it missed
+-- frames and what was under way then has yet to end
 pub record Node : Type 0 where
   pub segment : Segment
   pub address : Address
   pub events : List Event
+  pub has_missed : Bool
 
 -- nothing was done yet
 abbrev pub new_node : Address → Node
-new_node address = record { segment = new_segment (address ∷ []); address = address; events = [] }
+new_node address = record { segment = new_segment (address ∷ []); address = address; events = []; has_missed = false }
 
 -- a call is made on the segment, and what it tells waits behind the rest
 abbrev pub makes : Node → Call → Node

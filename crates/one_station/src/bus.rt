@@ -5,7 +5,7 @@ ghost use Rattle.segment_law.specs.Readers.{front_at};
 ghost use Rattle.segment_law.specs.declared.call.Call.TheVariants.{Transmit};
 ghost use Rattle.one_station.specs.declared.error.NodeError.TheVariants.{OutOfMemory};
 ghost use Rattle.one_station.specs.Node.{Did};
-ghost use Rattle.one_station.specs.Answers.{IsAnswered, IsFed, IsSent, HasLooked, LooksInPlace, looks, is_waiting, feed_refusal, sent_refusal, front_calls};
+ghost use Rattle.one_station.specs.Answers.{IsAnswered, IsFed, IsSent, HasLooked, LooksInPlace, looks, looks_roomless, is_waiting, feed_refusal, sent_refusal, front_calls};
 
 use crate::error::{Fed, NodeError};
 use crate::node::Node;
@@ -20,10 +20,13 @@ const QUEUE_LIMIT: usize = 64;
 impl Node {
     /// A frame of another node comes from the bus.
     ///
-    /// Refused as `FrameWaits` where an earlier one waits to be looked at, as `StationAddress` where the frame has the node's own
-    /// source address, as `TxFull` where the transmit queue has no place for an answer, and else as `OutOfMemory` where memory is
-    /// refused: the frame can be fed again later, and no other before it. With `Fed::Waits` the node has it, and `settle` is to
-    /// follow.
+    /// Where there is no memory for what the frame brings, it is taken without room (`Fed::WithoutRoom`). Where there is none for what
+    /// is told then, the node has the frame (`Fed::Waits`), and `settle` is to follow.
+    ///
+    /// Refused as `FrameWaits` where an earlier one waits to be looked at, or what was under way when frames were missed has yet to
+    /// end; as `StationAddress` where the frame has the node's own source address, as `TxFull` where the transmit queue has no place
+    /// for an answer, and else as `OutOfMemory` where memory is refused. The node doesn't have the frame then: it is fed again before
+    /// any other, or told to be missed.
     pub fn feed(&mut self, frame: Frame) -> Result<Fed, NodeError>
         ensures { IsFed self.old frame self.new result }
     {
@@ -36,7 +39,7 @@ impl Node {
         Ok(self.look())
     }
 
-    // The station takes the next frame, where memory is there for it.
+    // The station takes the next frame: with room, or without where that finds no memory.
     #[tactic(auto, using(crate::proofs::Made::did_refused))]
     fn look(&mut self) -> Fed
         ensures { HasLooked self.old self.new result }
@@ -44,9 +47,14 @@ impl Node {
         if self.look_in_place() {
             return Fed::Taken;
         }
-        match self.settle() {
+        match self.look_with_room() {
             Ok(()) => Fed::Taken,
-            Err(NodeError::OutOfMemory) => Fed::Waits,
+            Err(NodeError::OutOfMemory) => {
+                if self.look_roomless() {
+                    return Fed::WithoutRoom;
+                }
+                Fed::Waits
+            }
             Err(NodeError::Refused(_)) => Fed::Taken,
             Err(NodeError::FrameWaits) => Fed::Taken,
             Err(NodeError::ClockPassed) => Fed::Taken,
@@ -67,11 +75,8 @@ impl Node {
         })
     }
 
-    /// Looks at the frame that waits, since there was no memory for it when it was fed.
-    ///
-    /// Refused as `NothingToTake` where none waits, as `TxFull` where the transmit queue has no place for an answer, and else as
-    /// `OutOfMemory` where memory is refused.
-    pub fn settle(&mut self) -> Result<(), NodeError>
+    // The station takes the next frame.
+    pub(crate) fn look_with_room(&mut self) -> Result<(), NodeError>
         ensures { IsAnswered self.old (looks self.old) self.new result }
     {
         let station = self.address;
@@ -79,6 +84,25 @@ impl Node {
             station,
             room: true,
         })
+    }
+
+    // The station takes the next frame without room for what it brings, which asks for memory for what is told alone: whether it did.
+    #[tactic(auto, using(crate::proofs::Made::did_refused))]
+    fn look_roomless(&mut self) -> bool
+        ensures looked { OnTrue result (Did self.old (looks_roomless self.old ∷ []) self.new) }
+        ensures other { OnFalse result (self.new ≡ self.old) }
+    {
+        let station = self.address;
+        match self.make(Call::Take {
+            station,
+            room: false,
+        }) {
+            Ok(()) => true,
+            Err(NodeError::OutOfMemory) => false,
+            Err(NodeError::Refused(_)) => true,
+            Err(NodeError::FrameWaits) => true,
+            Err(NodeError::ClockPassed) => true,
+        }
     }
 
     // Why a frame isn't fed.
@@ -98,13 +122,6 @@ impl Node {
             None => None,
             Some(cause) => Some(NodeError::Refused(cause)),
         }
-    }
-
-    // Whether a frame waits to be looked at.
-    fn is_waiting(&self) -> bool
-        ensures { result ≡ is_waiting self.now }
-    {
-        self.segment.waiting(self.address) > 0
     }
 
     /// The frame that is next for the bus, or none where there is nothing to put now. It stays the next until `sent` says that it
@@ -133,7 +150,8 @@ impl Node {
     /// The frame that `front` answered was put on the bus. The station doesn't look at its own frames, and passes it by, which takes
     /// no memory.
     ///
-    /// Refused as `FrameWaits` where one that was fed waits to be looked at, as `NothingToSend` where the transmit queue is empty,
+    /// Refused as `FrameWaits` where one that was fed waits to be looked at, or what was under way when frames were missed has yet to
+    /// end; as `NothingToSend` where the transmit queue is empty,
     /// and else as `OutOfMemory` where memory is refused: the call is to be made again then, since the frame isn't to be put twice.
     pub fn sent(&mut self) -> Result<(), NodeError>
         ensures { IsSent self.old self.new result }

@@ -9,8 +9,9 @@ pub enum NodeError {
     /// It is refused for this cause.
     #[error("the call is refused")]
     Refused(Refusal),
-    /// A frame that was fed still waits, since the node found no memory to look at it: `settle` comes first.
-    #[error("a frame that was fed waits")]
+    /// A frame that was fed still waits, since the node found no memory to look at it; or it was told that it missed frames, and found
+    /// none to end what was under way: `settle` comes first.
+    #[error("what came before waits for memory")]
     FrameWaits,
     /// The clock stands at a later tick.
     #[error("the clock stands at a later tick")]
@@ -25,7 +26,19 @@ pub enum NodeError {
 pub enum Fed {
     /// The node has looked at it.
     Taken,
+    /// The node has looked at it without room for what it brings, since it found no memory: a message that it begins or completes
+    /// isn't taken, and a connection ends by an abort.
+    WithoutRoom,
     /// The node has it, and found no memory to look at it. It isn't fed again: `settle` looks at it.
+    Waits,
+}
+
+/// What came of frames that were missed.
+#[derive(Clone, Copy, Debug, PartialEq, Eq)]
+pub enum Missed {
+    /// What was under way has ended.
+    Ended,
+    /// The node remembers that it is to end: `settle` ends it. Until then no frame is fed.
     Waits,
 }
 

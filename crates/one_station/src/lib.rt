@@ -8,11 +8,13 @@
 mod bus;
 mod error;
 mod events;
+mod missed;
 mod node;
 mod ports;
+mod readers;
 mod time;
 mod told;
 
-pub use error::{Fed, NodeError, TakeError};
+pub use error::{Fed, Missed, NodeError, TakeError};
 pub use node::Node;
-pub use segment_core::{Bytes, Event, NewRefused, PortId, Refusal};
+pub use segment_core::{Bytes, Call, Counts, Event, LaneSight, NewRefused, PortId, Refusal};

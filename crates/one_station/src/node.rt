@@ -11,20 +11,24 @@ ghost use Rattle.one_station.specs.Told.{told_events, IsFrontFirst};
 use crate::error::NodeError;
 use crate::told::Told;
 use pgn_ids::Address;
-use segment_core::{Call, NewRefused, Reply, Segment};
-use std::alloc::Global;
+use segment_core::{Call, Event, Events, NewRefused, Reply, Segment};
+use std::alloc::{AllocError, Global};
 use std::marker::Model;
 
 /// One station on a bus that the program owns.
 ///
 /// The program gives it each frame that comes from the bus (`feed`) and the time (`clock`, `fire`), and puts each frame that it
 /// has for the bus (`front`, `sent`). What it tells, a message given at a port or the outcome of one that was sent, waits until
-/// it is taken. Nothing changes a node but the calls on it.
+/// it is taken. Where the program lost frames, it says so (`missed`). Nothing changes a node but the calls on it.
 pub struct Node {
     pub(crate) alloc: Global,
     pub(crate) segment: Segment,
     pub(crate) address: Address,
     pub(crate) told: Told,
+    /// Frames were missed, and what was under way has yet to end.
+    pub(crate) has_missed: bool,
+    /// How many messages have no outcome yet.
+    pub(crate) owed: usize,
 }
 
 impl Model for Node {
@@ -48,6 +52,8 @@ impl Drop for Node {
             segment: _,
             address: _,
             told: _,
+            has_missed: _,
+            owed: _,
         } = self;
     }
 }
@@ -62,11 +68,16 @@ impl Node {
         ensures stands { IfOk result (λ node. StandsAt (address ∷ []) [] node.segment) }
     {
         let segment = Segment::new(alloc, &[address])?;
+        let Ok(told) = Told::new(alloc) else {
+            return Err(NewRefused::OutOfMemory);
+        };
         Ok(Node {
             alloc,
             segment,
             address,
-            told: Told::new(alloc),
+            told,
+            has_missed: false,
+            owed: 0,
         })
     }
 
@@ -82,10 +93,11 @@ impl Node {
     pub(crate) fn make(&mut self, call: Call) -> Result<(), NodeError>
         ensures { IsAnswered self.old call self.new result }
     {
-        make_room(&self.segment, &mut self.told, &call)?;
+        make_room(&self.segment, &mut self.told, self.owed, &call)?;
         match self.segment.apply(call) {
             Ok(Reply::Refused(cause)) => Err(NodeError::Refused(cause)),
             Ok(Reply::Done(events)) => {
+                self.owed = self.owed.saturating_sub(ended(&events));
                 self.told.keep(events);
                 Ok(())
             }
@@ -95,21 +107,49 @@ impl Node {
     }
 }
 
+/// Makes the place of the outcome of one more message.
+pub(crate) fn make_place(told: &mut Told, owed: usize) -> Result<(), AllocError>
+    requires { IsFrontFirst told.old }
+    ensures events { told_events told.new ≡ told_events told.old }
+    ensures sound { IsFrontFirst told.new }
+{
+    told.reserve(owed)
+}
+
+// How many messages have ended by what a call told. No call gives a message and ends one.
+fn ended(events: &Events) -> usize {
+    match events.get(0) {
+        Some(Event::Outcome { .. }) => events.len(),
+        _ => 0,
+    }
+}
+
+// Whether a call gives a message.
+fn gives(segment: &Segment, call: &Call) -> bool {
+    match call {
+        Call::Take {
+            station,
+            room: true,
+        } => !segment.wants(*station, false).0.is_empty(),
+        _ => false,
+    }
+}
+
 // Makes a place for what a call tells, unless the call is refused.
-fn make_room(segment: &Segment, told: &mut Told, call: &Call) -> Result<(), NodeError>
+fn make_room(segment: &Segment, told: &mut Told, owed: usize, call: &Call) -> Result<(), NodeError>
     requires { IsFrontFirst told.old }
     ensures events { told_events told.new ≡ told_events told.old }
     ensures sound { IsFrontFirst told.new }
     ensures room { OnOk result (deque_len told.new.parts < deque_capacity told.new.parts) }
     ensures err { IfErr result (λ error. IsStopped (called segment.now call.now) error) }
 {
-    if told.has_room() {
+    if told.has_room() && (told.has_place_to_give(owed) || !gives(segment, call)) {
         return Ok(());
     }
     if let Some(cause) = segment.refusal(call) {
         return Err(NodeError::Refused(cause));
     }
-    match told.reserve() {
+    match told.reserve(owed) {
         Ok(()) => Ok(()),
         Err(_) => Err(NodeError::OutOfMemory),
     }

@@ -1,12 +1,12 @@
 //! Ports, and messages that are sent.
 ghost use Rattle.std.specs.Prelude.{◌≡◌, IfOk};
 ghost use Rattle.segment_law.specs.Calls.{applied};
-ghost use Rattle.segment_law.specs.declared.call.Call.TheVariants.{Open, Close, Send, Cancel};
+ghost use Rattle.segment_law.specs.declared.call.Call.TheVariants.{Open, Close, Pause, Resume, Send, Cancel};
 ghost use Rattle.segment_law.specs.declared.reply.Reply.TheVariants.{Opened, Sent};
 ghost use Rattle.one_station.specs.Answers.{IsAnswered};
 
 use crate::error::NodeError;
-use crate::node::Node;
+use crate::node::{Node, make_place};
 use pgn_ids::{Address, Pgn};
 use segment_core::{Bytes, Call, PortId, Reply};
 
@@ -44,9 +44,30 @@ impl Node {
         self.make(Call::Close { port })
     }
 
+    /// Pauses a port: a message that is coming in for it by a connection is held, and goes on once the port is resumed. What was
+    /// granted still comes.
+    ///
+    /// Refused as `NoSuchStation` where the port is another node's, as `NoSuchPort` where it isn't open, and as `PortPaused` where it
+    /// is paused.
+    pub fn pause_port(&mut self, port: PortId) -> Result<(), NodeError>
+        ensures { IsAnswered self.old (Pause port) self.new result }
+    {
+        self.make(Call::Pause { port })
+    }
+
+    /// Ends the pause of a port.
+    ///
+    /// Refused as `NoSuchStation` where the port is another node's, as `NoSuchPort` where it isn't open, and as `PortNotPaused` where
+    /// it isn't paused.
+    pub fn resume_port(&mut self, port: PortId) -> Result<(), NodeError>
+        ensures { IsAnswered self.old (Resume port) self.new result }
+    {
+        self.make(Call::Resume { port })
+    }
+
     /// Sends a message of 9 to 1,785 bytes to all (address 255), or of 9 to 117,440,505 bytes to one node, and answers its number,
     /// from 1 for each destination. Messages to one destination go out in this order, and each has one outcome. The bytes are
-    /// copied. `front` and `sent` put its frames on the bus.
+    /// copied, and the place of its outcome is made. `front` and `sent` put its frames on the bus.
     ///
     /// Refused as `NoSuchStation` for address 254, `SameStation` for the own one, `TooShort`, `TooLong`, and `LaneFull` where 32
     /// messages to that destination have no outcome yet; and else as `OutOfMemory` where memory is refused.
@@ -58,6 +79,9 @@ impl Node {
         if let Some(cause) = self.segment.send_refusal(from, to, bytes.len()) {
             return Err(NodeError::Refused(cause));
         }
+        if make_place(&mut self.told, self.owed).is_err() {
+            return Err(NodeError::OutOfMemory);
+        }
         let Ok(items) = Vec::from_slice(self.alloc, bytes) else {
             return Err(NodeError::OutOfMemory);
         };
@@ -68,7 +92,10 @@ impl Node {
             bytes: Bytes::new(items),
         };
         match self.segment.apply(send) {
-            Ok(Reply::Sent(number)) => Ok(number),
+            Ok(Reply::Sent(number)) => {
+                self.owed = self.owed.saturating_add(1);
+                Ok(number)
+            }
             Ok(Reply::Refused(cause)) => Err(NodeError::Refused(cause)),
             Ok(Reply::Opened(_)) => unreachable!(),
             Ok(Reply::Done(_)) => unreachable!(),

@@ -1,5 +1,5 @@
 //! What was told and isn't taken yet.
-ghost use Rattle.std.specs.Prelude.{◌≡◌, ◌<◌, ◌++◌, [], drop, slice_get, option_copied, OnOk};
+ghost use Rattle.std.specs.Prelude.{◌≡◌, ◌<◌, ◌++◌, [], drop, slice_get, option_copied, IfOk, OnOk};
 ghost use Rattle.std.specs.Bool.{OnTrue};
 ghost use Rattle.std.specs.VecDeque.{deque_len, deque_capacity};
 ghost use Rattle.one_station.specs.Told.{told_events, IsFrontFirst};
@@ -17,22 +17,27 @@ pub struct Part {
 
 /// The events that wait, part by part: one part for each call that told something, as it came, so that only a place for it has
 /// to be there beforehand.
+///
+/// There is a place for the outcome of each message that has none yet, and one more, in which a call that tells nothing finds its own. So an
+/// outcome never asks for memory; and a message that is given takes none of these places.
 #[derive(Drop)]
 pub struct Told {
     pub(crate) front: Option<Part>,
     pub(crate) parts: VecDeque<Part>,
 }
 
+/// The place that is there beside those of outcomes.
+const SPARE: usize = 1;
+
 impl Told {
-    /// Nothing was told. It takes no memory.
-    pub(crate) fn new(alloc: Global) -> Told
-        ensures events { told_events result ≡ [] }
-        ensures sound { IsFrontFirst result }
+    /// Nothing was told.
+    pub(crate) fn new(alloc: Global) -> Result<Told, AllocError>
+        ensures events { IfOk result (λ told. told_events told ≡ []) }
+        ensures sound { IfOk result IsFrontFirst }
     {
-        Told {
-            front: None,
-            parts: VecDeque::new(alloc),
-        }
+        let mut parts = VecDeque::new(alloc);
+        parts.reserve(SPARE)?;
+        Ok(Told { front: None, parts })
     }
 
     /// Whether there is a place for what one more call tells.
@@ -42,12 +47,21 @@ impl Told {
         self.parts.len() < self.parts.capacity()
     }
 
-    /// Makes a place for what one more call tells.
-    pub(crate) fn reserve(&mut self) -> Result<(), AllocError>
+    /// Whether a message that is given finds a place, where so many messages have no outcome yet.
+    pub(crate) fn has_place_to_give(&self, owed: usize) -> bool {
+        let free = self.parts.capacity().saturating_sub(self.parts.len());
+        free > owed.saturating_add(SPARE)
+    }
+
+    /// Makes that place, or that of the outcome of one more message.
+    pub(crate) fn reserve(&mut self, owed: usize) -> Result<(), AllocError>
         ensures front { self.new.front ≡ self.old.front }
         ensures parts { self.new.parts.items ≡ self.old.parts.items }
         ensures room { OnOk result (deque_len self.new.parts < deque_capacity self.new.parts) }
     {
+        self.parts
+            .reserve(owed.saturating_add(SPARE).saturating_add(1))?;
+        // It is there already: this says so whatever the sum is.
         self.parts.reserve(1)
     }
 

@@ -70,6 +70,54 @@ fn a_message_is_received(rt: HostRuntime) {
     tells(&rt, alloc, &mut node, b"state", b"state 30 0 none 0 0\n")
 }
 
+// Of two broadcasts of 35, of twenty bytes each, three frames don't come: the last packet of the first, the second announcement, and the
+// first packet of the second.
+const BEFORE_THE_LOSS: &[u8] = b"open FECA 20
+(1.000000) can0 1CECFF35#20140003FFCAFE00
+(1.050000) can0 1CEBFF35#0101010101010101
+(1.100000) can0 1CEBFF35#0201010101010101
+";
+
+const AFTER_THE_LOSS: &[u8] = b"(1.300000) can0 1CEBFF35#0202020202020202
+(1.350000) can0 1CEBFF35#03020202020202FF
+";
+
+#[test]
+fn a_reported_loss_mixes_no_messages(rt: HostRuntime) {
+    let alloc = rt.alloc();
+    let mut node = node(&rt, alloc);
+    tells(&rt, alloc, &mut node, BEFORE_THE_LOSS, b"opened 21.1\n");
+    tells(&rt, alloc, &mut node, b"missed", b"done\n");
+    tells(&rt, alloc, &mut node, AFTER_THE_LOSS, b"");
+}
+
+#[test]
+fn an_unreported_loss_mixes_messages(rt: HostRuntime) {
+    let alloc = rt.alloc();
+    let mut node = node(&rt, alloc);
+    tells(&rt, alloc, &mut node, BEFORE_THE_LOSS, b"opened 21.1\n");
+    tells(
+        &rt,
+        alloc,
+        &mut node,
+        AFTER_THE_LOSS,
+        b"  given 21.1 35 FF 0FECA 20 0101010101010101010101010101020202020202\n",
+    );
+}
+
+#[test]
+fn a_loss_ends_a_connection(rt: HostRuntime) {
+    let alloc = rt.alloc();
+    let mut node = node(&rt, alloc);
+    tells(
+        &rt,
+        alloc,
+        &mut node,
+        b"now 5.000000\nsend 35 EF00 fill 9\nmissed\nstate",
+        b"sent 1\nput (0000000005.000000) can0 1CEC3521#10090002FF00EF00\ndone\n  outcome 21 35 1 Overrun\nstate 0 0 700 1 0\n",
+    );
+}
+
 #[test]
 fn a_message_is_sent(rt: HostRuntime) {
     let alloc = rt.alloc();

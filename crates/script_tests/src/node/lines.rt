@@ -116,6 +116,8 @@ fn the_station_is_asked(rt: HostRuntime) {
     let alloc = rt.alloc();
     is_command(&rt, alloc, "counts", NodeCommand::Counts);
     is_command(&rt, alloc, "state", NodeCommand::State);
+    is_command(&rt, alloc, "missed", NodeCommand::Missed);
+    is_fault(&rt, alloc, "missed 3", Fault::WrongNumberOfWords);
     is_fault(&rt, alloc, "state 1", Fault::WrongNumberOfWords)
 }
 

@@ -69,16 +69,26 @@ pub(crate) fn due(node: &Node) -> Option<u64> {
     node.next_due_at()
 }
 
-// A frame that found no memory to be looked at is settled.
-pub(crate) fn feed(node: &mut Node, frame: Frame) -> Result<(), NodeError> {
+// A frame that found no memory to be looked at is settled. One that is looked at without room ends the test, which tells then that memory
+// was refused.
+pub(crate) fn feed(rt: &impl Abort, node: &mut Node, frame: Frame) -> Result<(), NodeError> {
     let fed = match node.feed(frame) {
         Err(NodeError::OutOfMemory) => node.feed(frame),
         fed => fed,
     };
     match fed {
         Ok(Fed::Taken) => Ok(()),
+        Ok(Fed::WithoutRoom) => panic!(rt; "error: no memory"),
         Ok(Fed::Waits) => node.settle(),
         Err(error) => Err(error),
+    }
+}
+
+// Frames were lost, and what was under way ends.
+pub(crate) fn misses(rt: &impl Abort, node: &mut Node) {
+    match node.missed() {
+        Missed::Ended => {}
+        Missed::Waits => same(rt, node.settle(), Ok(())),
     }
 }
 
@@ -108,7 +118,7 @@ pub(crate) fn puts(rt: &impl Abort, node: &mut Node, shown: Shown) {
 
 // A frame comes to a node.
 pub(crate) fn takes(rt: &impl Abort, node: &mut Node, shown: Shown) {
-    same(rt, feed(node, frame_of(rt, shown)), Ok(()));
+    same(rt, feed(rt, node, frame_of(rt, shown)), Ok(()));
 }
 
 // The next frame of a node is this one, which comes to the other.

@@ -17,7 +17,7 @@ fn refused<T>(cause: Refusal) -> Result<T, NodeError> {
 
 fn refuses_frames(rt: &impl Abort, a: &mut Node) {
     let own = frame_of(rt, (0x1CEC_3521, [0; 8]));
-    same(rt, feed(a, own), refused(Refusal::StationAddress));
+    same(rt, feed(rt, a, own), refused(Refusal::StationAddress));
     same(rt, settle(a), refused(Refusal::NothingToTake));
     same(rt, front(a), Ok(None));
     same(rt, sent(a), refused(Refusal::NothingToSend));
@@ -78,12 +78,12 @@ fn cancelled_message_and_closed_port(rt: HostRuntime) {
 fn fills(rt: &impl Abort, b: &mut Node) {
     let request = frame_of(rt, REQUEST);
     for _ in 0..64 {
-        same(rt, feed(b, request), Ok(()));
+        same(rt, feed(rt, b, request), Ok(()));
     }
-    same(rt, feed(b, request), refused(Refusal::TxFull));
+    same(rt, feed(rt, b, request), refused(Refusal::TxFull));
     same(rt, got(rt, front(b)).is_some(), true);
     same(rt, sent(b), Ok(()));
-    same(rt, feed(b, request), Ok(()));
+    same(rt, feed(rt, b, request), Ok(()));
 }
 
 #[test]

@@ -13,4 +13,4 @@ invariant_of-self c = record {
 
 pub returns-clause-wanting : goal.returns-clause-wanting
 returns-clause-wanting c =
-    not_in_place c.apply_in_place.result c.args.self.now c.self.inside.segment c.self.inside.address (told_events c.self.inside.told) c.self.view_is c.apply_in_place.ensures.wanting
+    not_in_place c.apply_in_place.result c.args.self.now c.self.inside.segment c.self.inside.address (told_events c.self.inside.told) c.self.inside.has_missed c.self.view_is c.apply_in_place.ensures.wanting

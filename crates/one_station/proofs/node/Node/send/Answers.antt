@@ -1,4 +1,4 @@
-use Rattle.std.proofs.Common.{◌≡◌, ℕ, List, refl, sym, ap, ◌∙◌}
+use Rattle.std.proofs.Common.{◌≡◌, ℕ, List, sym, ap, ◌∙◌}
 use Rattle.segment_law.specs.Calls.{applied}
 use Rattle.segment_law.specs.declared.call.Call.TheVariants.{Send}
 use Rattle.segment_law.specs.declared.reply.Reply.TheVariants.{Opened, Done}
@@ -10,8 +10,8 @@ use Rattle.one_station.proofs.node.Node.send.Goals as goal
 pub returns-in-Ok-Refused-clause-answered : goal.returns-in-Ok-Refused-clause-answered
 returns-in-Ok-Refused-clause-answered c =
     let bytes : c.new.result ≡ c.args.bytes.now = c.new.ensures ∙ c.in-Ok.ensures.items in
-    make_refused c.args.self.now c.self.inside.segment c.apply.new.self c.self.inside.address (told_events c.self.inside.told) (told_events c.self.inside.told)
-    (λ a. Send a c.args.to c.args.pgn c.args.bytes.now) c.in-Ok-Refused.field-0 c.in-Ok-Refused.cause c.self.view_is refl
+    make_refused c.args.self.now c.self.inside.segment c.apply.new.self c.self.inside.address (told_events c.self.inside.told) (told_events c.make_place.new.told) c.self.inside.has_missed
+    (λ a. Send a c.args.to c.args.pgn c.args.bytes.now) c.in-Ok-Refused.field-0 c.in-Ok-Refused.cause c.self.view_is c.make_place.ensures.events
     (ap (λ (b : List ℕ). applied c.self.inside.segment (Send c.self.inside.address c.args.to c.args.pgn b)) (sym bytes) ∙ c.in-Ok-Refused.ensures.ok) c.in-Ok-Refused.field-0-is
 
 pub unreachable-requires : goal.unreachable-requires
@@ -24,14 +24,14 @@ unreachable-requires-in-Ok-Done c =
     fits c.self.inside.segment (Send c.self.inside.address c.args.to c.args.pgn c.new.result) c.apply.new.self (Done c.in-Ok-Done.field-0-0)
     (c.in-Ok-Done.ensures.ok ∙ ap (λ r. (c.apply.new.self, r)) c.in-Ok-Done.field-0-is) tt
 
-pub invariant_of-self : goal.invariant_of-self
-invariant_of-self c = record {
-  front_first = c.self.invariant.front_first;
+pub invariant_of-self-in-Ok-Sent : goal.invariant_of-self-in-Ok-Sent
+invariant_of-self-in-Ok-Sent c = record {
+  front_first = c.make_place.ensures.sound;
   stood = stood_on c.self.inside.address c.self.inside.segment c.apply.new.self (Send c.self.inside.address c.args.to c.args.pgn c.new.result) c.in-Ok-Sent.field-0 c.in-Ok-Sent.ensures.stands c.self.invariant.stood;
 }
 
 pub invariant_of-self-in-Ok-Refused : goal.invariant_of-self-in-Ok-Refused
 invariant_of-self-in-Ok-Refused c = record {
-  front_first = c.self.invariant.front_first;
+  front_first = c.make_place.ensures.sound;
   stood = stood_on c.self.inside.address c.self.inside.segment c.apply.new.self (Send c.self.inside.address c.args.to c.args.pgn c.new.result) c.in-Ok-Refused.field-0 c.in-Ok-Refused.ensures.stands c.self.invariant.stood;
 }
