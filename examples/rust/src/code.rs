@@ -85,14 +85,24 @@ numbered! {
     }
 }
 
-/// What becomes of a frame that was fed, or of a loss that was told.
+/// What becomes of a frame that was fed.
 #[derive(Clone, Copy, Debug, PartialEq, Eq)]
 #[must_use]
 pub enum Fed {
-    /// It is done.
+    /// The node has taken it.
     Taken,
     /// The node has it, and `Node::settle` is to be called until it is done: there was no memory.
     Held,
     /// The node has looked at the frame, and there was no memory for what it brings.
     WithoutRoom,
+}
+
+/// What becomes of a loss that was told.
+#[derive(Clone, Copy, Debug, PartialEq, Eq)]
+#[must_use]
+pub enum Missed {
+    /// What was under way has ended.
+    Ended,
+    /// The node remembers it, and `Node::settle` is to be called until it is done: there was no memory.
+    Waits,
 }

@@ -12,7 +12,7 @@
 mod code;
 mod raw;
 
-pub use code::{Error, Fed, Outcome};
+pub use code::{Error, Fed, Missed, Outcome};
 use core::{mem, ptr};
 
 /// A frame: 29 bits of identifier, and `len` bytes, 0 to 8.
@@ -104,7 +104,7 @@ fn done(code: u32) -> Result<(), Error> {
     }
 }
 
-/// The same of a call that may be held.
+/// What a code says of a frame that was fed.
 fn fed(code: u32) -> Result<Fed, Error> {
     match code {
         69 => Ok(Fed::Held),
@@ -172,8 +172,11 @@ impl Node {
     }
 
     /// Frames of the bus were lost: to be called before a later one is fed.
-    pub fn missed(&mut self) -> Result<Fed, Error> {
-        fed(self.call(|of, out| unsafe { raw::fulwethi_raw_missed(of, out) }))
+    pub fn missed(&mut self) -> Missed {
+        match self.call(|of, out| unsafe { raw::fulwethi_raw_missed(of, out) }) {
+            0 => Missed::Ended,
+            _ => Missed::Waits,
+        }
     }
 
     pub fn settle(&mut self) -> Result<(), Error> {

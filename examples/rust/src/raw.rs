@@ -1,6 +1,6 @@
 //! The exports of the library, as `fulwethi.h` declares them. A handle goes in by value, which spends it, and comes back by `out`.
 
-use core::ffi::c_void;
+use core::{ffi::c_void, mem::size_of};
 
 /// `struct fulwethi`: it owns a node, or nothing if it is null.
 #[repr(C)]
@@ -21,6 +21,10 @@ pub struct Event {
     pub outcome: u32,
     pub reason: u32,
 }
+
+// As in examples/c/abi.txt.
+const _: () = assert!(size_of::<Handle>() == 8 && size_of::<crate::Frame>() == 16 && size_of::<Event>() == 40);
+const _: () = assert!(size_of::<crate::Counts>() == 80 && size_of::<crate::Lane>() == 16);
 
 extern "C" {
     pub fn fulwethi_version() -> u32;

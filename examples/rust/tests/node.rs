@@ -1,5 +1,5 @@
 //! Each call on its way, and what it refuses.
-use fulwethi::{Counts, Error, Event, Fed, Frame, Lane, Node, Outcome};
+use fulwethi::{Counts, Error, Event, Fed, Frame, Lane, Missed, Node, Outcome};
 
 fn carry(from: &mut Node, to: &mut Node) -> bool {
     let Some(frame) = from.front().unwrap() else {
@@ -63,7 +63,7 @@ fn what_is_refused_changes_nothing() {
     assert_eq!((node.pause(port), node.pause(port)), (Ok(()), Err(Error::PortPaused)));
     assert_eq!((node.resume(port), node.resume(port)), (Ok(()), Err(Error::PortNotPaused)));
     assert_eq!(node.close(port + 1), Err(Error::NoSuchPort));
-    assert_eq!(node.missed(), Ok(Fed::Taken));
+    assert_eq!(node.missed(), Missed::Ended);
     assert_eq!((node.next_event(), node.next_due_at()), (None, None));
 }
 
