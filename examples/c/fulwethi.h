@@ -11,7 +11,7 @@
  *   - no pointer is null, also where its length is 0; a pointer to room for n bytes has n bytes behind it;
  *   - where frames of the bus were lost, fulwethi_missed is called before a later frame is fed.
  *
- * Memory comes from three functions that a program may define itself: heap.c beside this header.
+ * Memory comes from three functions, over malloc, that a program may define itself: examples/c/heap.c.
  *
  * Units: a message is 9 to 1,785 bytes to all (address 255), 9 to 117,440,505 bytes to one node (0 to 253); a tick is 1 ms.
  */
