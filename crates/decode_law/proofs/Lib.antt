@@ -1,4 +1,5 @@
 mod Entries
+mod Interfaces
 mod Steps
 mod Frames
 mod Announcements
