@@ -1,31 +1,47 @@
 #!/bin/sh
 # can0.sh ADDRESS [INTERFACE [WORDS]]: a station on a SocketCAN interface by can-utils alone: candump shows it the bus, a loop the time, and
 # cansend puts its frames; WORDS are more words of j1939bus node, such as --port FECA:1785. Standard input has its commands (open PGN MAX,
-# send TO PGN HEX, ..), standard output what it tells (docs/REAL-BUS.md).
+# send TO PGN HEX, ..), standard output what it tells (docs/REAL-BUS.md). It goes on when its input ends, until it is ended, or candump or the node ends.
 # Frames that candump's socket dropped are told as missed, and so is a controller that restarted, left the bus or was overrun. The time is that
 # since the machine started, which doesn't go back; frames come without a time of their own.
-# Wants candump and cansend of can-utils, GNU's stdbuf and sed, and j1939bus on the PATH.
-address=${1:?say ./can0.sh ADDRESS [INTERFACE [WORDS]]}
+# Wants candump and cansend of can-utils, GNU's stdbuf and sed, setsid of util-linux, and j1939bus on the PATH.
+address=${1:?say can0.sh ADDRESS [INTERFACE [WORDS]]}
 interface=${2:-can0}
 shift
 [ $# -eq 0 ] || shift
-trap 'kill 0' EXIT INT TERM
+for command in candump cansend stdbuf setsid j1939bus; do
+    command -v "$command" > /dev/null || { echo "can0.sh: $command isn't on the PATH" >&2; exit 1; }
+done
+
+# Prints the lines of the bus. Error frames of these classes: the controller restarted (100), is off the bus (40), or has a problem (4), of which
+# an odd second byte is an overrun.
+show_bus='
+    stdbuf -oL candump -d "$0,0:0,#00000144" | sed -u -E \
+        -e "s/^DROPCOUNT.*/missed/" \
+        -e "s/^ *[^ ]+ +20000([13579BDF]..|.[4-7C-F].) .*/missed/" \
+        -e "s/^ *[^ ]+ +20000..[4-7C-F] +\[8\] +.. .[13579BDF] .*/missed/"'
+
+# Prints the time while this script runs, a process shows the bus and somebody reads.
+show_time() {
+    trap '' PIPE
+    while sleep 0.005 && kill -0 $$ && kill -0 "$1" && read -r now _ < /proc/uptime && echo "now ${now}0000"; do :; done 2> /dev/null
+}
+
+exec 3<&0
 {
-    # Each writes whole lines, which a pipe keeps whole.
-    while sleep 0.005; do
-        read -r now _ < /proc/uptime && echo "now ${now}0000"
-    done &
-    # Error frames of these classes: the controller restarted (100), is off the bus (40), or has a problem (4), of which an odd second
-    # byte is an overrun.
-    stdbuf -oL candump -d "$interface,0:0,#00000144" | sed -u -E \
-        -e 's/^DROPCOUNT.*/missed/' \
-        -e 's/^ *[^ ]+ +20000([13579BDF]..|.[4-7C-F].) .*/missed/' \
-        -e 's/^ *[^ ]+ +20000..[4-7C-F] +\[8\] +.. .[13579BDF] .*/missed/' &
-    cat
-    wait
-} | j1939bus node "$address" --interface "$interface" "$@" | while read -r word rest; do
-    case $word in
-        put) cansend "$interface" "${rest##* }" ;;
-        *) printf '%s\n' "$word $rest" ;;
+    # Each writes whole lines, which a pipe keeps whole. The bus is shown by a group of its own, which can be ended whole.
+    setsid sh -c "$show_bus" "$interface" &
+    bus=$!
+    cat <&3 &
+    input=$!
+    trap 'kill "$input" "$clock" 2> /dev/null; kill -- "-$bus" 2> /dev/null' EXIT
+    trap exit INT TERM HUP
+    show_time "$bus" &
+    clock=$!
+    wait "$clock"
+} | j1939bus node "$address" --interface "$interface" "$@" | while IFS= read -r line; do
+    case $line in
+        'put '*) cansend "$interface" "${line##* }" ;;
+        *) printf '%s\n' "$line" ;;
     esac
 done

@@ -11,6 +11,8 @@
  *   - no pointer is null, also where its length is 0; a pointer to room for n bytes has n bytes behind it;
  *   - where frames of the bus were lost, fulwethi_missed is called before a later frame is fed.
  *
+ * Memory comes from three functions that a program may define itself: heap.c beside this header.
+ *
  * Units: a message is 9 to 1,785 bytes to all (address 255), 9 to 117,440,505 bytes to one node (0 to 253); a tick is 1 ms.
  */
 #ifndef FULWETHI_H
@@ -181,6 +183,88 @@ static inline uint32_t fulwethi_event(struct fulwethi *node, struct fulwethi_eve
 
 /* Takes what is told next, and writes its bytes to the front of the room. NOTHING, TOO_LITTLE_ROOM: it stays. */
 static inline uint32_t fulwethi_take(struct fulwethi *node, uint8_t *room, size_t len) { return fulwethi_raw_take(*node, room, len, node); }
+
+/* The name of a code, as TX_FULL; the empty text if there is no such code. */
+static inline const char *fulwethi_code_name(uint32_t code) {
+    switch (code) {
+    case FULWETHI_DONE: return "DONE";
+    case FULWETHI_ID_TOO_LARGE: return "ID_TOO_LARGE";
+    case FULWETHI_DATA_TOO_LONG: return "DATA_TOO_LONG";
+    case FULWETHI_BAD_PGN: return "BAD_PGN";
+    case FULWETHI_TX_FULL: return "TX_FULL";
+    case FULWETHI_BUS_FULL: return "BUS_FULL";
+    case FULWETHI_LANE_FULL: return "LANE_FULL";
+    case FULWETHI_PORTS_FULL: return "PORTS_FULL";
+    case FULWETHI_NO_SUCH_PORT: return "NO_SUCH_PORT";
+    case FULWETHI_BAD_ADDRESS: return "BAD_ADDRESS";
+    case FULWETHI_NO_SUCH_STATION: return "NO_SUCH_STATION";
+    case FULWETHI_TOO_SHORT: return "TOO_SHORT";
+    case FULWETHI_TOO_LONG: return "TOO_LONG";
+    case FULWETHI_SAME_STATION: return "SAME_STATION";
+    case FULWETHI_NOTHING_TO_TAKE: return "NOTHING_TO_TAKE";
+    case FULWETHI_NOTHING_DUE: return "NOTHING_DUE";
+    case FULWETHI_NOTHING_TO_SEND: return "NOTHING_TO_SEND";
+    case FULWETHI_STATION_ADDRESS: return "STATION_ADDRESS";
+    case FULWETHI_PORT_PAUSED: return "PORT_PAUSED";
+    case FULWETHI_PORT_NOT_PAUSED: return "PORT_NOT_PAUSED";
+    case FULWETHI_NO_MEMORY: return "NO_MEMORY";
+    case FULWETHI_NOTHING: return "NOTHING";
+    case FULWETHI_FRAME_WAITS: return "FRAME_WAITS";
+    case FULWETHI_CLOCK_PASSED: return "CLOCK_PASSED";
+    case FULWETHI_TOO_LITTLE_ROOM: return "TOO_LITTLE_ROOM";
+    case FULWETHI_HELD: return "HELD";
+    case FULWETHI_WITHOUT_ROOM: return "WITHOUT_ROOM";
+    default: return "";
+    }
+}
+
+/* What a code says, in English. */
+static inline const char *fulwethi_strerror(uint32_t code) {
+    switch (code) {
+    case FULWETHI_DONE: return "done";
+    case FULWETHI_ID_TOO_LARGE: return "the identifier of the frame has more than 29 bits";
+    case FULWETHI_DATA_TOO_LONG: return "the frame has more than 8 bytes";
+    case FULWETHI_BAD_PGN: return "no PGN: it has more than 18 bits, or is of PDU1 and its low byte isn't 0";
+    case FULWETHI_TX_FULL: return "too few places are free in the queue of frames for the bus: put frames first";
+    case FULWETHI_BUS_FULL: return "the node has counted as many frames as it can";
+    case FULWETHI_LANE_FULL: return "32 messages to this destination have no outcome";
+    case FULWETHI_PORTS_FULL: return "16 ports are open";
+    case FULWETHI_NO_SUCH_PORT: return "no port with this number is open";
+    case FULWETHI_BAD_ADDRESS: return "a node's address is 0 to 253";
+    case FULWETHI_NO_SUCH_STATION: return "254 is no destination";
+    case FULWETHI_TOO_SHORT: return "the message has fewer than 9 bytes";
+    case FULWETHI_TOO_LONG: return "the message has more than 1,785 bytes to all, or more than 117,440,505 to one node";
+    case FULWETHI_SAME_STATION: return "the destination is the node itself";
+    case FULWETHI_NOTHING_TO_TAKE: return "nothing waits to be settled";
+    case FULWETHI_NOTHING_DUE: return "no timer is due";
+    case FULWETHI_NOTHING_TO_SEND: return "there is no such frame or message to send";
+    case FULWETHI_STATION_ADDRESS: return "the frame has the source address of the node";
+    case FULWETHI_PORT_PAUSED: return "the port is paused already";
+    case FULWETHI_PORT_NOT_PAUSED: return "the port isn't paused";
+    case FULWETHI_NO_MEMORY: return "no memory: nothing changed";
+    case FULWETHI_NOTHING: return "there is nothing now";
+    case FULWETHI_FRAME_WAITS: return "something waits to be settled first";
+    case FULWETHI_CLOCK_PASSED: return "the clock of the node stands later";
+    case FULWETHI_TOO_LITTLE_ROOM: return "the room is too little for the message";
+    case FULWETHI_HELD: return "done, but for memory: to be settled";
+    case FULWETHI_WITHOUT_ROOM: return "the frame was looked at, without memory for what it brings";
+    default: return "unknown code";
+    }
+}
+
+/* The name of an outcome, as ACKNOWLEDGED; the empty text if there is no such outcome. */
+static inline const char *fulwethi_outcome_name(uint32_t outcome) {
+    switch (outcome) {
+    case FULWETHI_ACKNOWLEDGED: return "ACKNOWLEDGED";
+    case FULWETHI_BROADCAST: return "BROADCAST";
+    case FULWETHI_ABORTED: return "ABORTED";
+    case FULWETHI_TIMED_OUT: return "TIMED_OUT";
+    case FULWETHI_OVERRUN: return "OVERRUN";
+    case FULWETHI_CANCELLED: return "CANCELLED";
+    case FULWETHI_UNREACHABLE: return "UNREACHABLE";
+    default: return "";
+    }
+}
 
 #ifdef __cplusplus
 }

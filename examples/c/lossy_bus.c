@@ -163,16 +163,18 @@ static void lose_three(int reports) {
 int main(int count, char **words) {
     static struct bus bus;
     uint64_t port;
-    if (count < 2 || count > 3) return 2;
-    uint32_t messages = (uint32_t)atol(words[1]);
+    long messages = count > 1 ? atol(words[1]) : 0;
+    if (messages < 1 || messages > 1000000 || count > 3 || (count == 3 && strcmp(words[2], "unreported"))) {
+        return fprintf(stderr, "usage: %s COUNT [unreported]\n", words[0]), 2;
+    }
     bus.reports = count == 2;
     lose_three(bus.reports);
-    WANT(bus.messages = calloc(messages + 1, sizeof *bus.messages));
+    WANT(bus.messages = calloc((size_t)messages + 1, sizeof *bus.messages));
     for (int at = 0; at < STATIONS; at++) {
         WANT(fulwethi_new(&bus.node[at], ADDRESS[at]) == FULWETHI_DONE);
         WANT(fulwethi_open(&bus.node[at], PGN, MOST, &port) == FULWETHI_DONE);
     }
-    run(&bus, messages);
+    run(&bus, (uint32_t)messages);
     printf("messages %u given %u lost frames %u wrong %u\n", bus.count, bus.given, bus.lost, bus.wrong);
     for (int at = 0; at < STATIONS; at++) fulwethi_free(&bus.node[at]);
     free(bus.messages);

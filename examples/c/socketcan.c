@@ -10,6 +10,7 @@
  * that restarted or was overrun) is told before the frame that was read with it. If it is told while a frame is outstanding, nothing more
  * is fed until the echo comes; what was read before counts as missed too. */
 #include "fulwethi.h"
+#include <ctype.h>
 #include <errno.h>
 #include <linux/can.h>
 #include <linux/can/error.h>
@@ -29,7 +30,9 @@ enum {
     ECHO_WAIT = 200,      /* so long an echo is waited for after a loss was told */
     ECHO_LOST = 1000,     /* after so long without one it counts as lost */
     PACE = 50,            /* between the frames of a broadcast */
-    RETRY = 10            /* what found no memory, or no place in the interface's queue, is tried again */
+    RETRY = 10,           /* what found no memory, or no place in the interface's queue, is tried again */
+    MOST_BYTES = 65536,   /* of a message that a line sends */
+    MOST_LINE = 4 * MOST_BYTES
 };
 
 struct station {
@@ -229,19 +232,59 @@ static void tell(struct fulwethi *node) {
     if (fflush(stdout)) perror("output");
 }
 
-/* Sends the message of a line. */
-static void send_line(struct fulwethi *node, char *line) {
-    static uint8_t bytes[65536];
-    size_t len = 0;
+/* Reads a hexadecimal number of at most `most`; 0 where the word is none. */
+static int read_number(const char *word, unsigned long most, unsigned long *number) {
+    char *end;
+    if (!word || !isxdigit((unsigned char)*word)) return 0;
+    *number = strtoul(word, &end, 16);
+    return !*end && *number <= most;
+}
+
+/* Reads 'TO PGN BYTES..'; 0 where a line isn't that. */
+static int read_line(char *line, unsigned long *to, unsigned long *pgn, uint8_t *bytes, size_t *len) {
+    static const char space[] = " \t\r";
+    unsigned long byte;
+    if (!read_number(strtok(line, space), 0xFF, to) || !read_number(strtok(NULL, space), 0x3FFFF, pgn)) return 0;
+    *len = 0;
+    for (char *word = strtok(NULL, space); word; word = strtok(NULL, space)) {
+        if (*len == MOST_BYTES || !read_number(word, 0xFF, &byte)) return 0;
+        bytes[(*len)++] = (uint8_t)byte;
+    }
+    return 1;
+}
+
+/* Sends the message of a line, which has room for a zero behind it if it isn't too long. */
+static void send_line(struct fulwethi *node, char *line, size_t length) {
+    static uint8_t bytes[MOST_BYTES];
+    unsigned long to, pgn;
     uint64_t number;
-    char *word = strtok(line, " \n");
-    unsigned long to = word ? strtoul(word, NULL, 16) : 256;
-    word = strtok(NULL, " \n");
-    uint32_t pgn = word ? (uint32_t)strtoul(word, NULL, 16) : 0;
-    if (to > 255) return;
-    while (len < sizeof bytes && (word = strtok(NULL, " \n"))) bytes[len++] = (uint8_t)strtoul(word, NULL, 16);
-    uint32_t code = fulwethi_send(node, (uint8_t)to, pgn, bytes, len, &number);
+    size_t len;
+    if (length <= MOST_LINE) line[length] = 0;
+    if (length > MOST_LINE || strlen(line) != length || !read_line(line, &to, &pgn, bytes, &len)) {
+        fprintf(stderr, "wrong line: say TO PGN BYTES.. in hexadecimal, at most %d bytes\n", MOST_BYTES);
+        return;
+    }
+    uint32_t code = fulwethi_send(node, (uint8_t)to, (uint32_t)pgn, bytes, len, &number);
     if (code) fprintf(stderr, "not sent: code %u\n", code);
+}
+
+/* Reads what is there of standard input, and sends the messages of its lines; 0 at its end. A line may come in pieces. */
+static int read_input(struct fulwethi *node) {
+    static char line[MOST_LINE + 1];
+    static size_t len;
+    char got[4096];
+    ssize_t n = read(STDIN_FILENO, got, sizeof got);
+    if (n < 0) return errno == EINTR || errno == EAGAIN;
+    for (ssize_t i = 0; i < n; i++) {
+        if (got[i] == '\n') {
+            send_line(node, line, len);
+            len = 0;
+        } else if (len < sizeof line) {
+            line[len++] = got[i];
+        }
+    }
+    if (!n && len) send_line(node, line, len);
+    return n > 0;
 }
 
 /* The earlier of a pause and that until a tick. */
@@ -264,7 +307,6 @@ static int pause_for(struct station *at) {
 
 /* One turn: waits, and does what is to be done. */
 static void turn(struct station *at, int *input) {
-    static char line[65536 * 3];
     struct pollfd from[2] = {{.fd = at->bus, .events = POLLIN}, {.fd = *input, .events = POLLIN}};
     if (poll(from, 2, pause_for(at)) < 0 && errno != EINTR) abort();
     uint32_t code = fulwethi_clock(&at->node, ticks(at));
@@ -272,10 +314,7 @@ static void turn(struct station *at, int *input) {
     receive(at);
     give_up_echo(at);
     while (fulwethi_fire(&at->node) == FULWETHI_DONE) { }
-    if (from[1].revents & (POLLIN | POLLHUP)) {
-        if (fgets(line, sizeof line, stdin)) send_line(&at->node, line);
-        else *input = -1;
-    }
+    if (from[1].revents && !read_input(&at->node)) *input = -1;
     while (transmit(at)) receive(at);
     tell(&at->node);
 }
@@ -284,13 +323,15 @@ int main(int count, char **words) {
     static struct station at;
     uint64_t port;
     int input = 0;
-    if (count != 4) return fprintf(stderr, "usage: %s INTERFACE ADDRESS PGN\n", words[0]), 2;
+    unsigned long address, pgn;
+    if (count != 4 || !read_number(words[2], 0xFF, &address) || !read_number(words[3], 0x3FFFF, &pgn)) {
+        return fprintf(stderr, "usage: %s INTERFACE ADDRESS PGN\n", words[0]), 2;
+    }
     at.bus = open_bus(words[1]);
     if (at.bus < 0) return perror(words[1]), 1;
     at.start = milliseconds();
-    uint32_t code = fulwethi_new(&at.node, (uint8_t)strtoul(words[2], NULL, 16));
-    if (!code) code = fulwethi_open(&at.node, (uint32_t)strtoul(words[3], NULL, 16), 117440505, &port);
+    uint32_t code = fulwethi_new(&at.node, (uint8_t)address);
+    if (!code) code = fulwethi_open(&at.node, (uint32_t)pgn, 117440505, &port);
     if (code) return fprintf(stderr, "no station: code %u\n", code), 1;
-    if (setvbuf(stdin, NULL, _IONBF, 0)) return perror("input"), 1;
     for (;;) turn(&at, &input);
 }

@@ -214,7 +214,10 @@ static int starve(unsigned long from) {
 
 int main(int count, char **words) {
     struct run run;
-    if (count != 2) return 2;
+    long messages = count == 2 ? atol(words[1]) : 0;
+    if (count != 2 || (messages < 1 && strcmp(words[1], "memory") && strcmp(words[1], "starved"))) {
+        return fprintf(stderr, "usage: %s COUNT|memory|starved\n", words[0]), 2;
+    }
     if (!strcmp(words[1], "memory")) {
         for (refused_at = 1; ; refused_at++) {
             allocations = 0;
@@ -233,14 +236,13 @@ int main(int count, char **words) {
         printf("allocations refused from each on: %lu\n", from - 1);
         return 0;
     }
-    uint32_t messages = (uint32_t)atol(words[1]);
     WANT(begin(&run));
     seed = 20;
     run.lose = 20000;
     run.repeat = 100;
-    for (uint32_t i = 0; i < messages; i++) exchange(&run, i);
+    for (long i = 0; i < messages; i++) exchange(&run, (uint32_t)i);
     WANT(run.acknowledged == messages && run.given >= messages);
-    printf("messages %u given %u\n", messages, run.given);
+    printf("messages %ld given %u\n", messages, run.given);
     end(&run);
     return 0;
 }
