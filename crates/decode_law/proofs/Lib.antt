@@ -9,3 +9,4 @@ mod Managing
 mod Windows
 mod Connections
 mod Drives
+mod InForm
