@@ -13,13 +13,15 @@ for command in candump cansend stdbuf setsid j1939bus; do
     command -v "$command" > /dev/null || { echo "can0.sh: $command isn't on the PATH" >&2; exit 1; }
 done
 
-# Prints the lines of the bus. Error frames of these classes: the controller restarted (100), is off the bus (40), or has a problem (4), of which
-# an odd second byte is an overrun.
+# Prints the frames of the bus that have 29 bits and data, and each loss. Error frames of these classes: the controller restarted (100), is off the
+# bus (40), or has a problem (4), of which an odd second byte is an overrun.
 show_bus='
-    stdbuf -oL candump -d "$0,0:0,#00000144" | sed -u -E \
-        -e "s/^DROPCOUNT.*/missed/" \
-        -e "s/^ *[^ ]+ +20000([13579BDF]..|.[4-7C-F].) .*/missed/" \
-        -e "s/^ *[^ ]+ +20000..[4-7C-F] +\[8\] +.. .[13579BDF] .*/missed/"'
+    stdbuf -oL candump -d "$0,0:0,#00000144" | sed -u -n -E \
+        -e "/^DROPCOUNT/bmissed" \
+        -e "/^ *[^ ]+ +20000([13579BDF]..|.[4-7C-F].) /bmissed" \
+        -e "/^ *[^ ]+ +20000..[4-7C-F] +\[8\] +.. .[13579BDF] /bmissed" \
+        -e "/^ *[^ ]+ +[01][0-9A-F]{7} +\[[0-8]\] *( [0-9A-F]{2})*$/p" \
+        -e b -e ":missed" -e "s/.*/missed/p"'
 
 # Prints the time while this script runs, a process shows the bus and somebody reads.
 show_time() {

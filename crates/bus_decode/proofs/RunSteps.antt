@@ -58,18 +58,18 @@ few n h = grind (arith, nat_tests, h)
 short : (line : List ℕ) → length line ≤ 8192 → nat_lt 8192 (length line) ≡ false
 short line l = grind (arith, nat_tests)
 
-within : (options : Options) (s : Listening) (n : ℕ) (line : List ℕ) → n < lines_end → length line ≤ 8192 → numbered_line options s n line ≡ line_seen options s line
+within : (options : Options) (s : Listening) (n : ℕ) (line : List ℕ) → n < lines_end → length line ≤ 8192 → numbered_line options s n line ≡ line_seen options s n line
 unfolding numbered_line
 within options s n line h l = rw (few n h, short line l) refl
 
 -- after a line that was read
-stepped : (options : Options) (s t : Listening) (n : ℕ) (p line : List ℕ) (lines : List (List ℕ)) → n < lines_end → length line ≤ 8192 → line_seen options s line ≡ Ok (t, p)
+stepped : (options : Options) (s t : Listening) (n : ℕ) (p line : List ℕ) (lines : List (List ℕ)) → n < lines_end → length line ≤ 8192 → line_seen options s n line ≡ Ok (t, p)
     → outcome_from options s n (line ∷ lines) ≡ record { text = p ++ (outcome_from options t (n + 1) lines).text; counts = (outcome_from options t (n + 1) lines).counts; fault = (outcome_from options t (n + 1) lines).fault }
 unfolding outcome_from
 stepped options s t n p line lines h l e = rw (within options s n line h l, e) refl
 
 line_done : (options : Options) (a b c : Option (List ℕ)) (s t : Listening) (n : ℕ) (p line : List ℕ) (lines : List (List ℕ)) (whole : Outcome) → n < lines_end → length line ≤ 8192
-    → line_seen options s line ≡ Ok (t, p) → Appends b c p
+    → line_seen options s n line ≡ Ok (t, p) → Appends b c p
     → GoesOn a b (outcome_from options s n (line ∷ lines)) whole → GoesOn a c (outcome_from options t (n + 1) lines) whole
 line_done options a b c s t n p line lines whole h l done written so_far =
     let rest : Outcome = outcome_from options t (n + 1) lines in
@@ -95,7 +95,7 @@ too_long : (options : Options) (s : Listening) (n : ℕ) (line : List ℕ) → 8
 unfolding numbered_line
 too_long options s n line l =
     let e : nat_lt 8192 (length line) ≡ true = grind (arith, nat_tests) in
-    rw e (elim (nat_le lines_end n) as (λ b. ◌≡◌ {A = Result Step Fault} (cond (b || true) (Err (limit_fault n)) (line_seen options s line)) (Err (limit_fault n))) [ true ↦ refl | false ↦ refl ])
+    rw e (elim (nat_le lines_end n) as (λ b. ◌≡◌ {A = Result Step Fault} (cond (b || true) (Err (limit_fault n)) (line_seen options s n line)) (Err (limit_fault n))) [ true ↦ refl | false ↦ refl ])
 
 -- the loop's invariant: of what was read, ra is all and rb is left; of what was written, a was there and b is there now
 abbrev pub Inv : Options → Option (List ℕ) → Option (List ℕ) → Option (List ℕ) → Option (List ℕ) → Listening → ℕ → Type 0
@@ -123,7 +123,7 @@ at_fault options (Some all) (Some rest) a b c s n f inv next keeps =
     line_fails options a b c s n f next.0 next.1 (outcome options all) next.3 keeps (subst (λ ls. GoesOn a b (outcome_from options s n ls) (outcome options all)) next.2 inv)
 
 pub at_line : (options : Options) (ra rb rc : Option (List ℕ)) (line : List ℕ) (a b c : Option (List ℕ)) (s t : Listening) (n : ℕ) (p : List ℕ) → Inv options ra rb a b s n → Known rb rc (ReadsLine Line line)
-    → n < lines_end → length line ≤ 8192 → line_seen options s line ≡ Ok (t, p) → Appends b c p → Inv options ra rc a c t (n + 1)
+    → n < lines_end → length line ≤ 8192 → line_seen options s n line ≡ Ok (t, p) → Appends b c p → Inv options ra rc a c t (n + 1)
 at_line options None rb rc line a b c s t n p inv reads h l done written = tt
 at_line options (Some all) None rc line a b c s t n p inv reads h l done written = absurd inv
 at_line options (Some all) (Some rest) None line a b c s t n p inv reads h l done written = absurd reads
@@ -144,7 +144,7 @@ at_no_line options ra rb a b s n counts reads.OutOfMemory inv = at_front options
 
 -- a front of the line's text was written
 pub at_write : (options : Options) (ra rb rc : Option (List ℕ)) (line : List ℕ) (a b c : Option (List ℕ)) (s t : Listening) (n : ℕ) (p : List ℕ) → Inv options ra rb a b s n → Known rb rc (ReadsLine Line line)
-    → n < lines_end → length line ≤ 8192 → line_seen options s line ≡ Ok (t, p) → IsFront b c p → IfSome ra (λ log. IsFront a c (outcome options log).text)
+    → n < lines_end → length line ≤ 8192 → line_seen options s n line ≡ Ok (t, p) → IsFront b c p → IfSome ra (λ log. IsFront a c (outcome options log).text)
 at_write options None rb rc line a b c s t n p inv reads h l done written = tt
 at_write options (Some all) None rc line a b c s t n p inv reads h l done written = absurd inv
 at_write options (Some all) (Some rest) None line a b c s t n p inv reads h l done written = absurd reads
@@ -169,17 +169,17 @@ ended_more None counts a b c rest whole w e = (appends_all a b c rest.text whole
 ended_more (Some f) counts a b c rest whole w e = cause_more f.line f.cause counts a b c rest whole w e
 
 -- with no line left
-no_line : (options : Options) (a b : Option (List ℕ)) (s : Listening) (n : ℕ) (whole : Outcome) → GoesOn a b (outcome_from options s n []) whole → GoesOn a b (last_outcome options s) whole
+no_line : (options : Options) (a b : Option (List ℕ)) (s : Listening) (n : ℕ) (whole : Outcome) → GoesOn a b (outcome_from options s n []) whole → GoesOn a b (last_outcome options (s.0.0, s.1)) whole
 unfolding outcome_from
 no_line options a b s n whole so_far = so_far
 
-pub at_last : (options : Options) (ra rb rc : Option (List ℕ)) (line : List ℕ) (a b c : Option (List ℕ)) (s : Listening) (n : ℕ) (d : Decoded) → Inv options ra rb a b s n → Known rb rc (ReadsLine End line) → Ended d b c (last_outcome options s)
+pub at_last : (options : Options) (ra rb rc : Option (List ℕ)) (line : List ℕ) (a b c : Option (List ℕ)) (s : Listening) (n : ℕ) (d : Decoded) → Inv options ra rb a b s n → Known rb rc (ReadsLine End line) → Ended d b c (last_outcome options (s.0.0, s.1))
     → IfSome ra (λ log. Ended d a c (outcome options log))
 at_last options None rb rc line a b c s n d inv reads e = tt
 at_last options (Some all) None rc line a b c s n d inv reads e = absurd inv
 at_last options (Some all) (Some rest) None line a b c s n d inv reads e = absurd reads
 at_last options (Some all) (Some rest) (Some left) line a b c s n d inv reads e =
-    ended_more d.fault d.counts a b c (last_outcome options s) (outcome options all)
+    ended_more d.fault d.counts a b c (last_outcome options (s.0.0, s.1)) (outcome options all)
     (no_line options a b s n (outcome options all) (subst (λ ls. GoesOn a b (outcome_from options s n ls) (outcome options all)) reads inv)) e
 
 -- nothing of a text was written
@@ -192,7 +192,7 @@ was_told done t p step o = o.1 ∙ ap (λ q. Ok (t, q)) (sym o.2)
 
 -- at a line that ends the run
 pub at_error : (options : Options) (ra rb rc : Option (List ℕ)) (line : List ℕ) (a b : Option (List ℕ)) (s t : Listening) (n : ℕ) (before after : List ℕ) (counts : Counts) (error : LineError) → Inv options ra rb a b s n → Known rb rc (ReadsLine Line line)
-    → n < lines_end → length line ≤ 8192 → counts ≡ s.1 → Read (Err error) t before after (line_seen options s line)
+    → n < lines_end → length line ≤ 8192 → counts ≡ s.1 → Read (Err error) t before after (line_seen options s n line)
     → IfSome ra (λ log. Ended record { counts = counts; fault = Some record { line = n; cause = cause_of error } } a b (outcome options log))
 at_error options ra rb rc line a b s t n before after counts errors.OutOfMemory inv reads h l c o = at_front options ra rb a b s n inv
 at_error options ra rb rc line a b s t n before after counts errors.NotLogLine inv reads h l c o =

@@ -1,5 +1,5 @@
 -- What is counted of a log.
-use Rattle.std.specs.Prelude.{ℕ, ◌+◌, ◌-◌, ◌^◌, List, ◌++◌, codes, fold, Bool, min, if◌then◌else◌}
+use Rattle.std.specs.Prelude.{ℕ, ◌+◌, ◌-◌, ◌^◌, List, [], ◌++◌, codes, fold, Bool, ◌&&◌, not, ◌==◌, min, if◌then◌else◌}
 use Rattle.std.specs.Fmt.{decimal}
 use Rattle.bus_frame.specs.Frames.{CanFrame}
 use Rattle.tp_wire.specs.Reading.{is_transport, is_malformed}
@@ -11,7 +11,7 @@ use Rattle.bus_decode.specs.declared.options.Options.{Options}
 
 -- nothing was counted
 abbrev pub no_counts : Counts
-no_counts = record { lines = 0; passed = 0; frames = 0; earlier = 0; transport = 0; malformed = 0; messages = 0; aborted = 0; lost = 0 }
+no_counts = record { lines = 0; passed = 0; wrong = 0; frames = 0; earlier = 0; transport = 0; malformed = 0; messages = 0; aborted = 0; lost = 0 }
 
 -- one more, within 64 bits
 abbrev pub more : ℕ → ℕ
@@ -47,6 +47,13 @@ frames_text c = codes " earlier " ++ decimal c.earlier ++ codes " transport " ++
 abbrev pub messages_text : Counts → List ℕ
 messages_text c = codes " messages " ++ decimal c.messages ++ codes " aborted " ++ decimal c.aborted ++ codes " lost " ++ decimal c.lost
 
+-- what is said of a log of which lines were wrong, or none shows a frame
+abbrev pub rest_text : Counts → List ℕ
+rest_text c =
+    if not (c.wrong == 0) then codes " wrong " ++ decimal c.wrong
+    else if not (c.lines == 0) && c.passed == c.lines then codes ": every line was passed over"
+    else []
+
 -- each number behind its name
 abbrev pub counts_text : Counts → List ℕ
-counts_text c = lines_text c ++ frames_text c ++ messages_text c
+counts_text c = lines_text c ++ frames_text c ++ messages_text c ++ rest_text c

@@ -1,5 +1,5 @@
 -- How the reading of a log ended.
-use Rattle.std.specs.Prelude.{◌≡◌, ℕ, List, ◌++◌, Option, Some, None, codes}
+use Rattle.std.specs.Prelude.{◌≡◌, ℕ, List, ◌++◌, Option, Some, None, ◌==◌, if◌then◌else◌, codes}
 use Rattle.std.specs.Fmt.{decimal}
 use Rattle.std.specs.Io.KnownBytes.{Appends}
 use Rattle.text_lines.specs.Known.{IsFront}
@@ -40,7 +40,7 @@ Ended d a b o = EndedBy d.fault d.counts a b o
 
 -- the status of a program
 abbrev pub status_of : Decoded → ℕ
-status_of d = elim d.fault [ None ↦ 0 | Some f ↦ 1 ]
+status_of d = elim d.fault [ None ↦ if d.counts.wrong == 0 then 0 else 1 | Some f ↦ 1 ]
 
 -- the line that tells of a fault
 abbrev pub fault_line : LogFault → List ℕ

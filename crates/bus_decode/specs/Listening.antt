@@ -1,16 +1,18 @@
 -- What each line of a log tells.
-use Rattle.std.specs.Prelude.{◌≡◌, ℕ, List, [], ◌++◌, ◌&&◌, not, nat_lt, if◌then◌else◌, Some, None, Result, Ok, Err, unwrap_or}
+use Rattle.std.specs.Prelude.{◌≡◌, ℕ, List, [], ◌++◌, Bool, ◌&&◌, ◌||◌, not, ◌==◌, nat_lt, if◌then◌else◌, Option, Some, None, Result, Ok, Err, unwrap_or}
 use Rattle.bus_frame.specs.Frames.{CanFrame}
+use Rattle.pgn_ids.specs.Identifier.{meaning_of}
+use Rattle.tp_wire.specs.Groups.{request, acknowledgement}
 use Rattle.tp_wire.specs.Reading.{is_transport}
-use Rattle.log_text.specs.Line.{log_line}
+use Rattle.log_text.specs.Reading.{form_of, line_as}
+use Rattle.log_text.specs.declared.reading.Form.{Form}
 use Rattle.log_text.specs.declared.iface.Iface.{Iface}
 use Rattle.log_text.specs.declared.line.LogLine.{LogLine}
 use Rattle.log_text.specs.declared.line.LogLine.TheVariants.{Frame, Passed}
-use Rattle.log_decode.specs.View.{State}
-use Rattle.log_decode.specs.Decoder.{taken}
-use Rattle.log_decode.specs.Sessions.{ended}
+use Rattle.log_decode.specs.View.{State, bus_at}
+use Rattle.log_decode.specs.Decoder.{taken, ended}
 use Rattle.bus_decode.specs.Counts.{more, with_frame, with_each}
-use Rattle.bus_decode.specs.Text.{told_lines, single_line}
+use Rattle.bus_decode.specs.Text.{told_lines, wrong_line, single_line}
 use Rattle.bus_decode.specs.declared.counts.Counts.{Counts}
 use Rattle.bus_decode.specs.declared.options.Options.{Options}
 use Rattle.bus_decode.specs.declared.listening.LineError.{LineError}
@@ -19,45 +21,69 @@ use Rattle.bus_decode.specs.declared.running.Fault.{Fault}
 use Rattle.bus_decode.specs.declared.running.Fault.TheVariants.{NotLogLine}
 
 -- a listener, and what was counted
+abbrev pub Hearing : Type 0
+Hearing = State × Counts
+
+-- a listener, the form of the log's lines, where a line had one, and what was counted
 abbrev pub Listening : Type 0
-Listening = State × Counts
+Listening = (State × Option Form) × Counts
 
 -- these afterwards, and what is printed
 abbrev pub Step : Type 0
 Step = Listening × List ℕ
 
--- a frame that isn't of a transport, where such are asked for
-abbrev pub single : ℕ → Iface → Options → CanFrame → List ℕ
-single now iface options frame = if options.singles && not (is_transport frame) then single_line now iface options frame else []
+-- a Request or an Acknowledgement
+abbrev pub is_asking : CanFrame → Bool
+is_asking frame = (meaning_of frame.id).pgn == request || (meaning_of frame.id).pgn == acknowledgement
 
--- a frame is seen at a time on an interface: what it tells is counted and printed at the time to which it brings the listener
-unfoldable pub frame_seen : Options → Listening → (time : ℕ) → Iface → CanFrame → Step
+-- a frame that carries nothing of a message, where such are asked for
+abbrev pub single : ℕ → Iface → Options → CanFrame → List ℕ
+single now iface options frame = if options.singles && (not (is_transport frame) || is_asking frame) then single_line now iface options frame else []
+
+-- a frame is seen at a time on an interface: what it tells is counted and printed at the time to which it brings the interface
+unfoldable pub frame_seen : Options → Hearing → (time : ℕ) → Iface → CanFrame → Hearing × List ℕ
 frame_seen options s time iface frame =
     let t = taken s.0 time iface frame [] in
-    ((t.0, with_each options (with_frame frame (nat_lt time s.0.time) s.1) t.1), told_lines t.0.time options t.1 ++ single t.0.time iface options frame)
+    ((t.0, with_each options (with_frame frame (nat_lt time (bus_at iface s.0.buses).time) s.1) t.1), told_lines t.0.time options t.1 ++ single t.0.time iface options frame)
 
 abbrev pub with_line : Counts → Counts
 with_line c = record c { lines = more c.lines }
 
--- a line that doesn't say when is taken at the time of the last frame
-abbrev pub shown_seen : Options → Listening → LogLine → Step
+-- a line that doesn't say when is taken at the time of the last frame of its interface
+unfoldable pub shown_seen : Options → Hearing → LogLine → Hearing × List ℕ
 shown_seen options s Passed = ((s.0, record s.1 { passed = more s.1.passed }), [])
-shown_seen options s (Frame time iface frame) = frame_seen options s (unwrap_or time s.0.time) iface frame
+shown_seen options s (Frame time iface frame) = frame_seen options s (unwrap_or time (bus_at iface s.0.buses).time) iface frame
 
-unfoldable pub line_seen : Options → Listening → List ℕ → Result Step Fault
-line_seen options s line = elim (log_line line) [ None ↦ Err NotLogLine | Some shown ↦ Ok (shown_seen options (s.0, with_line s.1) shown) ]
+-- the form of a log is that of its first line that has one
+abbrev pub form_with : Option Form → List ℕ → Option Form
+form_with None line = form_of line
+form_with (Some form) line = Some form
+
+-- a wrong line, by its number, ends the run where that is asked for; else it is told and counted
+abbrev pub wrong_seen : Options → Listening → ℕ → Result Step Fault
+wrong_seen options s n = if options.strict then Err NotLogLine else Ok ((s.0, record s.1 { wrong = more s.1.wrong }), wrong_line n)
+
+abbrev pub with_form : Option Form → Hearing × List ℕ → Step
+with_form form t = (((t.0.0, form), t.0.1), t.1)
+
+-- line n in a log of this form
+unfoldable pub seen_as : Options → Option Form → Hearing → ℕ → List ℕ → Result Step Fault
+seen_as options form s n line = elim (line_as form line) [ None ↦ wrong_seen options ((s.0, form), s.1) n | Some shown ↦ Ok (with_form form (shown_seen options s shown)) ]
+
+abbrev pub line_seen : Options → Listening → ℕ → List ℕ → Result Step Fault
+line_seen options s n line = seen_as options (form_with s.0.1 line) (s.0.0, with_line s.1) n line
 
 -- at the end each message that is still under way is lost
-abbrev pub ended_counts : Options → Listening → Counts
-ended_counts options s = with_each options s.1 (ended s.0.sessions)
+abbrev pub ended_counts : Options → Hearing → Counts
+ended_counts options s = with_each options s.1 (ended s.0.buses)
 
-abbrev pub ended_text : Options → Listening → List ℕ
-ended_text options s = told_lines s.0.time options (ended s.0.sessions)
+abbrev pub ended_text : Options → Hearing → List ℕ
+ended_text options s = told_lines s.0.time options (ended s.0.buses)
 
 -- How the code read a line
 
 -- a step went so, to the listener new, with what it prints put behind a
-abbrev pub Seen : Listening → (a b : List ℕ) → Step → Type 0
+abbrev pub Seen : Hearing → (a b : List ℕ) → Hearing × List ℕ → Type 0
 Seen new a b step = (step.0 ≡ new) × (b ≡ a ++ step.1)
 
 abbrev pub Read : Result (Unit {0}) LineError → Listening → (a b : List ℕ) → Result Step Fault → Type 0

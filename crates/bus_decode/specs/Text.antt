@@ -9,7 +9,7 @@ use Rattle.log_text.specs.Iface.{name_of}
 use Rattle.log_text.specs.Written.{time_text}
 use Rattle.log_text.specs.declared.iface.Iface.{Iface}
 use Rattle.log_decode.specs.declared.told.Cause.{Cause}
-use Rattle.log_decode.specs.declared.told.Cause.TheVariants.{Missing, Replaced, TimedOut, Acknowledged, TooLong, EndOfLog}
+use Rattle.log_decode.specs.declared.told.Cause.TheVariants.{Missing, Replaced, TimedOut, WentBack, Acknowledged, Unsound, TooLong, EndOfLog}
 use Rattle.log_decode.specs.declared.told.Told.{Told}
 use Rattle.log_decode.specs.declared.told.Told.TheVariants.{Given, Aborted, Lost}
 use Rattle.bus_decode.specs.Options.{is_asked_for}
@@ -40,7 +40,9 @@ abbrev pub cause_text : Cause → List ℕ
 cause_text Missing = codes "packet missing\n"
 cause_text Replaced = codes "replaced\n"
 cause_text TimedOut = codes "timed out\n"
+cause_text WentBack = codes "time went back\n"
 cause_text Acknowledged = codes "acknowledged\n"
+cause_text Unsound = codes "wrong size\n"
 cause_text TooLong = codes "too long\n"
 cause_text EndOfLog = codes "end of log\n"
 
@@ -61,7 +63,15 @@ told_line now options (Lost key pgn have size cause) = if is_asked_for options k
 abbrev pub told_lines : ℕ → Options → List Told → List ℕ
 told_lines now options told = flat_map (told_line now options) told
 
--- a frame that isn't of a transport, where it is asked for
+-- a number between texts
+unfoldable pub between_texts : List ℕ → ℕ → List ℕ → List ℕ
+between_texts before n behind = before ++ decimal n ++ behind
+
+-- a wrong line, by its number
+abbrev pub wrong_line : ℕ → List ℕ
+wrong_line n = between_texts (codes "line ") n (codes ": not a log line\n")
+
+-- a frame that carries nothing of a message, where it is asked for
 abbrev pub single_line : ℕ → Iface → Options → CanFrame → List ℕ
 single_line now iface options frame =
     let m = meaning_of frame.id in

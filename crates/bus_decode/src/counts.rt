@@ -1,7 +1,7 @@
 //! What was counted of a log.
 ghost use Rattle.std.specs.Prelude.{◌≡◌, Some};
 ghost use Rattle.std.specs.Fmt.{DisplaysOnOk};
-ghost use Rattle.bus_decode.specs.Counts.{no_counts, more, with_told, with_each, with_frame, lines_text, frames_text, messages_text, counts_text};
+ghost use Rattle.bus_decode.specs.Counts.{no_counts, more, with_told, with_each, with_frame, lines_text, frames_text, messages_text, rest_text, counts_text};
 
 use crate::options::Options;
 use bus_frame::Frame;
@@ -16,9 +16,11 @@ pub struct Counts {
     pub lines: u64,
     /// Lines of them that were passed over.
     pub passed: u64,
+    /// Lines of them that were wrong.
+    pub wrong: u64,
     /// Data frames with a 29-bit identifier.
     pub frames: u64,
-    /// Frames of them whose time is before that of the one before.
+    /// Frames of them whose time is before that of the one before on their interface.
     pub earlier: u64,
     /// Frames of them whose PGN is one of a transport, of Request or of Acknowledgement.
     pub transport: u64,
@@ -47,6 +49,7 @@ impl Counts {
         Counts {
             lines: 0,
             passed: 0,
+            wrong: 0,
             frames: 0,
             earlier: 0,
             transport: 0,
@@ -69,6 +72,13 @@ impl Counts {
         ensures { self.new ≡ record self.old { passed = more self.old.passed } }
     {
         self.passed = more(self.passed);
+    }
+
+    /// A line was wrong.
+    pub(crate) fn add_wrong(&mut self)
+        ensures { self.new ≡ record self.old { wrong = more self.old.wrong } }
+    {
+        self.wrong = more(self.wrong);
     }
 
     /// A frame was seen, with a time before that of the one before or not.
@@ -147,12 +157,27 @@ fn put_messages<W: fmt::Write>(counts: &Counts, f: &mut fmt::Formatter<W>) -> fm
     write!(f, " messages {messages} aborted {aborted} lost {lost}")
 }
 
+/// What is said of a log of which lines were wrong, or none shows a frame.
+fn put_rest<W: fmt::Write>(counts: &Counts, f: &mut fmt::Formatter<W>) -> fmt::Result
+    ensures { DisplaysOnOk W.write_str_gives f.old result (Some (rest_text counts.now)) f.new }
+{
+    let wrong = counts.wrong;
+    if wrong != 0 {
+        return write!(f, " wrong {wrong}");
+    }
+    if counts.lines != 0 && counts.passed == counts.lines {
+        return write!(f, ": every line was passed over");
+    }
+    Ok(())
+}
+
 impl fmt::Display for Counts {
     ghost output = { λ c. Some (counts_text c) };
 
     fn fmt<W: fmt::Write>(&self, f: &mut fmt::Formatter<W>) -> fmt::Result {
         put_lines(self, f)?;
         put_frames(self, f)?;
-        put_messages(self, f)
+        put_messages(self, f)?;
+        put_rest(self, f)
     }
 }

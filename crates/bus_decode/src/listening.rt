@@ -1,15 +1,17 @@
 //! A line of a log, and what it tells.
 ghost use Rattle.std.specs.Prelude.{◌≡◌, ◌++◌, OnOk};
-ghost use Rattle.bus_decode.specs.Listening.{single, frame_seen, line_seen, Seen, Read, ended_counts, ended_text};
+ghost use Rattle.bus_decode.specs.Listening.{is_asking, single, frame_seen, shown_seen, form_with, seen_as, line_seen, Seen, Read, ended_counts, ended_text};
 ghost use Rattle.bus_decode.specs.declared.listening.LineError.TheVariants.{OutOfMemory};
 
 use crate::counts::Counts;
 use crate::options::Options;
-use crate::text::{put_each, put_single};
+use crate::text::{put_each, put_single, put_wrong};
 use bus_frame::Frame;
 use log_decode::Decoder;
-use log_text::{Iface, LogLine, read_log_line};
+use log_text::{Form, Iface, LogLine, form_of, read_line_as};
+use pgn_ids::read_id;
 use std::alloc::{AllocError, Global};
+use tp_wire::constants::{ACKNOWLEDGEMENT, REQUEST};
 use tp_wire::is_transport;
 
 /// Why a line tells nothing.
@@ -29,7 +31,15 @@ impl From<AllocError> for LineError {
     }
 }
 
-/// The line of a frame, where it isn't of a transport and such frames are asked for.
+/// Whether a frame is a Request or an Acknowledgement.
+fn is_asking(frame: &Frame) -> bool
+    ensures { result ≡ is_asking frame.now }
+{
+    let pgn = read_id(frame.id()).pgn.raw();
+    pgn == REQUEST || pgn == ACKNOWLEDGEMENT
+}
+
+/// The line of a frame, where it carries nothing of a message and such frames are asked for.
 fn put_other(
     out: &mut Vec<u8>,
     now: u64,
@@ -39,7 +49,7 @@ fn put_other(
 ) -> Result<(), AllocError>
     ensures { OnOk result (out.new.items ≡ out.old.items ++ single now iface.now options.now frame.now) }
 {
-    if !options.singles || is_transport(frame) {
+    if !options.singles || (is_transport(frame) && !is_asking(frame)) {
         return Ok(());
     }
     put_single(out, now, iface, options, frame)
@@ -58,7 +68,7 @@ fn take_frame(
 ) -> Result<(), AllocError>
     ensures { OnOk result (Seen (decoder.new, counts.new) out.old.items out.new.items (frame_seen options.now (decoder.old, counts.old) time iface frame.now)) }
 {
-    counts.add_frame(frame, time < decoder.time());
+    counts.add_frame(frame, time < decoder.time_on(iface));
     let mut told = Vec::new(alloc);
     decoder.take(alloc, time, iface, frame, &mut told)?;
     counts.add_each(options, told.as_slice());
@@ -67,33 +77,87 @@ fn take_frame(
     put_other(out, now, &iface, options, frame)
 }
 
-/// A line is read. What it tells is put behind what `out` holds.
-#[tactic(auto, unfolding(crate::specs::Listening::line_seen))]
-pub(crate) fn take_line(
+/// A line shows a frame, or is passed over.
+#[tactic(auto, unfolding(crate::specs::Listening::shown_seen))]
+fn take_shown(
     alloc: Global,
     decoder: &mut Decoder,
     counts: &mut Counts,
     options: &Options,
-    line: &[u8],
+    shown: LogLine,
     out: &mut Vec<u8>,
-) -> Result<(), LineError>
-    ensures { Read result (decoder.new, counts.new) out.old.items out.new.items (line_seen options.now (decoder.old, counts.old) line.now) }
+) -> Result<(), AllocError>
+    ensures { OnOk result (Seen (decoder.new, counts.new) out.old.items out.new.items (shown_seen options.now (decoder.old, counts.old) shown)) }
 {
-    let Ok(shown) = read_log_line(line) else {
-        return Err(LineError::NotLogLine);
-    };
-    counts.add_line();
     match shown {
         LogLine::Passed => {
             counts.add_passed();
             Ok(())
         }
         LogLine::Frame { time, iface, frame } => {
-            let time = time.unwrap_or(decoder.time());
-            take_frame(alloc, decoder, counts, options, time, iface, &frame, out)?;
+            let time = time.unwrap_or(decoder.time_on(iface));
+            take_frame(alloc, decoder, counts, options, time, iface, &frame, out)
+        }
+    }
+}
+
+/// The form of a log's lines: that of its first line that has one.
+fn form_with(form: Option<Form>, line: &[u8]) -> Option<Form>
+    ensures { result ≡ form_with form line.now }
+{
+    match form {
+        None => form_of(line),
+        Some(form) => Some(form),
+    }
+}
+
+/// A line of a log of this form is read, by its number.
+#[tactic(auto, unfolding(crate::specs::Listening::seen_as))]
+fn take_line_as(
+    alloc: Global,
+    decoder: &mut Decoder,
+    form: Option<Form>,
+    counts: &mut Counts,
+    options: &Options,
+    number: u64,
+    line: &[u8],
+    out: &mut Vec<u8>,
+) -> Result<(), LineError>
+    ensures { Read result ((decoder.new, form), counts.new) out.old.items out.new.items (seen_as options.now form (decoder.old, counts.old) number line.now) }
+{
+    match read_line_as(form, line) {
+        Ok(shown) => {
+            take_shown(alloc, decoder, counts, options, shown, out)?;
+            Ok(())
+        }
+        Err(_) => {
+            if options.strict {
+                return Err(LineError::NotLogLine);
+            }
+            counts.add_wrong();
+            put_wrong(out, number)?;
             Ok(())
         }
     }
+}
+
+/// A line is read, by its number. What it tells is put behind what `out` holds.
+pub(crate) fn take_line(
+    alloc: Global,
+    decoder: &mut Decoder,
+    form: &mut Option<Form>,
+    counts: &mut Counts,
+    options: &Options,
+    number: u64,
+    line: &[u8],
+    out: &mut Vec<u8>,
+) -> Result<(), LineError>
+    ensures { Read result ((decoder.new, form.new), counts.new) out.old.items out.new.items (line_seen options.now ((decoder.old, form.old), counts.old) number line.now) }
+{
+    let known = form_with(*form, line);
+    *form = known;
+    counts.add_line();
+    take_line_as(alloc, decoder, known, counts, options, number, line, out)
 }
 
 /// The log ends. What that tells is put behind what `out` holds.

@@ -68,8 +68,10 @@ pub struct Options {
     pub to: Wanted,
     /// The longest message that is put together, in bytes.
     pub most: u32,
-    /// Whether frames that aren't of a transport are printed too.
+    /// Whether frames that carry nothing of a message are printed too: those that aren't of a transport, Requests and Acknowledgements.
     pub singles: bool,
+    /// Whether a wrong line ends the run; else it is told, and the log goes on.
+    pub strict: bool,
 }
 
 impl Options {

@@ -19,7 +19,7 @@ pub enum Fault {
     TooManyLines,
     /// The line has more than 8,192 bytes.
     LineTooLong,
-    /// The line begins with a time, and goes on otherwise than as a line of a log.
+    /// The line begins as a frame of the log's form, and goes on otherwise.
     NotLogLine,
 }
 
@@ -131,7 +131,8 @@ fn end_run<W: Write>(
     }
 }
 
-/// Reads a log to its end, and writes and flushes what each line tells before the next one is read. It ends at the first fault.
+/// Reads a log to its end, and writes and flushes what each line tells before the next one is read. It ends at the first fault: a wrong line is
+/// one where the options say so, else it is told by its number.
 ///
 /// Unless it reports a failed read or write or refused memory, exactly the text of the log was written, and counts and fault are those of
 /// the log. Where it reports one of these, a front of that text was written.
@@ -145,6 +146,7 @@ pub fn run_decode<R: BufRead, W: Write>(
         Ended result (W.contents writer.old) (W.contents writer.new) (outcome options.now log)) }
 {
     let mut decoder = Decoder::new(alloc, options.most);
+    let mut form = None;
     let mut counts = Counts::none();
     let mut line = Vec::new(alloc);
     let mut out = Vec::new(alloc);
@@ -164,7 +166,16 @@ pub fn run_decode<R: BufRead, W: Write>(
         out.clear();
         let before = counts;
         let text = line.as_slice();
-        match take_line(alloc, &mut decoder, &mut counts, options, text, &mut out) {
+        match take_line(
+            alloc,
+            &mut decoder,
+            &mut form,
+            &mut counts,
+            options,
+            number,
+            text,
+            &mut out,
+        ) {
             Ok(()) => {}
             Err(error) => return failed(number, cause_of(error), before),
         }
@@ -190,12 +201,12 @@ impl fmt::Display for LogFault {
 }
 
 impl Decoded {
-    /// The status of a program that read this log: 0 where it was read to its end, else 1.
+    /// The status of a program that read this log: 0 where it was read to its end and no line of it was wrong, else 1.
     pub fn status(&self) -> u8
         ensures { result ≡ status_of self.now }
     {
         match self.fault {
-            None => 0,
+            None => { if self.counts.wrong == 0 { 0 } else { 1 } }
             Some(_) => 1,
         }
     }

@@ -1,6 +1,6 @@
 //! What is printed of a log.
 ghost use Rattle.std.specs.Prelude.{◌≡◌, ◌++◌, OnOk};
-ghost use Rattle.bus_decode.specs.Text.{place_text, address_text, pgn_text, ends_text, way_text, message_text, cause_text, abort_text, loss_text, told_line, told_lines, single_line};
+ghost use Rattle.bus_decode.specs.Text.{place_text, address_text, pgn_text, ends_text, way_text, message_text, cause_text, abort_text, loss_text, told_line, told_lines, between_texts, wrong_line, single_line};
 
 use crate::options::Options;
 use bus_frame::Frame;
@@ -68,7 +68,9 @@ fn put_cause(out: &mut Vec<u8>, cause: Cause) -> Result<(), AllocError>
         Cause::Missing => put_text(out, "packet missing\n"),
         Cause::Replaced => put_text(out, "replaced\n"),
         Cause::TimedOut => put_text(out, "timed out\n"),
+        Cause::WentBack => put_text(out, "time went back\n"),
         Cause::Acknowledged => put_text(out, "acknowledged\n"),
+        Cause::Unsound => put_text(out, "wrong size\n"),
         Cause::TooLong => put_text(out, "too long\n"),
         Cause::EndOfLog => put_text(out, "end of log\n"),
     }
@@ -151,7 +153,24 @@ pub(crate) fn put_each(
     Ok(())
 }
 
-/// The line of a frame that isn't of a transport, where it is asked for.
+/// A number between texts.
+#[tactic(auto, unfolding(crate::specs::Text::between_texts))]
+fn put_between(out: &mut Vec<u8>, before: &str, number: u64, behind: &str) -> Result<(), AllocError>
+    ensures { OnOk result (out.new.items ≡ out.old.items ++ between_texts before.now number behind.now) }
+{
+    put_text(out, before)?;
+    put_decimal(out, number)?;
+    put_text(out, behind)
+}
+
+/// The line of a wrong line, by its number.
+pub(crate) fn put_wrong(out: &mut Vec<u8>, number: u64) -> Result<(), AllocError>
+    ensures { OnOk result (out.new.items ≡ out.old.items ++ wrong_line number) }
+{
+    put_between(out, "line ", number, ": not a log line\n")
+}
+
+/// The line of a frame that carries nothing of a message, where it is asked for.
 pub(crate) fn put_single(
     out: &mut Vec<u8>,
     now: u64,

@@ -20,11 +20,12 @@ use Rattle.segment_law.specs.Quiet.{quiet, quiet_broadcast, quiet_connection, is
 use Rattle.log_decode.specs.Session.{opened}
 use Rattle.log_decode.specs.Sessions.{session_at}
 use Rattle.log_decode.specs.Decoder.{frame_taken, cm_frame_taken, wire_taken}
-use Rattle.log_decode.specs.View.{State}
+use Rattle.log_decode.specs.View.{Bus, State, bus_at}
 use Rattle.log_decode.specs.declared.told.Told.{Told}
 use Rattle.log_decode.specs.declared.told.Told.TheVariants.{Given}
-use Rattle.decode_law.specs.Hearing.{Log, heard_all, end_of, IsSendable, IsLogOf, IsHeard, kind_to}
+use Rattle.decode_law.specs.Hearing.{Log, heard_all, end_of, at_time, IsSendable, IsLogOf, IsHeard, kind_to}
 use Rattle.decode_law.proofs.Steps.{Laws, Case, key_with, key, with_one, first_place, Stands, begins, passes, whole}
+use Rattle.decode_law.proofs.Interfaces.{heard_on, listener, on_interface}
 use Rattle.decode_law.proofs.Announcements.{tp_opens, etp_opens}
 use Rattle.decode_law.proofs.Frames.{meaning}
 use Rattle.decode_law.proofs.Managing.{ack_passes, etp_ack_passes}
@@ -57,6 +58,9 @@ module _ (laws : Laws) (m : Pending) (s d : Address) (h : IsSendable m s d) (to_
   carried Etp sequence bytes = own
 
   module _ (l : State) (iface : Iface) (log : Log) (told : List Told) (g : IsLogOf (quiet m s d) l iface m s d log) where
+    abbrev b : Bus
+    b = bus_at iface l.buses
+
     abbrev case_of : (kind : Kind) → kind_for len ≡ kind → Case
     case_of kind is = record {
       m = m;
@@ -65,18 +69,18 @@ module _ (laws : Laws) (m : Pending) (s d : Address) (h : IsSendable m s d) (to_
       kind = kind;
       iface = iface;
       most = l.most;
-      others = l.sessions;
+      others = b.sessions;
       told = told;
-      total = heard_all l iface log told;
-      until = end_of l.time log;
+      total = heard_on l.most b iface log told;
+      until = end_of b.time log;
       sendable = h;
       carries = carried kind;
       room = g.room;
-      free = subst (λ k. session_at (key_with iface s d k) l.sessions ≡ None) (kind_is kind is) g.free;
+      free = subst (λ k. session_at (key_with iface s d k) b.sessions ≡ None) (kind_is kind is) g.free;
     }
 
     abbrev Hears : Kind → Type 0
-    Hears kind = heard_all l iface log told ≡ (let after : State = record { most = l.most; time = end_of l.time log; sessions = l.sessions } in (after, told ++ Given (key_with iface s d kind) (clean m.pgn) m.bytes ∷ []))
+    Hears kind = heard_all l iface log told ≡ (at_time l iface (end_of b.time log), told ++ Given (key_with iface s d kind) (clean m.pgn) m.bytes ∷ [])
 
     -- ---- TP
 
@@ -90,17 +94,19 @@ module _ (laws : Laws) (m : Pending) (s d : Address) (h : IsSendable m s d) (to_
       abbrev ack : CanFrame
       ack = written (Cm (EndOfMsgAck len (packet_count len) m.pgn)) d.0 s.0
 
-      opens : (now : ℕ) → frame_taken iface rts l.most now (l.sessions, told) ≡ (with_one laws c (opened (key laws c).transport m.pgn len now), told)
+      opens : (now : ℕ) → frame_taken iface rts l.most now (b.sessions, told) ≡ (with_one laws c (opened (key laws c).transport m.pgn len now), told)
       unfolding wire_taken cm_frame_taken
       opens now =
-          meaning laws c (Cm (Rts len (packet_count len) 255 m.pgn)) s d now (l.sessions, told) (record { numbers = tt; widths = h.pgn; source = h.source; destination = own })
-          ∙ tp_opens (key laws c) l.sessions told m.pgn len l.most now c.free g.room h.least short
+          meaning laws c (Cm (Rts len (packet_count len) 255 m.pgn)) s d now (b.sessions, told) (record { numbers = tt; widths = h.pgn; source = h.source; destination = own })
+          ∙ tp_opens (key laws c) b.sessions told m.pgn len l.most now c.free g.room h.least short
 
       stands : Stands laws c 1 (first_place Tp) (flat_map (tp_window m s d) (groups 16 (packet_count len)) ++ ack ∷ [])
-      stands = begins laws c rts (flat_map (tp_window m s d) (groups 16 (packet_count len)) ++ ack ∷ []) l.time log (g.frames_are ∙ quiet_is Tp is) g.times g.others refl refl opens
+      stands = begins laws c rts (flat_map (tp_window m s d) (groups 16 (packet_count len)) ++ ack ∷ []) b.time log (g.frames_are ∙ quiet_is Tp is) g.times g.others refl refl opens
 
       tp_heard : Hears Tp
-      tp_heard = whole laws c (passes laws c ack [] (λ now told. ack_passes laws c own refl len (packet_count len) now told) (tp_windows laws c own (omega (arith, h.least)) refl (ack ∷ []) stands))
+      tp_heard =
+          on_interface iface l log told rts (flat_map (tp_window m s d) (groups 16 (packet_count len)) ++ ack ∷ []) (g.frames_are ∙ quiet_is Tp is)
+          ∙ ap (listener iface l) (whole laws c (passes laws c ack [] (λ now told. ack_passes laws c own refl len (packet_count len) now told) (tp_windows laws c own (omega (arith, h.least)) refl (ack ∷ []) stands)))
 
     -- ---- ETP
 
@@ -114,17 +120,19 @@ module _ (laws : Laws) (m : Pending) (s d : Address) (h : IsSendable m s d) (to_
       abbrev etp_ack : CanFrame
       etp_ack = written (Cm (EtpEoma len m.pgn)) d.0 s.0
 
-      etp_begins : (now : ℕ) → frame_taken iface etp_rts l.most now (l.sessions, told) ≡ (with_one laws ce (opened (key laws ce).transport m.pgn len now), told)
+      etp_begins : (now : ℕ) → frame_taken iface etp_rts l.most now (b.sessions, told) ≡ (with_one laws ce (opened (key laws ce).transport m.pgn len now), told)
       unfolding wire_taken cm_frame_taken
       etp_begins now =
-          meaning laws ce (Cm (EtpRts len m.pgn)) s d now (l.sessions, told) (record { numbers = tt; widths = h.pgn; source = h.source; destination = own })
-          ∙ etp_opens (key laws ce) l.sessions told m.pgn len l.most now ce.free g.room long most
+          meaning laws ce (Cm (EtpRts len m.pgn)) s d now (b.sessions, told) (record { numbers = tt; widths = h.pgn; source = h.source; destination = own })
+          ∙ etp_opens (key laws ce) b.sessions told m.pgn len l.most now ce.free g.room long most
 
       etp_stands : Stands laws ce 1 (first_place Etp) (flat_map (etp_window m s d) (groups 64 (packet_count len)) ++ etp_ack ∷ [])
-      etp_stands = begins laws ce etp_rts (flat_map (etp_window m s d) (groups 64 (packet_count len)) ++ etp_ack ∷ []) l.time log (g.frames_are ∙ quiet_is Etp is) g.times g.others refl refl etp_begins
+      etp_stands = begins laws ce etp_rts (flat_map (etp_window m s d) (groups 64 (packet_count len)) ++ etp_ack ∷ []) b.time log (g.frames_are ∙ quiet_is Etp is) g.times g.others refl refl etp_begins
 
       etp_heard : Hears Etp
-      etp_heard = whole laws ce (passes laws ce etp_ack [] (λ now told. etp_ack_passes laws ce own refl len now told) (etp_windows laws ce own (omega (arith, h.least)) refl (omega (arith, most)) (etp_ack ∷ []) etp_stands))
+      etp_heard =
+          on_interface iface l log told etp_rts (flat_map (etp_window m s d) (groups 64 (packet_count len)) ++ etp_ack ∷ []) (g.frames_are ∙ quiet_is Etp is)
+          ∙ ap (listener iface l) (whole laws ce (passes laws ce etp_ack [] (λ now told. etp_ack_passes laws ce own refl len now told) (etp_windows laws ce own (omega (arith, h.least)) refl (omega (arith, most)) (etp_ack ∷ []) etp_stands)))
 
     heard : Hears (kind_to m d)
     heard = by (nat_le len TP_MAX_SIZE) refl

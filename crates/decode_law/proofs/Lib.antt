@@ -1,4 +1,5 @@
 mod Entries
+mod Interfaces
 mod Steps
 mod Frames
 mod Announcements
@@ -8,3 +9,4 @@ mod Managing
 mod Windows
 mod Connections
 mod Drives
+mod InForm

@@ -1,5 +1,5 @@
 -- A listener takes the frames of one message: what it has under way after each of them, ahead of what is still to come.
-use Rattle.std.proofs.Common.{◌≡◌, ℕ, ◌+◌, ◌-◌, ◌<◌, ◌≤◌, ◌==◌, List, [], ◌∷◌, ◌++◌, Bool, true, false, cond, length, Option, Some, None, refl, sym, ap, ◌∙◌, subst, arith, max}
+use Rattle.std.proofs.Common.{◌≡◌, ℕ, ◌+◌, ◌-◌, ◌<◌, ◌≤◌, ◌==◌, List, [], ◌∷◌, ◌++◌, Bool, true, false, cond, length, Option, Some, None, refl, sym, ap, ◌∙◌, subst, arith, max, nat_lt}
 use Rattle.std.specs.Prelude.{All, IsTrue}
 use Rattle.std.proofs.lemmas.List.Elements.{All-head, All-tail}
 use Rattle.bus_frame.specs.Frames.{CanFrame}
@@ -16,15 +16,16 @@ use Rattle.seg_cut.specs.Join.{Join, IsFrontOf, joined, is_complete, with_room}
 use Rattle.lane_core.specs.declared.message.Pending.{Pending}
 use Rattle.log_decode.specs.Keys.{transport_of}
 use Rattle.log_decode.specs.Session.{patience, first_window, opened, roomy}
-use Rattle.log_decode.specs.Sessions.{Sessions, Heard, session_at, silenced}
-use Rattle.log_decode.specs.Decoder.{frame_taken, taken}
-use Rattle.log_decode.specs.View.{State}
+use Rattle.log_decode.specs.Sessions.{Sessions, Heard, session_at, silenced, broken_off}
+use Rattle.log_decode.specs.Decoder.{frame_taken, goes_back, now_at, passed, bus_taken}
+use Rattle.log_decode.specs.View.{Bus}
 use Rattle.log_decode.specs.declared.key.Key.{Key}
 use Rattle.log_decode.specs.declared.session.Session.{Session}
 use Rattle.log_decode.specs.declared.told.Told.{Told}
 use Rattle.log_decode.specs.declared.told.Told.TheVariants.{Given}
-use Rattle.decode_law.specs.Hearing.{Log, heard_all, frames_in, end_of, ComeWithin, ComeInTime, NoneSilent, IsSendable}
+use Rattle.decode_law.specs.Hearing.{Log, frames_in, end_of, ComeWithin, ComeInTime, NoneSilent, IsSendable}
 use Rattle.decode_law.proofs.Entries.{behind, none_ended, loud_with}
+use Rattle.decode_law.proofs.Interfaces.{heard_on}
 
 -- the laws of the layers below
 pub record Laws : Type 0 where
@@ -54,27 +55,31 @@ pub record Case : Type 0 where
   pub most : ℕ
   pub others : Sessions
   pub told : List Told
-  pub total : State × List Told
+  pub total : Bus × List Told
   pub until : ℕ
   pub sendable : IsSendable m s d
   pub carries : (sequence : ℕ) (bytes : List ℕ) → goes_to (Packet kind sequence bytes) d.0 ≡ true
   pub room : length m.bytes ≤ most
   pub free : session_at (key_with iface s d kind) others ≡ None
 
-abbrev state : (most time : ℕ) → Sessions → State
-state most time es = record { most = most; time = time; sessions = es }
+abbrev pub bus : (time : ℕ) → Sessions → Bus
+bus time es = record { time = time; sessions = es }
 
-abbrev then_state : (most time : ℕ) → Heard → State × List Told
-then_state most time h = (state most time h.0, h.1)
+abbrev then_bus : (time : ℕ) → Heard → Bus × List Told
+then_bus time h = (bus time h.0, h.1)
 
--- where none is silent, a frame does what it does
+-- where time doesn't go back, and none is silent, a frame does what it does
 taken_is : (most time now : ℕ) (es : Sessions) (iface : Iface) (f : CanFrame) (told : List Told) (h : Heard) → time ≤ now → NoneSilent now es → frame_taken iface f most now (es, told) ≡ h
-    → taken (state most time es) now iface f told ≡ then_state most now h
+    → bus_taken (bus time es) most now iface f told ≡ then_bus now h
 taken_is most time now es iface f told h le loud e =
-    let later : max time now ≡ now = omega (arith, le) in
-    ap (λ n. then_state most n (frame_taken iface f most n (silenced n (es, told)))) later
-    ∙ ap (λ (z : Heard). then_state most now (frame_taken iface f most now z)) (none_ended now es told loud)
-    ∙ ap (λ (z : Heard). then_state most now z) e
+    let none : time - now ≡ 0 = omega (arith, le) in
+    let on : goes_back time now ≡ false = ap (nat_lt 1000000) none in
+    let most_is : max time now ≡ now = omega (arith, le) in
+    let later : now_at time now ≡ now = ap (λ b. cond b now (max time now)) on ∙ most_is in
+    let past : passed time now (es, told) ≡ (es, told) = ap (λ b. cond b (broken_off (es, told)) (silenced (max time now) (es, told))) on ∙ ap (λ n. silenced n (es, told)) most_is ∙ none_ended now es told loud in
+    ap (λ n. then_bus n (frame_taken iface f most n (passed time now (es, told)))) later
+    ∙ ap (λ (z : Heard). then_bus now (frame_taken iface f most now z)) past
+    ∙ ap (λ (z : Heard). then_bus now z) e
 
 -- room alone changes nothing of what has come
 pub roomy_front : (message : List ℕ) (j : Join) → IsFrontOf message j → IsFrontOf message (roomy j)
@@ -133,7 +138,7 @@ module _ (laws : Laws) (c : Case) where
     pub times : ComeWithin (patience c.d) time log
     pub loud : All (λ f. NoneSilent f.0 c.others) log
     pub ends : end_of time log ≡ c.until
-    pub is : heard_all (state c.most time (with_one session)) c.iface log c.told ≡ c.total
+    pub is : heard_on c.most (bus time (with_one session)) c.iface log c.told ≡ c.total
 
   -- the message was given, and these frames are still to come
   pub record Over (rest : List CanFrame) : Type 0 where
@@ -143,17 +148,17 @@ module _ (laws : Laws) (c : Case) where
     pub times : ComeWithin (patience c.d) time log
     pub loud : All (λ f. NoneSilent f.0 c.others) log
     pub ends : end_of time log ≡ c.until
-    pub is : heard_all (state c.most time c.others) c.iface log (c.told ++ news) ≡ c.total
+    pub is : heard_on c.most (bus time c.others) c.iface log (c.told ++ news) ≡ c.total
 
   abbrev LoudAt : ℕ × CanFrame → Type 0
   LoudAt f = NoneSilent f.0 c.others
 
-  abbrev and_then : Log → State × List Told → State × List Told
-  and_then log h = heard_all h.0 c.iface log h.1
+  abbrev and_then : Log → Bus × List Told → Bus × List Told
+  and_then log h = heard_on c.most h.0 c.iface log h.1
 
   -- the announcement
   pub begins : (f : CanFrame) (rest : List CanFrame) (time : ℕ) (log : Log) → frames_in log ≡ f ∷ rest → ComeInTime (patience c.d) time log → All LoudAt log → end_of time log ≡ c.until
-      → heard_all (state c.most time c.others) c.iface log c.told ≡ c.total
+      → heard_on c.most (bus time c.others) c.iface log c.told ≡ c.total
       → ((now : ℕ) → frame_taken c.iface f c.most now (c.others, c.told) ≡ (with_one (opened (transport_of c.kind) c.m.pgn len now), c.told))
       → Stands 1 (first_place c.kind) rest
   begins f rest time [] frames times loud ends is does = absurd cc
@@ -179,7 +184,7 @@ module _ (laws : Laws) (c : Case) where
   step f rest next place next' place' does a = by a.log a.frames a.times a.loud a.ends a.is
     where
       by : (log : Log) → frames_in log ≡ f ∷ rest → ComeWithin (patience c.d) a.time log → All LoudAt log → end_of a.time log ≡ c.until
-          → heard_all (state c.most a.time (with_one a.session)) c.iface log c.told ≡ c.total → Stands next' place' rest
+          → heard_on c.most (bus a.time (with_one a.session)) c.iface log c.told ≡ c.total → Stands next' place' rest
       by [] frames times loud ends is = absurd cc
       by (g ∷ gs) frames times loud ends is =
           let first : g.1 ≡ f = cc in
@@ -208,7 +213,7 @@ module _ (laws : Laws) (c : Case) where
   gives f rest next place does a = by a.log a.frames a.times a.loud a.ends a.is
     where
       by : (log : Log) → frames_in log ≡ f ∷ rest → ComeWithin (patience c.d) a.time log → All LoudAt log → end_of a.time log ≡ c.until
-          → heard_all (state c.most a.time (with_one a.session)) c.iface log c.told ≡ c.total → Over rest
+          → heard_on c.most (bus a.time (with_one a.session)) c.iface log c.told ≡ c.total → Over rest
       by [] frames times loud ends is = absurd cc
       by (g ∷ gs) frames times loud ends is =
           let first : g.1 ≡ f = cc in
@@ -232,7 +237,7 @@ module _ (laws : Laws) (c : Case) where
   passes f rest does a = by a.log a.frames a.times a.loud a.ends a.is
     where
       by : (log : Log) → frames_in log ≡ f ∷ rest → ComeWithin (patience c.d) a.time log → All LoudAt log → end_of a.time log ≡ c.until
-          → heard_all (state c.most a.time c.others) c.iface log (c.told ++ news) ≡ c.total → Over rest
+          → heard_on c.most (bus a.time c.others) c.iface log (c.told ++ news) ≡ c.total → Over rest
       by [] frames times loud ends is = absurd cc
       by (g ∷ gs) frames times loud ends is =
           let first : g.1 ≡ f = cc in
@@ -250,9 +255,9 @@ module _ (laws : Laws) (c : Case) where
           }
 
   -- all frames have come
-  pub whole : Over [] → c.total ≡ (state c.most c.until c.others, c.told ++ news)
+  pub whole : Over [] → c.total ≡ (bus c.until c.others, c.told ++ news)
   whole a = by a.log a.frames a.ends a.is
     where
-      by : (log : Log) → frames_in log ≡ [] → end_of a.time log ≡ c.until → heard_all (state c.most a.time c.others) c.iface log (c.told ++ news) ≡ c.total → c.total ≡ (state c.most c.until c.others, c.told ++ news)
-      by [] frames ends is = sym is ∙ ap (λ t. (state c.most t c.others, c.told ++ news)) ends
+      by : (log : Log) → frames_in log ≡ [] → end_of a.time log ≡ c.until → heard_on c.most (bus a.time c.others) c.iface log (c.told ++ news) ≡ c.total → c.total ≡ (bus c.until c.others, c.told ++ news)
+      by [] frames ends is = sym is ∙ ap (λ t. (bus t c.others, c.told ++ news)) ends
       by (g ∷ gs) frames ends is = absurd cc

@@ -19,7 +19,7 @@ use Rattle.log_decode.specs.Keys.{transport_of}
 use Rattle.log_decode.specs.Session.{patience, is_silent}
 use Rattle.log_decode.specs.Sessions.{Sessions, session_at}
 use Rattle.log_decode.specs.Decoder.{taken}
-use Rattle.log_decode.specs.View.{State}
+use Rattle.log_decode.specs.View.{State, bus_at, put_bus}
 use Rattle.log_decode.specs.declared.key.Key.{Key}
 use Rattle.log_decode.specs.declared.told.Told.{Told}
 use Rattle.log_decode.specs.declared.told.Told.TheVariants.{Given}
@@ -72,18 +72,22 @@ kind_to m d = if is_to_all d then Tp else kind_for (length m.bytes)
 abbrev pub key_for : Iface → Pending → (s d : Address) → Key
 key_for iface m s d = record { iface = iface; from = s; to = d; transport = transport_of (kind_to m d) }
 
--- a listener, and a log of these frames of a message, in time for it and for all else under way
+-- a listener, and a log of these frames of a message, in time for it and for all else under way on its interface
 pub record IsLogOf (frames : List CanFrame) (l : State) (iface : Iface) (m : Pending) (s d : Address) (log : Log) : Type 0 where
   pub frames_are : frames_in log ≡ frames
   pub room : length m.bytes ≤ l.most
-  pub free : session_at (key_for iface m s d) l.sessions ≡ None
-  pub times : ComeInTime (patience d) l.time log
-  pub others : All (λ f. NoneSilent f.0 l.sessions) log
+  pub free : session_at (key_for iface m s d) (bus_at iface l.buses).sessions ≡ None
+  pub times : ComeInTime (patience d) (bus_at iface l.buses).time log
+  pub others : All (λ f. NoneSilent f.0 (bus_at iface l.buses).sessions) log
+
+-- with an interface at this time
+abbrev pub at_time : State → Iface → (time : ℕ) → State
+at_time l iface time = record { most = l.most; time = time; buses = put_bus iface (record { time = time; sessions = (bus_at iface l.buses).sessions }) l.buses }
 
 -- of these frames every listener tells that the message was given and nothing else, and has under way what it had before
 abbrev pub AreHeardAs : List CanFrame → Pending → (s d : Address) → Type 0
 AreHeardAs frames m s d = (l : State) (iface : Iface) (log : Log) (told : List Told) → IsLogOf frames l iface m s d log
-    → heard_all l iface log told ≡ (record l { time = end_of l.time log }, told ++ Given (key_for iface m s d) (clean m.pgn) m.bytes ∷ [])
+    → heard_all l iface log told ≡ (at_time l iface (end_of (bus_at iface l.buses).time log), told ++ Given (key_for iface m s d) (clean m.pgn) m.bytes ∷ [])
 
 -- so are the frames of one undisturbed message
 abbrev pub IsHeard : Pending → (s d : Address) → Type 0

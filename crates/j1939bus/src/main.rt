@@ -153,6 +153,7 @@ fn decode<R: Input + Print + Eprint + AllocGlobal + Files + Clock>(
         to: wanted(alloc, asked.to.as_slice())?,
         most: asked.most,
         singles: asked.singles,
+        strict: false,
     };
     let decoded = decode_all(rt, errors, &options)?;
     if let Some(fault) = decoded.fault {

@@ -1,18 +1,20 @@
 -- A time before which no message under way becomes silent.
-use Rattle.std.proofs.Common.{◌≡◌, ℕ, zero, suc, ◌+◌, ◌-◌, ◌*◌, ◌<◌, ◌≤◌, List, [], ◌∷◌, length, true, false, Some, None, refl, sym, ◌∙◌, ap, subst, arith, nat_le, take, slice_get, option_map, ◌==◌, if◌then◌else◌}
+use Rattle.std.proofs.Common.{◌≡◌, ℕ, zero, suc, ◌+◌, ◌-◌, ◌*◌, ◌<◌, ◌≤◌, List, [], ◌∷◌, length, true, false, Some, refl, sym, ◌∙◌, ap, subst, arith, nat_le, take, slice_get, ◌++◌, filter, not, cond, ◌==◌, if◌then◌else◌}
 use Rattle.std.proofs.lemmas.Bool.Decides.{nat_tests}
-use Rattle.std.proofs.lemmas.List.{take_all}
+use Rattle.std.proofs.lemmas.List.{take_all, append-nil}
 use Rattle.pgn_ids.specs.Address.{global_address}
 use Rattle.pgn_ids.specs.declared.address.Address.{Address}
 use Rattle.tick_timers.specs.declared.durations.TheConstants.{T1}
 use Rattle.log_decode.specs.Session.{patience}
-use Rattle.log_decode.specs.Sessions.{Sessions, silent_entry, silent_in, silenced}
+use Rattle.log_decode.specs.Sessions.{Sessions, silent_entry, losses, silenced}
 use Rattle.log_decode.specs.Due.{NoneDueBefore}
 use Rattle.log_decode.specs.declared.key.Key.{Key}
 use Rattle.log_decode.specs.declared.session.Session.{Session}
 use Rattle.log_decode.specs.declared.session.TheConstants.{CONNECTION_PATIENCE}
+use Rattle.log_decode.specs.declared.session.Fate.TheVariants.{Lost}
+use Rattle.log_decode.specs.declared.told.Cause.TheVariants.{TimedOut}
 use Rattle.log_decode.specs.declared.told.Told.{Told}
-use Rattle.log_decode.proofs.Silences.{none_out, same_some}
+use Rattle.log_decode.proofs.Silences.{same_some}
 
 -- the ends of a broadcast wait least
 pub patience_least : (to : Address) → T1 * 1000 ≤ patience to
@@ -30,16 +32,20 @@ sooner n m (e ∷ es) h d = let first = d.0 in (omega (arith, h, first), sooner 
 not_yet : (now n heard p : ℕ) → now < n → n ≤ heard + p → 0 < p → nat_le p (now - heard) ≡ false
 not_yet now n heard p h d some = grind (arith, nat_tests, h, d, some)
 
-none_silent : (now n : ℕ) (es : Sessions) → now < n → NoneDueBefore n es → silent_in now es ≡ None
-none_silent now n [] h d = refl
-none_silent now n (e ∷ es) h d =
+loud_ones : (now n : ℕ) (es : Sessions) → now < n → NoneDueBefore n es → (filter (λ e. not (silent_entry now e)) es ≡ es) × (filter (silent_entry now) es ≡ [])
+loud_ones now n [] h d = (refl, refl)
+loud_ones now n (e ∷ es) h d =
     let least = patience_least e.0.to in
     let some : 0 < patience e.0.to = omega (arith, least) in
     let loud : silent_entry now e ≡ false = not_yet now n e.1.heard (patience e.0.to) h d.0 some in
-    ap (λ b. if b then Some 0 else option_map (λ at. at + 1) (silent_in now es)) loud ∙ ap (option_map (λ at. at + 1)) (none_silent now n es h d.1)
+    let others = loud_ones now n es h d.1 in
+    (ap (λ b. cond (not b) (e ∷ filter (λ x. not (silent_entry now x)) es) (filter (λ x. not (silent_entry now x)) es)) loud ∙ ap (λ xs. e ∷ xs) others.0, ap (λ b. cond b (e ∷ filter (silent_entry now) es) (filter (silent_entry now) es)) loud ∙ others.1)
 
 pub none_yet : (now n : ℕ) (es : Sessions) (told : List Told) → now < n → NoneDueBefore n es → (es, told) ≡ silenced now (es, told)
-none_yet now n es told h d = none_out now es told (none_silent now n es h d)
+none_yet now n es told h d =
+    let loud = loud_ones now n es h d in
+    let t : told ≡ told ++ losses (Lost TimedOut) (filter (silent_entry now) es) = sym (ap (λ ys. told ++ losses (Lost TimedOut) ys) loud.1 ∙ append-nil told) in
+    λ i. (sym loud.0 i, t i)
 
 -- the next one of a walk
 next_one : (n at : ℕ) (es : Sessions) (e : Key × Session) → slice_get es at ≡ Some e → n ≤ e.1.heard + patience e.0.to → NoneDueBefore n (take at es) → NoneDueBefore n (take (suc at) es)

@@ -1,5 +1,5 @@
 -- What a frame keeps of the time before which no message becomes silent: a message that it changes was heard now.
-use Rattle.std.proofs.Common.{◌≡◌, ℕ, ◌+◌, ◌*◌, ◌≤◌, List, [], ◌∷◌, ◌++◌, Bool, true, false, not, cond, Option, Some, None, refl, ap, arith, nat_lt, ◌⊎◌, inl, inr, ◌==◌, ◌&&◌, if◌then◌else◌, option_to_list}
+use Rattle.std.proofs.Common.{◌≡◌, ℕ, ◌+◌, ◌*◌, ◌≤◌, List, [], ◌∷◌, ◌++◌, Bool, true, false, not, cond, Option, Some, None, refl, ap, arith, nat_lt, ◌⊎◌, inl, inr, ◌==◌, ◌&&◌, ◌||◌, if◌then◌else◌, option_to_list}
 use Rattle.std.specs.Map.{remove_entry}
 use Rattle.bus_frame.specs.Frames.{CanFrame}
 use Rattle.log_text.specs.declared.iface.Iface.{Iface}
@@ -18,8 +18,8 @@ use Rattle.tp_wire.specs.declared.wire.Wire.{Wire}
 use Rattle.tp_wire.specs.declared.wire.Wire.TheVariants.{Cm, Packet, Request, Ack}
 use Rattle.log_decode.specs.Keys.{same_key, key_of, key_back}
 use Rattle.log_decode.specs.Session.{opened, accepted, renewed, roomy, packet_heard, is_within, sequence_heard, cm_heard, heard, abort_heard, told_of, patience}
-use Rattle.log_decode.specs.Sessions.{Sessions, Heard, session_at, put, without, ended_at, settled, heard_at, packet_taken, cm_taken, abort_taken, renewed_at, is_again_at, opened_at, announced}
-use Rattle.log_decode.specs.Decoder.{tp_news, etp_news, aborted, cm_frame_taken, wire_taken, frame_taken}
+use Rattle.log_decode.specs.Sessions.{Sessions, Heard, session_at, put, without, ended_at, settled, heard_at, packet_taken, cm_taken, abort_taken, renewed_at, is_again_at, is_of, opened_at, announced}
+use Rattle.log_decode.specs.Decoder.{tp_news, etp_news, both_aborted, aborted, cm_frame_taken, wire_taken, frame_taken}
 use Rattle.log_decode.specs.Due.{NoneDueBefore}
 use Rattle.log_decode.specs.declared.key.Key.{Key}
 use Rattle.log_decode.specs.declared.key.Way.{Way}
@@ -27,8 +27,8 @@ use Rattle.log_decode.specs.declared.session.Session.{Session}
 use Rattle.log_decode.specs.declared.session.Fate.{Fate}
 use Rattle.log_decode.specs.declared.session.Fate.TheVariants as fates
 use Rattle.log_decode.specs.declared.sessions.News.{News}
-use Rattle.log_decode.specs.declared.told.Cause.TheVariants.{Missing, Replaced, TooLong}
-use Rattle.log_decode.specs.declared.told.Told.TheVariants.{Lost}
+use Rattle.log_decode.specs.declared.told.Cause.TheVariants.{Missing, Replaced, Unsound, TooLong}
+use Rattle.log_decode.specs.declared.told.Told.TheVariants.{Lost, Aborted}
 use Rattle.log_decode.proofs.AtKey.{by_session, by_renewed}
 use Rattle.log_decode.proofs.Silences.{same_some, none_is_some}
 use Rattle.log_decode.proofs.Due.{patience_least}
@@ -127,13 +127,14 @@ by_abort key who reason pgn h o = elim o [ None ↦ h | Some s ↦ settled key (
 at_abort : (key : Key) (who : Address) (reason pgn n : ℕ) (h : Heard) → NoneDueBefore n h.0 → NoneDueBefore n (abort_taken key who reason pgn h).0
 at_abort key who reason pgn n h d = elim (session_at key h.0) as (λ o. NoneDueBefore n (by_abort key who reason pgn h o).0) [ None ↦ d | Some s ↦ at_fate key (abort_heard s who reason pgn) n h d ]
 
-at_aborts : (way : Way) (kind : Kind) (reason pgn n : ℕ) (h : Heard) → NoneDueBefore n h.0 → NoneDueBefore n (aborted way kind reason pgn h).0
-at_aborts way kind reason pgn n h d =
-    at_abort (key_back way kind) way.from reason pgn n (abort_taken (key_of way kind) way.from reason pgn h) (at_abort (key_of way kind) way.from reason pgn n h d)
-
 one_of : (n : ℕ) (b : Bool) (x y : Heard) → NoneDueBefore n x.0 → NoneDueBefore n y.0 → NoneDueBefore n (if b then x else y).0
 one_of n true x y p q = p
 one_of n false x y p q = q
+
+at_aborts : (way : Way) (kind : Kind) (reason pgn n : ℕ) (h : Heard) → NoneDueBefore n h.0 → NoneDueBefore n (aborted way kind reason pgn h).0
+at_aborts way kind reason pgn n h d =
+    one_of n (is_of (key_of way kind) pgn h.0 || is_of (key_back way kind) pgn h.0) (both_aborted way kind reason pgn h) (h.0, h.1 ++ Aborted (key_of way kind) (clean pgn) reason way.from ∷ [])
+    (at_abort (key_back way kind) way.from reason pgn n (abort_taken (key_of way kind) way.from reason pgn h) (at_abort (key_of way kind) way.from reason pgn n h d)) d
 
 at_renewal : (key : Key) (now n : ℕ) (es : Sessions) → n ≤ now + T1 * 1000 → NoneDueBefore n es → NoneDueBefore n (renewed_at key now es)
 at_renewal key now n es later d = elim (session_at key es) as (λ o. NoneDueBefore n (by_renewed key now es o)) [ None ↦ d | Some s ↦ put_now key n now (renewed s now) es later refl d ]
@@ -141,8 +142,9 @@ at_renewal key now n es later d = elim (session_at key es) as (λ o. NoneDueBefo
 at_opening : (key : Key) (news : News) (most now n : ℕ) (h : Heard) → n ≤ now + T1 * 1000 → NoneDueBefore n h.0 → NoneDueBefore n (opened_at key news most now h).0
 at_opening key news most now n h later d =
     let long : Heard = (h.0, h.1 ++ Lost key (clean news.pgn) 0 news.size TooLong ∷ []) in
+    let wrong : Heard = (h.0, h.1 ++ Lost key (clean news.pgn) 0 news.size Unsound ∷ []) in
     let begun : Heard = (put key (opened key.transport news.pgn news.size now) h.0, h.1) in
-    one_of n (not news.is_sound) h (if nat_lt most news.size then long else begun) d
+    one_of n (not news.is_sound) wrong (if nat_lt most news.size then long else begun) d
     (one_of n (nat_lt most news.size) long begun d (put_now key n now (opened key.transport news.pgn news.size now) h.0 later refl d))
 
 at_news : (key : Key) (news : News) (most now n : ℕ) (h : Heard) → n ≤ now + T1 * 1000 → NoneDueBefore n h.0 → NoneDueBefore n (announced key news most now h).0

@@ -1,4 +1,5 @@
 pub mod AtKey
+pub mod Buses
 pub mod Silences
 pub mod Due
 pub mod Keeping

@@ -1,7 +1,8 @@
 -- What a frame tells a listener to a recorded bus.
-use Rattle.std.specs.Prelude.{ℕ, List, ◌&&◌, ◌==◌, max, Some, None}
+use Rattle.std.specs.Prelude.{ℕ, ◌-◌, List, [], ◌∷◌, ◌++◌, Bool, ◌&&◌, ◌||◌, ◌==◌, nat_lt, max, if◌then◌else◌, Some, None, flat_map}
 use Rattle.bus_frame.specs.Frames.{CanFrame}
 use Rattle.log_text.specs.declared.iface.Iface.{Iface}
+use Rattle.pgn_ids.specs.Pgn.{clean}
 use Rattle.seg_cut.specs.Packets.{packet_count}
 use Rattle.tp_wire.specs.Reading.{reading}
 use Rattle.tp_wire.specs.Sizes.{is_size_of}
@@ -12,11 +13,14 @@ use Rattle.tp_wire.specs.declared.wire.CmFrame.TheVariants.{Rts, Cts, EndOfMsgAc
 use Rattle.tp_wire.specs.declared.wire.Wire.{Wire}
 use Rattle.tp_wire.specs.declared.wire.Wire.TheVariants.{Cm, Packet, Request, Ack}
 use Rattle.log_decode.specs.Keys.{key_of, key_back}
-use Rattle.log_decode.specs.Sessions.{Heard, announced, cm_taken, packet_taken, abort_taken, silenced}
-use Rattle.log_decode.specs.View.{State}
+use Rattle.log_decode.specs.Sessions.{Heard, announced, cm_taken, packet_taken, abort_taken, is_of, losses, silenced, broken_off}
+use Rattle.log_decode.specs.View.{Bus, Buses, State, bus_at, put_bus}
 use Rattle.log_decode.specs.declared.key.Way.{Way}
 use Rattle.log_decode.specs.declared.sessions.News.{News}
+use Rattle.log_decode.specs.declared.session.Fate.TheVariants.{Lost}
+use Rattle.log_decode.specs.declared.told.Cause.TheVariants.{EndOfLog}
 use Rattle.log_decode.specs.declared.told.Told.{Told}
+use Rattle.log_decode.specs.declared.told.Told.TheVariants.{Aborted}
 
 -- a message of the transport protocol is announced, in as many packets as its size takes
 abbrev pub tp_news : (pgn size packets : ℕ) → News
@@ -27,8 +31,14 @@ abbrev pub etp_news : (pgn size : ℕ) → News
 etp_news pgn size = record { pgn = pgn; size = size; is_sound = is_size_of Etp size }
 
 -- an abort ends the message of its PGN in either direction, since it doesn't say whose it is
+abbrev pub both_aborted : Way → Kind → (reason pgn : ℕ) → Heard → Heard
+both_aborted way kind reason pgn h = abort_taken (key_back way kind) way.from reason pgn (abort_taken (key_of way kind) way.from reason pgn h)
+
+-- where none is under way, it is told as that of a message from the node that sent it
 abbrev pub aborted : Way → Kind → (reason pgn : ℕ) → Heard → Heard
-aborted way kind reason pgn h = abort_taken (key_back way kind) way.from reason pgn (abort_taken (key_of way kind) way.from reason pgn h)
+aborted way kind reason pgn h =
+    if is_of (key_of way kind) pgn h.0 || is_of (key_back way kind) pgn h.0 then both_aborted way kind reason pgn h
+    else (h.0, h.1 ++ Aborted (key_of way kind) (clean pgn) reason way.from ∷ [])
 
 -- RTS, BAM and DPO come from the sender of a message, CTS and the end acknowledgement from its receiver
 unfoldable pub cm_frame_taken : Way → CmFrame → (most now : ℕ) → Heard → Heard
@@ -53,8 +63,30 @@ wire_taken way (Ack control address pgn) most now h = h
 abbrev pub frame_taken : Iface → CanFrame → (most now : ℕ) → Heard → Heard
 frame_taken iface frame most now h = elim (reading frame) [ None ↦ h | Some r ↦ wire_taken (record { iface = iface; from = r.1; to = r.2 }) r.0 most now h ]
 
--- time goes on, never back, and ends what has become silent; then the frame is taken
+-- the time of a frame is more than a second before that of the last one of its interface: the clock was set back
+abbrev pub goes_back : (before time : ℕ) → Bool
+goes_back before time = nat_lt 1000000 (before - time)
+
+-- a time that is less before it is taken as that one
+abbrev pub now_at : (before time : ℕ) → ℕ
+now_at before time = if goes_back before time then time else max before time
+
+-- time goes on, and ends what has become silent; if it goes back, it ends what was under way
+abbrev pub passed : (before time : ℕ) → Heard → Heard
+passed before time h = if goes_back before time then broken_off h else silenced (max before time) h
+
+-- then the frame is taken
+abbrev pub bus_taken : Bus → (most time : ℕ) → Iface → CanFrame → List Told → Bus × List Told
+bus_taken b most time iface frame told =
+    let h = frame_taken iface frame most (now_at b.time time) (passed b.time time (b.sessions, told)) in
+    (record { time = now_at b.time time; sessions = h.0 }, h.1)
+
+-- each interface is a bus of its own: what a frame tells depends on the frames of its interface alone
 abbrev pub taken : State → (time : ℕ) → Iface → CanFrame → List Told → State × List Told
 taken d time iface frame told =
-    let h = frame_taken iface frame d.most (max d.time time) (silenced (max d.time time) (d.sessions, told)) in
-    (record { most = d.most; time = max d.time time; sessions = h.0 }, h.1)
+    let b = bus_taken (bus_at iface d.buses) d.most time iface frame told in
+    (record { most = d.most; time = b.0.time; buses = put_bus iface b.0 d.buses }, b.1)
+
+-- at the end of the log what is still under way on each is lost
+abbrev pub ended : Buses → List Told
+ended buses = flat_map (λ b. losses (Lost EndOfLog) b.1.sessions) buses

@@ -6,6 +6,8 @@ use Rattle.log_decode.specs.declared.key.Transport.{Transport}
 use Rattle.log_decode.specs.declared.key.Transport.TheVariants.{Tp, Etp}
 use Rattle.log_decode.specs.declared.key.Key.{Key}
 use Rattle.log_decode.specs.declared.key.Way.{Way}
+use Rattle.log_text.specs.declared.iface.Iface.{Iface}
+use Rattle.log_text.specs.contracts.iface.IfacePartialEq.TheImpl as names
 use Rattle.log_decode.specs.contracts.key.KeyPartialEq.TheImpl as derived
 
 abbrev pub transport_of : Kind → Transport
@@ -23,3 +25,7 @@ key_back way kind = record { iface = way.iface; from = way.to; to = way.from; tr
 -- keys are the same where each of their parts is
 abbrev pub same_key : Key → Key → Bool
 same_key = (derived.eq-value).it
+
+-- interfaces are the same where their names are
+abbrev pub same_iface : Iface → Iface → Bool
+same_iface = (names.eq-value).it

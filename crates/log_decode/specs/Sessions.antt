@@ -1,5 +1,5 @@
 -- The messages under way, in the order in which they were announced, and what frames make of them.
-use Rattle.std.specs.Prelude.{ℕ, ◌+◌, List, [], ◌∷◌, ◌++◌, Bool, false, not, nat_lt, if◌then◌else◌, Option, Some, None, option_map, option_to_list, filter, flat_map}
+use Rattle.std.specs.Prelude.{ℕ, List, [], ◌∷◌, ◌++◌, Bool, false, not, ◌==◌, nat_lt, if◌then◌else◌, Option, Some, None, option_to_list, filter, flat_map}
 use Rattle.std.specs.Map.{lookup, remove_entry}
 use Rattle.indexmap.specs.IndexMap.{insert_entry}
 use Rattle.pgn_ids.specs.Pgn.{clean}
@@ -12,7 +12,8 @@ use Rattle.log_decode.specs.declared.session.Session.{Session}
 use Rattle.log_decode.specs.declared.session.Fate.{Fate}
 use Rattle.log_decode.specs.declared.session.Fate.TheVariants as fates
 use Rattle.log_decode.specs.declared.sessions.News.{News}
-use Rattle.log_decode.specs.declared.told.Cause.TheVariants.{Replaced, TimedOut, TooLong, EndOfLog}
+use Rattle.log_decode.specs.declared.told.Cause.{Cause}
+use Rattle.log_decode.specs.declared.told.Cause.TheVariants.{Replaced, TimedOut, WentBack, Unsound, TooLong}
 use Rattle.log_decode.specs.declared.told.Told.{Told}
 use Rattle.log_decode.specs.declared.told.Told.TheVariants.{Lost}
 
@@ -69,11 +70,19 @@ is_again_at key pgn size sessions = elim (session_at key sessions) [ None ↦ fa
 abbrev pub renewed_at : Key → (now : ℕ) → Sessions → Sessions
 renewed_at key now sessions = elim (session_at key sessions) [ None ↦ sessions | Some s ↦ put key (renewed s now) sessions ]
 
--- a message begins, unless no transport carries it or it is too long
+-- a message of this PGN is under way
+abbrev pub is_of : Key → (pgn : ℕ) → Sessions → Bool
+is_of key pgn sessions = elim (session_at key sessions) [ None ↦ false | Some s ↦ clean pgn == clean s.pgn ]
+
+-- what tells that a message didn't begin
+abbrev pub not_begun : Key → News → Cause → Told
+not_begun key news cause = Lost key (clean news.pgn) 0 news.size cause
+
+-- a message begins, unless no transport carries it or it is too long, which is told
 abbrev pub opened_at : Key → News → (most now : ℕ) → Heard → Heard
 opened_at key news most now h =
-    if not news.is_sound then h
-    else if nat_lt most news.size then (h.0, h.1 ++ Lost key (clean news.pgn) 0 news.size TooLong ∷ [])
+    if not news.is_sound then (h.0, h.1 ++ not_begun key news Unsound ∷ [])
+    else if nat_lt most news.size then (h.0, h.1 ++ not_begun key news TooLong ∷ [])
     else (put key (opened key.transport news.pgn news.size now) h.0, h.1)
 
 -- a message is announced: it takes the place of the one before it
@@ -86,11 +95,6 @@ announced key news most now h =
 abbrev pub silent_entry : (now : ℕ) → Key × Session → Bool
 silent_entry now e = is_silent e.0.to e.1 now
 
--- the place of the first that is silent, from 0
-abbrev pub silent_in : (now : ℕ) → Sessions → Option ℕ
-silent_in now [] = None
-silent_in now (e ∷ es) = if silent_entry now e then Some 0 else option_map (λ at. at + 1) (silent_in now es)
-
 -- messages are lost for this cause
 abbrev pub losses : Fate → Sessions → List Told
 losses fate sessions = flat_map (λ e. option_to_list (told_of e.0 e.1 fate)) sessions
@@ -99,6 +103,6 @@ losses fate sessions = flat_map (λ e. option_to_list (told_of e.0 e.1 fate)) se
 abbrev pub silenced : (now : ℕ) → Heard → Heard
 silenced now h = (filter (λ e. not (silent_entry now e)) h.0, h.1 ++ losses (fates.Lost TimedOut) (filter (silent_entry now) h.0))
 
--- those that are still under way at the end of the log are lost
-abbrev pub ended : Sessions → List Told
-ended sessions = losses (fates.Lost EndOfLog) sessions
+-- time went back: each of them is lost
+abbrev pub broken_off : Heard → Heard
+broken_off h = ([], h.1 ++ losses (fates.Lost WentBack) h.0)

@@ -6,7 +6,9 @@
 //! memory is refused; what it leaves then is not said.
 #![tactic(auto)]
 
+mod bus;
 mod decoder;
+mod frames;
 mod key;
 mod session;
 mod sessions;

@@ -1,5 +1,6 @@
 //! A message under way, as a listener sees it.
-ghost use Rattle.std.specs.Prelude.{◌≡◌, ◌+◌, ◌*◌, ◌≤◌, length, true, OnOk, IfOk, Some};
+ghost use Rattle.pgn_ids.specs.Pgn.{clean};
+ghost use Rattle.std.specs.Prelude.{◌≡◌, ◌==◌, ◌+◌, ◌*◌, ◌≤◌, length, true, OnOk, IfOk, Some};
 ghost use Rattle.seg_cut.specs.Join.{wants};
 ghost use Rattle.log_decode.specs.Session.{first_window, opened, accepted, renewed, packet_heard, is_within, sequence_heard, cm_heard, acknowledged, heard, abort_heard, is_silent, patience, given_of, told_of, is_again};
 ghost use Rattle.log_decode.specs.declared.session.Fate.TheVariants.{GoesOn, Lost};
@@ -216,6 +217,13 @@ impl Session {
             return Fate::GoesOn;
         }
         self.hear_cm(frame, now)
+    }
+
+    /// Whether it is of this PGN.
+    pub(crate) fn is_of(&self, pgn: WirePgn) -> bool
+        ensures { result ≡ (clean pgn == clean self.now.pgn) }
+    {
+        pgn.clean() == self.pgn.clean()
     }
 
     /// One of its ends aborts a message of a PGN.

@@ -1,6 +1,7 @@
 //! The messages under way, in the order in which they were announced.
 ghost use Rattle.std.specs.Prelude.{◌≡◌, ◌++◌, OnOk, option_to_list};
-ghost use Rattle.log_decode.specs.Sessions.{settled, packet_taken, cm_taken, abort_taken, renewed_at, is_again_at, opened_at, announced, ended};
+ghost use Rattle.log_decode.specs.Sessions.{settled, packet_taken, cm_taken, abort_taken, renewed_at, is_again_at, is_of, not_begun, opened_at, announced, losses};
+ghost use Rattle.log_decode.specs.declared.session.Fate.TheVariants.{Lost};
 
 use crate::key::Key;
 use crate::session::{Fate, Session};
@@ -94,6 +95,16 @@ pub(crate) fn take_abort(
     settle(sessions, key, fate, told)
 }
 
+/// Whether a message of this PGN is under way.
+pub(crate) fn is_of(sessions: &Sessions, key: Key, pgn: WirePgn) -> bool
+    ensures { result ≡ is_of key pgn sessions.now.entries }
+{
+    match sessions.get(&key) {
+        None => false,
+        Some(session) => session.is_of(pgn),
+    }
+}
+
 /// Whether the announcement is that of the message under way, of which nothing has come yet.
 fn is_again(sessions: &Sessions, key: Key, pgn: WirePgn, size: u32) -> bool
     ensures { result ≡ is_again_at key pgn size sessions.now.entries }
@@ -121,7 +132,20 @@ pub(crate) struct News {
     pub(crate) is_sound: bool,
 }
 
-/// A message begins, unless no transport carries it or it is longer than `most` bytes.
+/// What tells that a message didn't begin.
+fn not_begun(key: Key, news: News, cause: Cause) -> Told
+    ensures { result ≡ not_begun key news cause }
+{
+    Told::Lost {
+        key,
+        pgn: news.pgn.clean(),
+        have: 0,
+        size: news.size,
+        cause,
+    }
+}
+
+/// A message begins, unless no transport carries it or it is longer than `most` bytes, which is told.
 fn begin(
     alloc: Global,
     sessions: &mut Sessions,
@@ -134,16 +158,11 @@ fn begin(
     ensures { OnOk result ((sessions.new.entries, told.new.items) ≡ opened_at key news most now (sessions.old.entries, told.old.items)) }
 {
     if !news.is_sound {
+        told.push(not_begun(key, news, Cause::Unsound))?;
         return Ok(());
     }
     if news.size > most {
-        told.push(Told::Lost {
-            key,
-            pgn: news.pgn.clean(),
-            have: 0,
-            size: news.size,
-            cause: Cause::TooLong,
-        })?;
+        told.push(not_begun(key, news, Cause::TooLong))?;
         return Ok(());
     }
     let session = Session::new(alloc, key.transport, news.pgn, news.size, now);
@@ -171,15 +190,19 @@ pub(crate) fn announce(
     begin(alloc, sessions, key, news, most, now, told)
 }
 
-/// Each message that is still under way is lost.
-pub(crate) fn end_all(sessions: &Sessions, told: &mut Vec<Told>) -> Result<(), AllocError>
-    ensures { OnOk result (told.new.items ≡ told.old.items ++ ended sessions.now.entries) }
+/// Of each message that is under way it is told that it is lost, for this cause.
+pub(crate) fn tell_all(
+    sessions: &Sessions,
+    cause: Cause,
+    told: &mut Vec<Told>,
+) -> Result<(), AllocError>
+    ensures { OnOk result (told.new.items ≡ told.old.items ++ losses (Lost cause) sessions.now.entries) }
 {
     for at in 0..sessions.len() {
         let Some((key, session)) = sessions.get_index(at) else {
             return Ok(());
         };
-        told.push(session.lost(*key, Cause::EndOfLog))?;
+        told.push(session.lost(*key, cause))?;
     }
     Ok(())
 }

@@ -1,39 +1,50 @@
 //! The messages under way of which no frame comes any more.
-ghost use Rattle.std.specs.Prelude.{◌≡◌, OnOk, IfOk};
-ghost use Rattle.log_decode.specs.Sessions.{silent_in, silenced};
+ghost use Rattle.std.specs.Prelude.{◌≡◌, ◌++◌, OnOk, IfOk, not, filter, None, if◌then◌else◌};
+ghost use Rattle.log_decode.specs.Session.{is_silent, told_of};
+ghost use Rattle.log_decode.specs.Sessions.{silent_entry, losses, silenced};
 ghost use Rattle.log_decode.specs.Due.{NoneDueBefore};
+ghost use Rattle.log_decode.specs.declared.session.Fate.TheVariants.{Lost};
+ghost use Rattle.log_decode.specs.declared.told.Cause.TheVariants.{TimedOut};
 
-use crate::session::Fate;
+use crate::key::Key;
+use crate::session::Session;
 use crate::sessions::{Sessions, tell};
 use crate::told::{Cause, Told};
 use std::alloc::AllocError;
 
-/// The place of the first message that is silent, from 0.
-fn first_silent(sessions: &Sessions, now: u64) -> Option<usize>
-    ensures { result ≡ silent_in now sessions.now.entries }
+/// What tells that a message is lost, where it is silent.
+fn silence_of(key: Key, session: &Session, now: u64) -> Option<Told>
+    ensures { result ≡ (if is_silent key.to session.now now then told_of key session.now (Lost TimedOut) else None) }
+{
+    if session.is_silent(key.to, now) {
+        Some(session.lost(key, Cause::TimedOut))
+    } else {
+        None
+    }
+}
+
+/// Of each message that is silent it is told that it is lost.
+fn tell_silent(sessions: &Sessions, now: u64, told: &mut Vec<Told>) -> Result<(), AllocError>
+    ensures { OnOk result (told.new.items ≡ told.old.items ++ losses (Lost TimedOut) (filter (silent_entry now) sessions.now.entries)) }
 {
     for at in 0..sessions.len() {
         let Some((key, session)) = sessions.get_index(at) else {
-            return None;
-        };
-        if session.is_silent(key.to, now) {
-            return Some(at);
-        }
-    }
-    None
-}
-
-/// Each message that is silent is lost.
-fn end_silent(sessions: &mut Sessions, now: u64, told: &mut Vec<Told>) -> Result<(), AllocError>
-    ensures { OnOk result ((sessions.new.entries, told.new.items) ≡ silenced now (sessions.old.entries, told.old.items)) }
-{
-    while let Some(at) = first_silent(sessions, now) {
-        let Some((key, session)) = sessions.shift_remove_index(at) else {
             return Ok(());
         };
-        tell(told, session.into_told(key, Fate::Lost(Cause::TimedOut)))?;
+        tell(told, silence_of(*key, session, now))?;
     }
     Ok(())
+}
+
+/// Those that are silent are under way no longer.
+fn drop_silent(sessions: &mut Sessions, now: u64)
+    ensures { sessions.new.entries ≡ filter (λ e. not (silent_entry now e)) sessions.old.entries }
+{
+    sessions.retain(
+        |key: &Key, session: &mut Session| -> bool
+            ensures { (result ≡ not (is_silent key.now.to session.old now)) × (session.new ≡ session.old) }
+        { !session.is_silent(key.to, now) },
+    );
 }
 
 /// A time before which no message becomes silent.
@@ -65,6 +76,7 @@ pub(crate) fn end_due(
     if now < due {
         return Ok(due);
     }
-    end_silent(sessions, now, told)?;
+    tell_silent(sessions, now, told)?;
+    drop_silent(sessions, now);
     Ok(next_due(sessions))
 }

@@ -12,8 +12,12 @@ pub enum Cause {
     Replaced,
     /// No frame of it came for as long as both of its ends wait at most.
     TimedOut,
+    /// The clock of its interface was set back by more than a second.
+    WentBack,
     /// Its receiver acknowledged it, and not all of its packets were seen.
     Acknowledged,
+    /// No transport carries a message of the size that was announced, or not in so many packets.
+    Unsound,
     /// It is longer than the listener takes.
     TooLong,
     /// The log ended.

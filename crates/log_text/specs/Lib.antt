@@ -4,3 +4,4 @@ pub mod Iface
 pub mod Screen
 pub mod Line
 pub mod Written
+pub mod Reading

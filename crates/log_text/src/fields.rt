@@ -24,7 +24,7 @@ pub(crate) fn cut_at(wanted: u8, text: &[u8]) -> Option<(&[u8], &[u8])>
 }
 
 /// How many spaces stand at the front.
-fn spaces_in(text: &[u8]) -> usize
+pub(crate) fn spaces_in(text: &[u8]) -> usize
     ensures value { result ≡ spaces_in text.now }
     ensures within { result ≤ length text.now }
 {

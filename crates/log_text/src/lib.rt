@@ -1,5 +1,5 @@
 //! Lines of a bus log: read, in the form that `candump -L` writes and `canplayer` reads, `(SECONDS.MICROS) IFACE ID#HEX`, and in that of
-//! `candump` on a screen; written in the first.
+//! `candump` on a screen, with a time in front of it or not; written in the first.
 //!
 //! Times are microseconds. Reading takes no memory.
 #![tactic(auto)]
@@ -9,10 +9,12 @@ mod fields;
 mod iface;
 mod laws;
 mod line;
+mod reading;
 mod screen;
 mod writing;
 
 pub use iface::{BadName, Iface};
 pub use laws::written_lines_are_read_back;
 pub use line::{LogLine, NotLogLine, read_log_line, read_time};
+pub use reading::{Form, form_of, read_line_as};
 pub use writing::{put_log_line, put_time};

@@ -126,7 +126,7 @@ fn frame_line(time: u64, iface: Iface, word: &[u8]) -> Option<LogLine>
 
 /// What a line shows behind its time.
 #[tactic(auto, unfolding(crate::specs::Line::behind_time))]
-fn behind_time(time: u64, text: &[u8]) -> Option<LogLine>
+pub(crate) fn behind_time(time: u64, text: &[u8]) -> Option<LogLine>
     ensures { result ≡ behind_time time text.now }
 {
     let (name, text) = next_word(text);

@@ -9,7 +9,7 @@ use bus_frame::{CanId, Frame};
 use text_digits::{read_numeral, read_pair};
 
 /// How many bytes there are to be: a digit up to 8 in square brackets.
-fn count(word: &[u8]) -> Option<usize>
+pub(crate) fn count(word: &[u8]) -> Option<usize>
     ensures value { result ≡ count_of word.now }
     ensures most { IfSome result (λ n. n ≤ 8) }
 {
@@ -34,7 +34,7 @@ fn byte(word: &[u8]) -> Option<u8>
 }
 
 /// The frame with this identifier whose bytes, so many, are words of two digits, with nothing behind them.
-fn bytes(id: CanId, count: usize, text: &[u8]) -> Option<Frame>
+pub(crate) fn bytes(id: CanId, count: usize, text: &[u8]) -> Option<Frame>
     requires { count ≤ 8 }
     ensures { result ≡ option_map (λ bytes. record { id = id; bytes = bytes }) (bytes_in count text.now) }
 {

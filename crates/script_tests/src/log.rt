@@ -1,9 +1,12 @@
 //! Tests of logs: their lines, and the messages that are put together of them, with the exact text that is printed.
 mod decoding;
 mod failures;
+mod forms;
 mod lines;
 mod listeners;
 mod logs;
 mod progress;
 mod scripts;
+mod starts;
+mod times;
 mod windows;

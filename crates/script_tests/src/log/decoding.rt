@@ -12,6 +12,7 @@ pub(crate) fn all(alloc: Global) -> Options {
         to: Wanted::all(alloc),
         most: 1_000_000,
         singles: false,
+        strict: false,
     }
 }
 

@@ -87,6 +87,7 @@ const LOST_TOLD: &str = "\
 (0000000001.800000) can0 lost 21 FF 0FECA 0 10 timed out\n\
 (0000000001.810000) can0 aborted 21 35 0FECA 2 35\n\
 (0000000001.840000) can0 lost 21 35 0FECA 7 9 acknowledged\n\
+(0000000001.860000) can0 aborted 21 35 0EF00 1 21\n\
 (0000000001.880000) can0 lost 90 35 0FECA 0 117440505 too long\n\
 (0000000001.880000) can0 lost 21 35 0FECA 0 1786 end of log\n\
 ";
@@ -98,12 +99,13 @@ fn messages_that_are_not_given_are_told(rt: HostRuntime) {
     let counts = Counts {
         lines: 17,
         passed: 1,
+        wrong: 0,
         frames: 16,
         earlier: 1,
         transport: 15,
         malformed: 1,
         messages: 0,
-        aborted: 1,
+        aborted: 2,
         lost: 6,
     };
     holds(&rt, decoded.counts == counts);
@@ -142,8 +144,9 @@ fn is_told(rt: &impl Abort, alloc: Global, decoded: &Decoded, text: &str) {
 }
 
 #[test]
-fn a_wrong_line_ends_the_run(rt: HostRuntime) {
-    let options = all(rt.alloc());
+fn a_wrong_line_ends_the_run_where_that_is_asked_for(rt: HostRuntime) {
+    let mut options = all(rt.alloc());
+    options.strict = true;
     let decoded = prints(&rt, rt.alloc(), &options, WRONG, "");
     same(&rt, decoded.counts.lines, 1);
     same(&rt, decoded.status(), 1);

@@ -47,6 +47,7 @@ fn all(alloc: Global) -> Options {
         to: Wanted::all(alloc),
         most: 1_785,
         singles: true,
+        strict: false,
     }
 }
 

@@ -1,20 +1,11 @@
-use Rattle.std.proofs.Common.{ℕ, ◌+◌, ◌*◌, ◌≤◌, sym, subst, arith}
-use Rattle.tick_timers.specs.declared.durations.TheConstants.{T1}
-use Rattle.log_decode.specs.Due.{NoneDueBefore}
-use Rattle.log_decode.proofs.Due.{from_zero, sooner}
-use Rattle.log_decode.proofs.Keeping.{at_frame}
+use Rattle.std.proofs.Common.{sym, ◌∙◌}
+use Rattle.log_decode.proofs.Buses.{there, taken_there}
 use Rattle.log_decode.proofs.decoder.Decoder.take.Goals as goal
 
-pub invariant_of-self : goal.invariant_of-self
-invariant_of-self c = from_zero c.end_due.new.sessions.entries
-
-pub invariant_of-self-in_err-take_frame : goal.invariant_of-self-in_err-take_frame
-invariant_of-self-in_err-take_frame c = from_zero c.take_frame.new.sessions.entries
-
-pub invariant_of-self-2 : goal.invariant_of-self-2
-invariant_of-self-2 c =
-    let due : ℕ = c.min-self-inside.result in
-    let soon : due ≤ c.max-now.result + T1 * 1000 = omega (arith, c.soonest.ensures) in
-    let before = sooner c.in_ok-due.due due c.end_due.new.sessions.entries (omega arith) c.in_ok-due.ensures.next in
-    let after = at_frame c.args.iface c.args.frame.now c.self.inside.most c.max-now.result due (c.end_due.new.sessions.entries, c.end_due.new.told.items) soon before in
-    subst (λ h. NoneDueBefore due h.0) (sym c.in_ok-take_frame.ensures) after
+pub returns-in_ok-take-in-Some : goal.returns-in_ok-take-in-Some
+returns-in_ok-take-in-Some c =
+    let p = sym c.get_index_of.ensures.index ∙ c.in-Some.is in
+    let v = there c.args.iface c.self.inside.buses.entries c.in-Some.at c.index_mut-bus.result.now p c.index_mut-bus.ensures.value in
+    rw (c.time-self-inside.ensures, sym c.self.view_is)
+    (taken_there c.self.inside.most c.self.inside.time c.args.time c.in-Some.at c.args.iface c.args.frame.now c.self.inside.buses.entries c.index_mut-bus.result.now c.take.new.self c.args.told.now.items c.take.new.told.items p v
+    c.in_ok-take-in-Some.ensures)

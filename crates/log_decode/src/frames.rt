@@ -1,0 +1,165 @@
+//! What a frame of an interface tells.
+ghost use Rattle.std.specs.Prelude.{◌≡◌, OnOk};
+ghost use Rattle.log_decode.specs.Decoder.{tp_news, etp_news, both_aborted, aborted, cm_frame_taken, wire_taken, frame_taken};
+
+use crate::key::Way;
+use crate::sessions::{News, Sessions, announce, is_of, take_abort, take_cm, take_packet};
+use crate::told::Told;
+use bus_frame::Frame;
+use log_text::Iface;
+use pgn_ids::WirePgn;
+use seg_cut::packets;
+use std::alloc::{AllocError, Global};
+use tp_wire::constants::{ETP_MAX_SIZE, MIN_SIZE, TP_MAX_SIZE};
+use tp_wire::{CmFrame, Kind, Wire, read};
+
+/// A message of the transport protocol as it is announced, whose packets are to be as many as its size takes.
+fn tp_news(pgn: WirePgn, size: u16, count: u8) -> News
+    ensures { result ≡ tp_news pgn size count }
+{
+    let size = u32::from(size);
+    let is_sound = size >= MIN_SIZE && size <= TP_MAX_SIZE && packets(size) == u32::from(count);
+    News {
+        pgn,
+        size,
+        is_sound,
+    }
+}
+
+/// One of the extended transport protocol.
+fn etp_news(pgn: WirePgn, size: u32) -> News
+    ensures { result ≡ etp_news pgn size }
+{
+    News {
+        pgn,
+        size,
+        is_sound: size > TP_MAX_SIZE && size <= ETP_MAX_SIZE,
+    }
+}
+
+/// An abort ends the message of its PGN in either direction, since it doesn't say whose it is.
+fn end_both(
+    sessions: &mut Sessions,
+    way: Way,
+    kind: Kind,
+    reason: u8,
+    pgn: WirePgn,
+    told: &mut Vec<Told>,
+) -> Result<(), AllocError>
+    ensures { OnOk result ((sessions.new.entries, told.new.items) ≡ both_aborted way kind reason pgn (sessions.old.entries, told.old.items)) }
+{
+    take_abort(sessions, way.key(kind), way.from, reason, pgn, told)?;
+    take_abort(sessions, way.back(kind), way.from, reason, pgn, told)
+}
+
+/// An abort. Where no message of its PGN is under way, it is told as that of one from the node that sent it.
+fn take_both(
+    sessions: &mut Sessions,
+    way: Way,
+    kind: Kind,
+    reason: u8,
+    pgn: WirePgn,
+    told: &mut Vec<Told>,
+) -> Result<(), AllocError>
+    ensures { OnOk result ((sessions.new.entries, told.new.items) ≡ aborted way kind reason pgn (sessions.old.entries, told.old.items)) }
+{
+    if is_of(sessions, way.key(kind), pgn) || is_of(sessions, way.back(kind), pgn) {
+        return end_both(sessions, way, kind, reason, pgn, told);
+    }
+    told.push(Told::Aborted {
+        key: way.key(kind),
+        pgn: pgn.clean(),
+        reason,
+        who: way.from,
+    })?;
+    Ok(())
+}
+
+/// A connection management frame.
+#[tactic(auto, unfolding(crate::specs::Decoder::cm_frame_taken))]
+fn take_cm_frame(
+    alloc: Global,
+    sessions: &mut Sessions,
+    way: Way,
+    frame: &CmFrame,
+    most: u32,
+    now: u64,
+    told: &mut Vec<Told>,
+) -> Result<(), AllocError>
+    ensures { OnOk result ((sessions.new.entries, told.new.items) ≡ cm_frame_taken way frame.now most now (sessions.old.entries, told.old.items)) }
+{
+    match frame {
+        CmFrame::Rts {
+            size,
+            packets,
+            pgn,
+            ..
+        } => {
+            let news = tp_news(*pgn, *size, *packets);
+            announce(alloc, sessions, way.key(Kind::Tp), news, most, now, told)
+        }
+        CmFrame::Cts { .. } => take_cm(sessions, way.back(Kind::Tp), frame, now, told),
+        CmFrame::EndOfMsgAck { .. } => take_cm(sessions, way.back(Kind::Tp), frame, now, told),
+        CmFrame::Bam { size, packets, pgn } => {
+            let news = tp_news(*pgn, *size, *packets);
+            announce(alloc, sessions, way.key(Kind::Tp), news, most, now, told)
+        }
+        CmFrame::Abort { reason, pgn } => {
+            take_both(sessions, way, Kind::Tp, *reason, *pgn, told)
+        }
+        CmFrame::EtpRts { size, pgn } => {
+            let news = etp_news(*pgn, *size);
+            announce(alloc, sessions, way.key(Kind::Etp), news, most, now, told)
+        }
+        CmFrame::EtpCts { .. } => take_cm(sessions, way.back(Kind::Etp), frame, now, told),
+        CmFrame::EtpDpo { .. } => take_cm(sessions, way.key(Kind::Etp), frame, now, told),
+        CmFrame::EtpEoma { .. } => take_cm(sessions, way.back(Kind::Etp), frame, now, told),
+        CmFrame::EtpAbort { reason, pgn } => {
+            take_both(sessions, way, Kind::Etp, *reason, *pgn, told)
+        }
+    }
+}
+
+/// A transport frame.
+#[tactic(auto, unfolding(crate::specs::Decoder::wire_taken))]
+fn take_wire(
+    alloc: Global,
+    sessions: &mut Sessions,
+    way: Way,
+    wire: &Wire,
+    most: u32,
+    now: u64,
+    told: &mut Vec<Told>,
+) -> Result<(), AllocError>
+    ensures { OnOk result ((sessions.new.entries, told.new.items) ≡ wire_taken way wire.now most now (sessions.old.entries, told.old.items)) }
+{
+    match wire {
+        Wire::Cm(frame) => take_cm_frame(alloc, sessions, way, frame, most, now, told),
+        Wire::Packet {
+            kind,
+            sequence,
+            bytes,
+        } => take_packet(sessions, way.key(*kind), *sequence, *bytes, now, told),
+        Wire::Request { .. } => Ok(()),
+        Wire::Ack { .. } => Ok(()),
+    }
+}
+
+/// A frame is seen on an interface. One that means nothing to a transport tells nothing.
+pub(crate) fn take_frame(
+    alloc: Global,
+    sessions: &mut Sessions,
+    iface: Iface,
+    frame: &Frame,
+    most: u32,
+    now: u64,
+    told: &mut Vec<Told>,
+) -> Result<(), AllocError>
+    ensures { OnOk result ((sessions.new.entries, told.new.items) ≡ frame_taken iface frame.now most now (sessions.old.entries, told.old.items)) }
+{
+    let Some((wire, from, to)) = read(frame) else {
+        return Ok(());
+    };
+    let way = Way { iface, from, to };
+    take_wire(alloc, sessions, way, &wire, most, now, told)
+}

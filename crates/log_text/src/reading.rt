@@ -1,0 +1,236 @@
+//! What a line shows in a log whose lines have a form.
+ghost use Rattle.std.specs.Prelude.{◌≡◌, MatchResult, Some, None};
+ghost use Rattle.log_text.specs.Reading.{before_return, trimmed, begins_timed, is_bracket, is_id, begins_shown, form_of, micros_of, stamp_of, before_quote, is_long_count, is_remote, long_shown, shown_line, stamped_line, timed_as, untimed_as, line_as};
+
+use crate::fields::{cut_at, next_word, spaces_in};
+use crate::iface::Iface;
+use crate::line::{ID_END, LogLine, NotLogLine, SECOND, behind_time};
+use crate::screen::{bytes, count};
+use bus_frame::{CanId, Frame};
+use text_digits::read_numeral;
+
+/// The form of a log's lines.
+#[derive(Clone, Copy, Debug, PartialEq, Eq)]
+pub enum Form {
+    /// Each begins with a time in round brackets, as candump writes them for a file, and on a screen where it is asked for times.
+    Timed,
+    /// Each begins with an interface, as candump shows them on a screen.
+    Untimed,
+}
+
+/// The line without a carriage return at its end.
+fn before_return(line: &[u8]) -> &[u8]
+    ensures { result.now ≡ before_return line.now }
+{
+    match cut_at(b'\r', line) {
+        Some((front, rest)) if rest.is_empty() => front,
+        _ => line,
+    }
+}
+
+/// The line without a carriage return at its end and blanks at its front.
+fn trimmed(line: &[u8]) -> &[u8]
+    ensures { result.now ≡ trimmed line.now }
+{
+    let bare = before_return(line);
+    &bare[spaces_in(bare)..]
+}
+
+fn begins_timed(text: &[u8]) -> bool
+    ensures { result ≡ begins_timed text.now }
+{
+    match text {
+        [open, digit, ..] => *open == b'(' && *digit >= b'0' && *digit <= b'9',
+        _ => false,
+    }
+}
+
+fn is_bracket(word: &[u8]) -> bool
+    ensures { result ≡ is_bracket word.now }
+{
+    match word {
+        [byte, ..] => *byte == b'[',
+        [] => false,
+    }
+}
+
+fn is_id(word: &[u8]) -> bool
+    ensures { result ≡ is_id word.now }
+{
+    (word.len() == 8 || word.len() == 3) && read_numeral(16, word).is_some()
+}
+
+/// Whether the text begins as a frame on a screen: with the name of an interface, the digits of an identifier, and a square bracket.
+fn begins_shown(text: &[u8]) -> bool
+    ensures { result ≡ begins_shown text.now }
+{
+    let (name, text) = next_word(text);
+    let (digits, text) = next_word(text);
+    let (brackets, _) = next_word(text);
+    Iface::new(name).is_ok() && is_id(digits) && is_bracket(brackets)
+}
+
+/// The form of a line, where it has one: it begins with a bracket and a digit, or as a frame on a screen.
+pub fn form_of(line: &[u8]) -> Option<Form>
+    ensures { result ≡ form_of line.now }
+{
+    let text = trimmed(line);
+    if begins_timed(text) {
+        Some(Form::Timed)
+    } else if begins_shown(text) {
+        Some(Form::Untimed)
+    } else {
+        None
+    }
+}
+
+/// The microseconds that six or nine digits write.
+#[tactic(auto, unfolding(crate::specs::Reading::micros_of))]
+fn micros(digits: &[u8]) -> Option<u64>
+    ensures { result ≡ micros_of digits.now }
+{
+    let number = read_numeral(10, digits)?;
+    match digits.len() {
+        6 => Some(number),
+        9 => Some(number / 1_000),
+        _ => None,
+    }
+}
+
+/// A time, below 2 ^ 64 microseconds.
+#[tactic(auto, unfolding(crate::specs::Reading::stamp_of))]
+fn stamp(seconds: &[u8], fraction: &[u8]) -> Option<u64>
+    ensures { result ≡ stamp_of seconds.now fraction.now }
+{
+    if seconds.is_empty() {
+        return None;
+    }
+    let seconds = read_numeral(10, seconds)?;
+    let micros = micros(fraction)?;
+    seconds.checked_mul(SECOND)?.checked_add(micros)
+}
+
+/// The text without the same bytes as text, which stand in quotes behind them.
+fn before_quote(text: &[u8]) -> &[u8]
+    ensures { result.now ≡ before_quote text.now }
+{
+    match cut_at(b'\'', text) {
+        Some((front, _)) => front,
+        None => text,
+    }
+}
+
+/// Whether the number of bytes is that of a CAN FD frame, which candump shows with two digits.
+fn is_long_count(word: &[u8]) -> bool
+    ensures { result ≡ is_long_count word.now }
+{
+    match word {
+        [open, tens, ones, close] => {
+            *open == b'['
+                && *close == b']'
+                && *tens >= b'0'
+                && *tens <= b'9'
+                && *ones >= b'0'
+                && *ones <= b'9'
+        }
+        _ => false,
+    }
+}
+
+/// Whether the data are the words of a remote frame.
+fn is_remote(word: &[u8]) -> bool
+    ensures { result ≡ is_remote word.now }
+{
+    match word {
+        [byte, ..] => *byte == b'r',
+        [] => false,
+    }
+}
+
+/// What stands behind an identifier of eight digits. The bit above the identifier marks an error frame.
+#[tactic(auto, unfolding(crate::specs::Reading::long_shown))]
+fn long_shown(time: Option<u64>, iface: Iface, id: u64, text: &[u8]) -> Option<LogLine>
+    ensures { result ≡ long_shown time iface id text.now }
+{
+    let (brackets, text) = next_word(text);
+    if id >= ID_END || is_long_count(brackets) {
+        return Some(LogLine::Passed);
+    }
+    let count = count(brackets)?;
+    let (first, _) = next_word(text);
+    if is_remote(first) {
+        return Some(LogLine::Passed);
+    }
+    let id = CanId::new(id as u32).ok()?;
+    let frame = bytes(id, count, before_quote(text))?;
+    Some(LogLine::Frame { time, iface, frame })
+}
+
+/// A frame as on a screen.
+#[tactic(auto, unfolding(crate::specs::Reading::shown_line))]
+fn shown_line(time: Option<u64>, text: &[u8]) -> Option<LogLine>
+    ensures { result ≡ shown_line time text.now }
+{
+    let (name, text) = next_word(text);
+    let (digits, text) = next_word(text);
+    let iface = Iface::new(name).ok()?;
+    let id = read_numeral(16, digits)?;
+    if digits.len() == 3 {
+        return Some(LogLine::Passed);
+    }
+    long_shown(time, iface, id, text)
+}
+
+/// What stands behind the bracket of a time: the time, and a frame in either form.
+#[tactic(auto, unfolding(crate::specs::Reading::stamped_line))]
+fn stamped_line(text: &[u8]) -> Option<LogLine>
+    ensures { result ≡ stamped_line text.now }
+{
+    let (word, rest) = cut_at(b')', text)?;
+    let (seconds, fraction) = cut_at(b'.', word)?;
+    let time = stamp(seconds, fraction)?;
+    if begins_shown(rest) {
+        shown_line(Some(time), rest)
+    } else {
+        behind_time(time, rest)
+    }
+}
+
+fn timed_as(text: &[u8]) -> Option<LogLine>
+    ensures { result ≡ timed_as text.now }
+{
+    match text {
+        [b'(', rest @ ..] => stamped_line(rest),
+        _ => Some(LogLine::Passed),
+    }
+}
+
+fn untimed_as(text: &[u8]) -> Option<LogLine>
+    ensures { result ≡ untimed_as text.now }
+{
+    if begins_shown(text) {
+        shown_line(None, text)
+    } else {
+        Some(LogLine::Passed)
+    }
+}
+
+/// What a line shows, without its line feed, in a log of this form: that of its first line that has one.
+///
+/// Blanks at its front and a carriage return at its end say nothing. Refused is a line that begins as a frame of the log's form, with a
+/// round bracket or as on a screen, and goes on otherwise: behind a time of six or nine digits of fraction, below 2^64 microseconds, come
+/// `IFACE ID#HEX` as `read_log_line` reads it, or `IFACE ID [N] B0 B1 ..`, which a screen shows. Any other line is passed over.
+#[tactic(auto, unfolding(crate::specs::Reading::line_as))]
+pub fn read_line_as(form: Option<Form>, line: &[u8]) -> Result<LogLine, NotLogLine>
+    ensures { MatchResult result (λ shown. line_as form line.now ≡ Some shown) (λ _. line_as form line.now ≡ None) }
+{
+    let shown = match form {
+        None => Some(LogLine::Passed),
+        Some(Form::Timed) => timed_as(trimmed(line)),
+        Some(Form::Untimed) => untimed_as(trimmed(line)),
+    };
+    match shown {
+        Some(shown) => Ok(shown),
+        None => Err(NotLogLine),
+    }
+}
