@@ -1,5 +1,5 @@
 //! The words of `decode`.
-use crate::parts::{described, flag, list, of_numbers, valued};
+use crate::parts::{described, files, flag, list, of_numbers, valued};
 use crate::refused::Refused;
 use clap::{Arg, ArgAction, ArgMatches, Command, value_parser};
 use std::alloc::{AllocError, Global};
@@ -29,22 +29,24 @@ pub(crate) const PGN_MOST: u32 = 0x3_FFFF;
 const ADDRESS_MOST: u32 = 0xFF;
 
 const DECODE_HELP: &str =
-    "The log is read from standard input, in lines (SECONDS.MICROS) IFACE ID#HEX as
-candump -L writes them. Each message that was sent in packets is printed with
+    "A log has lines (SECONDS.MICROS) IFACE ID#HEX as candump -L writes them, and
+several logs are read one after another as if they were one. If a file can't be
+opened, nothing is read. Each message that was sent in packets is printed with
 the time and the interface of the frame at which it is known:
   (TIME) IFACE given FROM TO PGN LENGTH HEX
   (TIME) IFACE aborted FROM TO PGN REASON WHO
   (TIME) IFACE lost FROM TO PGN HAVE OF CAUSE
 What was counted is told on standard error at the end.
 
-Example:
+Examples:
+  j1939bus decode can0.log can0.log.1
   printf '%s\\n' '(1.000000) can0 1CECFF21#20090002FFCAFE00' \\
     '(1.050000) can0 1CEBFF21#0101020304050607' \\
     '(1.100000) can0 1CEBFF21#020809FFFFFFFFFF' | j1939bus decode
 
 Status:
   0  the log was read to its end
-  1  a line is wrong, or standard input or output failed
+  1  a line is wrong, a file can't be opened, or reading or writing failed
   2  the command line is refused, or asks for help
 
 docs/LOGS.md describes what is read and printed.";
@@ -85,6 +87,11 @@ fn decode_args<'a>(alloc: Global) -> Result<Vec<Arg<'a>>, AllocError> {
             numbers_arg(alloc, "to", "A", to),
             most_arg(alloc),
             all_arg(alloc),
+            files(
+                alloc,
+                "Logs in the order of their times, - for standard input [default: -]",
+            )
+            .action(ArgAction::Append),
         ],
     )
 }
@@ -94,7 +101,7 @@ pub(crate) fn decode_command<'a>(alloc: Global) -> Result<Command<'a>, AllocErro
     described(
         alloc,
         "decode",
-        "Prints the messages of the log of standard input, put together of their packets",
+        "Prints the messages of logs, put together of their packets",
         DECODE_HELP,
         decode_args(alloc),
     )

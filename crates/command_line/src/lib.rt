@@ -13,14 +13,14 @@ use decode::{decode_command, read_decode};
 use draw::draw_command;
 pub use node::{OfNode, OfPort};
 use node::{node_command, read_node};
-use parts::{add, described, flag, list, named, of_numbers, within};
+use parts::{SCRIPT, add, described, files, flag, list, named, names, of_numbers, within};
 use refused::{Refused, or_error};
 use std::alloc::{AllocError, Global};
 
 /// What a command line asks for.
 #[derive(Debug, PartialEq, Eq, Drop)]
 pub enum Asked {
-    /// The script of standard input is run line by line.
+    /// The script is run line by line.
     Script,
     /// It is run so, and the frames that it puts are printed as a log, without the replies.
     Logged,
@@ -32,8 +32,17 @@ pub enum Asked {
     Relay { turns: u64 },
     /// It is a station on the bus whose frames are read from standard input.
     Node(OfNode),
-    /// The messages of the log of standard input are printed.
+    /// The messages of logs are printed.
     Decode(OfLog),
+}
+
+/// A command line.
+#[derive(Debug, PartialEq, Eq, Drop)]
+pub struct Line {
+    /// What it asks for.
+    pub asked: Asked,
+    /// The files that are read, in their order: `-` is standard input, which is read too if there are none.
+    pub files: Vec<String>,
 }
 
 /// The turns of a worker where the command line names none.
@@ -41,9 +50,10 @@ const TURNS: u64 = 1_000_000;
 
 /// What is read and written, an example, and the statuses, which stand at the end of the program's help.
 const PROGRAM_HELP: &str =
-    "The script is read from standard input. The reply to each line is written to
-standard output before the next line is read. What ends the run before the
-script's end, such as a wrong line, is told on standard error.
+    "The reply to each line is written to standard output before the next line is
+read. What ends the run before the script's end, such as a wrong line or a file
+that can't be opened, is told on standard error. A script that is named as one
+of the commands is ./NAME.
 With --log, standard output has only the frames that are put, in lines
 (SECONDS.MICROS) bus0 ID#HEX as candump -l writes them, at the time of the
 script's clock. Replies and events are written to standard error.
@@ -51,25 +61,23 @@ script's clock. Replies and events are written to standard error.
 Examples:
   printf '%s\\n' 'stations 21 35' 'open 35 FECA 1785' \\
     'send 21 FF FECA 010203040506070809' 'drive 21 FF 3' | j1939bus
-  j1939bus --log < SCRIPT | j1939bus decode
+  j1939bus --log SCRIPT | j1939bus decode
 
 Status:
   0  the script ran to its end, refused calls included
-  1  a line is wrong, or standard input or output failed
+  1  a line is wrong, a file can't be opened, or reading or writing failed
   2  the command line is refused, or asks for help
   3  the turns of live or relay ran out
 
 docs/SCRIPTS.md describes the language, docs/LOGS.md what decode reads.";
 
 /// The same at the end of the help of `live`.
-const LIVE_HELP: &str =
-    "The script is read from standard input to its end: one line of 1 to 8 stations,
-lines that open ports, and at most 64 lines that send. A thread for each station
-submits its messages, one for each port receives, and a worker for each station
-and one for the bus move the frames. The refusals of lines are written to
-standard output first, and at the end each port with what it was given, and the
-outcome of each message. A wrong line is told on standard error, and no thread
-runs.
+const LIVE_HELP: &str = "The script is read to its end: one line of 1 to 8 stations, lines that open
+ports, and at most 64 lines that send. A thread for each station submits its
+messages, one for each port receives, and a worker for each station and one for
+the bus move the frames. The refusals of lines are written to standard output
+first, and at the end each port with what it was given, and the outcome of each
+message. A wrong line is told on standard error, and no thread runs.
 
 Example:
   printf '%s\\n' 'stations 21 35' 'open 35 FECA 1785' \\
@@ -77,7 +85,7 @@ Example:
 
 Status:
   0  each message has its outcome
-  1  a line is wrong, or standard input or output failed
+  1  a line is wrong, a file can't be opened, or reading or writing failed
   2  the command line is refused, or asks for help
   3  the turns ran out
 
@@ -85,13 +93,13 @@ docs/SCRIPTS.md describes the language, and this in its last part.";
 
 /// The same at the end of the help of `relay`.
 const RELAY_HELP: &str =
-    "The script is read from standard input to its end: lines of a first segment as
-live reads them, a second line of stations, lines that open ports on the second
-segment, and one last line, route PORT A B. Both segments run by threads, and
-each message that PORT is given a client of A sends on to B. The refusals of
-lines are written to standard output first, and at the end each port of the
-second segment with what it was given, how many messages the relay received,
-submitted and left, and the outcomes of the first segment and of the second.
+    "The script is read to its end: lines of a first segment as live reads them, a
+second line of stations, lines that open ports on the second segment, and one
+last line, route PORT A B. Both segments run by threads, and each message that
+PORT is given a client of A sends on to B. The refusals of lines are written to
+standard output first, and at the end each port of the second segment with what
+it was given, how many messages the relay received, submitted and left, and the
+outcomes of the first segment and of the second.
 
 Example:
   printf '%s\\n' 'stations 21 35' 'open 35 FECA 1785' \\
@@ -100,7 +108,7 @@ Example:
 
 Status:
   0  each message has its outcome, and nothing is left
-  1  a line is wrong, or standard input or output failed
+  1  a line is wrong, a file can't be opened, or reading or writing failed
   2  the command line is refused, or asks for help
   3  the turns ran out
 
@@ -119,14 +127,20 @@ fn threads_command<'a>(
     )
     .action(ArgAction::Set);
     let turns = of_numbers(turns, within(1, 1_000_000_000));
-    described(alloc, name, about, help, list(alloc, [turns]))
+    described(
+        alloc,
+        name,
+        about,
+        help,
+        list(alloc, [turns, files(alloc, SCRIPT)]),
+    )
 }
 
 fn live_command<'a>(alloc: Global) -> Result<Command<'a>, AllocError> {
     threads_command(
         alloc,
         "live",
-        "Runs the script of standard input by threads, and prints what came of it",
+        "Runs a script by threads, and prints what came of it",
         LIVE_HELP,
     )
 }
@@ -159,9 +173,9 @@ fn without_commands<'a>(alloc: Global) -> Result<Command<'a>, AllocError> {
     described(
         alloc,
         "j1939bus",
-        "Runs the script of standard input, and prints the reply to each line",
+        "Runs a script, and prints the reply to each line",
         PROGRAM_HELP,
-        list(alloc, [log]),
+        list(alloc, [log, files(alloc, SCRIPT)]),
     )
 }
 
@@ -191,6 +205,14 @@ fn read_log_or_bus(alloc: Global, matches: &ArgMatches) -> Result<Asked, Refused
     }
 }
 
+/// The files that are named; a node reads standard input alone.
+fn read_files(alloc: Global, matches: &ArgMatches) -> Result<Vec<String>, AllocError> {
+    match matches.subcommand() {
+        Some((_, words)) => names(alloc, words),
+        None => names(alloc, matches),
+    }
+}
+
 /// What the words ask for that the command took.
 fn read_asked(alloc: Global, matches: &ArgMatches) -> Result<Asked, Refused> {
     if let Some(turns) = turns_of(matches, "live") {
@@ -208,21 +230,28 @@ fn read_asked(alloc: Global, matches: &ArgMatches) -> Result<Asked, Refused> {
     read_log_or_bus(alloc, matches)
 }
 
+/// What the words ask for, and what is read.
+fn read_line(alloc: Global, matches: &ArgMatches) -> Result<Line, Refused> {
+    let asked = read_asked(alloc, matches)?;
+    let files = read_files(alloc, matches)?;
+    Ok(Line { asked, files })
+}
+
 /// What words ask for, as the command parses them.
 fn read_words<'a>(
     alloc: Global,
     command: &mut Command<'a>,
     words: &'a [String],
-) -> Result<Asked, Error> {
+) -> Result<Line, Error> {
     let matches = command.try_get_matches_from_mut(words)?;
-    let asked = read_asked(alloc, &matches);
+    let line = read_line(alloc, &matches);
     drop(matches);
-    or_error(command, asked)
+    or_error(command, line)
 }
 
 /// Reads the words of a command line, of which the first names the program. What it doesn't take is refused, and so is help, whose
 /// text is the error.
-pub fn read_command_line(alloc: Global, words: &[String]) -> Result<Asked, Error> {
+pub fn read_command_line(alloc: Global, words: &[String]) -> Result<Line, Error> {
     let mut command = program(alloc)?;
     let asked = read_words(alloc, &mut command, words);
     // By a call, since at the end of a function each of its fields is dropped, and proved to be, by itself.

@@ -1,8 +1,11 @@
 //! What the commands and their arguments are made of. These are small functions, some of them generic: at each step of a function
 //! the check weighs every value that the function holds, and those of `clap` are large.
 use clap::builder::ValueParser;
-use clap::{Arg, ArgAction, Command, value_parser};
+use clap::{Arg, ArgAction, ArgMatches, Command, value_parser};
 use std::alloc::{AllocError, Global};
+
+/// What help says of the script.
+pub(crate) const SCRIPT: &str = "Script, - for standard input [default: -]";
 
 /// A command with its arguments, and what its help begins and ends with.
 pub(crate) fn described<'a>(
@@ -38,6 +41,20 @@ pub(crate) fn valued<'a>(
     help: &'a str,
 ) -> Arg<'a> {
     named(alloc, name, help).value_name(value).action(action)
+}
+
+/// The names of the files that are read.
+pub(crate) fn files<'a>(alloc: Global, help: &'a str) -> Arg<'a> {
+    Arg::new(alloc, "files").value_name("FILE").help(help)
+}
+
+/// The files that were named.
+pub(crate) fn names(alloc: Global, matches: &ArgMatches) -> Result<Vec<String>, AllocError> {
+    let mut names = Vec::new(alloc);
+    for word in matches.get_strs("files").unwrap_or(&[]) {
+        names.push(String::from_str(alloc, *word)?)?;
+    }
+    Ok(names)
 }
 
 /// Numbers of 64 bits from `least` to `most`.

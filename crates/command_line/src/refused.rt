@@ -1,5 +1,5 @@
 //! Words that `clap` takes, and that are refused when they are read.
-use crate::Asked;
+use crate::Line;
 use clap::error::ErrorKind;
 use clap::{Command, Error};
 use std::alloc::{AllocError, AllocFailed};
@@ -28,8 +28,8 @@ impl<T: Drop> From<AllocFailed<T>> for Refused {
 /// What was read, or the error that tells why nothing was: where it is a word, with the usage of the command below the text.
 pub(crate) fn or_error<'a>(
     command: &mut Command<'a>,
-    read: Result<Asked, Refused>,
-) -> Result<Asked, Error> {
+    read: Result<Line, Refused>,
+) -> Result<Line, Error> {
     match read {
         Ok(read) => Ok(read),
         Err(Refused::Word(text)) => {

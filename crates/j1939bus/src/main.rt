@@ -1,32 +1,35 @@
-//! `j1939bus` reads a script on standard input and prints the replies to its lines, or with `--log` the frames that it puts, as the log
-//! of a bus; `j1939bus draw` draws it as a sequence diagram; `j1939bus live` runs it by threads and prints what came of it;
-//! `j1939bus relay` runs two segments so, with a relay between them; `j1939bus decode` reads the log of a bus and prints its messages;
+//! `j1939bus` reads a script, a file or standard input, and prints the replies to its lines, or with `--log` the frames that it puts,
+//! as the log of a bus; `j1939bus draw` draws it as a sequence diagram; `j1939bus live` runs it by threads and prints what came of it;
+//! `j1939bus relay` runs two segments so, with a relay between them; `j1939bus decode` reads logs of a bus and prints their messages;
 //! `j1939bus node` is a station on the bus whose log it reads while it runs (SAE J1939-21, ISO 11783-3).
 //!
-//! It ends with status 0 where the script or log was read to its end, refused calls included, with 1 at a wrong line, a read or
-//! write fault, which standard error tells, with 2 where the command line is refused or asks for help, and with 3 where the turns
-//! of the threads ran out.
+//! It ends with status 0 if the script or log was read to its end, refused calls included, with 1 at a wrong line, a file that can't be
+//! opened, a read or write fault, which standard error tells, with 2 if the command line is refused or asks for help, and with 3 if the
+//! turns of the threads ran out.
 #![tactic(auto)]
+
+mod inputs;
 
 use bus_decode::{Decoded, Options, Wanted, run_decode};
 use bus_live::{Gate, run_live};
 use bus_node::{Node, Ran, run_node};
 use bus_relay::run_relay;
 use bus_script::{run_logged, run_script};
-use command_line::{Asked, OfLog, OfNode, OfPort, read_command_line};
+use command_line::{Asked, Line, OfLog, OfNode, OfPort, read_command_line};
+use inputs::{open_inputs, size_to_tell};
 use log_text::Iface;
 use pgn_ids::Address;
 use read_progress::Progress;
 use script_drawing::draw_script;
 use std::alloc::{AllocError, Global};
 use std::fmt::Display;
-use std::io::{BufRead, BufReader, BufWriter, IsTerminal, Write};
+use std::io;
+use std::io::{BufRead, BufReader, BufWriter, Read, Write};
 use std::process::ExitCode;
 use std::rt::Files;
 use std::sync::Wait;
 use std::thread::Threads;
 use std::time::Clock;
-use std::{fs, io};
 
 /// Tells on standard error why a run ended before its end, where it did.
 fn end<F: Display + Drop>(rt: &impl Eprint, fault: Option<F>, status: u8) -> io::Result<ExitCode> {
@@ -36,32 +39,33 @@ fn end<F: Display + Drop>(rt: &impl Eprint, fault: Option<F>, status: u8) -> io:
     Ok(ExitCode::from(status))
 }
 
-/// Runs the script of standard input.
-fn run<R: Input + Print + Eprint + AllocGlobal>(rt: &R) -> io::Result<ExitCode> {
+/// Runs a script.
+fn run<R: Print + Eprint + AllocGlobal, I: Read + Drop>(rt: &R, input: I) -> io::Result<ExitCode> {
     let alloc = rt.alloc();
-    let mut reader = BufReader::new(alloc, rt.reader())?;
+    let mut reader = BufReader::new(alloc, input)?;
     let mut writer = BufWriter::new(alloc, io::writer(rt))?;
     let ran = run_script(alloc, &mut reader, &mut writer);
     end(rt, ran.fault, ran.status())
 }
 
-/// Runs the script of standard input, and prints the frames that it puts as a log, with the replies on standard error.
-fn log<R: Input + Print + Eprint + AllocGlobal>(
+/// Runs a script, and prints the frames that it puts as a log, with the replies on standard error.
+fn log<R: Print + Eprint + AllocGlobal, I: Read + Drop>(
     rt: &R,
     errors: &io::Stderr,
+    input: I,
 ) -> io::Result<ExitCode> {
     let alloc = rt.alloc();
-    let mut reader = BufReader::new(alloc, rt.reader())?;
+    let mut reader = BufReader::new(alloc, input)?;
     let mut writer = BufWriter::new(alloc, io::writer(rt))?;
     let mut replies = BufWriter::new(alloc, io::writer(errors))?;
     let ran = run_logged(alloc, &mut reader, &mut writer, &mut replies);
     end(rt, ran.fault, ran.status())
 }
 
-/// Runs the script of standard input, and prints the drawing of it.
-fn draw<R: Input + Print + Eprint + AllocGlobal>(rt: &R) -> io::Result<ExitCode> {
+/// Runs a script, and prints the drawing of it.
+fn draw<R: Print + Eprint + AllocGlobal, I: Read + Drop>(rt: &R, input: I) -> io::Result<ExitCode> {
     let alloc = rt.alloc();
-    let mut reader = BufReader::new(alloc, rt.reader())?;
+    let mut reader = BufReader::new(alloc, input)?;
     let mut writer = BufWriter::new(alloc, io::writer(rt))?;
     let ran = draw_script(alloc, &mut reader, &mut writer);
     end(rt, ran.fault, ran.status())
@@ -75,25 +79,27 @@ impl Gate for OpenGate {
     fn pass(&self, _worker: u8, _turn: u64) {}
 }
 
-/// Runs the script of standard input by threads.
-fn live<R: Threads + Wait + Sync + Input + Print + Eprint + AllocGlobal>(
+/// Runs a script by threads.
+fn live<R: Threads + Wait + Sync + Print + Eprint + AllocGlobal, I: Read + Drop>(
     rt: &R,
     turns: u64,
+    input: I,
 ) -> io::Result<ExitCode> {
     let alloc = rt.alloc();
-    let mut reader = BufReader::new(alloc, rt.reader())?;
+    let mut reader = BufReader::new(alloc, input)?;
     let mut writer = BufWriter::new(alloc, io::writer(rt))?;
     let ran = run_live(rt, alloc, &mut reader, &mut writer, &OpenGate {}, turns);
     end(rt, ran.fault, ran.status())
 }
 
-/// Runs the two segments of the script of standard input by threads, with a relay between them.
-fn relay<R: Threads + Wait + Sync + Input + Print + Eprint + AllocGlobal>(
+/// Runs the two segments of the script by threads, with a relay between them.
+fn relay<R: Threads + Wait + Sync + Print + Eprint + AllocGlobal, I: Read + Drop>(
     rt: &R,
     turns: u64,
+    input: I,
 ) -> io::Result<ExitCode> {
     let alloc = rt.alloc();
-    let mut reader = BufReader::new(alloc, rt.reader())?;
+    let mut reader = BufReader::new(alloc, input)?;
     let mut writer = BufWriter::new(alloc, io::writer(rt))?;
     let ran = run_relay(rt, alloc, &mut reader, &mut writer, &OpenGate {}, turns);
     end(rt, ran.fault, ran.status())
@@ -107,32 +113,21 @@ fn wanted(alloc: Global, named: &[u32]) -> Result<Wanted, AllocError> {
     Ok(wanted)
 }
 
-/// How many bytes standard input has, where it is a file and standard error a terminal.
-fn size_to_tell<R: Files>(rt: &R, errors: &io::Stderr) -> Option<u64> {
-    if !errors.is_terminal() {
-        return None;
-    }
-    let metadata = fs::metadata(rt, "/dev/stdin").ok()?;
-    if metadata.is_file() {
-        Some(metadata.len())
-    } else {
-        None
-    }
-}
-
 /// Prints the messages of a log. While a file is read for more than a second, a terminal shows how far it is.
-fn decode_all<R: Input + Print + AllocGlobal + Files + Clock>(
+fn decode_all<R: Print + AllocGlobal + Clock, I: Read + Drop>(
     rt: &R,
     errors: &io::Stderr,
     options: &Options,
+    input: I,
+    size: Option<u64>,
 ) -> io::Result<Decoded> {
     let alloc = rt.alloc();
     let mut writer = BufWriter::new(alloc, io::writer(rt))?;
-    let Some(size) = size_to_tell(rt, errors) else {
-        let mut reader = BufReader::new(alloc, rt.reader())?;
+    let Some(size) = size else {
+        let mut reader = BufReader::new(alloc, input)?;
         return Ok(run_decode(alloc, options, &mut reader, &mut writer));
     };
-    let progress = Progress::new(alloc, rt.reader(), rt, io::writer(errors), size)?;
+    let progress = Progress::new(alloc, input, rt, io::writer(errors), size)?;
     let mut reader = BufReader::new(alloc, progress)?;
     let decoded = run_decode(alloc, options, &mut reader, &mut writer);
     // What was told of the way makes room for what is told of the end.
@@ -140,11 +135,13 @@ fn decode_all<R: Input + Print + AllocGlobal + Files + Clock>(
     Ok(decoded)
 }
 
-/// Prints the messages of the log of standard input.
-fn decode<R: Input + Print + Eprint + AllocGlobal + Files + Clock>(
+/// Prints the messages of a log.
+fn decode<R: Print + Eprint + AllocGlobal + Clock, I: Read + Drop>(
     rt: &R,
     errors: &io::Stderr,
     asked: &OfLog,
+    input: I,
+    size: Option<u64>,
 ) -> io::Result<ExitCode> {
     let alloc = rt.alloc();
     let options = Options {
@@ -155,7 +152,7 @@ fn decode<R: Input + Print + Eprint + AllocGlobal + Files + Clock>(
         singles: asked.singles,
         strict: false,
     };
-    let decoded = decode_all(rt, errors, &options)?;
+    let decoded = decode_all(rt, errors, &options, input, size)?;
     if let Some(fault) = decoded.fault {
         eprintln!(rt; "{fault}")?;
     }
@@ -191,15 +188,19 @@ fn run_opened<R: BufRead, W: Write>(
     run_node(alloc, node, reader, writer)
 }
 
-/// Is a station on the bus whose frames standard input has.
-fn node<R: Input + Print + Eprint + AllocGlobal>(rt: &R, asked: &OfNode) -> io::Result<ExitCode> {
+/// Is a station on the bus whose frames are read.
+fn node<R: Print + Eprint + AllocGlobal, I: Read + Drop>(
+    rt: &R,
+    asked: &OfNode,
+    input: I,
+) -> io::Result<ExitCode> {
     let alloc = rt.alloc();
     let Ok(iface) = Iface::new(asked.interface.as_str().as_bytes()) else {
         eprintln!(rt; "error: an interface has a name of 1 to 15 printable characters")?;
         return Ok(ExitCode::from(2));
     };
     let lines = opening(alloc, asked.ports.as_slice())?;
-    let mut reader = BufReader::new(alloc, rt.reader())?;
+    let mut reader = BufReader::new(alloc, input)?;
     let mut writer = BufWriter::new(alloc, io::writer(rt))?;
     let Ok(mut node) = Node::new(alloc, Address(asked.address), iface, asked.quiet) else {
         eprintln!(rt; "out of memory")?;
@@ -213,16 +214,20 @@ fn node<R: Input + Print + Eprint + AllocGlobal>(rt: &R, asked: &OfNode) -> io::
 fn obey<R: Threads + Wait + Sync + Input + Print + Eprint + AllocGlobal + Files + Clock>(
     rt: &R,
     errors: &io::Stderr,
-    asked: &Asked,
+    line: &Line,
 ) -> io::Result<ExitCode> {
-    match asked {
-        Asked::Script => run(rt),
-        Asked::Logged => log(rt, errors),
-        Asked::Drawn => draw(rt),
-        Asked::Live { turns } => live(rt, *turns),
-        Asked::Relay { turns } => relay(rt, *turns),
-        Asked::Decode(asked) => decode(rt, errors, asked),
-        Asked::Node(asked) => node(rt, asked),
+    let names = line.files.as_slice();
+    let Some(input) = open_inputs(rt, names)? else {
+        return Ok(ExitCode::from(1));
+    };
+    match &line.asked {
+        Asked::Script => run(rt, input),
+        Asked::Logged => log(rt, errors, input),
+        Asked::Drawn => draw(rt, input),
+        Asked::Live { turns } => live(rt, *turns, input),
+        Asked::Relay { turns } => relay(rt, *turns, input),
+        Asked::Decode(asked) => decode(rt, errors, asked, input, size_to_tell(rt, errors, names)),
+        Asked::Node(asked) => node(rt, asked, input),
     }
 }
 
@@ -230,7 +235,7 @@ fn main(rt: HostRuntime) -> anyhow::Result<ExitCode> {
     let alloc = rt.alloc();
     let words: Vec<String> = std::env::args(&rt)?.collect(alloc)?;
     match read_command_line(alloc, words.as_slice()) {
-        Ok(asked) => Ok(obey(&rt, &rt.stderr(), &asked)?),
+        Ok(line) => Ok(obey(&rt, &rt.stderr(), &line)?),
         Err(error) => {
             eprint!(rt; "{error}")?;
             Ok(ExitCode::from(2))

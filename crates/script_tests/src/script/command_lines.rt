@@ -1,5 +1,5 @@
-//! The command line: its name alone runs a script, with `--log` for its frames, `live` runs it by threads; whatever else is asked for is
-//! answered by a text.
+//! The command line: its name alone or with a file runs a script, with `--log` for its frames, `live` runs it by threads; whatever else is
+//! asked for is answered by a text.
 mod logs;
 
 use crate::checks::{got, holds, same};
@@ -41,8 +41,17 @@ fn tells(rt: &impl Abort, alloc: Global, all: &[&str], part: &str) {
 // These words ask for this.
 fn asks(rt: &impl Abort, alloc: Global, all: &[&str], expected: &Asked) {
     let words = got(rt, words_of(alloc, all));
-    let asked = got(rt, read_command_line(alloc, words.as_slice()));
-    holds(rt, asked == *expected);
+    let line = got(rt, read_command_line(alloc, words.as_slice()));
+    holds(rt, line.asked == *expected);
+    holds(rt, line.files.is_empty());
+}
+
+// These words name these files, and nothing that is asked for changes by them.
+fn names(rt: &impl Abort, alloc: Global, all: &[&str], expected: &Asked, files: &[&str]) {
+    let words = got(rt, words_of(alloc, all));
+    let line = got(rt, read_command_line(alloc, words.as_slice()));
+    holds(rt, line.asked == *expected);
+    holds(rt, line.files == got(rt, words_of(alloc, files)));
 }
 
 #[test]
@@ -55,6 +64,25 @@ fn a_script_is_run_alone_or_by_threads(rt: HostRuntime) {
     asks(&rt, alloc, &["j1939bus", "live"], &live);
     let once = ["j1939bus", "live", "--turns", "1"];
     asks(&rt, alloc, &once, &Asked::Live { turns: 1 })
+}
+
+#[test]
+fn files_are_named_behind_the_command(rt: HostRuntime) {
+    let alloc = rt.alloc();
+    let script = ["j1939bus", "a.script"];
+    names(&rt, alloc, &script, &Asked::Script, &["a.script"]);
+    names(&rt, alloc, &["j1939bus", "-"], &Asked::Script, &["-"]);
+    let empty = ["j1939bus", ""];
+    names(&rt, alloc, &empty, &Asked::Script, &[""]);
+    let draw = ["j1939bus", "draw", "live"];
+    names(&rt, alloc, &draw, &Asked::Drawn, &["live"]);
+    let log = ["j1939bus", "--log", "live"];
+    names(&rt, alloc, &log, &Asked::Logged, &["live"]);
+    let live = Asked::Live { turns: 5 };
+    let words = ["j1939bus", "live", "a.script", "--turns", "5"];
+    names(&rt, alloc, &words, &live, &["a.script"]);
+    let two = ["j1939bus", "draw", "a.script", "b.script"];
+    tells(&rt, alloc, &two, "'b.script'")
 }
 
 #[test]
@@ -119,38 +147,37 @@ fn refuses_turns(rt: &impl Abort, alloc: Global, turns: &str, told: &str) {
 fn whatever_else_is_asked_for_is_answered_by_a_text(rt: HostRuntime) {
     let alloc = rt.alloc();
     tells(&rt, alloc, &["j1939bus", "--version"], "j1939bus 0.3.0");
-    tells(&rt, alloc, &["j1939bus", "lives"], "'lives'");
-    tells(
-        &rt,
-        alloc,
-        &["j1939bus", "--log", "live"],
-        "cannot be used with",
-    );
+    let two = ["j1939bus", "a.script", "live"];
+    tells(&rt, alloc, &two, "'live' cannot be used with '[FILE]'");
     refuses_turns(&rt, alloc, "0", "invalid value '0'");
     refuses_turns(&rt, alloc, "1000000001", "invalid value '1000000001'")
 }
 
-const PROGRAM_HELP: &str = "Runs the script of standard input, and prints the reply to each line
+const PROGRAM_HELP: &str = "Runs a script, and prints the reply to each line
 
-Usage: j1939bus [OPTIONS]
+Usage: j1939bus [OPTIONS] [FILE]
        j1939bus <COMMAND>
 
 Commands:
-  live    Runs the script of standard input by threads, and prints what came of it
+  live    Runs a script by threads, and prints what came of it
   relay   Runs two segments by threads, and relays from a port of the first to the second
-  decode  Prints the messages of the log of standard input, put together of their packets
-  draw    Runs the script of standard input, and draws it as a sequence diagram
+  decode  Prints the messages of logs, put together of their packets
+  draw    Runs a script, and draws it as a sequence diagram
   node    Is one station on a real bus, whose frames are read from standard input
   help    Print this message or the help of the given subcommand(s)
+
+Arguments:
+  [FILE]  Script, - for standard input [default: -]
 
 Options:
       --log      Prints the frames alone, as a log, and the replies on standard error
   -h, --help     Print help
   -V, --version  Print version
 
-The script is read from standard input. The reply to each line is written to
-standard output before the next line is read. What ends the run before the
-script's end, such as a wrong line, is told on standard error.
+The reply to each line is written to standard output before the next line is
+read. What ends the run before the script's end, such as a wrong line or a file
+that can't be opened, is told on standard error. A script that is named as one
+of the commands is ./NAME.
 With --log, standard output has only the frames that are put, in lines
 (SECONDS.MICROS) bus0 ID#HEX as candump -l writes them, at the time of the
 script's clock. Replies and events are written to standard error.
@@ -158,32 +185,34 @@ script's clock. Replies and events are written to standard error.
 Examples:
   printf '%s\\n' 'stations 21 35' 'open 35 FECA 1785' \\
     'send 21 FF FECA 010203040506070809' 'drive 21 FF 3' | j1939bus
-  j1939bus --log < SCRIPT | j1939bus decode
+  j1939bus --log SCRIPT | j1939bus decode
 
 Status:
   0  the script ran to its end, refused calls included
-  1  a line is wrong, or standard input or output failed
+  1  a line is wrong, a file can't be opened, or reading or writing failed
   2  the command line is refused, or asks for help
   3  the turns of live or relay ran out
 
 docs/SCRIPTS.md describes the language, docs/LOGS.md what decode reads.
 ";
 
-const LIVE_HELP: &str = "Runs the script of standard input by threads, and prints what came of it
+const LIVE_HELP: &str = "Runs a script by threads, and prints what came of it
 
-Usage: j1939bus live [OPTIONS]
+Usage: j1939bus live [OPTIONS] [FILE]
+
+Arguments:
+  [FILE]  Script, - for standard input [default: -]
 
 Options:
       --turns <turns>  Most turns of a worker, 1 to 1000000000 [default: 1000000]
   -h, --help           Print help
 
-The script is read from standard input to its end: one line of 1 to 8 stations,
-lines that open ports, and at most 64 lines that send. A thread for each station
-submits its messages, one for each port receives, and a worker for each station
-and one for the bus move the frames. The refusals of lines are written to
-standard output first, and at the end each port with what it was given, and the
-outcome of each message. A wrong line is told on standard error, and no thread
-runs.
+The script is read to its end: one line of 1 to 8 stations, lines that open
+ports, and at most 64 lines that send. A thread for each station submits its
+messages, one for each port receives, and a worker for each station and one for
+the bus move the frames. The refusals of lines are written to standard output
+first, and at the end each port with what it was given, and the outcome of each
+message. A wrong line is told on standard error, and no thread runs.
 
 Example:
   printf '%s\\n' 'stations 21 35' 'open 35 FECA 1785' \\
@@ -191,7 +220,7 @@ Example:
 
 Status:
   0  each message has its outcome
-  1  a line is wrong, or standard input or output failed
+  1  a line is wrong, a file can't be opened, or reading or writing failed
   2  the command line is refused, or asks for help
   3  the turns ran out
 

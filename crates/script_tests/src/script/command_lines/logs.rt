@@ -1,13 +1,15 @@
 //! The words of `decode`.
-use super::{answers, tells, words_of};
+use super::{answers, names, tells, words_of};
 use crate::checks::{got, holds};
-use command_line::{Asked, OfLog, read_command_line};
+use command_line::{Asked, Line, OfLog, read_command_line};
 use std::alloc::Global;
 use std::process::Abort;
 
 fn asked(rt: &impl Abort, alloc: Global, all: &[&str]) -> OfLog {
     let words = got(rt, words_of(alloc, all));
-    match got(rt, read_command_line(alloc, words.as_slice())) {
+    let Line { asked, files } = got(rt, read_command_line(alloc, words.as_slice()));
+    holds(rt, files.is_empty());
+    match asked {
         Asked::Decode(asked) => asked,
         _ => panic!(rt; "another command"),
     }
@@ -22,6 +24,8 @@ fn a_log_is_asked_for(rt: HostRuntime) {
         asked.pgns.is_empty() && asked.from.is_empty() && asked.to.is_empty(),
     );
     holds(&rt, asked.most == 117_440_505 && !asked.singles);
+    let two = ["j1939bus", "decode", "a.log", "-"];
+    names(&rt, alloc, &two, &Asked::Decode(asked), &["a.log", "-"])
 }
 
 #[test]
@@ -75,10 +79,12 @@ fn other_numbers_are_refused(rt: HostRuntime) {
     )
 }
 
-const DECODE_HELP: &str =
-    "Prints the messages of the log of standard input, put together of their packets
+const DECODE_HELP: &str = "Prints the messages of logs, put together of their packets
 
-Usage: j1939bus decode [OPTIONS]
+Usage: j1939bus decode [OPTIONS] [FILE]...
+
+Arguments:
+  [FILE]...  Logs in the order of their times, - for standard input [default: -]
 
 Options:
       --pgn <PGN>      Only messages of this PGN, hexadecimal
@@ -88,22 +94,24 @@ Options:
       --all            Prints frames that aren't of a transport too, as frame FROM TO PGN LENGTH HEX
   -h, --help           Print help
 
-The log is read from standard input, in lines (SECONDS.MICROS) IFACE ID#HEX as
-candump -L writes them. Each message that was sent in packets is printed with
+A log has lines (SECONDS.MICROS) IFACE ID#HEX as candump -L writes them, and
+several logs are read one after another as if they were one. If a file can't be
+opened, nothing is read. Each message that was sent in packets is printed with
 the time and the interface of the frame at which it is known:
   (TIME) IFACE given FROM TO PGN LENGTH HEX
   (TIME) IFACE aborted FROM TO PGN REASON WHO
   (TIME) IFACE lost FROM TO PGN HAVE OF CAUSE
 What was counted is told on standard error at the end.
 
-Example:
+Examples:
+  j1939bus decode can0.log can0.log.1
   printf '%s\\n' '(1.000000) can0 1CECFF21#20090002FFCAFE00' \\
     '(1.050000) can0 1CEBFF21#0101020304050607' \\
     '(1.100000) can0 1CEBFF21#020809FFFFFFFFFF' | j1939bus decode
 
 Status:
   0  the log was read to its end
-  1  a line is wrong, or standard input or output failed
+  1  a line is wrong, a file can't be opened, or reading or writing failed
   2  the command line is refused, or asks for help
 
 docs/LOGS.md describes what is read and printed.
