@@ -15,8 +15,10 @@ pub struct OfLog {
     pub to: Vec<u32>,
     /// The longest message that is put together, in bytes.
     pub most: u32,
-    /// Whether frames that aren't of a transport are printed too.
+    /// Whether frames that carry nothing of a message are printed too.
     pub singles: bool,
+    /// Whether a wrong line ends the run; else it is told, and the log goes on.
+    pub strict: bool,
 }
 
 /// The longest message that a transport carries, in bytes.
@@ -29,14 +31,16 @@ pub(crate) const PGN_MOST: u32 = 0x3_FFFF;
 const ADDRESS_MOST: u32 = 0xFF;
 
 const DECODE_HELP: &str =
-    "A log has lines (SECONDS.MICROS) IFACE ID#HEX as candump -L writes them, and
-several logs are read one after another as if they were one. If a file can't be
-opened, nothing is read. Each message that was sent in packets is printed with
-the time and the interface of the frame at which it is known:
+    "A log has lines as candump writes them, (SECONDS.MICROS) IFACE ID#HEX, or shows
+them on a screen, and several logs are read one after another as if they were
+one. If a file can't be opened, nothing is read. Each message that was sent in
+packets is printed with the time and the interface of the frame at which it is
+known:
   (TIME) IFACE given FROM TO PGN LENGTH HEX
   (TIME) IFACE aborted FROM TO PGN REASON WHO
   (TIME) IFACE lost FROM TO PGN HAVE OF CAUSE
-What was counted is told on standard error at the end.
+A wrong line is told by its number, in its place. What was counted is told on
+standard error at the end.
 
 Examples:
   j1939bus decode can0.log can0.log.1
@@ -45,7 +49,7 @@ Examples:
     '(1.100000) can0 1CEBFF21#020809FFFFFFFFFF' | j1939bus decode
 
 Status:
-  0  the log was read to its end
+  0  the log was read to its end, and no line was wrong
   1  a line is wrong, a file can't be opened, or reading or writing failed
   2  the command line is refused, or asks for help
 
@@ -70,8 +74,12 @@ fn all_arg<'a>(alloc: Global) -> Arg<'a> {
     flag(
         alloc,
         "all",
-        "Prints frames that aren't of a transport too, as frame FROM TO PGN LENGTH HEX",
+        "Prints frames that carry nothing of a message too, as frame FROM TO PGN LENGTH HEX",
     )
+}
+
+fn strict_arg<'a>(alloc: Global) -> Arg<'a> {
+    flag(alloc, "strict", "Ends at a wrong line")
 }
 
 /// Its arguments, in the order of the help.
@@ -87,6 +95,7 @@ fn decode_args<'a>(alloc: Global) -> Result<Vec<Arg<'a>>, AllocError> {
             numbers_arg(alloc, "to", "A", to),
             most_arg(alloc),
             all_arg(alloc),
+            strict_arg(alloc),
             files(
                 alloc,
                 "Logs in the order of their times, - for standard input [default: -]",
@@ -148,5 +157,6 @@ pub(crate) fn read_decode(alloc: Global, matches: &ArgMatches) -> Result<OfLog, 
         to: numbers(alloc, matches, "to", ADDRESS_MOST)?,
         most: matches.get_one::<u32>("max-bytes").unwrap_or(MOST),
         singles: matches.get_flag("all"),
+        strict: matches.get_flag("strict"),
     })
 }

@@ -150,7 +150,7 @@ fn decode<R: Print + Eprint + AllocGlobal + Clock, I: Read + Drop>(
         to: wanted(alloc, asked.to.as_slice())?,
         most: asked.most,
         singles: asked.singles,
-        strict: false,
+        strict: asked.strict,
     };
     let decoded = decode_all(rt, errors, &options, input, size)?;
     if let Some(fault) = decoded.fault {

@@ -23,7 +23,10 @@ fn a_log_is_asked_for(rt: HostRuntime) {
         &rt,
         asked.pgns.is_empty() && asked.from.is_empty() && asked.to.is_empty(),
     );
-    holds(&rt, asked.most == 117_440_505 && !asked.singles);
+    holds(
+        &rt,
+        asked.most == 117_440_505 && !asked.singles && !asked.strict,
+    );
     let two = ["j1939bus", "decode", "a.log", "-"];
     names(&rt, alloc, &two, &Asked::Decode(asked), &["a.log", "-"])
 }
@@ -48,12 +51,13 @@ fn parts_of_a_log_are_asked_for(rt: HostRuntime) {
             "--max-bytes",
             "1785",
             "--all",
+            "--strict",
         ],
     );
     holds(&rt, asked.pgns.as_slice() == [0xFECA, 0x3_FFFF].as_slice());
     holds(&rt, asked.from.as_slice() == [0x21].as_slice());
     holds(&rt, asked.to.as_slice() == [0xFF].as_slice());
-    holds(&rt, asked.most == 1_785 && asked.singles);
+    holds(&rt, asked.most == 1_785 && asked.singles && asked.strict);
 }
 
 fn refuses(rt: &impl Abort, alloc: Global, option: &str, value: &str, told: &str) {
@@ -91,17 +95,20 @@ Options:
       --from <A>       Only messages from this address, hexadecimal
       --to <A>         Only messages to this address, FF for those to all
       --max-bytes <N>  Longest message that is put together [default: 117440505]
-      --all            Prints frames that aren't of a transport too, as frame FROM TO PGN LENGTH HEX
+      --all            Prints frames that carry nothing of a message too, as frame FROM TO PGN LENGTH HEX
+      --strict         Ends at a wrong line
   -h, --help           Print help
 
-A log has lines (SECONDS.MICROS) IFACE ID#HEX as candump -L writes them, and
-several logs are read one after another as if they were one. If a file can't be
-opened, nothing is read. Each message that was sent in packets is printed with
-the time and the interface of the frame at which it is known:
+A log has lines as candump writes them, (SECONDS.MICROS) IFACE ID#HEX, or shows
+them on a screen, and several logs are read one after another as if they were
+one. If a file can't be opened, nothing is read. Each message that was sent in
+packets is printed with the time and the interface of the frame at which it is
+known:
   (TIME) IFACE given FROM TO PGN LENGTH HEX
   (TIME) IFACE aborted FROM TO PGN REASON WHO
   (TIME) IFACE lost FROM TO PGN HAVE OF CAUSE
-What was counted is told on standard error at the end.
+A wrong line is told by its number, in its place. What was counted is told on
+standard error at the end.
 
 Examples:
   j1939bus decode can0.log can0.log.1
@@ -110,7 +117,7 @@ Examples:
     '(1.100000) can0 1CEBFF21#020809FFFFFFFFFF' | j1939bus decode
 
 Status:
-  0  the log was read to its end
+  0  the log was read to its end, and no line was wrong
   1  a line is wrong, a file can't be opened, or reading or writing failed
   2  the command line is refused, or asks for help
 
