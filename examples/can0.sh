@@ -4,13 +4,15 @@
 # send TO PGN HEX, ..), standard output what it tells (docs/REAL-BUS.md). It goes on when its input ends, until it is ended, or candump or the node ends.
 # Frames that candump's socket dropped are told as missed, and so is a controller that restarted, left the bus or was overrun. The time is that
 # since the machine started, which doesn't go back; frames come without a time of their own.
-# Wants candump and cansend of can-utils, GNU's stdbuf and sed, setsid of util-linux, and j1939bus on the PATH.
+# Wants candump and cansend of can-utils, GNU's stdbuf and sed, setsid of util-linux, and j1939bus on the PATH, or the repository's ./run above it.
 address=${1:?say can0.sh ADDRESS [INTERFACE [WORDS]]}
 interface=${2:-can0}
 shift
 [ $# -eq 0 ] || shift
-for command in candump cansend stdbuf setsid j1939bus; do
-    command -v "$command" > /dev/null || { echo "can0.sh: $command isn't on the PATH" >&2; exit 1; }
+program=j1939bus
+command -v j1939bus > /dev/null || program=$(dirname "$0")/../run
+for command in candump cansend stdbuf setsid "$program"; do
+    command -v "$command" > /dev/null || { echo "can0.sh: $command isn't on this machine" >&2; exit 1; }
 done
 
 # Prints the frames of the bus that have 29 bits and data, and each loss. Error frames of these classes: the controller restarted (100), is off the
@@ -41,7 +43,7 @@ exec 3<&0
     show_time "$bus" &
     clock=$!
     wait "$clock"
-} | j1939bus node "$address" --interface "$interface" "$@" | while IFS= read -r line; do
+} | "$program" node "$address" --interface "$interface" "$@" | while IFS= read -r line; do
     case $line in
         'put '*) cansend "$interface" "${line##* }" ;;
         *) printf '%s\n' "$line" ;;
