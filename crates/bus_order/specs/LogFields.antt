@@ -10,8 +10,8 @@ use Rattle.bus_order.specs.declared.log.BusLog.TheInside.{Inside}
 abbrev pub log_value : Inside → Bus
 log_value log = record { first = log.first; kept = log.kept.items; cursors = log.cursors.items }
 
--- the bus is sound, those cursors are the ones furthest behind, and beside a frame that is kept there is room for another
+-- the bus is sound, those cursors are the ones furthest behind, and there is room for two frames at least
 pub record IsSoundLog (log : Inside) : Type 0 where
   pub sound : IsSound (log_value log)
   pub rear : IsRear log.rear log.cursors.items
-  pub room : 0 < length log.kept.items → 1 < deque_capacity log.kept
+  pub room : 1 < deque_capacity log.kept

@@ -17,7 +17,7 @@ use thiserror::Error;
 /// How many frames are kept at most.
 const KEPT_LIMIT: usize = 4096;
 
-// Room for so many frames is made at once, so that a frame which stations that are level don't all take needs no memory.
+// Room for so many frames is there from the first on: where just the newest is kept, as it may still be repeated, one more needs no memory.
 const ROOM: usize = 2;
 
 /// Why a frame isn't put.
@@ -66,7 +66,7 @@ impl Drop for BusLog {
 
 impl BusLog {
     /// An empty bus with this many stations, whose cursors are the numbers below it. Where there is no station, no frame
-    /// is ever dropped.
+    /// is ever dropped. It makes room for two frames.
     #[tactic(auto, using(crate::proofs::Steps::sound_new, crate::proofs::Steps::sound_holds))]
     pub fn new(alloc: Global, stations: usize) -> Result<BusLog, AllocError>
         ensures new { IfOk result (λ log. log ≡ new_bus stations) }
@@ -74,7 +74,7 @@ impl BusLog {
     {
         Ok(BusLog {
             first: 1,
-            kept: VecDeque::new(alloc),
+            kept: VecDeque::with_capacity(alloc, ROOM)?,
             cursors: vec![in alloc; Cursor::START; stations]?,
             rear: Rear {
                 place: 0,
@@ -172,12 +172,13 @@ impl BusLog {
     }
 
     /// Puts a frame on the bus, at the place behind the newest. `BusFull` comes exactly where 4,096 frames are kept or that
-    /// place would pass `u64`; an error changes nothing.
+    /// place would pass `u64`; an error changes nothing. Memory is asked for only if two frames or more are kept.
     #[inline]
     #[tactic(auto, using(crate::proofs::Steps::sound_put, crate::proofs::Steps::sound_holds))]
     pub fn put(&mut self, frame: Frame) -> Result<(), PutError>
         ensures ok { OnOk result (self.new ≡ put self.old frame) }
         ensures full { IsErrOf result PutError.BusFull ↔ IsTrue (is_full self.old) }
+        ensures memory { IsErrOf result PutError.OutOfMemory → 1 < length self.old.kept }
         ensures err { OnErr result (self.new ≡ self.old) }
         ensures holds { HoldsAhead self.new }
     {
@@ -187,7 +188,7 @@ impl BusLog {
         if self.len() == u64::MAX {
             return Err(PutError::BusFull);
         }
-        if self.kept.capacity() - self.kept.len() < ROOM {
+        if self.kept.len() == self.kept.capacity() {
             match grow(&mut self.kept) {
                 Ok(()) => {}
                 Err(_) => return Err(PutError::OutOfMemory),

@@ -23,7 +23,7 @@ invariant_of-self c =
     record {
       sound = rw (place, kept, items) (sound_replaced log c.args.frame c.self.invariant.sound level);
       rear = rw items (rear_replaced log c.args.frame c.to-2.inside.place c.stations-count.result c.self.invariant.sound level there count);
-      room = λ some. c.self.invariant.room (omega (arith, (stand_level log level).alone));
+      room = c.self.invariant.room;
     }
 
 pub returns-clause-passed : goal.returns-clause-passed
