@@ -193,7 +193,8 @@ impl Receivers {
     /// rising number, with the end of message acknowledgement of a connection. `room` says whether each of them has room for
     /// the message, and whether there is room for the next window; without room a connection ends by an abort.
     ///
-    /// What it answers is queued behind the frames of a queue. All memory is taken first: want of it changes nothing.
+    /// What it answers is queued behind the frames of a queue. All memory is taken first: want of it changes nothing. Without room
+    /// none is asked for.
     #[tactic(auto, using(crate::proofs::SessionMaps::session_maps))]
     pub fn receive(
         &mut self,
@@ -211,6 +212,7 @@ impl Receivers {
         ensures err { OnErr result (self.new ≡ self.old) }
         ensures kept { OnErr result (queue.new ≡ queue.old) }
         ensures silent { OnErr result (told.new ≡ []) }
+        ensures room { OnErr result (room ≡ true) }
     {
         let Some((held, set, state)) = self.table.take_out(key) else {
             return Ok(());

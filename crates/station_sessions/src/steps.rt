@@ -32,7 +32,7 @@ use tx_queue::TxQueue;
 pub(crate) type Table = SessionTable<PortSet>;
 
 /// The step of a session with a frame of its source at tick `now`. All memory is taken first: where it is refused, the
-/// session is put back as it was.
+/// session is put back as it was. Without room none is asked for.
 pub(crate) fn step(
     alloc: Global,
     table: &mut Table,
@@ -53,6 +53,7 @@ pub(crate) fn step(
     ensures err { OnErr result (table.new ≡ map.insert table.old held (Some (set, state))) }
     ensures kept { OnErr result (queue.new ≡ queue.old) }
     ensures silent { OnErr result (told.new ≡ []) }
+    ensures room { OnErr result (room ≡ true) }
 {
     match state {
         Incoming::Broadcast(state) => {
@@ -95,6 +96,7 @@ fn step_broadcast(
     ensures ok { OnOk result (broadcast_settled station held set room table.old state (bam_stepped state wire.now now) ≡ record { sessions = table.new; frame = None; events = told.new }) }
     ensures err { OnErr result (table.new ≡ map.insert table.old held (Some (set, Broadcast state))) }
     ensures silent { OnErr result (told.new ≡ []) }
+    ensures room { OnErr result (room ≡ true) }
 {
     let mut copies = Copies::none(alloc);
     let is_given = room && state.completes(wire);
@@ -141,6 +143,7 @@ fn step_connection(
     ensures err { OnErr result (table.new ≡ map.insert table.old held (Some (set, Connection state))) }
     ensures kept { OnErr result (queue.new ≡ queue.old) }
     ensures silent { OnErr result (told.new ≡ []) }
+    ensures room { OnErr result (room ≡ true) }
 {
     let flow = flow(ports, &set);
     let mut copies = Copies::none(alloc);
@@ -294,7 +297,8 @@ fn take_packet(state: InState, wire: &Wire, room: bool, flow: Flow, now: u64) ->
 }
 
 // Makes all the room that a step needs: for the copies of a message that it completes and gives, or for the next window.
-// An error changes no state.
+// An error changes no state. Without room none is made.
+#[tactic(auto, using(crate::proofs::Whole::room_wanted))]
 fn make_room(
     alloc: Global,
     set: &PortSet,
@@ -310,6 +314,7 @@ fn make_room(
     ensures count { OnOk result (room ≡ true → completes_at state.new wire.now ≡ true → length copies.new ≡ length set.now - 1) }
     ensures enough { OnOk result (All (λ size. size ≡ (unfinished_of state.new).join.size) copies.new) }
     ensures err { OnErr result (state.new ≡ state.old) }
+    ensures room { OnErr result (room ≡ true) }
 {
     if room && state.completes(wire) {
         return make_copies(alloc, set, true, state.size(), copies);
@@ -328,6 +333,7 @@ fn make_copies(
     requires { copies.old ≡ [] }
     ensures count { OnOk result (is_given ≡ true → length copies.new ≡ length set.now - 1) }
     ensures enough { OnOk result (All (λ room. room ≡ size) copies.new) }
+    ensures given { OnErr result (is_given ≡ true) }
 {
     if !is_given {
         return Ok(());

@@ -47,6 +47,7 @@ fn refusal(is_size: bool, room: bool, set: &PortSet, others: usize) -> Option<Ab
     ensures value { result ≡ refusal_of is_size room set.now others }
     ensures size { result ≡ None → is_size ≡ true }
     ensures few { result ≡ None → others < MAX_SESSIONS }
+    ensures room { result ≡ None → room ≡ true }
 {
     if !is_size {
         return Some(AbortReason::Other);
@@ -123,6 +124,7 @@ impl Receivers {
         ensures ok { OnOk result (LeavesQuietly (rts_received own ports.now asked.kind asked.is_size asked.from asked.size asked.most asked.pgn room now self.old) self.new queue.old queue.new) }
         ensures err { OnErr result (self.new ≡ self.old) }
         ensures kept { OnErr result (queue.new ≡ queue.old) }
+        ensures room { OnErr result (room ≡ true) }
     {
         let Asked {
             kind,
@@ -169,6 +171,7 @@ impl Receivers {
     ) -> Result<(), AllocError>
         ensures ok { OnOk result (bam_received ports.now from size packet_count pgn room now self.old ≡ record { sessions = self.new; frame = None; events = [] }) }
         ensures err { OnErr result (self.new ≡ self.old) }
+        ensures room { OnErr result (room ≡ true) }
     {
         let key = Key {
             source: from,
@@ -196,7 +199,7 @@ impl Receivers {
     /// answered by a CTS, a hold or an abort, which is queued behind the frames of a queue. `room` says whether there is room for it.
     /// Nothing is told.
     ///
-    /// Want of memory changes nothing.
+    /// Want of memory changes nothing. Without room none is asked for.
     pub fn open(
         &mut self,
         own: Address,
@@ -213,6 +216,7 @@ impl Receivers {
         ensures ok { OnOk result (LeavesQuietly (opening_received own ports.now frame.now from room now self.old) self.new queue.old queue.new) }
         ensures err { OnErr result (self.new ≡ self.old) }
         ensures kept { OnErr result (queue.new ≡ queue.old) }
+        ensures room { OnErr result (room ≡ true) }
     {
         match *frame {
             CmFrame::Rts {
