@@ -142,12 +142,13 @@ impl Station {
     /// a message that the frame completes, and whether there is room to go on with one.
     ///
     /// Refused as `TxFull` exactly where its queue has no free place, and else as `OutOfMemory` where memory is refused. A
-    /// refusal changes nothing.
+    /// refusal changes nothing. Without room no memory is asked for.
     pub fn take(&mut self, frame: &Frame, room: bool, now: u64) -> Result<Taken, Refused>
         ensures ok { IfOk result (λ step. taken self.old frame.now room now ≡ record { station = self.new; events = step.events }) }
         ensures malformed { IfOk result (λ step. step.is_malformed ≡ is_malformed_for self.old frame.now) }
         ensures refused { IsAnswered (taking_refusal self.old) (result_err result) }
         ensures err { OnErr result (self.new ≡ self.old) }
+        ensures room { taking_refusal self.old ≡ None → OnErr result (room ≡ true) }
     {
         let mut events = Events::none(self.alloc);
         let is_malformed = self.take_telling(frame, room, now, &mut events)?;
@@ -172,6 +173,7 @@ impl Station {
         ensures refused { IsAnswered (taking_refusal self.old) (result_err result) }
         ensures err { OnErr result (self.new ≡ self.old) }
         ensures silent { OnErr result (told.new ≡ []) }
+        ensures room { taking_refusal self.old ≡ None → OnErr result (room ≡ true) }
     {
         if let Some(cause) = self.take_refusal() {
             return Err(cause);
@@ -204,6 +206,7 @@ impl Station {
         ensures ok { OnOk result (wire_taken self.old (meant heard.now) from to room now ≡ record { station = self.new; events = told.new }) }
         ensures err { OnErr result (self.new ≡ self.old) }
         ensures silent { OnErr result (told.new ≡ []) }
+        ensures room { OnErr result (room ≡ true) }
     {
         self.take_wire(&wire_of(heard), from, to, room, now, told)
     }
@@ -225,6 +228,7 @@ impl Station {
         ensures ok { OnOk result (wire_taken self.old wire.now from to room now ≡ record { station = self.new; events = told.new }) }
         ensures err { OnErr result (self.new ≡ self.old) }
         ensures silent { OnErr result (told.new ≡ []) }
+        ensures room { OnErr result (room ≡ true) }
     {
         match wire {
             Wire::Cm(frame) => self.take_cm(*frame, from, room, now, told),
@@ -258,6 +262,7 @@ impl Station {
         ensures ok { OnOk result (cm_taken self.old frame from room now ≡ record { station = self.new; events = told.new }) }
         ensures err { OnErr result (self.new ≡ self.old) }
         ensures silent { OnErr result (told.new ≡ []) }
+        ensures room { OnErr result (room ≡ true) }
     {
         let wire = Wire::Cm(frame);
         match &frame {
@@ -298,6 +303,7 @@ impl Station {
         requires place { length self.old.queue < queue_limit }
         ensures ok { OnOk result (in_opening self.old frame.now from room now ≡ quietly self.new) }
         ensures err { OnErr result (self.new ≡ self.old) }
+        ensures room { OnErr result (room ≡ true) }
     {
         self.sessions.open(
             self.address,
@@ -325,6 +331,7 @@ impl Station {
         ensures ok { OnOk result (in_session self.old (key_of from kind) wire.now room now ≡ record { station = self.new; events = told.new }) }
         ensures err { OnErr result (self.new ≡ self.old) }
         ensures silent { OnErr result (told.new ≡ []) }
+        ensures room { OnErr result (room ≡ true) }
     {
         let key = Key { source: from, kind };
         self.sessions
