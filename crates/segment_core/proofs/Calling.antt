@@ -1,6 +1,6 @@
 -- What the calls of a station come to, where it is known which one has the address.
 use Rattle.std.proofs.Common.{◌≡◌, ℕ, ◌<◌, ◌≤◌, Bool, true, false, cond, List, [], length, get_or, set, Option, Some, None, Result, Ok, Err, refl, sym, ap, ◌∙◌, subst, arith}
-use Rattle.std.specs.Prelude.{slice_get, unwrap_or, ◌↔◌, IsTrue, IsErrOf, OnOk, OnErr, is_err}
+use Rattle.std.specs.Prelude.{slice_get, unwrap_or, ◌↔◌, IsTrue, IsErrOf, IsOk, OnOk, OnErr, is_ok, is_err}
 use Rattle.std.specs.Bool.{OnTrue, OnFalse}
 use Rattle.std.specs.Vec.{with_item, vec_len}
 use Rattle.std.proofs.lemmas.Bool.{both_ways, lt-ltb, le-ltb}
@@ -8,7 +8,7 @@ use Rattle.std.proofs.lemmas.Option.{slice_get_read, slice_get-get_or}
 use Rattle.bus_frame.specs.Frames.{CanFrame}
 use Rattle.bus_order.specs.Bus as bus
 use Rattle.bus_order.specs.declared.log.PutError.{PutError}
-use Rattle.bus_order.specs.declared.log.PutError.TheVariants.{BusFull}
+use Rattle.bus_order.specs.declared.log.PutError.TheVariants.{BusFull, OutOfMemory}
 use Rattle.message_events.specs.declared.event.Event.{Event}
 use Rattle.pgn_ids.specs.declared.address.Address.{Address}
 use Rattle.tx_queue.specs.Queue.{front, behind}
@@ -16,7 +16,7 @@ use Rattle.station_core.specs.Station.{Station, StationStep, new_station, quietl
 use Rattle.station_core.specs.Sending.{pumped}
 use Rattle.station_core.specs.Overruns.{overrun}
 use Rattle.station_core.specs.Quiet.{takes_quietly, LacksRoom}
-use Rattle.station_core.specs.Refusals.{taking_refusal, pumping_refusal}
+use Rattle.station_core.specs.Refusals.{IsAnswered, taking_refusal, pumping_refusal}
 use Rattle.station_core.specs.declared.refused.Refused.{Refused as Cause}
 use Rattle.station_core.specs.declared.refused.Refused.TheVariants as cause
 use Rattle.segment_law.specs.Segment.{Segment, place_of, station_of, station_at, with_station, counted}
@@ -24,8 +24,10 @@ use Rattle.segment_law.specs.Calls.{Answer, at_address, done, stepped, no_place,
 use Rattle.segment_law.specs.declared.refusal.Refusal.TheVariants as refusal
 use Rattle.segment_law.specs.declared.reply.Reply.{Reply}
 use Rattle.segment_law.specs.declared.reply.Reply.TheVariants.{Done}
-use Rattle.segment_core.specs.Answers.{refusal_of}
+use Rattle.segment_core.specs.Answers.{refusal_of, stop_of}
+use Rattle.segment_core.specs.declared.stop.Stop.TheVariants as stop
 use Rattle.segment_core.specs.InPlace.{take_quiet, next_at, TakeLacksRoom}
+use Rattle.segment_core.specs.Memory.{KeepsTwo}
 use Rattle.segment_core.specs.SegmentFields.{segment_value, IsSegmentInside}
 use Rattle.segment_core.specs.declared.segment.Segment.TheInside.{Inside}
 use Rattle.segment_core.proofs.Stations.{at_is, at_none}
@@ -114,6 +116,44 @@ transmits_here s t seg a i st old new frame view here within is next free put th
     at_here s seg a i st (transmits seg) view here within is
     ∙ transmits_is seg i st frame next free
     ∙ stepped_view t (with_frame seg frame) i (record st { queue = behind st.queue }) new (Done []) (Done []) put (left ∙ ap (λ (x : Station). record x { queue = behind x.queue }) same) refl
+
+-- A frame that isn't put, though the call isn't refused
+
+pub none_sends : (seg : Segment) (a : Address) → place_of seg a ≡ None → IsOk (at_address seg a (transmits seg)) → KeepsTwo seg
+none_sends seg a none e = absurd (both_ways (is_ok (at_address seg a (transmits seg))) (ap (λ (x : Answer). is_ok x) (at_none seg a (transmits seg) none)) e)
+
+module _ (s : Inside) (seg : Segment) (a : Address) (i : ℕ) (st : Station) where
+  isnt_made : (answer : Answer) → is_ok answer ≡ false → at_address seg a (transmits seg) ≡ answer → IsOk (at_address seg a (transmits seg)) → KeepsTwo seg
+  isnt_made answer not_ok is e = absurd (both_ways (is_ok (at_address seg a (transmits seg))) (ap (λ (x : Answer). is_ok x) is ∙ not_ok) e)
+
+  pub none_sent : segment_value s ≡ seg → Some i ≡ place_of seg a → i < length seg.stations → st ≡ get_or s.stations.items i st → front st.queue ≡ None → IsOk (at_address seg a (transmits seg)) → KeepsTwo seg
+  none_sent view here within is none e = isnt_made (Err refusal.NothingToSend) refl (at_here s seg a i st (transmits seg) view here within is ∙ ap (transmits_by seg i st) none) e
+
+  pub put_wants : (frame : CanFrame) → segment_value s ≡ seg → Some i ≡ place_of seg a → i < length seg.stations → st ≡ get_or s.stations.items i st → Some frame ≡ front st.queue
+      → (r : Result (Unit {0}) PutError) → is_err r ≡ true → IsErrOf r BusFull ↔ IsTrue (bus.is_full seg.bus) → (IsErrOf r OutOfMemory → KeepsTwo seg) → IsOk (at_address seg a (transmits seg)) → KeepsTwo seg
+  put_wants frame view here within is next (Ok u) failed full memory e = absurd (cc)
+  put_wants frame view here within is next (Err OutOfMemory) failed full memory e = memory refl
+  put_wants frame view here within is next (Err BusFull) failed full memory e =
+      isnt_made (Err refusal.BusFull) refl
+      (at_here s seg a i st (transmits seg) view here within is ∙ ap (transmits_by seg i st) (sym next) ∙ ap (λ (b : Bool). cond {A = Answer} b (Err refusal.BusFull) (done (with_frame (with_station seg i (record st { queue = behind st.queue })) frame))) (full.0 refl)) e
+
+-- A frame that finds no memory is one that is taken with room
+
+pub takes_with_room : (st : Station) (c : Cause) (room : Bool) → IsAnswered (taking_refusal st) (Some c) → (taking_refusal st ≡ None → room ≡ true) → stop_of c ≡ stop.OutOfMemory → room ≡ true
+takes_with_room st cause.OutOfMemory room none wants e = wants none
+takes_with_room st cause.NoSuchStation room none wants e = absurd cc
+takes_with_room st cause.SameStation room none wants e = absurd cc
+takes_with_room st cause.TooShort room none wants e = absurd cc
+takes_with_room st cause.TooLong room none wants e = absurd cc
+takes_with_room st cause.LaneFull room none wants e = absurd cc
+takes_with_room st cause.PortsFull room none wants e = absurd cc
+takes_with_room st cause.NoSuchPort room none wants e = absurd cc
+takes_with_room st cause.PortPaused room none wants e = absurd cc
+takes_with_room st cause.PortNotPaused room none wants e = absurd cc
+takes_with_room st cause.NothingToSend room none wants e = absurd cc
+takes_with_room st cause.NotYet room none wants e = absurd cc
+takes_with_room st cause.NothingDue room none wants e = absurd cc
+takes_with_room st cause.TxFull room none wants e = absurd cc
 
 -- A frame that is taken in place
 

@@ -1,5 +1,5 @@
 -- The calls that a segment makes in place: the Pumps, Takes, Transmits and Ticks that are not refused and tell nothing.
-use Rattle.std.specs.Prelude.{ℕ, ⊤, Bool, true, false, if◌then◌else◌, Option, Some, None, is_ok}
+use Rattle.std.specs.Prelude.{ℕ, Bool, true, false, if◌then◌else◌, Option, Some, None, is_ok}
 use Rattle.bus_frame.specs.Frames.{CanFrame}
 use Rattle.bus_order.specs.Bus.{next_frame}
 use Rattle.pgn_ids.specs.declared.address.Address.{Address}
@@ -9,6 +9,7 @@ use Rattle.segment_law.specs.Segment.{Segment, place_of, station_of}
 use Rattle.segment_law.specs.Calls.{called, no_place}
 use Rattle.segment_law.specs.declared.call.Call.{Call}
 use Rattle.segment_law.specs.declared.call.Call.TheVariants.{Pump, Transmit, Take, Tick}
+use Rattle.segment_core.specs.Memory.{KeepsTwo}
 
 -- a pump of a station, where there is one
 abbrev pub pump_quiet : Option Station → (to : Address) → (now : ℕ) → Bool
@@ -42,8 +43,8 @@ abbrev pub TakeLacksRoom : Option Station → Option CanFrame → (room : Bool) 
 TakeLacksRoom (Some st) (Some frame) room = LacksRoom st frame room
 TakeLacksRoom _ _ room = ⊥
 
--- such a call finds no memory: a frame that is taken, or one that comes on the bus
+-- such a call finds no memory: a frame that is taken, or one that comes on the bus where two or more are kept
 abbrev pub MayLackMemory : Segment → Call → Type 0
 MayLackMemory seg (Take a room) = TakeLacksRoom (station_of seg a) (next_at seg (place_of seg a)) room
-MayLackMemory seg (Transmit a) = ⊤
+MayLackMemory seg (Transmit a) = KeepsTwo seg
 MayLackMemory seg call = ⊥

@@ -1,6 +1,7 @@
 pub mod Places
 pub mod Answers
 pub mod InPlace
+pub mod Memory
 pub mod SegmentCode
 pub mod SegmentFields
 pub mod DriveFields

@@ -1,5 +1,5 @@
 //! One call on a segment.
-ghost use Rattle.std.specs.Prelude.{◌≡◌, ℕ, ◌<◌, ◌∷◌, ◌++◌, [], true, slice_index, List, IfOk, OnErr, IsOk};
+ghost use Rattle.std.specs.Prelude.{◌≡◌, ℕ, ◌<◌, ◌∷◌, ◌++◌, [], true, slice_index, List, IfOk, OnErr, IsErrOf, IsOk};
 ghost use Rattle.std.specs.Bool.{OnTrue, OnFalse};
 ghost use Rattle.segment_law.specs.Segment.{Segment as State};
 ghost use Rattle.segment_law.specs.Calls.{Answer, are_bytes, is_address, is_call, done, called, applied};
@@ -9,6 +9,7 @@ ghost use Rattle.segment_law.specs.declared.reply.Reply.TheVariants.{Done};
 ghost use Rattle.pgn_ids.specs.declared.address.Address.{Address as AddressValue};
 ghost use Rattle.segment_core.specs.Answers.{IsAnswer, IsAnswerBy};
 ghost use Rattle.segment_core.specs.InPlace.{is_take, is_quiet, MayLackMemory};
+ghost use Rattle.segment_core.specs.Memory.{MayAskMemory};
 ghost use Rattle.segment_core.specs.Promise.{KeepsPromise};
 
 use crate::segment::Segment;
@@ -64,7 +65,8 @@ fn fits(call: &Call)
 
 // The reply to a call that tells nothing, or why it isn't done.
 fn answered(alloc: Global, done: Result<(), Stop>) -> Result<Reply, Stop>
-    ensures { (answer : Answer) (before after : State) → IsAnswerBy (λ _. Done []) answer before after done → IsAnswer answer before after result }
+    ensures answer { (answer : Answer) (before after : State) → IsAnswerBy (λ _. Done []) answer before after done → IsAnswer answer before after result }
+    ensures memory { IsErrOf result Stop.OutOfMemory → IsErrOf done Stop.OutOfMemory }
 {
     match done {
         Ok(()) => Ok(Reply::Done(Events::none(alloc))),
@@ -76,13 +78,15 @@ impl Segment {
     /// Makes one call: one atomic step. A refused call is answered by the first of its causes, and changes nothing.
     ///
     /// Want of memory changes nothing either, and then the call is no step: it is answered only for a call that isn't
-    /// refused. The call is spent in each case: who wants to make it again keeps a copy.
+    /// refused. A Take without room asks for no memory, and a Transmit or an Inject only if two frames or more are kept on the bus.
+    /// The call is spent in each case: who wants to make it again keeps a copy.
     // As a rule its caller says which call it is: what that does in place is then done at once, without a call and a reply put together.
     #[inline(always)]
     pub fn apply(&mut self, call: Call) -> Result<Reply, AllocError>
         ensures ok { IfOk result (λ reply. applied self.old call ≡ (self.new, reply)) }
         ensures err { OnErr result (self.new ≡ self.old) }
         ensures not_refused { OnErr result (IsOk (called self.old call)) }
+        ensures memory { OnErr result (MayAskMemory self.old call) }
         ensures stands { (addresses : List AddressValue) (steps : Record) → StandsAt addresses steps self.old → IfOk result (λ reply. StandsAt addresses (steps ++ (call, reply) ∷ []) self.new) }
         ensures headline { KeepsPromise self.new }
     {
@@ -101,6 +105,7 @@ impl Segment {
         ensures ok { IfOk result (λ reply. applied self.old call ≡ (self.new, reply)) }
         ensures err { OnErr result (self.new ≡ self.old) }
         ensures not_refused { OnErr result (IsOk (called self.old call)) }
+        ensures memory { OnErr result (MayAskMemory self.old call) }
         ensures stands { (addresses : List AddressValue) (steps : Record) → StandsAt addresses steps self.old → IfOk result (λ reply. StandsAt addresses (steps ++ (call, reply) ∷ []) self.new) }
         ensures headline { KeepsPromise self.new }
     {
@@ -117,6 +122,7 @@ impl Segment {
         ensures ok { IfOk result (λ reply. applied self.old call ≡ (self.new, reply)) }
         ensures err { OnErr result (self.new ≡ self.old) }
         ensures not_refused { OnErr result (IsOk (called self.old call)) }
+        ensures memory { OnErr result (MayAskMemory self.old call) }
     {
         // Whoever sends a broadcast pumps too soon each time.
         if let Call::Pump { station, to } = &call {
@@ -156,6 +162,7 @@ impl Segment {
         ensures ok { IfOk result (λ reply. applied self.old call.now ≡ (self.new, reply)) }
         ensures err { OnErr result (self.new ≡ self.old) }
         ensures not_refused { OnErr result (IsOk (called self.old call.now)) }
+        ensures memory { OnErr result (MayAskMemory self.old call.now) }
     {
         let Call::Take { station, room } = call else {
             unreachable!()
@@ -195,6 +202,7 @@ impl Segment {
         ensures ok { IfOk result (λ reply. applied self.old call ≡ (self.new, reply)) }
         ensures err { OnErr result (self.new ≡ self.old) }
         ensures not_refused { OnErr result (IsOk (called self.old call)) }
+        ensures memory { OnErr result (MayAskMemory self.old call) }
     {
         match self.call(call) {
             Ok(reply) => Ok(reply),
@@ -258,7 +266,8 @@ impl Segment {
     // The call, or why it isn't done.
     #[tactic(auto, unfolding(segment_law::specs::Calls::called))]
     fn call(&mut self, call: Call) -> Result<Reply, Stop>
-        ensures { IsAnswer (called self.old call) self.old self.new result }
+        ensures answer { IsAnswer (called self.old call) self.old self.new result }
+        ensures memory { IsErrOf result Stop.OutOfMemory → MayAskMemory self.old call }
     {
         match call {
             Call::Open {

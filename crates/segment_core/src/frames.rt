@@ -1,11 +1,12 @@
 //! Frames that are put on the bus.
-ghost use Rattle.std.specs.Prelude.{◌≡◌, ◌↔◌, [], Some, IfSome, IfNone, OnOk, OnErr, IsErrOf, IsTrue};
+ghost use Rattle.std.specs.Prelude.{◌≡◌, ◌↔◌, [], Some, IfSome, IfNone, IsOk, OnOk, OnErr, IsErrOf, IsTrue};
 ghost use Rattle.segment_law.specs.declared.reply.Reply.TheVariants.{Done};
 ghost use Rattle.tx_queue.specs.Queue.{front};
 ghost use Rattle.segment_law.specs.Segment.{station_at};
 ghost use Rattle.bus_order.specs.Bus.{is_full};
 ghost use Rattle.segment_law.specs.Calls.{at_address, done, with_frame, transmits, injects};
 ghost use Rattle.segment_core.specs.Answers.{IsAnswer, IsAnswerBy};
+ghost use Rattle.segment_core.specs.Memory.{KeepsTwo};
 
 use crate::counting::count_frame;
 use crate::segment::Segment;
@@ -18,7 +19,8 @@ use segment_law::{Refusal, Reply};
 impl Segment {
     /// Puts the first frame of a station's queue on the bus.
     pub(crate) fn transmit(&mut self, station: Address) -> Result<Reply, Stop>
-        ensures { IsAnswer (at_address self.old station (transmits self.old)) self.old self.new result }
+        ensures answer { IsAnswer (at_address self.old station (transmits self.old)) self.old self.new result }
+        ensures memory { IsErrOf result Stop.OutOfMemory → KeepsTwo self.old }
     {
         if let Some(cause) = self.transmit_refusal(station) {
             return Err(Stop::Refused(cause));
@@ -36,6 +38,7 @@ impl Segment {
         ensures put { IfSome result (λ frame. at_address self.old station (transmits self.old) ≡ done self.new) }
         ensures front { IfSome result (λ frame. front (station_at self.old station).queue ≡ Some frame) }
         ensures none { IfNone result (self.new ≡ self.old) }
+        ensures memory { IfNone result (IsOk (at_address self.old station (transmits self.old)) → KeepsTwo self.old) }
     {
         let place = self.place_of(station)?;
         let frame = self.stations[place].front()?;
@@ -50,7 +53,8 @@ impl Segment {
     #[inline]
     #[tactic(auto, using(crate::proofs::Stations::call_laws))]
     pub(crate) fn inject(&mut self, frame: Frame) -> Result<(), Stop>
-        ensures { IsAnswerBy (λ _. Done []) (injects self.old frame) self.old self.new result }
+        ensures answer { IsAnswerBy (λ _. Done []) (injects self.old frame) self.old self.new result }
+        ensures memory { IsErrOf result Stop.OutOfMemory → KeepsTwo self.old }
     {
         if self.place_of(read_id(frame.id()).from).is_some() {
             return Err(Stop::Refused(Refusal::StationAddress));
@@ -66,6 +70,7 @@ impl Segment {
     fn put(&mut self, frame: Frame) -> Result<(), PutError>
         ensures ok { OnOk result (self.new ≡ with_frame self.old frame) }
         ensures full { IsErrOf result PutError.BusFull ↔ IsTrue (is_full self.old.bus) }
+        ensures memory { IsErrOf result PutError.OutOfMemory → KeepsTwo self.old }
         ensures err { OnErr result (self.new ≡ self.old) }
     {
         self.bus.put(frame)?;

@@ -4,7 +4,7 @@ ghost use Rattle.segment_law.specs.Segment.{place_of, station_of, counted, count
 ghost use Rattle.segment_law.specs.declared.reply.Reply.TheVariants.{Done};
 ghost use Rattle.segment_core.specs.InPlace.{take_quiet, next_at, TakeLacksRoom};
 ghost use Rattle.segment_core.specs.Answers.{IsAnswer, IsAnswerBy};
-ghost use Rattle.std.specs.Prelude.{◌≡◌, ◌<◌, [], length, true};
+ghost use Rattle.std.specs.Prelude.{◌≡◌, ◌<◌, [], length, true, IsErrOf};
 ghost use Rattle.std.specs.Bool.{OnTrue, OnFalse};
 ghost use Rattle.bus_order.specs.Bus.{next_frame};
 
@@ -17,9 +17,10 @@ use segment_law::{Refusal, Reply};
 use station_core::Events;
 
 impl Segment {
-    /// A station takes the next frame of the bus.
+    /// A station takes the next frame of the bus. Without room that asks for no memory.
     pub(crate) fn take(&mut self, station: Address, room: bool) -> Result<Reply, Stop>
-        ensures { IsAnswer (at_address self.old station (takes self.old room)) self.old self.new result }
+        ensures answer { IsAnswer (at_address self.old station (takes self.old room)) self.old self.new result }
+        ensures room { IsErrOf result Stop.OutOfMemory → room ≡ true }
     {
         let mut told = Events::none(self.alloc);
         match self.take_telling(station, room, &mut told) {
@@ -36,7 +37,8 @@ impl Segment {
         told: &mut Events,
     ) -> Result<(), Stop>
         requires { told.old ≡ [] }
-        ensures { IsAnswerBy (λ _. Done told.new) (at_address self.old station (takes self.old room)) self.old self.new result }
+        ensures answer { IsAnswerBy (λ _. Done told.new) (at_address self.old station (takes self.old room)) self.old self.new result }
+        ensures room { IsErrOf result Stop.OutOfMemory → room ≡ true }
     {
         let Some(at) = self.place_of(station) else {
             return Err(Stop::Refused(Refusal::NoSuchStation));

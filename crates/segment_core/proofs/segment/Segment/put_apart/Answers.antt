@@ -10,7 +10,7 @@ returns-in_err-_done-clause-stopped c =
     let e : c.from_residual.result ≡ Err c.in_err-_done.field-0.0 = search rules in
     let put = c.args.course.now.frames.items in
     let told = joined c.args.course.now.parts.items in
-    rw e (λ start d h. puts_stopped start d c.args.self.now c.transmit.new.self put told c.args.station c.in_err-_done.field-0.0 h c.in_err-_done.ensures)
+    rw e (λ start d h. puts_stopped start d c.args.self.now c.transmit.new.self put told c.args.station c.in_err-_done.field-0.0 h c.in_err-_done.ensures.answer)
 
 pub returns-clause-put : goal.returns-clause-put
 returns-clause-put c =
@@ -22,6 +22,6 @@ returns-clause-put c =
       put = λ start d h.
           puts_made start d c.args.self.now c.transmit.new.self put c.put.new.self.frames.items told c.args.station c.in_ok-_done._done
           (relisted None start d c.args.self.now put put (joined c.args.course.now.parts.items) told refl (ap joined c.put.ensures.parts) h)
-          c.in_ok-_done.ensures (c.put.ensures.frames ∙ ap (λ o. put ++ option_to_list o) c.front-front.ensures);
+          c.in_ok-_done.ensures.answer (c.put.ensures.frames ∙ ap (λ o. put ++ option_to_list o) c.front-front.ensures);
       passed = c.take_abreast.ensures;
     }

@@ -25,7 +25,7 @@ returns-in_err-take_telling-clause-took c = λ start d h.
     let told = joined c.make_part.new.course.parts.items in
     gone_by start (makes d (Take c.args.station true)) c.take_telling.new.self put told c.from_residual-in_err-take_telling.result c.in_err-take_telling.field-0.0 e
     (takes_stopped start d c.args.self.now c.take_telling.new.self put told c.args.station c.in_err-take_telling.field-0.0
-    (relisted None start d c.args.self.now c.args.course.now.frames.items put (joined c.args.course.now.parts.items) told c.make_part.ensures.same.0 (ap joined c.make_part.ensures.same.1) h) c.in_err-take_telling.ensures)
+    (relisted None start d c.args.self.now c.args.course.now.frames.items put (joined c.args.course.now.parts.items) told c.make_part.ensures.same.0 (ap joined c.make_part.ensures.same.1) h) c.in_err-take_telling.ensures.answer)
 
 pub returns-clause-took : goal.returns-clause-took
 returns-clause-took c = λ start d h.
@@ -33,7 +33,7 @@ returns-clause-took c = λ start d h.
     let told = joined c.make_part.new.course.parts.items in
     takes_made start d c.args.self.now c.take_telling.new.self put told (joined c.note.new.self.parts.items) c.args.station (Done c.take_telling.new.told)
     (relisted None start d c.args.self.now c.args.course.now.frames.items put (joined c.args.course.now.parts.items) told (c.note.ensures.frames ∙ c.make_part.ensures.same.0) (ap joined c.make_part.ensures.same.1) h)
-    c.in_ok-take_telling.ensures c.note.ensures.told
+    c.in_ok-take_telling.ensures.answer c.note.ensures.told
 
 pub returns-clause-taken : goal.returns-clause-taken
-returns-clause-taken c = has_taken c.args.self.now c.take_telling.new.self c.args.station (Done c.take_telling.new.told) c.requires c.in_ok-take_telling.ensures
+returns-clause-taken c = has_taken c.args.self.now c.take_telling.new.self c.args.station (Done c.take_telling.new.told) c.requires c.in_ok-take_telling.ensures.answer

@@ -7,17 +7,18 @@ use Rattle.segment_core.proofs.Addresses.{taken_keeps}
 use Rattle.segment_core.proofs.Refusals.{takes_are, stops}
 use Rattle.segment_core.proofs.Stations.{at_none}
 use Rattle.segment_core.proofs.Kept.{inside_kept, inside_moved, at_here, takes_is, taken_view, unchanged_view}
-use Rattle.segment_core.proofs.Calling.{within_here, cursor_here, at_any}
+use Rattle.segment_core.proofs.Calling.{within_here, cursor_here, at_any, takes_with_room}
+use Rattle.segment_core.specs.declared.stop.Stop.TheVariants.{OutOfMemory}
 use Rattle.segment_core.proofs.segment.Segment.take_telling.Goals as goal
 
-pub returns-in_default : goal.returns-in_default
-returns-in_default c = (at_none c.args.self.now c.args.station (takes c.args.self.now c.args.room) (sym c.place_of.ensures.value ∙ c.in_default.is), refl)
+pub returns-in_default-clause-answer : goal.returns-in_default-clause-answer
+returns-in_default-clause-answer c = (at_none c.args.self.now c.args.station (takes c.args.self.now c.args.room) (sym c.place_of.ensures.value ∙ c.in_default.is), refl)
 
 pub peek-requires : goal.peek-requires
 peek-requires c = cursor_here c.self.inside c.args.self.now c.in-Some.at c.self.invariant c.self.view_is c.in-Some.ensures.within
 
-pub returns-in_default-peek : goal.returns-in_default-peek
-returns-in_default-peek c = (
+pub returns-in_default-peek-clause-answer : goal.returns-in_default-peek-clause-answer
+returns-in_default-peek-clause-answer c = (
   at_any c.args.self.now c.args.station c.in-Some.at (takes c.args.self.now c.args.room) (Err NothingToTake) c.in-Some.ensures.value c.in-Some.ensures.within
       (λ st. ap (takes_by c.args.self.now c.args.room c.in-Some.at st) (ap (λ x. next_frame x.bus c.in-Some.at) (sym c.self.view_is) ∙ sym c.in_default-peek.ensures.frame)),
   refl,
@@ -42,17 +43,22 @@ invariant_of-self-2 c =
     (ap (λ s. s.station.address) (sym c.in-Ok.ensures.ok) ∙ taken_keeps c.index_mut.result.now c.in-Some-peek.frame.now c.args.room c.now-now.result)
     (ap (λ b. length b.cursors) c.pass.ensures.passed ∙ length-set c.self.inside.bus.cursors c.in-Some.at _)
 
-pub returns : goal.returns
-returns c =
+pub returns-clause-answer : goal.returns-clause-answer
+returns-clause-answer c =
     let now_is : c.now-now.result ≡ c.args.self.now.now = c.now-now.ensures.value ∙ ap (λ x. x.now) c.self.view_is in
     let next : Some c.in-Some-peek.frame.now ≡ next_frame c.args.self.now.bus c.in-Some.at = c.in-Some-peek.ensures.frame ∙ ap (λ x. next_frame x.bus c.in-Some.at) c.self.view_is in
     at_here c.self.inside _ _ c.in-Some.at c.index_mut.result.now _ c.self.view_is c.in-Some.ensures.value c.in-Some.ensures.within c.index_mut.ensures.value
     ∙ takes_is _ c.args.room c.in-Some.at c.index_mut.result.now c.in-Some-peek.frame.now _ next c.in-Ok.ensures.refused (ap (λ n. taken c.index_mut.result.now c.in-Some-peek.frame.now c.args.room n) (sym now_is) ∙ c.in-Ok.ensures.ok)
     ∙ taken_view c.self.inside _ c.in-Some.at c.index_mut.result.now c.in-Some-peek.frame.now c.take_telling.new.self c.take_telling.new.told c.in-Ok.is_malformed (moved c.self.inside.bus c.in-Some.at) _ _ _ c.self.view_is c.in-Ok.ensures.malformed refl c.pass.ensures.passed c.looked.ensures refl
 
-pub returns-in-Err : goal.returns-in-Err
-returns-in-Err c =
+pub returns-in-Err-clause-answer : goal.returns-in-Err-clause-answer
+returns-in-Err-clause-answer c =
     stops _ _ _ (at_here c.self.inside _ _ c.in-Some.at c.index_mut.result.now _ c.self.view_is c.in-Some.ensures.value c.in-Some.ensures.within c.index_mut.ensures.value
     ∙ takes_are c.args.self.now c.in-Some.at c.index_mut.result.now c.args.room c.in-Some-peek.frame.now (c.in-Some-peek.ensures.frame ∙ ap (λ x. next_frame x.bus c.in-Some.at) c.self.view_is)) _ _ c.in-Err.cause _ c.stop_of.ensures refl
     (unchanged_view c.self.inside _ c.in-Some.at _ c.index_mut.result.now c.self.view_is c.in-Err.ensures.err c.index_mut.ensures.value)
     c.in-Err.ensures.refused
+
+pub returns-in-Err-clause-room : goal.returns-in-Err-clause-room
+returns-in-Err-clause-room c = λ e.
+    let stops : c.stop_of.result ≡ OutOfMemory = cc in
+    takes_with_room c.index_mut.result.now c.in-Err.cause c.args.room c.in-Err.ensures.refused c.in-Err.ensures.room (sym c.stop_of.ensures ∙ stops)

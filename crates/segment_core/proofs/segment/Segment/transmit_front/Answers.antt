@@ -1,9 +1,9 @@
-use Rattle.std.proofs.Common.{◌≡◌, false, sym, ap, ◌∙◌}
+use Rattle.std.proofs.Common.{◌≡◌, false, None, sym, ap, ◌∙◌, rules}
 use Rattle.tx_queue.specs.Queue.{front}
 use Rattle.bus_order.specs.Bus.{is_full}
 use Rattle.segment_law.specs.Calls.{with_frame}
 use Rattle.segment_core.proofs.Kept.{inside_kept}
-use Rattle.segment_core.proofs.Calling.{within_here, station_here, left_by_failure, left_by_success, had_room, transmits_here}
+use Rattle.segment_core.proofs.Calling.{within_here, station_here, left_by_failure, left_by_success, had_room, transmits_here, none_sends, none_sent, put_wants}
 use Rattle.segment_core.proofs.segment.Segment.transmit_front.Goals as goal
 
 pub index-requires : goal.index-requires
@@ -32,3 +32,18 @@ pub returns-clause-front : goal.returns-clause-front
 returns-clause-front c =
     ap (λ st. front st.queue) (station_here c.self.inside c.args.self.now c.args.station c.in_ok-place.place c.index.result.now c.self.view_is c.in_ok-place.ensures.value c.in_ok-place.ensures.within c.index.ensures)
     ∙ sym c.in_ok-frame.ensures
+
+pub returns-in_err-place-clause-memory : goal.returns-in_err-place-clause-memory
+returns-in_err-place-clause-memory c =
+    let e : c.from_residual.result ≡ None = search rules in
+    rw e (none_sends c.args.self.now c.args.station (sym c.in_err-place.ensures.value))
+
+pub returns-in_err-frame-clause-memory : goal.returns-in_err-frame-clause-memory
+returns-in_err-frame-clause-memory c =
+    let e : c.from_residual-in_err-frame.result ≡ None = search rules in
+    rw e (none_sent c.self.inside c.args.self.now c.args.station c.in_ok-place.place c.index.result.now c.self.view_is c.in_ok-place.ensures.value c.in_ok-place.ensures.within c.index.ensures (sym c.in_err-frame.ensures))
+
+pub returns-then-is_err-clause-memory : goal.returns-then-is_err-clause-memory
+returns-then-is_err-clause-memory c =
+    put_wants c.self.inside c.args.self.now c.args.station c.in_ok-place.place c.index.result.now c.in_ok-frame.frame c.self.view_is c.in_ok-place.ensures.value c.in_ok-place.ensures.within c.index.ensures c.in_ok-frame.ensures
+    c.put.result (sym c.is_err.ensures.value ∙ c.if-is_err.true) c.put.ensures.full c.put.ensures.memory
