@@ -3,6 +3,7 @@ ghost use Rattle.std.specs.Prelude.{◌≡◌, ◌≢◌, ◌+◌, ◌<◌, ◌�
 ghost use Rattle.std.specs.Bool.{OnTrue, OnFalse};
 ghost use Rattle.pgn_ids.specs.Address.{is_one};
 ghost use Rattle.seg_cut.specs.Packets.{packet_count};
+ghost use Rattle.tick_timers.specs.Due.{IsDueFrom};
 ghost use Rattle.tick_timers.specs.Timers.{is_due as is_due_at};
 ghost use Rattle.bam_session.specs.States.{is_size, with_next};
 ghost use Rattle.bam_session.specs.Frames.{announcement, next_packet};
@@ -109,6 +110,13 @@ impl BamOut {
         ensures { result ≡ is_due_at self.now.gap now }
     {
         self.gap.is_due(now)
+    }
+
+    /// The tick from which on the 50 ticks since its last queued frame have passed. None where that would be past the end of `u64`.
+    pub fn due_at(&self) -> Option<u64>
+        ensures { IsDueFrom (is_due_at self.now.gap) result }
+    {
+        self.gap.due_at()
     }
 
     /// How many of the 50 ticks since its last queued frame are missing at tick `now`.

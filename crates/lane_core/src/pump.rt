@@ -1,6 +1,7 @@
 //! What a lane queues when it is pumped.
-ghost use Rattle.std.specs.Prelude.{◌≡◌, ◌+◌, ◌<◌, ◌≤◌, ◌++◌, false, length, Some, None};
+ghost use Rattle.std.specs.Prelude.{◌≡◌, ◌+◌, ◌<◌, ◌≤◌, ◌++◌, false, length, Some, None, is_none};
 ghost use Rattle.std.specs.Bool.{OnTrue, OnFalse};
+ghost use Rattle.tick_timers.specs.Due.{IsDueFrom};
 ghost use Rattle.tx_queue.specs.Queue.{queue_limit};
 ghost use Rattle.originator.specs.Pump.{most_frames};
 ghost use Rattle.lane_core.specs.Quiet.{pumps_quietly};
@@ -21,6 +22,7 @@ use crate::step::{Ended, LaneStep};
 use bam_session::{BamOut, BamPumped};
 use originator::OutState;
 use pgn_ids::Address;
+use tick_timers::always;
 use tp_wire::constants::TP_MAX_SIZE;
 use tp_wire::{Kind, Outcome};
 use tx_queue::TxQueue;
@@ -54,6 +56,19 @@ impl Lane {
         match self.standing {
             Standing::Settled | Standing::InDoubt => None,
             Standing::Probing { .. } => Some(PumpRefused::NothingToSend),
+        }
+    }
+
+    /// The tick from which on a pump queues a frame: 0 where one does at every tick, and that at which the gap of a broadcast has
+    /// passed. None where it has nothing to queue at any tick.
+    pub fn pump_due_at(&self) -> Option<u64>
+        ensures { IsDueFrom (λ now. is_none (refusal_of self.now now)) result }
+    {
+        match self.place.content() {
+            UnderWay::Nothing => always(self.idle_refusal().is_none()),
+            UnderWay::Broadcast(state) => state.due_at(),
+            UnderWay::Connection(OutState::Sending(_)) => always(true),
+            UnderWay::Connection(_) => None,
         }
     }
 

@@ -8,3 +8,4 @@ pub mod Timers
 pub mod Closing
 pub mod Overruns
 pub mod Refusals
+pub mod Next

@@ -6,6 +6,7 @@ mod closing;
 mod due;
 mod image;
 mod in_place;
+mod next;
 mod overruns;
 mod refused;
 mod sending;

@@ -22,7 +22,7 @@ use station_lanes::outcome;
 use tp_wire::constants::MIN_SIZE;
 
 /// How many frames a pump queues at most.
-const MOST_PUMPED: usize = 8;
+pub(crate) const MOST_PUMPED: usize = 8;
 
 // Why a message of so many bytes isn't one from a station to a destination: the first cause that holds.
 fn message_refusal(from: Address, to: Address, len: usize) -> Option<Refused>

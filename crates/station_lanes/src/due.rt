@@ -1,7 +1,7 @@
-//! The next timer of the lanes.
+//! The next timer of the lanes, and the next frame that they queue.
 ghost use Rattle.std.specs.Prelude.{is_some};
 ghost use Rattle.tick_timers.specs.Due.{IsDueFrom};
-ghost use Rattle.station_lanes.specs.LaneReaders.{is_due_at, due_lane};
+ghost use Rattle.station_lanes.specs.LaneReaders.{is_due_at, due_lane, is_pumping, pumping_lane};
 
 use crate::lanes::{Lanes, PLACES};
 use pgn_ids::Address;
@@ -30,5 +30,29 @@ impl Lanes {
         ensures { IsDueFrom (λ now. is_due_at self.now now to.0) result }
     {
         self.get(to)?.due_at()
+    }
+
+    /// The tick from which on a pump queues a frame to some destination: 0 where one does at every tick, else that at which the
+    /// first gap of a broadcast has passed. None where no lane has a frame to queue up to the last tick.
+    pub fn next_pump_at(&self) -> Option<u64>
+        ensures { IsDueFrom (λ now. is_some (pumping_lane self.now now)) result }
+    {
+        let mut tick = None;
+        let mut from = 0;
+        for _ in 0..PLACES {
+            let Some(to) = self.next_ready(from) else {
+                return tick;
+            };
+            tick = earlier(tick, self.pump_due_at(to));
+            from = usize::from(to.0) + 1;
+        }
+        tick
+    }
+
+    // The same of the lane to a destination.
+    fn pump_due_at(&self, to: Address) -> Option<u64>
+        ensures { IsDueFrom (λ now. is_pumping self.now now to.0) result }
+    {
+        self.get(to)?.pump_due_at()
     }
 }

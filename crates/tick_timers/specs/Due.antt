@@ -1,5 +1,5 @@
 -- From which tick on something is due.
-use Rattle.std.specs.Prelude.{◌≡◌, ℕ, ◌^◌, ◌<◌, Bool, false, nat_le, if◌then◌else◌, Option, Some, None}
+use Rattle.std.specs.Prelude.{◌≡◌, ℕ, ◌^◌, ◌<◌, ◌≤◌, Bool, true, false, nat_le, if◌then◌else◌, Option, Some, None}
 
 -- there is such a tick, and it has come
 abbrev pub has_come : Option ℕ → (now : ℕ) → Bool
@@ -16,3 +16,14 @@ abbrev pub earlier_of : Option ℕ → Option ℕ → Option ℕ
 earlier_of None other = other
 earlier_of (Some tick) None = Some tick
 earlier_of (Some tick) (Some other) = if nat_le tick other then Some tick else Some other
+
+-- from one tick on, this is the first at which something is done
+pub record IsFirstFrom (acts : ℕ → Bool) (now tick : ℕ) : Type 0 where
+  pub from_now : now ≤ tick
+  pub is_then : acts tick ≡ true
+  pub not_before : (before : ℕ) → now ≤ before → before < tick → acts before ≡ false
+
+-- the first such tick; none where nothing is done from that tick on, up to the last that a clock can show
+abbrev pub IsNextFrom : (acts : ℕ → Bool) → (now : ℕ) → Option ℕ → Type 0
+IsNextFrom acts now None = (later : ℕ) → now ≤ later → later < 2 ^ 64 → acts later ≡ false
+IsNextFrom acts now (Some tick) = IsFirstFrom acts now tick

@@ -12,5 +12,5 @@ pub use clock::{Clock, ClockEnd};
 pub use durations::{
     BROADCAST_GAP, PROBE, T1, T2, T3, T4, TH, durations_are_those_of_the_standard,
 };
-pub use ticks::earlier;
+pub use ticks::{always, earlier, not_before};
 pub use timer::Timer;
