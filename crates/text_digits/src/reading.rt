@@ -1,16 +1,20 @@
 //! Numbers and bytes that digits write: 0 to 9, A to F, a to f.
-ghost use Rattle.std.specs.Prelude.{◌≡◌, ◌<◌, ◌≤◌, IfSome};
+ghost use Rattle.std.specs.Prelude.{◌≡◌, ◌≤◌, nat_lt, if◌then◌else◌, Some, None};
 ghost use Rattle.text_digits.specs.Numerals.{digit_of, put_digit, numeral_from, pair_of};
 
-fn digit(byte: u8) -> Option<u8>
-    ensures value { result ≡ digit_of byte }
-    ensures small { IfSome result (λ d. d < 16) }
+/// What stands for no digit.
+const NONE: u8 = 16;
+
+/// The value of a digit, or 16 where it is none: a number is made without a branch, since which digits come next can't be foretold.
+fn value(byte: u8) -> u8
+    ensures value { digit_of byte ≡ (if nat_lt result 16 then Some result else None) }
+    ensures small { result ≤ 16 }
 {
     match byte {
-        b'0'..=b'9' => Some(byte - b'0'),
-        b'A'..=b'F' => Some(byte - b'A' + 10),
-        b'a'..=b'f' => Some(byte - b'a' + 10),
-        _ => None,
+        b'0'..=b'9' => byte - b'0',
+        b'A'..=b'F' => byte - b'A' + 10,
+        b'a'..=b'f' => byte - b'a' + 10,
+        _ => NONE,
     }
 }
 
@@ -18,7 +22,7 @@ fn with_digit(base: u8, number: u64, byte: u8) -> Option<u64>
     requires { base ≤ 16 }
     ensures { result ≡ put_digit base number byte }
 {
-    let digit = digit(byte)?;
+    let digit = value(byte);
     if digit >= base {
         return None;
     }
@@ -43,7 +47,10 @@ pub fn read_numeral(base: u8, digits: &[u8]) -> Option<u64>
 pub fn read_pair(first: u8, second: u8) -> Option<u8>
     ensures { result ≡ pair_of first second }
 {
-    let high = digit(first)?;
-    let low = digit(second)?;
+    let high = value(first);
+    let low = value(second);
+    if high >= NONE || low >= NONE {
+        return None;
+    }
     Some(16 * high + low)
 }
