@@ -1,5 +1,5 @@
 //! Numbers and bytes that digits write: 0 to 9, A to F, a to f.
-ghost use Rattle.std.specs.Prelude.{◌≡◌, ◌≤◌, nat_lt, if◌then◌else◌, Some, None};
+ghost use Rattle.std.specs.Prelude.{◌≡◌, ◌≤◌, length, nat_lt, if◌then◌else◌, Some, None};
 ghost use Rattle.text_digits.specs.Numerals.{digit_of, put_digit, numeral_from, pair_of};
 
 /// What stands for no digit.
@@ -31,8 +31,28 @@ fn with_digit(base: u8, number: u64, byte: u8) -> Option<u64>
         .checked_add(u64::from(digit))
 }
 
-/// The number that digits of a base write, below 2 ^ 64. No digit writes 0.
-pub fn read_numeral(base: u8, digits: &[u8]) -> Option<u64>
+/// How many digits write no number from 2 ^ 64 on, in any base.
+const SHORT: usize = 16;
+
+/// The number of so few digits that it can't reach 2 ^ 64.
+#[inline]
+fn short_numeral(base: u8, digits: &[u8]) -> Option<u64>
+    requires base { base ≤ 16 }
+    requires short { length digits.now ≤ 16 }
+    ensures { result ≡ numeral_from base 0 digits.now }
+{
+    let mut number = 0;
+    for byte in digits {
+        let digit = value(*byte);
+        if digit >= base {
+            return None;
+        }
+        number = u64::from(base) * number + u64::from(digit);
+    }
+    Some(number)
+}
+
+fn long_numeral(base: u8, digits: &[u8]) -> Option<u64>
     requires { base ≤ 16 }
     ensures { result ≡ numeral_from base 0 digits.now }
 {
@@ -41,6 +61,19 @@ pub fn read_numeral(base: u8, digits: &[u8]) -> Option<u64>
         number = with_digit(base, number, *byte)?;
     }
     Some(number)
+}
+
+/// The number that digits of a base write, below 2 ^ 64. No digit writes 0.
+#[inline]
+pub fn read_numeral(base: u8, digits: &[u8]) -> Option<u64>
+    requires { base ≤ 16 }
+    ensures { result ≡ numeral_from base 0 digits.now }
+{
+    if digits.len() <= SHORT {
+        short_numeral(base, digits)
+    } else {
+        long_numeral(base, digits)
+    }
 }
 
 /// A byte of two hexadecimal digits.
