@@ -3,3 +3,4 @@ pub mod DigitsBack
 pub mod FieldsBack
 pub mod IfaceBack
 pub mod Written
+pub mod Bare

@@ -1,8 +1,11 @@
 //! Names of interfaces.
-ghost use Rattle.std.specs.Prelude.{◌≡◌, ◌<◌, MatchResult, Some, None, true, false};
+ghost use Rattle.std.specs.Prelude.{◌≡◌, ◌<◌, [], ◌∷◌, MatchResult, Some, None, true, false};
+ghost use Rattle.std.specs.Cmp.Rules.{hashing};
+ghost use Rattle.std.proofs.Common.{rules};
 ghost use Rattle.log_text.specs.Iface.{is_printable, iface_of, name_of, bus0};
 
 use crate::fields::place_of;
+use std::hash::{Hash, Hasher};
 use thiserror::Error;
 
 /// The most bytes of a name, as Linux has them.
@@ -14,9 +17,20 @@ const MOST: usize = 15;
 pub struct BadName;
 
 /// An interface by its name, of 1 to 15 bytes, each of them printable ASCII and no space.
-#[derive(Clone, Copy, Debug, PartialEq, Eq, Hash)]
+#[derive(Clone, Copy, Debug, PartialEq, Eq)]
 pub struct Iface {
     kept: [u8; 16],
+}
+
+// All of its bytes are written at once, so that a map looks a name up by one multiplication.
+impl Hash for Iface {
+    ghost hash_input = { λ s. s.kept ∷ [] };
+
+    ghost respects_eq = { Prim.search (hashing, rules) };
+
+    fn hash<H: Hasher>(&self, state: &mut H) {
+        state.write(&self.kept);
+    }
 }
 
 /// Whether each byte is printable ASCII and no space.

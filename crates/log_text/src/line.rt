@@ -72,7 +72,7 @@ fn is_mark(word: &[u8]) -> bool
 }
 
 /// Whether nothing but such a word follows.
-fn is_ended(text: &[u8]) -> bool
+pub(crate) fn is_ended(text: &[u8]) -> bool
     ensures { result ≡ is_ended text.now }
 {
     let (mark, rest) = next_word(text);
@@ -110,7 +110,7 @@ fn long_frame(time: u64, iface: Iface, id: &[u8], shown: &[u8]) -> Option<LogLin
 
 /// What the word of a frame shows.
 #[tactic(auto, unfolding(crate::specs::Line::frame_line))]
-fn frame_line(time: u64, iface: Iface, word: &[u8]) -> Option<LogLine>
+pub(crate) fn frame_line(time: u64, iface: Iface, word: &[u8]) -> Option<LogLine>
     ensures { result ≡ frame_line time iface word.now }
 {
     let (id, shown) = cut_at(b'#', word)?;
@@ -126,7 +126,7 @@ fn frame_line(time: u64, iface: Iface, word: &[u8]) -> Option<LogLine>
 
 /// What a line shows behind its time.
 #[tactic(auto, unfolding(crate::specs::Line::behind_time))]
-pub(crate) fn behind_time(time: u64, text: &[u8]) -> Option<LogLine>
+fn behind_time(time: u64, text: &[u8]) -> Option<LogLine>
     ensures { result ≡ behind_time time text.now }
 {
     let (name, text) = next_word(text);

@@ -1,10 +1,11 @@
 //! What a line shows in a log whose lines have a form.
-ghost use Rattle.std.specs.Prelude.{◌≡◌, MatchResult, Some, None};
+ghost use Rattle.std.specs.Prelude.{◌≡◌, MatchResult, Some, None, if◌then◌else◌};
+ghost use Rattle.log_text.specs.Line.{behind_time};
 ghost use Rattle.log_text.specs.Reading.{before_return, trimmed, begins_timed, is_bracket, is_id, begins_shown, form_of, micros_of, stamp_of, before_quote, is_long_count, is_remote, long_shown, shown_line, stamped_line, timed_as, untimed_as, line_as};
 
 use crate::fields::{cut_at, next_word, spaces_in};
 use crate::iface::Iface;
-use crate::line::{ID_END, LogLine, NotLogLine, SECOND, behind_time};
+use crate::line::{ID_END, LogLine, NotLogLine, SECOND, frame_line, is_ended};
 use crate::screen::{bytes, count};
 use bus_frame::{CanId, Frame};
 use text_digits::read_numeral;
@@ -22,6 +23,13 @@ pub enum Form {
 fn before_return(line: &[u8]) -> &[u8]
     ensures { result.now ≡ before_return line.now }
 {
+    let Some((last, _)) = line.split_last() else {
+        return line;
+    };
+    // Most lines end otherwise, and no other byte of them is looked at here.
+    if *last != b'\r' {
+        return line;
+    }
     match cut_at(b'\r', line) {
         Some((front, rest)) if rest.is_empty() => front,
         _ => line,
@@ -181,6 +189,23 @@ fn shown_line(time: Option<u64>, text: &[u8]) -> Option<LogLine>
     long_shown(time, iface, id, text)
 }
 
+/// What stands behind a time: a frame in either form. A word that isn't an identifier alone is none of a screen.
+#[tactic(auto, unfolding(crate::specs::Line::behind_time))]
+fn behind_stamp(time: u64, text: &[u8]) -> Option<LogLine>
+    ensures { result ≡ (if begins_shown text.now then shown_line (Some time) text.now else behind_time time text.now) }
+{
+    let (name, behind) = next_word(text);
+    let (word, rest) = next_word(behind);
+    if is_id(word) && begins_shown(text) {
+        return shown_line(Some(time), text);
+    }
+    let iface = Iface::new(name).ok()?;
+    if !is_ended(rest) {
+        return None;
+    }
+    frame_line(time, iface, word)
+}
+
 /// What stands behind the bracket of a time: the time, and a frame in either form.
 #[tactic(auto, unfolding(crate::specs::Reading::stamped_line))]
 fn stamped_line(text: &[u8]) -> Option<LogLine>
@@ -189,11 +214,7 @@ fn stamped_line(text: &[u8]) -> Option<LogLine>
     let (word, rest) = cut_at(b')', text)?;
     let (seconds, fraction) = cut_at(b'.', word)?;
     let time = stamp(seconds, fraction)?;
-    if begins_shown(rest) {
-        shown_line(Some(time), rest)
-    } else {
-        behind_time(time, rest)
-    }
+    behind_stamp(time, rest)
 }
 
 fn timed_as(text: &[u8]) -> Option<LogLine>

@@ -1,16 +1,20 @@
 //! Numbers and bytes that digits write: 0 to 9, A to F, a to f.
-ghost use Rattle.std.specs.Prelude.{◌≡◌, ◌<◌, ◌≤◌, IfSome};
+ghost use Rattle.std.specs.Prelude.{◌≡◌, ◌≤◌, length, nat_lt, if◌then◌else◌, Some, None};
 ghost use Rattle.text_digits.specs.Numerals.{digit_of, put_digit, numeral_from, pair_of};
 
-fn digit(byte: u8) -> Option<u8>
-    ensures value { result ≡ digit_of byte }
-    ensures small { IfSome result (λ d. d < 16) }
+/// What stands for no digit.
+const NONE: u8 = 16;
+
+/// The value of a digit, or 16 where it is none: a number is made without a branch, since which digits come next can't be foretold.
+fn value(byte: u8) -> u8
+    ensures value { digit_of byte ≡ (if nat_lt result 16 then Some result else None) }
+    ensures small { result ≤ 16 }
 {
     match byte {
-        b'0'..=b'9' => Some(byte - b'0'),
-        b'A'..=b'F' => Some(byte - b'A' + 10),
-        b'a'..=b'f' => Some(byte - b'a' + 10),
-        _ => None,
+        b'0'..=b'9' => byte - b'0',
+        b'A'..=b'F' => byte - b'A' + 10,
+        b'a'..=b'f' => byte - b'a' + 10,
+        _ => NONE,
     }
 }
 
@@ -18,7 +22,7 @@ fn with_digit(base: u8, number: u64, byte: u8) -> Option<u64>
     requires { base ≤ 16 }
     ensures { result ≡ put_digit base number byte }
 {
-    let digit = digit(byte)?;
+    let digit = value(byte);
     if digit >= base {
         return None;
     }
@@ -27,8 +31,28 @@ fn with_digit(base: u8, number: u64, byte: u8) -> Option<u64>
         .checked_add(u64::from(digit))
 }
 
-/// The number that digits of a base write, below 2 ^ 64. No digit writes 0.
-pub fn read_numeral(base: u8, digits: &[u8]) -> Option<u64>
+/// How many digits write no number from 2 ^ 64 on, in any base.
+const SHORT: usize = 16;
+
+/// The number of so few digits that it can't reach 2 ^ 64.
+#[inline]
+fn short_numeral(base: u8, digits: &[u8]) -> Option<u64>
+    requires base { base ≤ 16 }
+    requires short { length digits.now ≤ 16 }
+    ensures { result ≡ numeral_from base 0 digits.now }
+{
+    let mut number = 0;
+    for byte in digits {
+        let digit = value(*byte);
+        if digit >= base {
+            return None;
+        }
+        number = u64::from(base) * number + u64::from(digit);
+    }
+    Some(number)
+}
+
+fn long_numeral(base: u8, digits: &[u8]) -> Option<u64>
     requires { base ≤ 16 }
     ensures { result ≡ numeral_from base 0 digits.now }
 {
@@ -39,11 +63,27 @@ pub fn read_numeral(base: u8, digits: &[u8]) -> Option<u64>
     Some(number)
 }
 
+/// The number that digits of a base write, below 2 ^ 64. No digit writes 0.
+#[inline]
+pub fn read_numeral(base: u8, digits: &[u8]) -> Option<u64>
+    requires { base ≤ 16 }
+    ensures { result ≡ numeral_from base 0 digits.now }
+{
+    if digits.len() <= SHORT {
+        short_numeral(base, digits)
+    } else {
+        long_numeral(base, digits)
+    }
+}
+
 /// A byte of two hexadecimal digits.
 pub fn read_pair(first: u8, second: u8) -> Option<u8>
     ensures { result ≡ pair_of first second }
 {
-    let high = digit(first)?;
-    let low = digit(second)?;
+    let high = value(first);
+    let low = value(second);
+    if high >= NONE || low >= NONE {
+        return None;
+    }
     Some(16 * high + low)
 }

@@ -1,5 +1,5 @@
 //! Words, numbers and bytes, written.
-ghost use Rattle.std.specs.Prelude.{◌≡◌, ◌<◌, ◌≤◌, ◌++◌, OnOk};
+ghost use Rattle.std.specs.Prelude.{◌≡◌, ◌<◌, ◌≤◌, ◌+◌, ◌++◌, vec_len, vec_capacity, OnOk};
 ghost use Rattle.std.specs.Fmt.{decimal};
 ghost use Rattle.text_digits.specs.Digits.{digit_char, digits, unspaced};
 
@@ -51,12 +51,25 @@ pub fn put_byte(out: &mut Vec<u8>, byte: u8) -> Result<(), AllocError>
     Ok(())
 }
 
-/// Puts bytes, each in two hexadecimal digits with nothing between them, behind what `out` holds.
+/// Puts a byte in two hexadecimal digits where there is room for them.
+#[inline]
+fn put_byte_reserved(out: &mut Vec<u8>, byte: u8)
+    requires { vec_len out.old + 2 ≤ vec_capacity out.old }
+    ensures items { out.new.items ≡ out.old.items ++ digits 16 2 byte }
+    ensures len { vec_len out.new ≡ vec_len out.old + 2 }
+    ensures capacity { vec_capacity out.new ≡ vec_capacity out.old }
+{
+    out.push_reserved(digit_char(byte / 16 % 16));
+    out.push_reserved(digit_char(byte % 16));
+}
+
+/// Puts bytes, each in two hexadecimal digits with nothing between them, behind what `out` holds. Room for all is made at once.
 pub fn put_bytes(out: &mut Vec<u8>, bytes: &[u8]) -> Result<(), AllocError>
     ensures { OnOk result (out.new.items ≡ out.old.items ++ unspaced bytes.now) }
 {
+    out.reserve(2 * bytes.len())?;
     for byte in bytes {
-        put_byte(out, *byte)?;
+        put_byte_reserved(out, *byte);
     }
     Ok(())
 }

@@ -1,7 +1,23 @@
 -- The first line of a text that begins with a front of no line feed.
-use Rattle.std.proofs.Common.{◌≡◌, ℕ, suc, ◌+◌, ◌<◌, ◌≤◌, Bool, true, false, cond, eqb, eqb-true, List, [], ◌∷◌, ◌++◌, length, take, refl, ap, arith}
-use Rattle.std.proofs.lemmas.Bool.{ne_eqb, eqb-false}
+use Rattle.std.proofs.Common.{◌≡◌, ◌≢◌, ℕ, zero, suc, slice_index, ◌∙◌, ◌+◌, ◌<◌, ◌≤◌, Bool, true, false, cond, eqb, eqb-true, List, [], ◌∷◌, ◌++◌, length, take, refl, ap, arith}
+use Rattle.std.proofs.lemmas.Bool.{ne_eqb, eqb-false, eq-eqb}
 use Rattle.text_lines.specs.Lines.{before_feed, NoFeed, lines_of, before_lines}
+
+-- at its place, or nowhere
+pub before_feed_at : (bs : List ℕ) (at : ℕ) → at < length bs → slice_index bs at ≡ 10 → ((k : ℕ) → k < at → slice_index bs k ≢ 10) → before_feed bs ≡ at
+before_feed_at [] at l is before = absurd (omega arith)
+before_feed_at (b ∷ bs) zero l is before = rw (eq-eqb b 10 is) refl
+before_feed_at (b ∷ bs) (suc at) l is before =
+    let other : b ≢ 10 = before 0 (omega arith) in
+    let more : at + 1 ≡ suc at = omega arith in
+    rw (ne_eqb b 10 other) (ap (λ n. n + 1) (before_feed_at bs at (omega arith) is (λ k a. before (suc k) (omega arith))) ∙ more)
+
+pub before_feed_none : (bs : List ℕ) → ((k : ℕ) → k < length bs → slice_index bs k ≢ 10) → before_feed bs ≡ length bs
+before_feed_none [] none = refl
+before_feed_none (b ∷ bs) none =
+    let other : b ≢ 10 = none 0 (omega arith) in
+    let more : length bs + 1 ≡ suc (length bs) = omega arith in
+    rw (ne_eqb b 10 other) (ap (λ n. n + 1) (before_feed_none bs (λ k a. none (suc k) (omega arith))) ∙ more)
 
 pub no_feed_more : (line part : List ℕ) → NoFeed line → NoFeed part → NoFeed (line ++ part)
 no_feed_more [] part f h = h

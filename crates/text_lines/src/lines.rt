@@ -4,6 +4,7 @@ ghost use Rattle.text_lines.specs.declared.lines.ReadError.TheVariants.{OutOfMem
 ghost use Rattle.text_lines.specs.Known.{TakesPart, Known};
 ghost use Rattle.text_lines.specs.Lines.{before_feed, ReadsLine, ReadsLineUpTo};
 
+use memchr::memchr;
 use std::alloc::AllocError;
 use std::io::{BufRead, ErrorKind};
 
@@ -49,16 +50,15 @@ pub(crate) enum Part {
 }
 
 /// How many bytes stand before the first line feed.
+#[inline]
 fn before_feed(bytes: &[u8]) -> usize
     ensures value { result ≡ before_feed bytes.now }
     ensures within { result ≤ length bytes.now }
 {
-    for (at, byte) in bytes.iter().enumerate() {
-        if *byte == b'\n' {
-            return at;
-        }
+    match memchr(b'\n', bytes) {
+        Some(at) => at,
+        None => bytes.len(),
     }
-    bytes.len()
 }
 
 /// Takes what the reader holds of a line, and puts it behind what the line has.
