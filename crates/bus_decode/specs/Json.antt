@@ -34,18 +34,43 @@ cause_words Unsound = codes "wrong size"
 cause_words TooLong = codes "too long"
 cause_words EndOfLog = codes "end of log"
 
--- all of a message came
+-- where a message of a length was seen, and how it ended
+abbrev pub measured_members : (now : ℕ) → Iface → (kind : List ℕ) → Course → (size pgn : ℕ) → (to : Address) → List Named
+measured_members now iface kind c size pgn to =
+    (codes "interface", string (name_of iface))
+    ∷ (codes "kind", string kind)
+    ∷ (codes "last", place_object c.last)
+    ∷ (codes "length", count_of size)
+    ∷ (codes "pgn", count_of pgn)
+    ∷ (codes "time", count_of now)
+    ∷ (codes "to", count_of to.0) ∷ []
+
+-- all of it came
 abbrev pub given_members : (now : ℕ) → Course → Key → (pgn : ℕ) → List ℕ → List Named
 given_members now c key pgn bytes =
     (codes "again", count_of c.again)
     ∷ (codes "data", string (unspaced bytes))
     ∷ (codes "first", place_object c.first)
     ∷ (codes "from", count_of key.from.0)
-    ∷ (codes "interface", string (name_of key.iface))
-    ∷ (codes "kind", string (codes "given"))
+    ∷ measured_members now key.iface (codes "given") c (length bytes) pgn key.to
+
+-- it is lost: so many of its bytes came
+abbrev pub lost_members : (now : ℕ) → Course → Key → (pgn have size : ℕ) → Cause → List Named
+lost_members now c key pgn have size cause =
+    (codes "again", count_of c.again)
+    ∷ (codes "cause", string (cause_words cause))
+    ∷ (codes "first", place_object c.first)
+    ∷ (codes "from", count_of key.from.0)
+    ∷ (codes "have", count_of have)
+    ∷ measured_members now key.iface (codes "lost") c size pgn key.to
+
+abbrev pub abort_members : (now : ℕ) → Course → Key → (pgn reason : ℕ) → List Named
+abort_members now c key pgn reason =
+    (codes "interface", string (name_of key.iface))
+    ∷ (codes "kind", string (codes "aborted"))
     ∷ (codes "last", place_object c.last)
-    ∷ (codes "length", count_of (length bytes))
     ∷ (codes "pgn", count_of pgn)
+    ∷ (codes "reason", count_of reason)
     ∷ (codes "time", count_of now)
     ∷ (codes "to", count_of key.to.0) ∷ []
 
@@ -56,42 +81,19 @@ aborted_members now c key pgn reason who =
     ∷ (codes "by", count_of who.0)
     ∷ (codes "first", place_object c.first)
     ∷ (codes "from", count_of key.from.0)
-    ∷ (codes "interface", string (name_of key.iface))
-    ∷ (codes "kind", string (codes "aborted"))
-    ∷ (codes "last", place_object c.last)
-    ∷ (codes "pgn", count_of pgn)
-    ∷ (codes "reason", count_of reason)
-    ∷ (codes "time", count_of now)
-    ∷ (codes "to", count_of key.to.0) ∷ []
-
--- it is lost: so many of its bytes came
-abbrev pub lost_members : (now : ℕ) → Course → Key → (pgn have size : ℕ) → Cause → List Named
-lost_members now c key pgn have size cause =
-    (codes "again", count_of c.again)
-    ∷ (codes "cause", string (cause_words cause))
-    ∷ (codes "first", place_object c.first)
-    ∷ (codes "from", count_of key.from.0)
-    ∷ (codes "have", count_of have)
-    ∷ (codes "interface", string (name_of key.iface))
-    ∷ (codes "kind", string (codes "lost"))
-    ∷ (codes "last", place_object c.last)
-    ∷ (codes "length", count_of size)
-    ∷ (codes "pgn", count_of pgn)
-    ∷ (codes "time", count_of now)
-    ∷ (codes "to", count_of key.to.0) ∷ []
+    ∷ abort_members now c key pgn reason
 
 -- a frame that carries nothing of a message
-abbrev pub frame_members : (now : ℕ) → Iface → CanFrame → List Named
-frame_members now iface frame =
-    let m = meaning_of frame.id in
-    (codes "data", string (unspaced frame.bytes))
-    ∷ (codes "from", count_of m.from.0)
+abbrev pub frame_members : (now : ℕ) → Iface → (from to : Address) → (pgn : ℕ) → List ℕ → List Named
+frame_members now iface from to pgn bytes =
+    (codes "data", string (unspaced bytes))
+    ∷ (codes "from", count_of from.0)
     ∷ (codes "interface", string (name_of iface))
     ∷ (codes "kind", string (codes "frame"))
-    ∷ (codes "length", count_of (length frame.bytes))
-    ∷ (codes "pgn", count_of m.pgn)
+    ∷ (codes "length", count_of (length bytes))
+    ∷ (codes "pgn", count_of pgn)
     ∷ (codes "time", count_of now)
-    ∷ (codes "to", count_of m.to.0) ∷ []
+    ∷ (codes "to", count_of to.0) ∷ []
 
 abbrev pub wrong_members : ℕ → List Named
 wrong_members n = (codes "kind", string (codes "wrong line")) ∷ (codes "line", count_of n) ∷ []
@@ -113,7 +115,9 @@ without_each (t ∷ ts) courses = without_each ts (without_told t courses)
 
 -- a frame that carries nothing of a message, where it is asked for
 abbrev pub single_object : (now : ℕ) → Iface → Options → CanFrame → List ℕ
-single_object now iface options frame = if is_asked_for options (meaning_of frame.id).from (meaning_of frame.id).to (meaning_of frame.id).pgn then object_line (frame_members now iface frame) else []
+single_object now iface options frame =
+    let m = meaning_of frame.id in
+    if is_asked_for options m.from m.to m.pgn then object_line (frame_members now iface m.from m.to m.pgn frame.bytes) else []
 
 abbrev pub wrong_object : ℕ → List ℕ
 wrong_object n = object_line (wrong_members n)

@@ -3,6 +3,8 @@
 #![tactic(auto)]
 
 mod counts;
+mod json;
+mod listener;
 mod listening;
 mod options;
 mod running;
