@@ -58,7 +58,10 @@ fn parts_of_a_log_are_asked_for(rt: HostRuntime) {
     holds(&rt, asked.pgns.as_slice() == [0xFECA, 0x3_FFFF].as_slice());
     holds(&rt, asked.from.as_slice() == [0x21].as_slice());
     holds(&rt, asked.to.as_slice() == [0xFF].as_slice());
-    holds(&rt, asked.most == 1_785 && asked.singles && asked.strict && asked.json);
+    holds(
+        &rt,
+        asked.most == 1_785 && asked.singles && asked.strict && asked.json,
+    );
 }
 
 fn refuses(rt: &impl Abort, alloc: Global, option: &str, value: &str, told: &str) {
