@@ -116,9 +116,10 @@ fn take_frame(
     let mut told = Vec::new(alloc);
     listener.decoder.take(alloc, time, iface, frame, &mut told)?;
     counts.add_each(options, told.as_slice());
+    let now = listener.decoder.time();
     let place = Place {
         number: counts.frames,
-        time: listener.decoder.time(),
+        time: now,
     };
     tell_frame(
         out,
@@ -129,7 +130,7 @@ fn take_frame(
         told.as_slice(),
         &mut listener.courses,
     )?;
-    put_other(out, place.time, &iface, options, frame)
+    put_other(out, now, &iface, options, frame)
 }
 
 /// A line shows a frame, or is passed over.
