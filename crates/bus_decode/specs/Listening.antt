@@ -35,7 +35,7 @@ Hearing = Listener × Counts
 
 -- a listener, the form of the log's lines, where a line had one, and what was counted
 abbrev pub Listening : Type 0
-Listening = (State × Option Form) × Counts
+Listening = (Listener × Option Form) × Counts
 
 -- these afterwards, and what is printed
 abbrev pub Step : Type 0

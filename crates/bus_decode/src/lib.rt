@@ -3,9 +3,9 @@
 #![tactic(auto)]
 
 mod counts;
-mod json;
 mod listener;
 mod listening;
+mod objects;
 mod options;
 mod running;
 mod text;

@@ -4,8 +4,8 @@ ghost use Rattle.bus_decode.specs.Listening.{is_asking, single, told_text, left_
 ghost use Rattle.bus_decode.specs.declared.listening.LineError.TheVariants.{OutOfMemory};
 
 use crate::counts::Counts;
-use crate::json::{put_objects, put_single_object, put_wrong_object};
 use crate::listener::Listener;
+use crate::objects::{put_objects, put_single_object, put_wrong_object};
 use crate::options::Options;
 use crate::text::{put_each, put_single, put_wrong};
 use bus_frame::Frame;

@@ -2,10 +2,10 @@
 mod decoding;
 mod failures;
 mod forms;
-mod json;
 mod lines;
 mod listeners;
 mod logs;
+mod objects;
 mod progress;
 mod scripts;
 mod starts;

@@ -1,5 +1,5 @@
 use Rattle.bus_decode.proofs.Appends.{behind, place_put}
-use Rattle.bus_decode.proofs.json.put_place.Goals as goal
+use Rattle.bus_decode.proofs.objects.put_place.Goals as goal
 
 pub returns : goal.returns
 returns c =

@@ -1,6 +1,6 @@
 use Rattle.bus_decode.proofs.Appends.{behind, line_put}
 use Rattle.bus_decode.specs.Json.{frame_members}
-use Rattle.bus_decode.proofs.json.put_frame.Goals as goal
+use Rattle.bus_decode.proofs.objects.put_frame.Goals as goal
 
 pub returns : goal.returns
 returns c =

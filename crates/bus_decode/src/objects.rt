@@ -1,5 +1,5 @@
 //! What is printed of a log as JSON.
-ghost use Rattle.std.specs.Prelude.{◌≡◌, ◌++◌, OnOk, length, codes};
+ghost use Rattle.std.specs.Prelude.{◌≡◌, ◌++◌, OnOk, true, length, codes};
 ghost use Rattle.json_objects.specs.Objects.{count_of, member_text, object_line, rest_text};
 ghost use Rattle.serde_json.specs.Data.{string};
 ghost use Rattle.log_text.specs.Iface.{name_of};

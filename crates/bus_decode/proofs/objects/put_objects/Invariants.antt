@@ -1,6 +1,6 @@
 use Rattle.std.proofs.Common.{◌≡◌, ◌++◌, ◌×◌, drop}
 use Rattle.bus_decode.specs.Json.{told_objects, without_each}
-use Rattle.bus_decode.proofs.json.put_objects.Given as goal
+use Rattle.bus_decode.proofs.objects.put_objects.Given as goal
 
 abbrev pub invariant-loop-one : goal.invariant-loop-one
 invariant-loop-one l =
