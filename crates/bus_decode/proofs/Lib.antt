@@ -1,2 +1,3 @@
+pub mod Appends
 pub mod FrameSteps
 pub mod RunSteps

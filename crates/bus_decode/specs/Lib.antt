@@ -1,6 +1,7 @@
 pub mod Options
 pub mod Counts
 pub mod Text
+pub mod Json
 pub mod Listening
 pub mod Outcome
 pub mod Ending

@@ -9,24 +9,33 @@ use Rattle.log_text.specs.declared.reading.Form.{Form}
 use Rattle.log_text.specs.declared.iface.Iface.{Iface}
 use Rattle.log_text.specs.declared.line.LogLine.{LogLine}
 use Rattle.log_text.specs.declared.line.LogLine.TheVariants.{Frame, Passed}
+use Rattle.log_courses.specs.Courses.{Courses, followed}
+use Rattle.log_courses.specs.declared.course.Place.{Place}
 use Rattle.log_decode.specs.View.{State, bus_at}
 use Rattle.log_decode.specs.Decoder.{taken, ended}
 use Rattle.bus_decode.specs.Counts.{more, with_frame, with_each}
 use Rattle.bus_decode.specs.Text.{told_lines, wrong_line, single_line}
+use Rattle.log_decode.specs.declared.told.Told.{Told}
+use Rattle.bus_decode.specs.Json.{told_objects, without_each, single_object, wrong_object}
 use Rattle.bus_decode.specs.declared.counts.Counts.{Counts}
+use Rattle.bus_decode.specs.declared.listener.Listener.{Listener}
 use Rattle.bus_decode.specs.declared.options.Options.{Options}
 use Rattle.bus_decode.specs.declared.listening.LineError.{LineError}
 use Rattle.bus_decode.specs.declared.listening.LineError.TheVariants as errors
 use Rattle.bus_decode.specs.declared.running.Fault.{Fault}
 use Rattle.bus_decode.specs.declared.running.Fault.TheVariants.{NotLogLine}
 
+-- nothing was heard
+abbrev pub first_listener : (most : ℕ) → Listener
+first_listener most = record { decoder = record { most = most; time = 0; buses = [] }; courses = [] }
+
 -- a listener, and what was counted
 abbrev pub Hearing : Type 0
-Hearing = State × Counts
+Hearing = Listener × Counts
 
 -- a listener, the form of the log's lines, where a line had one, and what was counted
 abbrev pub Listening : Type 0
-Listening = (State × Option Form) × Counts
+Listening = (Listener × Option Form) × Counts
 
 -- these afterwards, and what is printed
 abbrev pub Step : Type 0
@@ -38,13 +47,32 @@ is_asking frame = (meaning_of frame.id).pgn == request || (meaning_of frame.id).
 
 -- a frame that carries nothing of a message, where such are asked for
 abbrev pub single : ℕ → Iface → Options → CanFrame → List ℕ
-single now iface options frame = if options.singles && (not (is_transport frame) || is_asking frame) then single_line now iface options frame else []
+single now iface options frame = if options.singles && (not (is_transport frame) || is_asking frame) then (if options.json then single_object now iface options frame else single_line now iface options frame) else []
 
--- a frame is seen at a time on an interface: what it tells is counted and printed at the time to which it brings the interface
+-- what was told at a frame
+abbrev pub told_text : Place → Options → List Told → Courses → List ℕ
+told_text place options told courses = if options.json then told_objects place options told courses else told_lines place.time options told
+
+-- the courses of the others, where courses are asked for
+abbrev pub left_courses : Options → List Told → Courses → Courses
+left_courses options told courses = if options.json then without_each told courses else courses
+
+-- and with the frame
+abbrev pub heard_courses : Options → Iface → CanFrame → Place → List Told → Courses → Courses
+heard_courses options iface frame place told courses = if options.json then followed iface frame place told (without_each told courses) else courses
+
+-- a listener to a frame that was counted, and what is printed: the frame's place in the log is its number and the time to which it brings the
+-- interface
+abbrev pub frame_told : Options → Iface → CanFrame → Courses → State × List Told → Counts → Hearing × List ℕ
+frame_told options iface frame courses t counts =
+    let place : Place = record { number = counts.frames; time = t.0.time } in
+    ((record { decoder = t.0; courses = heard_courses options iface frame place t.1 courses }, counts), told_text place options t.1 courses ++ single t.0.time iface options frame)
+
+-- a frame is seen at a time on an interface: what it tells is counted and printed
 unfoldable pub frame_seen : Options → Hearing → (time : ℕ) → Iface → CanFrame → Hearing × List ℕ
 frame_seen options s time iface frame =
-    let t = taken s.0 time iface frame [] in
-    ((t.0, with_each options (with_frame frame (nat_lt time (bus_at iface s.0.buses).time) s.1) t.1), told_lines t.0.time options t.1 ++ single t.0.time iface options frame)
+    let t = taken s.0.decoder time iface frame [] in
+    frame_told options iface frame s.0.courses t (with_each options (with_frame frame (nat_lt time (bus_at iface s.0.decoder.buses).time) s.1) t.1)
 
 abbrev pub with_line : Counts → Counts
 with_line c = record c { lines = more c.lines }
@@ -52,16 +80,19 @@ with_line c = record c { lines = more c.lines }
 -- a line that doesn't say when is taken at the time of the last frame of its interface
 unfoldable pub shown_seen : Options → Hearing → LogLine → Hearing × List ℕ
 shown_seen options s Passed = ((s.0, record s.1 { passed = more s.1.passed }), [])
-shown_seen options s (Frame time iface frame) = frame_seen options s (unwrap_or time (bus_at iface s.0.buses).time) iface frame
+shown_seen options s (Frame time iface frame) = frame_seen options s (unwrap_or time (bus_at iface s.0.decoder.buses).time) iface frame
 
 -- the form of a log is that of its first line that has one
 abbrev pub form_with : Option Form → List ℕ → Option Form
 form_with None line = form_of line
 form_with (Some form) line = Some form
 
+abbrev pub wrong_text : Options → ℕ → List ℕ
+wrong_text options n = if options.json then wrong_object n else wrong_line n
+
 -- a wrong line, by its number, ends the run where that is asked for; else it is told and counted
 abbrev pub wrong_seen : Options → Listening → ℕ → Result Step Fault
-wrong_seen options s n = if options.strict then Err NotLogLine else Ok ((s.0, record s.1 { wrong = more s.1.wrong }), wrong_line n)
+wrong_seen options s n = if options.strict then Err NotLogLine else Ok ((s.0, record s.1 { wrong = more s.1.wrong }), wrong_text options n)
 
 abbrev pub with_form : Option Form → Hearing × List ℕ → Step
 with_form form t = (((t.0.0, form), t.0.1), t.1)
@@ -75,10 +106,10 @@ line_seen options s n line = seen_as options (form_with s.0.1 line) (s.0.0, with
 
 -- at the end each message that is still under way is lost
 abbrev pub ended_counts : Options → Hearing → Counts
-ended_counts options s = with_each options s.1 (ended s.0.buses)
+ended_counts options s = with_each options s.1 (ended s.0.decoder.buses)
 
 abbrev pub ended_text : Options → Hearing → List ℕ
-ended_text options s = told_lines s.0.time options (ended s.0.buses)
+ended_text options s = told_text (record { number = s.1.frames; time = s.0.decoder.time }) options (ended s.0.decoder.buses) s.0.courses
 
 -- How the code read a line
 

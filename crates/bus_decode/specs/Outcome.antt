@@ -2,7 +2,7 @@
 use Rattle.std.specs.Prelude.{ℕ, ◌+◌, ◌-◌, ◌^◌, List, [], ◌∷◌, ◌++◌, length, ◌||◌, Option, Some, None, Result, Ok, Err, nat_lt, nat_le, if◌then◌else◌, codes}
 use Rattle.text_lines.specs.Lines.{lines_of}
 use Rattle.bus_decode.specs.Counts.{no_counts}
-use Rattle.bus_decode.specs.Listening.{Hearing, Listening, Step, line_seen, ended_counts, ended_text}
+use Rattle.bus_decode.specs.Listening.{Hearing, Listening, Step, first_listener, line_seen, ended_counts, ended_text}
 use Rattle.bus_decode.specs.declared.counts.Counts.{Counts}
 use Rattle.bus_decode.specs.declared.options.Options.{Options}
 use Rattle.bus_decode.specs.declared.running.Fault.{Fault}
@@ -46,7 +46,7 @@ outcome_from options s n (line ∷ lines) = then_rest n s (numbered_line options
 
 -- nothing was heard, no line had a form, and nothing was counted
 abbrev pub first_listening : Options → Listening
-first_listening options = ((record { most = options.most; time = 0; buses = [] }, None), no_counts)
+first_listening options = ((first_listener options.most, None), no_counts)
 
 abbrev pub outcome : Options → List ℕ → Outcome
 outcome options log = outcome_from options (first_listening options) 1 (lines_of log)

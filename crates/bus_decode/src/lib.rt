@@ -3,7 +3,9 @@
 #![tactic(auto)]
 
 mod counts;
+mod listener;
 mod listening;
+mod objects;
 mod options;
 mod running;
 mod text;

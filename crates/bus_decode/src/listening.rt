@@ -1,13 +1,16 @@
 //! A line of a log, and what it tells.
 ghost use Rattle.std.specs.Prelude.{◌≡◌, ◌++◌, OnOk};
-ghost use Rattle.bus_decode.specs.Listening.{is_asking, single, frame_seen, shown_seen, form_with, seen_as, line_seen, Seen, Read, ended_counts, ended_text};
+ghost use Rattle.bus_decode.specs.Listening.{is_asking, single, told_text, left_courses, heard_courses, wrong_text, frame_seen, shown_seen, form_with, seen_as, line_seen, Seen, Read, ended_counts, ended_text};
 ghost use Rattle.bus_decode.specs.declared.listening.LineError.TheVariants.{OutOfMemory};
 
 use crate::counts::Counts;
+use crate::listener::Listener;
+use crate::objects::{put_objects, put_single_object, put_wrong_object};
 use crate::options::Options;
 use crate::text::{put_each, put_single, put_wrong};
 use bus_frame::Frame;
-use log_decode::Decoder;
+use log_courses::{Courses, Place};
+use log_decode::Told;
 use log_text::{Form, Iface, LogLine, form_of, read_line_as};
 use pgn_ids::read_id;
 use std::alloc::{AllocError, Global};
@@ -52,13 +55,54 @@ fn put_other(
     if !options.singles || (is_transport(frame) && !is_asking(frame)) {
         return Ok(());
     }
+    if options.json {
+        return put_single_object(out, now, *iface, options, frame);
+    }
     put_single(out, now, iface, options, frame)
+}
+
+/// What was told at a frame is printed. Where courses are asked for, those of what was told are taken out.
+fn tell(
+    out: &mut Vec<u8>,
+    place: Place,
+    options: &Options,
+    told: &[Told],
+    courses: &mut Courses,
+) -> Result<(), AllocError>
+    ensures text { OnOk result (out.new.items ≡ out.old.items ++ told_text place options.now told.now courses.old) }
+    ensures courses { OnOk result (courses.new ≡ left_courses options.now told.now courses.old) }
+{
+    if options.json {
+        put_objects(out, place, options, told, courses)
+    } else {
+        put_each(out, place.time, options, told)
+    }
+}
+
+/// What was told at a frame is printed, and the messages that go on have one more.
+fn tell_frame(
+    out: &mut Vec<u8>,
+    place: Place,
+    options: &Options,
+    iface: Iface,
+    frame: &Frame,
+    told: &[Told],
+    courses: &mut Courses,
+) -> Result<(), AllocError>
+    ensures text { OnOk result (out.new.items ≡ out.old.items ++ told_text place options.now told.now courses.old) }
+    ensures courses { OnOk result (courses.new ≡ heard_courses options.now iface frame.now place told.now courses.old) }
+{
+    tell(out, place, options, told, courses)?;
+    if !options.json {
+        return Ok(());
+    }
+    courses.follow(iface, frame, place, told)
 }
 
 /// A frame is seen at a time on an interface.
 fn take_frame(
     alloc: Global,
-    decoder: &mut Decoder,
+    listener: &mut Listener,
     counts: &mut Counts,
     options: &Options,
     time: u64,
@@ -66,14 +110,26 @@ fn take_frame(
     frame: &Frame,
     out: &mut Vec<u8>,
 ) -> Result<(), AllocError>
-    ensures { OnOk result (Seen (decoder.new, counts.new) out.old.items out.new.items (frame_seen options.now (decoder.old, counts.old) time iface frame.now)) }
+    ensures { OnOk result (Seen (listener.new, counts.new) out.old.items out.new.items (frame_seen options.now (listener.old, counts.old) time iface frame.now)) }
 {
-    counts.add_frame(frame, time < decoder.time_on(iface));
+    counts.add_frame(frame, time < listener.decoder.time_on(iface));
     let mut told = Vec::new(alloc);
-    decoder.take(alloc, time, iface, frame, &mut told)?;
+    listener.decoder.take(alloc, time, iface, frame, &mut told)?;
     counts.add_each(options, told.as_slice());
-    let now = decoder.time();
-    put_each(out, now, options, told.as_slice())?;
+    let now = listener.decoder.time();
+    let place = Place {
+        number: counts.frames,
+        time: now,
+    };
+    tell_frame(
+        out,
+        place,
+        options,
+        iface,
+        frame,
+        told.as_slice(),
+        &mut listener.courses,
+    )?;
     put_other(out, now, &iface, options, frame)
 }
 
@@ -81,13 +137,13 @@ fn take_frame(
 #[tactic(auto, unfolding(crate::specs::Listening::shown_seen))]
 fn take_shown(
     alloc: Global,
-    decoder: &mut Decoder,
+    listener: &mut Listener,
     counts: &mut Counts,
     options: &Options,
     shown: LogLine,
     out: &mut Vec<u8>,
 ) -> Result<(), AllocError>
-    ensures { OnOk result (Seen (decoder.new, counts.new) out.old.items out.new.items (shown_seen options.now (decoder.old, counts.old) shown)) }
+    ensures { OnOk result (Seen (listener.new, counts.new) out.old.items out.new.items (shown_seen options.now (listener.old, counts.old) shown)) }
 {
     match shown {
         LogLine::Passed => {
@@ -95,8 +151,8 @@ fn take_shown(
             Ok(())
         }
         LogLine::Frame { time, iface, frame } => {
-            let time = time.unwrap_or(decoder.time_on(iface));
-            take_frame(alloc, decoder, counts, options, time, iface, &frame, out)
+            let time = time.unwrap_or(listener.decoder.time_on(iface));
+            take_frame(alloc, listener, counts, options, time, iface, &frame, out)
         }
     }
 }
@@ -111,11 +167,22 @@ fn form_with(form: Option<Form>, line: &[u8]) -> Option<Form>
     }
 }
 
+/// The line of a wrong line, by its number.
+fn put_wrong_line(out: &mut Vec<u8>, options: &Options, number: u64) -> Result<(), AllocError>
+    ensures { OnOk result (out.new.items ≡ out.old.items ++ wrong_text options.now number) }
+{
+    if options.json {
+        put_wrong_object(out, number)
+    } else {
+        put_wrong(out, number)
+    }
+}
+
 /// A line of a log of this form is read, by its number.
 #[tactic(auto, unfolding(crate::specs::Listening::seen_as))]
 fn take_line_as(
     alloc: Global,
-    decoder: &mut Decoder,
+    listener: &mut Listener,
     form: Option<Form>,
     counts: &mut Counts,
     options: &Options,
@@ -123,11 +190,11 @@ fn take_line_as(
     line: &[u8],
     out: &mut Vec<u8>,
 ) -> Result<(), LineError>
-    ensures { Read result ((decoder.new, form), counts.new) out.old.items out.new.items (seen_as options.now form (decoder.old, counts.old) number line.now) }
+    ensures { Read result ((listener.new, form), counts.new) out.old.items out.new.items (seen_as options.now form (listener.old, counts.old) number line.now) }
 {
     match read_line_as(form, line) {
         Ok(shown) => {
-            take_shown(alloc, decoder, counts, options, shown, out)?;
+            take_shown(alloc, listener, counts, options, shown, out)?;
             Ok(())
         }
         Err(_) => {
@@ -135,7 +202,7 @@ fn take_line_as(
                 return Err(LineError::NotLogLine);
             }
             counts.add_wrong();
-            put_wrong(out, number)?;
+            put_wrong_line(out, options, number)?;
             Ok(())
         }
     }
@@ -144,7 +211,7 @@ fn take_line_as(
 /// A line is read, by its number. What it tells is put behind what `out` holds.
 pub(crate) fn take_line(
     alloc: Global,
-    decoder: &mut Decoder,
+    listener: &mut Listener,
     form: &mut Option<Form>,
     counts: &mut Counts,
     options: &Options,
@@ -152,28 +219,35 @@ pub(crate) fn take_line(
     line: &[u8],
     out: &mut Vec<u8>,
 ) -> Result<(), LineError>
-    ensures { Read result ((decoder.new, form.new), counts.new) out.old.items out.new.items (line_seen options.now ((decoder.old, form.old), counts.old) number line.now) }
+    ensures { Read result ((listener.new, form.new), counts.new) out.old.items out.new.items (line_seen options.now ((listener.old, form.old), counts.old) number line.now) }
 {
     let known = form_with(*form, line);
     *form = known;
     counts.add_line();
-    take_line_as(alloc, decoder, known, counts, options, number, line, out)
+    take_line_as(alloc, listener, known, counts, options, number, line, out)
 }
 
 /// The log ends. What that tells is put behind what `out` holds.
 pub(crate) fn take_end(
     alloc: Global,
-    decoder: Decoder,
+    listener: Listener,
     counts: &mut Counts,
     options: &Options,
     out: &mut Vec<u8>,
 ) -> Result<(), AllocError>
-    ensures counts { OnOk result (counts.new ≡ ended_counts options.now (decoder, counts.old)) }
-    ensures text { OnOk result (out.new.items ≡ out.old.items ++ ended_text options.now (decoder, counts.old)) }
+    ensures counts { OnOk result (counts.new ≡ ended_counts options.now (listener, counts.old)) }
+    ensures text { OnOk result (out.new.items ≡ out.old.items ++ ended_text options.now (listener, counts.old)) }
 {
-    let now = decoder.time();
+    let Listener {
+        decoder,
+        mut courses,
+    } = listener;
+    let place = Place {
+        number: counts.frames,
+        time: decoder.time(),
+    };
     let mut told = Vec::new(alloc);
     decoder.finish(&mut told)?;
     counts.add_each(options, told.as_slice());
-    put_each(out, now, options, told.as_slice())
+    tell(out, place, options, told.as_slice(), &mut courses)
 }

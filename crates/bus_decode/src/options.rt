@@ -72,6 +72,8 @@ pub struct Options {
     pub singles: bool,
     /// Whether a wrong line ends the run; else it is told, and the log goes on.
     pub strict: bool,
+    /// Whether each line is a JSON object.
+    pub json: bool,
 }
 
 impl Options {

@@ -4,9 +4,9 @@ ghost use Rattle.bus_decode.specs.Outcome.{fault_text, limit_fault, last_outcome
 ghost use Rattle.bus_decode.specs.Ending.{cause_of, read_cause, Ended, fault_line, status_of};
 
 use crate::counts::Counts;
+use crate::listener::Listener;
 use crate::listening::{LineError, take_end, take_line};
 use crate::options::Options;
-use log_decode::Decoder;
 use std::alloc::Global;
 use std::fmt;
 use std::io::{BufRead, Write};
@@ -109,17 +109,17 @@ fn failed(line: u64, cause: Cause, counts: Counts) -> Decoded
 #[tactic(auto, using(text_lines::proofs::Known::front_none))]
 fn end_run<W: Write>(
     alloc: Global,
-    decoder: Decoder,
+    listener: Listener,
     counts: Counts,
     options: &Options,
     line: u64,
     writer: &mut W,
 ) -> Decoded
-    ensures { Ended result (W.contents writer.old) (W.contents writer.new) (last_outcome options.now (decoder, counts)) }
+    ensures { Ended result (W.contents writer.old) (W.contents writer.new) (last_outcome options.now (listener, counts)) }
 {
     let mut counts = counts;
     let mut out = Vec::new(alloc);
-    let Ok(()) = take_end(alloc, decoder, &mut counts, options, &mut out) else {
+    let Ok(()) = take_end(alloc, listener, &mut counts, options, &mut out) else {
         return failed(line, Cause::OutOfMemory, counts);
     };
     let Ok(()) = tell(writer, out.as_slice()) else {
@@ -145,7 +145,7 @@ pub fn run_decode<R: BufRead, W: Write>(
     ensures { IfSome (R.remaining reader.old) (λ log.
         Ended result (W.contents writer.old) (W.contents writer.new) (outcome options.now log)) }
 {
-    let mut decoder = Decoder::new(alloc, options.most);
+    let mut listener = Listener::new(alloc, options.most);
     let mut form = None;
     let mut counts = Counts::none();
     let mut line = Vec::new(alloc);
@@ -153,7 +153,7 @@ pub fn run_decode<R: BufRead, W: Write>(
     let mut number = 1;
     'lines: loop {
         match read_line(reader, &mut line) {
-            Ok(LineRead::End) => return end_run(alloc, decoder, counts, options, number, writer),
+            Ok(LineRead::End) => return end_run(alloc, listener, counts, options, number, writer),
             Ok(LineRead::TooLong) => {
                 return failed(number, Cause::Fault(limit_fault(number)), counts);
             }
@@ -168,7 +168,7 @@ pub fn run_decode<R: BufRead, W: Write>(
         let text = line.as_slice();
         match take_line(
             alloc,
-            &mut decoder,
+            &mut listener,
             &mut form,
             &mut counts,
             options,

@@ -19,6 +19,8 @@ pub struct OfLog {
     pub singles: bool,
     /// Whether a wrong line ends the run; else it is told, and the log goes on.
     pub strict: bool,
+    /// Whether each line is a JSON object.
+    pub json: bool,
 }
 
 /// The longest message that a transport carries, in bytes.
@@ -40,7 +42,8 @@ known:
   (TIME) IFACE aborted FROM TO PGN REASON WHO
   (TIME) IFACE lost FROM TO PGN HAVE OF CAUSE
 A wrong line is told by its number, in its place. What was counted is told on
-standard error at the end.
+standard error at the end. With --json each line is an object, with times in
+microseconds.
 
 Examples:
   j1939bus decode can0.log can0.log.1
@@ -78,6 +81,10 @@ fn all_arg<'a>(alloc: Global) -> Arg<'a> {
     )
 }
 
+fn json_arg<'a>(alloc: Global) -> Arg<'a> {
+    flag(alloc, "json", "Prints each line as a JSON object")
+}
+
 fn strict_arg<'a>(alloc: Global) -> Arg<'a> {
     flag(alloc, "strict", "Ends at a wrong line")
 }
@@ -96,6 +103,7 @@ fn decode_args<'a>(alloc: Global) -> Result<Vec<Arg<'a>>, AllocError> {
             most_arg(alloc),
             all_arg(alloc),
             strict_arg(alloc),
+            json_arg(alloc),
             files(
                 alloc,
                 "Logs in the order of their times, - for standard input [default: -]",
@@ -158,5 +166,6 @@ pub(crate) fn read_decode(alloc: Global, matches: &ArgMatches) -> Result<OfLog, 
         most: matches.get_one::<u32>("max-bytes").unwrap_or(MOST),
         singles: matches.get_flag("all"),
         strict: matches.get_flag("strict"),
+        json: matches.get_flag("json"),
     })
 }

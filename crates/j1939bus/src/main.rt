@@ -151,6 +151,7 @@ fn decode<R: Print + Eprint + AllocGlobal + Clock, I: Read + Drop>(
         most: asked.most,
         singles: asked.singles,
         strict: asked.strict,
+        json: asked.json,
     };
     let decoded = decode_all(rt, errors, &options, input, size)?;
     if let Some(fault) = decoded.fault {

@@ -5,6 +5,7 @@ mod forms;
 mod lines;
 mod listeners;
 mod logs;
+mod objects;
 mod progress;
 mod scripts;
 mod starts;

@@ -13,6 +13,7 @@ pub(crate) fn all(alloc: Global) -> Options {
         most: 1_000_000,
         singles: false,
         strict: false,
+        json: false,
     }
 }
 

@@ -61,7 +61,7 @@ fn interleaved_messages_are_given(rt: HostRuntime) {
 }
 
 /// Messages that aren't given: one for each cause, and one that is aborted.
-const LOST: &str = "\
+pub(crate) const LOST: &str = "\
 (0000000001.000000) can0 1CECFF21#20090002FFCAFE00\n\
 (0000000001.010000) can0 1CEBFF21#0208090A0B0C0D0E\n\
 (0000000001.020000) can0 1CECFF21#20090002FFCAFE00\n\

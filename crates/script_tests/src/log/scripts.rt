@@ -48,6 +48,7 @@ fn all(alloc: Global) -> Options {
         most: 1_785,
         singles: true,
         strict: false,
+        json: false,
     }
 }
 

@@ -25,7 +25,7 @@ fn a_log_is_asked_for(rt: HostRuntime) {
     );
     holds(
         &rt,
-        asked.most == 117_440_505 && !asked.singles && !asked.strict,
+        asked.most == 117_440_505 && !asked.singles && !asked.strict && !asked.json,
     );
     let two = ["j1939bus", "decode", "a.log", "-"];
     names(&rt, alloc, &two, &Asked::Decode(asked), &["a.log", "-"])
@@ -52,12 +52,16 @@ fn parts_of_a_log_are_asked_for(rt: HostRuntime) {
             "1785",
             "--all",
             "--strict",
+            "--json",
         ],
     );
     holds(&rt, asked.pgns.as_slice() == [0xFECA, 0x3_FFFF].as_slice());
     holds(&rt, asked.from.as_slice() == [0x21].as_slice());
     holds(&rt, asked.to.as_slice() == [0xFF].as_slice());
-    holds(&rt, asked.most == 1_785 && asked.singles && asked.strict);
+    holds(
+        &rt,
+        asked.most == 1_785 && asked.singles && asked.strict && asked.json,
+    );
 }
 
 fn refuses(rt: &impl Abort, alloc: Global, option: &str, value: &str, told: &str) {
@@ -97,6 +101,7 @@ Options:
       --max-bytes <N>  Longest message that is put together [default: 117440505]
       --all            Prints frames that carry nothing of a message too, as frame FROM TO PGN LENGTH HEX
       --strict         Ends at a wrong line
+      --json           Prints each line as a JSON object
   -h, --help           Print help
 
 A log has lines as candump writes them, (SECONDS.MICROS) IFACE ID#HEX, or shows
@@ -108,7 +113,8 @@ known:
   (TIME) IFACE aborted FROM TO PGN REASON WHO
   (TIME) IFACE lost FROM TO PGN HAVE OF CAUSE
 A wrong line is told by its number, in its place. What was counted is told on
-standard error at the end.
+standard error at the end. With --json each line is an object, with times in
+microseconds.
 
 Examples:
   j1939bus decode can0.log can0.log.1

@@ -1,0 +1,13 @@
+use Rattle.bus_decode.proofs.Appends.{behind, line_put}
+use Rattle.bus_decode.specs.Json.{aborted_members}
+use Rattle.bus_decode.proofs.objects.put_aborted.Goals as goal
+
+pub returns : goal.returns
+returns c =
+    line_put c.put_abort.result _ _ (aborted_members c.args.now c.args.course.now c.args.key.now c.args.pgn c.args.reason c.args.who)
+    (behind c.put_abort.result _ _ _ _ _ c.in_ok-put_text.ensures
+    (behind c.put_abort.result _ _ _ _ _ c.in_ok-put_number.ensures
+    (behind c.put_abort.result _ _ _ _ _ c.in_ok-put_address.ensures
+    (behind c.put_abort.result _ _ _ _ _ c.in_ok-put_place.ensures
+    (behind c.put_abort.result _ _ _ _ _ c.in_ok-put_address-2.ensures
+    c.put_abort.ensures)))))

@@ -1,0 +1,11 @@
+use Rattle.bus_decode.proofs.Appends.{behind, place_put}
+use Rattle.bus_decode.proofs.objects.put_place.Goals as goal
+
+pub returns : goal.returns
+returns c =
+    place_put c.put_text-2.result _ _ c.args.name.now c.args.place
+    (behind c.put_text-2.result _ _ _ _ _ c.in_ok-put_key.ensures
+    (behind c.put_text-2.result _ _ _ _ _ c.in_ok-put_text.ensures
+    (behind c.put_text-2.result _ _ _ _ _ c.in_ok-put_number.ensures
+    (behind c.put_text-2.result _ _ _ _ _ c.in_ok-put_number-2.ensures
+    c.put_text-2.ensures))))

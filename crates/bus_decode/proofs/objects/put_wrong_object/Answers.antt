@@ -1,0 +1,11 @@
+use Rattle.bus_decode.proofs.Appends.{behind, line_put}
+use Rattle.bus_decode.specs.Json.{wrong_members}
+use Rattle.bus_decode.proofs.objects.put_wrong_object.Goals as goal
+
+pub returns : goal.returns
+returns c =
+    line_put c.put_text-2.result _ _ (wrong_members c.args.number)
+    (behind c.put_text-2.result _ _ _ _ _ c.in_ok-put_text.ensures
+    (behind c.put_text-2.result _ _ _ _ _ c.in_ok-put_word.ensures
+    (behind c.put_text-2.result _ _ _ _ _ c.in_ok-put_number.ensures
+    c.put_text-2.ensures)))

@@ -1,0 +1,135 @@
+-- The courses of the messages under way, beside what a listener is told (SAE J1939-21, transport protocol; ISO 11783-3, extended transport
+-- protocol).
+use Rattle.std.specs.Prelude.{ℕ, List, [], ◌∷◌, Bool, true, false, ◌||◌, ◌==◌, if◌then◌else◌, Option, Some, None, fold}
+use Rattle.std.specs.Map.{lookup, remove_entry}
+use Rattle.indexmap.specs.IndexMap.{insert_entry}
+use Rattle.bus_frame.specs.Frames.{CanFrame}
+use Rattle.log_text.specs.declared.iface.Iface.{Iface}
+use Rattle.pgn_ids.specs.Pgn.{clean}
+use Rattle.pgn_ids.specs.declared.address.Address.{Address}
+use Rattle.tp_wire.specs.Reading.{reading}
+use Rattle.tp_wire.specs.declared.wire.Kind.{Kind}
+use Rattle.tp_wire.specs.declared.wire.Kind.TheVariants.{Tp, Etp}
+use Rattle.tp_wire.specs.declared.wire.CmFrame.{CmFrame}
+use Rattle.tp_wire.specs.declared.wire.CmFrame.TheVariants.{Rts, Cts, EndOfMsgAck, Bam, Abort, EtpRts, EtpCts, EtpDpo, EtpEoma, EtpAbort}
+use Rattle.tp_wire.specs.declared.wire.Wire.{Wire}
+use Rattle.tp_wire.specs.declared.wire.Wire.TheVariants.{Cm, Packet, Request, Ack}
+use Rattle.log_decode.specs.Keys.{same_key, transport_of}
+use Rattle.log_decode.specs.declared.key.Key.{Key}
+use Rattle.log_decode.specs.declared.told.Cause.{Cause}
+use Rattle.log_decode.specs.declared.told.Cause.TheVariants.{Missing, Replaced, TimedOut, WentBack, Acknowledged, Unsound, TooLong, EndOfLog}
+use Rattle.log_decode.specs.declared.told.Told.{Told}
+use Rattle.log_decode.specs.declared.told.Told.TheVariants.{Given, Aborted, Lost}
+use Rattle.log_courses.specs.Course.{begun, longer, cm_followed}
+use Rattle.log_courses.specs.declared.course.Course.{Course}
+use Rattle.log_courses.specs.declared.course.Place.{Place}
+
+-- of each message under way, by what tells them apart
+abbrev pub Courses : Type 0
+Courses = List (Key × Course)
+
+abbrev pub course_at : Key → Courses → Option Course
+course_at key courses = lookup (same_key key) courses
+
+abbrev pub put : Key → Course → Courses → Courses
+put key c courses = insert_entry same_key courses key c
+
+-- the course at a key, where one is, becomes what f says
+abbrev pub changed_at : (Course → Course) → Key → Courses → Courses
+changed_at f key courses = elim (course_at key courses) [ None ↦ courses | Some c ↦ put key (f c) courses ]
+
+-- What is told ends a course
+
+abbrev pub key_told : Told → Key
+key_told (Given key pgn bytes) = key
+key_told (Aborted key pgn reason who) = key
+key_told (Lost key pgn have size cause) = key
+
+abbrev pub pgn_told : Told → ℕ
+pgn_told (Given key pgn bytes) = pgn
+pgn_told (Aborted key pgn reason who) = pgn
+pgn_told (Lost key pgn have size cause) = pgn
+
+-- the frame at which a message is lost for this cause is one of its own: else it says that none of them comes
+abbrev pub is_by_frame : Cause → Bool
+is_by_frame Missing = true
+is_by_frame Replaced = false
+is_by_frame TimedOut = false
+is_by_frame WentBack = false
+is_by_frame Acknowledged = true
+is_by_frame Unsound = true
+is_by_frame TooLong = true
+is_by_frame EndOfLog = false
+
+-- the frame at which this is told is one of the message
+abbrev pub ends_by_frame : Told → Bool
+ends_by_frame (Given key pgn bytes) = true
+ends_by_frame (Aborted key pgn reason who) = true
+ends_by_frame (Lost key pgn have size cause) = is_by_frame cause
+
+-- the course of what is told: that of the message of this PGN under way
+abbrev pub course_told : Told → Courses → Option Course
+course_told told courses = elim (course_at (key_told told) courses) [ None ↦ None | Some c ↦ if c.pgn == pgn_told told then Some c else None ]
+
+-- the course of what is told at a frame. A message that didn't begin, and an abort of none, have this frame alone
+abbrev pub course_of : Place → Told → Courses → Course
+course_of place told courses = elim (course_told told courses) [ None ↦ begun (pgn_told told) place | Some c ↦ if ends_by_frame told then longer place c else c ]
+
+-- the others
+abbrev pub without_told : Told → Courses → Courses
+without_told told courses = elim (course_told told courses) [ None ↦ courses | Some c ↦ remove_entry (same_key (key_told told)) courses ]
+
+-- What a frame adds to the messages that go on
+
+abbrev pub is_refusal : Cause → Bool
+is_refusal Missing = false
+is_refusal Replaced = false
+is_refusal TimedOut = false
+is_refusal WentBack = false
+is_refusal Acknowledged = false
+is_refusal Unsound = true
+is_refusal TooLong = true
+is_refusal EndOfLog = false
+
+-- the message that a frame announces doesn't begin
+abbrev pub refuses : Told → Bool
+refuses (Given key pgn bytes) = false
+refuses (Aborted key pgn reason who) = false
+refuses (Lost key pgn have size cause) = is_refusal cause
+
+abbrev pub is_refused : List Told → Bool
+is_refused [] = false
+is_refused (t ∷ ts) = refuses t || is_refused ts
+
+-- the key of a message that goes from a node to another one
+abbrev pub key_between : Iface → (from to : Address) → Kind → Key
+key_between iface from to kind = record { iface = iface; from = from; to = to; transport = transport_of kind }
+
+-- an announcement, seen once more or of a message that begins
+abbrev pub announced : Key → (pgn : ℕ) → Place → List Told → Courses → Courses
+announced key pgn place told courses =
+    if is_refused told then courses
+    else elim (course_at key courses) [ None ↦ put key (begun (clean pgn) place) courses | Some c ↦ put key (longer place c) courses ]
+
+-- RTS, BAM and DPO come from the sender of a message, CTS and the end acknowledgement from its receiver. A message that an abort ends is told
+unfoldable pub cm_frame_followed : Iface → (from to : Address) → CmFrame → Place → List Told → Courses → Courses
+cm_frame_followed iface from to (Rts size packets window pgn) place told courses = announced (key_between iface from to Tp) pgn place told courses
+cm_frame_followed iface from to (Cts granted next pgn) place told courses = changed_at (cm_followed (Cts granted next pgn) place) (key_between iface to from Tp) courses
+cm_frame_followed iface from to (EndOfMsgAck size packets pgn) place told courses = changed_at (cm_followed (EndOfMsgAck size packets pgn) place) (key_between iface to from Tp) courses
+cm_frame_followed iface from to (Bam size packets pgn) place told courses = announced (key_between iface from to Tp) pgn place told courses
+cm_frame_followed iface from to (Abort reason pgn) place told courses = courses
+cm_frame_followed iface from to (EtpRts size pgn) place told courses = announced (key_between iface from to Etp) pgn place told courses
+cm_frame_followed iface from to (EtpCts granted next pgn) place told courses = changed_at (cm_followed (EtpCts granted next pgn) place) (key_between iface to from Etp) courses
+cm_frame_followed iface from to (EtpDpo packets offset pgn) place told courses = changed_at (cm_followed (EtpDpo packets offset pgn) place) (key_between iface from to Etp) courses
+cm_frame_followed iface from to (EtpEoma size pgn) place told courses = changed_at (cm_followed (EtpEoma size pgn) place) (key_between iface to from Etp) courses
+cm_frame_followed iface from to (EtpAbort reason pgn) place told courses = courses
+
+unfoldable pub wire_followed : Iface → (from to : Address) → Wire → Place → List Told → Courses → Courses
+wire_followed iface from to (Cm frame) place told courses = cm_frame_followed iface from to frame place told courses
+wire_followed iface from to (Packet kind sequence bytes) place told courses = changed_at (longer place) (key_between iface from to kind) courses
+wire_followed iface from to (Request pgn) place told courses = courses
+wire_followed iface from to (Ack control address pgn) place told courses = courses
+
+-- a frame on an interface, at its place in the log, where this was told and the courses of that were taken out
+unfoldable pub followed : Iface → CanFrame → Place → List Told → Courses → Courses
+followed iface frame place told courses = elim (reading frame) [ None ↦ courses | Some r ↦ wire_followed iface r.1 r.2 r.0 place told courses ]

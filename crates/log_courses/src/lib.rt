@@ -1,0 +1,12 @@
+//! The courses of the messages of a log, beside a listener: from the announcement of each to the frame at which it is told, which frame of the
+//! log is its first and which its last, how many it has, and how many packets its receiver asked for again (SAE J1939-21, transport protocol;
+//! ISO 11783-3, extended transport protocol).
+//!
+//! Memory is that of one course for each message under way.
+#![tactic(auto)]
+
+mod course;
+mod courses;
+
+pub use course::{Course, Place};
+pub use courses::Courses;
