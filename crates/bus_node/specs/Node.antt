@@ -11,14 +11,16 @@ use Rattle.script_text.specs.Replies.{reply_line, event_lines}
 use Rattle.bus_node.specs.Rests.{plus, no_rests, rested}
 
 -- the segment that the station stands on alone, the station's address, the interface that its frames are shown on, for how many ticks a
--- destination rests after a connection to it failed, for each destination the tick until which it rests, the first time seen in microseconds,
--- the frames put that the bus hasn't shown since, the tick before which no conflict is told, and what the line has told so far
+-- destination rests after a connection to it failed, for each destination the tick until which it rests, the tick from which the
+-- time counts and the time of that tick in microseconds, the frames put that the bus hasn't shown since, the tick before which no conflict is
+-- told, and what the line has told so far
 pub record Node : Type 0 where
   pub segment : Segment
   pub station : Address
   pub iface : Iface
   pub quiet : ℕ
   pub rests : List ℕ
+  pub since : ℕ
   pub start : Option ℕ
   pub unseen : List CanFrame
   pub silent_until : ℕ
@@ -26,7 +28,7 @@ pub record Node : Type 0 where
 
 -- nothing was done yet
 abbrev pub new_node : Address → Iface → (quiet : ℕ) → Node
-new_node address iface quiet = record { segment = new_segment (address ∷ []); station = address; iface = iface; quiet = quiet; rests = no_rests; start = None; unseen = []; silent_until = 0; text = [] }
+new_node address iface quiet = record { segment = new_segment (address ∷ []); station = address; iface = iface; quiet = quiet; rests = no_rests; since = 0; start = None; unseen = []; silent_until = 0; text = [] }
 
 -- a line has told nothing yet
 abbrev pub cleared : Node → Node

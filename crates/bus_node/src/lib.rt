@@ -3,6 +3,7 @@
 #![tactic(auto)]
 
 mod acting;
+mod clock;
 mod lane_counts;
 mod node;
 mod putting;

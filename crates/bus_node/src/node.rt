@@ -23,7 +23,9 @@ pub struct Node {
     /// For how many ticks a destination rests after a connection to it failed.
     pub(crate) quiet: u64,
     pub(crate) rests: Rests,
-    /// The first time that was seen, in microseconds: that of tick 0.
+    /// The tick from which the time counts.
+    pub(crate) since: u64,
+    /// The time of that tick, in microseconds; none was seen yet where there is none.
     pub(crate) start: Option<u64>,
     /// The frames that it put and that the bus hasn't shown since, at most 256, the oldest first.
     pub(crate) unseen: Vec<Frame>,
@@ -54,6 +56,7 @@ impl Drop for Node {
             iface: _,
             quiet: _,
             rests: _,
+            since: _,
             start: _,
             unseen: _,
             silent_until: _,
@@ -84,6 +87,7 @@ impl Node {
             iface,
             quiet,
             rests: Rests::none(),
+            since: 0,
             start: None,
             unseen: Vec::new(alloc),
             silent_until: 0,

@@ -166,6 +166,26 @@ fn a_timer_fires_at_its_tick(rt: HostRuntime) {
 }
 
 #[test]
+fn the_clock_goes_on_where_the_time_goes_back(rt: HostRuntime) {
+    let alloc = rt.alloc();
+    let mut node = node(&rt, alloc);
+    tells(
+        &rt,
+        alloc,
+        &mut node,
+        b"now 7.000000\nsend 35 EF00 fill 9\nnow 6.000000\nnow 5.999999",
+        b"sent 1\nput (0000000007.000000) can0 1CEC3521#10090002FF00EF00\ntime went back\n",
+    );
+    tells(
+        &rt,
+        alloc,
+        &mut node,
+        b"now 7.300000",
+        b"  outcome 21 35 1 TimedOut\nput (0000000007.249999) can0 1CEC3521#FF03FFFFFF00EF00\n",
+    )
+}
+
+#[test]
 fn a_broadcast_keeps_its_pace(rt: HostRuntime) {
     let alloc = rt.alloc();
     let mut node = node(&rt, alloc);
