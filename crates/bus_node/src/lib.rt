@@ -4,6 +4,7 @@
 
 mod acting;
 mod clock;
+mod interfaces;
 mod lane_counts;
 mod node;
 mod putting;

@@ -246,6 +246,47 @@ fn commands_are_answered(rt: HostRuntime) {
     )
 }
 
+#[test]
+fn frames_of_other_interfaces_are_passed_over(rt: HostRuntime) {
+    let alloc = rt.alloc();
+    let mut node = node(&rt, alloc);
+    tells(
+        &rt,
+        alloc,
+        &mut node,
+        b"now 1.000000\n(9.000000) can1 18EA2135#00EE00\n(9.000000) can2 18EA2135#00EE00\nstate",
+        b"other interface can1\nstate 0 0 none 0 0\n",
+    );
+    tells(
+        &rt,
+        alloc,
+        &mut node,
+        b"(1.002000) can0 18EA2135#CAFE00",
+        b"put (0000000001.002000) can0 18E8FF21#01FFFFFF35CAFE00\n",
+    )
+}
+
+#[test]
+fn a_node_joins_the_interface_of_the_first_frame(rt: HostRuntime) {
+    let alloc = rt.alloc();
+    let mut node = node(&rt, alloc);
+    node.join_first_interface();
+    tells(
+        &rt,
+        alloc,
+        &mut node,
+        b"send 36 EF00 fill 9",
+        b"sent 1\nput (0000000000.000000) can0 1CEC3621#10090002FF00EF00\n",
+    );
+    tells(
+        &rt,
+        alloc,
+        &mut node,
+        b"(1.000000) can1 18EA2135#CAFE00\n(1.001000) can0 18EA2135#CAFE00",
+        b"put (0000000001.000000) can1 18E8FF21#01FFFFFF35CAFE00\nother interface can0\n",
+    )
+}
+
 // A message to 35 is begun, another to it waits, and 35 aborts the first. The lane is in doubt then: a Request comes first.
 fn is_aborted(rt: &impl Abort, alloc: Global, node: &mut Node) {
     tells(rt, alloc, node, b"now 1700000000.000000", b"");
