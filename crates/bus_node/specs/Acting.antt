@@ -5,6 +5,7 @@ use Rattle.script_commands.specs.Values.{◌>>=◌}
 use Rattle.script_commands.specs.declared.fault.Fault.{Fault}
 use Rattle.script_commands.specs.declared.fault.LineError.{LineError}
 use Rattle.script_commands.specs.declared.fault.LineError.TheVariants as errors
+use Rattle.log_text.specs.declared.iface.Iface.{Iface}
 use Rattle.script_text.specs.Parts.{line}
 use Rattle.script_text.specs.Replies.{refusal_text}
 use Rattle.script_text.specs.Counts.{counts_line}
@@ -17,6 +18,7 @@ use Rattle.node_lines.specs.declared.command.NodeCommand.{NodeCommand}
 use Rattle.node_lines.specs.declared.command.NodeCommand.TheVariants.{Send, Open, Close, Pause, Resume, Cancel, Missed, Counts, State, Refused}
 use Rattle.bus_node.specs.Rests.{wakes}
 use Rattle.bus_node.specs.Node.{Node, cleared, told, asked}
+use Rattle.bus_node.specs.Interfaces.{shown_on, is_other, passed_over, joined}
 use Rattle.bus_node.specs.Putting.{heard}
 use Rattle.bus_node.specs.LaneCounts.{lanes_in_doubt, lanes_pending, lane_counts_text}
 use Rattle.bus_node.specs.Time.{due_below, settled, at_time}
@@ -56,7 +58,7 @@ commanded n (Refused cause) = told n (line (refusal_text cause))
 
 -- the time that a line says
 abbrev pub time_in : NodeLine → Option ℕ
-time_in (Frame time frame) = time
+time_in (Frame time iface frame) = time
 time_in (Now time) = Some time
 time_in Passed = None
 time_in (Command command) = None
@@ -64,12 +66,20 @@ time_in (Command command) = None
 abbrev pub acted : Node → NodeLine → Node
 acted n Passed = n
 acted n (Now time) = n
-acted n (Frame time frame) = heard n frame
+acted n (Frame time iface frame) = heard n frame
 acted n (Command command) = commanded n command
 
 -- the time goes on to that of the line, then it is acted on, then all is done that is to be done at that tick
+unfoldable pub followed : Node → NodeLine → Node
+followed n meant = settled (acted (at_time n (time_in meant)) meant)
+
+-- so is a line that shows a frame of the node's interface or none; one that shows a frame of another says nothing, not even the time
+abbrev pub obeyed_on : Node → NodeLine → Option Iface → Node
+obeyed_on n meant None = followed n meant
+obeyed_on n meant (Some iface) = if is_other n iface then passed_over n iface else followed (joined n iface) meant
+
 unfoldable pub obeyed : Node → NodeLine → Node
-obeyed n meant = settled (acted (at_time n (time_in meant)) meant)
+obeyed n meant = obeyed_on n meant (shown_on meant)
 
 unfoldable pub obey_line : Node → List ℕ → Result Node Fault
 obey_line n text = do

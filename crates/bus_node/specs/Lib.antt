@@ -2,6 +2,8 @@ pub mod Rests
 pub mod Node
 pub mod NodeFields
 pub mod NodeCode
+pub mod Interfaces
+pub mod Clock
 pub mod Putting
 pub mod Time
 pub mod LaneCounts

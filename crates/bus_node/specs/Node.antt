@@ -1,5 +1,5 @@
 -- A node: one station on a real bus, and what its calls tell.
-use Rattle.std.specs.Prelude.{ℕ, List, [], ◌∷◌, ◌++◌, Option, None}
+use Rattle.std.specs.Prelude.{ℕ, Bool, true, false, List, [], ◌∷◌, ◌++◌, Option, None}
 use Rattle.bus_frame.specs.Frames.{CanFrame}
 use Rattle.pgn_ids.specs.declared.address.Address.{Address}
 use Rattle.log_text.specs.declared.iface.Iface.{Iface}
@@ -10,15 +10,19 @@ use Rattle.segment_law.specs.declared.reply.Reply.{Reply}
 use Rattle.script_text.specs.Replies.{reply_line, event_lines}
 use Rattle.bus_node.specs.Rests.{plus, no_rests, rested}
 
--- the segment that the station stands on alone, the station's address, the interface that its frames are shown on, for how many ticks a
--- destination rests after a connection to it failed, for each destination the tick until which it rests, the first time seen in microseconds,
--- the frames put that the bus hasn't shown since, the tick before which no conflict is told, and what the line has told so far
+-- the segment that the station stands on alone, the station's address, the interface that its frames are shown on, whether that was
+-- named or a frame of it was shown, whether a frame of another one was told, for how many ticks a destination rests after a connection to it
+-- failed, for each destination the tick until which it rests, the tick from which the time counts and the time of that tick in microseconds, the
+-- frames put that the bus hasn't shown since, the tick before which no conflict is told, and what the line has told so far
 pub record Node : Type 0 where
   pub segment : Segment
   pub station : Address
   pub iface : Iface
+  pub knows_iface : Bool
+  pub knows_other : Bool
   pub quiet : ℕ
   pub rests : List ℕ
+  pub since : ℕ
   pub start : Option ℕ
   pub unseen : List CanFrame
   pub silent_until : ℕ
@@ -26,7 +30,7 @@ pub record Node : Type 0 where
 
 -- nothing was done yet
 abbrev pub new_node : Address → Iface → (quiet : ℕ) → Node
-new_node address iface quiet = record { segment = new_segment (address ∷ []); station = address; iface = iface; quiet = quiet; rests = no_rests; start = None; unseen = []; silent_until = 0; text = [] }
+new_node address iface quiet = record { segment = new_segment (address ∷ []); station = address; iface = iface; knows_iface = true; knows_other = false; quiet = quiet; rests = no_rests; since = 0; start = None; unseen = []; silent_until = 0; text = [] }
 
 -- a line has told nothing yet
 abbrev pub cleared : Node → Node

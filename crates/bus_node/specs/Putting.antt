@@ -1,5 +1,5 @@
 -- Frames that the node puts on the bus, and those that the bus shows.
-use Rattle.std.specs.Prelude.{ℕ, ◌*◌, ◌-◌, ◌^◌, min, Bool, true, ◌&&◌, ◌==◌, nat_lt, if◌then◌else◌, List, [], ◌∷◌, ◌++◌, length, remove, position, Some, None, unwrap_or, codes}
+use Rattle.std.specs.Prelude.{ℕ, Bool, true, ◌&&◌, ◌==◌, nat_lt, if◌then◌else◌, List, [], ◌∷◌, ◌++◌, length, remove, position, Some, None, codes}
 use Rattle.std.specs.Str.{bytes_eq}
 use Rattle.bus_frame.specs.Frames.{CanFrame}
 use Rattle.pgn_ids.specs.Identifier.{meaning_of}
@@ -9,10 +9,7 @@ use Rattle.script_text.specs.Parts.{line}
 use Rattle.segment_law.specs.declared.call.Call.TheVariants.{Transmit, Take, Inject}
 use Rattle.bus_node.specs.Rests.{plus}
 use Rattle.bus_node.specs.Node.{Node, called}
-
--- the time of a tick: a thousand microseconds each from the first time on
-abbrev pub time_of : Node → ℕ
-time_of n = plus (unwrap_or n.start 0) (min (n.segment.now * 1000) (2 ^ 64 - 1))
+use Rattle.bus_node.specs.Clock.{time_of}
 
 -- a frame that was put, as a line of a log behind the word put
 unfoldable pub put_line : ℕ → Iface → CanFrame → List ℕ

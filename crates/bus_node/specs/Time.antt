@@ -1,5 +1,5 @@
 -- How the time goes on, and what is done meanwhile without a command.
-use Rattle.std.specs.Prelude.{◌≡◌, ℕ, zero, suc, ◌+◌, ◌-◌, ◌/◌, Bool, true, false, ◌&&◌, not, nat_lt, if◌then◌else◌, Option, Some, None, unwrap_or}
+use Rattle.std.specs.Prelude.{◌≡◌, ℕ, zero, suc, ◌+◌, ◌-◌, Bool, true, false, ◌&&◌, not, nat_lt, if◌then◌else◌, Option, Some, None}
 use Rattle.std.specs.Option.{option_map}
 use Rattle.bus_frame.specs.Frames.{CanFrame}
 use Rattle.pgn_ids.specs.declared.address.Address.{Address}
@@ -14,6 +14,7 @@ use Rattle.segment_core.specs.Answers.{refusal_of}
 use Rattle.segment_core.specs.Due.{any_due}
 use Rattle.bus_node.specs.Rests.{is_at_rest, wakes}
 use Rattle.bus_node.specs.Node.{Node, called}
+use Rattle.bus_node.specs.Clock.{tick_at, started}
 use Rattle.bus_node.specs.Putting.{putting}
 
 -- the tick at which the next timer is due, where it is one below the end
@@ -77,14 +78,6 @@ most_steps = 1000000
 -- all that is to be done at the tick is done
 unfoldable pub settled : Node → Node
 settled n = go_on most_steps n.segment.now n
-
--- the first time that is seen is that of tick 0
-abbrev pub started : Node → ℕ → Node
-started n time = elim n.start [ None ↦ record n { start = Some time } | Some start ↦ n ]
-
--- the tick of a time
-abbrev pub tick_at : Node → ℕ → ℕ
-tick_at n time = (time - unwrap_or n.start time) / 1000
 
 -- where the line says a time, the clock goes on to its tick
 unfoldable pub at_time : Node → Option ℕ → Node

@@ -6,8 +6,9 @@ ghost use Rattle.script_text.specs.Counts.{counts_line};
 ghost use Rattle.segment_law.specs.declared.call.Call.TheVariants.{Overrun};
 ghost use Rattle.bus_node.specs.Node.{told, asked};
 ghost use Rattle.bus_node.specs.LaneCounts.{lane_counts_text};
-ghost use Rattle.bus_node.specs.Acting.{due_text, first_of, next_due, state_line, commanded, time_in, acted, obeyed, obey_line, Obeyed};
+ghost use Rattle.bus_node.specs.Acting.{due_text, first_of, next_due, state_line, commanded, time_in, acted, followed, obeyed, obey_line, Obeyed};
 
+use crate::interfaces::shown_on;
 use crate::node::Node;
 use crate::time::due_up_to;
 use line_runs::Told;
@@ -177,14 +178,29 @@ impl Node {
     }
 
     // The time goes on to that of the line, then it is acted on, then all is done that is to be done at that tick.
-    #[tactic(auto, unfolding(crate::specs::Acting::obeyed))]
-    fn obey(&mut self, meant: NodeLine) -> Result<(), AllocError>
-        ensures { OnOk result (self.new ≡ obeyed self.old meant) }
+    #[tactic(auto, unfolding(crate::specs::Acting::followed))]
+    fn follow(&mut self, meant: NodeLine) -> Result<(), AllocError>
+        ensures { OnOk result (self.new ≡ followed self.old meant) }
     {
         let time = time_in(&meant);
         self.pass_time(time)?;
         self.act(meant)?;
         self.settle()
+    }
+
+    // A line that shows a frame of another interface is passed over.
+    #[tactic(auto, unfolding(crate::specs::Acting::obeyed))]
+    fn obey(&mut self, meant: NodeLine) -> Result<(), AllocError>
+        ensures { OnOk result (self.new ≡ obeyed self.old meant) }
+    {
+        let Some(iface) = shown_on(&meant) else {
+            return self.follow(meant);
+        };
+        if self.is_other(&iface) {
+            return self.pass_over(&iface);
+        }
+        self.join(iface);
+        self.follow(meant)
     }
 
     // Memory was refused: a frame that the station couldn't take for want of it is taken without.

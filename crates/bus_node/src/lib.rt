@@ -3,6 +3,8 @@
 #![tactic(auto)]
 
 mod acting;
+mod clock;
+mod interfaces;
 mod lane_counts;
 mod node;
 mod putting;

@@ -20,10 +20,16 @@ pub struct Node {
     pub(crate) station: Address,
     /// The interface that the frames which it puts are shown on.
     pub(crate) iface: Iface,
+    /// Whether that was named, or a frame of it was shown.
+    pub(crate) knows_iface: bool,
+    /// Whether a frame of another interface was told.
+    pub(crate) knows_other: bool,
     /// For how many ticks a destination rests after a connection to it failed.
     pub(crate) quiet: u64,
     pub(crate) rests: Rests,
-    /// The first time that was seen, in microseconds: that of tick 0.
+    /// The tick from which the time counts.
+    pub(crate) since: u64,
+    /// The time of that tick, in microseconds; none was seen yet where there is none.
     pub(crate) start: Option<u64>,
     /// The frames that it put and that the bus hasn't shown since, at most 256, the oldest first.
     pub(crate) unseen: Vec<Frame>,
@@ -52,8 +58,11 @@ impl Drop for Node {
             segment: _,
             station: _,
             iface: _,
+            knows_iface: _,
+            knows_other: _,
             quiet: _,
             rests: _,
+            since: _,
             start: _,
             unseen: _,
             silent_until: _,
@@ -64,8 +73,8 @@ impl Drop for Node {
 }
 
 impl Node {
-    /// A node with a station of this address, 0 to 253, whose frames are shown on an interface: its clock stands at tick 0, no port is open,
-    /// and nothing was done yet. After a connection to a destination failed, nothing of a message is sent to it for `quiet` ticks.
+    /// A node with a station of this address, 0 to 253, on an interface: frames of no other come to it, and those that it puts are shown
+    /// there. Its clock stands at tick 0, no port is open, and nothing was done yet. After a connection to a destination failed, nothing of a message is sent to it for `quiet` ticks.
     ///
     /// Refused as `BadAddresses` exactly where the address is 254 or 255, and else as `OutOfMemory` where memory is refused.
     pub fn new(
@@ -82,8 +91,11 @@ impl Node {
             segment,
             station: address,
             iface,
+            knows_iface: true,
+            knows_other: false,
             quiet,
             rests: Rests::none(),
+            since: 0,
             start: None,
             unseen: Vec::new(alloc),
             silent_until: 0,

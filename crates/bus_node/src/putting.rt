@@ -1,6 +1,6 @@
 //! Frames that the node puts on the bus, and those that the bus shows.
 ghost use Rattle.std.specs.Prelude.{◌≡◌, ◌++◌, OnOk, position};
-ghost use Rattle.bus_node.specs.Putting.{time_of, put_line, remembered, with_put, putting, same_frame, conflicting, own, heard};
+ghost use Rattle.bus_node.specs.Putting.{put_line, remembered, with_put, putting, same_frame, conflicting, own, heard};
 
 use crate::node::Node;
 use bus_frame::Frame;
@@ -9,9 +9,6 @@ use pgn_ids::read_id;
 use script_text::print_text;
 use segment_core::Call;
 use std::alloc::AllocError;
-
-/// How many microseconds a tick has.
-const TICK: u64 = 1000;
 
 /// How many ticks pass at least from one conflict that is told to the next.
 const BETWEEN_CONFLICTS: u64 = 1000;
@@ -53,15 +50,6 @@ fn remember(frames: &mut Vec<Frame>, frame: Frame) -> Result<(), AllocError>
 }
 
 impl Node {
-    // The time at which its clock stands.
-    fn time(&self) -> u64
-        ensures { result ≡ time_of self.now }
-    {
-        self.start
-            .unwrap_or(0)
-            .saturating_add(self.segment.now().saturating_mul(TICK))
-    }
-
     // A frame was put: it is told, and remembered.
     fn note_put(&mut self, frame: Frame) -> Result<(), AllocError>
         ensures { OnOk result (self.new ≡ with_put self.old frame) }

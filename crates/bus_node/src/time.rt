@@ -1,14 +1,11 @@
 //! How the time goes on, and what is done meanwhile without a command.
 ghost use Rattle.std.specs.Prelude.{◌≡◌, ◌+◌, ◌<◌, IfOk, OnOk};
-ghost use Rattle.bus_node.specs.Time.{due_below, is_not_yet, is_pacing, horizon, may_pump, next_lane, at_tick, waited, step, go_on, most_steps, settled, started, tick_at, at_time, Stepped};
+ghost use Rattle.bus_node.specs.Time.{due_below, is_not_yet, is_pacing, horizon, may_pump, next_lane, at_tick, waited, step, go_on, most_steps, settled, at_time, Stepped};
 
 use crate::node::Node;
 use pgn_ids::Address;
 use segment_core::{Call, Refusal, Segment};
 use std::alloc::AllocError;
-
-/// How many microseconds a tick has.
-const TICK: u64 = 1000;
 
 /// How many steps the time of a line makes at most, and as many what is done of it.
 const MOST_STEPS: u64 = 1_000_000;
@@ -167,25 +164,6 @@ impl Node {
         self.go_on(now)
     }
 
-    // The first time that is seen is that of tick 0.
-    fn start_at(&mut self, time: u64)
-        ensures { self.new ≡ started self.old time }
-    {
-        match self.start {
-            Some(_) => {}
-            None => {
-                self.start = Some(time);
-            }
-        }
-    }
-
-    // The tick of a time.
-    fn tick_at(&self, time: u64) -> u64
-        ensures { result ≡ tick_at self.now time }
-    {
-        time.saturating_sub(self.start.unwrap_or(time)) / TICK
-    }
-
     /// Where a line says a time, the clock goes on to its tick, and what comes up to there is done.
     #[tactic(auto, unfolding(crate::specs::Time::at_time))]
     pub(crate) fn pass_time(&mut self, time: Option<u64>) -> Result<(), AllocError>
@@ -194,7 +172,7 @@ impl Node {
         let Some(time) = time else {
             return Ok(());
         };
-        self.start_at(time);
+        self.start_at(time)?;
         let target = self.tick_at(time);
         self.go_on(target)
     }

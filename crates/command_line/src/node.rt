@@ -19,8 +19,8 @@ pub struct OfPort {
 pub struct OfNode {
     /// Its address, 0 to 253.
     pub address: u8,
-    /// The interface that is named with the frames which it puts.
-    pub interface: String,
+    /// The interface that it is on; none: that of the first frame that it is shown.
+    pub interface: Option<String>,
     /// The ports that are open before a line is read, in their order.
     pub ports: Vec<OfPort>,
     /// For how many milliseconds nothing is queued to a destination after a connection to it failed.
@@ -33,9 +33,6 @@ const ADDRESS_MOST: u32 = 0xFD;
 /// The quiet after a failed connection where none is named, in milliseconds.
 const QUIET: u64 = 700;
 
-/// The interface where none is named.
-const INTERFACE: &str = "can0";
-
 const NODE_HELP: &str =
     "One station on a real bus, whose frames are read from standard input as lines
 (SECONDS.MICROS) IFACE ID#HEX, as candump -L writes them while it runs, between
@@ -46,7 +43,8 @@ lines of these commands:
   close N, pause N, resume N, cancel TO N, counts, state
 What a line makes the station put on the bus is written as put and a line of a
 log, what it is given and how its messages end as in a script, before the next
-line is read. A port of --port is open before the first line.
+line is read. A port of --port is open before the first line. Frames of other
+interfaces are passed over.
 
 Example:
   printf '%s\\n' 'open FECA 1785' 'send 21 FECA 010203040506070809' \\
@@ -72,7 +70,7 @@ fn interface_arg<'a>(alloc: Global) -> Arg<'a> {
         "interface",
         "NAME",
         ArgAction::Set,
-        "Interface that is named with the frames put [default: can0]",
+        "Interface whose frames alone are taken [default: that of the first frame]",
     )
 }
 
@@ -166,21 +164,28 @@ fn address_of(alloc: Global, word: &str) -> Result<u8, Refused> {
 
 /// What its words ask for.
 pub(crate) fn read_node(alloc: Global, matches: &ArgMatches) -> Result<OfNode, Refused> {
-    let address = address_of(alloc, first_of(matches, "address", ""))?;
-    let name = first_of(matches, "interface", INTERFACE);
+    let address = address_of(alloc, first_of(matches, "address").unwrap_or(""))?;
     Ok(OfNode {
         address,
-        interface: String::from_str(alloc, name)?,
+        interface: interface(alloc, matches)?,
         ports: ports(alloc, matches)?,
         quiet: matches.get_one::<u64>("quiet").unwrap_or(QUIET),
     })
 }
 
+/// The interface that is named.
+fn interface(alloc: Global, matches: &ArgMatches) -> Result<Option<String>, AllocError> {
+    match first_of(matches, "interface") {
+        Some(name) => Ok(Some(String::from_str(alloc, name)?)),
+        None => Ok(None),
+    }
+}
+
 /// The first value of an argument.
-fn first_of<'a>(matches: &ArgMatches<'a>, name: &str, otherwise: &'a str) -> &'a str {
+fn first_of<'a>(matches: &ArgMatches<'a>, name: &str) -> Option<&'a str> {
     match matches.get_strs(name).unwrap_or(&[]).first() {
-        Some(word) => *word,
-        None => otherwise,
+        Some(word) => Some(*word),
+        None => None,
     }
 }
 

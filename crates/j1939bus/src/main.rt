@@ -162,6 +162,9 @@ fn decode<R: Print + Eprint + AllocGlobal + Clock, I: Read + Drop>(
     Ok(ExitCode::from(decoded.status()))
 }
 
+/// The interface that is named with the frames which a node puts before it is on one.
+const INTERFACE: &str = "can0";
+
 /// The lines that open a node's ports.
 fn opening(alloc: Global, ports: &[OfPort]) -> Result<Vec<u8>, AllocError> {
     let mut lines = Vec::new(alloc);
@@ -196,7 +199,11 @@ fn node<R: Print + Eprint + AllocGlobal, I: Read + Drop>(
     input: I,
 ) -> io::Result<ExitCode> {
     let alloc = rt.alloc();
-    let Ok(iface) = Iface::new(asked.interface.as_str().as_bytes()) else {
+    let name = match &asked.interface {
+        Some(name) => name.as_str(),
+        None => INTERFACE,
+    };
+    let Ok(iface) = Iface::new(name.as_bytes()) else {
         eprintln!(rt; "error: an interface has a name of 1 to 15 printable characters")?;
         return Ok(ExitCode::from(2));
     };
@@ -207,6 +214,9 @@ fn node<R: Print + Eprint + AllocGlobal, I: Read + Drop>(
         eprintln!(rt; "out of memory")?;
         return Ok(ExitCode::from(1));
     };
+    if asked.interface.is_none() {
+        node.join_first_interface();
+    }
     let ran = run_opened(alloc, &mut node, lines.as_slice(), &mut reader, &mut writer);
     end(rt, ran.fault, ran.status())
 }

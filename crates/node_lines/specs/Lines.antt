@@ -37,7 +37,7 @@ has_bracket (b ∷ bs) = b == 40
 -- a frame is shown, the line is none of a log although it begins as one, or no frame is shown
 abbrev pub by_log : List ℕ → Option LogLine → Meaning
 by_log line None = Err UnknownCommand
-by_log line (Some (logged.Frame time iface frame)) = Ok (Frame time frame)
+by_log line (Some (logged.Frame time iface frame)) = Ok (Frame time iface frame)
 by_log line (Some logged.Passed) = if has_bracket line then Ok Passed else words_meaning (words_of line)
 
 unfoldable pub node_line : List ℕ → Meaning

@@ -6,7 +6,7 @@ ghost use Rattle.node_lines.specs.Lines.{now_of, words_meaning, has_bracket, nod
 
 use crate::command::{NodeCommand, read_node_command};
 use bus_frame::Frame;
-use log_text::{LogLine, read_log_line, read_time};
+use log_text::{Iface, LogLine, read_log_line, read_time};
 use script_commands::values::{WRONG_NUMBER, is};
 use script_commands::{Fault, LineError, is_ascii, split_words};
 use std::alloc::Global;
@@ -16,8 +16,12 @@ use std::alloc::Global;
 pub enum NodeLine {
     /// Nothing: a line without a word, or a line of the log that shows no data frame with a 29-bit identifier.
     Passed,
-    /// A frame was seen on the bus, at so many microseconds where the line says when.
-    Frame { time: Option<u64>, frame: Frame },
+    /// A frame was seen on an interface, at so many microseconds if the line says when.
+    Frame {
+        time: Option<u64>,
+        iface: Iface,
+        frame: Frame,
+    },
     /// The time is so many microseconds.
     Now(u64),
     /// A command to the station.
@@ -80,8 +84,8 @@ pub fn read_node_line(alloc: Global, line: &[u8]) -> Result<NodeLine, LineError>
     let Ok(shown) = read_log_line(line) else {
         return Err(LineError::Fault(Fault::UnknownCommand));
     };
-    if let LogLine::Frame { time, frame, .. } = shown {
-        return Ok(NodeLine::Frame { time, frame });
+    if let LogLine::Frame { time, iface, frame } = shown {
+        return Ok(NodeLine::Frame { time, iface, frame });
     }
     if has_bracket(line) {
         return Ok(NodeLine::Passed);

@@ -166,6 +166,26 @@ fn a_timer_fires_at_its_tick(rt: HostRuntime) {
 }
 
 #[test]
+fn the_clock_goes_on_where_the_time_goes_back(rt: HostRuntime) {
+    let alloc = rt.alloc();
+    let mut node = node(&rt, alloc);
+    tells(
+        &rt,
+        alloc,
+        &mut node,
+        b"now 7.000000\nsend 35 EF00 fill 9\nnow 6.000000\nnow 5.999999",
+        b"sent 1\nput (0000000007.000000) can0 1CEC3521#10090002FF00EF00\ntime went back\n",
+    );
+    tells(
+        &rt,
+        alloc,
+        &mut node,
+        b"now 7.300000",
+        b"  outcome 21 35 1 TimedOut\nput (0000000007.249999) can0 1CEC3521#FF03FFFFFF00EF00\n",
+    )
+}
+
+#[test]
 fn a_broadcast_keeps_its_pace(rt: HostRuntime) {
     let alloc = rt.alloc();
     let mut node = node(&rt, alloc);
@@ -223,6 +243,47 @@ fn commands_are_answered(rt: HostRuntime) {
         &mut node,
         b"cancel 35 1\n\nopen FFFFF 9",
         b"refused 21 NothingToSend\nrefused 3 BadPgn\n",
+    )
+}
+
+#[test]
+fn frames_of_other_interfaces_are_passed_over(rt: HostRuntime) {
+    let alloc = rt.alloc();
+    let mut node = node(&rt, alloc);
+    tells(
+        &rt,
+        alloc,
+        &mut node,
+        b"now 1.000000\n(9.000000) can1 18EA2135#00EE00\n(9.000000) can2 18EA2135#00EE00\nstate",
+        b"other interface can1\nstate 0 0 none 0 0\n",
+    );
+    tells(
+        &rt,
+        alloc,
+        &mut node,
+        b"(1.002000) can0 18EA2135#CAFE00",
+        b"put (0000000001.002000) can0 18E8FF21#01FFFFFF35CAFE00\n",
+    )
+}
+
+#[test]
+fn a_node_joins_the_interface_of_the_first_frame(rt: HostRuntime) {
+    let alloc = rt.alloc();
+    let mut node = node(&rt, alloc);
+    node.join_first_interface();
+    tells(
+        &rt,
+        alloc,
+        &mut node,
+        b"send 36 EF00 fill 9",
+        b"sent 1\nput (0000000000.000000) can0 1CEC3621#10090002FF00EF00\n",
+    );
+    tells(
+        &rt,
+        alloc,
+        &mut node,
+        b"(1.000000) can1 18EA2135#CAFE00\n(1.001000) can0 18EA2135#CAFE00",
+        b"put (0000000001.000000) can1 18E8FF21#01FFFFFF35CAFE00\nother interface can0\n",
     )
 }
 

@@ -1,6 +1,7 @@
 //! Lines with what they mean to a node. A test ends where memory is refused.
 use crate::checks::got;
 use bus_frame::{CanId, Frame};
+use log_text::Iface;
 use message_events::Bytes;
 use node_lines::{NodeCommand, NodeLine, read_node_line};
 use pgn_ids::{Address, Pgn};
@@ -54,13 +55,19 @@ fn lines_of_the_log_show_frames(rt: HostRuntime) {
         &rt,
         Frame::new(got(&rt, CanId::new(0x1CEC_FF21)), &[0x20, 0x09, 0xCA]),
     );
+    let iface = got(&rt, Iface::new(b"vcan0"));
     let seen = NodeLine::Frame {
         time: Some(1_436_509_052_249_713),
+        iface,
         frame,
     };
     let line = "(1436509052.249713) vcan0 1CECFF21#2009CA R";
     means(&rt, alloc, line, &Ok(seen));
-    let seen = NodeLine::Frame { time: None, frame };
+    let seen = NodeLine::Frame {
+        time: None,
+        iface,
+        frame,
+    };
     let line = "  vcan0  1CECFF21   [3]  20 09 CA";
     means(&rt, alloc, line, &Ok(seen))
 }

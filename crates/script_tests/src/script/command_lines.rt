@@ -90,7 +90,7 @@ fn a_node_is_asked_for_by_its_address(rt: HostRuntime) {
     let alloc = rt.alloc();
     let node = Asked::Node(OfNode {
         address: 0x2A,
-        interface: got(&rt, format!(in alloc; "can0")),
+        interface: None,
         ports: Vec::new(alloc),
         quiet: 700,
     });
@@ -117,7 +117,7 @@ fn a_node_is_asked_for_with_its_ports_and_its_quiet(rt: HostRuntime) {
     );
     let node = Asked::Node(OfNode {
         address: 0x2A,
-        interface: got(&rt, format!(in alloc; "vcan0")),
+        interface: Some(got(&rt, format!(in alloc; "vcan0"))),
         ports,
         quiet: 0,
     });

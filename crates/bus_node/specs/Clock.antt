@@ -1,0 +1,28 @@
+-- How the times that lines say and the ticks of the clock belong together.
+use Rattle.std.specs.Prelude.{ℕ, ◌-◌, ◌*◌, ◌/◌, ◌^◌, min, Bool, nat_lt, if◌then◌else◌, Some, None, unwrap_or, codes}
+use Rattle.script_text.specs.Parts.{line}
+use Rattle.bus_node.specs.Rests.{plus}
+use Rattle.bus_node.specs.Node.{Node, told}
+
+-- the time of the clock's tick: a thousand microseconds each from the tick on at which the time began to count
+abbrev pub time_of : Node → ℕ
+time_of n = plus (unwrap_or n.start 0) (min ((n.segment.now - n.since) * 1000) (2 ^ 64 - 1))
+
+-- the tick of a time
+abbrev pub tick_at : Node → ℕ → ℕ
+tick_at n time = plus n.since ((time - unwrap_or n.start time) / 1000)
+
+-- the clock stands where it does, and that is this time
+abbrev pub counted_from : Node → ℕ → Node
+counted_from n time = record n { since = n.segment.now; start = Some time }
+
+-- a time is more than a second before that of the clock. One that is less before it came late
+abbrev pub went_back : Node → ℕ → Bool
+went_back n time = nat_lt 1000000 (time_of n - time)
+
+-- the first time that is seen is that of tick 0; if one went back, this is told, and the time counts from it on
+abbrev pub started : Node → ℕ → Node
+started n time = elim n.start [
+  | None ↦ counted_from n time
+  | Some start ↦ if went_back n time then told (counted_from n time) (line (codes "time went back")) else n
+]

@@ -1,0 +1,63 @@
+//! How the times that lines say and the ticks of the clock belong together.
+ghost use Rattle.std.specs.Prelude.{◌≡◌, OnOk};
+ghost use Rattle.bus_node.specs.Clock.{time_of, tick_at, counted_from, went_back, started};
+
+use crate::node::Node;
+use script_text::print_text;
+use std::alloc::AllocError;
+
+/// How many microseconds a tick has.
+const TICK: u64 = 1000;
+
+/// By how many microseconds at most a time that came late is before that of the clock. One that is more before it went back.
+const LATE: u64 = 1_000_000;
+
+impl Node {
+    /// The time at which its clock stands, in microseconds.
+    pub(crate) fn time(&self) -> u64
+        ensures { result ≡ time_of self.now }
+    {
+        let passed = self.segment.now().saturating_sub(self.since);
+        self.start
+            .unwrap_or(0)
+            .saturating_add(passed.saturating_mul(TICK))
+    }
+
+    /// The tick of a time.
+    pub(crate) fn tick_at(&self, time: u64) -> u64
+        ensures { result ≡ tick_at self.now time }
+    {
+        let passed = time.saturating_sub(self.start.unwrap_or(time)) / TICK;
+        self.since.saturating_add(passed)
+    }
+
+    // The clock stands where it does, and that is this time.
+    fn count_from(&mut self, time: u64)
+        ensures { self.new ≡ counted_from self.old time }
+    {
+        self.since = self.segment.now();
+        self.start = Some(time);
+    }
+
+    // Whether a time is more than a second before that of the clock. One that is less before it came late.
+    fn went_back(&self, time: u64) -> bool
+        ensures { result ≡ went_back self.now time }
+    {
+        self.time().saturating_sub(time) > LATE
+    }
+
+    /// A line says a time. The first is that of tick 0. If one went back, this is told, and the time counts from it on.
+    pub(crate) fn start_at(&mut self, time: u64) -> Result<(), AllocError>
+        ensures { OnOk result (self.new ≡ started self.old time) }
+    {
+        let Some(_seen) = self.start else {
+            self.count_from(time);
+            return Ok(());
+        };
+        if !self.went_back(time) {
+            return Ok(());
+        }
+        self.count_from(time);
+        print_text(&mut self.text, "time went back")
+    }
+}
