@@ -7,7 +7,8 @@
  *   - a `struct fulwethi` starts as all zeros (`= {0}`), is made by fulwethi_new, and ends by fulwethi_free; only these two take one
  *     that isn't made;
  *   - it isn't copied: of two copies, the one that isn't passed is spent by the first call;
- *   - every call on it is made by the thread that made it, and no two at the same time;
+ *   - no two calls on it are made at the same time; any thread may make the next one, once it sees what the last one did (a mutex, a
+ *     queue or a join sees to that);
  *   - no pointer is null, also where its length is 0; a pointer to room for n bytes has n bytes behind it;
  *   - where frames of the bus were lost, fulwethi_missed is called before a later frame is fed.
  *

@@ -1,9 +1,9 @@
 /*
  * fulwethi for C++17: a node that frees itself, over fulwethi.h, which says what each call does and what a caller upholds.
  *
- * Nothing here throws or takes memory but take_next, which makes room in a vector. A node is moved, not copied. It is made, used and
- * destroyed by one thread: a move doesn't hand it to another one. One that wasn't made, or from which another was moved, may be made,
- * assigned to, asked is_made, and destroyed.
+ * Nothing here throws or takes memory but take_next, which makes room in a vector. A node is moved, not copied. One thread at a time uses
+ * it, and it may be handed to another one. One that wasn't made, or from which another was moved, may be made, assigned to, asked is_made,
+ * and destroyed.
  */
 #ifndef FULWETHI_HPP
 #define FULWETHI_HPP

@@ -5,7 +5,7 @@ ghost use Rattle.fulwethi_c.specs.Held.{Held, held_coded, held_owns};
 use crate::parts::Parts;
 use one_station::Node;
 use std::alloc::Global;
-use std::marker::Model;
+use std::marker::{Model, Send};
 
 /// A pointer, which owns a node or nothing. In C it has the pointer alone, and one of zeros owns nothing.
 #[repr(C)]
@@ -19,6 +19,9 @@ pub struct Handle {
 impl Model for Handle {
     ghost also_owns = { λ h. held_owns h.alloc h.ptr h.node };
 }
+
+// C may hand it to another thread: what it owns goes along.
+unsafe impl Send for Handle {}
 
 impl Handle {
     pub fn of_parts(parts: Parts<Node, Global>) -> Handle

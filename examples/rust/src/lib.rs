@@ -70,11 +70,12 @@ pub enum Event {
     Outcome { to: u8, number: u64, outcome: Outcome, reason: u8 },
 }
 
-/// A node. It stays on the thread that made it, since nothing is proved yet of one that is handed to another thread:
+/// A node. It may be handed to another thread, and one thread at a time uses it:
 ///
-/// ```compile_fail
+/// ```
 /// fn passes<T: Send>(_: T) {}
-/// passes(fulwethi::Node::new(0x35));
+/// passes(fulwethi::Node::new(0x35)?);
+/// # Ok::<(), fulwethi::Error>(())
 /// ```
 ///
 /// ```compile_fail
@@ -82,9 +83,13 @@ pub enum Event {
 /// shares(fulwethi::Node::new(0x35));
 /// ```
 pub struct Node {
-    // A pointer, so that a node is neither `Send` nor `Sync`. It is never null outside of a call.
+    // A pointer, so that a node isn't `Sync`. It is never null outside of a call.
     handle: raw::Handle,
 }
+
+// SAFETY: the library's handle may go to another thread with all that it owns, which is proved there, and every call takes the node
+// by `&mut` or by `&`, which no two threads have at the same time, since it isn't `Sync`.
+unsafe impl Send for Node {}
 
 impl Drop for Node {
     fn drop(&mut self) {

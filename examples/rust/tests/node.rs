@@ -29,6 +29,20 @@ fn a_message_is_given_and_acknowledged() {
 }
 
 #[test]
+fn a_node_goes_on_in_another_thread() {
+    let mut node = Node::new(0x21).unwrap();
+    assert_eq!(node.send(0x35, 0xEF00, &[7; 20]), Ok(1));
+    let mut node = std::thread::spawn(move || {
+        assert_eq!(node.send(0x35, 0xEF00, &[8; 20]), Ok(2));
+        node
+    })
+    .join()
+    .unwrap();
+    assert_eq!(node.send(0x35, 0xEF00, &[9; 20]), Ok(3));
+    assert_eq!(node.lane(0x35), Lane { pending: 3, in_doubt: 0 });
+}
+
+#[test]
 fn the_first_frame_is_an_rts() {
     let mut node = Node::new(0x21).unwrap();
     node.send(0x35, 0xEF00, &[7; 20]).unwrap();
