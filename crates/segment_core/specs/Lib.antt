@@ -12,3 +12,4 @@ pub mod Abreast
 pub mod Undisturbed
 pub mod Due
 pub mod Promise
+pub mod Next
