@@ -89,6 +89,7 @@ uint32_t fulwethi_raw_sent(struct fulwethi of, struct fulwethi *out);
 uint32_t fulwethi_raw_clock(struct fulwethi of, uint64_t tick, struct fulwethi *out);
 uint32_t fulwethi_raw_fire(struct fulwethi of, struct fulwethi *out);
 uint32_t fulwethi_raw_next_due_at(struct fulwethi of, uint64_t *tick, struct fulwethi *out);
+uint32_t fulwethi_raw_next_at(struct fulwethi of, uint64_t *tick, struct fulwethi *out);
 uint32_t fulwethi_raw_send_refusal(struct fulwethi of, uint8_t to, uint32_t pgn, size_t len, struct fulwethi *out);
 uint32_t fulwethi_raw_lane(struct fulwethi of, uint8_t to, struct fulwethi_lane *lane, struct fulwethi *out);
 uint32_t fulwethi_raw_counts(struct fulwethi of, struct fulwethi_counts *counts, struct fulwethi *out);
@@ -178,6 +179,10 @@ static inline uint32_t fulwethi_fire(struct fulwethi *node) { return fulwethi_ra
 
 /* Writes the tick at which the next timer is due. NOTHING: no timer runs. */
 static inline uint32_t fulwethi_next_due_at(struct fulwethi *node, uint64_t *tick) { return fulwethi_raw_next_due_at(*node, tick, node); }
+
+/* Writes the first tick, from that of its clock on, at which there is something to do: a frame for the bus, that of a broadcast too, or a
+ * timer. Until then the program may sleep, unless a frame comes or it makes a call. NOTHING: there is no such tick. */
+static inline uint32_t fulwethi_next_at(struct fulwethi *node, uint64_t *tick) { return fulwethi_raw_next_at(*node, tick, node); }
 
 /* Shows what is told next, with the length of its bytes; it stays. NOTHING: nothing is told. */
 static inline uint32_t fulwethi_event(struct fulwethi *node, struct fulwethi_event *event) { return fulwethi_raw_event(*node, event, node); }

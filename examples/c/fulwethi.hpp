@@ -102,6 +102,13 @@ public:
         return tick;
     }
 
+    /* The tick until which the program may sleep, if there is something to do at any. */
+    std::optional<std::uint64_t> next_at() noexcept {
+        std::uint64_t tick = 0;
+        if (::fulwethi_next_at(made(), &tick) != FULWETHI_DONE) return std::nullopt;
+        return tick;
+    }
+
     /* What is told next, if something is; it stays. */
     std::optional<event> next_event() noexcept {
         event told{};

@@ -29,7 +29,6 @@ enum {
     ECHO_FLAG = 1 << 18,  /* IFF_ECHO: the interface loops a frame back once it was put */
     ECHO_WAIT = 200,      /* so long an echo is waited for after a loss was told */
     ECHO_LOST = 1000,     /* after so long without one it counts as lost */
-    PACE = 50,            /* between the frames of a broadcast */
     RETRY = 10,           /* what found no memory, or no place in the interface's queue, is tried again */
     MOST_BYTES = 65536,   /* of a message that a line sends */
     MOST_LINE = 4 * MOST_BYTES
@@ -45,7 +44,6 @@ struct station {
     char tell[8];               /* what the node is to be told next: m missed, s sent, w to settle */
     int outstanding, is_lost;   /* a frame was put without an echo yet; and a loss was told since */
     uint64_t put_at, lost_at;   /* when */
-    uint64_t paced_until;       /* when the next frame of a broadcast may go out */
     int is_blocked, has_said;   /* the interface didn't take a frame; and that was said */
 };
 
@@ -189,12 +187,6 @@ static void block(struct station *at) {
     at->has_said = 1;
 }
 
-/* Whether it is one of a broadcast (TP.CM, TP.DT). */
-static int is_broadcast(const struct fulwethi_frame *frame) {
-    uint32_t kind = frame->id >> 8 & 0xFFFF;
-    return kind == 0xECFF || kind == 0xEBFF;
-}
-
 /* Puts the next frame where none is outstanding: 1 where it did. */
 static int transmit(struct station *at) {
     struct fulwethi_frame frame;
@@ -209,7 +201,6 @@ static int transmit(struct station *at) {
     at->outstanding = 1;
     at->has_said = 0;
     at->put_at = ticks(at);
-    if (is_broadcast(&frame)) at->paced_until = at->put_at + PACE;
     return 1;
 }
 
@@ -294,15 +285,15 @@ static int until(int pause, uint64_t now, uint64_t tick) {
     return pause < 0 || left < (uint64_t)pause ? (int)left : pause;
 }
 
-/* How long to wait for the bus, in milliseconds; -1 where nothing else is to be done. */
+/* How long to wait for the bus, in milliseconds; -1 where nothing else is to be done. While a frame is outstanding or what failed is to
+ * be tried again, the node's next frame has to wait too, so only its timers count. */
 static int pause_for(struct station *at) {
-    uint64_t due, now = ticks(at);
-    int pause = -1;
-    if (at->tell[0] || at->is_blocked || at->has_kept) pause = RETRY;
-    if (fulwethi_next_due_at(&at->node, &due) == FULWETHI_DONE) pause = until(pause, now, due);
+    uint64_t next, now = ticks(at);
+    int has_failed = at->tell[0] || at->is_blocked || at->has_kept, pause = has_failed ? RETRY : -1;
+    uint32_t code = has_failed || at->outstanding ? fulwethi_next_due_at(&at->node, &next) : fulwethi_next_at(&at->node, &next);
+    if (code == FULWETHI_DONE) pause = until(pause, now, next);
     if (at->is_lost) return until(pause, now, at->lost_at + ECHO_WAIT);
-    if (at->outstanding) return until(pause, now, at->put_at + ECHO_LOST);
-    return at->paced_until > now ? until(pause, now, at->paced_until) : pause;
+    return at->outstanding ? until(pause, now, at->put_at + ECHO_LOST) : pause;
 }
 
 /* One turn: waits, and does what is to be done. */

@@ -83,14 +83,12 @@ static void turn(struct station *at, uint64_t tick) {
     tell(at, tick);
 }
 
-/* How long to wait for a frame at most: until the next timer is due, and not above 50 ms while a broadcast waits between its frames,
- * of which no timer tells, or while something found no memory. */
+/* How long to wait for a frame at most: until there is something to do, and 50 ms where something found no memory. */
 static uint64_t wait_for(struct station *at, uint64_t tick) {
-    struct fulwethi_lane lane;
-    uint64_t due, most = 1000;
-    if (fulwethi_lane(&at->node, ALL, &lane) != FULWETHI_DONE || lane.pending || at->has_kept || at->is_put) most = 50;
-    if (fulwethi_next_due_at(&at->node, &due) != FULWETHI_DONE) return most;
-    return due <= tick ? 0 : due - tick < most ? due - tick : most;
+    uint64_t next;
+    if (at->has_kept || at->is_put) return 50;
+    if (fulwethi_next_at(&at->node, &next) != FULWETHI_DONE) return 1000;
+    return next <= tick ? 0 : next - tick < 1000 ? next - tick : 1000;
 }
 
 static int begin(struct station *at, uint8_t address, struct station *other) {

@@ -65,7 +65,7 @@ int main() {
 
     want(tool.clock(1000), FULWETHI_DONE, "clock");
     want(tool.fire(), FULWETHI_NOTHING_DUE, "fire");
-    if (tool.next_due_at()) return 1;
+    if (tool.next_due_at() || tool.next_at()) return 1;
     want(engine.close(port), FULWETHI_DONE, "close");
     want(engine.close(port), FULWETHI_NO_SUCH_PORT, "close again");
     return 0;

@@ -3,7 +3,7 @@ use Rattle.std.specs.Prelude.{◌≡◌, ℕ, ◌<◌, ◌≤◌, ◌-◌, ◌�
 use Rattle.std.specs.Prelude.{false}
 use Rattle.bus_frame.specs.Frames.{CanFrame}
 use Rattle.message_events.specs.declared.event.Event.{Event}
-use Rattle.tick_timers.specs.Due.{IsDueFrom}
+use Rattle.tick_timers.specs.Due.{IsDueFrom, IsNextFrom}
 use Rattle.pgn_ids.specs.declared.address.Address.{Address}
 use Rattle.port_table.specs.declared.port.PortId.{PortId}
 use Rattle.segment_law.specs.Segment.{are_addresses}
@@ -16,6 +16,7 @@ use Rattle.segment_law.specs.declared.refusal.Refusal.{Refusal}
 use Rattle.segment_core.specs.declared.segment.NewRefused.{NewRefused}
 use Rattle.segment_core.specs.declared.segment.NewRefused.TheVariants as made
 use Rattle.segment_core.specs.Due.{any_due}
+use Rattle.segment_core.specs.Next.{any_work}
 use Rattle.segment_core.specs.Answers.{refusal_of}
 use Rattle.one_station.specs.Node.{Node, Did, new_node}
 use Rattle.one_station.specs.Answers.{IsAnswered, IsFed, front_calls}
@@ -120,6 +121,9 @@ IsNextEvent before after answer = (after ≡ before) × (answer ≡ slice_get be
 
 abbrev pub IsDueNext : (before after : Node) → Option ℕ → Type 0
 IsDueNext before after answer = (after ≡ before) × IsDueFrom (any_due before.segment) answer
+
+abbrev pub IsNextTick : (before after : Node) → Option ℕ → Type 0
+IsNextTick before after answer = (after ≡ before) × IsNextFrom (any_work before.segment) before.segment.now answer
 
 -- a value of the node is written
 abbrev pub IsRead : {A : Type 0} → (shown : Node → A) → (written : A) → (before after : Node) → Unit {0} → Type 0

@@ -1,7 +1,7 @@
-//! What was told, and when a timer is due.
+//! What was told, and when something is to be done.
 ghost use Rattle.std.specs.Prelude.{IsSome};
 ghost use Rattle.fulwethi_c.specs.Codes.{found_code, taken_code};
-ghost use Rattle.fulwethi_c.specs.Calls.{IsMadeOn, IsNextEvent, IsEventWritten, IsTakenInto, IsDueNext, IsTickWritten};
+ghost use Rattle.fulwethi_c.specs.Calls.{IsMadeOn, IsNextEvent, IsEventWritten, IsTakenInto, IsDueNext, IsNextTick, IsTickWritten};
 
 use crate::codes::taken_code;
 use crate::handle::Handle;
@@ -40,6 +40,18 @@ pub extern "C" fn fulwethi_raw_next_due_at(of: Handle, tick: &mut u64, out: &mut
 {
     let held = of.into_parts().into_box();
     let code = write_tick(held.next_due_at(), tick);
+    *out = Handle::of_parts(Parts::of(held));
+    code
+}
+
+/// Writes the first tick, from that of its clock on, at which the node has something to do by itself.
+#[unsafe(no_mangle)]
+pub extern "C" fn fulwethi_raw_next_at(of: Handle, tick: &mut u64, out: &mut Handle) -> u32
+    requires { IsSome of.node }
+    ensures { IsMadeOn found_code (λ before after answer. IsNextTick before after answer × IsTickWritten tick.old tick.new answer) of.node out.new.node result }
+{
+    let held = of.into_parts().into_box();
+    let code = write_tick(held.next_at(), tick);
     *out = Handle::of_parts(Parts::of(held));
     code
 }

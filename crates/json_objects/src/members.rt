@@ -37,12 +37,7 @@ pub fn put_number(out: &mut Vec<u8>, later: bool, name: &str, n: u64) -> Result<
 
 /// A member that is a text.
 #[tactic(auto, unfolding(crate::specs::Objects::member_text))]
-pub fn put_string(
-    out: &mut Vec<u8>,
-    later: bool,
-    name: &str,
-    text: &[u8],
-) -> Result<(), AllocError>
+pub fn put_string(out: &mut Vec<u8>, later: bool, name: &str, text: &[u8]) -> Result<(), AllocError>
     ensures { OnOk result (out.new.items ≡ out.old.items ++ member_text later name.now (string text.now)) }
 {
     put_key(out, later, name)?;
@@ -61,12 +56,7 @@ fn put_digits(out: &mut Vec<u8>, bytes: &[u8]) -> Result<(), AllocError>
 
 /// A member that is the text of bytes: two hexadecimal digits each, in upper case.
 #[tactic(auto, unfolding(crate::specs::Objects::member_text))]
-pub fn put_hex(
-    out: &mut Vec<u8>,
-    later: bool,
-    name: &str,
-    bytes: &[u8],
-) -> Result<(), AllocError>
+pub fn put_hex(out: &mut Vec<u8>, later: bool, name: &str, bytes: &[u8]) -> Result<(), AllocError>
     ensures { OnOk result (out.new.items ≡ out.old.items ++ member_text later name.now (string (unspaced bytes.now))) }
 {
     put_key(out, later, name)?;

@@ -82,7 +82,9 @@ impl Course {
     fn grant(&mut self, granted: u8, next: u32)
         ensures { self.new ≡ with_grant granted next self.old }
     {
-        self.again = self.again.saturating_add(asked_again(self.asked, granted, next));
+        self.again = self
+            .again
+            .saturating_add(asked_again(self.asked, granted, next));
         self.asked = asked_to(self.asked, granted, next);
     }
 

@@ -1,8 +1,9 @@
 //! The clock, in ticks of 1 ms, and the timers of the sessions (SAE J1939-21, T1 to T4, Tr and Th).
 ghost use Rattle.std.specs.Prelude.{◌≡◌, ◌<◌, ◌≤◌, ◌-◌, ◌↔◌, IsErrOf, OnErr};
-ghost use Rattle.tick_timers.specs.Due.{IsDueFrom};
+ghost use Rattle.tick_timers.specs.Due.{IsDueFrom, IsNextFrom};
 ghost use Rattle.segment_law.specs.declared.call.Call.TheVariants.{Tick, Fire};
 ghost use Rattle.segment_core.specs.Due.{any_due};
+ghost use Rattle.segment_core.specs.Next.{any_work};
 ghost use Rattle.one_station.specs.Answers.{IsAnswered};
 
 use crate::error::NodeError;
@@ -50,5 +51,14 @@ impl Node {
         ensures { IsDueFrom (any_due self.now.segment) result }
     {
         self.segment.next_due_at()
+    }
+
+    /// The first tick, from that of its clock on, at which it has something to do by itself: a frame for the bus, a frame that waits
+    /// to be looked at, or a timer that `fire` has to fire. So a loop may sleep until then, unless a frame comes from the bus or the
+    /// program makes a call. None where there is no such tick up to the last one of `u64`.
+    pub fn next_at(&self) -> Option<u64>
+        ensures { IsNextFrom (any_work self.now.segment) self.now.segment.now result }
+    {
+        self.segment.next_at()
     }
 }

@@ -17,3 +17,4 @@ pub mod Turns
 pub mod Together
 pub mod Undisturbed
 pub mod Dues
+pub mod Nexts

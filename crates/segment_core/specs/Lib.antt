@@ -13,3 +13,4 @@ pub mod Abreast
 pub mod Undisturbed
 pub mod Due
 pub mod Promise
+pub mod Next

@@ -13,6 +13,7 @@ mod driven;
 mod due;
 mod frames;
 mod image;
+mod next;
 mod places;
 mod ports;
 mod readers;

@@ -3,6 +3,7 @@ mod calls;
 mod commands;
 mod memory;
 mod missed;
+mod next;
 mod pairs;
 mod refusals;
 mod replies;

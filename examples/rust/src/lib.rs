@@ -220,6 +220,13 @@ impl Node {
         Some(tick)
     }
 
+    /// The tick until which the program may sleep, if there is something to do at any.
+    pub fn next_at(&mut self) -> Option<u64> {
+        let mut tick = 0;
+        done(self.call(|of, out| unsafe { raw::fulwethi_raw_next_at(of, &mut tick, out) })).ok()?;
+        Some(tick)
+    }
+
     pub fn lane(&mut self, to: u8) -> Lane {
         let mut lane = Lane::default();
         self.call(|of, out| unsafe { raw::fulwethi_raw_lane(of, to, &mut lane, out) });

@@ -44,6 +44,7 @@ extern "C" {
     pub fn fulwethi_raw_clock(of: Handle, tick: u64, out: *mut Handle) -> u32;
     pub fn fulwethi_raw_fire(of: Handle, out: *mut Handle) -> u32;
     pub fn fulwethi_raw_next_due_at(of: Handle, tick: *mut u64, out: *mut Handle) -> u32;
+    pub fn fulwethi_raw_next_at(of: Handle, tick: *mut u64, out: *mut Handle) -> u32;
     pub fn fulwethi_raw_send_refusal(of: Handle, to: u8, pgn: u32, len: usize, out: *mut Handle) -> u32;
     pub fn fulwethi_raw_lane(of: Handle, to: u8, lane: *mut crate::Lane, out: *mut Handle) -> u32;
     pub fn fulwethi_raw_counts(of: Handle, counts: *mut crate::Counts, out: *mut Handle) -> u32;

@@ -52,7 +52,7 @@ fn the_first_frame_is_an_rts() {
     node.sent().unwrap();
     // 1,250 ticks later nothing has come.
     let due = node.next_due_at().unwrap();
-    assert_eq!(due, 1250);
+    assert_eq!((due, node.next_at()), (1250, Some(1250)));
     node.clock(due).unwrap();
     assert_eq!(node.fire(), Ok(()));
     assert_eq!(node.fire(), Err(Error::NothingDue));
@@ -78,7 +78,7 @@ fn what_is_refused_changes_nothing() {
     assert_eq!((node.resume(port), node.resume(port)), (Ok(()), Err(Error::PortNotPaused)));
     assert_eq!(node.close(port + 1), Err(Error::NoSuchPort));
     assert_eq!(node.missed(), Missed::Ended);
-    assert_eq!((node.next_event(), node.next_due_at()), (None, None));
+    assert_eq!((node.next_event(), node.next_due_at(), node.next_at()), (None, None, None));
 }
 
 #[test]

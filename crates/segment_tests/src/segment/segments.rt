@@ -35,7 +35,7 @@ fn told(rt: &impl Abort, segment: &mut Segment, call: Call) -> Events {
 }
 
 // The call is done, and tells nothing.
-fn is_quiet(rt: &impl Abort, segment: &mut Segment, call: Call) {
+pub(crate) fn is_quiet(rt: &impl Abort, segment: &mut Segment, call: Call) {
     same(rt, told(rt, segment, call).len(), 0);
 }
 

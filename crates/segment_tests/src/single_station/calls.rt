@@ -69,6 +69,10 @@ pub(crate) fn due(node: &Node) -> Option<u64> {
     node.next_due_at()
 }
 
+pub(crate) fn next(node: &Node) -> Option<u64> {
+    node.next_at()
+}
+
 // A frame that found no memory to be looked at is settled. One that is looked at without room ends the test, which tells then that memory
 // was refused.
 pub(crate) fn feed(rt: &impl Abort, node: &mut Node, frame: Frame) -> Result<(), NodeError> {

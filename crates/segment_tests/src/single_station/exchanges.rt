@@ -43,12 +43,16 @@ fn are_quiet(rt: &impl Abort, a: &mut Node, b: &mut Node) {
 // A test's steps are a function of their own, which owns nothing: what a test owns takes its part of the proof at each of them.
 fn broadcasts(rt: &impl Abort, a: &mut Node, b: &mut Node) {
     begins(rt, a, b, Address::GLOBAL);
+    same(rt, next(a), Some(0));
     carries(rt, a, b, BROADCAST[0]);
     same(rt, front(a), Ok(None));
+    same(rt, next(a), Some(50));
     is_tick(rt, a, 50);
     carries(rt, a, b, BROADCAST[1]);
+    same(rt, next(a), Some(100));
     is_tick(rt, a, 100);
     carries(rt, a, b, BROADCAST[2]);
+    same(rt, next(a), None);
     ends(rt, a, Address::GLOBAL, 1, Outcome::Broadcast);
     gives(rt, b, &NINE);
     are_quiet(rt, a, b);
@@ -86,6 +90,7 @@ fn connection(rt: HostRuntime) {
 // No CTS comes within T3.
 fn times_out(rt: &impl Abort, a: &mut Node) {
     same(rt, due(a), Some(1250));
+    same(rt, next(a), Some(1250));
     is_tick(rt, a, 1249);
     same(rt, fire(a), Err(NodeError::Refused(Refusal::NothingDue)));
     is_tick(rt, a, 1250);

@@ -81,6 +81,7 @@ fn fills(rt: &impl Abort, b: &mut Node) {
         same(rt, feed(rt, b, request), Ok(()));
     }
     same(rt, feed(rt, b, request), refused(Refusal::TxFull));
+    same(rt, next(b), Some(0));
     same(rt, got(rt, front(b)).is_some(), true);
     same(rt, sent(b), Ok(()));
     same(rt, feed(rt, b, request), Ok(()));
