@@ -1,8 +1,7 @@
 -- Frames of other messages change nothing of what a listener has of one key, and is told of it.
-use Rattle.std.proofs.Common.{◌≡◌, ℕ, List, [], ◌∷◌, ◌++◌, Bool, true, false, not, cond, Option, Some, None, refl, sym, ap, ◌∙◌, filter, if◌then◌else◌, option_to_list, ◌||◌}
+use Rattle.std.proofs.Common.{◌≡◌, ℕ, List, [], ◌∷◌, ◌++◌, Bool, true, false, not, cond, Option, Some, None, refl, sym, ap, ◌∙◌, if◌then◌else◌, option_to_list, ◌||◌}
 use Rattle.std.specs.Prelude.{nat_lt}
 use Rattle.std.specs.List.{list_any}
-use Rattle.std.specs.Map.{remove_entry}
 use Rattle.std.proofs.lemmas.List.{append-nil}
 use Rattle.bus_frame.specs.Frames.{CanFrame}
 use Rattle.log_text.specs.declared.iface.Iface.{Iface}
@@ -18,7 +17,7 @@ use Rattle.tp_wire.specs.declared.wire.Wire.TheVariants.{Cm, Packet, Request, Ac
 use Rattle.log_decode.specs.contracts.key.KeyEq.TheImpl.Laws.{laws-law}
 use Rattle.log_decode.specs.Keys.{same_key, same_iface, key_of, key_back}
 use Rattle.log_decode.specs.Belonging.{keys_of_cm, keys_of, is_frame_of, told_of_key}
-use Rattle.log_decode.specs.Session.{told_of, opened, renewed, is_again, heard, sequence_heard, abort_heard}
+use Rattle.log_decode.specs.Session.{told_of, opened, renewed, heard, sequence_heard, abort_heard}
 use Rattle.log_decode.specs.Sessions.{Sessions, Heard, session_at, put, without, ended_at, settled, heard_at, renewed_at, is_again_at, is_of, not_begun, opened_at, announced, abort_taken}
 use Rattle.log_decode.specs.Decoder.{tp_news, etp_news, both_aborted, aborted, cm_frame_taken, wire_taken, frame_taken}
 use Rattle.log_decode.specs.declared.key.Key.{Key}

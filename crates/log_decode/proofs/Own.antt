@@ -1,14 +1,13 @@
 -- What a listener has under way of one key, and is told of it, apart from all else.
 use Rattle.std.proofs.Common.{◌≡◌, ℕ, List, [], ◌∷◌, ◌++◌, max, Bool, true, false, not, cond, Option, Some, None, refl, sym, ap, ◌∙◌, filter, if◌then◌else◌, option_to_list}
-use Rattle.std.specs.Prelude.{flat_map, nat_lt}
-use Rattle.std.proofs.lemmas.List.{append-nil, append_assoc}
+use Rattle.std.specs.Prelude.{nat_lt}
+use Rattle.std.proofs.lemmas.List.{append-nil}
 use Rattle.std.proofs.lemmas.List.Elements.{filter-append}
-use Rattle.std.specs.Map.{remove_entry, lookup}
 use Rattle.pgn_ids.specs.Pgn.{clean}
 use Rattle.seg_cut.specs.Join.{is_complete}
 use Rattle.log_decode.specs.contracts.key.KeyEq.TheImpl.Laws.{laws-law}
 use Rattle.log_decode.specs.Keys.{same_key}
-use Rattle.log_decode.specs.Session.{told_of, given_of, opened, renewed, is_again}
+use Rattle.log_decode.specs.Session.{told_of, opened, renewed, is_again}
 use Rattle.log_decode.specs.Sessions.{Sessions, Heard, session_at, put, without, ended_at, settled, heard_at, losses, silent_entry, silenced, broken_off, renewed_at, is_again_at, not_begun, opened_at, announced}
 use Rattle.log_decode.specs.Decoder.{goes_back, passed}
 use Rattle.log_decode.specs.declared.key.Key.{Key}
@@ -19,7 +18,7 @@ use Rattle.log_decode.specs.declared.sessions.News.{News}
 use Rattle.log_decode.specs.declared.told.Cause.{Cause}
 use Rattle.log_decode.specs.declared.told.Cause.TheVariants.{Replaced, TimedOut, WentBack, Unsound, TooLong}
 use Rattle.log_decode.specs.declared.told.Told.{Told}
-use Rattle.log_decode.specs.declared.told.Told.TheVariants.{Given, Lost}
+use Rattle.log_decode.specs.declared.told.Told.TheVariants.{Given}
 use Rattle.log_decode.proofs.AtKey.{by_session, by_renewed}
 use Rattle.log_decode.specs.Belonging.{key_told, told_of_key}
 
@@ -177,3 +176,22 @@ module _ (key : Key) where
       either : (b : Bool) → of_own (announces news most now h b) ≡ announces news most now (of_own h) b
       either true = (λ i. (own_renewed now h.0 i, told_of_key key h.1))
       either false = own_opened news most now (settled key (fates.Lost Replaced) h) ∙ ap (opened_at key news most now) (own_settled (fates.Lost Replaced) h)
+
+  -- ---- where it has nothing else under way
+
+  session_first : (x : Session) → session_at key ((key, x) ∷ []) ≡ Some x
+  session_first x = ap (λ b. cond b (Some x) None) (laws-law.refl key)
+
+  put_first : (x y : Session) → put key y ((key, x) ∷ []) ≡ (key, y) ∷ []
+  put_first x y = ap (λ b. if b then (key, y) ∷ [] else (key, x) ∷ (key, y) ∷ []) (laws-law.refl key)
+
+  pub heard_alone : (f : Session → Session × Fate) (x y : Session) (fate : Fate) (told : List Told) → f x ≡ (y, fate) → heard_at f key ((key, x) ∷ [], told) ≡ settled key fate ((key, y) ∷ [], told)
+  heard_alone f x y fate told e =
+      ap (by_session f key ((key, x) ∷ [], told)) (session_first x)
+      ∙ (λ i. settled key (e i).1 (put key (e i).0 ((key, x) ∷ []), told))
+      ∙ ap (λ es. settled key fate (es, told)) (put_first x y)
+
+  pub ended_alone : (y : Session) (fate : Fate) (told : List Told) → ended_at key fate ((key, y) ∷ [], told) ≡ ([], told ++ option_to_list (told_of key y fate))
+  ended_alone y fate told =
+      ap (by_end fate ((key, y) ∷ [], told)) (session_first y)
+      ∙ (λ i. (cond (laws-law.refl key i) [] ((key, y) ∷ []), told ++ option_to_list (told_of key y fate)))
