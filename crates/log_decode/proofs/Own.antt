@@ -77,7 +77,7 @@ module _ (key : Key) where
   told_here k s (fates.Lost cause) t e = rw (e) refl
   told_here k s (fates.Aborted reason who) t e = rw (e) refl
 
-  of_losses : (cause : Cause) (es : Sessions) → told_of_key key (losses (fates.Lost cause) es) ≡ losses (fates.Lost cause) (own es)
+  pub of_losses : (cause : Cause) (es : Sessions) → told_of_key key (losses (fates.Lost cause) es) ≡ losses (fates.Lost cause) (own es)
   of_losses cause [] = refl
   of_losses cause (e ∷ es) = by (same_key key e.0) refl (of_losses cause es)
     where
