@@ -1,10 +1,10 @@
 -- A message of which a listener has nothing else under way, and what may be told of it.
-use Rattle.std.proofs.Common.{◌≡◌, ℕ, List, [], ◌∷◌, ◌++◌, max, Bool, true, false, not, cond, Some, None, length, refl, sym, ap, ◌∙◌, subst, filter, if◌then◌else◌, option_to_list, ◌⊎◌, inl, inr}
+use Rattle.std.proofs.Common.{◌≡◌, ℕ, List, [], ◌∷◌, max, true, false, not, cond, Some, None, length, refl, sym, ap, ◌∙◌, subst, if◌then◌else◌, option_to_list, ◌⊎◌, inl, inr}
 use Rattle.std.proofs.lemmas.List.{append-nil}
 use Rattle.pgn_ids.specs.Pgn.{clean}
 use Rattle.seg_cut.specs.Join.{is_complete}
-use Rattle.log_decode.specs.Session.{is_silent, told_of}
-use Rattle.log_decode.specs.Sessions.{Heard, heard_at, losses, silent_entry, silenced, broken_off}
+use Rattle.log_decode.specs.Session.{is_silent}
+use Rattle.log_decode.specs.Sessions.{Heard, heard_at, losses, silenced, broken_off}
 use Rattle.log_decode.specs.Decoder.{goes_back, passed}
 use Rattle.log_decode.specs.declared.key.Key.{Key}
 use Rattle.log_decode.specs.declared.session.Session.{Session}
@@ -64,16 +64,20 @@ module _ (key : Key) (pgn : ℕ) (bytes : List ℕ) where
     alone_comes : (x : Session) → Comes S' (f x) → Holds S' (heard_at f key ((key, x) ∷ [], []))
     alone_comes x (inl c) = inl (c.0, heard_alone key f x c.0 fates.GoesOn [] c.1, c.2, c.3)
     alone_comes x (inr (inl c)) =
-        inr (Given key (clean pgn) bytes ∷ [],
-        heard_alone key f x c.0 fates.Given [] c.1
-        ∙ ended_alone key c.0 fates.Given []
-        ∙ (λ i. ([], option_to_list (cond (c.3 i) (Some (Given key (clean c.0.pgn) c.0.join.bytes)) None)))
-        ∙ (λ i. ([], Given key (clean (c.2.pgn_is i)) (c.4 i) ∷ [])),
-        inr (inl refl))
+        inr (
+          Given key (clean pgn) bytes ∷ [],
+          heard_alone key f x c.0 fates.Given [] c.1
+              ∙ ended_alone key c.0 fates.Given []
+              ∙ (λ i. ([], option_to_list (cond (c.3 i) (Some (Given key (clean c.0.pgn) c.0.join.bytes)) None)))
+              ∙ (λ i. ([], Given key (clean (c.2.pgn_is i)) (c.4 i) ∷ [])),
+          inr (inl refl),
+        )
     alone_comes x (inr (inr c)) =
-        inr (Lost key (clean c.0.pgn) (length c.0.join.bytes) c.0.join.size c.1 ∷ [],
-        heard_alone key f x c.0 (fates.Lost c.1) [] c.2 ∙ ended_alone key c.0 (fates.Lost c.1) [],
-        lost c.0 c.3 c.1)
+        inr (
+          Lost key (clean c.0.pgn) (length c.0.join.bytes) c.0.join.size c.1 ∷ [],
+          heard_alone key f x c.0 (fates.Lost c.1) [] c.2 ∙ ended_alone key c.0 (fates.Lost c.1) [],
+          lost c.0 c.3 c.1,
+        )
 
     pub comes : (h : Heard) → Holds S h → Holds S' (heard_at f key h)
     comes h (inl a) = subst (λ x. Holds S' (heard_at f key x)) (sym a.1) (alone_comes a.0 (does a.0 a.2 a.3))

@@ -1,5 +1,5 @@
 -- What a frame of a message does to it, as frames before it may be missing.
-use Rattle.std.proofs.Common.{◌≡◌, ℕ, suc, ◌+◌, ◌<◌, ◌≤◌, ◌==◌, ◌&&◌, List, Bool, true, false, length, Option, Some, None, refl, sym, ap, ◌∙◌, subst, arith, nat_lt, if◌then◌else◌, ◌⊎◌, inl, inr}
+use Rattle.std.proofs.Common.{◌≡◌, ℕ, ◌+◌, ◌<◌, ◌≤◌, ◌==◌, ◌&&◌, List, Bool, true, false, length, Option, Some, refl, sym, ap, ◌∙◌, subst, arith, nat_lt, if◌then◌else◌, ◌⊎◌, inl, inr}
 use Rattle.std.specs.Prelude.{nat_le}
 use Rattle.std.proofs.lemmas.Bool.{le-leb, leb-true, eq-eqb, eqb-true, ne_eqb}
 use Rattle.pgn_ids.specs.Address.{global_address}
@@ -88,15 +88,23 @@ module _ (laws : Laws) (key : Key) (pgn : ℕ) (bytes : List ℕ) where
     next_comes t false e =
         let next : (roomy x.join).next ≡ x.join.next = roomy_next x.join in
         let le = g.up_to in
-        inl (accepted x b now, is_taken to x k b now false (wanted t) e, record { pgn_is = o.pgn_is; size_is = (front_next t).same_size },
-        record { offset_is = g.offset_is; window_is = g.window_is; front = front_next t; up_to = omega (arith, next, le) })
+        inl (
+          accepted x b now,
+          is_taken to x k b now false (wanted t) e,
+          record { pgn_is = o.pgn_is; size_is = (front_next t).same_size },
+          record { offset_is = g.offset_is; window_is = g.window_is; front = front_next t; up_to = omega (arith, next, le) },
+        )
 
     other_comes : (k == x.join.next) ≡ false → (m : Bool) → (nat_lt x.join.next k && to.0 == global_address) ≡ m → Becomes (IsFront offset window (k + 1)) (packet_heard to x k b now)
     other_comes t true e = inr (inr (x, Missing, is_passed to x k b now true (rw (t) refl) e, o))
     other_comes t false e =
         let le = g.up_to in
-        inl (renewed x now, is_passed to x k b now false (rw (t) refl) e, record { pgn_is = o.pgn_is; size_is = o.size_is },
-        record { offset_is = g.offset_is; window_is = g.window_is; front = g.front; up_to = omega (arith, le) })
+        inl (
+          renewed x now,
+          is_passed to x k b now false (rw (t) refl) e,
+          record { pgn_is = o.pgn_is; size_is = o.size_is },
+          record { offset_is = g.offset_is; window_is = g.window_is; front = g.front; up_to = omega (arith, le) },
+        )
 
     pub packet_comes : Becomes (IsFront offset window (k + 1)) (sequence_heard to x sequence b now)
     packet_comes = subst (Becomes (IsFront offset window (k + 1))) (sym heard_as) (by (k == x.join.next) refl)
@@ -144,10 +152,12 @@ module _ (laws : Laws) (key : Key) (pgn : ℕ) (bytes : List ℕ) where
         let size : (roomy x.join).size ≡ x.join.size = roomy_size x.join in
         let all : packet_count (roomy x.join).size ≡ count = ap packet_count (size ∙ o.size_is) in
         let w' = g.within in
-        inl (accepted x b now,
-        is_taken to x n b now false w (ne_eqb ((roomy x.join).next + 1) (packet_count (roomy x.join).size + 1) (λ e. absurd (omega (arith, e, next, all, more, w')))),
-        record { pgn_is = o.pgn_is; size_is = size ∙ o.size_is },
-        record { last = g.last; window_is = g.window_is; gap = g.gap; up_to = omega (arith, next, more); early = g.early; within = g.within; shut = g.shut })
+        inl (
+          accepted x b now,
+          is_taken to x n b now false w (ne_eqb ((roomy x.join).next + 1) (packet_count (roomy x.join).size + 1) (λ e. absurd (omega (arith, e, next, all, more, w')))),
+          record { pgn_is = o.pgn_is; size_is = size ∙ o.size_is },
+          record { last = g.last; window_is = g.window_is; gap = g.gap; up_to = omega (arith, next, more); early = g.early; within = g.within; shut = g.shut },
+        )
 
     stuck_other : wants x.join n ≡ false → (m : Bool) → (nat_lt x.join.next n && to.0 == global_address) ≡ m → Becomes (IsStuck bound) (packet_heard to x n b now)
     stuck_other w true e = inr (inr (x, Missing, is_passed to x n b now true w e, o))
@@ -209,11 +219,19 @@ module _ (laws : Laws) (key : Key) (pgn : ℕ) (bytes : List ℕ) where
   pub etp_cts_comes : (x : Session) (o : Of x) (offset granted first now : ℕ) → Ahead offset x → Becomes (Ahead offset) (heard x (EtpCts granted first pgn) now)
   etp_cts_comes x o offset granted first now (inl g) =
       let reach = g.reach in
-      inl (record x { window = Some 0; heard = now }, rw (same x o) refl, record { pgn_is = o.pgn_is; size_is = o.size_is },
-      inl (record { last = 0; window_is = refl; front = g.front; up_to = g.up_to; reach = omega (arith, reach) }))
+      inl (
+        record x { window = Some 0; heard = now },
+        rw (same x o) refl,
+        record { pgn_is = o.pgn_is; size_is = o.size_is },
+        inl (record { last = 0; window_is = refl; front = g.front; up_to = g.up_to; reach = omega (arith, reach) }),
+      )
   etp_cts_comes x o offset granted first now (inr g) =
-      inl (record x { window = Some 0; heard = now }, rw (same x o) refl, record { pgn_is = o.pgn_is; size_is = o.size_is },
-      inr (record { last = 0; window_is = refl; gap = g.gap; up_to = g.up_to; early = g.early; within = g.within; shut = closed g.shut }))
+      inl (
+        record x { window = Some 0; heard = now },
+        rw (same x o) refl,
+        record { pgn_is = o.pgn_is; size_is = o.size_is },
+        inr (record { last = 0; window_is = refl; gap = g.gap; up_to = g.up_to; early = g.early; within = g.within; shut = closed g.shut }),
+      )
     where
       closed : (x.offset + g.last < g.gap) ⊎ (g.gap ≤ x.offset) → (x.offset + 0 < g.gap) ⊎ (g.gap ≤ x.offset)
       closed (inl s) = inl (omega (arith, s))
@@ -221,12 +239,20 @@ module _ (laws : Laws) (key : Key) (pgn : ℕ) (bytes : List ℕ) where
 
   pub dpo_comes : (x : Session) (o : Of x) (offset size now : ℕ) → Ahead offset x → Becomes (Within offset size 1) (heard x (EtpDpo size offset pgn) now)
   dpo_comes x o offset size now (inl g) =
-      inl (record x { offset = offset; window = Some size; heard = now }, rw (same x o) refl, record { pgn_is = o.pgn_is; size_is = o.size_is },
-      inl (record { offset_is = refl; window_is = refl; front = g.front; up_to = g.up_to }))
+      inl (
+        record x { offset = offset; window = Some size; heard = now },
+        rw (same x o) refl,
+        record { pgn_is = o.pgn_is; size_is = o.size_is },
+        inl (record { offset_is = refl; window_is = refl; front = g.front; up_to = g.up_to }),
+      )
   dpo_comes x o offset size now (inr g) =
       let early = g.early in
-      inl (record x { offset = offset; window = Some size; heard = now }, rw (same x o) refl, record { pgn_is = o.pgn_is; size_is = o.size_is },
-      inr (record { last = size; window_is = refl; gap = g.gap; up_to = g.up_to; early = omega (arith, early); within = g.within; shut = inr early }))
+      inl (
+        record x { offset = offset; window = Some size; heard = now },
+        rw (same x o) refl,
+        record { pgn_is = o.pgn_is; size_is = o.size_is },
+        inr (record { last = size; window_is = refl; gap = g.gap; up_to = g.up_to; early = omega (arith, early); within = g.within; shut = inr early }),
+      )
 
   -- a DPO that is missing: the window's first packet can't come any more
   pub dpo_missing : (offset size : ℕ) → offset + 1 ≤ count → (x : Session) → Ahead offset x → Within offset size 1 x

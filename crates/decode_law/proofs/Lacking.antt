@@ -23,7 +23,6 @@ use Rattle.segment_law.specs.Quiet.{quiet, quiet_broadcast, quiet_connection, is
 use Rattle.log_decode.specs.Session.{opened, sequence_heard, heard}
 use Rattle.log_decode.specs.Sessions.{Heard, heard_at, losses, announced}
 use Rattle.log_decode.specs.Decoder.{frame_taken, cm_frame_taken, wire_taken, passed}
-use Rattle.log_decode.specs.View.{State}
 use Rattle.log_decode.specs.declared.key.Key.{Key}
 use Rattle.log_decode.specs.declared.session.Session.{Session}
 use Rattle.log_decode.specs.declared.session.Fate.{Fate}
@@ -32,12 +31,12 @@ use Rattle.log_decode.specs.declared.told.Cause.TheVariants.{TooLong, EndOfLog}
 use Rattle.log_decode.specs.declared.told.Told.TheVariants.{Lost}
 use Rattle.log_decode.proofs.Own.{of_own, own_heard, own_announced}
 use Rattle.decode_law.specs.Hearing.{IsSendable, key_for, kind_to}
-use Rattle.decode_law.specs.Lacking.{Entry, IsToldOf, LacksFrames, IsToldRightly, told_to_end}
+use Rattle.decode_law.specs.Lacking.{IsToldOf, IsToldRightly}
 use Rattle.decode_law.proofs.Steps.{Laws, key_with}
 use Rattle.log_decode.specs.Keys.{transport_of}
 use Rattle.decode_law.proofs.Alone.{IsOf, Holds, Comes, lost, passes, none_passes, comes}
-use Rattle.decode_law.proofs.Through.{Leads, Stands, Fine, nothing_more, one_more, free_only}
-use Rattle.decode_law.proofs.Gaps.{IsFront, front_later, packet_comes, cts_comes, ack_comes, etp_ack_comes, IsAhead, IsStuck, Ahead, Within, stuck_later, etp_cts_comes, dpo_comes, dpo_missing, etp_packet_comes, etp_packet_missing, next_window}
+use Rattle.decode_law.proofs.Through.{Fine, nothing_more, one_more, free_only}
+use Rattle.decode_law.proofs.Gaps.{IsFront, front_later, packet_comes, cts_comes, ack_comes, etp_ack_comes, Ahead, Within, stuck_later, etp_cts_comes, dpo_comes, dpo_missing, etp_packet_comes, etp_packet_missing, next_window}
 
 module _ (laws : Laws) (m : Pending) (s d : Address) (iface : Iface) (kind : Kind) (h : IsSendable m s d) where
   abbrev key : Key

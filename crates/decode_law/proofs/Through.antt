@@ -1,6 +1,6 @@
 -- A listener goes through a log of whatever frames, in which those of one message are a part of a list.
-use Rattle.std.proofs.Common.{◌≡◌, ℕ, List, [], ◌∷◌, ◌++◌, Bool, true, false, cond, Some, None, refl, sym, ap, ◌∙◌, subst, filter, map, if◌then◌else◌, ◌⊎◌, inl, inr, unwrap_or, true≢false, option_to_list}
-use Rattle.std.specs.Prelude.{flat_map, All, ⊤}
+use Rattle.std.proofs.Common.{◌≡◌, ℕ, List, [], ◌∷◌, ◌++◌, Bool, true, false, cond, Some, None, refl, sym, ap, ◌∙◌, subst, filter, map, if◌then◌else◌, ◌⊎◌, inl, inr, unwrap_or, true≢false}
+use Rattle.std.specs.Prelude.{⊤}
 use Rattle.std.specs.Map.{lookup}
 use Rattle.std.proofs.lemmas.List.{append-nil}
 use Rattle.std.proofs.lemmas.List.Elements.{All-head, All-tail}
@@ -11,10 +11,9 @@ use Rattle.log_text.specs.contracts.iface.IfaceEq.TheImpl.Laws.{laws-law}
 use Rattle.log_decode.specs.Keys.{same_key, same_iface}
 use Rattle.log_decode.specs.Belonging.{is_frame_of, told_of_key}
 use Rattle.log_decode.specs.Sessions.{Sessions, Heard, session_at, losses}
-use Rattle.log_decode.specs.Decoder.{frame_taken, now_at, passed, bus_taken, taken, ended}
+use Rattle.log_decode.specs.Decoder.{frame_taken, now_at, passed, taken, ended}
 use Rattle.log_decode.specs.View.{Bus, Buses, State, new_bus, bus_at, put_bus}
 use Rattle.log_decode.specs.declared.key.Key.{Key}
-use Rattle.log_decode.specs.declared.session.Session.{Session}
 use Rattle.log_decode.specs.declared.session.Fate.TheVariants as fates
 use Rattle.log_decode.specs.declared.told.Cause.TheVariants.{EndOfLog}
 use Rattle.log_decode.specs.declared.told.Told.{Told}

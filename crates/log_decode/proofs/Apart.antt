@@ -146,7 +146,7 @@ module _ (key : Key) where
   pub other_frame : (iface : Iface) (frame : CanFrame) (most now : ℕ) (h : Heard) → is_frame_of key iface frame ≡ false → of_own key (frame_taken iface frame most now h) ≡ of_own key h
   other_frame iface frame most now h =
       elim (reading frame) as (λ r. elim r [ None ↦ false | Some r ↦ list_any (same_key key) (keys_of (record { iface = iface; from = r.1; to = r.2 }) r.0) ] ≡ false
-          → of_own key (elim r [ None ↦ h | Some r ↦ wire_taken (record { iface = iface; from = r.1; to = r.2 }) r.0 most now h ]) ≡ of_own key h) [
+      → of_own key (elim r [ None ↦ h | Some r ↦ wire_taken (record { iface = iface; from = r.1; to = r.2 }) r.0 most now h ]) ≡ of_own key h) [
         | None ↦ λ e. refl
         | Some r ↦ λ e. other_wire (record { iface = iface; from = r.1; to = r.2 }) r.0 most now h e
       ]
