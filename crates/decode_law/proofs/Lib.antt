@@ -10,3 +10,7 @@ mod Windows
 mod Connections
 mod Drives
 mod InForm
+mod Alone
+mod Through
+mod Gaps
+mod Lacking

@@ -96,6 +96,13 @@ roomy_next j = by (j.room == 0) (max (j.next - 1) 64)
     by true room = refl
     by false room = refl
 
+pub roomy_size : (j : Join) → (roomy j).size ≡ j.size
+roomy_size j = by (j.room == 0) (max (j.next - 1) 64)
+  where
+    by : (b : Bool) (room : ℕ) → (cond b (with_room j room) j).size ≡ j.size
+    by true room = refl
+    by false room = refl
+
 module _ (laws : Laws) (c : Case) where
   abbrev pub len : ℕ
   len = length c.m.bytes

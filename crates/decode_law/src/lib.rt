@@ -3,6 +3,8 @@
 
 mod laws;
 mod lines;
+mod missing;
 
 pub use laws::{undisturbed_drives_are_heard, undisturbed_messages_are_heard};
 pub use lines::written_lines_are_read_in_form;
+pub use missing::lacking_logs_tell_no_other_message;

@@ -3,3 +3,5 @@ pub mod Buses
 pub mod Silences
 pub mod Due
 pub mod Keeping
+pub mod Own
+pub mod Apart

@@ -4,3 +4,4 @@ pub mod Sessions
 pub mod Due
 pub mod View
 pub mod Decoder
+pub mod Belonging

@@ -18,5 +18,5 @@ mod told;
 pub use decoder::Decoder;
 pub use key::{Key, Transport};
 pub use message_events::Bytes;
-pub use session::{CONNECTION_PATIENCE, Session};
+pub use session::{CONNECTION_PATIENCE, Fate, Session};
 pub use told::{Cause, Told};

@@ -17,14 +17,14 @@ use tp_wire::CmFrame;
 
 /// What becomes of a message under way by a frame.
 #[derive(Clone, Copy, PartialEq, Eq)]
-pub(crate) enum Fate {
+pub enum Fate {
     /// It goes on.
     GoesOn,
     /// All of it has come.
     Given,
     /// It is lost.
     Lost(Cause),
-    /// One of its ends aborted it.
+    /// One of its ends, `who`, aborted it.
     Aborted { reason: u8, who: Address },
 }
 
