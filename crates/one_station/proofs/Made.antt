@@ -12,7 +12,7 @@ use Rattle.segment_law.specs.declared.call.Call.{Call}
 use Rattle.segment_law.specs.declared.call.Call.TheVariants.{Transmit, Take}
 use Rattle.segment_law.specs.declared.refusal.Refusal.{Refusal}
 use Rattle.segment_law.specs.declared.reply.Reply.{Reply}
-use Rattle.segment_law.specs.declared.reply.Reply.TheVariants as reply
+use Rattle.segment_law.specs.declared.reply.Reply.TheVariants as replies
 use Rattle.segment_law.specs.declared.reply.Reply.TheVariants.{Done}
 use Rattle.segment_core.specs.Answers.{refusal_of}
 use Rattle.record_law.proofs.Replies.{refused_for}
@@ -35,7 +35,7 @@ stood_on address before after call reply stands (steps, h) = (steps ++ (call, re
 
 -- a call that the segment refused
 pub make_refused : (now : Node) (segment new : Segment) (address : Address) (events told : List Event) (missed : Bool) (call : Address → Call) (reply : Reply) (cause : Refusal)
-    → node_of segment address events missed ≡ now → told ≡ events → applied segment (call address) ≡ (new, reply) → reply ≡ reply.Refused cause
+    → node_of segment address events missed ≡ now → told ≡ events → applied segment (call address) ≡ (new, reply) → reply ≡ replies.Refused cause
     → (called now.segment (call now.address) ≡ Err cause) × (node_of new address told missed ≡ now)
 make_refused now segment new address events told missed call reply cause view same says is =
     let r : (called segment (call address) ≡ Err cause) × (new ≡ segment) = refused_for segment (call address) new cause (says ∙ ap (λ (x : Reply). (new, x)) is) in
