@@ -1,4 +1,4 @@
-use Rattle.std.proofs.Common.{◌≡◌, ℕ, List, sym, ap, ◌∙◌}
+use Rattle.std.proofs.Common.{◌≡◌, ℕ, List, refl, sym, ap, ◌∙◌}
 use Rattle.segment_law.specs.Calls.{applied}
 use Rattle.segment_law.specs.declared.call.Call.TheVariants.{Send}
 use Rattle.segment_law.specs.declared.reply.Reply.TheVariants.{Opened, Done}
