@@ -1,12 +1,12 @@
 -- A station alone on its bus: how many frames wait for it after each call, and what isn't refused where none does.
-use Rattle.std.proofs.Common.{◌≡◌, ℕ, ◌+◌, ◌-◌, ◌<◌, ◌≤◌, ◌==◌, Bool, true, false, cond, List, [], ◌∷◌, ◌++◌, length, set, Option, Some, None, Ok, Err, IsOk, refl, sym, ap, ◌∙◌, subst, arith, length-set, get_or-set_same}
-use Rattle.std.specs.Prelude.{slice_get, slice_index_or, unwrap_or, nat_lt, nat_le, is_ok}
+use Rattle.std.proofs.Common.{◌≡◌, ℕ, ◌+◌, ◌-◌, ◌<◌, ◌≤◌, Bool, true, false, cond, List, [], ◌∷◌, length, set, Option, Some, None, Ok, Err, IsOk, refl, sym, ap, ◌∙◌, subst, arith, get_or-set_same}
+use Rattle.std.specs.Prelude.{slice_get, slice_index_or, unwrap_or, nat_le, is_ok}
 use Rattle.std.proofs.lemmas.Bool.{ltb-false, leb-false, le-ltb, ne_eqb}
 use Rattle.std.proofs.lemmas.List.{length_push}
 use Rattle.std.proofs.lemmas.Option.{same_Some, slice_get_within}
 use Rattle.bus_frame.specs.Frames.{CanFrame}
 use Rattle.pgn_ids.specs.declared.address.Address.{Address}
-use Rattle.tx_queue.specs.Queue.{queue_limit, behind}
+use Rattle.tx_queue.specs.Queue.{queue_limit}
 use Rattle.bus_order.specs.Bus as bus
 use Rattle.bus_order.specs.Bus.{Bus, Cursor, start, lowest, cursor_at, bus_len, next_frame, waiting}
 use Rattle.bus_order.proofs.Steps.{released_len, sound_moved, read_within}

@@ -89,10 +89,10 @@ passed_own now segment mid after address events missed view puts passes =
 
 -- first the node is ready, and then it takes the frame
 pub fed_ready : (before ready : Node) (frame : CanFrame) (after : Node) (fed : Result Fed NodeError) → IsReady before ready → IsTakenIn ready frame after fed → IsFed before frame after fed
-fed_ready before ready frame after (Ok Taken) first taken = (ready, (first, taken))
-fed_ready before ready frame after (Ok WithoutRoom) first taken = (ready, (first, taken))
+fed_ready before ready frame after (Ok Taken) first taken = (ready, first, taken)
+fed_ready before ready frame after (Ok WithoutRoom) first taken = (ready, first, taken)
 fed_ready before ready frame after (Ok PassedBy) first (free, never) = absurd never
-fed_ready before ready frame after (Err error) first taken = (ready, (first, taken))
+fed_ready before ready frame after (Err error) first taken = (ready, first, taken)
 
 -- nothing is left of what came before
 pub ready_at_once : (now : Node) → now.has_missed ≡ false → has_frame now ≡ false → IsReady now now
@@ -107,8 +107,8 @@ as_refused None error e = absurd (cc)
 as_refused (Some cause) error e = (cause, (let same : Some (Refused cause) ≡ Some error = e in cc))
 
 pub sent_ready : (before ready after : Node) (sent : Result (Unit {0}) NodeError) → IsReady before ready → IsPassedBy ready after sent → IsSent before after sent
-sent_ready before ready after (Ok done) first passed = (ready, (first, passed))
-sent_ready before ready after (Err (Refused cause)) first passed = (ready, (first, passed))
+sent_ready before ready after (Ok done) first passed = (ready, first, passed)
+sent_ready before ready after (Err (Refused cause)) first passed = (ready, first, passed)
 sent_ready before ready after (Err OutOfMemory) first (e, same) = absurd (let r = as_refused (refusal_of (called ready.segment (Transmit ready.address))) OutOfMemory e in let no : OutOfMemory ≡ Refused r.0 = r.1 in cc)
 sent_ready before ready after (Err ClockPassed) first (e, same) = absurd (let r = as_refused (refusal_of (called ready.segment (Transmit ready.address))) ClockPassed e in let no : ClockPassed ≡ Refused r.0 = r.1 in cc)
 

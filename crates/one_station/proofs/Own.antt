@@ -1,12 +1,11 @@
 -- A station looks at its own frame in place: it passes it by, so that it asks for no memory.
-use Rattle.std.proofs.Common.{◌≡◌, ℕ, ◌-◌, ◌==◌, ◌≤◌, nat_lt, ◌||◌, Bool, true, false, List, [], ◌∷◌, length, Option, Some, None, Ok, Err, IsOk, refl, sym, ap, ◌∙◌, subst, arith, eqb-true}
-use Rattle.std.specs.Prelude.{slice_get, unwrap_or, Result, OnOk}
+use Rattle.std.proofs.Common.{◌≡◌, ℕ, ◌-◌, ◌==◌, ◌≤◌, nat_lt, Bool, true, false, List, [], ◌∷◌, length, Option, Some, None, Ok, Err, IsOk, refl, sym, ap, ◌∙◌, subst, arith, eqb-true}
+use Rattle.std.specs.Prelude.{slice_get, unwrap_or}
 use Rattle.std.proofs.lemmas.Bool.{eq-eqb, ltb-false}
 use Rattle.std.proofs.lemmas.Option.{none-some, slice_get_within}
 use Rattle.bus_frame.specs.Frames.{CanFrame}
 use Rattle.pgn_ids.specs.Identifier.{meaning_of}
 use Rattle.pgn_ids.specs.declared.address.Address.{Address}
-use Rattle.message_events.specs.declared.event.Event.{Event}
 use Rattle.tx_queue.specs.Queue.{queue_limit, free_places, front, behind}
 use Rattle.bus_order.specs.Bus.{waiting}
 use Rattle.station_core.specs.Station.{Station, new_station}

@@ -1,15 +1,15 @@
 -- A node between its calls: its station has looked at every frame of its bus.
-use Rattle.std.proofs.Common.{◌≡◌, ℕ, ◌+◌, ◌-◌, Bool, true, false, cond, List, [], ◌∷◌, ◌++◌, Option, Some, None, Ok, Err, IsOk, refl, sym, ap, ◌∙◌, subst}
-use Rattle.std.specs.Prelude.{nat_le, nat_lt, ◌==◌}
+use Rattle.std.proofs.Common.{◌≡◌, ◌+◌, ◌-◌, Bool, true, false, cond, List, [], ◌∷◌, ◌++◌, Option, Some, None, Ok, Err, IsOk, refl, sym, ap, ◌∙◌, subst}
+use Rattle.std.specs.Prelude.{nat_le, nat_lt}
 use Rattle.std.proofs.lemmas.Option.{same_Some}
 use Rattle.bus_frame.specs.Frames.{CanFrame}
 use Rattle.pgn_ids.specs.declared.address.Address.{Address}
 use Rattle.tx_queue.specs.Queue.{queue_limit}
 use Rattle.bus_order.specs.Bus.{waiting}
 use Rattle.message_events.specs.declared.event.Event.{Event}
-use Rattle.station_core.specs.Station.{Station}
-use Rattle.segment_law.specs.Segment.{Segment, place_of, station_of, waiting_at}
-use Rattle.segment_law.specs.Calls.{Answer, called, replied, applied, events_of, no_place}
+use Rattle.station_core.specs.Station.{Station, new_station}
+use Rattle.segment_law.specs.Segment.{Segment, place_of, station_of, new_segment}
+use Rattle.segment_law.specs.Calls.{Answer, called, replied, applied, no_place}
 use Rattle.segment_law.specs.Record.{Record, StandsAt}
 use Rattle.segment_law.specs.Reached.{IsReached}
 use Rattle.segment_law.specs.Readers.{queue_len}
@@ -38,6 +38,10 @@ use Rattle.one_station.proofs.Made.{node_of, tells_quietly}
 
 reached : (address : Address) (segment : Segment) → IsStood address segment → IsReached segment
 reached address segment stood = stands_reached (address ∷ []) stood.0 segment stood.1
+
+-- nothing was done yet
+pub rests_at_first : (address : Address) (segment : Segment) → segment ≡ new_segment (address ∷ []) → HasLookedAtAll address segment
+rests_at_first address segment same = subst (HasLookedAtAll address) (sym same) (record { station = new_station address; alone = refl; its = refl }, refl)
 
 -- a call that puts no frame on the bus
 pub rested : (address : Address) (segment new : Segment) (call : Call) (reply : Reply) → IsStood address segment → HasLookedAtAll address segment → comes_on_bus call ≡ false → applied segment call ≡ (new, reply) → HasLookedAtAll address new

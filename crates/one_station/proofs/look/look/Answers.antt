@@ -1,7 +1,7 @@
 use Rattle.segment_law.specs.declared.call.Call.TheVariants.{Take}
-use Rattle.std.proofs.Common.{true, false}
+use Rattle.std.proofs.Common.{true}
 use Rattle.one_station.specs.Told.{told_events}
-use Rattle.one_station.proofs.Made.{tells_quietly, tells_from}
+use Rattle.one_station.proofs.Made.{tells_quietly}
 use Rattle.one_station.proofs.look.look.Goals as goal
 
 pub returns-then-apply_in_place-clause-looked : goal.returns-then-apply_in_place-clause-looked

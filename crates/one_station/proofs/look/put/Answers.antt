@@ -1,5 +1,3 @@
-use Rattle.std.proofs.Common.{◌∙◌, sym, ap}
-use Rattle.one_station.proofs.Made.{tells_quietly}
 use Rattle.one_station.proofs.Resting.{put_silently}
 use Rattle.one_station.proofs.look.put.Goals as goal
 

@@ -28,5 +28,7 @@ returns c = passed_own c.args.self.now c.self.inside.segment c.put.new.segment c
 pub invariant_of-self : goal.invariant_of-self
 invariant_of-self c =
     let ok : IsOk (called c.self.inside.segment (Transmit c.self.inside.address)) = may_put c.args.self.now c.self.inside.segment c.self.inside.address (told_events c.self.inside.told) c.self.inside.has_missed c.self.view_is c.requires in
-    let l = looked_own c.self.inside.address c.self.inside.segment c.put.new.segment c.pass.new.segment c.self.invariant.stood c.self.invariant.looked ok c.put.ensures (pass-requires c) c.pass.ensures in
+    let few : queue_len c.self.inside.segment c.self.inside.address ≤ queue_limit = subst (λ (n : ℕ). n ≤ queue_limit) c.queue_len-at_most_full.ensures.value c.queue_len-at_most_full.ensures.within in
+    let passes = own_passed (λ addresses steps seg h. c.stations_queue_their_own.ensures addresses steps seg (stands_drifts addresses steps seg h)) c.self.inside.segment c.put.new.segment c.self.inside.address c.self.invariant.stood c.self.invariant.looked few ok c.put.ensures in
+    let l = looked_own c.self.inside.address c.self.inside.segment c.put.new.segment c.pass.new.segment c.self.invariant.stood c.self.invariant.looked ok c.put.ensures passes c.pass.ensures in
     record { front_first = c.self.invariant.front_first; stood = l.0; looked = l.1 }

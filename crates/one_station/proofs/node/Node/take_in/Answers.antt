@@ -1,4 +1,4 @@
-use Rattle.std.proofs.Common.{None, refl, sym, ◌∙◌, subst}
+use Rattle.std.proofs.Common.{refl, sym, ◌∙◌, subst}
 use Rattle.segment_law.specs.declared.call.Call.TheVariants.{Inject}
 use Rattle.one_station.specs.Told.{told_events}
 use Rattle.one_station.specs.Answers.{IsUndone}
@@ -29,8 +29,8 @@ returns c = (
       c.self.view_is c.make_one.ensures.events c.put.ensures c.look.ensures.looked,
 )
 
-pub invariant_of-self : goal.invariant_of-self
-invariant_of-self c =
+pub invariant_of-self-2 : goal.invariant_of-self-2
+invariant_of-self-2 c =
     let free = may_feed c.args.self.now c.self.inside.segment c.self.inside.address (told_events c.self.inside.told) c.self.inside.has_missed c.args.frame c.self.view_is c.requires in
     let l = looked_in c.self.inside.address c.self.inside.segment c.put.new.segment c.look.new.segment (Inject c.args.frame) c.look.result (told_events c.make_one.new.told) (told_events c.look.new.told) refl c.self.invariant.stood c.self.invariant.looked free.1 c.put.ensures
     (comes_to_take c.self.inside.address c.self.inside.segment c.put.new.segment c.args.frame c.self.invariant.stood c.self.invariant.looked free c.put.ensures) c.look.ensures.looked in
