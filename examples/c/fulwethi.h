@@ -54,7 +54,8 @@ enum {
     FULWETHI_UNREACHABLE
 };
 
-/* What a call comes to. A call that isn't done changed nothing, and can be made again. */
+/* What a call comes to. A call that isn't done can be made again. It changed nothing, but that feed and sent may have ended what missed
+ * left to end. */
 enum {
     FULWETHI_DONE = 0,
     /* refused: */

@@ -3,7 +3,8 @@
 use segment_law::Refusal;
 use thiserror::Error;
 
-/// Why a call on a node isn't done. It changed nothing then, and can be made again.
+/// Why a call on a node isn't done. It can be made again. It changed nothing then, but that `feed` and `sent` may have ended what
+/// `missed` left to end.
 #[derive(Clone, Copy, Debug, PartialEq, Eq, Error)]
 pub enum NodeError {
     /// It is refused for this cause.

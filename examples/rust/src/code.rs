@@ -41,7 +41,7 @@ macro_rules! numbered {
 }
 
 numbered! {
-    /// Why a call isn't done. It changed nothing, and may be made again.
+    /// Why a call isn't done. It may be made again. It changed nothing, but that `feed` and `sent` may have ended what `missed` left to end.
     Error {
         IdTooLarge = 1, "the identifier of the frame has more than 29 bits";
         DataTooLong = 2, "the frame has more than 8 bytes";
