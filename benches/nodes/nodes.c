@@ -19,7 +19,6 @@ static int carry(struct fulwethi *from, struct fulwethi *to) {
     if (code == FULWETHI_NOTHING) return 0;
     want(code == FULWETHI_DONE);
     code = fulwethi_feed(to, &frame);
-    if (code == FULWETHI_HELD) code = fulwethi_settle(to);
     want(code == FULWETHI_DONE);
     want(fulwethi_sent(from) == FULWETHI_DONE);
     return 1;

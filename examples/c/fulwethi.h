@@ -54,22 +54,26 @@ enum {
     FULWETHI_UNREACHABLE
 };
 
-/* What a call comes to. A call that isn't done changed nothing, and can be made again. */
+/* What a call comes to. A call that isn't done can be made again. It changed nothing, but that feed and sent may have ended what missed
+ * left to end. */
 enum {
     FULWETHI_DONE = 0,
     /* refused: */
     FULWETHI_ID_TOO_LARGE = 1, FULWETHI_DATA_TOO_LONG = 2, FULWETHI_BAD_PGN = 3, FULWETHI_TX_FULL = 6, FULWETHI_BUS_FULL = 7,
     FULWETHI_LANE_FULL = 9, FULWETHI_PORTS_FULL = 11, FULWETHI_NO_SUCH_PORT = 12, FULWETHI_BAD_ADDRESS = 13,
     FULWETHI_NO_SUCH_STATION = 14, FULWETHI_TOO_SHORT = 15, FULWETHI_TOO_LONG = 16, FULWETHI_SAME_STATION = 17,
-    FULWETHI_NOTHING_TO_TAKE = 18, FULWETHI_NOTHING_DUE = 20, FULWETHI_NOTHING_TO_SEND = 21, FULWETHI_STATION_ADDRESS = 23,
+    FULWETHI_NOTHING_DUE = 20, FULWETHI_NOTHING_TO_SEND = 21, FULWETHI_STATION_ADDRESS = 23,
     FULWETHI_PORT_PAUSED = 27, FULWETHI_PORT_NOT_PAUSED = 28,
     /* not done: */
-    FULWETHI_NO_MEMORY = 64, FULWETHI_NOTHING = 65, FULWETHI_FRAME_WAITS = 66, FULWETHI_CLOCK_PASSED = 67,
+    FULWETHI_NO_MEMORY = 64, FULWETHI_NOTHING = 65, FULWETHI_CLOCK_PASSED = 67,
     FULWETHI_TOO_LITTLE_ROOM = 68,
-    /* done but for this: the node has the frame, or knows of those that were missed, and settle is to be called until it is done */
-    FULWETHI_HELD = 69,
     /* done: the node has looked at the frame, but took nothing of what it brings, since there was no memory */
-    FULWETHI_WITHOUT_ROOM = 70
+    FULWETHI_WITHOUT_ROOM = 70,
+    /* not done for want of memory: what was under way when frames were missed has yet to end. The node remembers it, and has passed the
+     * frame by, which counts as missed too */
+    FULWETHI_PASSED_BY = 71,
+    /* the same of missed: each feed and each sent tries first to end it */
+    FULWETHI_NOT_ENDED = 72
 };
 
 /* The exports: a handle goes in by value, and comes back by `out`. */
@@ -83,7 +87,6 @@ uint32_t fulwethi_raw_send(struct fulwethi of, uint8_t to, uint32_t pgn, const u
 uint32_t fulwethi_raw_cancel(struct fulwethi of, uint8_t to, uint64_t number, struct fulwethi *out);
 uint32_t fulwethi_raw_feed(struct fulwethi of, uint32_t id, const uint8_t *bytes, size_t len, struct fulwethi *out);
 uint32_t fulwethi_raw_missed(struct fulwethi of, struct fulwethi *out);
-uint32_t fulwethi_raw_settle(struct fulwethi of, struct fulwethi *out);
 uint32_t fulwethi_raw_front(struct fulwethi of, struct fulwethi_frame *frame, struct fulwethi *out);
 uint32_t fulwethi_raw_sent(struct fulwethi of, struct fulwethi *out);
 uint32_t fulwethi_raw_clock(struct fulwethi of, uint64_t tick, struct fulwethi *out);
@@ -146,19 +149,15 @@ static inline uint32_t fulwethi_cancel(struct fulwethi *node, uint8_t to, uint64
     return fulwethi_raw_cancel(*node, to, number, node);
 }
 
-/* Looks at the frame that waits, since there was no memory when it was fed; where none waits, ends what was under way when frames were
- * missed. NOTHING_TO_TAKE (nothing waits), TX_FULL (put frames first), NO_MEMORY. */
-static inline uint32_t fulwethi_settle(struct fulwethi *node) { return fulwethi_raw_settle(*node, node); }
-
 /* Frames of the bus were lost, by the driver or since they weren't fed: to be called before a later frame is fed. Messages that are
- * coming in end, and connections under way, with outcome OVERRUN: else a message could be put together of the packets of two. HELD:
- * the node remembers it, feed and sent answer FRAME_WAITS, and settle is to be called until it is done. */
+ * coming in end, and connections under way, with outcome OVERRUN: else a message could be put together of the packets of two.
+ * NOT_ENDED (several connections were under way, and there was no memory): the node remembers it, and each feed and sent tries it first. */
 static inline uint32_t fulwethi_missed(struct fulwethi *node) { return fulwethi_raw_missed(*node, node); }
 
 /* A frame of another node comes from the bus. STATION_ADDRESS (it has the own source: don't loop own frames back), TX_FULL (put
- * frames first), FRAME_WAITS (settle first), NO_MEMORY, ID_TOO_LARGE, DATA_TOO_LONG (len is above 8; its bytes aren't read): the node
- * doesn't have it; it is fed again before any other, or told by missed. HELD: the node has it, and settle is to be called until it is
- * done. WITHOUT_ROOM: the node has looked at it, and there was no memory for what it brings. */
+ * frames first), NO_MEMORY, ID_TOO_LARGE, DATA_TOO_LONG (len is above 8; its bytes aren't read): the node doesn't have it; it is fed
+ * again before any other, or told by missed. WITHOUT_ROOM: the node has looked at it, and there was no memory for what it brings.
+ * PASSED_BY: missed answered NOT_ENDED, and there is still no memory. The frame counts as missed, and isn't fed again. */
 static inline uint32_t fulwethi_feed(struct fulwethi *node, const struct fulwethi_frame *frame) {
     if (frame->len > 8) return frame->id >> 29 ? FULWETHI_ID_TOO_LARGE : FULWETHI_DATA_TOO_LONG;
     return fulwethi_raw_feed(*node, frame->id, frame->bytes, frame->len, node);
@@ -167,8 +166,8 @@ static inline uint32_t fulwethi_feed(struct fulwethi *node, const struct fulweth
 /* The frame that is next for the bus; it stays next until sent. NOTHING: none now. NO_MEMORY. */
 static inline uint32_t fulwethi_front(struct fulwethi *node, struct fulwethi_frame *frame) { return fulwethi_raw_front(*node, frame, node); }
 
-/* That frame was put. NOTHING_TO_SEND (there was none). NO_MEMORY, FRAME_WAITS (settle first): to be called again, without putting
- * the frame again. Never HELD: the node passes its own frames by without memory. */
+/* That frame was put. NOTHING_TO_SEND (there was none). NO_MEMORY (only if missed answered NOT_ENDED): to be called again, without
+ * putting the frame again. */
 static inline uint32_t fulwethi_sent(struct fulwethi *node) { return fulwethi_raw_sent(*node, node); }
 
 /* The clock goes on to a tick of 1 ms. CLOCK_PASSED (it stands later), NO_MEMORY. */
@@ -207,7 +206,6 @@ static inline const char *fulwethi_code_name(uint32_t code) {
     case FULWETHI_TOO_SHORT: return "TOO_SHORT";
     case FULWETHI_TOO_LONG: return "TOO_LONG";
     case FULWETHI_SAME_STATION: return "SAME_STATION";
-    case FULWETHI_NOTHING_TO_TAKE: return "NOTHING_TO_TAKE";
     case FULWETHI_NOTHING_DUE: return "NOTHING_DUE";
     case FULWETHI_NOTHING_TO_SEND: return "NOTHING_TO_SEND";
     case FULWETHI_STATION_ADDRESS: return "STATION_ADDRESS";
@@ -215,11 +213,11 @@ static inline const char *fulwethi_code_name(uint32_t code) {
     case FULWETHI_PORT_NOT_PAUSED: return "PORT_NOT_PAUSED";
     case FULWETHI_NO_MEMORY: return "NO_MEMORY";
     case FULWETHI_NOTHING: return "NOTHING";
-    case FULWETHI_FRAME_WAITS: return "FRAME_WAITS";
     case FULWETHI_CLOCK_PASSED: return "CLOCK_PASSED";
     case FULWETHI_TOO_LITTLE_ROOM: return "TOO_LITTLE_ROOM";
-    case FULWETHI_HELD: return "HELD";
     case FULWETHI_WITHOUT_ROOM: return "WITHOUT_ROOM";
+    case FULWETHI_PASSED_BY: return "PASSED_BY";
+    case FULWETHI_NOT_ENDED: return "NOT_ENDED";
     default: return "";
     }
 }
@@ -241,7 +239,6 @@ static inline const char *fulwethi_strerror(uint32_t code) {
     case FULWETHI_TOO_SHORT: return "the message has fewer than 9 bytes";
     case FULWETHI_TOO_LONG: return "the message has more than 1,785 bytes to all, or more than 117,440,505 to one node";
     case FULWETHI_SAME_STATION: return "the destination is the node itself";
-    case FULWETHI_NOTHING_TO_TAKE: return "nothing waits to be settled";
     case FULWETHI_NOTHING_DUE: return "no timer is due";
     case FULWETHI_NOTHING_TO_SEND: return "there is no such frame or message to send";
     case FULWETHI_STATION_ADDRESS: return "the frame has the source address of the node";
@@ -249,11 +246,11 @@ static inline const char *fulwethi_strerror(uint32_t code) {
     case FULWETHI_PORT_NOT_PAUSED: return "the port isn't paused";
     case FULWETHI_NO_MEMORY: return "no memory: nothing changed";
     case FULWETHI_NOTHING: return "there is nothing now";
-    case FULWETHI_FRAME_WAITS: return "something waits to be settled first";
     case FULWETHI_CLOCK_PASSED: return "the clock of the node stands later";
     case FULWETHI_TOO_LITTLE_ROOM: return "the room is too little for the message";
-    case FULWETHI_HELD: return "done, but for memory: to be settled";
     case FULWETHI_WITHOUT_ROOM: return "the frame was looked at, without memory for what it brings";
+    case FULWETHI_PASSED_BY: return "the frame was passed by: no memory to end what was under way when frames were missed";
+    case FULWETHI_NOT_ENDED: return "no memory to end what was under way: the node remembers it";
     default: return "unknown code";
     }
 }

@@ -89,7 +89,6 @@ public:
 
     [[nodiscard]] code feed(const frame &from_bus) noexcept { return ::fulwethi_feed(made(), &from_bus); }
     [[nodiscard]] code missed() noexcept { return ::fulwethi_missed(made()); }
-    [[nodiscard]] code settle() noexcept { return ::fulwethi_settle(made()); }
     [[nodiscard]] code front(frame &next) noexcept { return ::fulwethi_front(made(), &next); }
     [[nodiscard]] code sent() noexcept { return ::fulwethi_sent(made()); }
 

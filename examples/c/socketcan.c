@@ -41,7 +41,7 @@ struct station {
     uint32_t drops;             /* how many frames the socket dropped so far */
     struct fulwethi_frame kept; /* a frame that the node didn't take yet */
     int has_kept;
-    char tell[8];               /* what the node is to be told next: m missed, s sent, w to settle */
+    char tell[8];               /* what the node is to be told next: m missed, s sent */
     int outstanding, is_lost;   /* a frame was put without an echo yet; and a loss was told since */
     uint64_t put_at, lost_at;   /* when */
     int is_blocked, has_said;   /* the interface didn't take a frame; and that was said */
@@ -89,13 +89,6 @@ static void note(struct station *at, const char *what) {
     if (strlen(at->tell) + strlen(what) < sizeof at->tell) strcat(at->tell, what);
 }
 
-/* 1 where nothing waits in the node for memory or a place. */
-static int is_settled(struct station *at) {
-    uint32_t code;
-    do code = fulwethi_settle(&at->node); while (code == FULWETHI_DONE);
-    return code == FULWETHI_NOTHING_TO_TAKE;
-}
-
 /* Tells the node what it is to be told; 0 where something is left, for want of memory. */
 static int is_told(struct station *at) {
     while (at->tell[0]) {
@@ -103,10 +96,9 @@ static int is_told(struct station *at) {
         if (at->tell[0] == 's') code = fulwethi_sent(&at->node);
         else if (at->tell[0] == 'm') code = fulwethi_missed(&at->node);
         if (code == FULWETHI_NO_MEMORY) return 0;
-        if (code != FULWETHI_DONE && !is_settled(at)) return 0;
-        if (code != FULWETHI_FRAME_WAITS) memmove(at->tell, at->tell + 1, strlen(at->tell));
+        memmove(at->tell, at->tell + 1, strlen(at->tell));
     }
-    return is_settled(at);
+    return 1;
 }
 
 /* Frames were lost: that is told now, or once the place of the outstanding frame is known. */
@@ -174,7 +166,7 @@ static void receive(struct station *at) {
             continue; /* what was lost is told before the frame */
         }
         uint32_t code = fulwethi_feed(&at->node, &at->kept);
-        if (code == FULWETHI_NO_MEMORY || code == FULWETHI_TX_FULL || code == FULWETHI_FRAME_WAITS) return;
+        if (code == FULWETHI_NO_MEMORY || code == FULWETHI_TX_FULL) return;
         if (code == FULWETHI_STATION_ADDRESS) fprintf(stderr, "another node has the address\n");
         at->has_kept = 0;
     }

@@ -39,7 +39,7 @@ static void show(const char *call, uint32_t code) {
 static void receive(struct station *at) {
     while (at->has_kept || bus_read(at, &at->kept)) {
         uint32_t code = fulwethi_feed(&at->node, &at->kept);
-        at->has_kept = code == FULWETHI_NO_MEMORY || code == FULWETHI_TX_FULL || code == FULWETHI_FRAME_WAITS;
+        at->has_kept = code == FULWETHI_NO_MEMORY || code == FULWETHI_TX_FULL;
         show("feed", code);
         if (at->has_kept) return;
     }
@@ -76,7 +76,6 @@ static void tell(struct station *at, uint64_t tick) {
 /* One turn of the loop. What isn't done for want of memory is done in a later turn. */
 static void turn(struct station *at, uint64_t tick) {
     show("clock", fulwethi_clock(&at->node, tick));
-    while (fulwethi_settle(&at->node) == FULWETHI_DONE) { }
     receive(at);
     while (fulwethi_fire(&at->node) == FULWETHI_DONE) { }
     transmit(at);

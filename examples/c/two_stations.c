@@ -3,7 +3,7 @@
  *   two_stations COUNT       so many messages of 9 to 100,000 bytes, each compared byte for byte
  *   two_stations memory      a short exchange, with each allocation refused in turn
  *   two_stations starved     a station alone, with all allocations refused from each on: it answers Requests, ends its messages and puts
- *                            its frames
+ *                            its frames; and one that finds no memory to end what is under way remembers it
  *
  * A message that isn't acknowledged is sent again. Each one that is given must be one that was sent, none before an earlier one, and
  * each one that is acknowledged must have been given. Linked with --wrap=malloc and --wrap=realloc. */
@@ -46,7 +46,6 @@ static void feed(struct fulwethi *to, const struct fulwethi_frame *frame) {
     uint32_t code = fulwethi_feed(to, frame);
     if (code == FULWETHI_NO_MEMORY) code = fulwethi_feed(to, frame);
     if (code == FULWETHI_TX_FULL) return; /* lost */
-    if (code == FULWETHI_HELD) code = fulwethi_settle(to);
     WANT(code == FULWETHI_DONE || code == FULWETHI_WITHOUT_ROOM);
 }
 
@@ -191,7 +190,6 @@ static int starve(unsigned long from) {
     uint64_t port, tick;
     int sent = 0;
     WANT(fulwethi_new(&node, A) == FULWETHI_DONE && fulwethi_open(&node, PGN, MOST, &port) == FULWETHI_DONE);
-    is_asked(&node); /* the first frame makes the places of those that follow */
     allocations = 0;
     starved_from = from;
     sent += sends(&node, B);
@@ -210,6 +208,25 @@ static int starve(unsigned long from) {
     starved_from = 0;
     fulwethi_free(&node);
     return allocations >= from;
+}
+
+/* Frames are missed while two messages are under way, and there is no memory for two outcomes: that is remembered until there is. */
+static void remember(void) {
+    struct fulwethi node = {0};
+    struct fulwethi_frame frame;
+    WANT(fulwethi_new(&node, A) == FULWETHI_DONE);
+    WANT(sends(&node, B) && sends(&node, 0x36));
+    WANT(fulwethi_front(&node, &frame) == FULWETHI_DONE && fulwethi_sent(&node) == FULWETHI_DONE);
+    WANT(fulwethi_front(&node, &frame) == FULWETHI_DONE);
+    starved_from = 1;
+    WANT(fulwethi_missed(&node) == FULWETHI_NOT_ENDED);
+    WANT(fulwethi_feed(&node, &REQUEST) == FULWETHI_PASSED_BY);
+    WANT(fulwethi_sent(&node) == FULWETHI_NO_MEMORY);
+    starved_from = 0;
+    WANT(fulwethi_sent(&node) == FULWETHI_DONE);
+    WANT(ended(&node) == 2);
+    is_asked(&node);
+    fulwethi_free(&node);
 }
 
 int main(int count, char **words) {
@@ -233,6 +250,7 @@ int main(int count, char **words) {
     if (!strcmp(words[1], "starved")) {
         unsigned long from = 1;
         while (starve(from)) from++;
+        remember();
         printf("allocations refused from each on: %lu\n", from - 1);
         return 0;
     }

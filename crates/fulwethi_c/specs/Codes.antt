@@ -6,9 +6,9 @@ use Rattle.segment_core.specs.declared.segment.NewRefused.{NewRefused}
 use Rattle.segment_core.specs.declared.segment.NewRefused.TheVariants as made
 use Rattle.bus_frame.specs.Frames.{CanFrame}
 use Rattle.one_station.specs.declared.error.NodeError.{NodeError}
-use Rattle.one_station.specs.declared.error.NodeError.TheVariants.{Refused, FrameWaits, ClockPassed, OutOfMemory}
+use Rattle.one_station.specs.declared.error.NodeError.TheVariants.{Refused, ClockPassed, OutOfMemory}
 use Rattle.one_station.specs.declared.error.Fed.{Fed}
-use Rattle.one_station.specs.declared.error.Fed.TheVariants.{Taken, WithoutRoom, Waits}
+use Rattle.one_station.specs.declared.error.Fed.TheVariants.{Taken, WithoutRoom, PassedBy}
 use Rattle.one_station.specs.declared.error.Missed.{Missed}
 use Rattle.one_station.specs.declared.error.Missed.TheVariants as missed
 use Rattle.one_station.specs.declared.error.TakeError.{TakeError}
@@ -16,7 +16,6 @@ use Rattle.one_station.specs.declared.error.TakeError.TheVariants.{Nothing, TooL
 
 abbrev pub error_code : NodeError → ℕ
 error_code (Refused cause) = refusal_number cause
-error_code FrameWaits = 66
 error_code ClockPassed = 67
 error_code OutOfMemory = 64
 
@@ -36,12 +35,12 @@ done_code (Err error) = error_code error
 abbrev pub fed_code : Result Fed NodeError → ℕ
 fed_code (Ok Taken) = 0
 fed_code (Ok WithoutRoom) = 70
-fed_code (Ok Waits) = 69
+fed_code (Ok PassedBy) = 71
 fed_code (Err error) = error_code error
 
 abbrev pub missed_code : Missed → ℕ
 missed_code missed.Ended = 0
-missed_code missed.Waits = 69
+missed_code missed.Waits = 72
 
 abbrev pub taken_code : Result ℕ TakeError → ℕ
 taken_code (Ok len) = 0

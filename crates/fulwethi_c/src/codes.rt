@@ -10,15 +10,15 @@ pub(crate) const NO_MEMORY: u32 = 64;
 
 pub(crate) const NOTHING: u32 = 65;
 
-pub(crate) const FRAME_WAITS: u32 = 66;
-
 pub(crate) const CLOCK_PASSED: u32 = 67;
 
 pub(crate) const TOO_LITTLE_ROOM: u32 = 68;
 
-pub(crate) const HELD: u32 = 69;
-
 pub(crate) const WITHOUT_ROOM: u32 = 70;
+
+pub(crate) const PASSED_BY: u32 = 71;
+
+pub(crate) const NOT_ENDED: u32 = 72;
 
 /// The number of the refusal `BadAddresses`.
 const BAD_ADDRESS: u32 = 13;
@@ -29,7 +29,6 @@ pub(crate) fn error_code(error: NodeError) -> u32
 {
     match error {
         NodeError::Refused(cause) => cause.number() as u32,
-        NodeError::FrameWaits => FRAME_WAITS,
         NodeError::ClockPassed => CLOCK_PASSED,
         NodeError::OutOfMemory => NO_MEMORY,
     }
@@ -55,25 +54,25 @@ pub(crate) fn done_code(done: Result<(), NodeError>) -> u32
     }
 }
 
-/// The code of a frame that was fed: `WITHOUT_ROOM` where it was looked at so, `HELD` where it waits to be looked at.
+/// The code of a frame that was fed: `WITHOUT_ROOM` if it was looked at so, `PASSED_BY` if it wasn't looked at.
 pub(crate) fn fed_code(fed: Result<Fed, NodeError>) -> u32
     ensures { result ≡ fed_code fed }
 {
     match fed {
         Ok(Fed::Taken) => DONE,
         Ok(Fed::WithoutRoom) => WITHOUT_ROOM,
-        Ok(Fed::Waits) => HELD,
+        Ok(Fed::PassedBy) => PASSED_BY,
         Err(error) => error_code(error),
     }
 }
 
-/// The code of frames that were missed: `HELD` where what was under way has yet to end.
+/// The code of frames that were missed: `NOT_ENDED` if what was under way has yet to end.
 pub(crate) fn missed_code(missed: Missed) -> u32
     ensures { result ≡ missed_code missed }
 {
     match missed {
         Missed::Ended => DONE,
-        Missed::Waits => HELD,
+        Missed::Waits => NOT_ENDED,
     }
 }
 

@@ -1,6 +1,6 @@
 //! Frames from the bus and for the bus.
 ghost use Rattle.std.specs.Prelude.{◌≡◌, IsSome};
-ghost use Rattle.one_station.specs.Answers.{IsSent, IsMissed, IsSettled};
+ghost use Rattle.one_station.specs.Answers.{IsSent, IsMissed};
 ghost use Rattle.fulwethi_c.specs.Codes.{done_code, fed_code, missed_code, front_code};
 ghost use Rattle.fulwethi_c.specs.Reads.{read_frame};
 ghost use Rattle.fulwethi_c.specs.Calls.{IsMadeOn, IsFrameFed, IsFront, IsFrameWritten};
@@ -57,18 +57,6 @@ pub extern "C" fn fulwethi_raw_missed(of: Handle, out: &mut Handle) -> u32
     code
 }
 
-/// Looks at the frame that waits, or ends what was under way when frames were missed.
-#[unsafe(no_mangle)]
-pub extern "C" fn fulwethi_raw_settle(of: Handle, out: &mut Handle) -> u32
-    requires { IsSome of.node }
-    ensures { IsMadeOn done_code IsSettled of.node out.new.node result }
-{
-    let mut held = of.into_parts().into_box();
-    let code = done_code(held.settle());
-    *out = Handle::of_parts(Parts::of(held));
-    code
-}
-
 /// The frame that is next for the bus.
 #[unsafe(no_mangle)]
 pub extern "C" fn fulwethi_raw_front(of: Handle, frame: &mut CFrame, out: &mut Handle) -> u32
@@ -81,7 +69,7 @@ pub extern "C" fn fulwethi_raw_front(of: Handle, frame: &mut CFrame, out: &mut H
     code
 }
 
-/// That frame was put on the bus. It is never `HELD`: the node passes its own frames by without memory.
+/// That frame was put on the bus.
 #[unsafe(no_mangle)]
 pub extern "C" fn fulwethi_raw_sent(of: Handle, out: &mut Handle) -> u32
     requires { IsSome of.node }

@@ -9,7 +9,7 @@ use Rattle.segment_law.specs.Calls.{Answer, called}
 use Rattle.segment_law.specs.Readers.{pumps_to, next_pump}
 use Rattle.segment_law.specs.declared.call.Call.TheVariants.{Pump}
 use Rattle.one_station.specs.declared.error.NodeError.{NodeError}
-use Rattle.one_station.specs.declared.error.NodeError.TheVariants.{Refused, FrameWaits, ClockPassed, OutOfMemory}
+use Rattle.one_station.specs.declared.error.NodeError.TheVariants.{Refused, ClockPassed, OutOfMemory}
 use Rattle.one_station.specs.Answers.{IsStopped}
 
 least_passes : (test : ℕ → Bool) (n k : ℕ) → least_below test n ≡ Some k → test k ≡ true
@@ -35,7 +35,6 @@ next_passes seg a to e = by (least_below (pumps_to seg a) 256) refl e
 only_memory : (answer : Answer) (error : NodeError) → IsOk answer → IsStopped answer error → error ≡ OutOfMemory
 only_memory (Ok step) OutOfMemory passes h = refl
 only_memory (Ok step) (Refused cause) passes h = absurd cc
-only_memory (Ok step) FrameWaits passes h = absurd h
 only_memory (Ok step) ClockPassed passes h = absurd h
 only_memory (Err cause) error passes h = absurd cc
 

@@ -1,4 +1,6 @@
 pub mod Joining
 pub mod Made
+pub mod Alone
 pub mod Own
+pub mod Resting
 pub mod Fronts

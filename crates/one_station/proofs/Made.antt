@@ -1,23 +1,29 @@
 -- Calls that a node made.
-use Rattle.std.proofs.Common.{◌≡◌, Bool, true, false, List, [], ◌∷◌, ◌++◌, Err, sym, ap, ◌∙◌, subst}
-use Rattle.std.specs.Bool.{OnTrue, OnFalse}
+use Rattle.std.proofs.Common.{◌≡◌, Bool, true, false, List, [], ◌∷◌, ◌++◌, Option, Some, None, Ok, Err, refl, sym, ap, ◌∙◌, subst, append_assoc}
+use Rattle.std.specs.Prelude.{Result}
 use Rattle.std.proofs.lemmas.List.{append-nil}
+use Rattle.bus_frame.specs.Frames.{CanFrame}
 use Rattle.pgn_ids.specs.declared.address.Address.{Address}
 use Rattle.message_events.specs.declared.event.Event.{Event}
 use Rattle.segment_law.specs.Segment.{Segment}
-use Rattle.segment_law.specs.Calls.{is_call, called, replied, applied, events_of}
+use Rattle.segment_law.specs.Calls.{called, applied, events_of}
 use Rattle.segment_law.specs.Record.{Record, StandsAt}
 use Rattle.segment_law.specs.declared.call.Call.{Call}
-use Rattle.segment_law.specs.declared.call.Call.TheVariants.{Take}
+use Rattle.segment_law.specs.declared.call.Call.TheVariants.{Transmit, Take}
 use Rattle.segment_law.specs.declared.refusal.Refusal.{Refusal}
 use Rattle.segment_law.specs.declared.reply.Reply.{Reply}
-use Rattle.segment_law.specs.declared.reply.Reply.TheVariants.{Refused, Done}
-use Rattle.segment_core.specs.InPlace.{is_quiet, MayLackMemory}
-use Rattle.segment_core.proofs.Records.{answered_stands}
+use Rattle.segment_law.specs.declared.reply.Reply.TheVariants as replies
+use Rattle.segment_law.specs.declared.reply.Reply.TheVariants.{Done}
+use Rattle.segment_core.specs.Answers.{refusal_of}
 use Rattle.record_law.proofs.Replies.{refused_for}
 use Rattle.one_station.specs.Node.{Node, Did, answered}
 use Rattle.one_station.specs.NodeFields.{IsStood}
-use Rattle.one_station.specs.Answers.{LooksInPlace, caught_up}
+use Rattle.one_station.specs.Looks.{Tells, Puts, HasLooked}
+use Rattle.one_station.specs.Answers.{DidAndLooked, EndsFirst, IsReady, IsCaughtUp, IsTakenIn, IsFed, IsPassedBy, IsSent, has_frame, as_error, caught_up}
+use Rattle.one_station.specs.declared.error.NodeError.{NodeError}
+use Rattle.one_station.specs.declared.error.NodeError.TheVariants.{Refused, ClockPassed, OutOfMemory}
+use Rattle.one_station.specs.declared.error.Fed.{Fed}
+use Rattle.one_station.specs.declared.error.Fed.TheVariants.{Taken, WithoutRoom, PassedBy}
 
 abbrev pub node_of : Segment → Address → List Event → Bool → Node
 node_of segment address events missed = record { segment = segment; address = address; events = events; has_missed = missed }
@@ -27,58 +33,14 @@ pub stood_on : (address : Address) (before after : Segment) (call : Call) (reply
     → ((addresses : List Address) (steps : Record) → StandsAt addresses steps before → StandsAt addresses (steps ++ (call, reply) ∷ []) after) → IsStood address before → IsStood address after
 stood_on address before after call reply stands (steps, h) = (steps ++ (call, reply) ∷ [], stands (address ∷ []) steps h)
 
--- or stays, where the call wasn't made in place
-pub stood_in_place : (made : Bool) (address : Address) (before after : Segment) (call : Call)
-    → ((addresses : List Address) (steps : Record) → StandsAt addresses steps before → OnTrue made (StandsAt addresses (steps ++ (call, Done []) ∷ []) after)) → OnFalse made (after ≡ before) → IsStood address before → IsStood address after
-stood_in_place true address before after call stands other (steps, h) = (steps ++ (call, Done []) ∷ [], stands (address ∷ []) steps h)
-stood_in_place false address before after call stands other h = subst (IsStood address) (sym other) h
-
--- a look that wasn't made in place wants memory, or isn't one that could be
-pub not_in_place : (made : Bool) (now : Node) (segment : Segment) (address : Address) (events : List Event) (missed : Bool) → node_of segment address events missed ≡ now
-    → OnFalse made (is_quiet segment (Take address true) ≡ true → MayLackMemory segment (Take address true)) → OnFalse made (LooksInPlace now → ⊥)
-not_in_place true now segment address events missed view wants = tt
-not_in_place false now segment address events missed view wants = subst (λ (n : Node). LooksInPlace n → ⊥) view (λ h. h.1 (wants h.0))
-
--- one call, as the segment answered it
-pub did_one : (before after : Node) (call : Call) (seg : Segment) (reply : Reply) → applied before.segment call ≡ (seg, reply)
-    → after ≡ record before { segment = seg; events = before.events ++ events_of reply }
-    → ((addresses : List Address) (steps : Record) → StandsAt addresses steps before.segment → StandsAt addresses (steps ++ (call, reply) ∷ []) seg)
-    → Did before (call ∷ []) after
-did_one before after call seg reply says is stands = record {
-  node = is ∙ (λ k. record before { segment = (sym says k).0; events = before.events ++ events_of (sym says k).1 });
-  stands = λ addresses steps h.
-      let segment : seg ≡ after.segment = sym (ap (λ (n : Node). n.segment) is) in
-      let P : Segment × Reply → Type 0 = λ p. StandsAt addresses (steps ++ (call, p.1) ∷ []) p.0 in
-      let k : StandsAt addresses (steps ++ (call, (applied before.segment call).1) ∷ []) (applied before.segment call).0 = subst P (sym says) (stands addresses steps h) in
-      let ends : (applied before.segment call).0 ≡ after.segment = ap (λ p. p.0) says ∙ segment in
-      subst (StandsAt addresses (steps ++ (call, (applied before.segment call).1) ∷ [])) ends k;
-}
-
--- a call that is refused, and changed nothing
-pub did_refused : (before after : Node) (call : Call) (cause : Refusal) → is_call call ≡ true → called before.segment call ≡ Err cause → after ≡ before → Did before (call ∷ []) after
-did_refused before after call cause fit says same =
-    let none : before ≡ record before { segment = before.segment; events = before.events ++ [] } = λ k. record before { events = sym (append-nil before.events) k } in
-    did_one before after call before.segment (Refused cause) (ap (replied before.segment) says) (same ∙ none)
-    (answered_stands before.segment before.segment call (Refused cause) fit (ap (replied before.segment) says))
-
 -- a call that the segment refused
 pub make_refused : (now : Node) (segment new : Segment) (address : Address) (events told : List Event) (missed : Bool) (call : Address → Call) (reply : Reply) (cause : Refusal)
-    → node_of segment address events missed ≡ now → told ≡ events → applied segment (call address) ≡ (new, reply) → reply ≡ Refused cause
+    → node_of segment address events missed ≡ now → told ≡ events → applied segment (call address) ≡ (new, reply) → reply ≡ replies.Refused cause
     → (called now.segment (call now.address) ≡ Err cause) × (node_of new address told missed ≡ now)
 make_refused now segment new address events told missed call reply cause view same says is =
     let r : (called segment (call address) ≡ Err cause) × (new ≡ segment) = refused_for segment (call address) new cause (says ∙ ap (λ (x : Reply). (new, x)) is) in
     let P : Node → Type 0 = λ n. (called n.segment (call n.address) ≡ Err cause) × (node_of new address told missed ≡ n) in
     subst P view (r.0, λ k. node_of (r.1 k) address (same k) missed)
-
--- a call that told nothing
-pub did_quietly : (now : Node) (segment new : Segment) (address : Address) (events : List Event) (missed : Bool) (call : Address → Call)
-    → node_of segment address events missed ≡ now → applied segment (call address) ≡ (new, Done [])
-    → ((addresses : List Address) (steps : Record) → StandsAt addresses steps segment → StandsAt addresses (steps ++ (call address, Done []) ∷ []) new)
-    → Did now (call now.address ∷ []) (node_of new address events missed)
-did_quietly now segment new address events missed call view says stands =
-    let none : node_of new address events missed ≡ node_of new address (events ++ []) missed = λ k. node_of new address (sym (append-nil events) k) missed in
-    subst (λ (n : Node). Did n (call n.address ∷ []) (node_of new address events missed)) view
-    (did_one (node_of segment address events missed) (node_of new address events missed) (call address) new (Done []) says none stands)
 
 -- what was under way when frames were missed has ended
 pub did_caught_up : (before mid after : Node) (call : Call) → Did before (call ∷ []) mid → after ≡ record mid { has_missed = false } → Did (caught_up before) (call ∷ []) after
@@ -86,3 +48,70 @@ did_caught_up before mid after call did is = record {
   node = is ∙ (λ k. record (did.node k) { has_missed = false });
   stands = λ addresses steps h. subst (λ (s : Segment). StandsAt addresses (steps ++ answered before.segment (call ∷ [])) s) (sym (ap (λ (n : Node). n.segment) is)) (did.stands addresses steps h);
 }
+
+-- a call that told nothing
+pub tells_quietly : (before after : Segment) (call : Call) → applied before call ≡ (after, Done [])
+    → ((addresses : List Address) (steps : Record) → StandsAt addresses steps before → StandsAt addresses (steps ++ (call, Done []) ∷ []) after) → Puts before call after
+tells_quietly before after call says stands = λ waiting. record {
+  made = ap (λ (p : Segment × Reply). p.0) says;
+  told = sym (append-nil waiting) ∙ ap (λ (p : Segment × Reply). waiting ++ events_of p.1) (sym says);
+  stands = λ addresses steps h. subst (λ (p : Segment × Reply). StandsAt addresses (steps ++ (call, p.1) ∷ []) after) (sym says) (stands addresses steps h);
+}
+
+-- two calls, as each was made
+pub did_two : (before : Node) (call next : Call) (mid after : Segment) (told left : List Event) → Tells before.segment before.events call mid told → Tells mid told next after left → Did before (call ∷ next ∷ []) (record before { segment = after; events = left })
+did_two before call next mid after told left t u = record {
+  node = (λ k. record before { segment = sym u.made k; events = u.told k }) ∙ (λ k. record before { segment = (applied (sym t.made k) next).0; events = t.told k ++ events_of (applied (sym t.made k) next).1 });
+  stands = λ addresses steps h.
+      let first : Record = (call, (applied before.segment call).1) ∷ [] in
+      let k : StandsAt addresses ((steps ++ first) ++ (next, (applied mid next).1) ∷ []) after = u.stands addresses (steps ++ first) (t.stands addresses steps h) in
+      subst (λ (s : Segment). StandsAt addresses (steps ++ (call, (applied before.segment call).1) ∷ (next, (applied s next).1) ∷ []) after) (sym t.made)
+      (subst (λ (m : Record). StandsAt addresses m after) (append_assoc steps first ((next, (applied mid next).1) ∷ [])) k);
+}
+
+-- a frame that came on the bus, and was looked at
+pub took_in : (now : Node) (segment mid after : Segment) (address : Address) (events told left : List Event) (missed : Bool) (call : Call) (fed : Fed) → node_of segment address events missed ≡ now → told ≡ events
+    → Puts segment call mid → HasLooked mid told address after left fed → DidAndLooked now call (node_of after address left missed) fed
+took_in now segment mid after address events told left missed call fed view same puts looked =
+    subst (λ (n : Node). DidAndLooked n call (node_of after address left missed) fed) view (by fed (subst (λ (es : List Event). HasLooked mid es address after left fed) same looked))
+  where
+    by : (fed : Fed) → HasLooked mid events address after left fed → DidAndLooked (node_of segment address events missed) call (node_of after address left missed) fed
+    by Taken t = did_two (node_of segment address events missed) call (Take address true) mid after events left (puts events) t
+    by WithoutRoom t = did_two (node_of segment address events missed) call (Take address false) mid after events left (puts events) t
+    by PassedBy t = t
+
+-- and one of its own, which it passed by
+pub passed_own : (now : Node) (segment mid after : Segment) (address : Address) (events : List Event) (missed : Bool) → node_of segment address events missed ≡ now → Puts segment (Transmit address) mid → Puts mid (Take address true) after
+    → Did now (Transmit now.address ∷ Take now.address true ∷ []) (node_of after address events missed)
+passed_own now segment mid after address events missed view puts passes =
+    subst (λ (n : Node). Did n (Transmit n.address ∷ Take n.address true ∷ []) (node_of after address events missed)) view
+    (did_two (node_of segment address events missed) (Transmit address) (Take address true) mid after events events (puts events) (passes events))
+
+-- first the node is ready, and then it takes the frame
+pub fed_ready : (before ready : Node) (frame : CanFrame) (after : Node) (fed : Result Fed NodeError) → IsReady before ready → IsTakenIn ready frame after fed → IsFed before frame after fed
+fed_ready before ready frame after (Ok Taken) first taken = (ready, first, taken)
+fed_ready before ready frame after (Ok WithoutRoom) first taken = (ready, first, taken)
+fed_ready before ready frame after (Ok PassedBy) first (free, never) = absurd never
+fed_ready before ready frame after (Err error) first taken = (ready, first, taken)
+
+-- nothing is left of what came before
+pub ready_at_once : (now : Node) → now.has_missed ≡ false → has_frame now ≡ false → IsReady now now
+ready_at_once now level none = (subst (λ (b : Bool). EndsFirst b now now) (sym level) refl, none)
+
+pub ready_then : (before after : Node) → before.has_missed ≡ true → IsCaughtUp before after → has_frame after ≡ false → IsReady before after
+ready_then before after behind ends none = (subst (λ (b : Bool). EndsFirst b before after) (sym behind) ends, none)
+
+-- a refusal to put is none for want of memory
+as_refused : (o : Option Refusal) (error : NodeError) → as_error o ≡ Some error → (cause : Refusal) × (error ≡ Refused cause)
+as_refused None error e = absurd (cc)
+as_refused (Some cause) error e = (cause, (let same : Some (Refused cause) ≡ Some error = e in cc))
+
+pub sent_ready : (before ready after : Node) (sent : Result (Unit {0}) NodeError) → IsReady before ready → IsPassedBy ready after sent → IsSent before after sent
+sent_ready before ready after (Ok done) first passed = (ready, first, passed)
+sent_ready before ready after (Err (Refused cause)) first passed = (ready, first, passed)
+sent_ready before ready after (Err OutOfMemory) first (e, same) = absurd (let r = as_refused (refusal_of (called ready.segment (Transmit ready.address))) OutOfMemory e in let no : OutOfMemory ≡ Refused r.0 = r.1 in cc)
+sent_ready before ready after (Err ClockPassed) first (e, same) = absurd (let r = as_refused (refusal_of (called ready.segment (Transmit ready.address))) ClockPassed e in let no : ClockPassed ≡ Refused r.0 = r.1 in cc)
+
+-- a call from where nothing changed yet
+pub tells_from : (seg was : Segment) (told waiting : List Event) (call : Call) (after : Segment) (left : List Event) → seg ≡ was → told ≡ waiting → Tells seg told call after left → Tells was waiting call after left
+tells_from seg was told waiting call after left same untold t = subst (λ (s : Segment). Tells s waiting call after left) same (subst (λ (es : List Event). Tells seg es call after left) untold t)

@@ -1,19 +1,18 @@
 -- A station looks at its own frame in place: it passes it by, so that it asks for no memory.
-use Rattle.std.proofs.Common.{◌≡◌, ℕ, ◌-◌, ◌==◌, ◌≤◌, nat_lt, ◌||◌, Bool, true, false, List, [], ◌∷◌, length, Option, Some, None, Ok, Err, IsOk, refl, sym, ap, ◌∙◌, subst, arith, eqb-true}
-use Rattle.std.specs.Prelude.{slice_get, unwrap_or, Result, OnOk}
+use Rattle.std.proofs.Common.{◌≡◌, ℕ, ◌-◌, ◌==◌, ◌≤◌, nat_lt, Bool, true, false, List, [], ◌∷◌, length, Option, Some, None, Ok, Err, IsOk, refl, sym, ap, ◌∙◌, subst, arith, eqb-true}
+use Rattle.std.specs.Prelude.{slice_get, unwrap_or}
 use Rattle.std.proofs.lemmas.Bool.{eq-eqb, ltb-false}
 use Rattle.std.proofs.lemmas.Option.{none-some, slice_get_within}
 use Rattle.bus_frame.specs.Frames.{CanFrame}
 use Rattle.pgn_ids.specs.Identifier.{meaning_of}
 use Rattle.pgn_ids.specs.declared.address.Address.{Address}
-use Rattle.message_events.specs.declared.event.Event.{Event}
 use Rattle.tx_queue.specs.Queue.{queue_limit, free_places, front, behind}
 use Rattle.bus_order.specs.Bus.{waiting}
 use Rattle.station_core.specs.Station.{Station, new_station}
 use Rattle.station_core.specs.Taking.{looks_at}
 use Rattle.station_core.specs.Quiet.{LooksLackingRoom}
 use Rattle.segment_law.specs.Segment.{Segment, place_of, station_of, waiting_at, with_station}
-use Rattle.segment_law.specs.Calls.{Answer, called, replied, no_place, with_frame}
+use Rattle.segment_law.specs.Calls.{Answer, called, replied, applied, no_place, with_frame}
 use Rattle.segment_law.specs.Readers.{queue_len}
 use Rattle.segment_law.specs.Reached.{IsReached}
 use Rattle.segment_law.specs.Record.{Record, StandsAt}
@@ -27,11 +26,9 @@ use Rattle.record_law.proofs.Lists.{all_each, each_get}
 use Rattle.broadcast_law.specs.Queues.{QueueTheirOwn}
 use Rattle.broadcast_law.proofs.Buses.{put_next}
 use Rattle.segment_core.specs.InPlace.{take_quiet, next_at, TakeLacksRoom}
-use Rattle.one_station.specs.Node.{Node, makes}
-use Rattle.one_station.specs.NodeFields.{IsStood}
-use Rattle.one_station.specs.Answers.{IsAnswered, LooksInPlace, is_waiting}
-use Rattle.one_station.specs.declared.error.NodeError.{NodeError}
-use Rattle.one_station.proofs.Made.{node_of}
+use Rattle.one_station.specs.Looks.{Puts, PassesInPlace}
+use Rattle.one_station.specs.NodeFields.{IsStood, HasLookedAtAll}
+use Rattle.one_station.proofs.Alone.{waits_is}
 
 abbrev IsInPlace : Option Station → Option CanFrame → Type 0
 IsInPlace st frame = (take_quiet st frame true ≡ true) × (TakeLacksRoom st frame true → ⊥)
@@ -113,24 +110,19 @@ module _ (seg : Segment) (r : IsReached seg) (own : QueueTheirOwn seg) where
   pub passes : (a : Address) (step : Segment × Reply) → called seg (Transmit a) ≡ Ok step → Passes (Transmit a) step
   passes a step e = subst (Holds seg Passes (Transmit a)) e (each_called seg Passes each_passes (Transmit a))
 
-no_frame : (missed frame : Bool) → (missed || frame) ≡ false → frame ≡ false
-no_frame true frame e = absurd (cc)
-no_frame false frame e = e
-
--- a node put its own frame, where nothing waited
-pub own_passed : ((addresses : List Address) (steps : Record) (seg : Segment) → StandsAt addresses steps seg → QueueTheirOwn seg)
-    → (now after : Node) (segment : Segment) (address : Address) (events : List Event) (missed : Bool) (result : Result (Unit {0}) NodeError) → node_of segment address events missed ≡ now → IsStood address segment
-    → queue_len segment address ≤ queue_limit → is_waiting now ≡ false → IsAnswered now (Transmit address) after result → OnOk result (LooksInPlace after)
-own_passed law now after segment address events missed result view stood few none answered = subst Goal view goes after none result answered
+-- a station that waited for no frame put its own
+pub own_passed : ((addresses : List Address) (steps : Record) (seg : Segment) → StandsAt addresses steps seg → QueueTheirOwn seg) → (segment mid : Segment) (address : Address) → IsStood address segment → HasLookedAtAll address segment → queue_len segment address ≤ queue_limit
+    → IsOk (called segment (Transmit address)) → Puts segment (Transmit address) mid → PassesInPlace mid address
+own_passed law segment mid address stood looked few ok puts = by (called segment (Transmit address)) refl ok (puts []).made
   where
-    Goal : Node → Type 0
-    Goal node = (after : Node) → is_waiting node ≡ false → (result : Result (Unit {0}) NodeError) → IsAnswered node (Transmit address) after result → OnOk result (LooksInPlace after)
+    r : IsReached segment
+    r = stands_reached (address ∷ []) stood.0 segment stood.1
 
-    goes : Goal (node_of segment address events missed)
-    goes after none (Err error) answered = tt
-    goes after none (Ok u) (ok, did) = subst LooksInPlace (sym did.node) (by (called segment (Transmit address)) refl ok)
-      where
-        by : (x : Answer) → called segment (Transmit address) ≡ x → IsOk x → LooksInPlace (makes (node_of segment address events missed) (Transmit address))
-        by (Err cause) e ok = absurd (cc)
-        by (Ok step) e ok = subst (λ (s : Segment × Reply). IsInPlace (station_of s.0 address) (next_at s.0 (place_of s.0 address))) (sym (ap (replied segment) e))
-            (passes segment (stands_reached (address ∷ []) stood.0 segment stood.1) (law (address ∷ []) stood.0 segment stood.1) address step e few (no_frame missed _ none))
+    none : nat_lt 0 (waiting_at segment address) ≡ false
+    none = ap (nat_lt 0) (waits_is address segment r looked.0 ∙ looked.1)
+
+    by : (x : Answer) → called segment (Transmit address) ≡ x → IsOk x → (applied segment (Transmit address)).0 ≡ mid → PassesInPlace mid address
+    by (Err cause) e ok made = absurd (cc)
+    by (Ok step) e ok made =
+        subst (λ (s : Segment). IsInPlace (station_of s address) (next_at s (place_of s address))) (sym (ap (λ (p : Segment × Reply). p.0) (ap (replied segment) e)) ∙ made)
+        (passes segment r (law (address ∷ []) stood.0 segment stood.1) address step e few none)

@@ -1,5 +1,5 @@
 -- How a node answers.
-use Rattle.std.specs.Prelude.{◌≡◌, Bool, true, false, ◌&&◌, ◌||◌, not, nat_lt, nat_le, ◌==◌, if◌then◌else◌, List, [], ◌∷◌, Option, Some, None, Result, Ok, Err, IsOk}
+use Rattle.std.specs.Prelude.{◌≡◌, Bool, true, false, nat_lt, nat_le, ◌==◌, if◌then◌else◌, List, [], ◌∷◌, Option, Some, None, Result, Ok, Err, IsOk}
 use Rattle.std.specs.Option.{option_map}
 use Rattle.bus_frame.specs.Frames.{CanFrame}
 use Rattle.pgn_ids.specs.Identifier.{meaning_of}
@@ -13,12 +13,11 @@ use Rattle.segment_law.specs.declared.call.Call.TheVariants.{Pump, Transmit, Tak
 use Rattle.segment_law.specs.declared.refusal.Refusal.{Refusal}
 use Rattle.segment_law.specs.declared.refusal.Refusal.TheVariants as refusal
 use Rattle.segment_core.specs.Answers.{refusal_of}
-use Rattle.segment_core.specs.InPlace.{is_quiet, MayLackMemory}
 use Rattle.one_station.specs.Node.{Node, Did}
 use Rattle.one_station.specs.declared.error.NodeError.{NodeError}
-use Rattle.one_station.specs.declared.error.NodeError.TheVariants.{Refused, FrameWaits, ClockPassed, OutOfMemory}
+use Rattle.one_station.specs.declared.error.NodeError.TheVariants.{Refused, ClockPassed, OutOfMemory}
 use Rattle.one_station.specs.declared.error.Fed.{Fed}
-use Rattle.one_station.specs.declared.error.Fed.TheVariants.{Taken, WithoutRoom, Waits}
+use Rattle.one_station.specs.declared.error.Fed.TheVariants.{Taken, WithoutRoom, PassedBy}
 use Rattle.one_station.specs.declared.error.Missed.{Missed}
 use Rattle.one_station.specs.declared.error.Missed.TheVariants as missed
 
@@ -28,7 +27,6 @@ use Rattle.one_station.specs.declared.error.Missed.TheVariants as missed
 abbrev pub IsStopped : Answer → NodeError → Type 0
 IsStopped answer (Refused cause) = answer ≡ Err cause
 IsStopped answer OutOfMemory = IsOk answer
-IsStopped answer FrameWaits = ⊥
 IsStopped answer ClockPassed = ⊥
 
 -- it was made; or it isn't, and nothing changed
@@ -46,14 +44,6 @@ IsUndone None before after error = (error ≡ OutOfMemory) × (after ≡ before)
 abbrev pub as_error : Option Refusal → Option NodeError
 as_error cause = option_map (λ refusal. Refused refusal) cause
 
--- a frame waits on the inner bus
-abbrev pub has_frame : Node → Bool
-has_frame node = nat_lt 0 (waiting_at node.segment node.address)
-
--- something waits for memory: what has yet to end since frames were missed, or a frame
-abbrev pub is_waiting : Node → Bool
-is_waiting node = node.has_missed || has_frame node
-
 -- the station takes the next frame of the inner bus
 abbrev pub looks : Node → Call
 looks node = Take node.address true
@@ -62,15 +52,40 @@ looks node = Take node.address true
 abbrev pub looks_roomless : Node → Call
 looks_roomless node = Take node.address false
 
--- that Take isn't refused, tells nothing, and asks for no memory
-abbrev pub LooksInPlace : Node → Type 0
-LooksInPlace node = (is_quiet node.segment (looks node) ≡ true) × (MayLackMemory node.segment (looks node) → ⊥)
+-- a frame waits on the inner bus
+abbrev pub has_frame : Node → Bool
+has_frame node = nat_lt 0 (waiting_at node.segment node.address)
 
--- that Take was made, with room or, where that found no memory, without; or it isn't refused and found none, and the frame waits
-abbrev pub HasLooked : (before after : Node) → Fed → Type 0
-HasLooked before after Taken = Did before (looks before ∷ []) after
-HasLooked before after WithoutRoom = Did before (looks_roomless before ∷ []) after
-HasLooked before after Waits = IsOk (called before.segment (looks before)) × (after ≡ before)
+-- Frames that were missed
+
+-- what is under way ends: incoming sessions, and connections with their outcomes
+abbrev pub overruns : Node → Call
+overruns node = Overrun node.address 0
+
+-- it has ended, and nothing is remembered
+abbrev pub caught_up : Node → Node
+caught_up node = record node { has_missed = false }
+
+abbrev pub IsCaughtUp : (before after : Node) → Type 0
+IsCaughtUp before after = (has_frame before ≡ false) × Did (caught_up before) (overruns before ∷ []) after
+
+-- it did; or the node remembers that it is to
+abbrev pub IsMissed : (before after : Node) → Missed → Type 0
+IsMissed before after missed.Ended = IsCaughtUp before after
+IsMissed before after missed.Waits = after ≡ record before { has_missed = true }
+
+-- where that is remembered it ends first; else nothing is done
+abbrev pub EndsFirst : (missed : Bool) → (before ready : Node) → Type 0
+EndsFirst true before ready = IsCaughtUp before ready
+EndsFirst false before ready = ready ≡ before
+
+-- nothing is left of what came before: no frame waits to be looked at, and what was under way when frames were missed has ended
+abbrev pub IsReady : (before ready : Node) → Type 0
+IsReady before ready = EndsFirst before.has_missed before ready × (has_frame ready ≡ false)
+
+-- it is remembered still, since it found no memory
+abbrev pub IsUnready : (before after : Node) → Type 0
+IsUnready before after = (before.has_missed ≡ true) × IsOk (called before.segment (overruns before)) × (after ≡ before)
 
 -- Frames from the bus
 
@@ -85,53 +100,31 @@ is_queue_full node = nat_le queue_limit (queue_len node.segment node.address)
 -- why a frame isn't fed: the first of its causes
 abbrev pub feed_refusal : Node → CanFrame → Option NodeError
 feed_refusal node frame =
-    if is_waiting node then Some FrameWaits
-    else if is_own node frame then Some (Refused refusal.StationAddress)
+    if is_own node frame then Some (Refused refusal.StationAddress)
     else if is_queue_full node then Some (Refused refusal.TxFull)
     else as_error (refusal_of (called node.segment (Inject frame)))
 
--- a call, and then the Take of the frame that it put; or that frame waits, where the Take found no memory
+-- a call, and then the Take of the frame that it put, with room or without
 abbrev pub DidAndLooked : (before : Node) → Call → (after : Node) → Fed → Type 0
 DidAndLooked before call after Taken = Did before (call ∷ looks before ∷ []) after
 DidAndLooked before call after WithoutRoom = Did before (call ∷ looks_roomless before ∷ []) after
-DidAndLooked before call after Waits = Did before (call ∷ []) after × IsOk (called after.segment (looks before))
+DidAndLooked before call after PassedBy = ⊥
 
--- the frame comes on the inner bus, and the station takes it
+-- the frame comes on the inner bus, and the station takes it; or it doesn't, and nothing changed
+abbrev pub IsTakenIn : (ready : Node) → CanFrame → (after : Node) → Result Fed NodeError → Type 0
+IsTakenIn ready frame after (Ok fed) = (feed_refusal ready frame ≡ None) × DidAndLooked ready (Inject frame) after fed
+IsTakenIn ready frame after (Err error) = IsUndone (feed_refusal ready frame) ready after error
+
+-- first the node is ready
+abbrev pub IsReadyAndFed : (before : Node) → CanFrame → (after : Node) → Result Fed NodeError → Type 0
+IsReadyAndFed before frame after fed = (ready : Node) × IsReady before ready × IsTakenIn ready frame after fed
+
+-- or it can't be, and passes the frame by
 abbrev pub IsFed : (before : Node) → CanFrame → (after : Node) → Result Fed NodeError → Type 0
-IsFed before frame after (Ok fed) = (feed_refusal before frame ≡ None) × DidAndLooked before (Inject frame) after fed
-IsFed before frame after (Err error) = IsUndone (feed_refusal before frame) before after error
-
--- Frames that were missed
-
--- what is under way ends: incoming sessions, and connections with their outcomes
-abbrev pub overruns : Node → Call
-overruns node = Overrun node.address 0
-
--- it did; or the node remembers that it is to
-abbrev pub IsMissed : (before after : Node) → Missed → Type 0
-IsMissed before after missed.Ended = (is_waiting before ≡ false) × Did before (overruns before ∷ []) after
-IsMissed before after missed.Waits = after ≡ record before { has_missed = true }
-
--- it is to, and no frame waits that came before those that were missed
-abbrev pub is_behind : Node → Bool
-is_behind node = node.has_missed && not (has_frame node)
-
--- it has ended, and nothing is remembered
-abbrev pub caught_up : Node → Node
-caught_up node = record node { has_missed = false }
-
-abbrev pub IsCaughtUp : (before after : Node) → Result (Unit {0}) NodeError → Type 0
-IsCaughtUp before after (Ok _) = Did (caught_up before) (overruns before ∷ []) after
-IsCaughtUp before after (Err error) = IsStopped (called before.segment (overruns before)) error × (after ≡ before)
-
--- What waits: a frame is looked at, and then what was under way ends
-
-abbrev pub IsSettledBy : (behind : Bool) → (before after : Node) → Result (Unit {0}) NodeError → Type 0
-IsSettledBy true before after result = IsCaughtUp before after result
-IsSettledBy false before after result = IsAnswered before (looks before) after result
-
-abbrev pub IsSettled : (before after : Node) → Result (Unit {0}) NodeError → Type 0
-IsSettled before after result = IsSettledBy (is_behind before) before after result
+IsFed before frame after (Ok PassedBy) = IsUnready before after
+IsFed before frame after (Ok Taken) = IsReadyAndFed before frame after (Ok Taken)
+IsFed before frame after (Ok WithoutRoom) = IsReadyAndFed before frame after (Ok WithoutRoom)
+IsFed before frame after (Err error) = IsReadyAndFed before frame after (Err error)
 
 -- Frames for the bus
 
@@ -145,11 +138,20 @@ abbrev pub front_calls : Node → List Call
 front_calls node = pump_for_front node (front_at node.segment node.address) (next_pump node.segment node.address)
 
 abbrev pub sent_refusal : Node → Option NodeError
-sent_refusal node =
-    if is_waiting node then Some FrameWaits
-    else as_error (refusal_of (called node.segment (Transmit node.address)))
+sent_refusal node = as_error (refusal_of (called node.segment (Transmit node.address)))
 
--- the frame leaves the queue for the inner bus, where the station passes it by
+-- the frame leaves the queue for the inner bus, where the station passes it by; or it doesn't, for this cause, and nothing changed
+abbrev pub IsPassedBy : (ready after : Node) → Result (Unit {0}) NodeError → Type 0
+IsPassedBy ready after (Ok _) = (sent_refusal ready ≡ None) × Did ready (Transmit ready.address ∷ looks ready ∷ []) after
+IsPassedBy ready after (Err error) = (sent_refusal ready ≡ Some error) × (after ≡ ready)
+
+-- first the node is ready
+abbrev pub IsReadyAndSent : (before after : Node) → Result (Unit {0}) NodeError → Type 0
+IsReadyAndSent before after sent = (ready : Node) × IsReady before ready × IsPassedBy ready after sent
+
+-- or it can't be, for want of memory
 abbrev pub IsSent : (before after : Node) → Result (Unit {0}) NodeError → Type 0
-IsSent before after (Ok _) = (sent_refusal before ≡ None) × Did before (Transmit before.address ∷ looks before ∷ []) after
-IsSent before after (Err error) = IsUndone (sent_refusal before) before after error
+IsSent before after (Ok done) = IsReadyAndSent before after (Ok done)
+IsSent before after (Err OutOfMemory) = IsUnready before after
+IsSent before after (Err (Refused cause)) = IsReadyAndSent before after (Err (Refused cause))
+IsSent before after (Err ClockPassed) = ⊥

@@ -1,6 +1,8 @@
 -- A node as it is kept.
-use Rattle.std.specs.Prelude.{[], ◌∷◌}
+use Rattle.std.specs.Prelude.{◌≡◌, [], ◌∷◌}
 use Rattle.pgn_ids.specs.declared.address.Address.{Address}
+use Rattle.bus_order.specs.Bus.{waiting}
+use Rattle.station_core.specs.Station.{Station}
 use Rattle.segment_law.specs.Segment.{Segment}
 use Rattle.segment_law.specs.Record.{Record, StandsAt}
 use Rattle.one_station.specs.Node.{Node}
@@ -14,6 +16,17 @@ node_value node = record { segment = node.segment; address = node.address; event
 abbrev pub IsStood : Address → Segment → Type 0
 IsStood address segment = (steps : Record) × StandsAt (address ∷ []) steps segment
 
+-- the station with this address, alone
+pub record IsAlone (address : Address) (segment : Segment) : Type 0 where
+  pub station : Station
+  pub alone : segment.stations ≡ station ∷ []
+  pub its : station.address ≡ address
+
+-- and it has looked at every frame of its bus
+abbrev pub HasLookedAtAll : Address → Segment → Type 0
+HasLookedAtAll address segment = IsAlone address segment × (waiting segment.bus 0 ≡ 0)
+
 pub record IsNodeInside (node : Inside) : Type 0 where
   pub front_first : IsFrontFirst node.told
   pub stood : IsStood node.address node.segment
+  pub looked : HasLookedAtAll node.address node.segment

@@ -3,16 +3,13 @@
 use segment_law::Refusal;
 use thiserror::Error;
 
-/// Why a call on a node isn't done. It changed nothing then, and can be made again.
+/// Why a call on a node isn't done. It can be made again. It changed nothing then, but that `feed` and `sent` may have ended what
+/// `missed` left to end.
 #[derive(Clone, Copy, Debug, PartialEq, Eq, Error)]
 pub enum NodeError {
     /// It is refused for this cause.
     #[error("the call is refused")]
     Refused(Refusal),
-    /// A frame that was fed still waits, since the node found no memory to look at it; or it was told that it missed frames, and found
-    /// none to end what was under way: `settle` comes first.
-    #[error("what came before waits for memory")]
-    FrameWaits,
     /// The clock stands at a later tick.
     #[error("the clock stands at a later tick")]
     ClockPassed,
@@ -29,8 +26,9 @@ pub enum Fed {
     /// The node has looked at it without room for what it brings, since it found no memory: a message that it begins or completes
     /// isn't taken, and a connection ends by an abort.
     WithoutRoom,
-    /// The node has it, and found no memory to look at it. It isn't fed again: `settle` looks at it.
-    Waits,
+    /// The node hasn't looked at it, and nothing changed: what was under way when frames were missed has yet to end, and found no
+    /// memory for that. The frame counts as missed too, and isn't fed again.
+    PassedBy,
 }
 
 /// What came of frames that were missed.
@@ -38,7 +36,7 @@ pub enum Fed {
 pub enum Missed {
     /// What was under way has ended.
     Ended,
-    /// The node remembers that it is to end: `settle` ends it. Until then no frame is fed.
+    /// There was no memory for that. The node remembers it, and tries again at each `feed` and `sent`.
     Waits,
 }
 

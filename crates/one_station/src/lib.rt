@@ -8,6 +8,7 @@
 mod bus;
 mod error;
 mod events;
+mod look;
 mod missed;
 mod node;
 mod ports;

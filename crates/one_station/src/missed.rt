@@ -1,6 +1,8 @@
-//! Frames that were missed, and what waits for memory.
-ghost use Rattle.std.specs.Prelude.{◌≡◌};
-ghost use Rattle.one_station.specs.Answers.{IsAnswered, IsMissed, IsCaughtUp, IsSettled, has_frame, is_behind, is_waiting, overruns};
+//! Frames that were missed.
+ghost use Rattle.std.specs.Prelude.{◌≡◌, false, IsOk, OnOk, OnErr};
+ghost use Rattle.std.specs.Bool.{OnTrue, OnFalse};
+ghost use Rattle.segment_law.specs.Calls.{called};
+ghost use Rattle.one_station.specs.Answers.{IsAnswered, IsMissed, IsCaughtUp, IsReady, IsUnready, has_frame, overruns};
 
 use crate::error::{Missed, NodeError};
 use crate::node::Node;
@@ -11,31 +13,44 @@ impl Node {
     /// fed. Each message that is coming in ends, and each connection with its outcome, `Overrun`: else a message could be put together
     /// of the packets of two.
     ///
-    /// Where that finds no memory, or something waits already, the node remembers it (`Missed::Waits`), and `settle` ends them.
+    /// If that finds no memory, as it may if several connections are under way, the node remembers it (`Missed::Waits`): each `feed`
+    /// and each `sent` tries it first.
     pub fn missed(&mut self) -> Missed
         ensures { IsMissed self.old self.new result }
     {
-        if !self.is_waiting() {
-            if let Ok(()) = self.end_all() {
-                return Missed::Ended;
+        match self.catch_up() {
+            Ok(()) => Missed::Ended,
+            Err(_) => {
+                self.has_missed = true;
+                Missed::Waits
             }
         }
-        self.has_missed = true;
-        Missed::Waits
     }
 
-    /// Looks at the frame that waits, since there was no memory for it when it was fed; where none waits, ends what was under way when
-    /// frames were missed. To be called until it is refused as `NothingToTake`.
-    ///
-    /// Refused as `NothingToTake` where nothing waits, as `TxFull` where a frame waits and the transmit queue has no place for an
-    /// answer, and else as `OutOfMemory` where memory is refused.
-    pub fn settle(&mut self) -> Result<(), NodeError>
-        ensures { IsSettled self.old self.new result }
+    /// What was under way when frames were missed ends, if that is remembered: whether nothing is left of it.
+    #[tactic(auto, using(crate::proofs::Made::ready_at_once, crate::proofs::Made::ready_then))]
+    pub(crate) fn make_ready(&mut self) -> bool
+        ensures ready { OnTrue result (IsReady self.old self.new) }
+        ensures unready { OnFalse result (IsUnready self.old self.new) }
     {
-        if self.is_behind() {
-            return self.catch_up();
+        if !self.is_behind() {
+            self.has_looked();
+            return true;
         }
-        self.look_with_room()
+        match self.catch_up() {
+            Ok(()) => {
+                self.has_looked();
+                true
+            }
+            Err(_) => false,
+        }
+    }
+
+    // Whether what was under way when frames were missed has yet to end.
+    fn is_behind(&self) -> bool
+        ensures { result ≡ self.now.has_missed }
+    {
+        self.has_missed
     }
 
     // What is under way ends.
@@ -46,11 +61,14 @@ impl Node {
         self.make(Call::Overrun { station, n: 0 })
     }
 
-    // What was under way when frames were missed ends.
+    // What was under way when frames were missed ends, and isn't remembered any more.
     #[tactic(auto, using(crate::proofs::Made::did_caught_up))]
     fn catch_up(&mut self) -> Result<(), NodeError>
-        ensures { IsCaughtUp self.old self.new result }
+        ensures done { OnOk result (IsCaughtUp self.old self.new) }
+        ensures other { OnErr result (IsOk (called self.old.segment (overruns self.old)) × (self.new ≡ self.old)) }
     {
+        self.has_looked();
+        self.may_miss();
         match self.end_all() {
             Ok(()) => {
                 self.has_missed = false;
@@ -60,24 +78,17 @@ impl Node {
         }
     }
 
-    // Whether what was under way is to end, and no frame waits that came before.
-    fn is_behind(&self) -> bool
-        ensures { result ≡ is_behind self.now }
+    // No frame waits to be looked at.
+    fn has_looked(&self)
+        ensures { has_frame self.now ≡ false }
     {
-        self.has_missed && !self.has_frame()
+        let _read = self.address;
     }
 
-    // Whether something waits for memory.
-    pub(crate) fn is_waiting(&self) -> bool
-        ensures { result ≡ is_waiting self.now }
+    // It isn't refused that what is under way ends.
+    fn may_miss(&self)
+        ensures { IsOk (called self.now.segment (overruns self.now)) }
     {
-        self.has_missed || self.has_frame()
-    }
-
-    // Whether a frame waits to be looked at.
-    fn has_frame(&self) -> bool
-        ensures { result ≡ has_frame self.now }
-    {
-        self.segment.waiting(self.address) > 0
+        let _read = self.address;
     }
 }

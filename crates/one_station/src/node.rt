@@ -6,6 +6,7 @@ ghost use Rattle.segment_law.specs.Calls.{called};
 ghost use Rattle.segment_law.specs.Record.{StandsAt};
 ghost use Rattle.one_station.specs.Node.{new_node};
 ghost use Rattle.one_station.specs.Answers.{IsAnswered, IsStopped};
+ghost use Rattle.one_station.specs.Looks.{comes_on_bus};
 ghost use Rattle.one_station.specs.Told.{told_events, IsFrontFirst};
 
 use crate::error::NodeError;
@@ -88,9 +89,10 @@ impl Node {
         self.address
     }
 
-    /// Makes a call of the segment, and keeps what it tells. Memory is taken only once the call isn't refused, and the place for
-    /// what it tells before it is made.
+    /// Makes a call of the segment by which no frame comes on its bus, and keeps what it tells. Memory is taken only once the call
+    /// isn't refused, and the place for what it tells before it is made.
     pub(crate) fn make(&mut self, call: Call) -> Result<(), NodeError>
+        requires { comes_on_bus call ≡ false }
         ensures { IsAnswered self.old call self.new result }
     {
         make_room(&self.segment, &mut self.told, self.owed, &call)?;
@@ -116,12 +118,25 @@ pub(crate) fn make_place(told: &mut Told, owed: usize) -> Result<(), AllocError>
     told.reserve(owed)
 }
 
-// How many messages have ended by what a call told. No call gives a message and ends one.
-fn ended(events: &Events) -> usize {
+/// How many messages have ended by what a call told. No call gives a message and ends one.
+pub(crate) fn ended(events: &Events) -> usize {
     match events.get(0) {
         Some(Event::Outcome { .. }) => events.len(),
         _ => 0,
     }
+}
+
+/// Makes a place for what one more call tells, unless there is one.
+pub(crate) fn make_one(told: &mut Told, owed: usize) -> Result<(), AllocError>
+    requires { IsFrontFirst told.old }
+    ensures events { told_events told.new ≡ told_events told.old }
+    ensures sound { IsFrontFirst told.new }
+    ensures room { OnOk result (deque_len told.new.parts < deque_capacity told.new.parts) }
+{
+    if told.has_room() {
+        return Ok(());
+    }
+    told.reserve(owed)
 }
 
 // Whether a call gives a message.
@@ -135,12 +150,18 @@ fn gives(segment: &Segment, call: &Call) -> bool {
     }
 }
 
-// Makes a place for what a call tells, unless the call is refused.
-fn make_room(segment: &Segment, told: &mut Told, owed: usize, call: &Call) -> Result<(), NodeError>
+/// Makes a place for what a call tells, unless the call is refused.
+pub(crate) fn make_room(
+    segment: &Segment,
+    told: &mut Told,
+    owed: usize,
+    call: &Call,
+) -> Result<(), NodeError>
     requires { IsFrontFirst told.old }
     ensures events { told_events told.new ≡ told_events told.old }
     ensures sound { IsFrontFirst told.new }
     ensures room { OnOk result (deque_len told.new.parts < deque_capacity told.new.parts) }
+    ensures kept { deque_len told.old.parts < deque_capacity told.old.parts → deque_len told.new.parts < deque_capacity told.new.parts }
     ensures err { IfErr result (λ error. IsStopped (called segment.now call.now) error) }
 {
     if told.has_room() && (told.has_place_to_give(owed) || !gives(segment, call)) {

@@ -57,6 +57,7 @@ impl Told {
     pub(crate) fn reserve(&mut self, owed: usize) -> Result<(), AllocError>
         ensures front { self.new.front ≡ self.old.front }
         ensures parts { self.new.parts.items ≡ self.old.parts.items }
+        ensures kept { deque_len self.old.parts < deque_capacity self.old.parts → deque_len self.new.parts < deque_capacity self.new.parts }
         ensures room { OnOk result (deque_len self.new.parts < deque_capacity self.new.parts) }
     {
         self.parts

@@ -7,8 +7,7 @@ fn carry(from: &mut Node, to: &mut Node) -> Result<bool, Error> {
         return Ok(false);
     };
     match to.feed(&frame)? {
-        Fed::Taken | Fed::WithoutRoom => {}
-        Fed::Held => to.settle()?,
+        Fed::Taken | Fed::WithoutRoom | Fed::PassedBy => {}
     }
     from.sent()?;
     Ok(true)

@@ -41,7 +41,7 @@ macro_rules! numbered {
 }
 
 numbered! {
-    /// Why a call isn't done. It changed nothing, and may be made again.
+    /// Why a call isn't done. It may be made again. It changed nothing, but that `feed` and `sent` may have ended what `missed` left to end.
     Error {
         IdTooLarge = 1, "the identifier of the frame has more than 29 bits";
         DataTooLong = 2, "the frame has more than 8 bytes";
@@ -56,7 +56,6 @@ numbered! {
         TooShort = 15, "the message has fewer than 9 bytes";
         TooLong = 16, "the message has more than 1,785 bytes to all, or more than 117,440,505 to one node";
         SameStation = 17, "the destination is the node itself";
-        NothingToTake = 18, "nothing waits to be settled";
         NothingDue = 20, "no timer is due";
         NothingToSend = 21, "there is no such frame or message to send";
         StationAddress = 23, "the frame has the source address of the node";
@@ -64,7 +63,6 @@ numbered! {
         PortNotPaused = 28, "the port isn't paused";
         NoMemory = 64, "no memory: nothing changed";
         Nothing = 65, "there is nothing now";
-        FrameWaits = 66, "something waits to be settled first";
         ClockPassed = 67, "the clock of the node stands later";
         TooLittleRoom = 68, "the room is too little for the message";
     }
@@ -91,10 +89,11 @@ numbered! {
 pub enum Fed {
     /// The node has taken it.
     Taken,
-    /// The node has it, and `Node::settle` is to be called until it is done: there was no memory.
-    Held,
     /// The node has looked at the frame, and there was no memory for what it brings.
     WithoutRoom,
+    /// The node hasn't looked at it: what was under way when frames were missed has yet to end, and there was no memory for that. The frame
+    /// counts as missed too, and isn't fed again.
+    PassedBy,
 }
 
 /// What becomes of a loss that was told.
@@ -103,6 +102,6 @@ pub enum Fed {
 pub enum Missed {
     /// What was under way has ended.
     Ended,
-    /// The node remembers it, and `Node::settle` is to be called until it is done: there was no memory.
+    /// There was no memory for that. The node remembers it, and each `feed` and `sent` tries it first.
     Waits,
 }

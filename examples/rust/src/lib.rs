@@ -112,8 +112,8 @@ fn done(code: u32) -> Result<(), Error> {
 /// What a code says of a frame that was fed.
 fn fed(code: u32) -> Result<Fed, Error> {
     match code {
-        69 => Ok(Fed::Held),
         70 => Ok(Fed::WithoutRoom),
+        71 => Ok(Fed::PassedBy),
         _ => done(code).map(|()| Fed::Taken),
     }
 }
@@ -182,10 +182,6 @@ impl Node {
             0 => Missed::Ended,
             _ => Missed::Waits,
         }
-    }
-
-    pub fn settle(&mut self) -> Result<(), Error> {
-        done(self.call(|of, out| unsafe { raw::fulwethi_raw_settle(of, out) }))
     }
 
     /// The frame that is next for the bus, if there is one; it stays next until `sent`.

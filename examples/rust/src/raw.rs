@@ -38,7 +38,6 @@ extern "C" {
     pub fn fulwethi_raw_cancel(of: Handle, to: u8, number: u64, out: *mut Handle) -> u32;
     pub fn fulwethi_raw_feed(of: Handle, id: u32, bytes: *const u8, len: usize, out: *mut Handle) -> u32;
     pub fn fulwethi_raw_missed(of: Handle, out: *mut Handle) -> u32;
-    pub fn fulwethi_raw_settle(of: Handle, out: *mut Handle) -> u32;
     pub fn fulwethi_raw_front(of: Handle, frame: *mut crate::Frame, out: *mut Handle) -> u32;
     pub fn fulwethi_raw_sent(of: Handle, out: *mut Handle) -> u32;
     pub fn fulwethi_raw_clock(of: Handle, tick: u64, out: *mut Handle) -> u32;

@@ -69,7 +69,6 @@ fn what_is_refused_changes_nothing() {
     assert_eq!(node.send_refusal(254, 0xEF00, 9), Some(Error::NoSuchStation));
     assert_eq!(node.cancel(0x35, 1), Err(Error::NothingToSend));
     assert_eq!(node.sent(), Err(Error::NothingToSend));
-    assert_eq!(node.settle(), Err(Error::NothingToTake));
     assert_eq!(node.feed(&Frame::new(0x1CEC3521, &[]).unwrap()), Err(Error::StationAddress));
     assert_eq!(node.feed(&Frame::new(1 << 29, &[]).unwrap()), Err(Error::IdTooLarge));
     assert_eq!(Frame::new(0, &[0; 9]), Err(Error::DataTooLong));

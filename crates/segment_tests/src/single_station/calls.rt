@@ -73,8 +73,7 @@ pub(crate) fn next(node: &Node) -> Option<u64> {
     node.next_at()
 }
 
-// A frame that found no memory to be looked at is settled. One that is looked at without room ends the test, which tells then that memory
-// was refused.
+// A frame that is looked at without room, or passed by, ends the test, which tells then that memory was refused.
 pub(crate) fn feed(rt: &impl Abort, node: &mut Node, frame: Frame) -> Result<(), NodeError> {
     let fed = match node.feed(frame) {
         Err(NodeError::OutOfMemory) => node.feed(frame),
@@ -83,7 +82,7 @@ pub(crate) fn feed(rt: &impl Abort, node: &mut Node, frame: Frame) -> Result<(),
     match fed {
         Ok(Fed::Taken) => Ok(()),
         Ok(Fed::WithoutRoom) => panic!(rt; "error: no memory"),
-        Ok(Fed::Waits) => node.settle(),
+        Ok(Fed::PassedBy) => panic!(rt; "error: no memory"),
         Err(error) => Err(error),
     }
 }
@@ -92,12 +91,8 @@ pub(crate) fn feed(rt: &impl Abort, node: &mut Node, frame: Frame) -> Result<(),
 pub(crate) fn misses(rt: &impl Abort, node: &mut Node) {
     match node.missed() {
         Missed::Ended => {}
-        Missed::Waits => same(rt, node.settle(), Ok(())),
+        Missed::Waits => same(rt, node.missed(), Missed::Ended),
     }
-}
-
-pub(crate) fn settle(node: &mut Node) -> Result<(), NodeError> {
-    node.settle()
 }
 
 pub(crate) fn front(node: &mut Node) -> Result<Option<Frame>, NodeError> {

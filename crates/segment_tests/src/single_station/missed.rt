@@ -101,11 +101,6 @@ fn ends_two(rt: &impl Abort, node: &mut Node) {
     ends(rt, node, Address(0x36), 1, Outcome::Overrun);
     is_quiet(rt, node);
     same(rt, due(node), None);
-    same(
-        rt,
-        settle(node),
-        Err(NodeError::Refused(Refusal::NothingToTake)),
-    );
 }
 
 #[test]

@@ -18,7 +18,6 @@ fn refused<T>(cause: Refusal) -> Result<T, NodeError> {
 fn refuses_frames(rt: &impl Abort, a: &mut Node) {
     let own = frame_of(rt, (0x1CEC_3521, [0; 8]));
     same(rt, feed(rt, a, own), refused(Refusal::StationAddress));
-    same(rt, settle(a), refused(Refusal::NothingToTake));
     same(rt, front(a), Ok(None));
     same(rt, sent(a), refused(Refusal::NothingToSend));
 }

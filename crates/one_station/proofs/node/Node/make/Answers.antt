@@ -1,5 +1,6 @@
 use Rattle.one_station.specs.Told.{told_events}
 use Rattle.one_station.proofs.Made.{make_refused, stood_on}
+use Rattle.one_station.proofs.Resting.{rested}
 use Rattle.one_station.proofs.node.Node.make.Goals as goal
 
 pub returns-in-Ok-Refused : goal.returns-in-Ok-Refused
@@ -11,16 +12,19 @@ pub invariant_of-self-in-Ok-Refused : goal.invariant_of-self-in-Ok-Refused
 invariant_of-self-in-Ok-Refused c = record {
   front_first = c.make_room.ensures.sound;
   stood = stood_on c.self.inside.address c.self.inside.segment c.apply.new.self c.args.call c.in-Ok-Refused.field-0 c.in-Ok-Refused.ensures.stands c.self.invariant.stood;
+  looked = rested c.self.inside.address c.self.inside.segment c.apply.new.self c.args.call c.in-Ok-Refused.field-0 c.self.invariant.stood c.self.invariant.looked c.requires c.in-Ok-Refused.ensures.ok;
 }
 
 pub invariant_of-self-in-Ok-Done : goal.invariant_of-self-in-Ok-Done
 invariant_of-self-in-Ok-Done c = record {
   front_first = c.keep.ensures.sound;
   stood = stood_on c.self.inside.address c.self.inside.segment c.apply.new.self c.args.call c.in-Ok-Done.field-0 c.in-Ok-Done.ensures.stands c.self.invariant.stood;
+  looked = rested c.self.inside.address c.self.inside.segment c.apply.new.self c.args.call c.in-Ok-Done.field-0 c.self.invariant.stood c.self.invariant.looked c.requires c.in-Ok-Done.ensures.ok;
 }
 
 pub invariant_of-self-in-Ok : goal.invariant_of-self-in-Ok
 invariant_of-self-in-Ok c = record {
   front_first = c.make_room.ensures.sound;
   stood = stood_on c.self.inside.address c.self.inside.segment c.apply.new.self c.args.call c.in-Ok.field-0 c.in-Ok.ensures.stands c.self.invariant.stood;
+  looked = rested c.self.inside.address c.self.inside.segment c.apply.new.self c.args.call c.in-Ok.field-0 c.self.invariant.stood c.self.invariant.looked c.requires c.in-Ok.ensures.ok;
 }

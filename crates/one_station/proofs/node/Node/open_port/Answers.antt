@@ -4,6 +4,7 @@ use Rattle.segment_law.specs.declared.reply.Reply.TheVariants.{Sent, Done}
 use Rattle.one_station.specs.Told.{told_events}
 use Rattle.record_law.proofs.Replies.{fits}
 use Rattle.one_station.proofs.Made.{make_refused, stood_on}
+use Rattle.one_station.proofs.Resting.{rested}
 use Rattle.one_station.proofs.node.Node.open_port.Goals as goal
 
 pub returns-in-Ok-Refused-clause-answered : goal.returns-in-Ok-Refused-clause-answered
@@ -25,10 +26,12 @@ pub invariant_of-self : goal.invariant_of-self
 invariant_of-self c = record {
   front_first = c.self.invariant.front_first;
   stood = stood_on c.self.inside.address c.self.inside.segment c.apply.new.self (Open c.self.inside.address c.args.pgn c.args.max_len) c.in-Ok-Opened.field-0 c.in-Ok-Opened.ensures.stands c.self.invariant.stood;
+  looked = rested c.self.inside.address c.self.inside.segment c.apply.new.self (Open c.self.inside.address c.args.pgn c.args.max_len) c.in-Ok-Opened.field-0 c.self.invariant.stood c.self.invariant.looked refl c.in-Ok-Opened.ensures.ok;
 }
 
 pub invariant_of-self-in-Ok-Refused : goal.invariant_of-self-in-Ok-Refused
 invariant_of-self-in-Ok-Refused c = record {
   front_first = c.self.invariant.front_first;
   stood = stood_on c.self.inside.address c.self.inside.segment c.apply.new.self (Open c.self.inside.address c.args.pgn c.args.max_len) c.in-Ok-Refused.field-0 c.in-Ok-Refused.ensures.stands c.self.invariant.stood;
+  looked = rested c.self.inside.address c.self.inside.segment c.apply.new.self (Open c.self.inside.address c.args.pgn c.args.max_len) c.in-Ok-Refused.field-0 c.self.invariant.stood c.self.invariant.looked refl c.in-Ok-Refused.ensures.ok;
 }

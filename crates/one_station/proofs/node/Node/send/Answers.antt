@@ -1,10 +1,11 @@
-use Rattle.std.proofs.Common.{◌≡◌, ℕ, List, sym, ap, ◌∙◌}
+use Rattle.std.proofs.Common.{◌≡◌, ℕ, List, refl, sym, ap, ◌∙◌}
 use Rattle.segment_law.specs.Calls.{applied}
 use Rattle.segment_law.specs.declared.call.Call.TheVariants.{Send}
 use Rattle.segment_law.specs.declared.reply.Reply.TheVariants.{Opened, Done}
 use Rattle.one_station.specs.Told.{told_events}
 use Rattle.record_law.proofs.Replies.{fits}
 use Rattle.one_station.proofs.Made.{make_refused, stood_on}
+use Rattle.one_station.proofs.Resting.{rested}
 use Rattle.one_station.proofs.node.Node.send.Goals as goal
 
 pub returns-in-Ok-Refused-clause-answered : goal.returns-in-Ok-Refused-clause-answered
@@ -28,10 +29,12 @@ pub invariant_of-self-in-Ok-Sent : goal.invariant_of-self-in-Ok-Sent
 invariant_of-self-in-Ok-Sent c = record {
   front_first = c.make_place.ensures.sound;
   stood = stood_on c.self.inside.address c.self.inside.segment c.apply.new.self (Send c.self.inside.address c.args.to c.args.pgn c.new.result) c.in-Ok-Sent.field-0 c.in-Ok-Sent.ensures.stands c.self.invariant.stood;
+  looked = rested c.self.inside.address c.self.inside.segment c.apply.new.self (Send c.self.inside.address c.args.to c.args.pgn c.new.result) c.in-Ok-Sent.field-0 c.self.invariant.stood c.self.invariant.looked refl c.in-Ok-Sent.ensures.ok;
 }
 
 pub invariant_of-self-in-Ok-Refused : goal.invariant_of-self-in-Ok-Refused
 invariant_of-self-in-Ok-Refused c = record {
   front_first = c.make_place.ensures.sound;
   stood = stood_on c.self.inside.address c.self.inside.segment c.apply.new.self (Send c.self.inside.address c.args.to c.args.pgn c.new.result) c.in-Ok-Refused.field-0 c.in-Ok-Refused.ensures.stands c.self.invariant.stood;
+  looked = rested c.self.inside.address c.self.inside.segment c.apply.new.self (Send c.self.inside.address c.args.to c.args.pgn c.new.result) c.in-Ok-Refused.field-0 c.self.invariant.stood c.self.invariant.looked refl c.in-Ok-Refused.ensures.ok;
 }

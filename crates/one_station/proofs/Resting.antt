@@ -1,0 +1,236 @@
+-- A node between its calls: its station has looked at every frame of its bus.
+use Rattle.std.proofs.Common.{◌≡◌, ◌+◌, ◌-◌, Bool, true, false, cond, List, [], ◌∷◌, ◌++◌, Option, Some, None, Ok, Err, IsOk, refl, sym, ap, ◌∙◌, subst}
+use Rattle.std.specs.Prelude.{nat_le, nat_lt}
+use Rattle.std.proofs.lemmas.Option.{same_Some}
+use Rattle.bus_frame.specs.Frames.{CanFrame}
+use Rattle.pgn_ids.specs.declared.address.Address.{Address}
+use Rattle.tx_queue.specs.Queue.{queue_limit}
+use Rattle.bus_order.specs.Bus.{waiting}
+use Rattle.message_events.specs.declared.event.Event.{Event}
+use Rattle.station_core.specs.Station.{Station, new_station}
+use Rattle.segment_law.specs.Segment.{Segment, place_of, station_of, new_segment}
+use Rattle.segment_law.specs.Calls.{Answer, called, replied, applied, no_place}
+use Rattle.segment_law.specs.Record.{Record, StandsAt}
+use Rattle.segment_law.specs.Reached.{IsReached}
+use Rattle.segment_law.specs.Readers.{queue_len}
+use Rattle.segment_law.specs.declared.call.Call.{Call}
+use Rattle.segment_law.specs.declared.call.Call.TheVariants.{Open, Close, Send, Pump, Transmit, Take, TakeAgain, Overrun, Tick, Fire, Cancel, Inject, Pause, Resume}
+use Rattle.segment_law.specs.declared.refusal.Refusal.{Refusal}
+use Rattle.segment_law.specs.declared.refusal.Refusal.TheVariants as refusal
+use Rattle.segment_law.specs.declared.reply.Reply.{Reply}
+use Rattle.segment_law.specs.declared.reply.Reply.TheVariants.{Done}
+use Rattle.segment_law.proofs.Records.{stands_reached}
+use Rattle.record_law.proofs.EachCall.{Holds, Accepted, each_called}
+use Rattle.segment_core.specs.Answers.{refusal_of}
+use Rattle.station_core.specs.Quiet.{takes_quietly}
+use Rattle.segment_core.specs.InPlace.{take_quiet, next_at}
+use Rattle.segment_core.specs.Memory.{MayAskMemory}
+use Rattle.one_station.specs.Node.{Node}
+use Rattle.one_station.specs.Looks.{comes_on_bus, Tells, Puts, PassesInPlace, HasLooked}
+use Rattle.one_station.specs.NodeFields.{IsStood, IsAlone, HasLookedAtAll}
+use Rattle.one_station.specs.Answers.{feed_refusal, sent_refusal, has_frame, overruns, is_own, is_queue_full, as_error}
+use Rattle.one_station.specs.declared.error.NodeError.{NodeError}
+use Rattle.one_station.specs.declared.error.NodeError.TheVariants.{Refused}
+use Rattle.one_station.specs.declared.error.Fed.{Fed}
+use Rattle.one_station.specs.declared.error.Fed.TheVariants.{Taken, WithoutRoom, PassedBy}
+use Rattle.one_station.proofs.Alone.{place_is, station_is, leaves_by, rests, waits_is, keeps_one, overrun_passes, take_passes, has_place, comes_next}
+use Rattle.one_station.proofs.Made.{node_of, tells_quietly}
+
+reached : (address : Address) (segment : Segment) → IsStood address segment → IsReached segment
+reached address segment stood = stands_reached (address ∷ []) stood.0 segment stood.1
+
+-- nothing was done yet
+pub rests_at_first : (address : Address) (segment : Segment) → segment ≡ new_segment (address ∷ []) → HasLookedAtAll address segment
+rests_at_first address segment same = subst (HasLookedAtAll address) (sym same) (record { station = new_station address; alone = refl; its = refl }, refl)
+
+-- a call that puts no frame on the bus
+pub rested : (address : Address) (segment new : Segment) (call : Call) (reply : Reply) → IsStood address segment → HasLookedAtAll address segment → comes_on_bus call ≡ false → applied segment call ≡ (new, reply) → HasLookedAtAll address new
+rested address segment new call reply stood looked away says = rests address segment (reached address segment stood) looked.0 looked.1 call away new reply says
+
+-- no frame waits, and nothing is refused that isn't to be
+pub none_waits : (now : Node) (segment : Segment) (address : Address) (events : List Event) (missed : Bool) → node_of segment address events missed ≡ now → IsStood address segment → HasLookedAtAll address segment → has_frame now ≡ false
+none_waits now segment address events missed view stood looked =
+    subst (λ (n : Node). has_frame n ≡ false) view (ap (nat_lt 0) (waits_is address segment (reached address segment stood) looked.0 ∙ looked.1))
+
+pub may_miss : (now : Node) (segment : Segment) (address : Address) (events : List Event) (missed : Bool) → node_of segment address events missed ≡ now → IsStood address segment → HasLookedAtAll address segment → IsOk (called now.segment (overruns now))
+may_miss now segment address events missed view stood looked =
+    subst (λ (n : Node). IsOk (called n.segment (overruns n))) view (overrun_passes address segment (reached address segment stood) looked.0)
+
+-- there is room on the bus
+pub room_on_bus : (address : Address) (segment : Segment) (call : Call) → comes_on_bus call ≡ true → IsStood address segment → HasLookedAtAll address segment → MayAskMemory segment call → ⊥
+room_on_bus address segment call comes stood looked = by call comes
+  where
+    by : (call : Call) → comes_on_bus call ≡ true → MayAskMemory segment call → ⊥
+    by (Transmit a) e = keeps_one address segment (reached address segment stood) looked.0 looked.1
+    by (Inject f) e = keeps_one address segment (reached address segment stood) looked.0 looked.1
+    by (Open a pgn max_len) e = absurd cc
+    by (Close port) e = absurd cc
+    by (Send from to pgn bytes) e = absurd cc
+    by (Pump a to) e = absurd cc
+    by (Take a room) e = absurd cc
+    by (TakeAgain a room) e = absurd cc
+    by (Overrun a n) e = absurd cc
+    by (Tick n) e = absurd cc
+    by (Fire a) e = absurd cc
+    by (Cancel from to number) e = absurd cc
+    by (Pause port) e = absurd cc
+    by (Resume port) e = absurd cc
+
+-- what isn't refused to `feed` and `sent`
+as_none : (o : Option Refusal) → as_error o ≡ None → o ≡ None
+as_none None e = refl
+as_none (Some cause) e = absurd (cc)
+
+ok_of : (x : Answer) → refusal_of x ≡ None → IsOk x
+ok_of (Ok step) e = refl
+ok_of (Err cause) e = absurd (cc)
+
+open_feed : (own full : Bool) (o : Option Refusal) → cond {A = Option NodeError} own (Some (Refused refusal.StationAddress)) (cond full (Some (Refused refusal.TxFull)) (as_error o)) ≡ None → (full ≡ false) × (o ≡ None)
+open_feed true full o e = absurd (cc)
+open_feed false true o e = absurd (cc)
+open_feed false false None e = (refl, refl)
+open_feed false false (Some cause) e = absurd (cc)
+
+pub may_feed : (now : Node) (segment : Segment) (address : Address) (events : List Event) (missed : Bool) (frame : CanFrame) → node_of segment address events missed ≡ now → feed_refusal now frame ≡ None
+    → (nat_le queue_limit (queue_len segment address) ≡ false) × IsOk (called segment (Inject frame))
+may_feed now segment address events missed frame view free =
+    let node : Node = node_of segment address events missed in
+    let o = open_feed (is_own node frame) (is_queue_full node) (refusal_of (called segment (Inject frame))) (subst (λ (n : Node). feed_refusal n frame ≡ None) (sym view) free) in
+    (o.0, ok_of (called segment (Inject frame)) o.1)
+
+pub may_put : (now : Node) (segment : Segment) (address : Address) (events : List Event) (missed : Bool) → node_of segment address events missed ≡ now → sent_refusal now ≡ None → IsOk (called segment (Transmit address))
+may_put now segment address events missed view free = ok_of (called segment (Transmit address)) (as_none (refusal_of (called segment (Transmit address))) (subst (λ (n : Node). sent_refusal n ≡ None) (sym view) free))
+
+-- a frame that came on the bus is taken
+pub stood_by : (address : Address) (before after : Segment) (waiting left : List Event) (call : Call) → Tells before waiting call after left → IsStood address before → IsStood address after
+stood_by address before after waiting left call t (steps, h) = (steps ++ (call, (applied before call).1) ∷ [], t.stands (address ∷ []) steps h)
+
+same_station : (address : Address) (segment new : Segment) (h : IsAlone address segment) (k : IsAlone address new) → new.stations ≡ segment.stations → h.station ≡ k.station
+same_station address segment new h k same = let e : h.station ∷ [] ≡ k.station ∷ [] = sym h.alone ∙ sym same ∙ k.alone in cc
+
+pub comes_to_take : (address : Address) (segment mid : Segment) (frame : CanFrame) → IsStood address segment → HasLookedAtAll address segment → (nat_le queue_limit (queue_len segment address) ≡ false) × IsOk (called segment (Inject frame)) → Puts segment (Inject frame) mid
+    → (room : Bool) → IsOk (called mid (Take address room))
+comes_to_take address segment mid frame stood looked (few, ok) puts room =
+    let r = reached address segment stood in
+    let t = puts [] in
+    let k = leaves_by address segment r looked.0 (Inject frame) mid ok t.made in
+    let n = comes_next address segment r looked.0 looked.1 frame mid ok t.made in
+    take_passes address mid (reached address mid (stood_by address segment mid [] [] (Inject frame) t stood)) k.0 frame n.0
+    (ap no_place (sym (same_station address segment mid looked.0 k.0 n.1)) ∙ has_place address segment r looked.0 few) room
+
+-- and then none waits
+one_waits : (call : Call) → comes_on_bus call ≡ true → (address : Address) (segment mid : Segment) (r : IsReached segment) (h : HasLookedAtAll address segment) → IsOk (called segment call) → (applied segment call).0 ≡ mid → IsAlone address mid × (waiting mid.bus 0 ≡ 1)
+one_waits (Transmit a) comes address segment mid r h ok made = let k = leaves_by address segment r h.0 (Transmit a) mid ok made in (k.0, k.1 ∙ ap (λ n. n + 1) h.1)
+one_waits (Inject f) comes address segment mid r h ok made = let k = leaves_by address segment r h.0 (Inject f) mid ok made in (k.0, k.1 ∙ ap (λ n. n + 1) h.1)
+one_waits (Open a pgn max_len) comes address segment mid r h ok made = absurd cc
+one_waits (Close port) comes address segment mid r h ok made = absurd cc
+one_waits (Send from to pgn bytes) comes address segment mid r h ok made = absurd cc
+one_waits (Pump a to) comes address segment mid r h ok made = absurd cc
+one_waits (Take a room) comes address segment mid r h ok made = absurd cc
+one_waits (TakeAgain a room) comes address segment mid r h ok made = absurd cc
+one_waits (Overrun a n) comes address segment mid r h ok made = absurd cc
+one_waits (Tick n) comes address segment mid r h ok made = absurd cc
+one_waits (Fire a) comes address segment mid r h ok made = absurd cc
+one_waits (Cancel from to number) comes address segment mid r h ok made = absurd cc
+one_waits (Pause port) comes address segment mid r h ok made = absurd cc
+one_waits (Resume port) comes address segment mid r h ok made = absurd cc
+
+-- where it was taken
+pub looked_again : (address : Address) (segment mid after : Segment) (call : Call) (room : Bool) (waits left : List Event) → comes_on_bus call ≡ true → IsStood address segment → HasLookedAtAll address segment → IsOk (called segment call) → Puts segment call mid
+    → IsOk (called mid (Take address room)) → Tells mid waits (Take address room) after left → IsStood address after × HasLookedAtAll address after
+looked_again address segment mid after call room waits left comes stood looked ok puts ok' u =
+    let t = puts [] in
+    let s : IsStood address mid = stood_by address segment mid [] [] call t stood in
+    let k = one_waits call comes address segment mid (reached address segment stood) looked ok t.made in
+    let n = leaves_by address mid (reached address mid s) k.0 (Take address room) after ok' u.made in
+    (stood_by address mid after waits left (Take address room) u s, (n.0, n.1 ∙ ap (λ w. w - 1) k.1))
+
+pub looked_in : (address : Address) (segment mid after : Segment) (call : Call) (fed : Fed) (waits left : List Event) → comes_on_bus call ≡ true → IsStood address segment → HasLookedAtAll address segment → IsOk (called segment call) → Puts segment call mid
+    → ((room : Bool) → IsOk (called mid (Take address room))) → HasLooked mid waits address after left fed → IsStood address after × HasLookedAtAll address after
+looked_in address segment mid after call Taken waits left comes stood looked ok puts ok' u = looked_again address segment mid after call true waits left comes stood looked ok puts (ok' true) u
+looked_in address segment mid after call WithoutRoom waits left comes stood looked ok puts ok' u = looked_again address segment mid after call false waits left comes stood looked ok puts (ok' false) u
+looked_in address segment mid after call PassedBy waits left comes stood looked ok puts ok' never = absurd never
+
+-- a frame that comes on the bus tells nothing
+abbrev IsSilent : Call → Segment × Reply → Type 0
+IsSilent (Transmit a) step = step.1 ≡ Done []
+IsSilent (Inject f) step = step.1 ≡ Done []
+IsSilent call step = Unit {0}
+
+each_silent : (seg : Segment) → Accepted seg IsSilent
+each_silent seg = record {
+  station = λ i st at. record {
+    opens = λ a pgn max_len here. tt;
+    closes = λ port here there. tt;
+    sends = λ from to pgn bytes here other long short. tt;
+    pumps = λ a to here. tt;
+    transmits = λ a f here first free. refl;
+    takes = λ a room f here next free. tt;
+    repeats = λ a room f here last free. tt;
+    overruns = λ a n here few. tt;
+    fires = λ a here. tt;
+    cancels = λ from to number here pending. tt;
+    pauses = λ port here. tt;
+    resumes = λ port here. tt;
+  };
+  ticks = λ n. tt;
+  injects = λ f foreign free. refl;
+}
+
+silent : (seg : Segment) (call : Call) → comes_on_bus call ≡ true → IsOk (called seg call) → (applied seg call).1 ≡ Done []
+silent seg call comes ok = by (called seg call) (each_called seg IsSilent (each_silent seg) call) ok
+  where
+    of_call : (call : Call) → comes_on_bus call ≡ true → (step : Segment × Reply) → IsSilent call step → step.1 ≡ Done []
+    of_call (Transmit a) e step h = h
+    of_call (Inject f) e step h = h
+    of_call (Open a pgn max_len) e step h = absurd cc
+    of_call (Close port) e step h = absurd cc
+    of_call (Send from to pgn bytes) e step h = absurd cc
+    of_call (Pump a to) e step h = absurd cc
+    of_call (Take a room) e step h = absurd cc
+    of_call (TakeAgain a room) e step h = absurd cc
+    of_call (Overrun a n) e step h = absurd cc
+    of_call (Tick n) e step h = absurd cc
+    of_call (Fire a) e step h = absurd cc
+    of_call (Cancel from to number) e step h = absurd cc
+    of_call (Pause port) e step h = absurd cc
+    of_call (Resume port) e step h = absurd cc
+
+    by : (x : Answer) → Holds seg IsSilent call x → IsOk x → (replied seg x).1 ≡ Done []
+    by (Err cause) h ok = absurd (cc)
+    by (Ok step) h ok = of_call call comes step h
+
+pub silent_says : (seg new : Segment) (call : Call) (reply : Reply) → comes_on_bus call ≡ true → IsOk (called seg call) → applied seg call ≡ (new, reply) → reply ≡ Done []
+silent_says seg new call reply comes ok says = sym (ap (λ (p : Segment × Reply). p.1) says) ∙ silent seg call comes ok
+
+pub put_silently : (seg new : Segment) (call : Call) (reply : Reply) → comes_on_bus call ≡ true → IsOk (called seg call) → applied seg call ≡ (new, reply)
+    → ((addresses : List Address) (steps : Record) → StandsAt addresses steps seg → StandsAt addresses (steps ++ (call, reply) ∷ []) new) → Puts seg call new
+put_silently seg new call reply comes ok says stands =
+    let quiet : reply ≡ Done [] = silent_says seg new call reply comes ok says in
+    tells_quietly seg new call (says ∙ ap (λ (r : Reply). (new, r)) quiet) (subst (λ (r : Reply). (addresses : List Address) (steps : Record) → StandsAt addresses steps seg → StandsAt addresses (steps ++ (call, r) ∷ []) new) quiet stands)
+
+-- what is made in place isn't refused
+take_ok : (st : Option Station) (frame : Option CanFrame) (room : Bool) → take_quiet st frame room ≡ true → (s : Station) × (f : CanFrame) × (st ≡ Some s) × (frame ≡ Some f) × (no_place s ≡ false)
+take_ok (Some st) (Some frame) room e = (st, frame, refl, refl, by (no_place st) refl e)
+  where
+    by : (b : Bool) → no_place st ≡ b → cond b false (takes_quietly st frame room) ≡ true → no_place st ≡ false
+    by true is e = absurd (cc)
+    by false is e = is
+take_ok (Some st) None room e = absurd (cc)
+take_ok None (Some frame) room e = absurd (cc)
+take_ok None None room e = absurd (cc)
+
+passes_ok : (address : Address) (mid : Segment) (r : IsReached mid) (k : IsAlone address mid) → PassesInPlace mid address → IsOk (called mid (Take address true))
+passes_ok address mid r k passes =
+    let t = take_ok (station_of mid address) (next_at mid (place_of mid address)) true passes.0 in
+    let its : t.0 ≡ k.station = same_Some t.0 k.station (sym t.2 ∙ station_is address mid r k) in
+    take_passes address mid r k t.1 (sym (ap (next_at mid) (place_is address mid r k)) ∙ t.3) (ap no_place (sym its) ∙ t.4) true
+
+-- its own frame, which it passed by
+pub looked_own : (address : Address) (segment mid after : Segment) → IsStood address segment → HasLookedAtAll address segment → IsOk (called segment (Transmit address)) → Puts segment (Transmit address) mid → PassesInPlace mid address → Puts mid (Take address true) after
+    → IsStood address after × HasLookedAtAll address after
+looked_own address segment mid after stood looked ok puts passes took =
+    let t = puts [] in
+    let s : IsStood address mid = stood_by address segment mid [] [] (Transmit address) t stood in
+    let k = one_waits (Transmit address) refl address segment mid (reached address segment stood) looked ok t.made in
+    looked_again address segment mid after (Transmit address) true [] [] refl stood looked ok puts (passes_ok address mid (reached address mid s) k.0 passes) (took [])

@@ -1,0 +1,38 @@
+-- What one call does with the inner bus and with what was told.
+use Rattle.std.specs.Prelude.{◌≡◌, Bool, true, false, List, [], ◌∷◌, ◌++◌}
+use Rattle.pgn_ids.specs.declared.address.Address.{Address}
+use Rattle.message_events.specs.declared.event.Event.{Event}
+use Rattle.segment_law.specs.Segment.{Segment}
+use Rattle.segment_law.specs.Calls.{applied, events_of}
+use Rattle.segment_law.specs.Record.{Record, StandsAt}
+use Rattle.segment_law.specs.declared.call.Call.{Call}
+use Rattle.segment_law.specs.declared.call.Call.TheVariants.{Transmit, Take, Inject}
+use Rattle.segment_core.specs.InPlace.{is_quiet, MayLackMemory}
+use Rattle.one_station.specs.declared.error.Fed.{Fed}
+use Rattle.one_station.specs.declared.error.Fed.TheVariants.{Taken, WithoutRoom, PassedBy}
+
+-- a frame comes on the bus
+abbrev pub comes_on_bus : Call → Bool
+comes_on_bus (Transmit a) = true
+comes_on_bus (Inject f) = true
+comes_on_bus call = false
+
+-- a call is made, and what it tells waits behind the rest
+pub record Tells (before : Segment) (waiting : List Event) (call : Call) (after : Segment) (left : List Event) : Type 0 where
+  pub made : (applied before call).0 ≡ after
+  pub told : left ≡ waiting ++ events_of (applied before call).1
+  pub stands : (addresses : List Address) (steps : Record) → StandsAt addresses steps before → StandsAt addresses (steps ++ (call, (applied before call).1) ∷ []) after
+
+-- it tells nothing
+abbrev pub Puts : Segment → Call → Segment → Type 0
+Puts before call after = (waiting : List Event) → Tells before waiting call after waiting
+
+-- to take the next frame isn't refused, tells nothing, and asks for no memory
+abbrev pub PassesInPlace : Segment → Address → Type 0
+PassesInPlace segment station = (is_quiet segment (Take station true) ≡ true) × (MayLackMemory segment (Take station true) → ⊥)
+
+-- the station takes the next frame, with room or without
+abbrev pub HasLooked : Segment → List Event → Address → Segment → List Event → Fed → Type 0
+HasLooked before waiting station after left Taken = Tells before waiting (Take station true) after left
+HasLooked before waiting station after left WithoutRoom = Tells before waiting (Take station false) after left
+HasLooked before waiting station after left PassedBy = ⊥
