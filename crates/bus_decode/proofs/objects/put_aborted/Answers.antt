@@ -4,10 +4,10 @@ use Rattle.bus_decode.proofs.objects.put_aborted.Goals as goal
 
 pub returns : goal.returns
 returns c =
-    line_put c.put_abort.result _ _ (aborted_members c.args.now c.args.course.now c.args.key.now c.args.pgn c.args.reason c.args.who)
-    (behind c.put_abort.result _ _ _ _ _ c.in_ok-put_text.ensures
-    (behind c.put_abort.result _ _ _ _ _ c.in_ok-put_number.ensures
-    (behind c.put_abort.result _ _ _ _ _ c.in_ok-put_address.ensures
-    (behind c.put_abort.result _ _ _ _ _ c.in_ok-put_place.ensures
-    (behind c.put_abort.result _ _ _ _ _ c.in_ok-put_address-2.ensures
+    line_put c.put_abort.result c.args.out.now.items _ (aborted_members c.args.now c.args.course.now c.args.key.now c.args.pgn c.args.reason c.args.who)
+    (behind c.put_abort.result c.args.out.now.items _ _ _ _ c.in_ok-put_text.ensures
+    (behind c.put_abort.result c.put_text.new.out.items _ _ _ _ c.in_ok-put_number.ensures
+    (behind c.put_abort.result c.put_number.new.out.items _ _ _ _ c.in_ok-put_address.ensures
+    (behind c.put_abort.result c.put_address.new.out.items _ _ _ _ c.in_ok-put_place.ensures
+    (behind c.put_abort.result c.put_place.new.out.items _ _ _ _ c.in_ok-put_address-2.ensures
     c.put_abort.ensures)))))

@@ -1,4 +1,4 @@
-use Rattle.std.proofs.Common.{◌≡◌, ◌++◌, ◌×◌, drop}
+use Rattle.std.proofs.Common.{◌≡◌, ◌++◌, drop}
 use Rattle.bus_decode.specs.Json.{told_objects, without_each}
 use Rattle.bus_decode.proofs.objects.put_objects.Given as goal
 
