@@ -1,5 +1,5 @@
 -- What a line does.
-use Rattle.std.specs.Prelude.{◌≡◌, ℕ, ◌-◌, ◌^◌, min, nat_lt, if◌then◌else◌, List, ◌++◌, Option, Some, None, Result, Ok, Err, codes}
+use Rattle.std.specs.Prelude.{◌≡◌, ℕ, if◌then◌else◌, List, ◌++◌, Option, Some, None, Result, Ok, Err, codes}
 use Rattle.std.specs.Fmt.{decimal}
 use Rattle.script_commands.specs.Values.{◌>>=◌}
 use Rattle.script_commands.specs.declared.fault.Fault.{Fault}
@@ -16,27 +16,18 @@ use Rattle.node_lines.specs.declared.line.NodeLine.{NodeLine}
 use Rattle.node_lines.specs.declared.line.NodeLine.TheVariants.{Passed, Frame, Now, Command}
 use Rattle.node_lines.specs.declared.command.NodeCommand.{NodeCommand}
 use Rattle.node_lines.specs.declared.command.NodeCommand.TheVariants.{Send, Open, Close, Pause, Resume, Cancel, Missed, Counts, State, Refused}
-use Rattle.bus_node.specs.Rests.{wakes}
 use Rattle.bus_node.specs.Node.{Node, cleared, told, asked}
 use Rattle.bus_node.specs.Interfaces.{shown_on, is_other, passed_over, joined}
 use Rattle.bus_node.specs.Putting.{heard}
+use Rattle.bus_node.specs.Due.{next_due}
 use Rattle.bus_node.specs.LaneCounts.{lanes_in_doubt, lanes_pending, lane_counts_text}
-use Rattle.bus_node.specs.Time.{due_below, settled, at_time}
+use Rattle.bus_node.specs.Time.{settled, at_time}
 use Rattle.line_runs.specs.declared.running.Told.{Told}
 use Rattle.line_runs.specs.declared.running.Told.TheVariants.{Answered, NoMemory}
 
 abbrev pub due_text : Option ℕ → List ℕ
 due_text None = codes "none"
 due_text (Some tick) = decimal tick
-
--- the earlier of a tick, if there is one, and another, of which the last says none
-abbrev pub first_of : Option ℕ → ℕ → Option ℕ
-first_of None wake = if nat_lt wake (2 ^ 64 - 1) then Some wake else None
-first_of (Some tick) wake = Some (min tick wake)
-
--- the tick at which the next timer is due or a destination no longer rests
-abbrev pub next_due : Node → Option ℕ
-next_due n = first_of (due_below (2 ^ 64) n.segment) (wakes n.segment.now (2 ^ 64 - 1) n.rests)
 
 -- the tick at which the clock stands, how many frames wait to be put, and the tick at which something is due; how many lanes are in doubt,
 -- and how many have a message that waits or is under way

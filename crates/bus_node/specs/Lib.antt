@@ -6,6 +6,7 @@ pub mod Interfaces
 pub mod Clock
 pub mod Putting
 pub mod Time
+pub mod Due
 pub mod LaneCounts
 pub mod Acting
 pub mod Outcome

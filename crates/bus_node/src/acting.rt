@@ -6,11 +6,10 @@ ghost use Rattle.script_text.specs.Counts.{counts_line};
 ghost use Rattle.segment_law.specs.declared.call.Call.TheVariants.{Overrun};
 ghost use Rattle.bus_node.specs.Node.{told, asked};
 ghost use Rattle.bus_node.specs.LaneCounts.{lane_counts_text};
-ghost use Rattle.bus_node.specs.Acting.{due_text, first_of, next_due, state_line, commanded, time_in, acted, followed, obeyed, obey_line, Obeyed};
+ghost use Rattle.bus_node.specs.Acting.{due_text, state_line, commanded, time_in, acted, followed, obeyed, obey_line, Obeyed};
 
 use crate::interfaces::shown_on;
 use crate::node::Node;
-use crate::time::due_up_to;
 use line_runs::Told;
 use node_lines::{NodeCommand, NodeLine, read_node_line};
 use port_table::PortId;
@@ -26,21 +25,6 @@ fn put_due(out: &mut Vec<u8>, due: Option<u64>) -> Result<(), AllocError>
     match due {
         None => out.extend_from_slice(b"none"),
         Some(tick) => put_decimal(out, tick),
-    }
-}
-
-/// The earlier of a tick, if there is one, and another, of which the last says none.
-fn first_of(due: Option<u64>, wake: u64) -> Option<u64>
-    ensures { result ≡ first_of due wake }
-{
-    match due {
-        Some(tick) => Some(tick.min(wake)),
-        None => {
-            if wake == u64::MAX {
-                return None;
-            }
-            Some(wake)
-        }
     }
 }
 
@@ -76,14 +60,6 @@ fn put_lane_counts(out: &mut Vec<u8>, doubted: u64, pending: u64) -> Result<(), 
 }
 
 impl Node {
-    // The tick at which the next timer is due or a destination no longer rests.
-    fn next_due(&self) -> Option<u64>
-        ensures { result ≡ next_due self.now }
-    {
-        let wake = self.rests.wakes(self.segment.now(), u64::MAX);
-        first_of(due_up_to(&self.segment, u64::MAX), wake)
-    }
-
     // The line of its state.
     #[tactic(auto, unfolding(crate::specs::Acting::state_line))]
     fn print_state(&mut self) -> Result<(), AllocError>

@@ -4,6 +4,7 @@
 
 mod acting;
 mod clock;
+mod due;
 mod interfaces;
 mod lane_counts;
 mod node;

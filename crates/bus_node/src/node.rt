@@ -74,7 +74,8 @@ impl Drop for Node {
 
 impl Node {
     /// A node with a station of this address, 0 to 253, on an interface: frames of no other come to it, and those that it puts are shown
-    /// there. Its clock stands at tick 0, no port is open, and nothing was done yet. After a connection to a destination failed, nothing of a message is sent to it for `quiet` ticks.
+    /// there. Its clock stands at tick 0, no port is open, and nothing was done yet. After a connection to a destination failed, nothing of a
+    /// message is sent to it for `quiet` ticks.
     ///
     /// Refused as `BadAddresses` exactly where the address is 254 or 255, and else as `OutOfMemory` where memory is refused.
     pub fn new(

@@ -36,8 +36,8 @@ pub(crate) fn due_up_to(segment: &Segment, last: u64) -> Option<u64>
 }
 
 impl Node {
-    // Whether the next frame of a broadcast waits for its time.
-    fn is_pacing(&self) -> bool
+    /// Whether the next frame of a broadcast waits for its time.
+    pub(crate) fn is_pacing(&self) -> bool
         ensures { result ≡ is_pacing self.now }
     {
         let station = self.station;

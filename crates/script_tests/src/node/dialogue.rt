@@ -205,6 +205,34 @@ fn a_broadcast_keeps_its_pace(rt: HostRuntime) {
     )
 }
 
+// Nobody asks for a frame of a broadcast, and no timer runs for it: `state` names the tick at which it goes on.
+#[test]
+fn a_broadcast_is_due_at_its_pace(rt: HostRuntime) {
+    let alloc = rt.alloc();
+    let mut node = node(&rt, alloc);
+    tells(
+        &rt,
+        alloc,
+        &mut node,
+        b"now 7.000000\nsend FF FECA fill 9\nstate\nnow 7.049999\nstate",
+        b"sent 1\nput (0000000007.000000) can0 1CECFF21#20090002FFCAFE00\nstate 0 0 50 0 1\nstate 49 0 50 0 1\n",
+    );
+    tells(
+        &rt,
+        alloc,
+        &mut node,
+        b"now 7.050000\nstate",
+        b"put (0000000007.050000) can0 1CEBFF21#0101020304050607\nstate 50 0 100 0 1\n",
+    );
+    tells(
+        &rt,
+        alloc,
+        &mut node,
+        b"now 7.100000\nstate",
+        b"  outcome 21 FF 1 Broadcast\nput (0000000007.100000) can0 1CEBFF21#020809FFFFFFFFFF\nstate 100 0 none 0 0\n",
+    )
+}
+
 #[test]
 fn another_node_with_the_address_is_told(rt: HostRuntime) {
     let alloc = rt.alloc();
@@ -333,5 +361,34 @@ fn nothing_is_sent_for_a_while_after_a_failed_connection(rt: HostRuntime) {
         &mut node,
         b"now 1700000000.720000",
         b"put (1700000000.710000) can0 18EA3521#00EC00\n",
+    )
+}
+
+// The lane to 35 has a Request to queue, and rests until tick 710. Meanwhile a broadcast is looked for at each tick.
+#[test]
+fn a_broadcast_is_due_while_a_destination_rests(rt: HostRuntime) {
+    let alloc = rt.alloc();
+    let mut node = node(&rt, alloc);
+    is_aborted(&rt, alloc, &mut node);
+    tells(
+        &rt,
+        alloc,
+        &mut node,
+        b"send FF FECA fill 9\nstate",
+        b"sent 1\nput (1700000000.010000) can0 1CECFF21#20090002FFCAFE00\nstate 10 0 11 1 2\n",
+    );
+    tells(
+        &rt,
+        alloc,
+        &mut node,
+        b"now 1700000000.060000\nstate",
+        b"put (1700000000.060000) can0 1CEBFF21#0101020304050607\nstate 60 0 61 1 2\n",
+    );
+    tells(
+        &rt,
+        alloc,
+        &mut node,
+        b"now 1700000000.110000\nstate",
+        b"  outcome 21 FF 1 Broadcast\nput (1700000000.110000) can0 1CEBFF21#020809FFFFFFFFFF\nstate 110 0 710 1 1\n",
     )
 }
