@@ -1,7 +1,7 @@
 -- The least tick at which a timer is due, and that at which a segment has something to do.
-use Rattle.std.proofs.Common.{◌≡◌, ℕ, ◌+◌, ◌<◌, ◌≤◌, ◌^◌, Bool, true, false, ◌&&◌, nat_le, Option, Some, None, refl, ◌∙◌, ap, arith}
+use Rattle.std.proofs.Common.{◌≡◌, ℕ, ◌+◌, ◌<◌, ◌≤◌, ◌^◌, Bool, true, false, ◌&&◌, nat_le, Some, None, refl, ◌∙◌, ap, arith}
 use Rattle.std.proofs.lemmas.Bool.Decides.{nat_tests}
-use Rattle.tick_timers.specs.Due.{IsDueFrom, IsFirstFrom, IsNextFrom}
+use Rattle.tick_timers.specs.Due.{IsDueFrom, IsNextFrom}
 use Rattle.station_lanes.specs.LaneReaders.{least_below}
 use Rattle.station_lanes.proofs.Counting.{same_up_to, least_is, none_from}
 use Rattle.segment_law.specs.Segment.{Segment}
