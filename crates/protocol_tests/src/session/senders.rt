@@ -228,8 +228,8 @@ fn cts_during_a_transfer(rt: HostRuntime) {
 }
 
 /// A frame is taken where the state stands, or not.
-fn takes(rt: &impl Abort, state: &mut OutState, heard: Heard<'_>, now: u64, is_taken: bool) {
-    holds(rt, state.take_in_place(&heard, now) == is_taken);
+fn takes(rt: &impl Abort, state: &mut OutState, heard: &Heard<'_>, now: u64, is_taken: bool) {
+    holds(rt, state.take_in_place(heard, now) == is_taken);
 }
 
 /// So is a CTS.
@@ -242,14 +242,14 @@ fn takes_cts(
 ) {
     let pgn = pgn.field();
     let cts = CmFrame::Cts { granted, next, pgn };
-    takes(rt, state, Heard::Cm(cts), now, is_taken);
+    takes(rt, state, &Heard::Cm(cts), now, is_taken);
 }
 
 fn take_in_place(rt: &impl Abort, state: &mut OutState, pgn: Pgn) {
     let other = got(rt, Pgn::new(0xFECB));
     takes_cts(rt, state, (2, 1, other), 3, false);
     takes_cts(rt, state, (1, 2, pgn), 3, false);
-    takes(rt, state, Heard::Request { pgn: pgn.field() }, 3, false);
+    takes(rt, state, &Heard::Request { pgn: pgn.field() }, 3, false);
     holds(rt, state.is_due(1250));
     takes_cts(rt, state, (0, 1, pgn), 300, true);
     falls_due(rt, state, 1350);
