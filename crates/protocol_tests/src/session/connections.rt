@@ -34,7 +34,12 @@ fn abort(reason: u8) -> [u8; 8] {
 
 // A CTS to 21 of so many packets from this one on.
 fn grants(rt: &impl Abort, cts: Frame, granted: u8, next: u8) {
-    shows(rt, cts, CM_TO_21, [0x11, granted, next, 0xFF, 0xFF, 0xCA, 0xFE, 0]);
+    shows(
+        rt,
+        cts,
+        CM_TO_21,
+        [0x11, granted, next, 0xFF, 0xFF, 0xCA, 0xFE, 0],
+    );
 }
 
 // The session ends by an abort of this reason to 21.
@@ -184,7 +189,12 @@ fn the_longest_message_has_sixteen_windows(rt: HostRuntime) {
 
 // A CTS to 80 of one packet, this one.
 fn grants_one(rt: &impl Abort, cts: Frame, next: u8) {
-    shows(rt, cts, CM_TO_80, [0x11, 1, next, 0xFF, 0xFF, 0x35, 0xEF, 0]);
+    shows(
+        rt,
+        cts,
+        CM_TO_80,
+        [0x11, 1, next, 0xFF, 0xFF, 0x35, 0xEF, 0],
+    );
 }
 
 fn take_one_by_one(rt: &impl Abort, alloc: Global) -> Finished {
@@ -218,7 +228,11 @@ fn window_on_hold(rt: &impl Abort, state: InState) {
     let (state, hold) = answers(rt, step(rt, state, &packet(16), true, Flow::Held, 1000));
     grants(rt, hold, 0, 0x11);
     let state = goes_on(rt, step(rt, state, &packet(16), true, Flow::Open, 1001));
-    is_aborted(rt, step(rt, state, &packet(17), true, Flow::Open, 1001), 0xFA);
+    is_aborted(
+        rt,
+        step(rt, state, &packet(17), true, Flow::Open, 1001),
+        0xFA,
+    );
 }
 
 fn hold_and_open(rt: &impl Abort, alloc: Global) -> InState {

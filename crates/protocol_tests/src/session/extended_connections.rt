@@ -290,7 +290,11 @@ fn miss_an_offset(rt: &impl Abort, state: InState) {
     grants(rt, cts, 0x40, [0x41, 0]);
     let state = goes_on(rt, take(rt, state, &zeros(64), Flow::Open));
     has_memory(rt, &state, 2 * 64 * 7);
-    is_abort(rt, aborted(rt, take(rt, state, &zeros(65), Flow::Open)), 250);
+    is_abort(
+        rt,
+        aborted(rt, take(rt, state, &zeros(65), Flow::Open)),
+        250,
+    );
 }
 
 #[test]

@@ -45,12 +45,22 @@ fn given(rt: &impl Abort, message: Finished, id: u32, end: [u8; 8]) -> Vec<u8> {
 
 fn give_nine_bytes(rt: &impl Abort, message: Finished) {
     same(rt, message.size(), 9);
-    let bytes = given(rt, message, 0x1CEC_2135, [0x13, 9, 0, 2, 0xFF, 0xCA, 0xFE, 0]);
+    let bytes = given(
+        rt,
+        message,
+        0x1CEC_2135,
+        [0x13, 9, 0, 2, 0xFF, 0xCA, 0xFE, 0],
+    );
     same(rt, bytes.as_slice(), M9.as_slice());
 }
 
 fn give_long_message(rt: &impl Abort, message: Finished) {
-    let bytes = given(rt, message, 0x1CC8_2135, [0x17, 0xFA, 6, 0, 0, 0xCA, 0xFE, 0]);
+    let bytes = given(
+        rt,
+        message,
+        0x1CC8_2135,
+        [0x17, 0xFA, 6, 0, 0, 0xCA, 0xFE, 0],
+    );
     same(rt, bytes.len(), 1786);
 }
 
@@ -62,7 +72,12 @@ fn a_message_is_given_with_its_acknowledgement(rt: HostRuntime) {
 
 // It is an abort of this reason.
 fn is_abort(rt: &impl Abort, frame: Frame, id: u32, reason: u8) {
-    shows(rt, frame, id, [0xFF, reason, 0xFF, 0xFF, 0xFF, 0xCA, 0xFE, 0]);
+    shows(
+        rt,
+        frame,
+        id,
+        [0xFF, reason, 0xFF, 0xFF, 0xFF, 0xCA, 0xFE, 0],
+    );
 }
 
 #[test]

@@ -22,7 +22,11 @@ fn show_broadcast(rt: &impl Abort, queue: &mut TxQueue) {
     let (mut out, _announcement) = BamOut::begin(SOURCE, pgn(rt, 0xFECA), 9, 0);
     let begun = out.image();
     let went_early = out.pump_in_place(&M9, 49, queue);
-    same(rt, (went_early, is_of_broadcast(&begun, &out)), (false, true));
+    same(
+        rt,
+        (went_early, is_of_broadcast(&begun, &out)),
+        (false, true),
+    );
     let went_on = out.pump_in_place(&M9, 50, queue);
     same(rt, (went_on, is_of_broadcast(&begun, &out)), (true, false));
     same(rt, is_of_broadcast(&out.image(), &out), true);
