@@ -305,18 +305,18 @@ static int has_failed(const struct station *at) { return at->tell[0] || at->is_b
 
 /* Whether the echo needn't wake. The outstanding frame came by time alone: so it is a broadcast's, none stands behind it, and the next one
  * comes after the gap. */
-static int is_between(const struct station *at) {
-    return at->outstanding && !at->is_called && !at->is_lost && !has_failed(at) && ticks(at) < at->put_at + GAP;
+static int is_between(const struct station *at, uint64_t now) {
+    return at->outstanding && !at->is_called && !at->is_lost && !has_failed(at) && now < at->put_at + GAP;
 }
 
 /* How long to wait for the bus, in milliseconds; -1 where nothing else is to be done. While a frame is outstanding or what failed is to
  * be tried again, the node's next frame has to wait too, so only its timers count. */
-static int pause_for(struct station *at) {
-    uint64_t next, now = ticks(at);
+static int pause_for(struct station *at, uint64_t now) {
+    uint64_t next;
     int pause = has_failed(at) ? RETRY : -1;
     uint32_t code = has_failed(at) || at->outstanding ? fulwethi_next_due_at(&at->node, &next) : fulwethi_next_at(&at->node, &next);
     if (code == FULWETHI_DONE) pause = until(pause, now, next);
-    if (is_between(at)) return until(pause, now, at->put_at + GAP);
+    if (is_between(at, now)) return until(pause, now, at->put_at + GAP);
     if (at->is_lost) return until(pause, now, at->lost_at + ECHO_WAIT);
     return at->outstanding ? until(pause, now, at->put_at + ECHO_LOST) : pause;
 }
@@ -324,8 +324,9 @@ static int pause_for(struct station *at) {
 /* One turn: waits, and does what is to be done. */
 static void turn(struct station *at, int *input) {
     struct can_frame shown;
-    struct pollfd from[2] = {{.fd = is_between(at) ? at->others : at->bus, .events = POLLIN}, {.fd = *input, .events = POLLIN}};
-    if (poll(from, 2, pause_for(at)) < 0 && errno != EINTR) abort();
+    uint64_t now = ticks(at);
+    struct pollfd from[2] = {{.fd = is_between(at, now) ? at->others : at->bus, .events = POLLIN}, {.fd = *input, .events = POLLIN}};
+    if (poll(from, 2, pause_for(at, now)) < 0 && errno != EINTR) abort();
     at->now = ticks(at);
     uint32_t code = fulwethi_clock(&at->node, at->now);
     if (code) fprintf(stderr, "clock: code %u\n", code);
