@@ -9,7 +9,8 @@
  *   - it isn't copied: of two copies, the one that isn't passed is spent by the first call;
  *   - no two calls on it are made at the same time; any thread may make the next one, once it sees what the last one did (a mutex, a
  *     queue or a join sees to that);
- *   - no pointer is null, also where its length is 0; a pointer to room for n bytes has n bytes behind it;
+ *   - no pointer is null, but that to the bytes of fulwethi_send and to the room of fulwethi_take if its length is 0; a pointer to n bytes has
+ *     n bytes behind it;
  *   - where frames of the bus were lost, fulwethi_missed is called before a later frame is fed.
  *
  * Memory comes from three functions, over malloc, that a program may define itself: examples/c/heap.c.
@@ -76,7 +77,7 @@ enum {
     FULWETHI_NOT_ENDED = 72
 };
 
-/* The exports: a handle goes in by value, and comes back by `out`. */
+/* The exports: a handle goes in by value, and comes back by `out`. No pointer is null, also if its length is 0. */
 uint32_t fulwethi_raw_new(uint8_t address, struct fulwethi *out);
 void fulwethi_raw_free(struct fulwethi of);
 uint32_t fulwethi_raw_open(struct fulwethi of, uint32_t pgn, uint32_t max_len, uint64_t *port, struct fulwethi *out);
@@ -126,7 +127,8 @@ static inline uint32_t fulwethi_resume(struct fulwethi *node, uint64_t port) { r
 /* Sends a message, whose bytes are copied, and writes its number, from 1 for each destination. Its frames come by front, its end
  * by an event. BAD_PGN, NO_SUCH_STATION (254), SAME_STATION, TOO_SHORT, TOO_LONG, LANE_FULL (32 without an outcome), NO_MEMORY. */
 static inline uint32_t fulwethi_send(struct fulwethi *node, uint8_t to, uint32_t pgn, const uint8_t *bytes, size_t len, uint64_t *number) {
-    return fulwethi_raw_send(*node, to, pgn, bytes, len, number, node);
+    static const uint8_t nothing = 0;
+    return fulwethi_raw_send(*node, to, pgn, len ? bytes : &nothing, len, number, node);
 }
 
 /* Why fulwethi_send of so many bytes would be refused, or DONE. It takes no memory. */
@@ -187,7 +189,10 @@ static inline uint32_t fulwethi_next_at(struct fulwethi *node, uint64_t *tick) {
 static inline uint32_t fulwethi_event(struct fulwethi *node, struct fulwethi_event *event) { return fulwethi_raw_event(*node, event, node); }
 
 /* Takes what is told next, and writes its bytes to the front of the room. NOTHING, TOO_LITTLE_ROOM: it stays. */
-static inline uint32_t fulwethi_take(struct fulwethi *node, uint8_t *room, size_t len) { return fulwethi_raw_take(*node, room, len, node); }
+static inline uint32_t fulwethi_take(struct fulwethi *node, uint8_t *room, size_t len) {
+    uint8_t nothing = 0;
+    return fulwethi_raw_take(*node, len ? room : &nothing, len, node);
+}
 
 /* The name of a code, as TX_FULL; the empty text if there is no such code. */
 static inline const char *fulwethi_code_name(uint32_t code) {

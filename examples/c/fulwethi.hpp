@@ -82,7 +82,7 @@ public:
     [[nodiscard]] code resume(std::uint64_t port) noexcept { return ::fulwethi_resume(made(), port); }
 
     [[nodiscard]] code send(std::uint8_t to, std::uint32_t pgn, bytes message, std::uint64_t &number) noexcept {
-        return ::fulwethi_send(made(), to, pgn, real(message.data()), message.size(), &number);
+        return ::fulwethi_send(made(), to, pgn, message.data(), message.size(), &number);
     }
     code send_refusal(std::uint8_t to, std::uint32_t pgn, std::size_t len) noexcept { return ::fulwethi_send_refusal(made(), to, pgn, len); }
     [[nodiscard]] code cancel(std::uint8_t to, std::uint64_t number) noexcept { return ::fulwethi_cancel(made(), to, number); }
@@ -114,7 +114,7 @@ public:
         if (::fulwethi_event(made(), &told) != FULWETHI_DONE) return std::nullopt;
         return told;
     }
-    [[nodiscard]] code take(room into) noexcept { return ::fulwethi_take(made(), real(into.data()), into.size()); }
+    [[nodiscard]] code take(room into) noexcept { return ::fulwethi_take(made(), into.data(), into.size()); }
     /* Takes what is told next, if something is, with its bytes. Without memory for them the vector throws, and it stays. */
     std::optional<event> take_next(std::vector<std::uint8_t> &message) {
         std::optional<event> told = next_event();
@@ -139,11 +139,6 @@ private:
     ::fulwethi *made() noexcept {
         assert(is_made());
         return &held_;
-    }
-    /* No pointer that goes in is null, also where its length is 0. */
-    template <class T> static T *real(T *data) noexcept {
-        static std::uint8_t nothing;
-        return data ? data : &nothing;
     }
 
     ::fulwethi held_{};

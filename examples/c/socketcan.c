@@ -8,7 +8,10 @@
  * What the node is told comes in the order of the bus. A frame of its own has its place there once the kernel loops it back, so one is
  * outstanding at a time, and what comes before its echo is fed before it is told to be sent. A loss (a full receive queue, a controller
  * that restarted or was overrun) is told before the frame that was read with it. If it is told while a frame is outstanding, nothing more
- * is fed until the echo comes; what was read before counts as missed too. */
+ * is fed until the echo comes; what was read before counts as missed too.
+ *
+ * Behind the frame of a broadcast there is nothing to put for 50 ms, so its echo needn't wake the program: it is read with what comes next. A
+ * second socket, which is shown the frames of other nodes alone, wakes it meanwhile. What it is shown is read from the first one. */
 #include "fulwethi.h"
 #include <ctype.h>
 #include <errno.h>
@@ -30,20 +33,22 @@ enum {
     ECHO_WAIT = 200,      /* so long an echo is waited for after a loss was told */
     ECHO_LOST = 1000,     /* after so long without one it counts as lost */
     RETRY = 10,           /* what found no memory, or no place in the interface's queue, is tried again */
-    MOST_BYTES = 65536,   /* of a message that a line sends */
+    GAP = 50,             /* so long after a frame of a broadcast its next one comes */
+    MOST_BYTES = 131072,  /* of a message that a line sends */
     MOST_LINE = 4 * MOST_BYTES
 };
 
 struct station {
     struct fulwethi node;
-    int bus;
-    uint64_t start;
+    int bus, others;            /* sockets: of all frames, and of those of other nodes, which wakes */
+    uint64_t start, now;        /* the clock's time at tick 0; and the tick of this turn */
     uint32_t drops;             /* how many frames the socket dropped so far */
     struct fulwethi_frame kept; /* a frame that the node didn't take yet */
     int has_kept;
     char tell[8];               /* what the node is to be told next: m missed, s sent */
     int outstanding, is_lost;   /* a frame was put without an echo yet; and a loss was told since */
     uint64_t put_at, lost_at;   /* when */
+    int is_called;              /* since the node last had nothing to put, more than time has gone by */
     int is_blocked, has_said;   /* the interface didn't take a frame; and that was said */
 };
 
@@ -67,21 +72,35 @@ static int tells_order(const char *name) {
     return count == 1 && flags & ECHO_FLAG;
 }
 
-static int open_bus(const char *name) {
+static int bind_to(int bus, const char *name) {
     struct ifreq interface = {0};
     struct sockaddr_can address = {.can_family = AF_CAN};
-    int on = 1, bus = socket(PF_CAN, SOCK_RAW | SOCK_NONBLOCK, CAN_RAW);
-    can_err_mask_t errors = CAN_ERR_RESTARTED | CAN_ERR_BUSOFF | CAN_ERR_CRTL;
-    if (bus < 0) return -1;
     strncpy(interface.ifr_name, name, IFNAMSIZ - 1);
     if (ioctl(bus, SIOCGIFINDEX, &interface) < 0) return -1;
     address.can_ifindex = interface.ifr_ifindex;
+    return bind(bus, (struct sockaddr *)&address, sizeof address);
+}
+
+static int open_bus(const char *name) {
+    int on = 1, bus = socket(PF_CAN, SOCK_RAW | SOCK_NONBLOCK, CAN_RAW);
+    can_err_mask_t errors = CAN_ERR_RESTARTED | CAN_ERR_BUSOFF | CAN_ERR_CRTL;
+    if (bus < 0) return -1;
     if (setsockopt(bus, SOL_CAN_RAW, CAN_RAW_RECV_OWN_MSGS, &on, sizeof on) < 0) return -1;
     if (setsockopt(bus, SOL_CAN_RAW, CAN_RAW_ERR_FILTER, &errors, sizeof errors) < 0) return -1;
     if (setsockopt(bus, SOL_SOCKET, SO_RXQ_OVFL, &on, sizeof on) < 0) return -1;
-    if (bind(bus, (struct sockaddr *)&address, sizeof address) < 0) return -1;
+    if (bind_to(bus, name) < 0) return -1;
     if (!tells_order(name)) fprintf(stderr, "%s doesn't tell when a frame was put: the order of its own frames isn't known\n", name);
     return bus;
+}
+
+/* A socket that is shown what hasn't this source address. It has room for a few frames, since it only wakes. */
+static int open_others(const char *name, uint8_t address) {
+    int least = 1, others = socket(PF_CAN, SOCK_RAW | SOCK_NONBLOCK, CAN_RAW);
+    struct can_filter filter = {.can_id = CAN_EFF_FLAG | CAN_INV_FILTER | address, .can_mask = CAN_EFF_FLAG | 0xFF};
+    if (others < 0) return -1;
+    if (setsockopt(others, SOL_CAN_RAW, CAN_RAW_FILTER, &filter, sizeof filter) < 0) return -1;
+    if (setsockopt(others, SOL_SOCKET, SO_RCVBUF, &least, sizeof least) < 0) return -1;
+    return bind_to(others, name) < 0 ? -1 : others;
 }
 
 /* The node is to be told this, behind what it is to be told already. */
@@ -94,7 +113,7 @@ static int is_told(struct station *at) {
     while (at->tell[0]) {
         uint32_t code = FULWETHI_DONE;
         if (at->tell[0] == 's') code = fulwethi_sent(&at->node);
-        else if (at->tell[0] == 'm') code = fulwethi_missed(&at->node);
+        else if (at->tell[0] == 'm') code = fulwethi_missed(&at->node), at->is_called = 1;
         if (code == FULWETHI_NO_MEMORY) return 0;
         memmove(at->tell, at->tell + 1, strlen(at->tell));
     }
@@ -166,6 +185,7 @@ static void receive(struct station *at) {
             continue; /* what was lost is told before the frame */
         }
         uint32_t code = fulwethi_feed(&at->node, &at->kept);
+        at->is_called = 1;
         if (code == FULWETHI_NO_MEMORY || code == FULWETHI_TX_FULL) return;
         if (code == FULWETHI_STATION_ADDRESS) fprintf(stderr, "another node has the address\n");
         at->has_kept = 0;
@@ -183,7 +203,10 @@ static void block(struct station *at) {
 static int transmit(struct station *at) {
     struct fulwethi_frame frame;
     at->is_blocked = 0;
-    if (at->outstanding || !is_told(at) || fulwethi_front(&at->node, &frame) != FULWETHI_DONE) return 0;
+    if (at->outstanding || !is_told(at)) return 0;
+    uint32_t code = fulwethi_front(&at->node, &frame);
+    if (code == FULWETHI_NOTHING) at->is_called = 0;
+    if (code != FULWETHI_DONE) return 0;
     struct can_frame put = {.can_id = frame.id | CAN_EFF_FLAG, .can_dlc = (uint8_t)frame.len};
     memcpy(put.data, frame.bytes, frame.len);
     if (write(at->bus, &put, sizeof put) != sizeof put) {
@@ -192,7 +215,7 @@ static int transmit(struct station *at) {
     }
     at->outstanding = 1;
     at->has_said = 0;
-    at->put_at = ticks(at);
+    at->put_at = at->now;
     return 1;
 }
 
@@ -277,27 +300,45 @@ static int until(int pause, uint64_t now, uint64_t tick) {
     return pause < 0 || left < (uint64_t)pause ? (int)left : pause;
 }
 
+/* Whether something found no memory or no place, and is to be tried again. */
+static int has_failed(const struct station *at) { return at->tell[0] || at->is_blocked || at->has_kept; }
+
+/* Whether the echo needn't wake. The outstanding frame came by time alone: so it is a broadcast's, none stands behind it, and the next one
+ * comes after the gap. */
+static int is_between(const struct station *at, uint64_t now) {
+    return at->outstanding && !at->is_called && !at->is_lost && !has_failed(at) && now < at->put_at + GAP;
+}
+
 /* How long to wait for the bus, in milliseconds; -1 where nothing else is to be done. While a frame is outstanding or what failed is to
  * be tried again, the node's next frame has to wait too, so only its timers count. */
-static int pause_for(struct station *at) {
-    uint64_t next, now = ticks(at);
-    int has_failed = at->tell[0] || at->is_blocked || at->has_kept, pause = has_failed ? RETRY : -1;
-    uint32_t code = has_failed || at->outstanding ? fulwethi_next_due_at(&at->node, &next) : fulwethi_next_at(&at->node, &next);
+static int pause_for(struct station *at, uint64_t now) {
+    uint64_t next;
+    int pause = has_failed(at) ? RETRY : -1;
+    uint32_t code = has_failed(at) || at->outstanding ? fulwethi_next_due_at(&at->node, &next) : fulwethi_next_at(&at->node, &next);
     if (code == FULWETHI_DONE) pause = until(pause, now, next);
+    if (is_between(at, now)) return until(pause, now, at->put_at + GAP);
     if (at->is_lost) return until(pause, now, at->lost_at + ECHO_WAIT);
     return at->outstanding ? until(pause, now, at->put_at + ECHO_LOST) : pause;
 }
 
 /* One turn: waits, and does what is to be done. */
 static void turn(struct station *at, int *input) {
-    struct pollfd from[2] = {{.fd = at->bus, .events = POLLIN}, {.fd = *input, .events = POLLIN}};
-    if (poll(from, 2, pause_for(at)) < 0 && errno != EINTR) abort();
-    uint32_t code = fulwethi_clock(&at->node, ticks(at));
+    struct can_frame shown;
+    uint64_t now = ticks(at);
+    struct pollfd from[2] = {{.fd = is_between(at, now) ? at->others : at->bus, .events = POLLIN}, {.fd = *input, .events = POLLIN}};
+    if (poll(from, 2, pause_for(at, now)) < 0 && errno != EINTR) abort();
+    at->now = ticks(at);
+    uint32_t code = fulwethi_clock(&at->node, at->now);
     if (code) fprintf(stderr, "clock: code %u\n", code);
+    /* What woke goes first: what comes from here on wakes again, unless it is read now. */
+    if (from[0].fd == at->others) while (recv(at->others, &shown, sizeof shown, 0) > 0) { }
     receive(at);
     give_up_echo(at);
-    while (fulwethi_fire(&at->node) == FULWETHI_DONE) { }
-    if (from[1].revents && !read_input(&at->node)) *input = -1;
+    while (fulwethi_fire(&at->node) == FULWETHI_DONE) at->is_called = 1;
+    if (from[1].revents) {
+        at->is_called = 1;
+        if (!read_input(&at->node)) *input = -1;
+    }
     while (transmit(at)) receive(at);
     tell(&at->node);
 }
@@ -311,7 +352,8 @@ int main(int count, char **words) {
         return fprintf(stderr, "usage: %s INTERFACE ADDRESS PGN\n", words[0]), 2;
     }
     at.bus = open_bus(words[1]);
-    if (at.bus < 0) return perror(words[1]), 1;
+    at.others = open_others(words[1], (uint8_t)address);
+    if (at.bus < 0 || at.others < 0) return perror(words[1]), 1;
     at.start = milliseconds();
     uint32_t code = fulwethi_new(&at.node, (uint8_t)address);
     if (!code) code = fulwethi_open(&at.node, (uint32_t)pgn, 117440505, &port);

@@ -1,7 +1,9 @@
-/* Stands in for the CAN socket of socketcan.c: a connection to the bus of ./test socketcan, whose path BUS names. */
+/* Stands in for the CAN sockets of socketcan.c: connections to a bus, that of ./test socketcan or of benches/wire, whose path BUS names. When one is
+ * bound, it tells the bus its filter, of zeros where it has none. */
 #include <errno.h>
 #include <fcntl.h>
 #include <linux/can.h>
+#include <linux/can/raw.h>
 #include <net/if.h>
 #include <stdint.h>
 #include <stdlib.h>
@@ -12,6 +14,8 @@
 
 /* What the bus shows: a frame, how many it dropped for this station so far, and whether the frame is an echo. */
 struct shown { struct can_frame frame; uint32_t drops, is_echo; };
+
+static struct can_filter filter;
 
 int __real_socket(int domain, int type, int protocol);
 
@@ -33,12 +37,15 @@ int __wrap_ioctl(int at, unsigned long request, struct ifreq *interface) {
 }
 
 int __wrap_bind(int at, const struct sockaddr *address, socklen_t size) {
-    (void)at, (void)address, (void)size;
-    return 0;
+    struct can_filter told = filter;
+    (void)address, (void)size;
+    filter = (struct can_filter){0};
+    return send(at, &told, sizeof told, 0) == sizeof told ? 0 : -1;
 }
 
 int __wrap_setsockopt(int at, int level, int name, const void *value, socklen_t size) {
-    (void)at, (void)level, (void)name, (void)value, (void)size;
+    (void)at;
+    if (level == SOL_CAN_RAW && name == CAN_RAW_FILTER && size == sizeof filter) memcpy(&filter, value, size);
     return 0;
 }
 
