@@ -4,3 +4,4 @@ pub mod FieldsBack
 pub mod IfaceBack
 pub mod Written
 pub mod Bare
+pub mod AsWritten

@@ -61,7 +61,7 @@ long_back : (time : ℕ) (iface : Iface) (xs ys : List ℕ) (f : CanFrame) → n
 unfolding long_frame
 long_back time iface xs ys f n o t d = rw (n, o, t, d) refl
 
-word_parts : (time : ℕ) (iface : Iface) (word xs ys : List ℕ) (found : Option LogLine) → cut_at 35 word ≡ Some (xs, ys) → length xs ≡ 8 → long_frame time iface xs ys ≡ found → frame_line time iface word ≡ found
+pub word_parts : (time : ℕ) (iface : Iface) (word xs ys : List ℕ) (found : Option LogLine) → cut_at 35 word ≡ Some (xs, ys) → length xs ≡ 8 → long_frame time iface xs ys ≡ found → frame_line time iface word ≡ found
 unfolding frame_line
 word_parts time iface word xs ys found c l e = rw (c, l) e
 
@@ -93,7 +93,7 @@ front_word : (xs rest : List ℕ) → 0 < length xs → Without 32 xs → next_w
 front_word [] rest h f = absurd (omega (arith, h))
 front_word (b ∷ bs) rest h f = word_front b bs rest f
 
-last_word : (xs : List ℕ) → 0 < length xs → Without 32 xs → next_word (32 ∷ xs) ≡ (xs, [])
+pub last_word : (xs : List ℕ) → 0 < length xs → Without 32 xs → next_word (32 ∷ xs) ≡ (xs, [])
 last_word [] h f = absurd (omega (arith, h))
 last_word (b ∷ bs) h f = word_last b bs f
 

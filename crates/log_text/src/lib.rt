@@ -11,6 +11,7 @@ mod laws;
 mod line;
 mod reading;
 mod screen;
+mod usual;
 mod writing;
 
 pub use iface::{BadName, Iface};

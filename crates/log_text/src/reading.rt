@@ -7,6 +7,7 @@ use crate::fields::{cut_at, next_word, spaces_in};
 use crate::iface::Iface;
 use crate::line::{ID_END, LogLine, NotLogLine, SECOND, frame_line, is_ended};
 use crate::screen::{bytes, count};
+use crate::usual::{usual_behind, usual_stamp};
 use bus_frame::{CanId, Frame};
 use text_digits::read_numeral;
 
@@ -107,7 +108,7 @@ fn micros(digits: &[u8]) -> Option<u64>
 
 /// A time, below 2 ^ 64 microseconds.
 #[tactic(auto, unfolding(crate::specs::Reading::stamp_of))]
-fn stamp(seconds: &[u8], fraction: &[u8]) -> Option<u64>
+pub(crate) fn stamp(seconds: &[u8], fraction: &[u8]) -> Option<u64>
     ensures { result ≡ stamp_of seconds.now fraction.now }
 {
     if seconds.is_empty() {
@@ -194,6 +195,9 @@ fn shown_line(time: Option<u64>, text: &[u8]) -> Option<LogLine>
 fn behind_stamp(time: u64, text: &[u8]) -> Option<LogLine>
     ensures { result ≡ (if begins_shown text.now then shown_line (Some time) text.now else behind_time time text.now) }
 {
+    if let Some(shown) = usual_behind(time, text) {
+        return Some(shown);
+    }
     let (name, behind) = next_word(text);
     let (word, rest) = next_word(behind);
     if is_id(word) && begins_shown(text) {
@@ -211,6 +215,9 @@ fn behind_stamp(time: u64, text: &[u8]) -> Option<LogLine>
 fn stamped_line(text: &[u8]) -> Option<LogLine>
     ensures { result ≡ stamped_line text.now }
 {
+    if let Some((time, rest)) = usual_stamp(text) {
+        return behind_stamp(time, rest);
+    }
     let (word, rest) = cut_at(b')', text)?;
     let (seconds, fraction) = cut_at(b'.', word)?;
     let time = stamp(seconds, fraction)?;

@@ -5,17 +5,34 @@ ghost use Rattle.text_digits.specs.Numerals.{digit_of, put_digit, numeral_from, 
 /// What stands for no digit.
 const NONE: u8 = 16;
 
-/// The value of a digit, or 16 where it is none: a number is made without a branch, since which digits come next can't be foretold.
+// For each byte its value as a digit, or 16: a number is made without a branch, since which digits come next can't be foretold.
+#[rattlefmt::skip]
+static VALUES: [u8; 256] = [
+    16, 16, 16, 16, 16, 16, 16, 16, 16, 16, 16, 16, 16, 16, 16, 16,
+    16, 16, 16, 16, 16, 16, 16, 16, 16, 16, 16, 16, 16, 16, 16, 16,
+    16, 16, 16, 16, 16, 16, 16, 16, 16, 16, 16, 16, 16, 16, 16, 16,
+    0, 1, 2, 3, 4, 5, 6, 7, 8, 9, 16, 16, 16, 16, 16, 16,
+    16, 10, 11, 12, 13, 14, 15, 16, 16, 16, 16, 16, 16, 16, 16, 16,
+    16, 16, 16, 16, 16, 16, 16, 16, 16, 16, 16, 16, 16, 16, 16, 16,
+    16, 10, 11, 12, 13, 14, 15, 16, 16, 16, 16, 16, 16, 16, 16, 16,
+    16, 16, 16, 16, 16, 16, 16, 16, 16, 16, 16, 16, 16, 16, 16, 16,
+    16, 16, 16, 16, 16, 16, 16, 16, 16, 16, 16, 16, 16, 16, 16, 16,
+    16, 16, 16, 16, 16, 16, 16, 16, 16, 16, 16, 16, 16, 16, 16, 16,
+    16, 16, 16, 16, 16, 16, 16, 16, 16, 16, 16, 16, 16, 16, 16, 16,
+    16, 16, 16, 16, 16, 16, 16, 16, 16, 16, 16, 16, 16, 16, 16, 16,
+    16, 16, 16, 16, 16, 16, 16, 16, 16, 16, 16, 16, 16, 16, 16, 16,
+    16, 16, 16, 16, 16, 16, 16, 16, 16, 16, 16, 16, 16, 16, 16, 16,
+    16, 16, 16, 16, 16, 16, 16, 16, 16, 16, 16, 16, 16, 16, 16, 16,
+    16, 16, 16, 16, 16, 16, 16, 16, 16, 16, 16, 16, 16, 16, 16, 16,
+];
+
+/// The value of a digit, or 16 where it is none.
+#[inline(always)]
 fn value(byte: u8) -> u8
     ensures value { digit_of byte ≡ (if nat_lt result 16 then Some result else None) }
     ensures small { result ≤ 16 }
 {
-    match byte {
-        b'0'..=b'9' => byte - b'0',
-        b'A'..=b'F' => byte - b'A' + 10,
-        b'a'..=b'f' => byte - b'a' + 10,
-        _ => NONE,
-    }
+    VALUES[usize::from(byte)]
 }
 
 fn with_digit(base: u8, number: u64, byte: u8) -> Option<u64>
@@ -35,7 +52,7 @@ fn with_digit(base: u8, number: u64, byte: u8) -> Option<u64>
 const SHORT: usize = 16;
 
 /// The number of so few digits that it can't reach 2 ^ 64.
-#[inline]
+#[inline(always)]
 fn short_numeral(base: u8, digits: &[u8]) -> Option<u64>
     requires base { base ≤ 16 }
     requires short { length digits.now ≤ 16 }
@@ -64,7 +81,7 @@ fn long_numeral(base: u8, digits: &[u8]) -> Option<u64>
 }
 
 /// The number that digits of a base write, below 2 ^ 64. No digit writes 0.
-#[inline]
+#[inline(always)]
 pub fn read_numeral(base: u8, digits: &[u8]) -> Option<u64>
     requires { base ≤ 16 }
     ensures { result ≡ numeral_from base 0 digits.now }
@@ -77,6 +94,7 @@ pub fn read_numeral(base: u8, digits: &[u8]) -> Option<u64>
 }
 
 /// A byte of two hexadecimal digits.
+#[inline(always)]
 pub fn read_pair(first: u8, second: u8) -> Option<u8>
     ensures { result ≡ pair_of first second }
 {

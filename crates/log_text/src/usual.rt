@@ -1,0 +1,73 @@
+//! The parts of a line as `candump -L` writes them, so that most lines are read in one pass. Where a part isn't so, nothing is said of it.
+ghost use Rattle.std.specs.Prelude.{◌≡◌, ◌∷◌, IfSome, Some, true, false, if◌then◌else◌};
+ghost use Rattle.log_text.specs.Fields.{next_word};
+ghost use Rattle.log_text.specs.Line.{is_ended, frame_line, behind_time};
+ghost use Rattle.log_text.specs.Reading.{is_id, begins_shown, shown_line, stamped_line};
+
+use crate::digits::frame;
+use crate::fields::next_word;
+use crate::iface::Iface;
+use crate::line::{ID_END, LogLine};
+use crate::reading::stamp;
+use bus_frame::CanId;
+use text_digits::read_numeral;
+
+/// How many digits the seconds have, from 2001 to 2286.
+const SECONDS: usize = 10;
+
+/// How many digits the microseconds have.
+const MICROS: usize = 6;
+
+/// How many digits an identifier has.
+const DIGITS: usize = 8;
+
+/// What stands behind a byte of this value.
+#[inline(always)]
+fn behind(wanted: u8, text: &[u8]) -> Option<&[u8]>
+    ensures { IfSome result (λ rest. text.now ≡ wanted ∷ rest.now) }
+{
+    let (first, rest) = text.split_first()?;
+    if *first == wanted { Some(rest) } else { None }
+}
+
+/// The time in front of a bracket, and what stands behind it.
+#[inline(always)]
+pub(crate) fn usual_stamp(text: &[u8]) -> Option<(u64, &[u8])>
+    ensures { IfSome result (λ p. stamped_line text.now ≡ (if begins_shown p.1.now then shown_line (Some p.0) p.1.now else behind_time p.0 p.1.now)) }
+{
+    let (seconds, rest) = text.split_at_checked(SECONDS)?;
+    let (micros, rest) = behind(b'.', rest)?.split_at_checked(MICROS)?;
+    let rest = behind(b')', rest)?;
+    Some((stamp(seconds, micros)?, rest))
+}
+
+/// The frame of the last word of a line.
+#[inline(always)]
+fn usual_frame(time: u64, iface: Iface, text: &[u8]) -> Option<LogLine>
+    ensures { IfSome result (λ shown. (is_id (next_word text.now).0 ≡ false) × (is_ended (next_word text.now).1 ≡ true)
+        × (frame_line time iface (next_word text.now).0 ≡ Some shown)) }
+{
+    let (digits, rest) = behind(b' ', text)?.split_at_checked(DIGITS)?;
+    let shown = behind(b'#', rest)?;
+    let number = read_numeral(16, digits)?;
+    if number >= ID_END {
+        return None;
+    }
+    let id = CanId::new(number as u32).ok()?;
+    let frame = frame(id, shown)?;
+    Some(LogLine::Frame {
+        time: Some(time),
+        iface,
+        frame,
+    })
+}
+
+/// What a line shows behind its time, if it ends with the word of a frame.
+#[inline(always)]
+pub(crate) fn usual_behind(time: u64, text: &[u8]) -> Option<LogLine>
+    ensures { IfSome result (λ shown. (if begins_shown text.now then shown_line (Some time) text.now else behind_time time text.now) ≡ Some shown) }
+{
+    let (name, behind) = next_word(text);
+    let iface = Iface::new(name).ok()?;
+    usual_frame(time, iface, behind)
+}
