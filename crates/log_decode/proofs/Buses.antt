@@ -1,9 +1,9 @@
 -- A bus at its place in the map is that of its interface.
-use Rattle.std.proofs.Common.{◌≡◌, ℕ, zero, suc, List, [], ◌∷◌, ◌++◌, ◌+◌, Some, sym, ◌∙◌, ap, position, slice_get, unwrap_or, length, ◌≤◌, drop, drop_of_length-le, append_assoc, arith}
+use Rattle.std.proofs.Common.{◌≡◌, ℕ, zero, suc, List, [], ◌∷◌, ◌++◌, ◌+◌, Some, None, sym, ◌∙◌, ap, position, slice_get, unwrap_or, length, ◌≤◌, drop, drop_of_length-le, append_assoc, arith}
 use Rattle.std.specs.Map.{keys_of, values_of}
 use Rattle.std.proofs.lemmas.List.{append-nil}
 use Rattle.indexmap.specs.Layout.{set_value_at}
-use Rattle.indexmap.proofs.MapLemmas.{Found-position, insert_entry-first}
+use Rattle.indexmap.proofs.MapLemmas.{Found-position, Missing-position, insert_entry-first}
 use Rattle.bus_frame.specs.Frames.{CanFrame}
 use Rattle.log_text.specs.declared.iface.Iface.{Iface}
 use Rattle.log_decode.specs.Keys.{same_iface}
@@ -17,6 +17,9 @@ use Rattle.log_decode.proofs.Silences.{same_some, none_is_some}
 
 pub there : (iface : Iface) (bs : Buses) (at : ℕ) (b : Bus) → position (same_iface iface) (keys_of bs) ≡ Some at → slice_get (values_of bs) at ≡ Some b → bus_at iface bs ≡ b
 there iface bs at b p g = ap (λ o. unwrap_or o new_bus) ((Found-position (same_iface iface) bs at p).value ∙ g)
+
+pub nowhere : (iface : Iface) (bs : Buses) → position (same_iface iface) (keys_of bs) ≡ None → bus_at iface bs ≡ new_bus
+nowhere iface bs p = ap (λ o. unwrap_or o new_bus) (Missing-position (same_iface iface) bs p).value
 
 put_at : (iface : Iface) (at : ℕ) (bs : Buses) (t : Bus) → position (same_iface iface) (keys_of bs) ≡ Some at → set_value_at bs at t ≡ put_bus iface t bs
 put_at iface at bs t p = sym (insert_entry-first same_iface iface t bs at (Found-position (same_iface iface) bs at p).first)

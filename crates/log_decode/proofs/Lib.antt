@@ -5,3 +5,4 @@ pub mod Due
 pub mod Keeping
 pub mod Own
 pub mod Apart
+pub mod Compared

@@ -4,6 +4,7 @@ ghost use Rattle.log_decode.specs.Decoder.{taken, ended};
 ghost use Rattle.log_decode.specs.View.{bus_at};
 
 use crate::bus::Bus;
+use crate::places::place_of;
 use crate::told::Told;
 use bus_frame::Frame;
 use indexmap::IndexMap;
@@ -72,9 +73,9 @@ impl Decoder {
     pub fn time_on(&self, iface: Iface) -> u64
         ensures { result ≡ (bus_at iface self.now.buses).time }
     {
-        match self.buses.get(&iface) {
+        match place_of(&self.buses, &iface) {
             None => 0,
-            Some(bus) => bus.time(),
+            Some(at) => self.buses[at].time(),
         }
     }
 
@@ -92,7 +93,7 @@ impl Decoder {
     ) -> Result<(), AllocError>
         ensures { OnOk result ((self.new, told.new.items) ≡ taken self.old time iface frame.now told.old.items) }
     {
-        match self.buses.get_index_of(&iface) {
+        match place_of(&self.buses, &iface) {
             Some(at) => {
                 let bus = &mut self.buses[at];
                 bus.take(alloc, self.most, time, iface, frame, told)?;

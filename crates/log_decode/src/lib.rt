@@ -10,6 +10,7 @@ mod bus;
 mod decoder;
 mod frames;
 mod key;
+mod places;
 mod session;
 mod sessions;
 mod silence;

@@ -4,6 +4,7 @@ ghost use Rattle.log_decode.specs.Sessions.{settled, packet_taken, cm_taken, abo
 ghost use Rattle.log_decode.specs.declared.session.Fate.TheVariants.{Lost};
 
 use crate::key::Key;
+use crate::places::place_of;
 use crate::session::{Fate, Session};
 use crate::told::{Cause, Told};
 use indexmap::IndexMap;
@@ -53,7 +54,7 @@ pub(crate) fn take_packet(
 ) -> Result<(), AllocError>
     ensures { OnOk result ((sessions.new.entries, told.new.items) ≡ packet_taken key sequence bytes now (sessions.old.entries, told.old.items)) }
 {
-    let Some(at) = sessions.get_index_of(&key) else {
+    let Some(at) = place_of(sessions, &key) else {
         return Ok(());
     };
     let fate = sessions[at].hear_packet(key.to, sequence, bytes, now)?;
@@ -70,7 +71,7 @@ pub(crate) fn take_cm(
 ) -> Result<(), AllocError>
     ensures { OnOk result ((sessions.new.entries, told.new.items) ≡ cm_taken key frame.now now (sessions.old.entries, told.old.items)) }
 {
-    let Some(at) = sessions.get_index_of(&key) else {
+    let Some(at) = place_of(sessions, &key) else {
         return Ok(());
     };
     let fate = sessions[at].hear(frame, now);
@@ -119,7 +120,7 @@ fn is_again(sessions: &Sessions, key: Key, pgn: WirePgn, size: u32) -> bool
 fn renew(sessions: &mut Sessions, key: Key, now: u64)
     ensures { sessions.new.entries ≡ renewed_at key now sessions.old.entries }
 {
-    if let Some(at) = sessions.get_index_of(&key) {
+    if let Some(at) = place_of(sessions, &key) {
         sessions[at].renew(now);
     }
 }

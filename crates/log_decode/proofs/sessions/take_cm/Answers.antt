@@ -7,7 +7,7 @@ use Rattle.log_decode.proofs.sessions.take_cm.Goals as goal
 
 pub returns : goal.returns
 returns c =
-    let p = sym c.get_index_of.ensures.index ∙ c.in-Some.is in
+    let p = sym c.place_of.ensures.place ∙ c.in-Some.is in
     let v = there c.args.key c.args.sessions.now.entries c.in-Some.at _ p c.index_mut.ensures.value in
     named c.settle.result (c.settle.new.sessions.entries, c.settle.new.told.items)
     (settled c.args.key c.hear-fate.result (set_value_at c.args.sessions.now.entries c.in-Some.at c.hear-fate.new.self, c.args.told.now.items))

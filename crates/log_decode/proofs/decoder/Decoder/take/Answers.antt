@@ -4,7 +4,7 @@ use Rattle.log_decode.proofs.decoder.Decoder.take.Goals as goal
 
 pub returns-in_ok-take-in-Some : goal.returns-in_ok-take-in-Some
 returns-in_ok-take-in-Some c =
-    let p = sym c.get_index_of.ensures.index ∙ c.in-Some.is in
+    let p = sym c.place_of.ensures.place ∙ c.in-Some.is in
     let v = there c.args.iface c.self.inside.buses.entries c.in-Some.at c.index_mut-bus.result.now p c.index_mut-bus.ensures.value in
     rw (c.time-self-inside.ensures, sym c.self.view_is)
     (taken_there c.self.inside.most c.self.inside.time c.args.time c.in-Some.at c.args.iface c.args.frame.now c.self.inside.buses.entries c.index_mut-bus.result.now c.take.new.self c.args.told.now.items c.take.new.told.items p v
