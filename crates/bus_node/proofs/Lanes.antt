@@ -53,19 +53,19 @@ is_none n to none fails last =
     let all : least_below (may_pump n) 256 ≡ None = subst (λ i. least_below (may_pump n) i ≡ None) (omega (arith, last)) (none_below (may_pump n) to none (sym fails)) in
     sym (ap (option_map address_of) all)
 
-pub next_none : (n : Node) → next_pump n.segment n.station ≡ None → None ≡ next_lane n
-next_none n e = by (least_below (pumps_to n.segment n.station) 256) refl e
+pub next_none : (n : Node) → next_pump n.station.segment n.station.address ≡ None → None ≡ next_lane n
+next_none n e = by (least_below (pumps_to n.station.segment n.station.address) 256) refl e
   where
-    by : (o : Option ℕ) → least_below (pumps_to n.segment n.station) 256 ≡ o → option_map address_of o ≡ None → None ≡ next_lane n
+    by : (o : Option ℕ) → least_below (pumps_to n.station.segment n.station.address) 256 ≡ o → option_map address_of o ≡ None → None ≡ next_lane n
     by (Some k) is e = absurd cc
-    by None is e = sym (ap (option_map address_of) (fewer_none (pumps_to n.segment n.station) (λ to. not (is_at_rest n.rests n.segment.now to)) 256 is))
+    by None is e = sym (ap (option_map address_of) (fewer_none (pumps_to n.station.segment n.station.address) (λ to. not (is_at_rest n.rests n.station.segment.now to)) 256 is))
 
-pub next_awake : (n : Node) (to : Address) → next_pump n.segment n.station ≡ Some to → is_at_rest n.rests n.segment.now to.0 ≡ false → Some to ≡ next_lane n
-next_awake n to e awake = by (least_below (pumps_to n.segment n.station) 256) refl e
+pub next_awake : (n : Node) (to : Address) → next_pump n.station.segment n.station.address ≡ Some to → is_at_rest n.rests n.station.segment.now to.0 ≡ false → Some to ≡ next_lane n
+next_awake n to e awake = by (least_below (pumps_to n.station.segment n.station.address) 256) refl e
   where
-    by : (o : Option ℕ) → least_below (pumps_to n.segment n.station) 256 ≡ o → option_map address_of o ≡ Some to → Some to ≡ next_lane n
+    by : (o : Option ℕ) → least_below (pumps_to n.station.segment n.station.address) 256 ≡ o → option_map address_of o ≡ Some to → Some to ≡ next_lane n
     by None is e = absurd cc
     by (Some k) is e =
         let same : k ≡ to.0 = ap (λ (a : Address). a.0) (same_Some (address_of k) to e) in
-        let wakes : not (is_at_rest n.rests n.segment.now k) ≡ true = ap (λ i. not (is_at_rest n.rests n.segment.now i)) same ∙ ap not awake in
-        sym (ap (option_map address_of) (fewer_least (pumps_to n.segment n.station) (λ to. not (is_at_rest n.rests n.segment.now to)) 256 k is wakes) ∙ e)
+        let wakes : not (is_at_rest n.rests n.station.segment.now k) ≡ true = ap (λ i. not (is_at_rest n.rests n.station.segment.now i)) same ∙ ap not awake in
+        sym (ap (option_map address_of) (fewer_least (pumps_to n.station.segment n.station.address) (λ to. not (is_at_rest n.rests n.station.segment.now to)) 256 k is wakes) ∙ e)

@@ -16,7 +16,8 @@ use Rattle.node_lines.specs.declared.line.NodeLine.{NodeLine}
 use Rattle.node_lines.specs.declared.line.NodeLine.TheVariants.{Passed, Frame, Now, Command}
 use Rattle.node_lines.specs.declared.command.NodeCommand.{NodeCommand}
 use Rattle.node_lines.specs.declared.command.NodeCommand.TheVariants.{Send, Open, Close, Pause, Resume, Cancel, Missed, Counts, State, Refused}
-use Rattle.bus_node.specs.Node.{Node, cleared, told, asked}
+use Rattle.bus_node.specs.Stations.{missed}
+use Rattle.bus_node.specs.Node.{Node, cleared, told, events_told, answered, asked}
 use Rattle.bus_node.specs.Interfaces.{shown_on, is_other, passed_over, joined}
 use Rattle.bus_node.specs.Putting.{heard}
 use Rattle.bus_node.specs.Due.{next_due}
@@ -32,18 +33,22 @@ due_text (Some tick) = decimal tick
 -- the tick at which the clock stands, how many frames wait to be put, and the tick at which something is due; how many lanes are in doubt,
 -- and how many have a message that waits or is under way
 unfoldable pub state_line : Node → List ℕ
-state_line n = line (codes "state " ++ decimal n.segment.now ++ codes " " ++ decimal (queue_len n.segment n.station) ++ codes " " ++ due_text (next_due n) ++ lane_counts_text (lanes_in_doubt n) (lanes_pending n))
+state_line n = line (codes "state " ++ decimal n.station.segment.now ++ codes " " ++ decimal (queue_len n.station.segment n.station.address) ++ codes " " ++ due_text (next_due n) ++ lane_counts_text (lanes_in_doubt n) (lanes_pending n))
+
+-- frames were missed: what is under way ends
+abbrev pub missing : Node → Node
+missing n = answered n (missed n.station) (line (codes "done"))
 
 -- a command to the station
 unfoldable pub commanded : Node → NodeCommand → Node
-commanded n (Send to pgn bytes) = asked n (calls.Send n.station to pgn bytes)
-commanded n (Open pgn max_len) = asked n (calls.Open n.station pgn max_len)
-commanded n (Close number) = asked n (calls.Close (record { station = n.station; number = number }))
-commanded n (Pause number) = asked n (calls.Pause (record { station = n.station; number = number }))
-commanded n (Resume number) = asked n (calls.Resume (record { station = n.station; number = number }))
-commanded n (Cancel to number) = asked n (calls.Cancel n.station to number)
-commanded n Missed = asked n (calls.Overrun n.station 0)
-commanded n Counts = told n (counts_line n.segment.counts)
+commanded n (Send to pgn bytes) = asked n (calls.Send n.station.address to pgn bytes)
+commanded n (Open pgn max_len) = asked n (calls.Open n.station.address pgn max_len)
+commanded n (Close number) = asked n (calls.Close (record { station = n.station.address; number = number }))
+commanded n (Pause number) = asked n (calls.Pause (record { station = n.station.address; number = number }))
+commanded n (Resume number) = asked n (calls.Resume (record { station = n.station.address; number = number }))
+commanded n (Cancel to number) = asked n (calls.Cancel n.station.address to number)
+commanded n Missed = missing n
+commanded n Counts = told n (counts_line n.station.segment.counts)
 commanded n State = told n (state_line n)
 commanded n (Refused cause) = told n (line (refusal_text cause))
 
@@ -60,9 +65,13 @@ acted n (Now time) = n
 acted n (Frame time iface frame) = heard n frame
 acted n (Command command) = commanded n command
 
--- the time goes on to that of the line, then it is acted on, then all is done that is to be done at that tick
+-- what a line before found no memory to tell is told, and the time goes on to that of a line
+abbrev pub come_to : Node → Option ℕ → Node
+come_to n time = at_time (events_told n) time
+
+-- then it is acted on, then all is done that is to be done at that tick
 unfoldable pub followed : Node → NodeLine → Node
-followed n meant = settled (acted (at_time n (time_in meant)) meant)
+followed n meant = settled (acted (come_to n (time_in meant)) meant)
 
 -- so is a line that shows a frame of the node's interface or none; one that shows a frame of another says nothing, not even the time
 abbrev pub obeyed_on : Node → NodeLine → Option Iface → Node

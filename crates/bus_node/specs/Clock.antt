@@ -6,7 +6,7 @@ use Rattle.bus_node.specs.Node.{Node, told}
 
 -- the time of the clock's tick: a thousand microseconds each from the tick on at which the time began to count
 abbrev pub time_of : Node → ℕ
-time_of n = plus (unwrap_or n.start 0) (min ((n.segment.now - n.since) * 1000) (2 ^ 64 - 1))
+time_of n = plus (unwrap_or n.start 0) (min ((n.station.segment.now - n.since) * 1000) (2 ^ 64 - 1))
 
 -- the tick of a time
 abbrev pub tick_at : Node → ℕ → ℕ
@@ -14,7 +14,7 @@ tick_at n time = plus n.since ((time - unwrap_or n.start time) / 1000)
 
 -- the clock stands where it does, and that is this time
 abbrev pub counted_from : Node → ℕ → Node
-counted_from n time = record n { since = n.segment.now; start = Some time }
+counted_from n time = record n { since = n.station.segment.now; start = Some time }
 
 -- a time is more than a second before that of the clock. One that is less before it came late
 abbrev pub went_back : Node → ℕ → Bool

@@ -22,7 +22,7 @@ next_work seg = least_below (works_at seg) (2 ^ 64)
 -- while a broadcast waits for its time, the first tick at which the segment has something to do. Where that has come, all that there is to do
 -- rests, and it is the next tick. The last where none waits
 abbrev pub paced_until : Node → ℕ
-paced_until n = if is_pacing n then elim (next_work n.segment) [ None ↦ last | Some tick ↦ max tick (plus n.segment.now 1) ] else last
+paced_until n = if is_pacing n then elim (next_work n.station.segment) [ None ↦ last | Some tick ↦ max tick (plus n.station.segment.now 1) ] else last
 
 -- the earlier of a tick, if there is one, and another, of which the last says none
 abbrev pub first_of : Option ℕ → ℕ → Option ℕ
@@ -31,4 +31,4 @@ first_of (Some tick) wake = Some (min tick wake)
 
 -- the tick at which the next timer is due, a destination no longer rests, or a broadcast goes on
 abbrev pub next_due : Node → Option ℕ
-next_due n = first_of (due_below (2 ^ 64) n.segment) (min (wakes n.segment.now last n.rests) (paced_until n))
+next_due n = first_of (due_below (2 ^ 64) n.station.segment) (min (wakes n.station.segment.now last n.rests) (paced_until n))

@@ -7,11 +7,11 @@ use Rattle.bus_node.specs.Node.{Node}
 
 -- the lane to a destination is in doubt after a message that failed
 abbrev pub is_doubted : Node → (to : ℕ) → Bool
-is_doubted n to = (lane_seen n.segment n.station (record { 0 = to })).in_doubt
+is_doubted n to = (lane_seen n.station.segment n.station.address (record { 0 = to })).in_doubt
 
 -- a message to a destination waits or is under way
 abbrev pub has_pending : Node → (to : ℕ) → Bool
-has_pending n to = nat_lt 0 (lane_seen n.segment n.station (record { 0 = to })).pending
+has_pending n to = nat_lt 0 (lane_seen n.station.segment n.station.address (record { 0 = to })).pending
 
 -- to how many of the destinations 0 to 255
 abbrev pub lanes_in_doubt : Node → ℕ

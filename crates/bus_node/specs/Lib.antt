@@ -1,5 +1,7 @@
 pub mod Rests
 pub mod Node
+pub mod Stations
+pub mod Answers
 pub mod NodeFields
 pub mod NodeCode
 pub mod Interfaces

@@ -1,22 +1,20 @@
 -- A node: one station on a real bus, and what its calls tell.
-use Rattle.std.specs.Prelude.{ℕ, Bool, true, false, List, [], ◌∷◌, ◌++◌, Option, None}
+use Rattle.std.specs.Prelude.{◌≡◌, ℕ, ◌<◌, Bool, true, false, List, [], ◌++◌, length, Option, None}
 use Rattle.bus_frame.specs.Frames.{CanFrame}
 use Rattle.pgn_ids.specs.declared.address.Address.{Address}
 use Rattle.log_text.specs.declared.iface.Iface.{Iface}
-use Rattle.segment_law.specs.Segment.{Segment, new_segment}
-use Rattle.segment_law.specs.Calls.{applied, events_of}
+use Rattle.segment_law.specs.Calls.{applied}
 use Rattle.segment_law.specs.declared.call.Call.{Call}
-use Rattle.segment_law.specs.declared.reply.Reply.{Reply}
 use Rattle.script_text.specs.Replies.{reply_line, event_lines}
+use Rattle.one_station.specs.Node.{Node as Station, new_node as new_station, makes}
 use Rattle.bus_node.specs.Rests.{plus, no_rests, rested}
 
--- the segment that the station stands on alone, the station's address, the interface that its frames are shown on, whether that was
--- named or a frame of it was shown, whether a frame of another one was told, for how many ticks a destination rests after a connection to it
--- failed, for each destination the tick until which it rests, the tick from which the time counts and the time of that tick in microseconds, the
--- frames put that the bus hasn't shown since, the tick before which no conflict is told, and what the line has told so far
+-- the station, the interface that its frames are shown on, whether that was named or a frame of it was shown, whether a frame of another
+-- one was told, for how many ticks a destination rests after a connection to it failed, for each destination the tick until which it
+-- rests, the tick from which the time counts and the time of that tick in microseconds, the frames put that the bus hasn't shown since,
+-- the tick before which no conflict is told, and what the line has told so far
 pub record Node : Type 0 where
-  pub segment : Segment
-  pub station : Address
+  pub station : Station
   pub iface : Iface
   pub knows_iface : Bool
   pub knows_other : Bool
@@ -30,7 +28,7 @@ pub record Node : Type 0 where
 
 -- nothing was done yet
 abbrev pub new_node : Address → Iface → (quiet : ℕ) → Node
-new_node address iface quiet = record { segment = new_segment (address ∷ []); station = address; iface = iface; knows_iface = true; knows_other = false; quiet = quiet; rests = no_rests; since = 0; start = None; unseen = []; silent_until = 0; text = [] }
+new_node address iface quiet = record { station = new_station address; iface = iface; knows_iface = true; knows_other = false; quiet = quiet; rests = no_rests; since = 0; start = None; unseen = []; silent_until = 0; text = [] }
 
 -- a line has told nothing yet
 abbrev pub cleared : Node → Node
@@ -39,14 +37,33 @@ cleared n = record n { text = [] }
 abbrev pub told : Node → List ℕ → Node
 told n text = record n { text = n.text ++ text }
 
--- until when destinations rest after what a reply has told
-abbrev pub rested_by : Node → Segment → Reply → List ℕ
-rested_by n segment reply = rested (plus segment.now n.quiet) n.rests (events_of reply)
+-- the tick until which a destination rests whose connection fails now
+abbrev pub rest_end : Node → ℕ
+rest_end n = plus n.station.segment.now n.quiet
 
--- a call is made, and the events are told
+-- all that the station told is told: a line each, and the destinations of connections that failed rest
+abbrev pub events_told : Node → Node
+events_told n = record n { station = record n.station { events = [] }; rests = rested (rest_end n) n.rests n.station.events; text = n.text ++ event_lines n.station.events }
+
+-- the station did something, and what it told is told
+abbrev pub with_station : Node → Station → Node
+with_station n station = events_told (record n { station = station })
+
+-- a call is made on the station
 unfoldable pub called : Node → Call → Node
-called n call = record n { segment = (applied n.segment call).0; rests = rested_by n (applied n.segment call).0 (applied n.segment call).1; text = n.text ++ event_lines (events_of (applied n.segment call).1) }
+called n call = with_station n (makes n.station call)
 
--- a command makes a call: the reply is told, and then the events
+-- a command did something with the station: the reply is told, and then the events
+abbrev pub answered : Node → Station → (reply : List ℕ) → Node
+answered n station reply = events_told (told (record n { station = station }) reply)
+
+-- a command makes a call
 unfoldable pub asked : Node → Call → Node
-asked n call = record n { segment = (applied n.segment call).0; rests = rested_by n (applied n.segment call).0 (applied n.segment call).1; text = (n.text ++ reply_line (applied n.segment call).1) ++ event_lines (events_of (applied n.segment call).1) }
+asked n call = answered n (makes n.station call) (reply_line (applied n.station.segment call).1)
+
+-- How the code tells what the station told
+
+-- the first event, so that the rest leads to where all lead; there was none
+abbrev pub HasToldFirst : Bool → (before after : Node) → Type 0
+HasToldFirst true before after = (events_told after ≡ events_told before) × (length after.station.events < length before.station.events)
+HasToldFirst false before after = after ≡ events_told before

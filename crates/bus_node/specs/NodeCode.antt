@@ -3,22 +3,20 @@ use Rattle.std.specs.Prelude.{ℕ, Bool, List, Option, refl}
 use Rattle.std.specs.Coded.{Coded, code_by, coded×, coded_list, coded_option, coded_bool, coded_ℕ}
 use Rattle.bus_frame.specs.Frames.{CanFrame}
 use Rattle.bus_frame.specs.contracts.frame.Frame as frame
-use Rattle.pgn_ids.specs.declared.address.Address.{Address}
-use Rattle.pgn_ids.specs.contracts.address.Address as address
 use Rattle.log_text.specs.declared.iface.Iface.{Iface}
 use Rattle.log_text.specs.contracts.iface.Iface as iface
-use Rattle.segment_law.specs.Segment.{Segment}
-use Rattle.segment_core.specs.SegmentCode.{segment_code}
+use Rattle.one_station.specs.Node.{Node as Station}
+use Rattle.one_station.specs.NodeCode.{node_code as station_code}
 use Rattle.bus_node.specs.Node.{Node}
 
 abbrev Parts : Type 0
-Parts = Segment × (Address × (Iface × (Bool × (Bool × (ℕ × (List ℕ × (ℕ × (Option ℕ × (List CanFrame × (ℕ × List ℕ))))))))))
+Parts = Station × (Iface × (Bool × (Bool × (ℕ × (List ℕ × (ℕ × (Option ℕ × (List CanFrame × (ℕ × List ℕ)))))))))
 
 -- a node is told apart by its parts
 abbrev pub node_code : Coded Node
 node_code =
     code_by Parts
-    (coded× segment_code (coded× ((address.the_row).coded) (coded× ((iface.the_row).coded) (coded× coded_bool (coded× coded_bool (coded× coded_ℕ (coded× (coded_list coded_ℕ) (coded× coded_ℕ (coded× (coded_option coded_ℕ) (coded× (coded_list ((frame.the_row).coded)) (coded× coded_ℕ (coded_list coded_ℕ))))))))))))
-    (λ n. (n.segment, (n.station, (n.iface, (n.knows_iface, (n.knows_other, (n.quiet, (n.rests, (n.since, (n.start, (n.unseen, (n.silent_until, n.text))))))))))))
-    (λ p. record { segment = p.0; station = p.1.0; iface = p.1.1.0; knows_iface = p.1.1.1.0; knows_other = p.1.1.1.1.0; quiet = p.1.1.1.1.1.0; rests = p.1.1.1.1.1.1.0; since = p.1.1.1.1.1.1.1.0; start = p.1.1.1.1.1.1.1.1.0; unseen = p.1.1.1.1.1.1.1.1.1.0; silent_until = p.1.1.1.1.1.1.1.1.1.1.0; text = p.1.1.1.1.1.1.1.1.1.1.1 })
+    (coded× station_code (coded× ((iface.the_row).coded) (coded× coded_bool (coded× coded_bool (coded× coded_ℕ (coded× (coded_list coded_ℕ) (coded× coded_ℕ (coded× (coded_option coded_ℕ) (coded× (coded_list ((frame.the_row).coded)) (coded× coded_ℕ (coded_list coded_ℕ)))))))))))
+    (λ n. (n.station, (n.iface, (n.knows_iface, (n.knows_other, (n.quiet, (n.rests, (n.since, (n.start, (n.unseen, (n.silent_until, n.text)))))))))))
+    (λ p. record { station = p.0; iface = p.1.0; knows_iface = p.1.1.0; knows_other = p.1.1.1.0; quiet = p.1.1.1.1.0; rests = p.1.1.1.1.1.0; since = p.1.1.1.1.1.1.0; start = p.1.1.1.1.1.1.1.0; unseen = p.1.1.1.1.1.1.1.1.0; silent_until = p.1.1.1.1.1.1.1.1.1.0; text = p.1.1.1.1.1.1.1.1.1.1 })
     (λ _. refl)

@@ -1,14 +1,14 @@
 -- Frames that the node puts on the bus, and those that the bus shows.
-use Rattle.std.specs.Prelude.{ℕ, Bool, true, ◌&&◌, ◌==◌, nat_lt, if◌then◌else◌, List, [], ◌∷◌, ◌++◌, length, remove, position, Some, None, codes}
+use Rattle.std.specs.Prelude.{ℕ, Bool, ◌&&◌, ◌==◌, nat_lt, if◌then◌else◌, List, [], ◌∷◌, ◌++◌, length, remove, position, Some, None, codes}
 use Rattle.std.specs.Str.{bytes_eq}
 use Rattle.bus_frame.specs.Frames.{CanFrame}
-use Rattle.pgn_ids.specs.Identifier.{meaning_of}
 use Rattle.log_text.specs.Written.{log_text}
 use Rattle.log_text.specs.declared.iface.Iface.{Iface}
 use Rattle.script_text.specs.Parts.{line}
-use Rattle.segment_law.specs.declared.call.Call.TheVariants.{Transmit, Take, Inject}
+use Rattle.one_station.specs.Answers.{is_own}
 use Rattle.bus_node.specs.Rests.{plus}
-use Rattle.bus_node.specs.Node.{Node, called}
+use Rattle.bus_node.specs.Stations.{ready, sent, fed}
+use Rattle.bus_node.specs.Node.{Node, with_station}
 use Rattle.bus_node.specs.Clock.{time_of}
 
 -- a frame that was put, as a line of a log behind the word put
@@ -22,9 +22,9 @@ remembered frames frame = (if length frames == 256 then remove frames 0 else fra
 abbrev pub with_put : Node → CanFrame → Node
 with_put n frame = record n { unseen = remembered n.unseen frame; text = n.text ++ put_line (time_of n) n.iface frame }
 
--- the first frame of the queue is put, and the station passes it by
+-- the station puts the first frame of its queue, and passes it by
 unfoldable pub putting : Node → CanFrame → Node
-putting n frame = with_put (called (called n (Transmit n.station)) (Take n.station true)) frame
+putting n frame = with_put (with_station n (sent (ready n.station))) frame
 
 abbrev pub same_frame : CanFrame → CanFrame → Bool
 same_frame a b = a.id == b.id && bytes_eq a.bytes b.bytes
@@ -32,8 +32,8 @@ same_frame a b = a.id == b.id && bytes_eq a.bytes b.bytes
 -- another node has the same address: that is told once in a thousand ticks at most
 abbrev pub conflicting : Node → Node
 conflicting n =
-    if nat_lt n.segment.now n.silent_until then n
-    else record n { silent_until = plus n.segment.now 1000; text = n.text ++ line (codes "address conflict") }
+    if nat_lt n.station.segment.now n.silent_until then n
+    else record n { silent_until = plus n.station.segment.now 1000; text = n.text ++ line (codes "address conflict") }
 
 -- a frame with the node's own address is one that it put, or another node's
 unfoldable pub own : Node → CanFrame → Node
@@ -41,6 +41,4 @@ own n frame = elim (position (λ put. same_frame put frame) n.unseen) [ None ↦
 
 -- any other comes to the station
 unfoldable pub heard : Node → CanFrame → Node
-heard n frame =
-    if (meaning_of frame.id).from.0 == n.station.0 then own n frame
-    else called (called n (Inject frame)) (Take n.station true)
+heard n frame = if is_own n.station frame then own n frame else with_station n (fed (ready n.station) frame)

@@ -27,15 +27,15 @@ is_not_yet _ = false
 
 -- the next frame of a broadcast waits for its time
 abbrev pub is_pacing : Node → Bool
-is_pacing n = is_not_yet (refusal_of (called_on n.segment (Pump n.station record { 0 = 255 })))
+is_pacing n = is_not_yet (refusal_of (called_on n.station.segment (Pump n.station.address record { 0 = 255 })))
 
 -- the tick up to which the clock goes on at once: while a broadcast waits, the next one, else the first at which a destination no longer rests
 abbrev pub horizon : ℕ → Node → ℕ
-horizon target n = if is_pacing n && nat_lt n.segment.now target then n.segment.now + 1 else wakes n.segment.now target n.rests
+horizon target n = if is_pacing n && nat_lt n.station.segment.now target then n.station.segment.now + 1 else wakes n.station.segment.now target n.rests
 
 -- a frame can be queued to a destination, and it doesn't rest
 abbrev pub may_pump : Node → (to : ℕ) → Bool
-may_pump n to = pumps_to n.segment n.station to && not (is_at_rest n.rests n.segment.now to)
+may_pump n to = pumps_to n.station.segment n.station.address to && not (is_at_rest n.rests n.station.segment.now to)
 
 -- the lowest such destination
 abbrev pub next_lane : Node → Option Address
@@ -43,18 +43,22 @@ next_lane n = option_map (λ to. record { 0 = to }) (least_below (may_pump n) 25
 
 -- the clock goes on to a tick
 abbrev pub at_tick : ℕ → Node → Node
-at_tick tick n = called n (Tick (tick - n.segment.now))
+at_tick tick n = called n (Tick (tick - n.station.segment.now))
+
+-- the first timer that is due fires
+abbrev pub fired : Node → Node
+fired n = called n (Fire n.station.address)
 
 -- the clock goes on to a timer, which fires, or to the horizon; none where it stands there
 abbrev pub waited : ℕ → Node → Option Node
-waited end n = elim (due_below (end + 1) n.segment) [
-  | Some tick ↦ Some (called (at_tick tick n) (Fire n.station))
-  | None ↦ if nat_lt n.segment.now end then Some (at_tick end n) else None
+waited end n = elim (due_below (end + 1) n.station.segment) [
+  | Some tick ↦ Some (fired (at_tick tick n))
+  | None ↦ if nat_lt n.station.segment.now end then Some (at_tick end n) else None
 ]
 
 -- what may be queued to a destination is; where nothing may, time goes on
 abbrev pub pumped : ℕ → Node → Option Address → Option Node
-pumped target n (Some to) = Some (called n (Pump n.station to))
+pumped target n (Some to) = Some (called n (Pump n.station.address to))
 pumped target n None = waited (horizon target n) n
 
 -- a frame that waits is put before anything else
@@ -64,7 +68,7 @@ fronted target n None = pumped target n (next_lane n)
 
 -- what comes next up to a tick, until there is nothing
 unfoldable pub step : ℕ → Node → Option Node
-step target n = fronted target n (front_at n.segment n.station)
+step target n = fronted target n (front_at n.station.segment n.station.address)
 
 -- so many steps at most
 unfoldable pub go_on : ℕ → ℕ → Node → Node
@@ -77,7 +81,7 @@ most_steps = 1000000
 
 -- all that is to be done at the tick is done
 unfoldable pub settled : Node → Node
-settled n = go_on most_steps n.segment.now n
+settled n = go_on most_steps n.station.segment.now n
 
 -- where the line says a time, the clock goes on to its tick
 unfoldable pub at_time : Node → Option ℕ → Node

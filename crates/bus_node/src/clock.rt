@@ -17,7 +17,7 @@ impl Node {
     pub(crate) fn time(&self) -> u64
         ensures { result ≡ time_of self.now }
     {
-        let passed = self.segment.now().saturating_sub(self.since);
+        let passed = self.station.now().saturating_sub(self.since);
         self.start
             .unwrap_or(0)
             .saturating_add(passed.saturating_mul(TICK))
@@ -35,7 +35,7 @@ impl Node {
     fn count_from(&mut self, time: u64)
         ensures { self.new ≡ counted_from self.old time }
     {
-        self.since = self.segment.now();
+        self.since = self.station.now();
         self.start = Some(time);
     }
 

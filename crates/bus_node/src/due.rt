@@ -4,14 +4,14 @@ ghost use Rattle.bus_node.specs.Due.{next_work, paced_until, first_of, next_due}
 
 use crate::node::Node;
 use crate::time::due_up_to;
-use segment_core::Segment;
+use one_station::Node as Station;
 
-// The first tick, from that of its clock on, at which the segment has something to do.
+// The first tick, from that of its clock on, at which the station has something to do.
 #[tactic(auto, using(crate::proofs::Dues::next_is, crate::proofs::Dues::next_is_none))]
-fn next_work(segment: &Segment) -> Option<u64>
-    ensures { result ≡ next_work segment.now }
+fn next_work(station: &Station) -> Option<u64>
+    ensures { result ≡ next_work station.now.segment }
 {
-    segment.next_at()
+    station.next_at()
 }
 
 // The earlier of a tick, if there is one, and another, of which the last says none.
@@ -38,8 +38,8 @@ impl Node {
         if !self.is_pacing() {
             return u64::MAX;
         }
-        let next = self.segment.now().saturating_add(1);
-        match next_work(&self.segment) {
+        let next = self.station.now().saturating_add(1);
+        match next_work(&self.station) {
             None => u64::MAX,
             Some(tick) => tick.max(next),
         }
@@ -49,9 +49,9 @@ impl Node {
     pub(crate) fn next_due(&self) -> Option<u64>
         ensures { result ≡ next_due self.now }
     {
-        let wake = self.rests.wakes(self.segment.now(), u64::MAX);
+        let wake = self.rests.wakes(self.station.now(), u64::MAX);
         first_of(
-            due_up_to(&self.segment, u64::MAX),
+            due_up_to(&self.station, u64::MAX),
             wake.min(self.paced_until()),
         )
     }

@@ -25,7 +25,7 @@ impl Node {
         let mut doubted = 0u64;
         let mut pending = 0u64;
         for to in 0..DESTINATIONS {
-            let lane = self.segment.lane(self.station, Address(to as u8));
+            let lane = self.station.lane(Address(to as u8));
             if lane.in_doubt {
                 doubted += 1;
             }

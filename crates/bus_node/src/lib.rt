@@ -3,7 +3,9 @@
 #![tactic(auto)]
 
 mod acting;
+mod answers;
 mod clock;
+mod commands;
 mod due;
 mod interfaces;
 mod lane_counts;

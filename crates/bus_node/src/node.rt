@@ -1,23 +1,22 @@
 //! A node, and the calls on its station.
-ghost use Rattle.std.specs.Prelude.{◌≡◌, ◌∷◌, ◌++◌, ◌↔◌, [], false, IfOk, OnOk, IsErrOf};
+ghost use Rattle.std.specs.Prelude.{◌≡◌, ◌∷◌, ◌↔◌, [], false, IfOk, OnOk, IsErrOf};
 ghost use Rattle.segment_law.specs.Segment.{are_addresses};
-ghost use Rattle.segment_law.specs.Calls.{events_of};
-ghost use Rattle.script_text.specs.Replies.{event_lines};
-ghost use Rattle.bus_node.specs.Node.{new_node, cleared, rested_by, called, asked};
+ghost use Rattle.bus_node.specs.Node.{new_node, cleared, events_told, HasToldFirst};
 
 use crate::rests::Rests;
 use bus_frame::Frame;
 use log_text::Iface;
+use message_events::Events;
 use pgn_ids::Address;
-use script_text::{print_events, print_reply};
-use segment_core::{Call, NewRefused, Reply, Segment};
+use script_text::print_events;
+use segment_core::NewRefused;
 use std::alloc::{AllocError, Global};
 use std::marker::Model;
 
 /// One station on a real bus, what it remembers of that bus, and what a line has told so far.
 pub struct Node {
-    pub(crate) segment: Segment,
-    pub(crate) station: Address,
+    pub(crate) alloc: Global,
+    pub(crate) station: one_station::Node,
     /// The interface that the frames which it puts are shown on.
     pub(crate) iface: Iface,
     /// Whether that was named, or a frame of it was shown.
@@ -36,8 +35,6 @@ pub struct Node {
     /// The tick before which no conflict of addresses is told.
     pub(crate) silent_until: u64,
     pub(crate) text: Vec<u8>,
-    /// Frames were missed, and there was no memory yet to end what was under way.
-    pub(crate) has_missed: bool,
 }
 
 impl Model for Node {
@@ -55,7 +52,7 @@ impl Model for Node {
 impl Drop for Node {
     fn drop(self) {
         let Node {
-            segment: _,
+            alloc: _,
             station: _,
             iface: _,
             knows_iface: _,
@@ -67,7 +64,6 @@ impl Drop for Node {
             unseen: _,
             silent_until: _,
             text: _,
-            has_missed: _,
         } = self;
     }
 }
@@ -87,10 +83,10 @@ impl Node {
         ensures ok { IfOk result (λ node. node ≡ new_node address iface quiet) }
         ensures bad { IsErrOf result NewRefused.BadAddresses ↔ (are_addresses (address ∷ []) ≡ false) }
     {
-        let segment = Segment::new(alloc, &[address])?;
+        let station = one_station::Node::new(alloc, address)?;
         Ok(Node {
-            segment,
-            station: address,
+            alloc,
+            station,
             iface,
             knows_iface: true,
             knows_other: false,
@@ -101,7 +97,6 @@ impl Node {
             unseen: Vec::new(alloc),
             silent_until: 0,
             text: Vec::new(alloc),
-            has_missed: false,
         })
     }
 
@@ -119,38 +114,28 @@ impl Node {
         self.text.as_slice()
     }
 
-    // What a call told stands behind the rest, and the destinations of connections that failed rest.
-    fn tell(&mut self, reply: Reply) -> Result<(), AllocError>
-        ensures { OnOk result (self.new ≡ record self.old { rests = rested_by self.old self.old.segment reply; text = self.old.text ++ event_lines (events_of reply) }) }
+    // What the station told first is told, and the destination of a connection that failed rests: whether there was anything.
+    #[tactic(auto, using(crate::proofs::EventsTold::told_first, crate::proofs::EventsTold::fewer, crate::proofs::EventsTold::none_left))]
+    fn tell_first(&mut self) -> Result<bool, AllocError>
+        ensures { IfOk result (λ had_some. HasToldFirst had_some self.old self.new) }
     {
-        match reply {
-            Reply::Opened(_) => Ok(()),
-            Reply::Sent(_) => Ok(()),
-            Reply::Refused(_) => Ok(()),
-            Reply::Done(events) => {
-                let until = self.segment.now().saturating_add(self.quiet);
-                self.rests.rest_after(until, &events);
-                print_events(&mut self.text, &events)
+        let Some(event) = self.station.take_event() else {
+            return Ok(false);
+        };
+        let until = self.station.now().saturating_add(self.quiet);
+        self.rests.rest_by(until, &event);
+        print_events(&mut self.text, &Events::of(self.alloc, Some(event)))?;
+        Ok(true)
+    }
+
+    /// All that the station told is told.
+    pub(crate) fn tell(&mut self) -> Result<(), AllocError>
+        ensures { OnOk result (self.new ≡ events_told self.old) }
+    {
+        'events: loop {
+            if !self.tell_first()? {
+                return Ok(());
             }
         }
-    }
-
-    /// A call is made, and what it tells is told.
-    #[tactic(auto, unfolding(crate::specs::Node::called))]
-    pub(crate) fn call(&mut self, call: Call) -> Result<(), AllocError>
-        ensures { OnOk result (self.new ≡ called self.old call) }
-    {
-        let reply = self.segment.apply(call)?;
-        self.tell(reply)
-    }
-
-    /// A command makes a call: its reply is told, and then what the call tells.
-    #[tactic(auto, unfolding(crate::specs::Node::asked))]
-    pub(crate) fn ask(&mut self, call: Call) -> Result<(), AllocError>
-        ensures { OnOk result (self.new ≡ asked self.old call) }
-    {
-        let reply = self.segment.apply(call)?;
-        print_reply(&mut self.text, &reply)?;
-        self.tell(reply)
     }
 }

@@ -1,13 +1,16 @@
 //! Frames that the node puts on the bus, and those that the bus shows.
 ghost use Rattle.std.specs.Prelude.{◌≡◌, ◌++◌, OnOk, position};
+ghost use Rattle.one_station.specs.Answers.{is_own};
+ghost use Rattle.bus_node.specs.Node.{with_station};
+ghost use Rattle.bus_node.specs.Stations.{ready, sent, fed};
 ghost use Rattle.bus_node.specs.Putting.{put_line, remembered, with_put, putting, same_frame, conflicting, own, heard};
 
 use crate::node::Node;
 use bus_frame::Frame;
 use log_text::{Iface, put_log_line};
+use one_station::{Fed, NodeError};
 use pgn_ids::read_id;
 use script_text::print_text;
-use segment_core::Call;
 use std::alloc::AllocError;
 
 /// How many ticks pass at least from one conflict that is told to the next.
@@ -59,17 +62,20 @@ impl Node {
         remember(&mut self.unseen, frame)
     }
 
+    // The first frame of the queue leaves it.
+    fn send_first(&mut self) -> Result<(), AllocError>
+        ensures { OnOk result (self.new ≡ with_station self.old (sent (ready self.old.station))) }
+    {
+        let made = self.station.sent();
+        self.tell_of(made)
+    }
+
     /// The first frame of the queue is put on the bus.
     #[tactic(auto, unfolding(crate::specs::Putting::putting))]
     pub(crate) fn put(&mut self, frame: Frame) -> Result<(), AllocError>
         ensures { OnOk result (self.new ≡ putting self.old frame) }
     {
-        let station = self.station;
-        self.call(Call::Transmit { station })?;
-        self.call(Call::Take {
-            station,
-            room: true,
-        })?;
+        self.send_first()?;
         self.note_put(frame)
     }
 
@@ -77,7 +83,7 @@ impl Node {
     fn conflict(&mut self) -> Result<(), AllocError>
         ensures { OnOk result (self.new ≡ conflicting self.old) }
     {
-        let now = self.segment.now();
+        let now = self.station.now();
         if now < self.silent_until {
             return Ok(());
         }
@@ -99,19 +105,40 @@ impl Node {
         }
     }
 
+    /// Whether a frame has the node's own address.
+    pub(crate) fn is_own(&self, frame: &Frame) -> bool
+        ensures { result ≡ is_own self.now.station frame.now }
+    {
+        read_id(frame.id()).from.0 == self.station.address().0
+    }
+
+    // A frame of another node comes to the station. One that it isn't fed is missed.
+    fn feed(&mut self, frame: Frame) -> Result<(), AllocError>
+        ensures { OnOk result (self.new ≡ with_station self.old (fed (ready self.old.station) frame)) }
+    {
+        match self.station.feed(frame) {
+            Ok(Fed::Taken) => self.tell(),
+            Ok(Fed::WithoutRoom) => {
+                self.tell()?;
+                Err(AllocError)
+            }
+            Ok(Fed::PassedBy) => Err(AllocError),
+            Err(NodeError::Refused(_)) => self.miss(),
+            Err(_) => {
+                self.miss()?;
+                Err(AllocError)
+            }
+        }
+    }
+
     /// A frame was seen on the bus.
     #[tactic(auto, unfolding(crate::specs::Putting::heard))]
     pub(crate) fn hear(&mut self, frame: Frame) -> Result<(), AllocError>
         ensures { OnOk result (self.new ≡ heard self.old frame) }
     {
-        let station = self.station;
-        if read_id(frame.id()).from.0 == station.0 {
+        if self.is_own(&frame) {
             return self.see_own(&frame);
         }
-        self.call(Call::Inject { frame })?;
-        self.call(Call::Take {
-            station,
-            room: true,
-        })
+        self.feed(frame)
     }
 }

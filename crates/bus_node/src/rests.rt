@@ -1,8 +1,8 @@
 //! Destinations that rest: a connection to them failed, and nothing is queued to them for a while.
 ghost use Rattle.std.specs.Prelude.{◌≡◌};
-ghost use Rattle.bus_node.specs.Rests.{HasAll, no_rests, is_at_rest, resting, is_failure, rest_by, rested, wakes};
+ghost use Rattle.bus_node.specs.Rests.{HasAll, no_rests, is_at_rest, resting, is_failure, rest_by, wakes};
 
-use message_events::{Event, Events};
+use message_events::Event;
 use pgn_ids::Address;
 use std::marker::Model;
 use tp_wire::Outcome;
@@ -61,8 +61,8 @@ impl Rests {
         self.until[to.0 as usize] = until;
     }
 
-    // What an event makes of it.
-    fn rest_by(&mut self, until: u64, event: &Event)
+    /// The destination of a connection that failed rests until a tick.
+    pub(crate) fn rest_by(&mut self, until: u64, event: &Event)
         ensures { self.new ≡ rest_by until self.old event.now }
     {
         match event {
@@ -72,15 +72,6 @@ impl Rests {
                     self.set(until, *to);
                 }
             }
-        }
-    }
-
-    /// The destinations of connections that failed rest until a tick.
-    pub(crate) fn rest_after(&mut self, until: u64, events: &Events)
-        ensures { self.new ≡ rested until self.old events.now }
-    {
-        for event in events {
-            self.rest_by(until, event);
         }
     }
 

@@ -1,10 +1,13 @@
 //! How the time goes on, and what is done meanwhile without a command.
 ghost use Rattle.std.specs.Prelude.{◌≡◌, ◌+◌, ◌<◌, IfOk, OnOk};
-ghost use Rattle.bus_node.specs.Time.{due_below, is_not_yet, is_pacing, horizon, may_pump, next_lane, at_tick, waited, step, go_on, most_steps, settled, at_time, Stepped};
+ghost use Rattle.segment_law.specs.declared.call.Call.TheVariants.{Pump};
+ghost use Rattle.bus_node.specs.Node.{called};
+ghost use Rattle.bus_node.specs.Time.{due_below, is_not_yet, is_pacing, horizon, may_pump, next_lane, at_tick, fired, waited, step, go_on, most_steps, settled, at_time, Stepped};
 
 use crate::node::Node;
+use one_station::Node as Station;
 use pgn_ids::Address;
-use segment_core::{Call, Refusal, Segment};
+use segment_core::{Call, Refusal};
 use std::alloc::AllocError;
 
 /// How many steps the time of a line makes at most, and as many what is done of it.
@@ -21,10 +24,10 @@ fn is_not_yet(cause: Option<Refusal>) -> bool
 
 /// The tick at which the next timer is due, where it is none above the last.
 #[tactic(auto, using(crate::proofs::Dues::due_is_below, crate::proofs::Dues::due_is_above, crate::proofs::Dues::none_is_due))]
-pub(crate) fn due_up_to(segment: &Segment, last: u64) -> Option<u64>
-    ensures { result ≡ due_below (last + 1) segment.now }
+pub(crate) fn due_up_to(station: &Station, last: u64) -> Option<u64>
+    ensures { result ≡ due_below (last + 1) station.now.segment }
 {
-    match segment.next_due_at() {
+    match station.next_due_at() {
         None => None,
         Some(tick) => {
             if tick > last {
@@ -40,16 +43,16 @@ impl Node {
     pub(crate) fn is_pacing(&self) -> bool
         ensures { result ≡ is_pacing self.now }
     {
-        let station = self.station;
+        let station = self.station.address();
         let to = Address::GLOBAL;
-        is_not_yet(self.segment.refusal(&Call::Pump { station, to }))
+        is_not_yet(self.station.refusal(&Call::Pump { station, to }))
     }
 
     // The tick up to which the clock goes on at once.
     fn horizon(&self, target: u64) -> u64
         ensures { result ≡ horizon target self.now }
     {
-        let now = self.segment.now();
+        let now = self.station.now();
         if self.is_pacing() && now < target {
             return now + 1;
         }
@@ -60,9 +63,9 @@ impl Node {
     fn may_pump(&self, to: Address) -> bool
         ensures { result ≡ may_pump self.now to.0 }
     {
-        let station = self.station;
-        let refusal = self.segment.refusal(&Call::Pump { station, to });
-        refusal.is_none() && !self.rests.is_at_rest(self.segment.now(), to)
+        let station = self.station.address();
+        let refusal = self.station.refusal(&Call::Pump { station, to });
+        refusal.is_none() && !self.rests.is_at_rest(self.station.now(), to)
     }
 
     // The lowest of them all, where the lowest that a frame can be queued to rests.
@@ -87,10 +90,10 @@ impl Node {
     fn next_lane(&self) -> Option<Address>
         ensures { result ≡ next_lane self.now }
     {
-        match self.segment.next_pump(self.station) {
+        match self.station.next_pump() {
             None => None,
             Some(to) => {
-                if self.rests.is_at_rest(self.segment.now(), to) {
+                if self.rests.is_at_rest(self.station.now(), to) {
                     return self.lane_awake();
                 }
                 Some(to)
@@ -102,21 +105,36 @@ impl Node {
     fn go_to(&mut self, tick: u64) -> Result<(), AllocError>
         ensures { OnOk result (self.new ≡ at_tick tick self.old) }
     {
-        let n = tick.saturating_sub(self.segment.now());
-        self.call(Call::Tick { n })
+        let made = self.station.clock(tick.max(self.station.now()));
+        self.tell_of(made)
+    }
+
+    // The first timer that is due fires.
+    fn fire(&mut self) -> Result<(), AllocError>
+        ensures { OnOk result (self.new ≡ fired self.old) }
+    {
+        let made = self.station.fire();
+        self.tell_of(made)
+    }
+
+    // A frame is queued to a destination.
+    fn pump(&mut self, to: Address) -> Result<(), AllocError>
+        ensures { OnOk result (self.new ≡ called self.old (Pump self.old.station.address to)) }
+    {
+        let made = self.station.pump(to);
+        self.tell_of(made)
     }
 
     // The clock goes on to a timer, which fires, or to the last tick.
     fn wait(&mut self, last: u64) -> Result<bool, AllocError>
         ensures { IfOk result (λ went_on. Stepped went_on self.old self.new (waited last self.old)) }
     {
-        let station = self.station;
-        if let Some(tick) = due_up_to(&self.segment, last) {
+        if let Some(tick) = due_up_to(&self.station, last) {
             self.go_to(tick)?;
-            self.call(Call::Fire { station })?;
+            self.fire()?;
             return Ok(true);
         }
-        if self.segment.now() >= last {
+        if self.station.now() >= last {
             return Ok(false);
         }
         self.go_to(last)?;
@@ -128,13 +146,12 @@ impl Node {
     fn step(&mut self, target: u64) -> Result<bool, AllocError>
         ensures { IfOk result (λ went_on. Stepped went_on self.old self.new (step target self.old)) }
     {
-        let station = self.station;
-        if let Some(frame) = self.segment.front(station) {
+        if let Some(frame) = self.station.queued() {
             self.put(frame)?;
             return Ok(true);
         }
         if let Some(to) = self.next_lane() {
-            self.call(Call::Pump { station, to })?;
+            self.pump(to)?;
             return Ok(true);
         }
         let last = self.horizon(target);
@@ -160,7 +177,7 @@ impl Node {
     pub(crate) fn settle(&mut self) -> Result<(), AllocError>
         ensures { OnOk result (self.new ≡ settled self.old) }
     {
-        let now = self.segment.now();
+        let now = self.station.now();
         self.go_on(now)
     }
 

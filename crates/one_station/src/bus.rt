@@ -1,17 +1,17 @@
 //! Frames from the bus and for the bus.
 ghost use Rattle.std.specs.Prelude.{◌≡◌, ◌∷◌, [], None, IfOk, IfErr, OnOk, OnErr};
-ghost use Rattle.segment_law.specs.Readers.{front_at};
+ghost use Rattle.segment_law.specs.Readers.{front_at, next_pump};
 ghost use Rattle.one_station.specs.declared.error.NodeError.TheVariants.{OutOfMemory};
-ghost use Rattle.segment_law.specs.declared.call.Call.TheVariants.{Transmit};
+ghost use Rattle.segment_law.specs.declared.call.Call.TheVariants.{Pump, Transmit};
 ghost use Rattle.one_station.specs.Node.{Did};
-ghost use Rattle.one_station.specs.Answers.{IsFed, IsTakenIn, IsSent, looks, feed_refusal, sent_refusal, front_calls};
+ghost use Rattle.one_station.specs.Answers.{IsAnswered, IsFed, IsTakenIn, IsSent, looks, feed_refusal, sent_refusal, front_calls};
 
 use crate::error::{Fed, NodeError};
 use crate::look::{look, pass, put};
 use crate::node::{Node, make_one};
 use broadcast_law::stations_queue_their_own;
 use bus_frame::Frame;
-use pgn_ids::read_id;
+use pgn_ids::{Address, read_id};
 use segment_core::{Call, Refusal};
 
 /// How many frames the transmit queue holds.
@@ -69,6 +69,34 @@ impl Node {
         }
     }
 
+    /// The first frame of the transmit queue, or none where that is empty. It is what `front` answers then, and stays the first until
+    /// `sent` says that it was put.
+    pub fn queued(&self) -> Option<Frame>
+        ensures { result ≡ front_at self.now.segment self.now.address }
+    {
+        self.segment.front(self.address)
+    }
+
+    /// The lowest destination, 0 to 255, that `pump` has something to queue to now, or none. It is the one that `front` chooses.
+    pub fn next_pump(&self) -> Option<Address>
+        ensures { result ≡ next_pump self.now.segment self.now.address }
+    {
+        self.segment.next_pump(self.address)
+    }
+
+    /// Queues what comes next in the lane to a destination: at most eight frames. It is for a program that chooses itself which lane
+    /// goes on; else `front` does it.
+    ///
+    /// Refused as `NoSuchStation` for address 254, as `NothingToSend` where no message is pending or it awaits a frame, as `NotYet`
+    /// where the next frame of a broadcast comes too soon, and as `TxFull` where fewer than eight places of the transmit queue are
+    /// free; and else as `OutOfMemory` where memory is refused.
+    pub fn pump(&mut self, to: Address) -> Result<(), NodeError>
+        ensures { IsAnswered self.old (Pump self.old.address to) self.new result }
+    {
+        let station = self.address;
+        self.make(Call::Pump { station, to })
+    }
+
     /// The frame that is next for the bus, or none where there is nothing to put now. It stays the next until `sent` says that it
     /// was put. Where the transmit queue is empty, what comes next in the lowest lane that has something to queue is queued.
     ///
@@ -80,16 +108,15 @@ impl Node {
         ensures memory { IfErr result (λ error. error ≡ OutOfMemory) }
         ensures err { OnErr result (self.new ≡ self.old) }
     {
-        if let Some(frame) = self.segment.front(self.address) {
+        if let Some(frame) = self.queued() {
             return Ok(Some(frame));
         }
-        let station = self.address;
-        if let Some(to) = self.segment.next_pump(station) {
-            if let Err(error) = self.make(Call::Pump { station, to }) {
+        if let Some(to) = self.next_pump() {
+            if let Err(error) = self.pump(to) {
                 return Err(error);
             }
         }
-        Ok(self.segment.front(station))
+        Ok(self.queued())
     }
 
     /// The frame that `front` answered was put on the bus. The station doesn't look at its own frames, and passes it by. That takes no

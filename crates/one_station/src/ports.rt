@@ -75,6 +75,22 @@ impl Node {
         ensures answered { IsAnswered self.old (Send self.old.address to pgn bytes.now) self.new result }
         ensures number { IfOk result (λ number. (applied self.old.segment (Send self.old.address to pgn bytes.now)).1 ≡ Sent number) }
     {
+        if let Some(cause) = self.segment.send_refusal(self.address, to, bytes.len()) {
+            return Err(NodeError::Refused(cause));
+        }
+        let Ok(items) = Vec::from_slice(self.alloc, bytes) else {
+            return Err(NodeError::OutOfMemory);
+        };
+        self.send_bytes(to, pgn, Bytes::new(items))
+    }
+
+    /// The same for bytes that the caller gives away, which aren't copied.
+    ///
+    /// Refused for the causes of `send`, and else as `OutOfMemory` where memory is refused. The bytes are gone then.
+    pub fn send_bytes(&mut self, to: Address, pgn: Pgn, bytes: Bytes) -> Result<u64, NodeError>
+        ensures answered { IsAnswered self.old (Send self.old.address to pgn bytes) self.new result }
+        ensures number { IfOk result (λ number. (applied self.old.segment (Send self.old.address to pgn bytes)).1 ≡ Sent number) }
+    {
         let from = self.address;
         if let Some(cause) = self.segment.send_refusal(from, to, bytes.len()) {
             return Err(NodeError::Refused(cause));
@@ -82,14 +98,11 @@ impl Node {
         if make_place(&mut self.told, self.owed).is_err() {
             return Err(NodeError::OutOfMemory);
         }
-        let Ok(items) = Vec::from_slice(self.alloc, bytes) else {
-            return Err(NodeError::OutOfMemory);
-        };
         let send = Call::Send {
             from,
             to,
             pgn,
-            bytes: Bytes::new(items),
+            bytes,
         };
         match self.segment.apply(send) {
             Ok(Reply::Sent(number)) => {

@@ -44,6 +44,34 @@ pub(crate) fn send(node: &mut Node, to: Address, pgn: Pgn, bytes: &[u8]) -> Resu
     }
 }
 
+// Bytes that are given away.
+fn bytes_of(rt: &impl Abort, alloc: Global, bytes: &[u8]) -> Bytes {
+    match Vec::from_slice(alloc, bytes) {
+        Ok(items) => Bytes::new(items),
+        Err(_) => Bytes::new(got(rt, Vec::from_slice(alloc, bytes))),
+    }
+}
+
+pub(crate) fn send_bytes(
+    rt: &impl Abort,
+    alloc: Global,
+    node: &mut Node,
+    to: Address,
+    bytes: &[u8],
+) -> Result<u64, NodeError> {
+    match node.send_bytes(to, pgn(rt), bytes_of(rt, alloc, bytes)) {
+        Err(NodeError::OutOfMemory) => node.send_bytes(to, pgn(rt), bytes_of(rt, alloc, bytes)),
+        sent => sent,
+    }
+}
+
+pub(crate) fn pump(node: &mut Node, to: Address) -> Result<(), NodeError> {
+    match node.pump(to) {
+        Err(NodeError::OutOfMemory) => node.pump(to),
+        pumped => pumped,
+    }
+}
+
 pub(crate) fn cancel(node: &mut Node, to: Address, number: u64) -> Result<(), NodeError> {
     match node.cancel(to, number) {
         Err(NodeError::OutOfMemory) => node.cancel(to, number),

@@ -3,6 +3,7 @@ use crate::checks::{got, same};
 use crate::single_station::calls::*;
 use one_station::*;
 use pgn_ids::Address;
+use std::alloc::Global;
 use std::process::Abort;
 use tp_wire::Outcome;
 
@@ -10,6 +11,11 @@ const NINE: [u8; 9] = [1, 2, 3, 4, 5, 6, 7, 8, 9];
 
 // A request of 21 for FECA.
 const REQUEST: Shown = (0x18EA_3521, [0xCA, 0xFE, 0, 0xFF, 0xFF, 0xFF, 0xFF, 0xFF]);
+
+// Another destination of 21, and how a message to it begins.
+const OTHER: Address = Address(0x36);
+
+const ANNOUNCED: Shown = (0x1CEC_3621, [0x10, 9, 0, 2, 0xFF, 0xCA, 0xFE, 0]);
 
 fn refused<T>(cause: Refusal) -> Result<T, NodeError> {
     Err(NodeError::Refused(cause))
@@ -90,4 +96,28 @@ fn fills(rt: &impl Abort, b: &mut Node) {
 fn full_queue(rt: HostRuntime) {
     let mut b = node(&rt, rt.alloc(), B);
     fills(&rt, &mut b);
+}
+
+// The other of two destinations is chosen.
+fn chooses(rt: &impl Abort, alloc: Global, a: &mut Node) {
+    same(rt, send_bytes(rt, alloc, a, B, &NINE), Ok(1));
+    same(rt, send_bytes(rt, alloc, a, OTHER, &NINE), Ok(1));
+    same(
+        rt,
+        send_bytes(rt, alloc, a, B, &[1; 8]),
+        refused(Refusal::TooShort),
+    );
+    same(rt, a.queued(), None);
+    same(rt, a.next_pump(), Some(B));
+    same(rt, pump(a, OTHER), Ok(()));
+    same(rt, a.queued(), Some(frame_of(rt, ANNOUNCED)));
+    same(rt, pump(a, OTHER), refused(Refusal::NothingToSend));
+    same(rt, a.next_pump(), Some(B));
+}
+
+#[test]
+fn chosen_destination(rt: HostRuntime) {
+    let alloc = rt.alloc();
+    let mut a = node(&rt, alloc, A);
+    chooses(&rt, alloc, &mut a);
 }
