@@ -1,21 +1,19 @@
 -- What is counted of a log.
-use Rattle.std.specs.Prelude.{ℕ, ◌+◌, ◌-◌, ◌^◌, List, [], ◌++◌, codes, fold, Bool, ◌&&◌, not, ◌==◌, min, if◌then◌else◌}
+use Rattle.std.specs.Prelude.{ℕ, List, [], ◌++◌, codes, fold, Bool, ◌&&◌, not, ◌==◌, if◌then◌else◌, Option}
 use Rattle.std.specs.Fmt.{decimal}
 use Rattle.bus_frame.specs.Frames.{CanFrame}
 use Rattle.tp_wire.specs.Reading.{is_transport, is_malformed}
+use Rattle.log_decode.specs.declared.stray.Stray.{Stray}
 use Rattle.log_decode.specs.declared.told.Told.{Told}
 use Rattle.log_decode.specs.declared.told.Told.TheVariants.{Given, Aborted, Lost}
 use Rattle.bus_decode.specs.Options.{is_asked_for}
+use Rattle.bus_decode.specs.Strays.{more, no_strays, with_stray}
 use Rattle.bus_decode.specs.declared.counts.Counts.{Counts}
 use Rattle.bus_decode.specs.declared.options.Options.{Options}
 
 -- nothing was counted
 abbrev pub no_counts : Counts
-no_counts = record { lines = 0; passed = 0; wrong = 0; frames = 0; earlier = 0; transport = 0; malformed = 0; messages = 0; aborted = 0; lost = 0 }
-
--- one more, within 64 bits
-abbrev pub more : ℕ → ℕ
-more n = min (n + 1) (2 ^ 64 - 1)
+no_counts = record { lines = 0; passed = 0; wrong = 0; frames = 0; earlier = 0; transport = 0; malformed = 0; strays = no_strays; messages = 0; aborted = 0; lost = 0 }
 
 abbrev pub more_if : Bool → ℕ → ℕ
 more_if b n = if b then more n else n
@@ -28,6 +26,10 @@ with_frame frame is_earlier c = record c {
   transport = more_if (is_transport frame) c.transport;
   malformed = more_if (is_malformed frame) c.malformed;
 }
+
+-- and of no message or of one
+abbrev pub with_strays : Option Stray → Counts → Counts
+with_strays stray c = record c { strays = with_stray stray c.strays }
 
 -- something was told; it is counted where it was asked for
 abbrev pub with_told : Options → Counts → Told → Counts

@@ -1,4 +1,5 @@
 pub mod Options
+pub mod Strays
 pub mod Counts
 pub mod Text
 pub mod Json

@@ -9,12 +9,16 @@ use Rattle.log_text.specs.declared.reading.Form.{Form}
 use Rattle.log_text.specs.declared.iface.Iface.{Iface}
 use Rattle.log_text.specs.declared.line.LogLine.{LogLine}
 use Rattle.log_text.specs.declared.line.LogLine.TheVariants.{Frame, Passed}
+use Rattle.log_courses.specs.Awaited.{Awaited, awaiting_each}
 use Rattle.log_courses.specs.Courses.{Courses, followed}
 use Rattle.log_courses.specs.declared.course.Place.{Place}
 use Rattle.log_decode.specs.View.{State, bus_at}
 use Rattle.log_decode.specs.Decoder.{taken, ended}
-use Rattle.bus_decode.specs.Counts.{more, with_frame, with_each}
+use Rattle.log_decode.specs.Stray.{stray_seen}
+use Rattle.bus_decode.specs.Strays.{more, stray_left}
+use Rattle.bus_decode.specs.Counts.{with_frame, with_strays, with_each}
 use Rattle.bus_decode.specs.Text.{told_lines, wrong_line, single_line}
+use Rattle.log_decode.specs.declared.stray.Stray.{Stray}
 use Rattle.log_decode.specs.declared.told.Told.{Told}
 use Rattle.bus_decode.specs.Json.{told_objects, without_each, single_object, wrong_object}
 use Rattle.bus_decode.specs.declared.counts.Counts.{Counts}
@@ -27,7 +31,7 @@ use Rattle.bus_decode.specs.declared.running.Fault.TheVariants.{NotLogLine}
 
 -- nothing was heard
 abbrev pub first_listener : (most : ℕ) → Listener
-first_listener most = record { decoder = record { most = most; time = 0; buses = [] }; courses = [] }
+first_listener most = record { decoder = record { most = most; time = 0; buses = [] }; courses = []; awaited = [] }
 
 -- a listener, and what was counted
 abbrev pub Hearing : Type 0
@@ -63,16 +67,21 @@ heard_courses options iface frame place told courses = if options.json then foll
 
 -- a listener to a frame that was counted, and what is printed: the frame's place in the log is its number and the time to which it brings the
 -- interface
-abbrev pub frame_told : Options → Iface → CanFrame → Courses → State × List Told → Counts → Hearing × List ℕ
-frame_told options iface frame courses t counts =
+abbrev pub frame_told : Options → Iface → CanFrame → Courses → Awaited → State × List Told → Counts → Hearing × List ℕ
+frame_told options iface frame courses awaited t counts =
     let place : Place = record { number = counts.frames; time = t.0.time } in
-    ((record { decoder = t.0; courses = heard_courses options iface frame place t.1 courses }, counts), told_text place options t.1 courses ++ single t.0.time iface options frame)
+    ((record { decoder = t.0; courses = heard_courses options iface frame place t.1 courses; awaited = awaiting_each t.1 awaited }, counts), told_text place options t.1 courses ++ single t.0.time iface options frame)
+
+-- what is counted of a frame, of no message or of one, at which this is told
+abbrev pub frame_counts : Options → CanFrame → (is_earlier : Bool) → Option Stray → List Told → Counts → Counts
+frame_counts options frame is_earlier stray told c = with_each options (with_strays stray (with_frame frame is_earlier c)) told
 
 -- a frame is seen at a time on an interface: what it tells is counted and printed
 unfoldable pub frame_seen : Options → Hearing → (time : ℕ) → Iface → CanFrame → Hearing × List ℕ
 frame_seen options s time iface frame =
     let t = taken s.0.decoder time iface frame [] in
-    frame_told options iface frame s.0.courses t (with_each options (with_frame frame (nat_lt time (bus_at iface s.0.decoder.buses).time) s.1) t.1)
+    let left = stray_left (stray_seen s.0.decoder time iface frame) iface frame s.0.awaited in
+    frame_told options iface frame s.0.courses left.0 t (frame_counts options frame (nat_lt time (bus_at iface s.0.decoder.buses).time) left.1 t.1 s.1)
 
 abbrev pub with_line : Counts → Counts
 with_line c = record c { lines = more c.lines }

@@ -1,11 +1,13 @@
 //! What was counted of a log.
 ghost use Rattle.std.specs.Prelude.{◌≡◌, Some};
 ghost use Rattle.std.specs.Fmt.{DisplaysOnOk};
-ghost use Rattle.bus_decode.specs.Counts.{no_counts, more, with_told, with_each, with_frame, lines_text, frames_text, messages_text, rest_text, counts_text};
+ghost use Rattle.bus_decode.specs.Strays.{more};
+ghost use Rattle.bus_decode.specs.Counts.{no_counts, with_told, with_each, with_frame, with_strays, lines_text, frames_text, messages_text, rest_text, counts_text};
 
 use crate::options::Options;
+use crate::strays::Strays;
 use bus_frame::Frame;
-use log_decode::Told;
+use log_decode::{Stray, Told};
 use std::fmt;
 use tp_wire::{is_transport, read};
 
@@ -26,6 +28,8 @@ pub struct Counts {
     pub transport: u64,
     /// Frames of those that mean nothing.
     pub malformed: u64,
+    /// Frames of a transport that are of no message.
+    pub strays: Strays,
     /// Messages that were given.
     pub messages: u64,
     /// Messages that were aborted.
@@ -54,6 +58,7 @@ impl Counts {
             earlier: 0,
             transport: 0,
             malformed: 0,
+            strays: Strays::none(),
             messages: 0,
             aborted: 0,
             lost: 0,
@@ -95,6 +100,13 @@ impl Counts {
                 self.malformed = more(self.malformed);
             }
         }
+    }
+
+    /// A frame was seen that is of no message, or one of a message or of none at all.
+    pub(crate) fn add_stray(&mut self, stray: Option<Stray>)
+        ensures { self.new ≡ with_strays stray self.old }
+    {
+        self.strays.add(stray);
     }
 
     /// Something that was asked for was told.

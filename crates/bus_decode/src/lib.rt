@@ -8,8 +8,10 @@ mod listening;
 mod objects;
 mod options;
 mod running;
+mod strays;
 mod text;
 
 pub use counts::Counts;
 pub use options::{Options, Wanted};
 pub use running::{Cause, Decoded, LogFault, run_decode};
+pub use strays::Strays;

@@ -2,7 +2,7 @@
 ghost use Rattle.std.specs.Prelude.{◌≡◌};
 ghost use Rattle.bus_decode.specs.Listening.{first_listener};
 
-use log_courses::Courses;
+use log_courses::{Awaited, Courses};
 use log_decode::Decoder;
 use std::alloc::Global;
 
@@ -12,6 +12,8 @@ pub(crate) struct Listener {
     pub(crate) decoder: Decoder,
     /// The courses of the messages under way, where they are asked for; else none.
     pub(crate) courses: Courses,
+    /// The end acknowledgements of the messages that were given.
+    pub(crate) awaited: Awaited,
 }
 
 impl Listener {
@@ -22,6 +24,7 @@ impl Listener {
         Listener {
             decoder: Decoder::new(alloc, most),
             courses: Courses::new(alloc),
+            awaited: Awaited::new(alloc),
         }
     }
 }

@@ -7,6 +7,7 @@ use crate::counts::Counts;
 use crate::listener::Listener;
 use crate::objects::{put_objects, put_single_object, put_wrong_object};
 use crate::options::Options;
+use crate::strays::stray_left;
 use crate::text::{put_each, put_single, put_wrong};
 use bus_frame::Frame;
 use log_courses::{Courses, Place};
@@ -114,7 +115,9 @@ fn take_frame(
 {
     counts.add_frame(frame, time < listener.decoder.time_on(iface));
     let mut told = Vec::new(alloc);
-    listener.decoder.take(alloc, time, iface, frame, &mut told)?;
+    let seen = listener.decoder.take(alloc, time, iface, frame, &mut told)?;
+    counts.add_stray(stray_left(&mut listener.awaited, seen, iface, frame)?);
+    listener.awaited.add_each(told.as_slice())?;
     counts.add_each(options, told.as_slice());
     let now = listener.decoder.time();
     let place = Place {
@@ -241,6 +244,7 @@ pub(crate) fn take_end(
     let Listener {
         decoder,
         mut courses,
+        awaited: _,
     } = listener;
     let place = Place {
         number: counts.frames,

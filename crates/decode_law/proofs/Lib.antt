@@ -14,3 +14,4 @@ mod Alone
 mod Through
 mod Gaps
 mod Lacking
+mod Examples

@@ -1,3 +1,4 @@
 pub mod Hearing
 pub mod Lines
 pub mod Lacking
+pub mod Examples

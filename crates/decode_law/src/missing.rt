@@ -2,6 +2,8 @@
 ghost use Rattle.pgn_ids.specs.declared.address.Address.{Address};
 ghost use Rattle.lane_core.specs.declared.message.Pending.{Pending};
 ghost use Rattle.decode_law.specs.Hearing.{IsSendable};
+ghost use Rattle.log_decode.specs.declared.told.Cause.TheVariants.{Missing, Acknowledged};
+ghost use Rattle.decode_law.specs.Examples.{Met};
 ghost use Rattle.decode_law.specs.Lacking.{IsToldRightly};
 
 use seg_cut::{joined_packets_are_the_message, packet_is_seven_places};
@@ -21,3 +23,10 @@ pub fn lacking_logs_tell_no_other_message()
     packet_is_seven_places();
     joined_packets_are_the_message();
 }
+
+/// The premises of that law can be met by a log that lacks a packet, with what it then says not being empty: a broadcast of nine bytes without its
+/// first packet, lost at the second one, and a connection of twenty bytes without its second packet, lost when its receiver acknowledges it.
+pub fn premises_can_be_met()
+    ensures broadcast { Met 9 0 Missing }
+    ensures connection { Met 20 7 Acknowledged }
+{}

@@ -10,7 +10,7 @@
 
 mod inputs;
 
-use bus_decode::{Decoded, Options, Wanted, run_decode};
+use bus_decode::{Decoded, Options, Strays, Wanted, run_decode};
 use bus_live::{Gate, run_live};
 use bus_node::{Node, Ran, run_node};
 use bus_relay::run_relay;
@@ -158,6 +158,10 @@ fn decode<R: Print + Eprint + AllocGlobal + Clock, I: Read + Drop>(
         eprintln!(rt; "{fault}")?;
     }
     let counts = decoded.counts;
+    let strays = counts.strays;
+    if strays != Strays::none() {
+        eprintln!(rt; "{strays}")?;
+    }
     eprintln!(rt; "{counts}")?;
     Ok(ExitCode::from(decoded.status()))
 }

@@ -1,6 +1,6 @@
 -- The courses of the messages under way, beside what a listener is told (SAE J1939-21, transport protocol; ISO 11783-3, extended transport
 -- protocol).
-use Rattle.std.specs.Prelude.{ℕ, List, [], ◌∷◌, Bool, true, false, ◌||◌, ◌==◌, if◌then◌else◌, Option, Some, None, fold}
+use Rattle.std.specs.Prelude.{ℕ, List, [], ◌∷◌, Bool, true, false, ◌||◌, ◌==◌, if◌then◌else◌, Option, Some, None}
 use Rattle.std.specs.Map.{lookup, remove_entry}
 use Rattle.indexmap.specs.IndexMap.{insert_entry}
 use Rattle.bus_frame.specs.Frames.{CanFrame}

@@ -129,7 +129,7 @@ fn transport_of(kind: Kind) -> Transport
 }
 
 /// The key of a message that goes from a node to another one.
-fn key_between(iface: Iface, from: Address, to: Address, kind: Kind) -> Key
+pub(crate) fn key_between(iface: Iface, from: Address, to: Address, kind: Kind) -> Key
     ensures { result ≡ key_between iface from to kind }
 {
     Key {

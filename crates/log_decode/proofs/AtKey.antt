@@ -1,6 +1,5 @@
 -- A message at its place in the map is that at its key.
-use Rattle.std.proofs.Common.{◌≡◌, ℕ, List, Option, Some, None, sym, ◌∙◌, ap, position, slice_get, Result, Ok, Err}
-use Rattle.std.specs.Prelude.{OnOk}
+use Rattle.std.proofs.Common.{◌≡◌, ℕ, List, Option, Some, None, sym, ◌∙◌, ap, position, slice_get}
 use Rattle.std.specs.Map.{keys_of, values_of}
 use Rattle.indexmap.specs.Layout.{set_value_at}
 use Rattle.indexmap.proofs.MapLemmas.{Found-position, Missing-position, insert_entry-first}
@@ -10,6 +9,8 @@ use Rattle.log_decode.specs.Session.{renewed}
 use Rattle.log_decode.specs.declared.key.Key.{Key}
 use Rattle.log_decode.specs.declared.session.Session.{Session}
 use Rattle.log_decode.specs.declared.session.Fate.{Fate}
+use Rattle.log_decode.specs.Stray.{packet_stray}
+use Rattle.log_decode.specs.declared.stray.Stray.TheVariants.{Packet}
 use Rattle.log_decode.specs.declared.told.Told.{Told}
 
 -- the message of a key by its place
@@ -45,7 +46,6 @@ renewed_there key now at es s t p v e = put_at key at es t p ∙ ap (λ x. put k
 pub renewed_nowhere : (key : Key) (now : ℕ) (es : Sessions) → session_at key es ≡ None → es ≡ renewed_at key now es
 renewed_nowhere key now es v = sym (ap (by_renewed key now es) v)
 
--- what a call that succeeds leaves, by another name
-pub named : {X E : Type 0} (r : Result X E) (x y z : Heard) → y ≡ z → OnOk r (x ≡ y) → OnOk r (x ≡ z)
-named (Ok done) x y z e h = h ∙ e
-named (Err error) x y z e h = tt
+-- a packet of it is no stray one
+pub packet_there : (key : Key) (es : Sessions) (s : Session) → session_at key es ≡ Some s → None ≡ packet_stray key es
+packet_there key es s v = sym (ap (λ o. elim o [ None ↦ Some Packet | Some t ↦ None ]) v)

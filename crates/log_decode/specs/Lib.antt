@@ -5,3 +5,4 @@ pub mod Due
 pub mod View
 pub mod Decoder
 pub mod Belonging
+pub mod Stray

@@ -2,6 +2,7 @@
 ghost use Rattle.std.specs.Prelude.{◌≡◌, ◌++◌, OnOk, IfOk};
 ghost use Rattle.log_decode.specs.Decoder.{goes_back, now_at, passed, bus_taken};
 ghost use Rattle.log_decode.specs.Due.{NoneDueBefore};
+ghost use Rattle.log_decode.specs.Stray.{left_at, bus_stray};
 ghost use Rattle.log_decode.specs.Sessions.{losses};
 ghost use Rattle.log_decode.specs.View.{new_bus};
 ghost use Rattle.log_decode.specs.declared.session.Fate.TheVariants.{Lost};
@@ -11,6 +12,7 @@ use crate::frames::take_frame;
 use crate::session::soonest;
 use crate::sessions::{Sessions, tell_all};
 use crate::silence::end_due;
+use crate::stray::Stray;
 use crate::told::{Cause, Told};
 use bus_frame::Frame;
 use indexmap::IndexMap;
@@ -81,6 +83,7 @@ fn pass(
     requires { NoneDueBefore due sessions.old.entries }
     ensures told { OnOk result ((sessions.new.entries, told.new.items) ≡ passed before time (sessions.old.entries, told.old.items)) }
     ensures next { IfOk result (λ due. NoneDueBefore due sessions.new.entries) }
+    ensures left { OnOk result (sessions.new.entries ≡ left_at before time sessions.old.entries) }
 {
     if goes_back(before, time) {
         tell_all(sessions, Cause::WentBack, told)?;
@@ -109,7 +112,7 @@ impl Bus {
         self.time
     }
 
-    /// A frame is seen.
+    /// A frame is seen. Answered is what it is if it is of a message that isn't under way.
     pub(crate) fn take(
         &mut self,
         alloc: Global,
@@ -118,8 +121,9 @@ impl Bus {
         iface: Iface,
         frame: &Frame,
         told: &mut Vec<Told>,
-    ) -> Result<(), AllocError>
-        ensures { OnOk result ((self.new, told.new.items) ≡ bus_taken self.old most time iface frame.now told.old.items) }
+    ) -> Result<Option<Stray>, AllocError>
+        ensures told { OnOk result ((self.new, told.new.items) ≡ bus_taken self.old most time iface frame.now told.old.items) }
+        ensures stray { IfOk result (λ stray. stray ≡ bus_stray self.old time iface frame.now) }
     {
         let now = now_at(self.time, time);
         let due = self.due;
@@ -127,9 +131,9 @@ impl Bus {
         self.due = 0;
         let due = pass(&mut self.sessions, due, self.time, time, told)?;
         self.time = now;
-        take_frame(alloc, &mut self.sessions, iface, frame, most, now, told)?;
+        let stray = take_frame(alloc, &mut self.sessions, iface, frame, most, now, told)?;
         self.due = due.min(soonest(now));
-        Ok(())
+        Ok(stray)
     }
 
     /// The log ends.

@@ -1,10 +1,12 @@
 //! A listener to a recorded bus.
-ghost use Rattle.std.specs.Prelude.{◌≡◌, [], ◌++◌, OnOk};
+ghost use Rattle.std.specs.Prelude.{◌≡◌, [], ◌++◌, OnOk, IfOk};
 ghost use Rattle.log_decode.specs.Decoder.{taken, ended};
+ghost use Rattle.log_decode.specs.Stray.{stray_seen};
 ghost use Rattle.log_decode.specs.View.{bus_at};
 
 use crate::bus::Bus;
 use crate::places::place_of;
+use crate::stray::Stray;
 use crate::told::Told;
 use bus_frame::Frame;
 use indexmap::IndexMap;
@@ -81,8 +83,10 @@ impl Decoder {
 
     /// A frame is seen on an interface, at so many microseconds. A time before that of the last frame of the interface is taken as that;
     /// but if it is more than a second before it, the clock was set back, and what was under way there is lost. First the messages of the
-    /// interface that have become silent are told, in the order in which they were announced, then what the frame tells. It fails only
-    /// where memory is refused.
+    /// interface that have become silent are told, in the order in which they were announced, then what the frame tells.
+    ///
+    /// It answers what the frame is if it is a packet, a CTS, a data packet offset or an end acknowledgement, and no message is under way
+    /// between its nodes by its transport, nor, for all but a packet, one of its PGN. It fails only where memory is refused.
     pub fn take(
         &mut self,
         alloc: Global,
@@ -90,23 +94,25 @@ impl Decoder {
         iface: Iface,
         frame: &Frame,
         told: &mut Vec<Told>,
-    ) -> Result<(), AllocError>
-        ensures { OnOk result ((self.new, told.new.items) ≡ taken self.old time iface frame.now told.old.items) }
+    ) -> Result<Option<Stray>, AllocError>
+        ensures told { OnOk result ((self.new, told.new.items) ≡ taken self.old time iface frame.now told.old.items) }
+        ensures stray { IfOk result (λ stray. stray ≡ stray_seen self.old time iface frame.now) }
     {
         match place_of(&self.buses, &iface) {
             Some(at) => {
                 let bus = &mut self.buses[at];
-                bus.take(alloc, self.most, time, iface, frame, told)?;
+                let stray = bus.take(alloc, self.most, time, iface, frame, told)?;
                 self.time = bus.time();
+                Ok(stray)
             }
             None => {
                 let mut bus = Bus::new(alloc);
-                bus.take(alloc, self.most, time, iface, frame, told)?;
+                let stray = bus.take(alloc, self.most, time, iface, frame, told)?;
                 self.time = bus.time();
                 self.buses.insert(iface, bus)?;
+                Ok(stray)
             }
         }
-        Ok(())
     }
 
     /// The log ends: each message that is still under way is told, by interface, and of each in the order in which they were announced. It

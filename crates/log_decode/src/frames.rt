@@ -1,9 +1,11 @@
 //! What a frame of an interface tells.
-ghost use Rattle.std.specs.Prelude.{◌≡◌, OnOk};
+ghost use Rattle.std.specs.Prelude.{◌≡◌, OnOk, IfOk};
 ghost use Rattle.log_decode.specs.Decoder.{tp_news, etp_news, both_aborted, aborted, cm_frame_taken, wire_taken, frame_taken};
+ghost use Rattle.log_decode.specs.Stray.{cm_frame_stray, wire_stray, frame_stray};
 
 use crate::key::Way;
 use crate::sessions::{News, Sessions, announce, is_of, take_abort, take_cm, take_packet};
+use crate::stray::Stray;
 use crate::told::Told;
 use bus_frame::Frame;
 use log_text::Iface;
@@ -75,8 +77,8 @@ fn take_both(
     Ok(())
 }
 
-/// A connection management frame.
-#[tactic(auto, unfolding(crate::specs::Decoder::cm_frame_taken))]
+/// A connection management frame. Answered is what it is if its message isn't under way.
+#[tactic(auto, unfolding(crate::specs::Decoder::cm_frame_taken, crate::specs::Stray::cm_frame_stray))]
 fn take_cm_frame(
     alloc: Global,
     sessions: &mut Sessions,
@@ -85,8 +87,9 @@ fn take_cm_frame(
     most: u32,
     now: u64,
     told: &mut Vec<Told>,
-) -> Result<(), AllocError>
-    ensures { OnOk result ((sessions.new.entries, told.new.items) ≡ cm_frame_taken way frame.now most now (sessions.old.entries, told.old.items)) }
+) -> Result<Option<Stray>, AllocError>
+    ensures told { OnOk result ((sessions.new.entries, told.new.items) ≡ cm_frame_taken way frame.now most now (sessions.old.entries, told.old.items)) }
+    ensures stray { IfOk result (λ stray. stray ≡ cm_frame_stray way frame.now sessions.old.entries) }
 {
     match frame {
         CmFrame::Rts {
@@ -96,32 +99,68 @@ fn take_cm_frame(
             ..
         } => {
             let news = tp_news(*pgn, *size, *packets);
-            announce(alloc, sessions, way.key(Kind::Tp), news, most, now, told)
+            announce(alloc, sessions, way.key(Kind::Tp), news, most, now, told)?;
         }
-        CmFrame::Cts { .. } => take_cm(sessions, way.back(Kind::Tp), frame, now, told),
-        CmFrame::EndOfMsgAck { .. } => take_cm(sessions, way.back(Kind::Tp), frame, now, told),
+        CmFrame::Cts { .. } => return take_cm(
+            sessions,
+            way.back(Kind::Tp),
+            Stray::Window,
+            frame,
+            now,
+            told,
+        ),
+        CmFrame::EndOfMsgAck { .. } => return take_cm(
+            sessions,
+            way.back(Kind::Tp),
+            Stray::Acknowledgement,
+            frame,
+            now,
+            told,
+        ),
         CmFrame::Bam { size, packets, pgn } => {
             let news = tp_news(*pgn, *size, *packets);
-            announce(alloc, sessions, way.key(Kind::Tp), news, most, now, told)
+            announce(alloc, sessions, way.key(Kind::Tp), news, most, now, told)?;
         }
         CmFrame::Abort { reason, pgn } => {
-            take_both(sessions, way, Kind::Tp, *reason, *pgn, told)
+            take_both(sessions, way, Kind::Tp, *reason, *pgn, told)?;
         }
         CmFrame::EtpRts { size, pgn } => {
             let news = etp_news(*pgn, *size);
-            announce(alloc, sessions, way.key(Kind::Etp), news, most, now, told)
+            announce(alloc, sessions, way.key(Kind::Etp), news, most, now, told)?;
         }
-        CmFrame::EtpCts { .. } => take_cm(sessions, way.back(Kind::Etp), frame, now, told),
-        CmFrame::EtpDpo { .. } => take_cm(sessions, way.key(Kind::Etp), frame, now, told),
-        CmFrame::EtpEoma { .. } => take_cm(sessions, way.back(Kind::Etp), frame, now, told),
+        CmFrame::EtpCts { .. } => return take_cm(
+            sessions,
+            way.back(Kind::Etp),
+            Stray::Window,
+            frame,
+            now,
+            told,
+        ),
+        CmFrame::EtpDpo { .. } => return take_cm(
+            sessions,
+            way.key(Kind::Etp),
+            Stray::Window,
+            frame,
+            now,
+            told,
+        ),
+        CmFrame::EtpEoma { .. } => return take_cm(
+            sessions,
+            way.back(Kind::Etp),
+            Stray::Acknowledgement,
+            frame,
+            now,
+            told,
+        ),
         CmFrame::EtpAbort { reason, pgn } => {
-            take_both(sessions, way, Kind::Etp, *reason, *pgn, told)
+            take_both(sessions, way, Kind::Etp, *reason, *pgn, told)?;
         }
     }
+    Ok(None)
 }
 
 /// A transport frame.
-#[tactic(auto, unfolding(crate::specs::Decoder::wire_taken))]
+#[tactic(auto, unfolding(crate::specs::Decoder::wire_taken, crate::specs::Stray::wire_stray))]
 fn take_wire(
     alloc: Global,
     sessions: &mut Sessions,
@@ -130,8 +169,9 @@ fn take_wire(
     most: u32,
     now: u64,
     told: &mut Vec<Told>,
-) -> Result<(), AllocError>
-    ensures { OnOk result ((sessions.new.entries, told.new.items) ≡ wire_taken way wire.now most now (sessions.old.entries, told.old.items)) }
+) -> Result<Option<Stray>, AllocError>
+    ensures told { OnOk result ((sessions.new.entries, told.new.items) ≡ wire_taken way wire.now most now (sessions.old.entries, told.old.items)) }
+    ensures stray { IfOk result (λ stray. stray ≡ wire_stray way wire.now sessions.old.entries) }
 {
     match wire {
         Wire::Cm(frame) => take_cm_frame(alloc, sessions, way, frame, most, now, told),
@@ -140,12 +180,13 @@ fn take_wire(
             sequence,
             bytes,
         } => take_packet(sessions, way.key(*kind), *sequence, *bytes, now, told),
-        Wire::Request { .. } => Ok(()),
-        Wire::Ack { .. } => Ok(()),
+        Wire::Request { .. } => Ok(None),
+        Wire::Ack { .. } => Ok(None),
     }
 }
 
-/// A frame is seen on an interface. One that means nothing to a transport tells nothing.
+/// A frame is seen on an interface. One that means nothing to a transport tells nothing. Answered is what it is if it is of a message that
+/// isn't under way.
 pub(crate) fn take_frame(
     alloc: Global,
     sessions: &mut Sessions,
@@ -154,11 +195,12 @@ pub(crate) fn take_frame(
     most: u32,
     now: u64,
     told: &mut Vec<Told>,
-) -> Result<(), AllocError>
-    ensures { OnOk result ((sessions.new.entries, told.new.items) ≡ frame_taken iface frame.now most now (sessions.old.entries, told.old.items)) }
+) -> Result<Option<Stray>, AllocError>
+    ensures told { OnOk result ((sessions.new.entries, told.new.items) ≡ frame_taken iface frame.now most now (sessions.old.entries, told.old.items)) }
+    ensures stray { IfOk result (λ stray. stray ≡ frame_stray iface frame.now sessions.old.entries) }
 {
     let Some((wire, from, to)) = read(frame) else {
-        return Ok(());
+        return Ok(None);
     };
     let way = Way { iface, from, to };
     take_wire(alloc, sessions, way, &wire, most, now, told)

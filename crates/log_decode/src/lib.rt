@@ -14,10 +14,12 @@ mod places;
 mod session;
 mod sessions;
 mod silence;
+mod stray;
 mod told;
 
 pub use decoder::Decoder;
 pub use key::{Key, Transport};
 pub use message_events::Bytes;
 pub use session::{CONNECTION_PATIENCE, Fate, Session};
+pub use stray::Stray;
 pub use told::{Cause, Told};

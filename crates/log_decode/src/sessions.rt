@@ -1,11 +1,14 @@
 //! The messages under way, in the order in which they were announced.
-ghost use Rattle.std.specs.Prelude.{◌≡◌, ◌++◌, OnOk, option_to_list};
+ghost use Rattle.std.specs.Prelude.{◌≡◌, ◌++◌, OnOk, IfOk, option_to_list};
 ghost use Rattle.log_decode.specs.Sessions.{settled, packet_taken, cm_taken, abort_taken, renewed_at, is_again_at, is_of, not_begun, opened_at, announced, losses};
 ghost use Rattle.log_decode.specs.declared.session.Fate.TheVariants.{Lost};
+ghost use Rattle.log_decode.specs.Stray.{packet_stray, cm_stray};
+ghost use Rattle.tp_wire.specs.Rows.{cm_pgn};
 
 use crate::key::Key;
 use crate::places::place_of;
 use crate::session::{Fate, Session};
+use crate::stray::{Stray, stray_unless};
 use crate::told::{Cause, Told};
 use indexmap::IndexMap;
 use pgn_ids::{Address, WirePgn};
@@ -51,31 +54,37 @@ pub(crate) fn take_packet(
     bytes: [u8; 7],
     now: u64,
     told: &mut Vec<Told>,
-) -> Result<(), AllocError>
-    ensures { OnOk result ((sessions.new.entries, told.new.items) ≡ packet_taken key sequence bytes now (sessions.old.entries, told.old.items)) }
+) -> Result<Option<Stray>, AllocError>
+    ensures told { OnOk result ((sessions.new.entries, told.new.items) ≡ packet_taken key sequence bytes now (sessions.old.entries, told.old.items)) }
+    ensures stray { IfOk result (λ stray. stray ≡ packet_stray key sessions.old.entries) }
 {
     let Some(at) = place_of(sessions, &key) else {
-        return Ok(());
+        return Ok(Some(Stray::Packet));
     };
     let fate = sessions[at].hear_packet(key.to, sequence, bytes, now)?;
-    settle(sessions, key, fate, told)
+    settle(sessions, key, fate, told)?;
+    Ok(None)
 }
 
-/// A connection management frame comes that is neither an announcement nor an abort.
+/// A connection management frame comes that is neither an announcement nor an abort, of this kind where its message isn't under way.
 pub(crate) fn take_cm(
     sessions: &mut Sessions,
     key: Key,
+    kind: Stray,
     frame: &CmFrame,
     now: u64,
     told: &mut Vec<Told>,
-) -> Result<(), AllocError>
-    ensures { OnOk result ((sessions.new.entries, told.new.items) ≡ cm_taken key frame.now now (sessions.old.entries, told.old.items)) }
+) -> Result<Option<Stray>, AllocError>
+    ensures told { OnOk result ((sessions.new.entries, told.new.items) ≡ cm_taken key frame.now now (sessions.old.entries, told.old.items)) }
+    ensures stray { IfOk result (λ stray. stray ≡ cm_stray kind key (cm_pgn frame.now) sessions.old.entries) }
 {
+    let is_of = is_of(sessions, key, frame.pgn());
     let Some(at) = place_of(sessions, &key) else {
-        return Ok(());
+        return Ok(Some(kind));
     };
     let fate = sessions[at].hear(frame, now);
-    settle(sessions, key, fate, told)
+    settle(sessions, key, fate, told)?;
+    Ok(stray_unless(is_of, kind))
 }
 
 /// An abort of a message of a PGN comes.

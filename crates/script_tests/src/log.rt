@@ -9,5 +9,6 @@ mod objects;
 mod progress;
 mod scripts;
 mod starts;
+mod strays;
 mod times;
 mod windows;

@@ -1,7 +1,7 @@
 //! Logs, and what is printed of them.
 use crate::checks::{got, holds, same};
 use crate::log::decoding::{all, prints};
-use bus_decode::{Counts, Decoded, Options};
+use bus_decode::{Counts, Decoded, Options, Strays};
 use std::alloc::Global;
 use std::process::Abort;
 
@@ -104,6 +104,7 @@ fn messages_that_are_not_given_are_told(rt: HostRuntime) {
         earlier: 1,
         transport: 15,
         malformed: 1,
+        strays: Strays::none(),
         messages: 0,
         aborted: 2,
         lost: 6,

@@ -8,8 +8,8 @@ use Rattle.log_decode.proofs.bus.Bus.take.Goals as goal
 pub invariant_of-self : goal.invariant_of-self
 invariant_of-self c = from_zero c.pass.new.sessions.entries
 
-pub invariant_of-self-in_err-take_frame : goal.invariant_of-self-in_err-take_frame
-invariant_of-self-in_err-take_frame c = from_zero c.take_frame.new.sessions.entries
+pub invariant_of-self-in_err-stray : goal.invariant_of-self-in_err-stray
+invariant_of-self-in_err-stray c = from_zero c.take_frame.new.sessions.entries
 
 pub invariant_of-self-2 : goal.invariant_of-self-2
 invariant_of-self-2 c =
@@ -17,4 +17,4 @@ invariant_of-self-2 c =
     let soon : due ≤ c.now_at-now.result + T1 * 1000 = omega (arith, c.soonest.ensures) in
     let before = sooner c.in_ok-due.due due c.pass.new.sessions.entries (omega arith) c.in_ok-due.ensures.next in
     let after = at_frame c.args.iface c.args.frame.now c.args.most c.now_at-now.result due (c.pass.new.sessions.entries, c.pass.new.told.items) soon before in
-    subst (λ h. NoneDueBefore due h.0) (sym c.in_ok-take_frame.ensures) after
+    subst (λ h. NoneDueBefore due h.0) (sym c.in_ok-stray.ensures.told) after

@@ -1,0 +1,29 @@
+-- Logs that meet the premises of the law of logs that lack frames.
+use Rattle.std.specs.Prelude.{◌≡◌, ℕ, ◌+◌, List, [], ◌∷◌, length}
+use Rattle.log_text.specs.declared.iface.Iface.{Iface}
+use Rattle.pgn_ids.specs.Pgn.{clean}
+use Rattle.pgn_ids.specs.declared.address.Address.{Address}
+use Rattle.lane_core.specs.declared.message.Pending.{Pending}
+use Rattle.segment_law.specs.Quiet.{quiet}
+use Rattle.log_decode.specs.Belonging.{told_of_key}
+use Rattle.log_decode.specs.View.{State}
+use Rattle.log_decode.specs.declared.told.Cause.{Cause}
+use Rattle.log_decode.specs.declared.told.Told.TheVariants.{Lost}
+use Rattle.decode_law.specs.Hearing.{IsSendable, key_for}
+use Rattle.decode_law.specs.Lacking.{Entry, told_to_end, frames_of, LacksFrames}
+
+-- there are a listener, a message of so many bytes, and a log of which all premises hold. The log has all of the message's frames but one, and one
+-- that is of no such message; told is that the message is lost for this cause, when so many of its bytes had come
+pub record Met (len have : ℕ) (cause : Cause) : Type 0 where
+  pub m : Pending
+  pub s : Address
+  pub d : Address
+  pub l : State
+  pub iface : Iface
+  pub log : List Entry
+  pub sendable : IsSendable m s d
+  pub lacks : LacksFrames l iface m s d log
+  pub long : length m.bytes ≡ len
+  pub all_but_one : length (frames_of (key_for iface m s d) log) + 1 ≡ length (quiet m s d)
+  pub others : length (frames_of (key_for iface m s d) log) + 1 ≡ length log
+  pub told : told_of_key (key_for iface m s d) (told_to_end l log) ≡ Lost (key_for iface m s d) (clean m.pgn) have len cause ∷ []
