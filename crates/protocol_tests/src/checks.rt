@@ -16,6 +16,11 @@ pub(crate) fn same<T: PartialEq + Debug + Drop>(rt: &impl Abort, value: T, expec
     assert_eq!(rt; value, expected);
 }
 
+/// Ends the test where this doesn't hold of a frame with this identifier, and says of which.
+pub(crate) fn holds_at(rt: &impl Abort, id: u32, fact: bool) {
+    assert!(rt; fact, "at {id:08X}");
+}
+
 /// What was made. Ends the test where it wasn't, and says why.
 pub(crate) fn got<T, E: Debug + Drop>(rt: &impl Abort, made: Result<T, E>) -> T
     ensures { made ≡ Ok result }

@@ -1,5 +1,6 @@
 use crate::checks::{got, holds, same};
 use bus_frame::*;
+use std::process::Abort;
 
 #[test]
 fn identifiers_and_their_parts(rt: HostRuntime) {
@@ -20,18 +21,21 @@ fn identifiers_and_their_parts(rt: HostRuntime) {
     holds(&rt, CanId::from_parts(parts) == eec1);
 }
 
+const BYTES: [u8; 9] = [0x00, 0xEE, 0x00, 4, 5, 6, 7, 8, 9];
+
+fn holds_bytes(rt: &impl Abort, id: CanId, bytes: &[u8]) {
+    let frame = got(rt, Frame::new(id, bytes));
+    holds(rt, frame.id() == id);
+    same(rt, frame.bytes(), bytes);
+}
+
 #[test]
 fn frames_hold_up_to_eight_bytes(rt: HostRuntime) {
     let id = got(&rt, CanId::new(0x18EA_FF21));
-    let bytes = [0x00, 0xEE, 0x00, 4, 5, 6, 7, 8, 9];
-    holds(&rt, Frame::new(id, &bytes) == Err(DataTooLong));
+    holds(&rt, Frame::new(id, &BYTES) == Err(DataTooLong));
     for len in 0..9usize {
-        let frame = got(&rt, Frame::new(id, &bytes[..len]));
-        holds(&rt, frame.id() == id);
-        holds(&rt, frame.bytes() == &bytes[..len]);
+        holds_bytes(&rt, id, &BYTES[..len]);
     }
-    holds(
-        &rt,
-        Frame::full(id, [1; 8]) == got(&rt, Frame::new(id, &[1; 8])),
-    );
+    let full = Frame::full(id, [1; 8]);
+    holds(&rt, full == got(&rt, Frame::new(id, &[1; 8])));
 }

@@ -55,28 +55,50 @@ fn resume(table: &mut PortTable, number: u64) -> Result<(), Refused> {
     table.resume(number)
 }
 
+// The ports that a message of so many bytes is given to are these.
+fn finds(rt: &impl Abort, table: &PortTable, pgn: Pgn, len: u32, numbers: &[u64]) {
+    shows(rt, &find(table, pgn, len), numbers);
+}
+
+fn closes(rt: &impl Abort, table: &mut PortTable, number: u64, answer: Result<(), Refused>) {
+    holds(rt, close(table, number) == answer);
+}
+
+fn pauses(rt: &impl Abort, table: &mut PortTable, number: u64, answer: Result<(), Refused>) {
+    holds(rt, pause(table, number) == answer);
+}
+
+fn resumes(rt: &impl Abort, table: &mut PortTable, number: u64, answer: Result<(), Refused>) {
+    holds(rt, resume(table, number) == answer);
+}
+
 // A test's steps are a function of their own, which owns nothing: where a step can end a test, what the test owns is dropped there, and each
 // such place takes its part of the proof.
 fn find_several(rt: &impl Abort, table: &mut PortTable, pgn: Pgn) {
-    for (number, max_len) in [(1, 4000), (2, 8), (3, 4000)] {
-        opens(rt, table, pgn, max_len, Ok(number));
-    }
+    opens(rt, table, pgn, 4000, Ok(1));
+    opens(rt, table, pgn, 8, Ok(2));
+    opens(rt, table, pgn, 4000, Ok(3));
     holds(rt, table.station() == STATION && table.len() == 3);
-    shows(rt, &find(table, pgn, 8), &[1, 2, 3]);
-    shows(rt, &find(table, pgn, 4001), &[]);
-    shows(rt, &find(table, got(rt, Pgn::new(0xFECB)), 9), &[]);
+    finds(rt, table, pgn, 8, &[1, 2, 3]);
+    finds(rt, table, pgn, 4001, &[]);
+    finds(rt, table, got(rt, Pgn::new(0xFECB)), 9, &[]);
+}
+
+// What was found stays as it was found.
+fn close_first(rt: &impl Abort, table: &mut PortTable, pgn: Pgn) {
+    let both = find(table, pgn, 9);
+    shows(rt, &both, &[1, 3]);
+    closes(rt, table, 1, Ok(()));
+    shows(rt, &both.without(1), &[3]);
 }
 
 fn close_one_of_several(rt: &impl Abort, table: &mut PortTable, pgn: Pgn) {
-    let both = find(table, pgn, 9);
-    shows(rt, &both, &[1, 3]);
-    holds(rt, close(table, 1) == Ok(()));
-    holds(rt, close(table, 1) == Err(Refused::NoSuchPort));
+    close_first(rt, table, pgn);
+    closes(rt, table, 1, Err(Refused::NoSuchPort));
     holds(rt, !table.is_open(1) && table.get(1).is_none());
-    shows(rt, &both.without(1), &[3]);
-    shows(rt, &find(table, pgn, 9), &[3]);
+    finds(rt, table, pgn, 9, &[3]);
     opens(rt, table, pgn, 9, Ok(4));
-    shows(rt, &find(table, pgn, 9), &[3, 4]);
+    finds(rt, table, pgn, 9, &[3, 4]);
 }
 
 #[test]
@@ -88,11 +110,15 @@ fn several_ports_of_one_pgn(rt: HostRuntime) {
     close_one_of_several(&rt, &mut table, pgn);
 }
 
-fn pause_port(rt: &impl Abort, table: &mut PortTable, pgn: Pgn) {
-    let set = find(table, pgn, 1785);
-    holds(rt, resume(table, 1) == Err(Refused::PortNotPaused));
-    holds(rt, pause(table, 1) == Ok(()));
-    holds(rt, pause(table, 1) == Err(Refused::PortPaused));
+// Whether a port of those that were found is paused.
+fn is_any_paused(rt: &impl Abort, table: &PortTable, found: &PortSet, is_paused: bool) {
+    same(rt, table.any_paused(found), is_paused);
+}
+
+fn pause_port(rt: &impl Abort, table: &mut PortTable, pgn: Pgn, found: &PortSet) {
+    resumes(rt, table, 1, Err(Refused::PortNotPaused));
+    pauses(rt, table, 1, Ok(()));
+    pauses(rt, table, 1, Err(Refused::PortPaused));
     let port = Port {
         number: 1,
         pgn,
@@ -101,43 +127,47 @@ fn pause_port(rt: &impl Abort, table: &mut PortTable, pgn: Pgn) {
     };
     holds(rt, table.get(1) == Some(port));
     holds(rt, table.is_paused(1));
-    holds(
-        rt,
-        table.any_paused(&set) && !table.any_paused(&PortSet::empty()),
-    );
-    shows(rt, &find(table, pgn, 1785), &[1]);
+    is_any_paused(rt, table, found, true);
+    is_any_paused(rt, table, &PortSet::empty(), false);
+    finds(rt, table, pgn, 1785, &[1]);
 }
 
-fn resume_port(rt: &impl Abort, table: &mut PortTable, pgn: Pgn) {
-    let set = find(table, pgn, 1785);
-    holds(rt, resume(table, 1) == Ok(()));
-    holds(rt, !table.any_paused(&set));
-    holds(rt, close(table, 1) == Ok(()));
-    holds(rt, pause(table, 1) == Err(Refused::NoSuchPort));
-    holds(rt, resume(table, 1) == Err(Refused::NoSuchPort));
+fn resume_port(rt: &impl Abort, table: &mut PortTable, found: &PortSet) {
+    resumes(rt, table, 1, Ok(()));
+    is_any_paused(rt, table, found, false);
+    closes(rt, table, 1, Ok(()));
+    pauses(rt, table, 1, Err(Refused::NoSuchPort));
+    resumes(rt, table, 1, Err(Refused::NoSuchPort));
+}
+
+fn pause_and_resume(rt: &impl Abort, table: &mut PortTable, pgn: Pgn) {
+    opens(rt, table, pgn, 1785, Ok(1));
+    let found = find(table, pgn, 1785);
+    pause_port(rt, table, pgn, &found);
+    resume_port(rt, table, &found);
 }
 
 #[test]
 fn a_paused_port_is_found_and_holds(rt: HostRuntime) {
-    let pgn = got(&rt, Pgn::new(0xFECA));
     let mut table = new_table(&rt, rt.alloc());
-    opens(&rt, &mut table, pgn, 1785, Ok(1));
-    pause_port(&rt, &mut table, pgn);
-    resume_port(&rt, &mut table, pgn);
+    pause_and_resume(&rt, &mut table, got(&rt, Pgn::new(0xFECA)));
+}
+
+fn open_sixteen(rt: &impl Abort, table: &mut PortTable, pgn: Pgn) {
+    for number in 1..=16 {
+        opens(rt, table, pgn, 9, Ok(number));
+    }
+    opens(rt, table, pgn, 9, Err(Refused::PortsFull));
+    same(rt, find(table, pgn, 9).len(), 16);
+    closes(rt, table, 7, Ok(()));
+    opens(rt, table, pgn, 9, Ok(17));
+    opens(rt, table, pgn, 9, Err(Refused::PortsFull));
 }
 
 #[test]
 fn sixteen_ports(rt: HostRuntime) {
-    let pgn = got(&rt, Pgn::new(0xEF00));
     let mut table = new_table(&rt, rt.alloc());
-    for number in 1..=16 {
-        opens(&rt, &mut table, pgn, 9, Ok(number));
-    }
-    opens(&rt, &mut table, pgn, 9, Err(Refused::PortsFull));
-    same(&rt, find(&table, pgn, 9).len(), 16);
-    same(&rt, close(&mut table, 7), Ok(()));
-    opens(&rt, &mut table, pgn, 9, Ok(17));
-    opens(&rt, &mut table, pgn, 9, Err(Refused::PortsFull));
+    open_sixteen(&rt, &mut table, got(&rt, Pgn::new(0xEF00)));
 }
 
 fn is_of(image: &PortsImage, table: &PortTable) -> bool {
@@ -151,9 +181,9 @@ fn show(rt: &impl Abort, alloc: Global, table: &mut PortTable, pgn: Pgn) {
     holds(rt, !is_of(&none, table));
     let one = got(rt, table.image(alloc));
     holds(rt, is_of(&one, table));
-    holds(rt, pause(table, 1) == Ok(()));
+    pauses(rt, table, 1, Ok(()));
     holds(rt, !is_of(&one, table));
-    holds(rt, close(table, 1) == Ok(()));
+    closes(rt, table, 1, Ok(()));
     // None is open, as before the first was opened, but one number was used.
     holds(rt, !is_of(&none, table));
 }

@@ -1,4 +1,4 @@
-use crate::checks::{got, holds, same};
+use crate::checks::{got, holds, holds_at, same};
 use bus_frame::{CanId, Frame};
 use pgn_ids::{Address, WirePgn, read_id};
 use std::process::Abort;
@@ -59,6 +59,19 @@ fn means(frame: &Frame, wire: &Wire, from: Address, to: Address) -> bool {
         && is_heard(frame, wire, from, to)
 }
 
+// Calls of which a test only looks at the answer: their contracts are not carried through it.
+fn is_of_transport(frame: &Frame) -> bool {
+    is_transport(frame)
+}
+
+fn has_meaning(frame: &Frame) -> bool {
+    read(frame).is_some()
+}
+
+fn has_meaning_in_place(frame: &Frame) -> bool {
+    read_in_place(frame, &read_id(frame.id())).is_some()
+}
+
 /// The source and the destination of a frame.
 type Ends = (u8, u8);
 
@@ -74,11 +87,8 @@ const B_TO_ALL: Ends = (0x35, 0xFF);
 fn is_row(rt: &impl Abort, id: u32, bytes: [u8; 8], wire: Wire, ends: Ends) {
     let frame = frame_of(rt, id, &bytes);
     let (from, to) = ends;
-    assert!(rt; is_transport(&frame), "at {id:08X}");
-    assert!(rt;
-        means(&frame, &wire, Address(from), Address(to)),
-        "at {id:08X}"
-    );
+    holds_at(rt, id, is_of_transport(&frame));
+    holds_at(rt, id, means(&frame, &wire, Address(from), Address(to)));
 }
 
 #[test]
@@ -252,43 +262,57 @@ fn the_row_of_an_acknowledgement(rt: HostRuntime) {
     )
 }
 
-// A frame of these bytes has this meaning, whatever is written for it.
-fn is_read_as(rt: &impl Abort, id: u32, bytes: &[u8], wire: &Wire, ends: Ends) {
-    let frame = frame_of(rt, id, bytes);
-    let (from, to) = ends;
-    let is_so = match read(&frame) {
+// Whether it is read so, whatever is written for it.
+fn is_read_as(frame: &Frame, wire: &Wire, (from, to): Ends) -> bool {
+    match read(frame) {
         Some((read_wire, source, destination)) => {
             read_wire == *wire && source.0 == from && destination.0 == to
         }
         None => false,
+    }
+}
+
+const REQUEST: [u8; 8] = [0x00, 0xEC, 0x00, 0xFF, 0xFF, 0xFF, 0xFF, 0xFF];
+
+fn is_request(rt: &impl Abort, from: u8, len: usize) {
+    let id = 0x18EA_3500 + u32::from(from);
+    let request = Wire::Request {
+        pgn: got(rt, WirePgn::new(0xEC00)),
     };
-    assert!(rt; is_so, "at {id:08X}, of {} bytes", bytes.len());
+    holds(rt, len <= 8);
+    let frame = frame_of(rt, id, &REQUEST[..len]);
+    let is_so = is_read_as(&frame, &request, (from, 0x35));
+    same(rt, (from, len, is_so), (from, len, true));
 }
 
 #[test]
 fn requests_are_read_by_three_bytes(rt: HostRuntime) {
     let pgn = got(&rt, WirePgn::new(0xEC00));
     let request = Wire::Request { pgn };
-    let padded = [0x00, 0xEC, 0x00, 0xFF, 0xFF, 0xFF, 0xFF, 0xFF];
-    let frame = frame_of(&rt, 0x18EA_3521, &padded[..3]);
+    let frame = frame_of(&rt, 0x18EA_3521, &REQUEST[..3]);
     holds(&rt, write(request, Address(0x21), Address(0x35)) == frame);
-    for from in [0x21, 0xFE] {
-        for len in 3..9usize {
-            let id = 0x18EA_3500 + u32::from(from);
-            is_read_as(&rt, id, &padded[..len], &request, (from, 0x35));
-        }
+    for len in 3..9usize {
+        is_request(&rt, 0x21, len);
+        is_request(&rt, 0xFE, len);
     }
+}
+
+fn is_abort(rt: &impl Abort, id: u32, reserved: u8) {
+    let abort = Wire::Cm(CmFrame::Abort {
+        reason: 2,
+        pgn: got(rt, WirePgn::new(DM1)),
+    });
+    let bytes = [0xFF, 0x02, reserved, reserved, reserved, 0xCA, 0xFE, 0x00];
+    let frame = frame_of(rt, id, &bytes);
+    holds_at(rt, id, is_read_as(&frame, &abort, A_TO_B));
 }
 
 #[test]
 fn reserved_bytes_and_priorities_may_be_any(rt: HostRuntime) {
-    let pgn = got(&rt, WirePgn::new(DM1));
-    let abort = Wire::Cm(CmFrame::Abort { reason: 2, pgn });
-    for id in [0x1CEC_3521, 0x18EC_3521, 0x00EC_3521] {
-        for reserved in [0x00, 0x5A, 0xFF] {
-            let bytes = [0xFF, 0x02, reserved, reserved, reserved, 0xCA, 0xFE, 0x00];
-            is_read_as(&rt, id, &bytes, &abort, A_TO_B);
-        }
+    for id in &[0x1CEC_3521, 0x18EC_3521, 0x00EC_3521] {
+        is_abort(&rt, *id, 0x00);
+        is_abort(&rt, *id, 0x5A);
+        is_abort(&rt, *id, 0xFF);
     }
 }
 
@@ -301,11 +325,14 @@ const BAM: [u8; 8] = [0x20, 0x09, 0x00, 0x02, 0xFF, 0xCA, 0xFE, 0x00];
 // A frame of a PGN of the frame table that is no row of it.
 fn is_malformed(rt: &impl Abort, id: u32, bytes: &[u8]) {
     let frame = frame_of(rt, id, bytes);
-    assert!(rt; read(&frame) == None && is_transport(&frame), "at {id:08X}");
-    assert!(rt;
-        read_in_place(&frame, &read_id(frame.id())).is_none(),
-        "at {id:08X}"
-    );
+    holds_at(rt, id, !has_meaning(&frame) && is_of_transport(&frame));
+    holds_at(rt, id, !has_meaning_in_place(&frame));
+}
+
+// A frame of a PGN that the frame table doesn't have.
+fn is_foreign(rt: &impl Abort, id: u32) {
+    let frame = frame_of(rt, id, &CTS);
+    holds_at(rt, id, !has_meaning(&frame) && !is_of_transport(&frame));
 }
 
 #[test]
@@ -324,48 +351,49 @@ fn malformed_bytes_have_no_meaning(rt: HostRuntime) {
 #[test]
 fn malformed_addresses_have_no_meaning(rt: HostRuntime) {
     // A CTS to all, to the null address and from it, a BAM to one node, a packet of ETP to all, and a Request from all.
-    let request = [0x00, 0xEC, 0x00, 0xFF, 0xFF, 0xFF, 0xFF, 0xFF];
     is_malformed(&rt, 0x1CEC_FF80, &CTS);
     is_malformed(&rt, 0x1CEC_FE80, &CTS);
     is_malformed(&rt, 0x1CEC_35FE, &CTS);
     is_malformed(&rt, 0x1CEC_3580, &BAM);
     is_malformed(&rt, 0x1CC7_FF80, &PACKET);
-    is_malformed(&rt, 0x18EA_35FF, &request)
+    is_malformed(&rt, 0x18EA_35FF, &REQUEST)
 }
 
 #[test]
 fn other_traffic_has_no_meaning(rt: HostRuntime) {
     // The data page, the extended data page, and a frame of another PGN.
-    for id in [0x1DEC_3521, 0x1EEC_3521, 0x0CF0_0400] {
-        let frame = frame_of(&rt, id, &[0x11, 0x01, 0x01, 0xFF, 0xFF, 0xCA, 0xFE, 0x00]);
-        assert!(rt;
-            read(&frame) == None && !is_transport(&frame),
-            "at {id:08X}"
-        );
-    }
+    is_foreign(&rt, 0x1DEC_3521);
+    is_foreign(&rt, 0x1EEC_3521);
+    is_foreign(&rt, 0x0CF0_0400)
 }
 
-#[test]
-fn fields_of_a_meaning(rt: HostRuntime) {
-    let pgn = got(&rt, WirePgn::new(DM1));
+fn has_fields(rt: &impl Abort, wire: &Wire, kind: Option<Kind>, pgn: Option<WirePgn>) {
+    holds(rt, wire.kind() == kind);
+    holds(rt, wire.pgn() == pgn);
+}
+
+fn fields_of_an_offset(rt: &impl Abort, pgn: WirePgn) {
     let dpo = CmFrame::EtpDpo {
         packets: 64,
         offset: 192,
         pgn,
     };
-    holds(&rt, dpo.kind() == Kind::Etp && dpo.pgn() == pgn);
-    holds(
-        &rt,
-        Wire::Cm(dpo).kind() == Some(Kind::Etp) && Wire::Cm(dpo).pgn() == Some(pgn),
-    );
+    holds(rt, dpo.kind() == Kind::Etp);
+    holds(rt, dpo.pgn() == pgn);
+    has_fields(rt, &Wire::Cm(dpo), Some(Kind::Etp), Some(pgn));
+}
+
+#[test]
+fn fields_of_a_meaning(rt: HostRuntime) {
+    let pgn = got(&rt, WirePgn::new(DM1));
+    fields_of_an_offset(&rt, pgn);
     let packet = Wire::Packet {
         kind: Kind::Tp,
         sequence: 1,
         bytes: [0xFF; 7],
     };
-    holds(&rt, packet.kind() == Some(Kind::Tp) && packet.pgn() == None);
-    let request = Wire::Request { pgn };
-    holds(&rt, request.kind() == None && request.pgn() == Some(pgn));
+    has_fields(&rt, &packet, Some(Kind::Tp), None);
+    has_fields(&rt, &Wire::Request { pgn }, None, Some(pgn));
     same(&rt, AbortReason::Timeout.byte(), 3);
     same(&rt, AbortReason::Other.byte(), 250);
 }
