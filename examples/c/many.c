@@ -178,7 +178,7 @@ static void lose(struct side *to, uint32_t service) {
 static int bring(struct side *to, uint32_t service) {
     int any = 0;
     for (uint32_t n = chance(to->count + 1); n; n--, any = 1) {
-        if (!chance(5000)) to->losing = 1 + chance(6);
+        if (!chance(2000)) to->losing = 1 + chance(6);
         if (to->losing) {
             lose(to, service);
         } else {

@@ -13,7 +13,7 @@ abbrev pub Brings : (before after : Post) → Delivery → Type 0
 Brings before after d = ((before.held ≡ Some d) × (after.inbox ≡ before.inbox) × (after.rest ≡ before.rest))
     ⊎ (((before.held ≡ None) × (before.rest.items ≡ d ∷ after.rest.items) × (after.inbox ≡ before.inbox))
     ⊎ ((before.held ≡ None) × (before.rest.items ≡ []) × (after.rest ≡ before.rest)
-        × ((i : InboxEnd) × (spare : ℕ) × (before.inbox ≡ Some i) × (after.inbox ≡ Some (receives i d spare)))))
+    × ((i : InboxEnd) × (spare : ℕ) × (before.inbox ≡ Some i) × (after.inbox ≡ Some (receives i d spare)))))
 
 -- a message was copied to the front of the room, and is gone; one that is too long is shown, and held; else nothing was there, or there
 -- was no memory to take it out of the ring

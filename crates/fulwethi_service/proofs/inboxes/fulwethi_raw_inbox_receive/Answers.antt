@@ -1,4 +1,4 @@
-use Rattle.std.proofs.Common.{◌≡◌, ◌∙◌, ap, sym, Some}
+use Rattle.std.proofs.Common.{◌∙◌, ap, sym, Some}
 use Rattle.fulwethi_service.specs.declared.post.Post.{Post}
 use Rattle.fulwethi_service.proofs.inboxes.fulwethi_raw_inbox_receive.Goals as goal
 

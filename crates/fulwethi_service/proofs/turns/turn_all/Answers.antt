@@ -1,5 +1,4 @@
-use Rattle.std.proofs.Common.{◌≡◌, ◌+◌, subst, ℕ, inr, arith}
-use Rattle.segment_shared.specs.LiveView.{LiveView}
+use Rattle.std.proofs.Common.{◌+◌, subst, ℕ, inr, arith}
 use Rattle.fulwethi_service.specs.Turned.{IsRound}
 use Rattle.fulwethi_service.proofs.Rounds.{rounds_more}
 use Rattle.fulwethi_service.proofs.turns.turn_all.Goals as goal
