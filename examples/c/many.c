@@ -13,6 +13,7 @@
 #include <stdio.h>
 #include <stdlib.h>
 #include <string.h>
+#include <time.h>
 
 enum { SERVICES = 2, STATIONS = 4, CLIENTS = 16, ENDS = SERVICES * STATIONS * CLIENTS, THREADS = 32, PGN = 0xFF00, MOST = 300, WIRE = 64, TRIES = 64 };
 
@@ -70,27 +71,30 @@ static void count_under_lock(uint32_t *count) {
 static uint8_t address_of(uint32_t number) { return (uint8_t)(0x20 + number / CLIENTS); }
 static uint32_t partner_of(uint32_t number) { return (number + ENDS / 2) % ENDS; }
 
-/* Submits a message, if so many more are wanted and the ring has a place. */
-static void submit(uint32_t number) {
+/* Submits a message, if so many more are wanted and the ring has a place; 0 if it didn't. */
+static int submit(uint32_t number) {
     struct end *end = &ends[number];
     uint8_t bytes[MOST];
     uint64_t ticket;
-    if (end->done + end->open >= wanted) return;
+    if (end->done + end->open >= wanted) return 0;
     uint32_t next = end->tickets + 1;
     size_t len = length_of(number, next);
     for (size_t i = 0; i < len; i++) bytes[i] = byte_of(number, next, i);
     uint32_t code = fulwethi_client_submit(&end->client, address_of(partner_of(number)), PGN + number % CLIENTS, bytes, len, &ticket);
-    if (code == FULWETHI_RING_FULL) return;
+    if (code == FULWETHI_RING_FULL) return 0;
     WANT(code == FULWETHI_DONE && ticket == next && next < sizeof end->acknowledged);
     end->tickets = next;
     end->open++;
+    return 1;
 }
 
-static void read_outcomes(uint32_t number) {
+/* How many outcomes there were. */
+static int read_outcomes(uint32_t number) {
     struct end *end = &ends[number];
     struct fulwethi_note note;
     uint32_t code;
-    while ((code = fulwethi_client_outcome(&end->client, &note)) == FULWETHI_DONE) {
+    int count = 0;
+    for (; (code = fulwethi_client_outcome(&end->client, &note)) == FULWETHI_DONE; count++) {
         WANT(note.ticket == ++end->notes && note.to == address_of(partner_of(number)) && end->open > 0);
         end->open--;
         if (note.outcome != FULWETHI_ACKNOWLEDGED) continue;
@@ -98,32 +102,35 @@ static void read_outcomes(uint32_t number) {
         if (++end->done == wanted) count_under_lock(&done_clients);
     }
     WANT(code == FULWETHI_NOTHING);
+    return count;
 }
 
-static void receive(uint32_t number) {
+/* How many messages there were. */
+static int receive(uint32_t number) {
     struct end *end = &ends[number];
     struct fulwethi_message message;
     uint8_t room[MOST];
     uint32_t code, from = partner_of(number);
-    while ((code = fulwethi_inbox_receive(&end->inbox, room, 9, &message)) != FULWETHI_NOTHING) {
+    int count = 0;
+    for (; (code = fulwethi_inbox_receive(&end->inbox, room, 9, &message)) != FULWETHI_NOTHING; count++) {
         if (code == FULWETHI_TOO_LITTLE_ROOM) code = fulwethi_inbox_receive(&end->inbox, room, message.len, &message);
         WANT(code == FULWETHI_DONE && message.from == address_of(from) && message.to == address_of(number) && message.pgn == PGN + number % CLIENTS);
         uint32_t ticket = room[0] | room[1] << 8 | room[2] << 16 | (uint32_t)room[3] << 24;
         WANT(ticket > 0 && ticket < sizeof end->received && message.len == length_of(from, ticket) && !end->received[ticket]++);
         for (size_t i = 0; i < message.len; i++) WANT(room[i] == byte_of(from, ticket, i));
     }
+    return count;
 }
 
 /* A thread has each 32nd client, and as many inboxes; it ends once all clients of all threads have what they want. */
 static void *work(void *given) {
-    for (int is_last = 0; ; sched_yield()) {
-        for (uint32_t number = (uint32_t)(size_t)given; number < ENDS; number += THREADS) {
-            submit(number);
-            read_outcomes(number);
-            receive(number);
-        }
+    static const struct timespec moment = {.tv_nsec = 100000};
+    for (int is_last = 0; ; ) {
+        int any = 0;
+        for (uint32_t number = (uint32_t)(size_t)given; number < ENDS; number += THREADS) any += submit(number) + read_outcomes(number) + receive(number);
         if (is_last) break;
         is_last = read_under_lock(&done_clients) == ENDS;
+        if (!any) nanosleep(&moment, NULL);
     }
     count_under_lock(&done_threads);
     return NULL;
