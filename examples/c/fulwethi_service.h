@@ -91,7 +91,7 @@ static inline void fulwethi_service_free(struct fulwethi_service *service) {
     service->ptr = NULL;
 }
 
-/* Makes a client of a station. NO_SUCH_STATION, CLIENTS_FULL (16 were made at it). NO_MEMORY: one of the 16 may be used up. */
+/* Makes a client of a station. NO_SUCH_STATION, CLIENTS_FULL (16 were made at it), NO_MEMORY. */
 static inline uint32_t fulwethi_service_attach(struct fulwethi_service *service, uint8_t station, struct fulwethi_client *client) {
     return fulwethi_raw_service_attach(*service, station, client, service);
 }

@@ -284,6 +284,14 @@ static void go_on(struct pair *pair) {
     if (!made) AGAIN(fulwethi_service_clock(&pair->service, ++pair->tick));
 }
 
+/* A station has 16 clients in all, also if there was no memory for one at first. */
+static void fill_station(struct pair *pair) {
+    struct fulwethi_client others[CLIENTS - 1] = {0}, more = {0};
+    for (int k = 0; k < CLIENTS - 1; k++) AGAIN(fulwethi_service_attach(&pair->service, 0x21, &others[k]));
+    WANT(fulwethi_service_attach(&pair->service, 0x21, &more) == FULWETHI_CLIENTS_FULL && !more.ptr);
+    for (int k = 0; k < CLIENTS - 1; k++) fulwethi_client_free(&others[k]);
+}
+
 /* Three messages are sent, the last one to all, and the inbox is closed before it is emptied. */
 static void exchange(struct pair *pair) {
     static const uint8_t addresses[2] = {0x21, 0x35}, foreign[8] = {0};
@@ -295,6 +303,7 @@ static void exchange(struct pair *pair) {
     memset(pair, 0, sizeof *pair);
     AGAIN(fulwethi_service_new(&pair->service, addresses, 2));
     AGAIN(fulwethi_service_attach(&pair->service, 0x21, &pair->client));
+    fill_station(pair);
     AGAIN(fulwethi_service_open(&pair->service, 0x35, 0xFECA, MOST, &port, &pair->inbox));
     AGAIN(fulwethi_service_pause(&pair->service, 0x35, port));
     AGAIN(fulwethi_service_resume(&pair->service, 0x35, port));

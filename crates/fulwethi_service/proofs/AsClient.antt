@@ -1,8 +1,8 @@
 -- The handle and the parts own what a box at the same types owns.
 use denote.Signature.{Slot, plain}
 use Rattle.std_alloc.proofs.BoxSteps.Form.{Bx}
-use Rattle.segment_rings.specs.contracts.client.Client as Inner
-use Rattle.segment_rings.proofs.client.Client.TheLaws as inner
+use Rattle.fulwethi_service.specs.contracts.desk.Desk as Inner
+use Rattle.fulwethi_service.proofs.desk.Desk.TheLaws as inner
 use Rattle.c_parts.proofs.Boxes.{box_of, parts_of}
 use Rattle.fulwethi_service.specs.contracts.client_handle.ClientHandle as Handle
 

@@ -3,4 +3,5 @@ pub mod AsClient
 pub mod AsInbox
 pub mod Rounds
 pub mod Addresses
+pub mod Counting
 pub mod Same

@@ -9,8 +9,13 @@ use Rattle.segment_rings.specs.Submitting.{why_refused}
 use Rattle.segment_rings.specs.declared.words.Note.{Note}
 use Rattle.segment_shared.specs.declared.refused.NotMade.{NotMade}
 use Rattle.segment_shared.specs.declared.refused.NotMade.TheVariants.{Refused, OutOfMemory}
+use Rattle.fulwethi_service.specs.declared.desk.Desk.{Desk}
 use Rattle.fulwethi_service.specs.declared.shown.CNote.{CNote}
 use Rattle.fulwethi_service.specs.Shown.{shown_note}
+
+-- a call was made on the client of a desk, which stays there
+abbrev pub OnClient : {A : Type 0} → (does : (before after : ClientEnd) → A → Type 0) → (before after : Desk) → A → Type 0
+OnClient does before after answer = (c : ClientEnd) → before.client ≡ Some c → (d : ClientEnd) × (after.client ≡ Some d) × does c d answer
 
 -- without a refusal memory is lacking
 abbrev pub cause_of_refusal : Option Refusal → NotMade

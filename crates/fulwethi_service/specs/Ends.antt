@@ -1,5 +1,5 @@
 -- The ends of rings that go to applications: clients, and the inboxes of ports.
-use Rattle.std.specs.Prelude.{◌≡◌, ℕ, ◌⊎◌, [], Option, Some, None, Result, Ok, Err}
+use Rattle.std.specs.Prelude.{◌≡◌, ℕ, [], Option, Some, None, Result, Ok, Err}
 use Rattle.pgn_ids.specs.declared.address.Address.{Address}
 use Rattle.segment_law.specs.declared.refusal.Refusal.{Refusal}
 use Rattle.segment_rings.specs.Ends.{ClientEnd, InboxEnd, with_room_kept}
@@ -9,13 +9,15 @@ use Rattle.segment_shared.specs.Reports.{ClosedFor, IsCloseCause}
 use Rattle.segment_shared.specs.declared.closing.Closed.{Closed}
 use Rattle.segment_shared.specs.declared.refused.NotMade.{NotMade}
 use Rattle.segment_shared.specs.declared.refused.NotMade.TheVariants.{Refused, OutOfMemory}
+use Rattle.fulwethi_service.specs.declared.desk.Desk.{Desk}
 use Rattle.fulwethi_service.specs.declared.post.Post.{Post}
 
--- the handle has a new client of the station; or it is as it was, and the station has none more, or, for want of memory, one that is gone
-abbrev pub IsAttached : (station : Address) → (old new : Option ClientEnd) → (before after : LiveView) → Result (Unit {0}) NotMade → Type 0
-IsAttached station old new before after (Ok _) = (c : ClientEnd) × Attached before after station c × (new ≡ Some c)
+-- the handle has a new client of the station; or it is as it was, since the station has none more, or else for want of memory
+abbrev pub IsAttached : (station : Address) → (old new : Option Desk) → (before after : LiveView) → Result (Unit {0}) NotMade → Type 0
+IsAttached station old new before after (Ok _) =
+    (c : ClientEnd) × Attached before after station c × ((desk : Desk) × (new ≡ Some desk) × (desk.client ≡ Some c))
 IsAttached station old new before after (Err (Refused c)) = (new ≡ old) × (after ≡ before) × (attaching_refusal before station ≡ Some c)
-IsAttached station old new before after (Err OutOfMemory) = (new ≡ old) × (attaching_refusal before station ≡ None) × ((after ≡ before) ⊎ ((c : ClientEnd) × Attached before after station c))
+IsAttached station old new before after (Err OutOfMemory) = (new ≡ old) × (after ≡ before) × (attaching_refusal before station ≡ None)
 
 -- a port was opened, its number is written, and its inbox has nothing
 abbrev pub IsOpenedAt : (station : Address) → (pgn max_len : ℕ) → (port port' : ℕ) → (old new : Option Post) → (before after : LiveView) → Result (Unit {0}) NotMade → Type 0

@@ -1,7 +1,7 @@
 -- Rounds of the stations' turns.
-use Rattle.std.specs.Prelude.{◌≡◌, ℕ, zero, suc, ◌≤◌, ◌⊎◌, length, slice_get, MatchOption, Result, OnOk, IfErr}
+use Rattle.std.specs.Prelude.{◌≡◌, ℕ, zero, suc, ◌<◌, ◌≤◌, ◌⊎◌, length, slice_get, MatchOption, Result, OnOk, IfErr}
 use Rattle.segment_law.specs.Segment.{plus}
-use Rattle.segment_shared.specs.LiveView.{LiveView}
+use Rattle.segment_shared.specs.LiveView.{LiveView, stored_calls}
 use Rattle.segment_shared.specs.Rejoining.{CutAs, IsCutCause}
 use Rattle.segment_shared.specs.Turns.{StationTurn, point, no_turn}
 use Rattle.segment_shared.specs.declared.calls.Piece.{Piece}
@@ -17,9 +17,13 @@ abbrev pub TurnsBelow : ℕ → (p q : LiveView) → (calls : ℕ) → Type 0
 TurnsBelow zero p q calls = (q ≡ p) × (calls ≡ 0)
 TurnsBelow (suc n) p q calls = (m : LiveView) × (below at : ℕ) × TurnsBelow n p m below × TurnAt n m q at × (calls ≡ plus below at)
 
--- of each station, after a cut or none
+-- the record is cut if it has 900,000 calls
+abbrev pub IsKeptShort : (p q : LiveView) → Type 0
+IsKeptShort p q = ((stored_calls p < 900000) × (q ≡ p)) ⊎ ((900000 ≤ stored_calls p) × ((piece : Piece) × CutAs p q piece))
+
+-- of each station, after that
 abbrev pub IsRound : (p q : LiveView) → (calls : ℕ) → Type 0
-IsRound p q calls = (m : LiveView) × ((m ≡ p) ⊎ ((piece : Piece) × CutAs p m piece)) × TurnsBelow (length m.addresses) m q calls
+IsRound p q calls = (m : LiveView) × IsKeptShort p m × TurnsBelow (length m.addresses) m q calls
 
 abbrev pub Rounds : ℕ → (p q : LiveView) → (calls : ℕ) → Type 0
 Rounds zero p q calls = (q ≡ p) × (calls ≡ 0)

@@ -2,8 +2,8 @@
 ghost use Rattle.std.specs.Prelude.{◌≡◌, Some, IsSome};
 ghost use Rattle.fulwethi_service.specs.HeldClient.{Held, held_coded, held_owns};
 
+use crate::desk::Desk;
 use c_parts::Parts;
-use segment_shared::Client;
 use std::alloc::Global;
 use std::marker::{Model, Send};
 
@@ -13,11 +13,11 @@ use std::marker::{Model, Send};
 pub struct ClientHandle {
     ptr: *mut u8,
     alloc: Global,
-    pub ghost client: { Held } by { held_coded },
+    pub ghost desk: { Held } by { held_coded },
 }
 
 impl Model for ClientHandle {
-    ghost also_owns = { λ h. held_owns h.alloc h.ptr h.client };
+    ghost also_owns = { λ h. held_owns h.alloc h.ptr h.desk };
 }
 
 // C may hand it to another thread: what it owns goes along.
@@ -25,22 +25,22 @@ unsafe impl Send for ClientHandle {}
 
 impl ClientHandle {
     /// What C holds from now on.
-    pub fn of_box(held: Box<Client, Global>) -> ClientHandle
-        ensures { result.client ≡ Some held.value }
+    pub fn of_box(held: Box<Desk, Global>) -> ClientHandle
+        ensures { result.desk ≡ Some held.value }
     {
         ClientHandle::of_parts(Parts::of(held))
     }
 
     /// What C held.
-    pub fn into_box(self) -> Box<Client, Global>
-        requires { IsSome self.client }
-        ensures { self.client ≡ Some result.value }
+    pub fn into_box(self) -> Box<Desk, Global>
+        requires { IsSome self.desk }
+        ensures { self.desk ≡ Some result.value }
     {
         self.into_parts().into_box()
     }
 
-    fn of_parts(parts: Parts<Client, Global>) -> ClientHandle
-        ensures { result.client ≡ Some parts.value }
+    fn of_parts(parts: Parts<Desk, Global>) -> ClientHandle
+        ensures { result.desk ≡ Some parts.value }
     {
         let Parts { ptr, alloc } = parts;
         ClientHandle {
@@ -49,13 +49,13 @@ impl ClientHandle {
         }
     }
 
-    fn into_parts(self) -> Parts<Client, Global>
-        requires { IsSome self.client }
-        ensures { self.client ≡ Some result.value }
+    fn into_parts(self) -> Parts<Desk, Global>
+        requires { IsSome self.desk }
+        ensures { self.desk ≡ Some result.value }
     {
         let ClientHandle { ptr, alloc } = self;
         Parts {
-            ptr: ptr as *mut Client,
+            ptr: ptr as *mut Desk,
             alloc,
         }
     }

@@ -1,6 +1,7 @@
 //! The ends of rings that go to applications: clients, and the inboxes of ports.
-ghost use Rattle.std.specs.Prelude.{◌≡◌, ℕ, Some, IsSome, MatchOption};
-ghost use Rattle.segment_shared.specs.LiveView.{IsOpenCause};
+ghost use Rattle.std.specs.Prelude.{◌≡◌, ◌<◌, ◌≤◌, ◌+◌, ℕ, Some, IsSome, MatchOption, length, drop};
+ghost use Rattle.segment_shared.specs.LiveView.{IsOpenCause, clients_at};
+ghost use Rattle.segment_shared.specs.Refusals.{attaching_refusal};
 ghost use Rattle.segment_shared.specs.declared.refused.NotMade.TheVariants.{OutOfMemory};
 ghost use Rattle.c_parts.specs.Codes.{value_code};
 ghost use Rattle.c_parts.specs.Reads.{read_pgn};
@@ -11,6 +12,7 @@ ghost use Rattle.fulwethi_service.specs.Ends.{IsAttached, IsOpened, IsOpenedAt, 
 
 use crate::client_handle::ClientHandle;
 use crate::codes::made_code;
+use crate::desk::Desk;
 use crate::inbox_handle::InboxHandle;
 use crate::post::Post;
 use crate::service_handle::ServiceHandle;
@@ -19,6 +21,9 @@ use pgn_ids::{Address, Pgn};
 use segment_shared::{Live, MOST_CALLS, NotMade, Refusal};
 use std::alloc::Global;
 use std::collections::VecDeque;
+
+/// How many clients a station has at most, as `Live::attach` has it.
+const MOST_CLIENTS: u64 = 16;
 
 /// A new client of a station; `client` must own nothing.
 #[unsafe(no_mangle)]
@@ -30,7 +35,7 @@ pub extern "C" fn fulwethi_raw_service_attach(
     out: &mut ServiceHandle,
 ) -> u32
     requires { IsSome of.live }
-    ensures { IsServed (value_code not_made_code) (IsAttached (record { 0 = station }) client.old.client client.new.client) of.live out.new.live result }
+    ensures { IsServed (value_code not_made_code) (IsAttached (record { 0 = station }) client.old.desk client.new.desk) of.live out.new.live result }
 {
     let mut held = of.into_box();
     let code = made_code(attach(alloc, &mut held, Address(station), client));
@@ -38,20 +43,61 @@ pub extern "C" fn fulwethi_raw_service_attach(
     code
 }
 
+// The place of the client is made before the station has it, so that nothing is left of a client without one.
 fn attach(
     alloc: Global,
     live: &mut Live,
     station: Address,
     client: &mut ClientHandle,
 ) -> Result<(), NotMade>
-    ensures { IsAttached station client.old.client client.new.client live.old live.new result }
+    ensures { IsAttached station client.old.desk client.new.desk live.old live.new result }
 {
-    let made = live.attach(station)?;
-    let Ok(held) = Box::new(alloc, made) else {
+    if let Some(cause) = attach_refusal(live, station) {
+        return Err(NotMade::Refused(cause));
+    }
+    let Ok(mut held) = Box::new(alloc, Desk { client: None }) else {
         return Err(NotMade::OutOfMemory);
     };
+    let made = live.attach(station)?;
+    held.client = Some(made);
     *client = ClientHandle::of_box(held);
     Ok(())
+}
+
+// Why a station gets no client, but for want of memory.
+fn attach_refusal(live: &Live, station: Address) -> Option<Refusal>
+    ensures { result ≡ attaching_refusal live.now station }
+{
+    if !live.has_station(station) {
+        return Some(Refusal::NoSuchStation);
+    }
+    if clients_at(live, station) >= MOST_CLIENTS {
+        return Some(Refusal::ClientsFull);
+    }
+    None
+}
+
+// How many clients a station has.
+fn clients_at(live: &Live, station: Address) -> u64
+    ensures { result ≡ clients_at station live.now.clients }
+{
+    let mut count = 0;
+    for client in 0..live.clients() {
+        count += count_client(live, client, station);
+    }
+    count
+}
+
+// 1 for a client of the station, else 0.
+fn count_client(live: &Live, client: u64, station: Address) -> u64
+    requires { client < length live.now.clients }
+    ensures next { clients_at station (drop client live.now.clients) ≡ result + clients_at station (drop (client + 1) live.now.clients) }
+    ensures few { result ≤ 1 }
+{
+    let Some(other) = live.station_of(client) else {
+        return 0;
+    };
+    u64::from(other.0 == station.0)
 }
 
 /// Opens a port of a station, and writes its number; `inbox` must own nothing, and has its inbox then.

@@ -6,6 +6,7 @@
 mod client_handle;
 mod clients;
 mod codes;
+mod desk;
 mod ends;
 mod frames;
 mod inbox_handle;

@@ -5,12 +5,12 @@ use denote.Struct.Struct.{exits_of}
 use denote.Struct.Owning.{shape, fields, to}
 use Rattle.std.proofs.alloc.Global.TheSendSync as heap
 use Rattle.std_alloc.proofs.SendSync.{quiet}
-use Rattle.segment_rings.specs.contracts.client.Client as Inner
-use Rattle.segment_rings.proofs.client.Client.TheSendSync as inner
+use Rattle.fulwethi_service.specs.contracts.desk.Desk as Inner
+use Rattle.fulwethi_service.proofs.desk.Desk.TheSendSync as inner
 use Rattle.c_parts.proofs.Boxes.{owned_goes}
 use Rattle.fulwethi_service.specs.contracts.client_handle.ClientHandle.{the_row, the_type}
 
 pub send : IsSend the_row
 send = let ps : IsSend RawPtr = search sendable in
-    owning_send the_type (ps, (heap.the_field_send, tt)) (λ d. owned_goes Inner.the_row inner.the_send d.alloc d.ptr d.client)
+    owning_send the_type (ps, (heap.the_field_send, tt)) (λ d. owned_goes Inner.the_row inner.the_send d.alloc d.ptr d.desk)
     (λ k. quiet (to the_type) (exits_of k (fields the_type)) ((struct_send (shape the_type) (ps, (heap.the_field_send, tt))).leaving k))

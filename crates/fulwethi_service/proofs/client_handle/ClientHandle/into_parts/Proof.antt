@@ -46,10 +46,10 @@ module _ {M : Type 1} {𝓤 : Ura M} (𝓛 : Logic 𝓤) (at_mem : Memory → SP
       let Post = (walk_of 𝓛 F.ended stayed (F.clauses 𝓛 at_mem run)).post z in
       let h = z.0.3.0 in
       let To = type_at (F.signature).result tt in
-      qed 𝓛 ((‵ ftrue ⊛ ‵ (fsep ((Handle.the_row).own_val h z.0.4.0) ftrue)) ∷ raw (fact 𝓤 (IsSome h.client)) ∷ []) ∵ move ! (1 ∷ []) $ heard ! (IsSome h.client) (λ i. split ! $ drop ! $ fsplit ! $
-      let v : D E = record { ptr = h.ptr; alloc = h.alloc; value = got h.client i } in
+      qed 𝓛 ((‵ ftrue ⊛ ‵ (fsep ((Handle.the_row).own_val h z.0.4.0) ftrue)) ∷ raw (fact 𝓤 (IsSome h.desk)) ∷ []) ∵ move ! (1 ∷ []) $ heard ! (IsSome h.desk) (λ i. split ! $ drop ! $ fsplit ! $
+      let v : D E = record { ptr = h.ptr; alloc = h.alloc; value = got h.desk i } in
       let made : To.Denot = record { ptr = v.ptr; alloc = v.alloc; value = v.value } in
-      rewrite ! 0 (λ (o : Held). ‵ ((Handle.the_row).own_val (record { ptr = h.ptr; alloc = h.alloc; client = o }) z.0.4.0)) (got_is h.client i) refl $ use1 𝓛 (‵ ((B E).own_val v z.0.4.0)) (id⊢ 𝓤 _) $
+      rewrite ! 0 (λ (o : Held). ‵ ((Handle.the_row).own_val (record { ptr = h.ptr; alloc = h.alloc; desk = o }) z.0.4.0)) (got_is h.desk i) refl $ use1 𝓛 (‵ ((B E).own_val v z.0.4.0)) (id⊢ 𝓤 _) $
       box_out E ! v z.0.4.0 (λ b o hv e ws fa. box_in E ! v b o v.value e refl $ use1 𝓛 (‵ (To.own_val made (word E hv b o ∷ []))) (id⊢ 𝓤 _) $ move ! (1 ∷ 2 ∷ []) $ drop ! $ drop ! $
       let w = word E hv b o in
       let Γ : List (Item 𝓤) = ‵ (To.own_val made (w ∷ [])) ∷ [] in
@@ -58,7 +58,7 @@ module _ {M : Type 1} {𝓤 : Ura M} (𝓛 : Logic 𝓤) (at_mem : Memory → SP
       sets ! (of_opd ! (get_in ! (fld ! refl (stop !)) (sub ! 0 refl (whole !)))) refl (tt, tt) $ sets ! (of_opd ! (get_in ! (fld ! refl (stop !)) (sub ! 1 refl (whole !)))) refl fa $
       sets ! (of_opd ! (get ! refl)) refl (tt, tt) $
       sets ! (agg ! (and_then ! (get ! refl) (and_then ! (get ! refl) (no_more !)))) refl (box_typed E hv b o fa) $ returns ! (look_at ! 0 refl) $ free_all ! refl $
-      suffices ! _ (ends_at 𝓛 F.ended stayed (F.clauses 𝓛 at_mem run) z w made (tt, tt) (tt, tt)) $ says ! (got_is h.client i) $
+      suffices ! _ (ends_at 𝓛 F.ended stayed (F.clauses 𝓛 at_mem run) z w made (tt, tt) (tt, tt)) $ says ! (got_is h.desk i) $
       nothing ! $ nothing ! $ fjoin ! $ join ! $ nothing ! $ join ! $ done !)))))
 
 pub into_parts_spec : {M : Type 1} → stated.statement M
