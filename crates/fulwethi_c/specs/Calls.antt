@@ -25,27 +25,12 @@ use Rattle.one_station.specs.declared.error.Fed.{Fed}
 use Rattle.one_station.specs.declared.error.NodeError.{NodeError}
 use Rattle.one_station.specs.declared.error.NodeError.TheVariants.{Refused, ClockPassed, OutOfMemory}
 use Rattle.one_station.specs.declared.error.TakeError.{TakeError}
-use Rattle.fulwethi_c.specs.declared.shown.CFrame.{CFrame}
+use Rattle.c_parts.specs.declared.shown.CFrame.{CFrame}
+use Rattle.c_parts.specs.Shown.{shown_frame}
 use Rattle.fulwethi_c.specs.declared.shown.CEvent.{CEvent}
-use Rattle.fulwethi_c.specs.Shown.{shown_frame, shown_event}
-
--- a call was made on the node that the handle had, the handle has the node that it left, and the code is that of its answer
-pub record IsMadeOn {A : Type 0} (code : A → ℕ) (does : (before after : Node) → A → Type 0) (of out : Option Node) (result : ℕ) : Type 0 where
-  pub before : Node
-  pub after : Node
-  pub answer : A
-  pub had : of ≡ Some before
-  pub has : out ≡ Some after
-  pub done : does before after answer
-  pub is_code : result ≡ code answer
+use Rattle.fulwethi_c.specs.Shown.{shown_event}
 
 -- A new node
-
--- a call's answer, with its code
-pub record IsCoded {A : Type 0} (code : A → ℕ) (is : A → Type 0) (result : ℕ) : Type 0 where
-  pub answer : A
-  pub done : is answer
-  pub is_code : result ≡ code answer
 
 -- the handle has a new node; or it is as it was, for the address, or else for want of memory
 abbrev pub IsNew : Address → (old new : Option Node) → Result (Unit {0}) NewRefused → Type 0
@@ -54,15 +39,6 @@ IsNew address old new (Err made.BadAddresses) = (new ≡ old) × (are_addresses 
 IsNew address old new (Err made.OutOfMemory) = (new ≡ old) × (are_addresses (address ∷ []) ≡ false → ⊥)
 
 -- What is written
-
--- a number, where there is one; else the place is as it was
-abbrev pub IsWritten : {A : Type 0} → (number : A → ℕ) → (old new : ℕ) → Result A NodeError → Type 0
-IsWritten number old new (Ok value) = new ≡ number value
-IsWritten number old new (Err error) = new ≡ old
-
-abbrev pub IsTickWritten : (old new : ℕ) → Option ℕ → Type 0
-IsTickWritten old new (Some tick) = new ≡ tick
-IsTickWritten old new None = new ≡ old
 
 abbrev pub IsFrameWritten : (old new : CFrame) → Result (Option CanFrame) NodeError → Type 0
 IsFrameWritten old new (Ok (Some frame)) = new ≡ shown_frame frame
@@ -124,10 +100,6 @@ IsDueNext before after answer = (after ≡ before) × IsDueFrom (any_due before.
 
 abbrev pub IsNextTick : (before after : Node) → Option ℕ → Type 0
 IsNextTick before after answer = (after ≡ before) × IsNextFrom (any_work before.segment) before.segment.now answer
-
--- a value of the node is written
-abbrev pub IsRead : {A : Type 0} → (shown : Node → A) → (written : A) → (before after : Node) → Unit {0} → Type 0
-IsRead shown written before after answer = (after ≡ before) × (written ≡ shown before)
 
 -- why a message of so many bytes would be refused, whatever they are
 abbrev pub IsSendRefused : (to : Address) → (len : ℕ) → Result ℕ Refusal → (before after : Node) → Option Refusal → Type 0

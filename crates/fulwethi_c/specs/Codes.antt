@@ -5,6 +5,7 @@ use Rattle.segment_law.specs.declared.refusal.Refusal.{Refusal}
 use Rattle.segment_core.specs.declared.segment.NewRefused.{NewRefused}
 use Rattle.segment_core.specs.declared.segment.NewRefused.TheVariants as made
 use Rattle.bus_frame.specs.Frames.{CanFrame}
+use Rattle.c_parts.specs.Codes.{value_code}
 use Rattle.one_station.specs.declared.error.NodeError.{NodeError}
 use Rattle.one_station.specs.declared.error.NodeError.TheVariants.{Refused, ClockPassed, OutOfMemory}
 use Rattle.one_station.specs.declared.error.Fed.{Fed}
@@ -24,13 +25,8 @@ abbrev pub refusal_code : Option Refusal → ℕ
 refusal_code None = 0
 refusal_code (Some cause) = refusal_number cause
 
-abbrev pub value_code : {A : Type 0} → Result A NodeError → ℕ
-value_code (Ok _) = 0
-value_code (Err error) = error_code error
-
 abbrev pub done_code : Result (Unit {0}) NodeError → ℕ
-done_code (Ok _) = 0
-done_code (Err error) = error_code error
+done_code = value_code error_code
 
 abbrev pub fed_code : Result Fed NodeError → ℕ
 fed_code (Ok Taken) = 0
@@ -51,11 +47,6 @@ abbrev pub front_code : Result (Option CanFrame) NodeError → ℕ
 front_code (Ok (Some frame)) = 0
 front_code (Ok None) = 65
 front_code (Err error) = error_code error
-
--- of what may be there
-abbrev pub found_code : {A : Type 0} → Option A → ℕ
-found_code (Some _) = 0
-found_code None = 65
 
 abbrev pub new_code : Result (Unit {0}) NewRefused → ℕ
 new_code (Ok _) = 0

@@ -1,5 +1,4 @@
 pub mod Held
 pub mod Codes
-pub mod Reads
 pub mod Shown
 pub mod Calls

@@ -2,17 +2,8 @@
 ghost use Rattle.std.specs.Prelude.{◌≡◌};
 ghost use Rattle.fulwethi_c.specs.Codes.{error_code, refusal_code, done_code, fed_code, missed_code, taken_code, new_code};
 
+use c_parts::{CLOCK_PASSED, DONE, NO_MEMORY, NOTHING, TOO_LITTLE_ROOM, cause_code};
 use one_station::{Fed, Missed, NewRefused, NodeError, Refusal, TakeError};
-
-pub(crate) const DONE: u32 = 0;
-
-pub(crate) const NO_MEMORY: u32 = 64;
-
-pub(crate) const NOTHING: u32 = 65;
-
-pub(crate) const CLOCK_PASSED: u32 = 67;
-
-pub(crate) const TOO_LITTLE_ROOM: u32 = 68;
 
 pub(crate) const WITHOUT_ROOM: u32 = 70;
 
@@ -28,7 +19,7 @@ pub(crate) fn error_code(error: NodeError) -> u32
     ensures { result ≡ error_code error }
 {
     match error {
-        NodeError::Refused(cause) => cause.number() as u32,
+        NodeError::Refused(cause) => cause_code(cause),
         NodeError::ClockPassed => CLOCK_PASSED,
         NodeError::OutOfMemory => NO_MEMORY,
     }
@@ -40,7 +31,7 @@ pub(crate) fn refusal_code(refusal: Option<Refusal>) -> u32
 {
     match refusal {
         None => DONE,
-        Some(cause) => cause.number() as u32,
+        Some(cause) => cause_code(cause),
     }
 }
 

@@ -1,12 +1,14 @@
 //! What was told, and when something is to be done.
 ghost use Rattle.std.specs.Prelude.{IsSome};
-ghost use Rattle.fulwethi_c.specs.Codes.{found_code, taken_code};
-ghost use Rattle.fulwethi_c.specs.Calls.{IsMadeOn, IsNextEvent, IsEventWritten, IsTakenInto, IsDueNext, IsNextTick, IsTickWritten};
+ghost use Rattle.c_parts.specs.Codes.{found_code};
+ghost use Rattle.c_parts.specs.Calls.{IsMadeOn, IsTickWritten};
+ghost use Rattle.fulwethi_c.specs.Codes.{taken_code};
+ghost use Rattle.fulwethi_c.specs.Calls.{IsNextEvent, IsEventWritten, IsTakenInto, IsDueNext, IsNextTick};
 
 use crate::codes::taken_code;
 use crate::handle::Handle;
-use crate::parts::Parts;
-use crate::shown::{CEvent, write_event, write_tick};
+use crate::shown::{CEvent, write_event};
+use c_parts::{Parts, write_tick};
 
 /// Shows the event that is told next, which stays.
 #[unsafe(no_mangle)]

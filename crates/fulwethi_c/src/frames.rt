@@ -1,16 +1,16 @@
 //! Frames from the bus and for the bus.
-ghost use Rattle.std.specs.Prelude.{◌≡◌, IsSome};
+ghost use Rattle.std.specs.Prelude.{IsSome};
 ghost use Rattle.one_station.specs.Answers.{IsSent, IsMissed};
 ghost use Rattle.fulwethi_c.specs.Codes.{done_code, fed_code, missed_code, front_code};
-ghost use Rattle.fulwethi_c.specs.Reads.{read_frame};
-ghost use Rattle.fulwethi_c.specs.Calls.{IsMadeOn, IsFrameFed, IsFront, IsFrameWritten};
+ghost use Rattle.c_parts.specs.Calls.{IsMadeOn};
+ghost use Rattle.c_parts.specs.Reads.{read_frame};
+ghost use Rattle.fulwethi_c.specs.Calls.{IsFrameFed, IsFront, IsFrameWritten};
 
 use crate::codes::{done_code, fed_code, missed_code};
 use crate::handle::Handle;
-use crate::parts::Parts;
-use crate::shown::{CFrame, write_frame};
-use bus_frame::{CanId, Frame};
-use one_station::{Fed, Node, NodeError, Refusal};
+use crate::shown::write_frame;
+use c_parts::{CFrame, Parts, read_frame};
+use one_station::{Fed, Node, NodeError};
 
 /// A frame of another node comes from the bus.
 #[unsafe(no_mangle)]
@@ -30,18 +30,6 @@ fn feed(node: &mut Node, id: u32, bytes: &[u8]) -> Result<Fed, NodeError>
     match read_frame(id, bytes) {
         Ok(frame) => node.feed(frame),
         Err(cause) => Err(NodeError::Refused(cause)),
-    }
-}
-
-fn read_frame(id: u32, bytes: &[u8]) -> Result<Frame, Refusal>
-    ensures { result ≡ read_frame id bytes.now }
-{
-    let Ok(id) = CanId::new(id) else {
-        return Err(Refusal::IdTooLarge);
-    };
-    match Frame::new(id, bytes) {
-        Ok(frame) => Ok(frame),
-        Err(_) => Err(Refusal::DataTooLong),
     }
 }
 

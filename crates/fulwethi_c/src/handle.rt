@@ -2,7 +2,7 @@
 ghost use Rattle.std.specs.Prelude.{◌≡◌, Some, IsSome};
 ghost use Rattle.fulwethi_c.specs.Held.{Held, held_coded, held_owns};
 
-use crate::parts::Parts;
+use c_parts::Parts;
 use one_station::Node;
 use std::alloc::Global;
 use std::marker::{Model, Send};

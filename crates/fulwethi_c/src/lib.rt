@@ -6,21 +6,21 @@ ghost use Rattle.std.specs.Prelude.{◌≡◌, IsSome};
 ghost use Rattle.segment_law.specs.declared.call.Call.TheVariants.{Fire};
 ghost use Rattle.one_station.specs.Answers.{IsAnswered};
 ghost use Rattle.fulwethi_c.specs.Codes.{done_code, new_code};
-ghost use Rattle.fulwethi_c.specs.Calls.{IsMadeOn, IsCoded, IsNew, IsClocked};
+ghost use Rattle.c_parts.specs.Calls.{IsMadeOn, IsCoded};
+ghost use Rattle.fulwethi_c.specs.Calls.{IsNew, IsClocked};
 
 mod codes;
 mod events;
 mod frames;
 mod handle;
-mod parts;
 mod ports;
 mod readers;
 mod shown;
 
+use c_parts::Parts;
 use codes::{done_code, new_code};
 use handle::Handle;
 use one_station::{NewRefused, Node};
-use parts::Parts;
 use pgn_ids::Address;
 use std::alloc::Global;
 

@@ -1,17 +1,19 @@
 //! Ports and messages.
-ghost use Rattle.std.specs.Prelude.{◌≡◌, IsSome};
+ghost use Rattle.std.specs.Prelude.{IsSome};
 ghost use Rattle.segment_law.specs.declared.call.Call.TheVariants.{Close, Pause, Resume, Cancel};
 ghost use Rattle.one_station.specs.Answers.{IsAnswered};
-ghost use Rattle.fulwethi_c.specs.Codes.{done_code, value_code};
-ghost use Rattle.fulwethi_c.specs.Reads.{read_pgn};
-ghost use Rattle.fulwethi_c.specs.Calls.{IsMadeOn, IsOpened, IsSending, IsWritten};
+ghost use Rattle.c_parts.specs.Codes.{value_code};
+ghost use Rattle.c_parts.specs.Calls.{IsMadeOn, IsWritten};
+ghost use Rattle.c_parts.specs.Reads.{read_pgn};
+ghost use Rattle.fulwethi_c.specs.Codes.{error_code, done_code};
+ghost use Rattle.fulwethi_c.specs.Calls.{IsOpened, IsSending};
 
 use crate::codes::done_code;
 use crate::handle::Handle;
-use crate::parts::Parts;
 use crate::shown::{write_number, write_port};
-use one_station::{Node, NodeError, PortId, Refusal};
-use pgn_ids::{Address, Pgn};
+use c_parts::{Parts, read_pgn};
+use one_station::{Node, NodeError, PortId};
+use pgn_ids::Address;
 
 /// Opens a port, and writes its number.
 #[unsafe(no_mangle)]
@@ -23,7 +25,7 @@ pub extern "C" fn fulwethi_raw_open(
     out: &mut Handle,
 ) -> u32
     requires { IsSome of.node }
-    ensures { IsMadeOn value_code (λ before after answer. IsOpened max_len (read_pgn pgn) before after answer × IsWritten (λ id. id.number) port.old port.new answer) of.node out.new.node result }
+    ensures { IsMadeOn (value_code error_code) (λ before after answer. IsOpened max_len (read_pgn pgn) before after answer × IsWritten (λ id. id.number) port.old port.new answer) of.node out.new.node result }
 {
     let mut held = of.into_parts().into_box();
     let code = write_port(open(&mut held, pgn, max_len), port);
@@ -37,15 +39,6 @@ fn open(node: &mut Node, pgn: u32, max_len: u32) -> Result<PortId, NodeError>
     match read_pgn(pgn) {
         Ok(pgn) => node.open_port(pgn, max_len),
         Err(cause) => Err(NodeError::Refused(cause)),
-    }
-}
-
-pub(crate) fn read_pgn(raw: u32) -> Result<Pgn, Refusal>
-    ensures { result ≡ read_pgn raw }
-{
-    match Pgn::new(raw) {
-        Ok(pgn) => Ok(pgn),
-        Err(_) => Err(Refusal::BadPgn),
     }
 }
 
@@ -76,7 +69,7 @@ pub extern "C" fn fulwethi_raw_send(
     out: &mut Handle,
 ) -> u32
     requires { IsSome of.node }
-    ensures { IsMadeOn value_code (λ before after answer. IsSending (record { 0 = to }) bytes.now (read_pgn pgn) before after answer × IsWritten (λ sent. sent) number.old number.new answer) of.node out.new.node result }
+    ensures { IsMadeOn (value_code error_code) (λ before after answer. IsSending (record { 0 = to }) bytes.now (read_pgn pgn) before after answer × IsWritten (λ sent. sent) number.old number.new answer) of.node out.new.node result }
 {
     let mut held = of.into_parts().into_box();
     let code = write_number(send(&mut held, to, pgn, bytes), number);

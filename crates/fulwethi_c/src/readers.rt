@@ -1,16 +1,17 @@
 //! What a node answers without a step.
 ghost use Rattle.std.specs.Prelude.{IsSome};
+ghost use Rattle.c_parts.specs.Calls.{IsMadeOn, IsRead};
+ghost use Rattle.c_parts.specs.Reads.{read_pgn};
+ghost use Rattle.c_parts.specs.Shown.{shown_counts};
 ghost use Rattle.fulwethi_c.specs.Codes.{refusal_code};
-ghost use Rattle.fulwethi_c.specs.Reads.{read_pgn};
-ghost use Rattle.fulwethi_c.specs.Shown.{shown_counts, shown_lane};
-ghost use Rattle.fulwethi_c.specs.Calls.{IsMadeOn, IsRead, IsSendRefused};
+ghost use Rattle.fulwethi_c.specs.Shown.{shown_lane};
+ghost use Rattle.fulwethi_c.specs.Calls.{IsSendRefused};
 ghost use Rattle.segment_law.specs.Readers.{lane_seen};
 
-use crate::codes::{DONE, refusal_code};
+use crate::codes::refusal_code;
 use crate::handle::Handle;
-use crate::parts::Parts;
-use crate::ports::read_pgn;
-use crate::shown::{CCounts, CLane, show_counts, show_lane};
+use crate::shown::{CLane, show_lane};
+use c_parts::{CCounts, DONE, Parts, read_pgn, show_counts};
 use one_station::{Node, Refusal};
 use pgn_ids::Address;
 

@@ -1,22 +1,15 @@
 //! Frames, events and numbers as they are written for C.
 ghost use Rattle.std.specs.Prelude.{◌≡◌, slice_get};
-ghost use Rattle.fulwethi_c.specs.Codes.{value_code, front_code, found_code};
-ghost use Rattle.fulwethi_c.specs.Shown.{shown_frame, shown_event, shown_counts, shown_lane, outcome_number, outcome_reason};
-ghost use Rattle.fulwethi_c.specs.Calls.{IsWritten, IsTickWritten, IsFrameWritten, IsEventWritten};
+ghost use Rattle.c_parts.specs.Codes.{found_code, value_code};
+ghost use Rattle.c_parts.specs.Calls.{IsWritten};
+ghost use Rattle.fulwethi_c.specs.Codes.{error_code, front_code};
+ghost use Rattle.fulwethi_c.specs.Shown.{shown_event, shown_lane};
+ghost use Rattle.fulwethi_c.specs.Calls.{IsFrameWritten, IsEventWritten};
 
-use crate::codes::{DONE, NOTHING, error_code};
+use crate::codes::error_code;
 use bus_frame::Frame;
-use one_station::{Counts, Event, LaneSight, Node, NodeError, PortId};
-use tp_wire::Outcome;
-
-/// A frame: its identifier of 29 bits, and `len` bytes, 0 to 8. The other bytes are 0 where a frame is shown.
-#[repr(C)]
-#[derive(Drop)]
-pub struct CFrame {
-    pub id: u32,
-    pub len: u32,
-    pub bytes: [u8; 8],
-}
+use c_parts::{CFrame, DONE, NOTHING, outcome_number, outcome_reason, show_frame};
+use one_station::{Event, LaneSight, Node, NodeError, PortId};
 
 /// What is told next. `kind` 1: a message at port `number`, of `len` bytes. `kind` 2: the outcome of message `number`, 1 to 7,
 /// and the reason of its abort.
@@ -33,23 +26,7 @@ pub struct CEvent {
     pub reason: u32,
 }
 
-/// What a node counted.
-#[repr(C)]
-#[derive(Drop)]
-pub struct CCounts {
-    pub frames: u64,
-    pub malformed: u64,
-    pub given: u64,
-    pub acknowledged: u64,
-    pub broadcast: u64,
-    pub aborted: u64,
-    pub timed_out: u64,
-    pub overrun: u64,
-    pub cancelled: u64,
-    pub unreachable: u64,
-}
-
-/// What is seen of a lane: `in_doubt` is 1 where it is in doubt, else 0.
+/// What is seen of a lane: `in_doubt` is 1 if it is in doubt, else 0.
 #[repr(C)]
 #[derive(Drop)]
 pub struct CLane {
@@ -58,7 +35,7 @@ pub struct CLane {
 }
 
 pub(crate) fn write_port(answer: Result<PortId, NodeError>, port: &mut u64) -> u32
-    ensures code { result ≡ value_code answer }
+    ensures code { result ≡ value_code error_code answer }
     ensures written { IsWritten (λ id. id.number) port.old port.new answer }
 {
     match answer {
@@ -71,7 +48,7 @@ pub(crate) fn write_port(answer: Result<PortId, NodeError>, port: &mut u64) -> u
 }
 
 pub(crate) fn write_number(answer: Result<u64, NodeError>, number: &mut u64) -> u32
-    ensures code { result ≡ value_code answer }
+    ensures code { result ≡ value_code error_code answer }
     ensures written { IsWritten (λ sent. sent) number.old number.new answer }
 {
     match answer {
@@ -80,19 +57,6 @@ pub(crate) fn write_number(answer: Result<u64, NodeError>, number: &mut u64) -> 
             DONE
         }
         Err(error) => error_code(error),
-    }
-}
-
-pub(crate) fn write_tick(answer: Option<u64>, tick: &mut u64) -> u32
-    ensures code { result ≡ found_code answer }
-    ensures written { IsTickWritten tick.old tick.new answer }
-{
-    match answer {
-        Some(due) => {
-            *tick = due;
-            DONE
-        }
-        None => NOTHING,
     }
 }
 
@@ -107,19 +71,6 @@ pub(crate) fn write_frame(answer: Result<Option<Frame>, NodeError>, frame: &mut 
         }
         Ok(None) => NOTHING,
         Err(error) => error_code(error),
-    }
-}
-
-fn show_frame(next: &Frame) -> CFrame
-    ensures { result ≡ shown_frame next.now }
-{
-    let bytes = next.bytes();
-    let mut kept = [0; 8];
-    kept[..bytes.len()].copy_from_slice(bytes);
-    CFrame {
-        id: next.id().raw(),
-        len: bytes.len() as u32,
-        bytes: kept,
     }
 }
 
@@ -171,52 +122,6 @@ fn show_event(event: &Event) -> CEvent
             outcome: outcome_number(outcome),
             reason: outcome_reason(outcome),
         },
-    }
-}
-
-// The number of an outcome, from 1.
-fn outcome_number(outcome: &Outcome) -> u32
-    ensures { result ≡ outcome_number outcome.now }
-{
-    match outcome {
-        Outcome::Acknowledged => 1,
-        Outcome::Broadcast => 2,
-        Outcome::Aborted(_) => 3,
-        Outcome::TimedOut => 4,
-        Outcome::Overrun => 5,
-        Outcome::Cancelled => 6,
-        Outcome::Unreachable => 7,
-    }
-}
-
-fn outcome_reason(outcome: &Outcome) -> u32
-    ensures { result ≡ outcome_reason outcome.now }
-{
-    match outcome {
-        Outcome::Acknowledged => 0,
-        Outcome::Broadcast => 0,
-        Outcome::Aborted(reason) => *reason as u32,
-        Outcome::TimedOut => 0,
-        Outcome::Overrun => 0,
-        Outcome::Cancelled => 0,
-        Outcome::Unreachable => 0,
-    }
-}
-
-pub(crate) fn show_counts(counts: &Counts) -> CCounts
-    ensures { result ≡ shown_counts counts.now }
-{
-    CCounts {
-        frames: counts.frames,
-        malformed: counts.malformed,
-        given: counts.given,
-        acknowledged: counts.acknowledged,
-        broadcast: counts.broadcast,
-        aborted: counts.aborted,
-        timed_out: counts.timed_out,
-        overrun: counts.overrun,
-        cancelled: counts.cancelled,
-        unreachable: counts.unreachable,
     }
 }
 

@@ -1,0 +1,5 @@
+pub mod Codes
+pub mod Reads
+pub mod Shown
+pub mod Calls
+pub mod Held

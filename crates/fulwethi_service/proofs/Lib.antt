@@ -1,0 +1,7 @@
+pub mod AsService
+pub mod AsClient
+pub mod AsInbox
+pub mod Rounds
+pub mod Addresses
+pub mod Counting
+pub mod Same

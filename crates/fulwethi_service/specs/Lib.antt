@@ -1,0 +1,12 @@
+pub mod HeldService
+pub mod HeldClient
+pub mod HeldInbox
+pub mod Codes
+pub mod Shown
+pub mod Reads
+pub mod Served
+pub mod Turned
+pub mod Made
+pub mod Ends
+pub mod Clients
+pub mod Inboxes

@@ -1,0 +1,8 @@
+//! A client, at a place that was made before it.
+use segment_shared::Client;
+
+/// The client is there once its station has it.
+#[derive(Drop)]
+pub struct Desk {
+    pub client: Option<Client>,
+}

@@ -1,0 +1,21 @@
+//! A service of J1939 for C: the stations of one bus for the thread that has the bus, and clients and inboxes for the threads of
+//! applications. A handle, which owns one of the three, goes into each call and comes back by `out`. `fulwethi_service.h` has functions
+//! over these that take a pointer to the handle.
+#![tactic(auto)]
+
+mod client_handle;
+mod clients;
+mod codes;
+mod desk;
+mod ends;
+mod frames;
+mod inbox_handle;
+mod inboxes;
+mod ports;
+mod post;
+mod readers;
+mod service;
+mod service_handle;
+mod shown;
+mod time;
+mod turns;

@@ -1,0 +1,294 @@
+/* Three stations behind a raw CAN socket, and six threads of an application.
+ *
+ *   service INTERFACE COUNT
+ *
+ * The stations have the addresses 21, 35 and 40. At each, a thread sends COUNT messages to the next station and reads what became of them, and a
+ * thread receives and writes what came as 'FROM TO PGN BYTES' of which the first four are shown. The program ends once each message has its
+ * outcome and what was acknowledged is received.
+ *
+ * The main thread has the bus and the service. Who submits wakes it by an eventfd; it wakes the others by a condition when a turn has done
+ * something. A frame is told to be sent when the kernel loops it back, so one is outstanding at a time, as in socketcan.c. */
+#include "fulwethi_service.h"
+#include <errno.h>
+#include <linux/can.h>
+#include <linux/can/raw.h>
+#include <net/if.h>
+#include <poll.h>
+#include <pthread.h>
+#include <stdio.h>
+#include <stdlib.h>
+#include <string.h>
+#include <sys/eventfd.h>
+#include <sys/ioctl.h>
+#include <sys/socket.h>
+#include <time.h>
+#include <unistd.h>
+
+enum { STATIONS = 3, PGN = 0xEF00, MOST = 1785, ECHO_LOST = 1000, RETRY = 10 };
+static const uint8_t ADDRESS[STATIONS] = {0x21, 0x35, 0x40};
+
+/* What the main thread alone has. */
+struct bus {
+    struct fulwethi_service service;
+    int socket;
+    uint64_t start, put_at;     /* when it began, and when the outstanding frame was put */
+    uint32_t drops;             /* how many frames the socket dropped so far */
+    struct fulwethi_frame kept; /* a frame that the service didn't take yet */
+    int has_kept, outstanding, is_blocked;
+    uint8_t station;            /* of the outstanding frame */
+    char tell[16];              /* what the service is to be told next: 0 to 2 that a station missed frames, s that the frame was put */
+};
+
+/* What one thread has after the start: a client or an inbox. */
+struct end { struct fulwethi_client client; struct fulwethi_inbox inbox; int station; };
+
+static uint32_t messages;
+static int wake;                /* the eventfd */
+static pthread_mutex_t lock = PTHREAD_MUTEX_INITIALIZER;
+static pthread_cond_t is_news = PTHREAD_COND_INITIALIZER;
+/* Under the lock: how often the main thread told of news; how many messages have an outcome, were acknowledged, and were received; and
+ * whether the threads are to end. */
+static uint64_t news;
+static uint32_t ended, acknowledged, received;
+static int is_over;
+
+static void fail(const char *what, uint32_t code) {
+    fprintf(stderr, "%s: %s\n", what, fulwethi_service_strerror(code));
+    exit(1);
+}
+
+/* Adds to a count, and wakes the main thread. */
+static void count(uint32_t *of) {
+    uint64_t one = 1;
+    pthread_mutex_lock(&lock);
+    ++*of;
+    pthread_mutex_unlock(&lock);
+    if (write(wake, &one, sizeof one) != sizeof one) abort();
+}
+
+/* Waits until there is news that wasn't seen; 0 if the thread is to end. */
+static int await(uint64_t *seen) {
+    pthread_mutex_lock(&lock);
+    while (*seen == news && !is_over) pthread_cond_wait(&is_news, &lock);
+    *seen = news;
+    int goes_on = !is_over;
+    pthread_mutex_unlock(&lock);
+    return goes_on;
+}
+
+/* Submits the next message of a client, unless its ring is full; 0 if it is. */
+static int submit(struct end *end, uint32_t number) {
+    uint64_t ticket, one = 1;
+    uint8_t bytes[MOST];
+    size_t len = 9 + number * 97u % (MOST - 8);
+    for (size_t i = 0; i < len; i++) bytes[i] = (uint8_t)(i < 4 ? number >> 8 * i : number + i);
+    uint32_t code = fulwethi_client_submit(&end->client, ADDRESS[(end->station + 1) % STATIONS], PGN, bytes, len, &ticket);
+    if (code == FULWETHI_RING_FULL || code == FULWETHI_NO_MEMORY) return 0;
+    if (code) fail("submit", code);
+    if (write(wake, &one, sizeof one) != sizeof one) abort();
+    return 1;
+}
+
+static void *send_all(void *given) {
+    struct end *end = given;
+    uint64_t seen = 0;
+    uint32_t next = 0;
+    do {
+        struct fulwethi_note note;
+        while (next < messages && submit(end, next)) next++;
+        while (fulwethi_client_outcome(&end->client, &note) == FULWETHI_DONE) {
+            if (note.outcome == FULWETHI_ACKNOWLEDGED) count(&acknowledged);
+            else fprintf(stderr, "message %llu of %02X: %s\n", (unsigned long long)note.ticket, ADDRESS[end->station], fulwethi_outcome_name(note.outcome));
+            count(&ended);
+        }
+    } while (await(&seen));
+    return NULL;
+}
+
+static void *receive_all(void *given) {
+    struct end *end = given;
+    uint64_t seen = 0;
+    do {
+        struct fulwethi_message message;
+        uint8_t room[MOST];
+        while (fulwethi_inbox_receive(&end->inbox, room, sizeof room, &message) == FULWETHI_DONE) {
+            printf("%02X %02X %05X %02X %02X %02X %02X\n", message.from, message.to, message.pgn, room[0], room[1], room[2], room[3]);
+            count(&received);
+        }
+    } while (await(&seen));
+    return NULL;
+}
+
+static uint64_t milliseconds(void) {
+    struct timespec now;
+    if (clock_gettime(CLOCK_MONOTONIC, &now)) abort();
+    return (uint64_t)now.tv_sec * 1000 + (uint64_t)now.tv_nsec / 1000000;
+}
+
+static uint64_t ticks(const struct bus *bus) { return milliseconds() - bus->start; }
+
+static int open_socket(const char *name) {
+    struct ifreq interface = {0};
+    struct sockaddr_can address = {.can_family = AF_CAN};
+    int on = 1, at = socket(PF_CAN, SOCK_RAW | SOCK_NONBLOCK, CAN_RAW);
+    if (at < 0) return -1;
+    strncpy(interface.ifr_name, name, IFNAMSIZ - 1);
+    if (ioctl(at, SIOCGIFINDEX, &interface) < 0) return -1;
+    address.can_ifindex = interface.ifr_ifindex;
+    if (setsockopt(at, SOL_CAN_RAW, CAN_RAW_RECV_OWN_MSGS, &on, sizeof on) < 0) return -1;
+    if (setsockopt(at, SOL_SOCKET, SO_RXQ_OVFL, &on, sizeof on) < 0) return -1;
+    return bind(at, (struct sockaddr *)&address, sizeof address) < 0 ? -1 : at;
+}
+
+/* The service is to be told this, behind what it is to be told already. What is to be told twice that frames were missed is told once. */
+static void note(struct bus *bus, const char *what) {
+    size_t told = strlen(bus->tell), more = strlen(what);
+    if (told >= more && !strcmp(bus->tell + told - more, what)) return;
+    if (told + more < sizeof bus->tell) strcat(bus->tell, what);
+}
+
+/* Tells the service what it is to be told; 0 if something is left, for want of memory or of a turn. */
+static int is_told(struct bus *bus) {
+    for (; bus->tell[0]; memmove(bus->tell, bus->tell + 1, strlen(bus->tell))) {
+        uint32_t code = bus->tell[0] == 's' ? fulwethi_service_sent(&bus->service, bus->station) : fulwethi_service_missed(&bus->service, ADDRESS[bus->tell[0] - '0']);
+        if (code == FULWETHI_NO_MEMORY || code == FULWETHI_BUS_FULL || code == FULWETHI_TRACE_FULL) return 0;
+        if (code) fail("tell", code);
+    }
+    return 1;
+}
+
+/* The outstanding frame was put, or its echo doesn't come: then it counts as put, wherever among those that were lost. */
+static void end_echo(struct bus *bus, const char *what) {
+    if (bus->outstanding) note(bus, what);
+    bus->outstanding = 0;
+}
+
+/* Reads a frame, and whether frames were dropped before it. 1 for one to feed, 0 for another, -1 if none is there. */
+static int read_frame(struct bus *bus) {
+    struct can_frame got;
+    char control[CMSG_SPACE(sizeof(uint32_t)) + 64];
+    struct iovec place = {.iov_base = &got, .iov_len = sizeof got};
+    struct msghdr message = {.msg_iov = &place, .msg_iovlen = 1, .msg_control = control, .msg_controllen = sizeof control};
+    if (recvmsg(bus->socket, &message, 0) != sizeof got) return -1;
+    for (struct cmsghdr *part = CMSG_FIRSTHDR(&message); part; part = CMSG_NXTHDR(&message, part)) {
+        uint32_t drops;
+        if (part->cmsg_level != SOL_SOCKET || part->cmsg_type != SO_RXQ_OVFL) continue;
+        memcpy(&drops, CMSG_DATA(part), sizeof drops);
+        if (drops != bus->drops) note(bus, "012");
+        bus->drops = drops;
+    }
+    if (message.msg_flags & MSG_CONFIRM) return end_echo(bus, "s"), 0;
+    if (!(got.can_id & CAN_EFF_FLAG) || got.can_id & (CAN_RTR_FLAG | CAN_ERR_FLAG)) return 0;
+    bus->kept = (struct fulwethi_frame){.id = got.can_id & CAN_EFF_MASK, .len = got.can_dlc};
+    memcpy(bus->kept.bytes, got.data, 8);
+    return 1;
+}
+
+/* Reads frames while there are some and the service takes them. */
+static void receive(struct bus *bus) {
+    while (is_told(bus)) {
+        if (!bus->has_kept) {
+            int read = read_frame(bus);
+            if (read < 0) return;
+            bus->has_kept = read;
+            continue; /* what was lost is told before the frame */
+        }
+        uint32_t code = fulwethi_service_feed(&bus->service, &bus->kept);
+        if (code == FULWETHI_NO_MEMORY || code == FULWETHI_BUS_FULL || code == FULWETHI_TRACE_FULL) return;
+        if (code) fprintf(stderr, "feed: %s\n", fulwethi_service_strerror(code));
+        bus->has_kept = 0;
+    }
+}
+
+/* Puts the next frame if none is outstanding. */
+static void transmit(struct bus *bus) {
+    struct fulwethi_frame frame;
+    bus->is_blocked = 0;
+    if (bus->outstanding || !is_told(bus) || fulwethi_service_front(&bus->service, &bus->station, &frame) != FULWETHI_DONE) return;
+    struct can_frame put = {.can_id = frame.id | CAN_EFF_FLAG, .can_dlc = (uint8_t)frame.len};
+    memcpy(put.data, frame.bytes, frame.len);
+    if (write(bus->socket, &put, sizeof put) != sizeof put) {
+        bus->is_blocked = 1;
+        return;
+    }
+    bus->outstanding = 1;
+    bus->put_at = ticks(bus);
+}
+
+/* How long to wait, in milliseconds; -1 if nothing is to be done by itself. While a frame is outstanding, or what failed is to be tried again,
+ * the next frame has to wait too, so only timers count. */
+static int pause_for(struct bus *bus) {
+    uint64_t next, now = ticks(bus);
+    int has_failed = bus->tell[0] || bus->is_blocked || bus->has_kept, pause = has_failed ? RETRY : bus->outstanding ? ECHO_LOST : -1;
+    uint32_t code = has_failed || bus->outstanding ? fulwethi_service_next_due_at(&bus->service, &next) : fulwethi_service_next_at(&bus->service, &next);
+    if (code != FULWETHI_DONE) return pause;
+    uint64_t left = next <= now ? 0 : next - now > 1000000 ? 1000000 : next - now;
+    return pause < 0 || left < (uint64_t)pause ? (int)left : pause;
+}
+
+/* Whether all is done: then the others are told to end; else that there is news, if a turn has done something. */
+static int tell_others(int has_done) {
+    pthread_mutex_lock(&lock);
+    is_over = ended == STATIONS * messages && received >= acknowledged;
+    int is_done = is_over;
+    if (has_done || is_done) news++, pthread_cond_broadcast(&is_news);
+    pthread_mutex_unlock(&lock);
+    return is_done;
+}
+
+/* One turn: waits, and does what is to be done; 0 once all is. */
+static int turn(struct bus *bus) {
+    struct pollfd from[2] = {{.fd = bus->socket, .events = POLLIN}, {.fd = wake, .events = POLLIN}};
+    uint64_t woken, made, all = 0;
+    if (poll(from, 2, pause_for(bus)) < 0 && errno != EINTR) abort();
+    if (from[1].revents && read(wake, &woken, sizeof woken) < 0 && errno != EAGAIN) abort();
+    uint32_t code = fulwethi_service_clock(&bus->service, ticks(bus));
+    if (code && code != FULWETHI_NO_MEMORY && code != FULWETHI_TRACE_FULL) fail("clock", code);
+    if (bus->outstanding && ticks(bus) - bus->put_at >= ECHO_LOST) end_echo(bus, "012s012");
+    receive(bus);
+    do {
+        code = fulwethi_service_turn(&bus->service, 16, &made);
+        if (code && code != FULWETHI_NO_MEMORY && code != FULWETHI_TRACE_FULL) fail("turn", code);
+        all += made;
+        transmit(bus);
+    } while (made && !code);
+    return !tell_others(all > 0);
+}
+
+/* The service, with a client and an inbox at each station. */
+static void begin(struct bus *bus, struct end *senders, struct end *receivers) {
+    uint64_t port;
+    uint32_t code = fulwethi_service_new(&bus->service, ADDRESS, STATIONS);
+    for (int k = 0; k < STATIONS && !code; k++) {
+        senders[k].station = receivers[k].station = k;
+        code = fulwethi_service_attach(&bus->service, ADDRESS[k], &senders[k].client);
+        if (!code) code = fulwethi_service_open(&bus->service, ADDRESS[k], PGN, MOST, &port, &receivers[k].inbox);
+    }
+    if (code) fail("begin", code);
+}
+
+int main(int words, char **word) {
+    static struct bus bus;
+    static struct end senders[STATIONS], receivers[STATIONS];
+    pthread_t threads[2 * STATIONS];
+    if (words != 3 || atol(word[2]) < 1) return fprintf(stderr, "usage: %s INTERFACE COUNT\n", word[0]), 2;
+    messages = (uint32_t)atol(word[2]);
+    wake = eventfd(0, EFD_NONBLOCK);
+    bus.socket = open_socket(word[1]);
+    if (bus.socket < 0 || wake < 0) return perror(word[1]), 1;
+    bus.start = milliseconds();
+    begin(&bus, senders, receivers);
+    for (int k = 0; k < STATIONS; k++) {
+        if (pthread_create(&threads[k], NULL, send_all, &senders[k])) abort();
+        if (pthread_create(&threads[STATIONS + k], NULL, receive_all, &receivers[k])) abort();
+    }
+    while (turn(&bus)) { }
+    for (int t = 0; t < 2 * STATIONS; t++) if (pthread_join(threads[t], NULL)) abort();
+    fulwethi_service_free(&bus.service);
+    for (int k = 0; k < STATIONS; k++) {
+        fulwethi_client_free(&senders[k].client);
+        fulwethi_inbox_free(&receivers[k].inbox);
+    }
+    fprintf(stderr, "acknowledged %u of %u, received %u\n", acknowledged, ended, received);
+    return 0;
+}
