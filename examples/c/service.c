@@ -1,16 +1,15 @@
-/* Three stations behind a raw CAN socket, and six threads of an application.
+/* Three stations, 21, 35 and 40, behind a raw CAN socket, and six threads of an application: service INTERFACE COUNT
  *
- *   service INTERFACE COUNT
- *
- * The stations have the addresses 21, 35 and 40. At each, a thread sends COUNT messages to the next station and reads what became of them, and a
- * thread receives and writes what came as 'FROM TO PGN BYTES' of which the first four are shown. The program ends once each message has its
- * outcome and what was acknowledged is received.
+ * At each station a thread sends COUNT messages to the next one and reads what became of them, and a thread receives and writes what came as
+ * 'FROM TO PGN BYTES', the first four of them. The program ends once each message has its outcome and what was acknowledged is received.
  *
  * The main thread has the bus and the service. Who submits wakes it by an eventfd; it wakes the others by a condition when a turn has done
- * something. A frame is told to be sent when the kernel loops it back, so one is outstanding at a time, as in socketcan.c. */
+ * something. A frame is told to be sent when the kernel loops it back, so one is outstanding at a time. If a loss is told meanwhile, what comes
+ * before the echo counts as missed too, since the place of the frame isn't known: as in socketcan.c. */
 #include "fulwethi_service.h"
 #include <errno.h>
 #include <linux/can.h>
+#include <linux/can/error.h>
 #include <linux/can/raw.h>
 #include <net/if.h>
 #include <poll.h>
@@ -24,17 +23,17 @@
 #include <time.h>
 #include <unistd.h>
 
-enum { STATIONS = 3, PGN = 0xEF00, MOST = 1785, ECHO_LOST = 1000, RETRY = 10 };
+enum { STATIONS = 3, PGN = 0xEF00, MOST = 1785, ECHO_WAIT = 200, ECHO_LOST = 1000, RETRY = 10 };
 static const uint8_t ADDRESS[STATIONS] = {0x21, 0x35, 0x40};
 
 /* What the main thread alone has. */
 struct bus {
     struct fulwethi_service service;
     int socket;
-    uint64_t start, put_at;     /* when it began, and when the outstanding frame was put */
+    uint64_t start, end_at;     /* when it began, and when the echo of the outstanding frame is given up */
     uint32_t drops;             /* how many frames the socket dropped so far */
     struct fulwethi_frame kept; /* a frame that the service didn't take yet */
-    int has_kept, outstanding, is_blocked;
+    int has_kept, outstanding, is_lost, is_blocked; /* is_lost: a loss was told since the outstanding frame was put */
     uint8_t station;            /* of the outstanding frame */
     char tell[16];              /* what the service is to be told next: 0 to 2 that a station missed frames, s that the frame was put */
 };
@@ -119,23 +118,23 @@ static void *receive_all(void *given) {
     return NULL;
 }
 
-static uint64_t milliseconds(void) {
+static uint64_t ticks(const struct bus *bus) {
     struct timespec now;
     if (clock_gettime(CLOCK_MONOTONIC, &now)) abort();
-    return (uint64_t)now.tv_sec * 1000 + (uint64_t)now.tv_nsec / 1000000;
+    return (uint64_t)now.tv_sec * 1000 + (uint64_t)now.tv_nsec / 1000000 - bus->start;
 }
-
-static uint64_t ticks(const struct bus *bus) { return milliseconds() - bus->start; }
 
 static int open_socket(const char *name) {
     struct ifreq interface = {0};
     struct sockaddr_can address = {.can_family = AF_CAN};
     int on = 1, at = socket(PF_CAN, SOCK_RAW | SOCK_NONBLOCK, CAN_RAW);
+    can_err_mask_t errors = CAN_ERR_RESTARTED | CAN_ERR_BUSOFF | CAN_ERR_CRTL;
     if (at < 0) return -1;
     strncpy(interface.ifr_name, name, IFNAMSIZ - 1);
     if (ioctl(at, SIOCGIFINDEX, &interface) < 0) return -1;
     address.can_ifindex = interface.ifr_ifindex;
     if (setsockopt(at, SOL_CAN_RAW, CAN_RAW_RECV_OWN_MSGS, &on, sizeof on) < 0) return -1;
+    if (setsockopt(at, SOL_CAN_RAW, CAN_RAW_ERR_FILTER, &errors, sizeof errors) < 0) return -1;
     if (setsockopt(at, SOL_SOCKET, SO_RXQ_OVFL, &on, sizeof on) < 0) return -1;
     return bind(at, (struct sockaddr *)&address, sizeof address) < 0 ? -1 : at;
 }
@@ -160,7 +159,13 @@ static int is_told(struct bus *bus) {
 /* The outstanding frame was put, or its echo doesn't come: then it counts as put, wherever among those that were lost. */
 static void end_echo(struct bus *bus, const char *what) {
     if (bus->outstanding) note(bus, what);
-    bus->outstanding = 0;
+    bus->outstanding = bus->is_lost = 0;
+}
+
+/* Frames of the bus were lost: each station is told, and an outstanding frame may have been among them. */
+static void lose(struct bus *bus) {
+    note(bus, "012");
+    if (bus->outstanding && !bus->is_lost) bus->is_lost = 1, bus->end_at = ticks(bus) + ECHO_WAIT;
 }
 
 /* Reads a frame, and whether frames were dropped before it. 1 for one to feed, 0 for another, -1 if none is there. */
@@ -174,11 +179,13 @@ static int read_frame(struct bus *bus) {
         uint32_t drops;
         if (part->cmsg_level != SOL_SOCKET || part->cmsg_type != SO_RXQ_OVFL) continue;
         memcpy(&drops, CMSG_DATA(part), sizeof drops);
-        if (drops != bus->drops) note(bus, "012");
+        if (drops != bus->drops) lose(bus);
         bus->drops = drops;
     }
-    if (message.msg_flags & MSG_CONFIRM) return end_echo(bus, "s"), 0;
-    if (!(got.can_id & CAN_EFF_FLAG) || got.can_id & (CAN_RTR_FLAG | CAN_ERR_FLAG)) return 0;
+    if (message.msg_flags & MSG_CONFIRM) return end_echo(bus, bus->is_lost ? "012s" : "s"), 0;
+    int is_overrun = got.can_id & CAN_ERR_CRTL && got.data[1] & CAN_ERR_CRTL_RX_OVERFLOW;
+    if (got.can_id & CAN_ERR_FLAG && (got.can_id & (CAN_ERR_RESTARTED | CAN_ERR_BUSOFF) || is_overrun)) lose(bus);
+    if (bus->is_lost || !(got.can_id & CAN_EFF_FLAG) || got.can_id & (CAN_RTR_FLAG | CAN_ERR_FLAG)) return 0;
     bus->kept = (struct fulwethi_frame){.id = got.can_id & CAN_EFF_MASK, .len = got.can_dlc};
     memcpy(bus->kept.bytes, got.data, 8);
     return 1;
@@ -212,14 +219,14 @@ static void transmit(struct bus *bus) {
         return;
     }
     bus->outstanding = 1;
-    bus->put_at = ticks(bus);
+    bus->end_at = ticks(bus) + ECHO_LOST;
 }
 
 /* How long to wait, in milliseconds; -1 if nothing is to be done by itself. While a frame is outstanding, or what failed is to be tried again,
  * the next frame has to wait too, so only timers count. */
 static int pause_for(struct bus *bus) {
     uint64_t next, now = ticks(bus);
-    int has_failed = bus->tell[0] || bus->is_blocked || bus->has_kept, pause = has_failed ? RETRY : bus->outstanding ? ECHO_LOST : -1;
+    int has_failed = bus->tell[0] || bus->is_blocked || bus->has_kept, pause = has_failed ? RETRY : bus->outstanding ? bus->is_lost ? ECHO_WAIT : ECHO_LOST : -1;
     uint32_t code = has_failed || bus->outstanding ? fulwethi_service_next_due_at(&bus->service, &next) : fulwethi_service_next_at(&bus->service, &next);
     if (code != FULWETHI_DONE) return pause;
     uint64_t left = next <= now ? 0 : next - now > 1000000 ? 1000000 : next - now;
@@ -244,7 +251,7 @@ static int turn(struct bus *bus) {
     if (from[1].revents && read(wake, &woken, sizeof woken) < 0 && errno != EAGAIN) abort();
     uint32_t code = fulwethi_service_clock(&bus->service, ticks(bus));
     if (code && code != FULWETHI_NO_MEMORY && code != FULWETHI_TRACE_FULL) fail("clock", code);
-    if (bus->outstanding && ticks(bus) - bus->put_at >= ECHO_LOST) end_echo(bus, "012s012");
+    if (bus->outstanding && ticks(bus) >= bus->end_at) end_echo(bus, "012s012");
     receive(bus);
     do {
         code = fulwethi_service_turn(&bus->service, 16, &made);
@@ -276,7 +283,7 @@ int main(int words, char **word) {
     wake = eventfd(0, EFD_NONBLOCK);
     bus.socket = open_socket(word[1]);
     if (bus.socket < 0 || wake < 0) return perror(word[1]), 1;
-    bus.start = milliseconds();
+    bus.start = ticks(&bus);
     begin(&bus, senders, receivers);
     for (int k = 0; k < STATIONS; k++) {
         if (pthread_create(&threads[k], NULL, send_all, &senders[k])) abort();
