@@ -1,10 +1,14 @@
 -- Texts that are put one behind the other.
-use Rattle.std.proofs.Common.{◌≡◌, ℕ, List, [], ◌∷◌, ◌++◌, Result, Ok, Err, OnOk, refl, sym, ◌∙◌, ap, append_assoc, codes, true, false}
+use Rattle.std.proofs.Common.{◌≡◌, ℕ, List, [], ◌∷◌, ◌++◌, Result, Ok, Err, OnOk, refl, sym, ◌∙◌, ap, append_assoc, codes, Bool, true, false, cond}
 use Rattle.std.specs.declared.alloc.AllocError.{AllocError}
-use Rattle.json_objects.specs.Objects.{Named, count_of, object_line, key_text, member_text, rest_text}
-use Rattle.json_objects.proofs.Objects.{line_spelled, two_spelled}
+use Rattle.serde_json.specs.Written.{compact_text}
+use Rattle.json_objects.specs.Objects.{Named, object_of, count_of, object_line, key_text, member_text, rest_text}
+use Rattle.json_objects.proofs.Objects.{line_spelled, all_spelled, tail_text}
 use Rattle.log_courses.specs.declared.course.Place.{Place}
+use Rattle.log_courses.specs.declared.marks.Mark.{Mark}
+use Rattle.bus_decode.specs.Frames.{frames_array, with_frames, frames_text}
 use Rattle.bus_decode.specs.Json.{place_object}
+use Rattle.bus_decode.specs.declared.options.Options.{Options}
 
 -- one, and then the others
 pub behind : (result : Result (Unit {0}) AllocError) (a b c x y : List ℕ) → b ≡ a ++ x → OnOk result (c ≡ b ++ y) → OnOk result (c ≡ a ++ (x ++ y))
@@ -24,10 +28,33 @@ pub line_put : (result : Result (Unit {0}) AllocError) (a b : List ℕ) (ms : Li
 line_put (Ok done) a b ms p = p ∙ ap (λ s. a ++ s) (is_spelled ms)
 line_put (Err error) a b ms p = tt
 
+abbrev pub object_spelled : List Named → List ℕ
+object_spelled [] = compact_text (object_of [])
+object_spelled (m ∷ ms) = codes "{" ++ (member_text false m.0 m.1 ++ tail_text ms)
+
+is_object : (ms : List Named) → object_spelled ms ≡ compact_text (object_of ms)
+is_object [] = refl
+is_object (m ∷ ms) = sym (all_spelled m ms)
+
+-- an object within another one
+pub object_put : (result : Result (Unit {0}) AllocError) (a b : List ℕ) (ms : List Named) → OnOk result (b ≡ a ++ object_spelled ms) → OnOk result (b ≡ a ++ compact_text (object_of ms))
+object_put (Ok done) a b ms p = p ∙ ap (λ s. a ++ s) (is_object ms)
+object_put (Err error) a b ms p = tt
+
 -- a member that is a place
 pub place_put : (result : Result (Unit {0}) AllocError) (a b name : List ℕ) (p : Place)
-    → OnOk result (b ≡ a ++ (key_text true name ++ (codes "{" ++ (member_text false (codes "number") (count_of p.number) ++ (member_text true (codes "time") (count_of p.time) ++ codes "}")))))
+    → OnOk result (b ≡ a ++ (key_text true name ++ object_spelled ((codes "number", count_of p.number) ∷ (codes "time", count_of p.time) ∷ [])))
     → OnOk result (b ≡ a ++ member_text true name (place_object p))
 unfolding member_text
-place_put (Ok done) a b name p h = h ∙ ap (λ s. a ++ (key_text true name ++ s)) (sym (two_spelled (codes "number") (codes "time") (count_of p.number) (count_of p.time)))
+place_put (Ok done) a b name p h = h ∙ ap (λ s. a ++ (key_text true name ++ s)) (is_object ((codes "number", count_of p.number) ∷ (codes "time", count_of p.time) ∷ []))
 place_put (Err error) a b name p h = tt
+
+by_frames : (b : Bool) (marks : List Mark) (ms : List Named) → cond b (member_text true (codes "frames") (frames_array marks)) [] ++ rest_text ms ≡ rest_text (cond b ((codes "frames", frames_array marks) ∷ ms) ms)
+by_frames true marks ms = refl
+by_frames false marks ms = refl
+
+-- members behind the one of frames, if that is there
+pub frames_put : (result : Result (Unit {0}) AllocError) (options : Options) (marks : List Mark) (ms : List Named) (a b c : List ℕ) → b ≡ a ++ frames_text options marks → OnOk result (c ≡ b ++ rest_text ms)
+    → OnOk result (c ≡ a ++ rest_text (with_frames options marks ms))
+frames_put (Ok done) options marks ms a b c p q = q ∙ ap (λ s. s ++ rest_text ms) p ∙ append_assoc a (frames_text options marks) (rest_text ms) ∙ ap (λ s. a ++ s) (by_frames options.frames marks ms)
+frames_put (Err error) options marks ms a b c p q = tt

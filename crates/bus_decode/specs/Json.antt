@@ -16,7 +16,8 @@ use Rattle.log_decode.specs.declared.told.Cause.{Cause}
 use Rattle.log_decode.specs.declared.told.Cause.TheVariants.{Missing, Replaced, TimedOut, WentBack, Acknowledged, Unsound, TooLong, EndOfLog}
 use Rattle.log_decode.specs.declared.told.Told.{Told}
 use Rattle.log_decode.specs.declared.told.Told.TheVariants.{Given, Aborted, Lost}
-use Rattle.bus_decode.specs.Options.{is_asked_for}
+use Rattle.bus_decode.specs.Frames.{with_frames}
+use Rattle.bus_decode.specs.Options.{is_asked_for, detail_of}
 use Rattle.bus_decode.specs.declared.options.Options.{Options}
 
 -- the number and the time of a frame
@@ -46,23 +47,23 @@ measured_members now iface kind c size pgn to =
     ∷ (codes "to", count_of to.0) ∷ []
 
 -- all of it came
-abbrev pub given_members : (now : ℕ) → Course → Key → (pgn : ℕ) → List ℕ → List Named
-given_members now c key pgn bytes =
+unfoldable pub given_members : Options → (now : ℕ) → Course → Key → (pgn : ℕ) → List ℕ → List Named
+given_members options now c key pgn bytes =
     (codes "again", count_of c.again)
     ∷ (codes "data", string (unspaced bytes))
     ∷ (codes "first", place_object c.first)
-    ∷ (codes "from", count_of key.from.0)
-    ∷ measured_members now key.iface (codes "given") c (length bytes) pgn key.to
+    ∷ with_frames options c.marks ((codes "from", count_of key.from.0)
+    ∷ measured_members now key.iface (codes "given") c (length bytes) pgn key.to)
 
 -- it is lost: so many of its bytes came
-abbrev pub lost_members : (now : ℕ) → Course → Key → (pgn have size : ℕ) → Cause → List Named
-lost_members now c key pgn have size cause =
+unfoldable pub lost_members : Options → (now : ℕ) → Course → Key → (pgn have size : ℕ) → Cause → List Named
+lost_members options now c key pgn have size cause =
     (codes "again", count_of c.again)
     ∷ (codes "cause", string (cause_words cause))
     ∷ (codes "first", place_object c.first)
-    ∷ (codes "from", count_of key.from.0)
+    ∷ with_frames options c.marks ((codes "from", count_of key.from.0)
     ∷ (codes "have", count_of have)
-    ∷ measured_members now key.iface (codes "lost") c size pgn key.to
+    ∷ measured_members now key.iface (codes "lost") c size pgn key.to)
 
 abbrev pub abort_members : (now : ℕ) → Course → Key → (pgn reason : ℕ) → List Named
 abort_members now c key pgn reason =
@@ -75,13 +76,13 @@ abort_members now c key pgn reason =
     ∷ (codes "to", count_of key.to.0) ∷ []
 
 -- one of its ends aborted it, for a reason
-abbrev pub aborted_members : (now : ℕ) → Course → Key → (pgn reason : ℕ) → Address → List Named
-aborted_members now c key pgn reason who =
+unfoldable pub aborted_members : Options → (now : ℕ) → Course → Key → (pgn reason : ℕ) → Address → List Named
+aborted_members options now c key pgn reason who =
     (codes "again", count_of c.again)
     ∷ (codes "by", count_of who.0)
     ∷ (codes "first", place_object c.first)
-    ∷ (codes "from", count_of key.from.0)
-    ∷ abort_members now c key pgn reason
+    ∷ with_frames options c.marks ((codes "from", count_of key.from.0)
+    ∷ abort_members now c key pgn reason)
 
 -- a frame that carries nothing of a message
 abbrev pub frame_members : (now : ℕ) → Iface → (from to : Address) → (pgn : ℕ) → List ℕ → List Named
@@ -100,14 +101,14 @@ wrong_members n = (codes "kind", string (codes "wrong line")) ∷ (codes "line",
 
 -- what was told at a time, where it is asked for
 abbrev pub told_object : (now : ℕ) → Options → Course → Told → List ℕ
-told_object now options c (Given key pgn bytes) = if is_asked_for options key.from key.to pgn then object_line (given_members now c key pgn bytes) else []
-told_object now options c (Aborted key pgn reason who) = if is_asked_for options key.from key.to pgn then object_line (aborted_members now c key pgn reason who) else []
-told_object now options c (Lost key pgn have size cause) = if is_asked_for options key.from key.to pgn then object_line (lost_members now c key pgn have size cause) else []
+told_object now options c (Given key pgn bytes) = if is_asked_for options key.from key.to pgn then object_line (given_members options now c key pgn bytes) else []
+told_object now options c (Aborted key pgn reason who) = if is_asked_for options key.from key.to pgn then object_line (aborted_members options now c key pgn reason who) else []
+told_object now options c (Lost key pgn have size cause) = if is_asked_for options key.from key.to pgn then object_line (lost_members options now c key pgn have size cause) else []
 
 -- one behind the other, each with its course
 abbrev pub told_objects : Place → Options → List Told → Courses → List ℕ
 told_objects place options [] courses = []
-told_objects place options (t ∷ ts) courses = told_object place.time options (course_of place t courses) t ++ told_objects place options ts (without_told t courses)
+told_objects place options (t ∷ ts) courses = told_object place.time options (course_of (detail_of options) place t courses) t ++ told_objects place options ts (without_told t courses)
 
 abbrev pub without_each : List Told → Courses → Courses
 without_each [] courses = courses

@@ -2,7 +2,9 @@ pub mod Options
 pub mod Strays
 pub mod Counts
 pub mod Text
+pub mod Frames
 pub mod Json
+pub mod Listing
 pub mod Listening
 pub mod Outcome
 pub mod Ending

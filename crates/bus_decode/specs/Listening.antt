@@ -20,6 +20,8 @@ use Rattle.bus_decode.specs.Counts.{with_frame, with_strays, with_each}
 use Rattle.bus_decode.specs.Text.{told_lines, wrong_line, single_line}
 use Rattle.log_decode.specs.declared.stray.Stray.{Stray}
 use Rattle.log_decode.specs.declared.told.Told.{Told}
+use Rattle.bus_decode.specs.Listing.{listed_lines}
+use Rattle.bus_decode.specs.Options.{follows, detail_of}
 use Rattle.bus_decode.specs.Json.{told_objects, without_each, single_object, wrong_object}
 use Rattle.bus_decode.specs.declared.counts.Counts.{Counts}
 use Rattle.bus_decode.specs.declared.listener.Listener.{Listener}
@@ -55,15 +57,18 @@ single now iface options frame = if options.singles && (not (is_transport frame)
 
 -- what was told at a frame
 abbrev pub told_text : Place → Options → List Told → Courses → List ℕ
-told_text place options told courses = if options.json then told_objects place options told courses else told_lines place.time options told
+told_text place options told courses =
+    if options.json then told_objects place options told courses
+    else if options.frames then listed_lines place options told courses
+    else told_lines place.time options told
 
 -- the courses of the others, where courses are asked for
 abbrev pub left_courses : Options → List Told → Courses → Courses
-left_courses options told courses = if options.json then without_each told courses else courses
+left_courses options told courses = if follows options then without_each told courses else courses
 
 -- and with the frame
 abbrev pub heard_courses : Options → Iface → CanFrame → Place → List Told → Courses → Courses
-heard_courses options iface frame place told courses = if options.json then followed iface frame place told (without_each told courses) else courses
+heard_courses options iface frame place told courses = if follows options then followed (detail_of options) iface frame place told (without_each told courses) else courses
 
 -- a listener to a frame that was counted, and what is printed: the frame's place in the log is its number and the time to which it brings the
 -- interface

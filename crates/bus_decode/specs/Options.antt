@@ -1,6 +1,10 @@
 -- What of a log is asked for.
-use Rattle.std.specs.Prelude.{ℕ, List, [], ◌∷◌, length, Bool, false, ◌&&◌, ◌||◌, ◌==◌}
+use Rattle.std.specs.Prelude.{ℕ, List, [], ◌∷◌, length, Bool, false, ◌&&◌, ◌||◌, ◌==◌, if◌then◌else◌}
 use Rattle.pgn_ids.specs.declared.address.Address.{Address}
+use Rattle.log_courses.specs.declared.marks.Detail.{Detail}
+use Rattle.log_courses.specs.declared.marks.Detail.TheVariants.{Ends, Frames}
+use Rattle.log_decode.specs.declared.told.Told.{Told}
+use Rattle.log_decode.specs.declared.told.Told.TheVariants.{Given, Aborted, Lost}
 use Rattle.bus_decode.specs.declared.options.Options.{Options}
 
 abbrev pub is_among : List ℕ → ℕ → Bool
@@ -14,3 +18,16 @@ takes wanted n = length wanted == 0 || is_among wanted n
 -- a message of this PGN between these addresses
 abbrev pub is_asked_for : Options → (from to : Address) → (pgn : ℕ) → Bool
 is_asked_for options from to pgn = takes options.pgns pgn && takes options.from from.0 && takes options.to to.0
+
+-- what was told is asked for
+abbrev pub is_told_asked : Options → Told → Bool
+is_told_asked options (Given key pgn bytes) = is_asked_for options key.from key.to pgn
+is_told_asked options (Aborted key pgn reason who) = is_asked_for options key.from key.to pgn
+is_told_asked options (Lost key pgn have size cause) = is_asked_for options key.from key.to pgn
+
+-- courses are followed where they are printed
+abbrev pub follows : Options → Bool
+follows options = options.json || options.frames
+
+abbrev pub detail_of : Options → Detail
+detail_of options = if options.frames then Frames else Ends

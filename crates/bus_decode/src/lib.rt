@@ -3,8 +3,10 @@
 #![tactic(auto)]
 
 mod counts;
+mod frames;
 mod listener;
 mod listening;
+mod listing;
 mod objects;
 mod options;
 mod running;

@@ -5,6 +5,7 @@ ghost use Rattle.bus_decode.specs.declared.listening.LineError.TheVariants.{OutO
 
 use crate::counts::Counts;
 use crate::listener::Listener;
+use crate::listing::put_each_listed;
 use crate::objects::{put_objects, put_single_object, put_wrong_object};
 use crate::options::Options;
 use crate::strays::stray_left;
@@ -64,6 +65,7 @@ fn put_other(
 
 /// What was told at a frame is printed. Where courses are asked for, those of what was told are taken out.
 fn tell(
+    alloc: Global,
     out: &mut Vec<u8>,
     place: Place,
     options: &Options,
@@ -74,14 +76,17 @@ fn tell(
     ensures courses { OnOk result (courses.new ≡ left_courses options.now told.now courses.old) }
 {
     if options.json {
-        put_objects(out, place, options, told, courses)
-    } else {
-        put_each(out, place.time, options, told)
+        return put_objects(alloc, out, place, options, told, courses);
     }
+    if options.frames {
+        return put_each_listed(alloc, out, place, options, told, courses);
+    }
+    put_each(out, place.time, options, told)
 }
 
 /// What was told at a frame is printed, and the messages that go on have one more.
 fn tell_frame(
+    alloc: Global,
     out: &mut Vec<u8>,
     place: Place,
     options: &Options,
@@ -93,11 +98,11 @@ fn tell_frame(
     ensures text { OnOk result (out.new.items ≡ out.old.items ++ told_text place options.now told.now courses.old) }
     ensures courses { OnOk result (courses.new ≡ heard_courses options.now iface frame.now place told.now courses.old) }
 {
-    tell(out, place, options, told, courses)?;
-    if !options.json {
+    tell(alloc, out, place, options, told, courses)?;
+    if !options.follows() {
         return Ok(());
     }
-    courses.follow(iface, frame, place, told)
+    courses.follow(alloc, options.detail(), iface, frame, place, told)
 }
 
 /// A frame is seen at a time on an interface.
@@ -125,6 +130,7 @@ fn take_frame(
         time: now,
     };
     tell_frame(
+        alloc,
         out,
         place,
         options,
@@ -253,5 +259,5 @@ pub(crate) fn take_end(
     let mut told = Vec::new(alloc);
     decoder.finish(&mut told)?;
     counts.add_each(options, told.as_slice());
-    tell(out, place, options, told.as_slice(), &mut courses)
+    tell(alloc, out, place, options, told.as_slice(), &mut courses)
 }

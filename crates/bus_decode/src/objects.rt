@@ -5,6 +5,7 @@ ghost use Rattle.serde_json.specs.Data.{string};
 ghost use Rattle.log_text.specs.Iface.{name_of};
 ghost use Rattle.bus_decode.specs.Json.{place_object, cause_words, measured_members, given_members, abort_members, aborted_members, lost_members, frame_members, wrong_members, told_object, told_objects, without_each, single_object, wrong_object};
 
+use crate::frames::put_frames;
 use crate::options::Options;
 use bus_frame::Frame;
 use json_objects::{put_hex, put_key, put_number, put_string};
@@ -12,7 +13,7 @@ use log_courses::{Course, Courses, Place};
 use log_decode::{Cause, Key, Told};
 use log_text::Iface;
 use pgn_ids::{Address, Pgn, read_id};
-use std::alloc::AllocError;
+use std::alloc::{AllocError, Global};
 use text_digits::put_text;
 
 fn cause_words(cause: Cause) -> &'static str
@@ -59,7 +60,12 @@ fn put_interface(out: &mut Vec<u8>, iface: Iface) -> Result<(), AllocError>
     put_string(out, true, "interface", iface.name())
 }
 
-fn put_word(out: &mut Vec<u8>, later: bool, name: &str, word: &str) -> Result<(), AllocError>
+pub(crate) fn put_word(
+    out: &mut Vec<u8>,
+    later: bool,
+    name: &str,
+    word: &str,
+) -> Result<(), AllocError>
     ensures { OnOk result (out.new.items ≡ out.old.items ++ member_text later name.now (string word.now)) }
 {
     put_string(out, later, name, word.as_bytes())
@@ -111,18 +117,20 @@ fn put_given_rest(
 /// The line of a message that was given.
 fn put_given(
     out: &mut Vec<u8>,
+    options: &Options,
     now: u64,
     course: &Course,
     key: &Key,
     pgn: Pgn,
     bytes: &[u8],
 ) -> Result<(), AllocError>
-    ensures { OnOk result (out.new.items ≡ out.old.items ++ object_line (given_members now course.now key.now pgn bytes.now)) }
+    ensures { OnOk result (out.new.items ≡ out.old.items ++ object_line (given_members options.now now course.now key.now pgn bytes.now)) }
 {
     put_text(out, "{")?;
     put_number(out, false, "again", course.again)?;
     put_hex(out, true, "data", bytes)?;
     put_place(out, "first", course.first)?;
+    put_frames(out, options, course.marks.as_slice())?;
     put_address(out, "from", key.from)?;
     put_given_rest(out, now, course, key, pgn, bytes)
 }
@@ -130,6 +138,7 @@ fn put_given(
 /// The line of a message that is lost.
 fn put_lost(
     out: &mut Vec<u8>,
+    options: &Options,
     now: u64,
     course: &Course,
     key: &Key,
@@ -138,12 +147,13 @@ fn put_lost(
     size: u64,
     cause: Cause,
 ) -> Result<(), AllocError>
-    ensures { OnOk result (out.new.items ≡ out.old.items ++ object_line (lost_members now course.now key.now pgn have size cause)) }
+    ensures { OnOk result (out.new.items ≡ out.old.items ++ object_line (lost_members options.now now course.now key.now pgn have size cause)) }
 {
     put_text(out, "{")?;
     put_number(out, false, "again", course.again)?;
     put_cause(out, cause)?;
     put_place(out, "first", course.first)?;
+    put_frames(out, options, course.marks.as_slice())?;
     put_address(out, "from", key.from)?;
     put_number(out, true, "have", have)?;
     put_measured(out, now, key.iface, "lost", course, size, pgn, key.to)
@@ -173,6 +183,7 @@ fn put_abort(
 /// The line of a message that was aborted.
 fn put_aborted(
     out: &mut Vec<u8>,
+    options: &Options,
     now: u64,
     course: &Course,
     key: &Key,
@@ -180,12 +191,13 @@ fn put_aborted(
     reason: u64,
     who: Address,
 ) -> Result<(), AllocError>
-    ensures { OnOk result (out.new.items ≡ out.old.items ++ object_line (aborted_members now course.now key.now pgn reason who)) }
+    ensures { OnOk result (out.new.items ≡ out.old.items ++ object_line (aborted_members options.now now course.now key.now pgn reason who)) }
 {
     put_text(out, "{")?;
     put_number(out, false, "again", course.again)?;
     put_address(out, "by", who)?;
     put_place(out, "first", course.first)?;
+    put_frames(out, options, course.marks.as_slice())?;
     put_address(out, "from", key.from)?;
     put_abort(out, now, course, key, pgn, reason)
 }
@@ -205,7 +217,7 @@ fn put_told(
             if !options.ask_for(key.from, key.to, *pgn) {
                 return Ok(());
             }
-            put_given(out, now, course, key, *pgn, bytes.as_slice())
+            put_given(out, options, now, course, key, *pgn, bytes.as_slice())
         }
         Told::Aborted {
             key,
@@ -216,7 +228,8 @@ fn put_told(
             if !options.ask_for(key.from, key.to, *pgn) {
                 return Ok(());
             }
-            put_aborted(out, now, course, key, *pgn, u64::from(*reason), *who)
+            let reason = u64::from(*reason);
+            put_aborted(out, options, now, course, key, *pgn, reason, *who)
         }
         Told::Lost {
             key,
@@ -229,13 +242,14 @@ fn put_told(
                 return Ok(());
             }
             let (have, size) = (u64::from(*have), u64::from(*size));
-            put_lost(out, now, course, key, *pgn, have, size, *cause)
+            put_lost(out, options, now, course, key, *pgn, have, size, *cause)
         }
     }
 }
 
 /// The lines of what was told at a frame, each with its course, which is taken out.
 pub(crate) fn put_objects(
+    alloc: Global,
     out: &mut Vec<u8>,
     place: Place,
     options: &Options,
@@ -246,7 +260,7 @@ pub(crate) fn put_objects(
     ensures courses { OnOk result (courses.new ≡ without_each told.now courses.old) }
 {
     for one in told {
-        let course = courses.end(place, one);
+        let course = courses.end(alloc, options.detail(), place, one)?;
         put_told(out, place.time, options, &course, one)?;
     }
     Ok(())

@@ -1,7 +1,9 @@
 //! What of a log is asked for.
 ghost use Rattle.std.specs.Prelude.{◌≡◌, [], ◌∷◌, ◌++◌, OnOk};
-ghost use Rattle.bus_decode.specs.Options.{is_among, takes, is_asked_for};
+ghost use Rattle.bus_decode.specs.Options.{is_among, takes, is_asked_for, is_told_asked, follows, detail_of};
 
+use log_courses::Detail;
+use log_decode::Told;
 use pgn_ids::{Address, Pgn};
 use std::alloc::{AllocError, Global};
 use std::marker::Model;
@@ -74,6 +76,8 @@ pub struct Options {
     pub strict: bool,
     /// Whether each line is a JSON object.
     pub json: bool,
+    /// Whether the frames of each message are listed, but for its packets.
+    pub frames: bool,
 }
 
 impl Options {
@@ -84,5 +88,34 @@ impl Options {
         self.pgns.takes(pgn.raw())
             && self.from.takes(u32::from(from.0))
             && self.to.takes(u32::from(to.0))
+    }
+
+    /// Whether what was told is asked for.
+    pub(crate) fn ask_for_told(&self, told: &Told) -> bool
+        ensures { result ≡ is_told_asked self.now told.now }
+    {
+        match told {
+            Told::Given { key, pgn, .. } => self.ask_for(key.from, key.to, *pgn),
+            Told::Aborted { key, pgn, .. } => self.ask_for(key.from, key.to, *pgn),
+            Told::Lost { key, pgn, .. } => self.ask_for(key.from, key.to, *pgn),
+        }
+    }
+
+    /// Whether the courses of messages are followed.
+    pub(crate) fn follows(&self) -> bool
+        ensures { result ≡ follows self.now }
+    {
+        self.json || self.frames
+    }
+
+    /// What is kept of each course.
+    pub(crate) fn detail(&self) -> Detail
+        ensures { result ≡ detail_of self.now }
+    {
+        if self.frames {
+            Detail::Frames
+        } else {
+            Detail::Ends
+        }
     }
 }

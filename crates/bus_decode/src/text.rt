@@ -96,7 +96,12 @@ fn put_loss(out: &mut Vec<u8>, have: u32, size: u32, cause: Cause) -> Result<(),
 }
 
 /// The line of what was told at a time, where it is asked for.
-fn put_told(out: &mut Vec<u8>, now: u64, options: &Options, told: &Told) -> Result<(), AllocError>
+pub(crate) fn put_told(
+    out: &mut Vec<u8>,
+    now: u64,
+    options: &Options,
+    told: &Told,
+) -> Result<(), AllocError>
     ensures { OnOk result (out.new.items ≡ out.old.items ++ told_line now options.now told.now) }
 {
     match told {

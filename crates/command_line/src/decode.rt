@@ -21,6 +21,8 @@ pub struct OfLog {
     pub strict: bool,
     /// Whether each line is a JSON object.
     pub json: bool,
+    /// Whether the frames of each message are listed, but for its packets.
+    pub frames: bool,
 }
 
 /// The longest message that a transport carries, in bytes.
@@ -43,7 +45,13 @@ known:
   (TIME) IFACE lost FROM TO PGN HAVE OF CAUSE
 A wrong line is told by its number, in its place. What was counted is told on
 standard error at the end. With --json each line is an object, with times in
-microseconds.
+microseconds. With --frames the frames of a message follow its line, but for
+packets:
+  (TIME) NUMBER announcement
+  (TIME) NUMBER window FIRST LAST
+  (TIME) NUMBER again FIRST LAST
+  (TIME) NUMBER hold
+  (TIME) NUMBER end
 
 Examples:
   j1939bus decode can0.log can0.log.1
@@ -85,6 +93,14 @@ fn json_arg<'a>(alloc: Global) -> Arg<'a> {
     flag(alloc, "json", "Prints each line as a JSON object")
 }
 
+fn frames_arg<'a>(alloc: Global) -> Arg<'a> {
+    flag(
+        alloc,
+        "frames",
+        "Lists the announcement, windows and end of each message, with time and number",
+    )
+}
+
 fn strict_arg<'a>(alloc: Global) -> Arg<'a> {
     flag(alloc, "strict", "Ends at a wrong line")
 }
@@ -104,6 +120,7 @@ fn decode_args<'a>(alloc: Global) -> Result<Vec<Arg<'a>>, AllocError> {
             all_arg(alloc),
             strict_arg(alloc),
             json_arg(alloc),
+            frames_arg(alloc),
             files(
                 alloc,
                 "Logs in the order of their times, - for standard input [default: -]",
@@ -167,5 +184,6 @@ pub(crate) fn read_decode(alloc: Global, matches: &ArgMatches) -> Result<OfLog, 
         singles: matches.get_flag("all"),
         strict: matches.get_flag("strict"),
         json: matches.get_flag("json"),
+        frames: matches.get_flag("frames"),
     })
 }

@@ -152,6 +152,7 @@ fn decode<R: Print + Eprint + AllocGlobal + Clock, I: Read + Drop>(
         singles: asked.singles,
         strict: asked.strict,
         json: asked.json,
+        frames: asked.frames,
     };
     let decoded = decode_all(rt, errors, &options, input, size)?;
     if let Some(fault) = decoded.fault {

@@ -27,7 +27,15 @@ line_spelled m ms =
     ap (λ s. 123 ∷ (s ++ codes "\n")) (one_more false m.0 m.1 rest)
     ∙ ap (λ s. 123 ∷ s) (append_assoc (member_text false m.0 m.1) rest (codes "\n") ∙ ap (λ s. member_text false m.0 m.1 ++ s) (later_ones ms))
 
--- an object of two members
-pub two_spelled : (a b : List ℕ) (d e : Data) → compact_text (object_of ((a, d) ∷ (b, e) ∷ [])) ≡ codes "{" ++ (member_text false a d ++ (member_text true b e ++ codes "}"))
-two_spelled a b d e =
-    ap (λ s. 123 ∷ s) (one_more false a d (members_text true (members_from ((b, e) ∷ []))) ∙ ap (λ s. member_text false a d ++ s) (one_more true b e (codes "}")))
+-- members behind another one, to the brace
+abbrev pub tail_text : List Named → List ℕ
+tail_text [] = codes "}"
+tail_text (m ∷ ms) = member_text true m.0 m.1 ++ tail_text ms
+
+tail_spelled : (ms : List Named) → members_text true (members_from ms) ≡ tail_text ms
+tail_spelled [] = refl
+tail_spelled (m ∷ ms) = one_more true m.0 m.1 (members_text true (members_from ms)) ∙ ap (λ s. member_text true m.0 m.1 ++ s) (tail_spelled ms)
+
+-- an object that has a member, within another one
+pub all_spelled : (m : Named) (ms : List Named) → compact_text (object_of (m ∷ ms)) ≡ codes "{" ++ (member_text false m.0 m.1 ++ tail_text ms)
+all_spelled m ms = ap (λ s. 123 ∷ s) (one_more false m.0 m.1 (members_text true (members_from ms)) ∙ ap (λ s. member_text false m.0 m.1 ++ s) (tail_spelled ms))

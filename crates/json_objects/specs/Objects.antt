@@ -1,7 +1,7 @@
 -- Objects, as serde_json writes them.
 use Rattle.std.specs.Prelude.{ℕ, List, [], ◌∷◌, ◌++◌, Bool, true, false, codes}
 use Rattle.json.specs.Print.{quoted}
-use Rattle.serde_json.specs.Data.{Data, number, unsigned, object, Members, no_members, member}
+use Rattle.serde_json.specs.Data.{Data, number, unsigned, array, object, Items, no_items, item, Members, no_members, member}
 use Rattle.serde_json.specs.Written.{comma_if, compact_text}
 
 -- a member, by its name
@@ -15,6 +15,14 @@ members_from (m ∷ ms) = member m.0 m.1 (members_from ms)
 -- an object of these members
 abbrev pub object_of : List Named → Data
 object_of ms = object (members_from ms)
+
+abbrev pub items_from : List Data → Items
+items_from [] = no_items
+items_from (d ∷ ds) = item d (items_from ds)
+
+-- an array of these values
+abbrev pub array_of : List Data → Data
+array_of ds = array (items_from ds)
 
 abbrev pub count_of : ℕ → Data
 count_of n = number (unsigned n)

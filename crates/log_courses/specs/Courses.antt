@@ -20,9 +20,11 @@ use Rattle.log_decode.specs.declared.told.Cause.{Cause}
 use Rattle.log_decode.specs.declared.told.Cause.TheVariants.{Missing, Replaced, TimedOut, WentBack, Acknowledged, Unsound, TooLong, EndOfLog}
 use Rattle.log_decode.specs.declared.told.Told.{Told}
 use Rattle.log_decode.specs.declared.told.Told.TheVariants.{Given, Aborted, Lost}
-use Rattle.log_courses.specs.Course.{begun, longer, cm_followed}
+use Rattle.log_courses.specs.Course.{begun, longer, noted, ended, cm_followed}
 use Rattle.log_courses.specs.declared.course.Course.{Course}
 use Rattle.log_courses.specs.declared.course.Place.{Place}
+use Rattle.log_courses.specs.declared.marks.Detail.{Detail}
+use Rattle.log_courses.specs.declared.marks.Step.TheVariants.{Announcement}
 
 -- of each message under way, by what tells them apart
 abbrev pub Courses : Type 0
@@ -71,16 +73,6 @@ ends_by_frame (Lost key pgn have size cause) = is_by_frame cause
 abbrev pub course_told : Told → Courses → Option Course
 course_told told courses = elim (course_at (key_told told) courses) [ None ↦ None | Some c ↦ if c.pgn == pgn_told told then Some c else None ]
 
--- the course of what is told at a frame. A message that didn't begin, and an abort of none, have this frame alone
-abbrev pub course_of : Place → Told → Courses → Course
-course_of place told courses = elim (course_told told courses) [ None ↦ begun (pgn_told told) place | Some c ↦ if ends_by_frame told then longer place c else c ]
-
--- the others
-abbrev pub without_told : Told → Courses → Courses
-without_told told courses = elim (course_told told courses) [ None ↦ courses | Some c ↦ remove_entry (same_key (key_told told)) courses ]
-
--- What a frame adds to the messages that go on
-
 abbrev pub is_refusal : Cause → Bool
 is_refusal Missing = false
 is_refusal Replaced = false
@@ -97,6 +89,20 @@ refuses (Given key pgn bytes) = false
 refuses (Aborted key pgn reason who) = false
 refuses (Lost key pgn have size cause) = is_refusal cause
 
+-- a message that didn't begin, and an abort of none, have this frame alone
+abbrev pub alone : Detail → Place → Told → Course
+alone detail place told = if refuses told then noted detail place Announcement (begun (pgn_told told) place) else ended detail place (begun (pgn_told told) place)
+
+-- the course of what is told at a frame, with that frame where it is one of the message
+abbrev pub course_of : Detail → Place → Told → Courses → Course
+course_of detail place told courses = elim (course_told told courses) [ None ↦ alone detail place told | Some c ↦ if ends_by_frame told then ended detail place (longer place c) else c ]
+
+-- the others
+abbrev pub without_told : Told → Courses → Courses
+without_told told courses = elim (course_told told courses) [ None ↦ courses | Some c ↦ remove_entry (same_key (key_told told)) courses ]
+
+-- What a frame adds to the messages that go on
+
 abbrev pub is_refused : List Told → Bool
 is_refused [] = false
 is_refused (t ∷ ts) = refuses t || is_refused ts
@@ -106,30 +112,30 @@ abbrev pub key_between : Iface → (from to : Address) → Kind → Key
 key_between iface from to kind = record { iface = iface; from = from; to = to; transport = transport_of kind }
 
 -- an announcement, seen once more or of a message that begins
-abbrev pub announced : Key → (pgn : ℕ) → Place → List Told → Courses → Courses
-announced key pgn place told courses =
+abbrev pub announced : Detail → Key → (pgn : ℕ) → Place → List Told → Courses → Courses
+announced detail key pgn place told courses =
     if is_refused told then courses
-    else elim (course_at key courses) [ None ↦ put key (begun (clean pgn) place) courses | Some c ↦ put key (longer place c) courses ]
+    else elim (course_at key courses) [ None ↦ put key (noted detail place Announcement (begun (clean pgn) place)) courses | Some c ↦ put key (noted detail place Announcement (longer place c)) courses ]
 
 -- RTS, BAM and DPO come from the sender of a message, CTS and the end acknowledgement from its receiver. A message that an abort ends is told
-unfoldable pub cm_frame_followed : Iface → (from to : Address) → CmFrame → Place → List Told → Courses → Courses
-cm_frame_followed iface from to (Rts size packets window pgn) place told courses = announced (key_between iface from to Tp) pgn place told courses
-cm_frame_followed iface from to (Cts granted next pgn) place told courses = changed_at (cm_followed (Cts granted next pgn) place) (key_between iface to from Tp) courses
-cm_frame_followed iface from to (EndOfMsgAck size packets pgn) place told courses = changed_at (cm_followed (EndOfMsgAck size packets pgn) place) (key_between iface to from Tp) courses
-cm_frame_followed iface from to (Bam size packets pgn) place told courses = announced (key_between iface from to Tp) pgn place told courses
-cm_frame_followed iface from to (Abort reason pgn) place told courses = courses
-cm_frame_followed iface from to (EtpRts size pgn) place told courses = announced (key_between iface from to Etp) pgn place told courses
-cm_frame_followed iface from to (EtpCts granted next pgn) place told courses = changed_at (cm_followed (EtpCts granted next pgn) place) (key_between iface to from Etp) courses
-cm_frame_followed iface from to (EtpDpo packets offset pgn) place told courses = changed_at (cm_followed (EtpDpo packets offset pgn) place) (key_between iface from to Etp) courses
-cm_frame_followed iface from to (EtpEoma size pgn) place told courses = changed_at (cm_followed (EtpEoma size pgn) place) (key_between iface to from Etp) courses
-cm_frame_followed iface from to (EtpAbort reason pgn) place told courses = courses
+unfoldable pub cm_frame_followed : Detail → Iface → (from to : Address) → CmFrame → Place → List Told → Courses → Courses
+cm_frame_followed detail iface from to (Rts size packets window pgn) place told courses = announced detail (key_between iface from to Tp) pgn place told courses
+cm_frame_followed detail iface from to (Cts granted next pgn) place told courses = changed_at (cm_followed detail (Cts granted next pgn) place) (key_between iface to from Tp) courses
+cm_frame_followed detail iface from to (EndOfMsgAck size packets pgn) place told courses = changed_at (cm_followed detail (EndOfMsgAck size packets pgn) place) (key_between iface to from Tp) courses
+cm_frame_followed detail iface from to (Bam size packets pgn) place told courses = announced detail (key_between iface from to Tp) pgn place told courses
+cm_frame_followed detail iface from to (Abort reason pgn) place told courses = courses
+cm_frame_followed detail iface from to (EtpRts size pgn) place told courses = announced detail (key_between iface from to Etp) pgn place told courses
+cm_frame_followed detail iface from to (EtpCts granted next pgn) place told courses = changed_at (cm_followed detail (EtpCts granted next pgn) place) (key_between iface to from Etp) courses
+cm_frame_followed detail iface from to (EtpDpo packets offset pgn) place told courses = changed_at (cm_followed detail (EtpDpo packets offset pgn) place) (key_between iface from to Etp) courses
+cm_frame_followed detail iface from to (EtpEoma size pgn) place told courses = changed_at (cm_followed detail (EtpEoma size pgn) place) (key_between iface to from Etp) courses
+cm_frame_followed detail iface from to (EtpAbort reason pgn) place told courses = courses
 
-unfoldable pub wire_followed : Iface → (from to : Address) → Wire → Place → List Told → Courses → Courses
-wire_followed iface from to (Cm frame) place told courses = cm_frame_followed iface from to frame place told courses
-wire_followed iface from to (Packet kind sequence bytes) place told courses = changed_at (longer place) (key_between iface from to kind) courses
-wire_followed iface from to (Request pgn) place told courses = courses
-wire_followed iface from to (Ack control address pgn) place told courses = courses
+unfoldable pub wire_followed : Detail → Iface → (from to : Address) → Wire → Place → List Told → Courses → Courses
+wire_followed detail iface from to (Cm frame) place told courses = cm_frame_followed detail iface from to frame place told courses
+wire_followed detail iface from to (Packet kind sequence bytes) place told courses = changed_at (longer place) (key_between iface from to kind) courses
+wire_followed detail iface from to (Request pgn) place told courses = courses
+wire_followed detail iface from to (Ack control address pgn) place told courses = courses
 
 -- a frame on an interface, at its place in the log, where this was told and the courses of that were taken out
-unfoldable pub followed : Iface → CanFrame → Place → List Told → Courses → Courses
-followed iface frame place told courses = elim (reading frame) [ None ↦ courses | Some r ↦ wire_followed iface r.1 r.2 r.0 place told courses ]
+unfoldable pub followed : Detail → Iface → CanFrame → Place → List Told → Courses → Courses
+followed detail iface frame place told courses = elim (reading frame) [ None ↦ courses | Some r ↦ wire_followed detail iface r.1 r.2 r.0 place told courses ]

@@ -1,8 +1,11 @@
 //! The course of a message.
-ghost use Rattle.std.specs.Prelude.{◌≡◌};
-ghost use Rattle.log_courses.specs.Course.{more, begun, longer, asked_again, asked_to, with_grant, with_cm, cm_followed};
+ghost use Rattle.std.specs.Prelude.{◌≡◌, ◌+◌, ◌<◌, ◌^◌, OnOk};
+ghost use Rattle.log_courses.specs.declared.marks.Step.TheVariants.{Announcement, Window};
+ghost use Rattle.log_courses.specs.Course.{more, begun, longer, asked_again, asked_to, noted, again_noted, grant_noted, ended, with_grant, with_cm, cm_followed};
 
+use crate::marks::{Detail, Marks, Step};
 use pgn_ids::Pgn;
+use std::alloc::{AllocError, Global};
 use tp_wire::CmFrame;
 
 /// Where a frame stands in a log.
@@ -15,7 +18,7 @@ pub struct Place {
 }
 
 /// The frames of a message. Each count stays at 2^64 - 1 where it would pass it.
-#[derive(Clone, Copy, Debug, PartialEq, Eq)]
+#[derive(Debug, Drop)]
 pub struct Course {
     pub pgn: Pgn,
     /// Its first frame, the announcement.
@@ -28,6 +31,8 @@ pub struct Course {
     pub asked: u64,
     /// How many packets its receiver asked for that it had asked for before, as often as it did.
     pub again: u64,
+    /// Its frames but for packets, where each is kept.
+    pub marks: Marks,
 }
 
 /// One more.
@@ -57,7 +62,7 @@ fn asked_to(asked: u64, granted: u8, next: u32) -> u64
 
 impl Course {
     /// One that has a frame.
-    pub(crate) fn begun(pgn: Pgn, place: Place) -> Course
+    pub(crate) fn begun(alloc: Global, pgn: Pgn, place: Place) -> Course
         ensures { result ≡ begun pgn place }
     {
         Course {
@@ -67,6 +72,7 @@ impl Course {
             frames: 1,
             asked: 0,
             again: 0,
+            marks: Marks::new(alloc),
         }
     }
 
@@ -76,6 +82,83 @@ impl Course {
     {
         self.last = place;
         self.frames = more(self.frames);
+    }
+
+    /// What a frame of it does is listed, where each frame is.
+    pub(crate) fn note(
+        &mut self,
+        detail: Detail,
+        place: Place,
+        step: Step,
+    ) -> Result<(), AllocError>
+        ensures { OnOk result (self.new ≡ noted detail place step self.old) }
+    {
+        match detail {
+            Detail::Ends => Ok(()),
+            Detail::Frames => self.marks.add(place, step),
+        }
+    }
+
+    /// It is announced once more.
+    pub(crate) fn renew(&mut self, detail: Detail, place: Place) -> Result<(), AllocError>
+        ensures { OnOk result (self.new ≡ noted detail place Announcement (longer place self.old)) }
+    {
+        self.go_on(place);
+        self.note(detail, place, Step::Announcement)
+    }
+
+    /// The frame that ends it is seen.
+    pub(crate) fn end(&mut self, detail: Detail, place: Place) -> Result<(), AllocError>
+        ensures { OnOk result (self.new ≡ ended detail place self.old) }
+    {
+        match detail {
+            Detail::Ends => Ok(()),
+            Detail::Frames => self.marks.put(place, Step::End),
+        }
+    }
+
+    /// So many packets, from one on, are asked for again.
+    fn note_again(
+        &mut self,
+        detail: Detail,
+        place: Place,
+        again: u64,
+        next: u64,
+    ) -> Result<(), AllocError>
+        requires next { next < 2 ^ 32 }
+        requires again { again < 2 ^ 8 }
+        ensures { OnOk result (self.new ≡ again_noted detail place again next self.old) }
+    {
+        if again == 0 {
+            return Ok(());
+        }
+        let step = Step::Again {
+            first: next,
+            last: next + again - 1,
+        };
+        self.note(detail, place, step)
+    }
+
+    /// A CTS is listed.
+    fn note_grant(
+        &mut self,
+        detail: Detail,
+        place: Place,
+        granted: u8,
+        next: u32,
+    ) -> Result<(), AllocError>
+        ensures { OnOk result (self.new ≡ grant_noted detail place granted next self.old) }
+    {
+        if granted == 0 {
+            return self.note(detail, place, Step::Hold);
+        }
+        let again = asked_again(self.asked, granted, next);
+        let step = Step::Window {
+            first: u64::from(next),
+            last: u64::from(next) + u64::from(granted) - 1,
+        };
+        self.note(detail, place, step)?;
+        self.note_again(detail, place, again, u64::from(next))
     }
 
     /// Its receiver asks for packets.
@@ -88,31 +171,74 @@ impl Course {
         self.asked = asked_to(self.asked, granted, next);
     }
 
-    fn take_cm(&mut self, frame: &CmFrame)
-        ensures { self.new ≡ with_cm frame.now self.old }
+    fn take_cts(
+        &mut self,
+        detail: Detail,
+        place: Place,
+        granted: u8,
+        next: u32,
+    ) -> Result<(), AllocError>
+        ensures { OnOk result (self.new ≡ with_grant granted next (grant_noted detail place granted next self.old)) }
+    {
+        self.note_grant(detail, place, granted, next)?;
+        self.grant(granted, next);
+        Ok(())
+    }
+
+    fn take_dpo(
+        &mut self,
+        detail: Detail,
+        place: Place,
+        packets: u8,
+        offset: u32,
+    ) -> Result<(), AllocError>
+        ensures { OnOk result (self.new ≡ noted detail place (Window (offset + 1) (offset + packets)) self.old) }
+    {
+        let step = Step::Window {
+            first: u64::from(offset) + 1,
+            last: u64::from(offset) + u64::from(packets),
+        };
+        self.note(detail, place, step)
+    }
+
+    fn take_cm(&mut self, detail: Detail, place: Place, frame: &CmFrame) -> Result<(), AllocError>
+        ensures { OnOk result (self.new ≡ with_cm detail place frame.now self.old) }
     {
         match frame {
-            CmFrame::Cts { granted, next, .. } => self.grant(*granted, u32::from(*next)),
-            CmFrame::EtpCts { granted, next, .. } => self.grant(*granted, *next),
-            CmFrame::Rts { .. } => {}
-            CmFrame::EndOfMsgAck { .. } => {}
-            CmFrame::Bam { .. } => {}
-            CmFrame::Abort { .. } => {}
-            CmFrame::EtpRts { .. } => {}
-            CmFrame::EtpDpo { .. } => {}
-            CmFrame::EtpEoma { .. } => {}
-            CmFrame::EtpAbort { .. } => {}
+            CmFrame::Cts { granted, next, .. } => {
+                self.take_cts(detail, place, *granted, u32::from(*next))
+            }
+            CmFrame::EtpCts { granted, next, .. } => {
+                self.take_cts(detail, place, *granted, *next)
+            }
+            CmFrame::EtpDpo {
+                packets,
+                offset,
+                ..
+            } => self.take_dpo(detail, place, *packets, *offset),
+            CmFrame::Rts { .. } => Ok(()),
+            CmFrame::EndOfMsgAck { .. } => Ok(()),
+            CmFrame::Bam { .. } => Ok(()),
+            CmFrame::Abort { .. } => Ok(()),
+            CmFrame::EtpRts { .. } => Ok(()),
+            CmFrame::EtpEoma { .. } => Ok(()),
+            CmFrame::EtpAbort { .. } => Ok(()),
         }
     }
 
     /// A connection management frame of one of its ends is seen. One of another PGN isn't of this message.
-    pub(crate) fn follow(&mut self, frame: &CmFrame, place: Place)
-        ensures { self.new ≡ cm_followed frame.now place self.old }
+    pub(crate) fn follow(
+        &mut self,
+        detail: Detail,
+        frame: &CmFrame,
+        place: Place,
+    ) -> Result<(), AllocError>
+        ensures { OnOk result (self.new ≡ cm_followed detail frame.now place self.old) }
     {
         if frame.pgn().clean() != self.pgn {
-            return;
+            return Ok(());
         }
         self.go_on(place);
-        self.take_cm(frame);
+        self.take_cm(detail, place, frame)
     }
 }

@@ -1,10 +1,12 @@
 //! The courses of the messages under way.
-ghost use Rattle.std.specs.Prelude.{◌≡◌, [], OnOk};
-ghost use Rattle.log_courses.specs.Course.{longer, cm_followed};
-ghost use Rattle.log_courses.specs.Courses.{key_told, pgn_told, is_by_frame, ends_by_frame, course_of, without_told, is_refusal, refuses, is_refused, key_between, announced, changed_at, cm_frame_followed, wire_followed, followed};
+ghost use Rattle.std.specs.Prelude.{◌≡◌, [], OnOk, IfOk};
+ghost use Rattle.log_courses.specs.Course.{longer, noted, begun, cm_followed};
+ghost use Rattle.log_courses.specs.declared.marks.Step.TheVariants.{Announcement};
+ghost use Rattle.log_courses.specs.Courses.{key_told, pgn_told, is_by_frame, ends_by_frame, alone, course_of, without_told, is_refusal, refuses, is_refused, key_between, put, announced, changed_at, cm_frame_followed, wire_followed, followed};
 ghost use Rattle.log_decode.specs.Keys.{transport_of};
 
 use crate::course::{Course, Place};
+use crate::marks::{Detail, Step};
 use bus_frame::Frame;
 use indexmap::IndexMap;
 use log_decode::{Cause, Key, Told, Transport};
@@ -150,38 +152,74 @@ fn go_on(kept: &mut Kept, key: Key, place: Place)
 }
 
 /// A connection management frame that is neither an announcement nor an abort.
-fn follow_cm(kept: &mut Kept, key: Key, frame: &CmFrame, place: Place)
-    ensures { kept.new.entries ≡ changed_at (cm_followed frame.now place) key kept.old.entries }
+fn follow_cm(
+    kept: &mut Kept,
+    detail: Detail,
+    key: Key,
+    frame: &CmFrame,
+    place: Place,
+) -> Result<(), AllocError>
+    ensures { OnOk result (kept.new.entries ≡ changed_at (cm_followed detail frame.now place) key kept.old.entries) }
 {
     if let Some(at) = kept.get_index_of(&key) {
-        kept[at].follow(frame, place);
+        kept[at].follow(detail, frame, place)?;
     }
+    Ok(())
+}
+
+/// The message of a key is announced once more.
+fn announce_again(kept: &mut Kept, detail: Detail, key: Key, place: Place) -> Result<(), AllocError>
+    ensures { OnOk result (kept.new.entries ≡ changed_at (λ c. noted detail place Announcement (longer place c)) key kept.old.entries) }
+{
+    if let Some(at) = kept.get_index_of(&key) {
+        kept[at].renew(detail, place)?;
+    }
+    Ok(())
+}
+
+/// A message begins.
+fn begin(
+    alloc: Global,
+    kept: &mut Kept,
+    detail: Detail,
+    key: Key,
+    pgn: Pgn,
+    place: Place,
+) -> Result<(), AllocError>
+    ensures { OnOk result (kept.new.entries ≡ put key (noted detail place Announcement (begun pgn place)) kept.old.entries) }
+{
+    let mut course = Course::begun(alloc, pgn, place);
+    course.note(detail, place, Step::Announcement)?;
+    kept.insert(key, course)?;
+    Ok(())
 }
 
 /// An announcement, seen once more or of a message that begins.
 fn announce(
+    alloc: Global,
     kept: &mut Kept,
+    detail: Detail,
     key: Key,
     pgn: WirePgn,
     place: Place,
     told: &[Told],
 ) -> Result<(), AllocError>
-    ensures { OnOk result (kept.new.entries ≡ announced key pgn place told.now kept.old.entries) }
+    ensures { OnOk result (kept.new.entries ≡ announced detail key pgn place told.now kept.old.entries) }
 {
     if is_refused(told) {
         return Ok(());
     }
     if kept.get(&key).is_some() {
-        go_on(kept, key, place);
-        return Ok(());
+        return announce_again(kept, detail, key, place);
     }
-    kept.insert(key, Course::begun(pgn.clean(), place))?;
-    Ok(())
+    begin(alloc, kept, detail, key, pgn.clean(), place)
 }
 
 #[tactic(auto, unfolding(crate::specs::Courses::cm_frame_followed))]
 fn follow_cm_frame(
+    alloc: Global,
     kept: &mut Kept,
+    detail: Detail,
     iface: Iface,
     from: Address,
     to: Address,
@@ -189,7 +227,7 @@ fn follow_cm_frame(
     place: Place,
     told: &[Told],
 ) -> Result<(), AllocError>
-    ensures { OnOk result (kept.new.entries ≡ cm_frame_followed iface from to frame.now place told.now kept.old.entries) }
+    ensures { OnOk result (kept.new.entries ≡ cm_frame_followed detail iface from to frame.now place told.now kept.old.entries) }
 {
     let (sent_tp, sent_etp) = (
         key_between(iface, from, to, Kind::Tp),
@@ -200,23 +238,24 @@ fn follow_cm_frame(
         key_between(iface, to, from, Kind::Etp),
     );
     match frame {
-        CmFrame::Rts { pgn, .. } => return announce(kept, sent_tp, *pgn, place, told),
-        CmFrame::Cts { .. } => follow_cm(kept, got_tp, frame, place),
-        CmFrame::EndOfMsgAck { .. } => follow_cm(kept, got_tp, frame, place),
-        CmFrame::Bam { pgn, .. } => return announce(kept, sent_tp, *pgn, place, told),
-        CmFrame::Abort { .. } => {}
-        CmFrame::EtpRts { pgn, .. } => return announce(kept, sent_etp, *pgn, place, told),
-        CmFrame::EtpCts { .. } => follow_cm(kept, got_etp, frame, place),
-        CmFrame::EtpDpo { .. } => follow_cm(kept, sent_etp, frame, place),
-        CmFrame::EtpEoma { .. } => follow_cm(kept, got_etp, frame, place),
-        CmFrame::EtpAbort { .. } => {}
+        CmFrame::Rts { pgn, .. } => announce(alloc, kept, detail, sent_tp, *pgn, place, told),
+        CmFrame::Cts { .. } => follow_cm(kept, detail, got_tp, frame, place),
+        CmFrame::EndOfMsgAck { .. } => follow_cm(kept, detail, got_tp, frame, place),
+        CmFrame::Bam { pgn, .. } => announce(alloc, kept, detail, sent_tp, *pgn, place, told),
+        CmFrame::Abort { .. } => Ok(()),
+        CmFrame::EtpRts { pgn, .. } => announce(alloc, kept, detail, sent_etp, *pgn, place, told),
+        CmFrame::EtpCts { .. } => follow_cm(kept, detail, got_etp, frame, place),
+        CmFrame::EtpDpo { .. } => follow_cm(kept, detail, sent_etp, frame, place),
+        CmFrame::EtpEoma { .. } => follow_cm(kept, detail, got_etp, frame, place),
+        CmFrame::EtpAbort { .. } => Ok(()),
     }
-    Ok(())
 }
 
 #[tactic(auto, unfolding(crate::specs::Courses::wire_followed))]
 fn follow_wire(
+    alloc: Global,
     kept: &mut Kept,
+    detail: Detail,
     iface: Iface,
     from: Address,
     to: Address,
@@ -224,10 +263,12 @@ fn follow_wire(
     place: Place,
     told: &[Told],
 ) -> Result<(), AllocError>
-    ensures { OnOk result (kept.new.entries ≡ wire_followed iface from to wire.now place told.now kept.old.entries) }
+    ensures { OnOk result (kept.new.entries ≡ wire_followed detail iface from to wire.now place told.now kept.old.entries) }
 {
     match wire {
-        Wire::Cm(frame) => follow_cm_frame(kept, iface, from, to, frame, place, told),
+        Wire::Cm(frame) => {
+            follow_cm_frame(alloc, kept, detail, iface, from, to, frame, place, told)
+        }
         Wire::Packet { kind, .. } => {
             go_on(kept, key_between(iface, from, to, *kind), place);
             Ok(())
@@ -235,6 +276,19 @@ fn follow_wire(
         Wire::Request { .. } => Ok(()),
         Wire::Ack { .. } => Ok(()),
     }
+}
+
+/// The course of what is told where no message is under way: this one frame, which announces a message that doesn't begin, or aborts none.
+fn alone(alloc: Global, detail: Detail, place: Place, told: &Told) -> Result<Course, AllocError>
+    ensures { IfOk result (λ course. course ≡ alone detail place told.now) }
+{
+    let mut course = Course::begun(alloc, pgn_told(told), place);
+    if refuses(told) {
+        course.note(detail, place, Step::Announcement)?;
+    } else {
+        course.end(detail, place)?;
+    }
+    Ok(course)
 }
 
 impl Courses {
@@ -248,29 +302,35 @@ impl Courses {
     }
 
     /// Takes out the course of what is told at a frame of the log, by the place of that frame. If none is under way, since the message didn't
-    /// begin or an abort is of none, its course is this one frame.
-    pub fn end(&mut self, place: Place, told: &Told) -> Course
-        ensures course { result ≡ course_of place told.now self.old }
-        ensures left { self.new ≡ without_told told.now self.old }
+    /// begin or an abort is of none, its course is this one frame. It fails only where memory is refused; what it leaves then is not said.
+    pub fn end(
+        &mut self,
+        alloc: Global,
+        detail: Detail,
+        place: Place,
+        told: &Told,
+    ) -> Result<Course, AllocError>
+        ensures course { IfOk result (λ course. course ≡ course_of detail place told.now self.old) }
+        ensures left { OnOk result (self.new ≡ without_told told.now self.old) }
     {
         let (key, pgn) = (key_told(told), pgn_told(told));
-        let alone = Course::begun(pgn, place);
         match self.kept.get(&key) {
-            None => return alone,
+            None => return alone(alloc, detail, place, told),
             Some(course) => {
                 if course.pgn != pgn {
-                    return alone;
+                    return alone(alloc, detail, place, told);
                 }
             }
         }
         let Some(course) = self.kept.shift_remove(&key) else {
-            return alone;
+            return alone(alloc, detail, place, told);
         };
         let mut course = course;
         if ends_by_frame(told) {
             course.go_on(place);
+            course.end(detail, place)?;
         }
-        course
+        Ok(course)
     }
 
     /// A frame is seen on an interface, at its place in the log. All that was told at it is `told`, and the courses of that were taken out. It
@@ -278,16 +338,28 @@ impl Courses {
     #[tactic(auto, unfolding(crate::specs::Courses::followed))]
     pub fn follow(
         &mut self,
+        alloc: Global,
+        detail: Detail,
         iface: Iface,
         frame: &Frame,
         place: Place,
         told: &[Told],
     ) -> Result<(), AllocError>
-        ensures { OnOk result (self.new ≡ followed iface frame.now place told.now self.old) }
+        ensures { OnOk result (self.new ≡ followed detail iface frame.now place told.now self.old) }
     {
         let Some((wire, from, to)) = read(frame) else {
             return Ok(());
         };
-        follow_wire(&mut self.kept, iface, from, to, &wire, place, told)
+        follow_wire(
+            alloc,
+            &mut self.kept,
+            detail,
+            iface,
+            from,
+            to,
+            &wire,
+            place,
+            told,
+        )
     }
 }

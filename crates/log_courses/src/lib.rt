@@ -8,7 +8,9 @@
 mod awaited;
 mod course;
 mod courses;
+mod marks;
 
 pub use awaited::Awaited;
 pub use course::{Course, Place};
 pub use courses::Courses;
+pub use marks::{Detail, Mark, Marks, Step};

@@ -1,15 +1,17 @@
 -- A message at its place in the map is that at its key.
-use Rattle.std.proofs.Common.{◌≡◌, ℕ, List, Option, Some, None, sym, ◌∙◌, ap, position, slice_get}
+use Rattle.std.proofs.Common.{◌≡◌, ℕ, List, Option, Some, None, sym, ◌∙◌, ap, ◌==◌, false, cond, position, slice_get}
 use Rattle.std.specs.Map.{keys_of, values_of}
 use Rattle.indexmap.specs.Layout.{set_value_at}
 use Rattle.indexmap.proofs.MapLemmas.{Found-position, Missing-position, insert_entry-first}
+use Rattle.pgn_ids.specs.Pgn.{clean}
 use Rattle.log_decode.specs.Keys.{same_key}
 use Rattle.log_decode.specs.Sessions.{Sessions, Heard, session_at, put, settled, heard_at, renewed_at}
 use Rattle.log_decode.specs.Session.{renewed}
 use Rattle.log_decode.specs.declared.key.Key.{Key}
 use Rattle.log_decode.specs.declared.session.Session.{Session}
 use Rattle.log_decode.specs.declared.session.Fate.{Fate}
-use Rattle.log_decode.specs.Stray.{packet_stray}
+use Rattle.log_decode.specs.Stray.{packet_stray, cm_stray}
+use Rattle.log_decode.specs.declared.stray.Stray.{Stray}
 use Rattle.log_decode.specs.declared.stray.Stray.TheVariants.{Packet}
 use Rattle.log_decode.specs.declared.told.Told.{Told}
 
@@ -45,6 +47,10 @@ renewed_there key now at es s t p v e = put_at key at es t p ∙ ap (λ x. put k
 
 pub renewed_nowhere : (key : Key) (now : ℕ) (es : Sessions) → session_at key es ≡ None → es ≡ renewed_at key now es
 renewed_nowhere key now es v = sym (ap (by_renewed key now es) v)
+
+-- a frame of its PGN is no stray one
+pub cm_there : (kind : Stray) (key : Key) (pgn : ℕ) (es : Sessions) (s : Session) → session_at key es ≡ Some s → cm_stray kind key pgn es ≡ cond (clean pgn == clean s.pgn) None (Some kind)
+cm_there kind key pgn es s v = ap (λ o. cond (elim o [ None ↦ false | Some t ↦ clean pgn == clean t.pgn ]) None (Some kind)) v
 
 -- a packet of it is no stray one
 pub packet_there : (key : Key) (es : Sessions) (s : Session) → session_at key es ≡ Some s → None ≡ packet_stray key es

@@ -78,11 +78,12 @@ pub(crate) fn take_cm(
     ensures told { OnOk result ((sessions.new.entries, told.new.items) ≡ cm_taken key frame.now now (sessions.old.entries, told.old.items)) }
     ensures stray { IfOk result (λ stray. stray ≡ cm_stray kind key (cm_pgn frame.now) sessions.old.entries) }
 {
-    let is_of = is_of(sessions, key, frame.pgn());
     let Some(at) = place_of(sessions, &key) else {
         return Ok(Some(kind));
     };
-    let fate = sessions[at].hear(frame, now);
+    let session = &mut sessions[at];
+    let is_of = session.is_of(frame.pgn());
+    let fate = session.hear(frame, now);
     settle(sessions, key, fate, told)?;
     Ok(stray_unless(is_of, kind))
 }

@@ -2,6 +2,7 @@
 mod decoding;
 mod failures;
 mod forms;
+mod frames;
 mod lines;
 mod listeners;
 mod logs;

@@ -14,6 +14,7 @@ pub(crate) fn all(alloc: Global) -> Options {
         singles: false,
         strict: false,
         json: false,
+        frames: false,
     }
 }
 

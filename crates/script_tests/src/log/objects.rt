@@ -31,7 +31,7 @@ fn messages_that_are_not_given_have_their_frames(rt: HostRuntime) {
 
 /// A message two of whose packets are asked for again, on an interface whose name is escaped; a wrong line; a frame of its own; an announcement
 /// that opens nothing; and a clock that is set back.
-const REPAIRED: &str = "\
+pub(crate) const REPAIRED: &str = "\
 (0000000001.000000) c\"\\ 1CEC3521#10140003FFCAFE00\n\
 (0000000001.010000) c\"\\ 1CEC2135#110301FFFFCAFE00\n\
 (0000000001.020000) c\"\\ 1CEB3521#0101020304050607\n\

@@ -49,6 +49,7 @@ fn all(alloc: Global) -> Options {
         singles: true,
         strict: false,
         json: false,
+        frames: false,
     }
 }
 

@@ -27,6 +27,7 @@ fn a_log_is_asked_for(rt: HostRuntime) {
         &rt,
         asked.most == 117_440_505 && !asked.singles && !asked.strict && !asked.json,
     );
+    holds(&rt, !asked.frames);
     let two = ["j1939bus", "decode", "a.log", "-"];
     names(&rt, alloc, &two, &Asked::Decode(asked), &["a.log", "-"])
 }
@@ -53,6 +54,7 @@ fn parts_of_a_log_are_asked_for(rt: HostRuntime) {
             "--all",
             "--strict",
             "--json",
+            "--frames",
         ],
     );
     holds(&rt, asked.pgns.as_slice() == [0xFECA, 0x3_FFFF].as_slice());
@@ -62,6 +64,7 @@ fn parts_of_a_log_are_asked_for(rt: HostRuntime) {
         &rt,
         asked.most == 1_785 && asked.singles && asked.strict && asked.json,
     );
+    holds(&rt, asked.frames);
 }
 
 fn refuses(rt: &impl Abort, alloc: Global, option: &str, value: &str, told: &str) {
@@ -102,6 +105,7 @@ Options:
       --all            Prints frames that carry nothing of a message too, as frame FROM TO PGN LENGTH HEX
       --strict         Ends at a wrong line
       --json           Prints each line as a JSON object
+      --frames         Lists the announcement, windows and end of each message, with time and number
   -h, --help           Print help
 
 A log has lines as candump writes them, (SECONDS.MICROS) IFACE ID#HEX, or shows
@@ -114,7 +118,13 @@ known:
   (TIME) IFACE lost FROM TO PGN HAVE OF CAUSE
 A wrong line is told by its number, in its place. What was counted is told on
 standard error at the end. With --json each line is an object, with times in
-microseconds.
+microseconds. With --frames the frames of a message follow its line, but for
+packets:
+  (TIME) NUMBER announcement
+  (TIME) NUMBER window FIRST LAST
+  (TIME) NUMBER again FIRST LAST
+  (TIME) NUMBER hold
+  (TIME) NUMBER end
 
 Examples:
   j1939bus decode can0.log can0.log.1

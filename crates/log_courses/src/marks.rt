@@ -1,0 +1,92 @@
+//! The frames that are listed of a message.
+ghost use Rattle.std.specs.Prelude.{◌≡◌, [], ◌∷◌, ◌++◌, OnOk, length, if◌then◌else◌, nat_lt};
+ghost use Rattle.log_courses.specs.Course.{with_mark};
+
+use crate::course::Place;
+use std::alloc::{AllocError, Global};
+use std::marker::Model;
+
+/// What a frame is in the course of a message.
+#[derive(Clone, Copy, Debug, PartialEq, Eq)]
+pub enum Step {
+    /// It announces the message, for the first time or once more.
+    Announcement,
+    /// It opens a window: its receiver asks for these packets, or its sender is to send them.
+    Window { first: u64, last: u64 },
+    /// Its receiver asks for these packets, for which it had asked before.
+    Again { first: u64, last: u64 },
+    /// Its receiver asks for no packet yet.
+    Hold,
+    /// It ends the message.
+    End,
+}
+
+/// What is kept of a course.
+#[derive(Clone, Copy, Debug, PartialEq, Eq)]
+pub enum Detail {
+    /// Its first and last frame, and its counts.
+    Ends,
+    /// Its announcements, windows and end too, each frame by itself.
+    Frames,
+}
+
+/// A frame that is listed.
+#[derive(Clone, Copy, Debug, PartialEq, Eq)]
+pub struct Mark {
+    pub place: Place,
+    pub step: Step,
+}
+
+/// The frames that are listed of a message, in their order.
+#[derive(Debug, Drop)]
+pub struct Marks {
+    items: Vec<Mark>,
+}
+
+impl Model for Marks {
+    ghost use Rattle.std.specs.Prelude.{List};
+    ghost use Rattle.log_courses.specs.declared.marks.Mark.{Mark};
+
+    ghost Value = { List Mark };
+
+    ghost view = { λ m. m.items.items };
+}
+
+/// How many frames of a message are listed at most, beside that which ends it.
+pub const MOST_MARKS: usize = 262_144;
+
+impl Marks {
+    /// None. It takes no memory.
+    pub(crate) fn new(alloc: Global) -> Marks
+        ensures { result ≡ [] }
+    {
+        Marks {
+            items: Vec::new(alloc),
+        }
+    }
+
+    /// One more.
+    pub(crate) fn put(&mut self, place: Place, step: Step) -> Result<(), AllocError>
+        ensures { OnOk result (self.new ≡ self.old ++ record { place = place; step = step } ∷ []) }
+    {
+        self.items.push(Mark { place, step })?;
+        Ok(())
+    }
+
+    /// One more, unless there are as many as are listed at most.
+    pub(crate) fn add(&mut self, place: Place, step: Step) -> Result<(), AllocError>
+        ensures { OnOk result (self.new ≡ with_mark place step self.old) }
+    {
+        if self.items.len() < MOST_MARKS {
+            self.put(place, step)?;
+        }
+        Ok(())
+    }
+
+    /// They in their order.
+    pub fn as_slice(&self) -> &[Mark]
+        ensures { result.now ≡ self.now }
+    {
+        self.items.as_slice()
+    }
+}
