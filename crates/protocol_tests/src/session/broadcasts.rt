@@ -2,7 +2,7 @@ ghost use Rattle.std.specs.Prelude.{◌≡◌};
 ghost use Rattle.bam_session.specs.declared.outgoing.BamPumped.TheVariants as BamPumped;
 
 use crate::checks::{got, holds, same};
-use crate::session::frames::{frame, heard, new_queue, pgn, shows, wire_pgn};
+use crate::session::frames::{frame, heard, pgn, shows, wire_pgn};
 use bam_session::*;
 use bus_frame::Frame;
 use pgn_ids::Address;
@@ -14,10 +14,6 @@ use tp_wire::{Kind, Wire};
 use tx_queue::TxQueue;
 
 const SOURCE: Address = Address(0x21);
-
-const CM: u32 = 0x1CEC_FF21;
-
-const DT: u32 = 0x1CEB_FF21;
 
 const M9: [u8; 9] = [1, 2, 3, 4, 5, 6, 7, 8, 9];
 
@@ -102,48 +98,45 @@ fn falls_due(rt: &impl Abort, state: &BamIn, now: u64) {
     );
 }
 
-// It may send at tick 50, and not before.
-fn waits_for_its_gap(rt: &impl Abort, out: &BamOut) {
-    same(rt, (out.is_due(49), out.is_due(50)), (false, true));
-    same(rt, (out.missing(0), out.missing(49)), (50, 1));
-    same(rt, out.missing(51), 0);
-}
-
-// A test's steps are functions of their own, which own no more than the state of the message: what a test owns takes its part of the proof at
-// each of them.
-fn send_nine_bytes(rt: &impl Abort) {
-    let (out, queued) = BamOut::begin(SOURCE, pgn(rt, 0xFECA), 9, 0);
-    shows(rt, queued, CM, [0x20, 9, 0, 2, 0xFF, 0xCA, 0xFE, 0]);
-    waits_for_its_gap(rt, &out);
-    let out = waits(rt, out.pump(&M9, 49));
-    let (out, queued) = goes_on(rt, out.pump(&M9, 50));
-    shows(rt, queued, DT, [1, 1, 2, 3, 4, 5, 6, 7]);
-    let out = waits(rt, out.pump(&M9, 99));
-    let queued = ends(rt, out.pump(&M9, 100));
-    shows(rt, queued, DT, [2, 8, 9, 0xFF, 0xFF, 0xFF, 0xFF, 0xFF]);
-}
-
 #[test]
 fn nine_bytes_are_sent(rt: HostRuntime) {
-    send_nine_bytes(&rt);
-}
-
-fn queue_in_place(rt: &impl Abort, queue: &mut TxQueue) {
-    holds(rt, queue.is_empty());
-    let (mut out, _announcement) = BamOut::begin(SOURCE, pgn(rt, 0xFECA), 9, 0);
-    let early = out.pump_in_place(&M9, 49, queue);
-    let went_on = out.pump_in_place(&M9, 50, queue);
-    let last = out.pump_in_place(&M9, 100, queue);
-    same(rt, (early, went_on, last), (false, true, false));
-    same(rt, out.missing(60), 40);
-    out.cancel();
+    let (out, queued) = BamOut::begin(SOURCE, pgn(&rt, 0xFECA), 9, 0);
+    shows(
+        &rt,
+        queued,
+        0x1CEC_FF21,
+        [0x20, 9, 0, 2, 0xFF, 0xCA, 0xFE, 0],
+    );
+    same(&rt, (out.is_due(49), out.is_due(50)), (false, true));
+    same(
+        &rt,
+        [out.missing(0), out.missing(49), out.missing(51)],
+        [50, 1, 0],
+    );
+    let out = waits(&rt, out.pump(&M9, 49));
+    let (out, queued) = goes_on(&rt, out.pump(&M9, 50));
+    shows(&rt, queued, 0x1CEB_FF21, [1, 1, 2, 3, 4, 5, 6, 7]);
+    let out = waits(&rt, out.pump(&M9, 99));
+    let queued = ends(&rt, out.pump(&M9, 100));
+    shows(
+        &rt,
+        queued,
+        0x1CEB_FF21,
+        [2, 8, 9, 0xFF, 0xFF, 0xFF, 0xFF, 0xFF],
+    );
 }
 
 #[test]
 fn a_packet_is_queued_in_place(rt: HostRuntime) {
-    let mut queue = new_queue(&rt, rt.alloc());
-    queue_in_place(&rt, &mut queue);
-    let first = frame(&rt, DT, [1, 1, 2, 3, 4, 5, 6, 7]);
+    let mut queue = got(&rt, TxQueue::new(rt.alloc()));
+    let (mut out, _announcement) = BamOut::begin(SOURCE, pgn(&rt, 0xFECA), 9, 0);
+    let early = out.pump_in_place(&M9, 49, &mut queue);
+    let went_on = out.pump_in_place(&M9, 50, &mut queue);
+    let last = out.pump_in_place(&M9, 100, &mut queue);
+    same(&rt, [early, went_on, last], [false, true, false]);
+    same(&rt, out.missing(60), 40);
+    out.cancel();
+    let first = frame(&rt, 0x1CEB_FF21, [1, 1, 2, 3, 4, 5, 6, 7]);
     same(&rt, queue.pop(), Some(first));
     holds(&rt, queue.is_empty());
 }
@@ -152,65 +145,56 @@ fn a_packet_is_queued_in_place(rt: HostRuntime) {
 fn the_longest_is_announced(rt: HostRuntime) {
     let (out, queued) = BamOut::begin(SOURCE, pgn(&rt, 0x1_F035), 1785, 0);
     out.cancel();
-    shows(&rt, queued, CM, [0x20, 0xF9, 6, 0xFF, 0xFF, 0x35, 0xF0, 1]);
-}
-
-// A packet makes the message whole, or doesn't.
-fn completes(rt: &impl Abort, state: &BamIn, packet: &Wire, is_whole: bool) {
-    same(rt, state.completes(packet), is_whole);
-}
-
-fn is_of_nine_bytes(rt: &impl Abort, state: &BamIn) {
-    same(rt, state.from(), SOURCE);
-    same(rt, (state.pgn().raw(), state.size()), (0xFECA, 9));
-}
-
-fn step(state: BamIn, packet: &Wire, now: u64) -> BamStepped {
-    state.step(packet, now)
-}
-
-fn receive_nine_bytes(rt: &impl Abort, state: BamIn) {
-    falls_due(rt, &state, T1);
-    completes(rt, &state, &FIRST, false);
-    completes(rt, &state, &LAST, false);
-    let state = awaits(rt, step(state, &FIRST, 100));
-    // A packet that comes again is ignored, and T1 runs on.
-    let state = awaits(rt, step(state, &FIRST, 700));
-    falls_due(rt, &state, 850);
-    is_of_nine_bytes(rt, &state);
-    completes(rt, &state, &LAST, true);
-    is_complete(rt, step(state, &LAST, 849));
+    shows(
+        &rt,
+        queued,
+        0x1CEC_FF21,
+        [0x20, 0xF9, 6, 0xFF, 0xFF, 0x35, 0xF0, 1],
+    );
 }
 
 #[test]
 fn nine_bytes_are_received(rt: HostRuntime) {
-    receive_nine_bytes(&rt, receiver(&rt, rt.alloc()));
-}
-
-// A packet is taken where the session stands, or not.
-fn takes(rt: &impl Abort, state: &mut BamIn, packet: &Wire, now: u64, is_taken: bool) {
-    same(rt, state.take_in_place(&heard(packet), now), is_taken);
-}
-
-fn take_in_place(rt: &impl Abort, state: &mut BamIn) {
-    takes(rt, state, &FIRST, 100, true);
-    // A packet that has come, the last one and one that is skipped change nothing.
-    takes(rt, state, &FIRST, 700, false);
-    takes(rt, state, &LAST, 700, false);
-    takes(rt, state, &PAST, 700, false);
-    falls_due(rt, state, 850);
+    let state = receiver(&rt, rt.alloc());
+    falls_due(&rt, &state, T1);
+    same(
+        &rt,
+        (state.completes(&FIRST), state.completes(&LAST)),
+        (false, false),
+    );
+    let state = awaits(&rt, state.step(&FIRST, 100));
+    // A packet that comes again is ignored, and T1 runs on.
+    let state = awaits(&rt, state.step(&FIRST, 700));
+    falls_due(&rt, &state, 850);
+    same(
+        &rt,
+        (state.from(), state.pgn().raw(), state.size()),
+        (SOURCE, 0xFECA, 9),
+    );
+    holds(&rt, state.completes(&LAST));
+    is_complete(&rt, state.step(&LAST, 849));
 }
 
 #[test]
 fn a_packet_in_the_middle_is_taken_in_place(rt: HostRuntime) {
     let mut state = receiver(&rt, rt.alloc());
-    take_in_place(&rt, &mut state);
-    is_complete(&rt, step(state, &LAST, 800));
+    let went_on = state.take_in_place(&heard(&FIRST), 100);
+    // A packet that has come, the last one and one that is skipped change nothing.
+    let again = state.take_in_place(&heard(&FIRST), 700);
+    let last = state.take_in_place(&heard(&LAST), 700);
+    let skipped = state.take_in_place(&heard(&PAST), 700);
+    same(
+        &rt,
+        [went_on, again, last, skipped],
+        [true, false, false, false],
+    );
+    falls_due(&rt, &state, 850);
+    is_complete(&rt, state.step(&LAST, 800));
 }
 
 #[test]
 fn a_message_is_dropped(rt: HostRuntime) {
-    is_dropped(&rt, step(receiver(&rt, rt.alloc()), &LAST, 1));
+    is_dropped(&rt, receiver(&rt, rt.alloc()).step(&LAST, 1));
     receiver(&rt, rt.alloc()).expire();
     receiver(&rt, rt.alloc()).close();
     receiver(&rt, rt.alloc()).overrun();

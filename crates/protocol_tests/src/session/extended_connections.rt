@@ -1,6 +1,6 @@
 //! Exact frames of extended exchanges, that calls succeed, and that nothing but a call lets a state go.
 use crate::checks::{got, holds, same};
-use crate::session::frames::{frame, heard, new_queue, pgn, wire_pgn};
+use crate::session::frames::{frame, heard, pgn, wire_pgn};
 use crate::session::received::{aborted, answers, complete, goes_on, on};
 use bus_frame::Frame;
 use etp_session::{InState, OutState, Received, accept, begin};
@@ -44,16 +44,6 @@ fn data(sequence: u8, bytes: [u8; 7]) -> Wire {
     }
 }
 
-// A packet of zeros.
-fn zeros(sequence: u8) -> Wire {
-    data(sequence, [0; 7])
-}
-
-// A CTS of so many packets from this one on, which is below 65,536.
-fn grants(rt: &impl Abort, cts: Frame, granted: u8, [low, high]: [u8; 2]) {
-    same(rt, cts, from_35(rt, ETP_CTS, [granted, low, high, 0]));
-}
-
 // 35 begins to receive a message of FECA from 21.
 fn begun(rt: &impl Abort, alloc: Global, size: u32, flow: Flow) -> (InState, Frame) {
     holds(rt, size >= 1786 && size <= ETP_MAX_SIZE);
@@ -66,7 +56,7 @@ fn begun(rt: &impl Abort, alloc: Global, size: u32, flow: Flow) -> (InState, Fra
 // A message of 1,786 bytes, of which the first window is granted.
 fn begun_open(rt: &impl Abort, alloc: Global) -> InState {
     let (state, cts) = begun(rt, alloc, 1786, Flow::Open);
-    grants(rt, cts, 0x40, [0x01, 0]);
+    same(rt, cts, from_35(rt, ETP_CTS, [0x40, 0x01, 0, 0]));
     state
 }
 
@@ -173,28 +163,20 @@ fn places(alloc: Global, size: u32) -> Result<Vec<u8>, AllocError> {
     (1..=size).map(|i| (i & 0xFF) as u8).collect(alloc)
 }
 
-fn exchange_four_windows(rt: &impl Abort, alloc: Global) {
-    let packet = data(0x40, [0xFA, 0xFF, 0xFF, 0xFF, 0xFF, 0xFF, 0xFF]);
-    let (cts, end) = exchange(rt, alloc, 1786, &dpo(rt, 0x40, 0xC0), &packet);
-    grants(rt, cts, 0x40, [0xC1, 0]);
-    same(rt, end, from_35(rt, ETP_EOMA, [0xFA, 0x06, 0, 0]));
-}
-
 #[test]
 fn four_windows(rt: HostRuntime) {
-    exchange_four_windows(&rt, rt.alloc());
-}
-
-fn exchange_100_000_bytes(rt: &impl Abort, alloc: Global) {
-    let packet = data(0x0E, [0x9C, 0x9D, 0x9E, 0x9F, 0xA0, 0xFF, 0xFF]);
-    let (cts, end) = exchange(rt, alloc, 100_000, &dpo(rt, 0x0E, 0x37C0), &packet);
-    grants(rt, cts, 0x0E, [0xC1, 0x37]);
-    same(rt, end, from_35(rt, ETP_EOMA, [0xA0, 0x86, 0x01, 0]));
+    let packet = data(0x40, [0xFA, 0xFF, 0xFF, 0xFF, 0xFF, 0xFF, 0xFF]);
+    let (cts, end) = exchange(&rt, rt.alloc(), 1786, &dpo(&rt, 0x40, 0xC0), &packet);
+    same(&rt, cts, from_35(&rt, ETP_CTS, [0x40, 0xC1, 0, 0]));
+    same(&rt, end, from_35(&rt, ETP_EOMA, [0xFA, 0x06, 0, 0]));
 }
 
 #[test]
 fn long_message(rt: HostRuntime) {
-    exchange_100_000_bytes(&rt, rt.alloc());
+    let packet = data(0x0E, [0x9C, 0x9D, 0x9E, 0x9F, 0xA0, 0xFF, 0xFF]);
+    let (cts, end) = exchange(&rt, rt.alloc(), 100_000, &dpo(&rt, 0x0E, 0x37C0), &packet);
+    same(&rt, cts, from_35(&rt, ETP_CTS, [0x0E, 0xC1, 0x37, 0]));
+    same(&rt, end, from_35(&rt, ETP_EOMA, [0xA0, 0x86, 0x01, 0]));
 }
 
 // A session begins, and its first frame ends it by an abort.
@@ -208,98 +190,72 @@ fn goes_on_after(rt: &impl Abort, alloc: Global, wire: &Wire) {
     goes_on(rt, take(rt, state, wire, Flow::Open)).overrun();
 }
 
-fn begin_and_go_on(rt: &impl Abort, alloc: Global) {
+#[test]
+fn begins(rt: HostRuntime) {
     let other = CmFrame::EtpDpo {
         packets: 64,
         offset: 0,
-        pgn: wire_pgn(rt, 0xFECB),
+        pgn: wire_pgn(&rt, 0xFECB),
     };
-    goes_on_after(rt, alloc, &dpo(rt, 64, 0));
-    goes_on_after(rt, alloc, &Wire::Cm(other));
-}
-
-fn begin_and_end(rt: &impl Abort, alloc: Global) {
-    is_ended_by(rt, alloc, &zeros(1));
-    is_ended_by(rt, alloc, &dpo(rt, 0, 0));
-    is_ended_by(rt, alloc, &dpo(rt, 1, 1));
-    is_ended_by(rt, alloc, &dpo(rt, 65, 0));
-}
-
-#[test]
-fn begins(rt: HostRuntime) {
-    begin_and_end(&rt, rt.alloc());
-    begin_and_go_on(&rt, rt.alloc());
+    is_ended_by(&rt, rt.alloc(), &data(1, [0; 7]));
+    is_ended_by(&rt, rt.alloc(), &dpo(&rt, 0, 0));
+    is_ended_by(&rt, rt.alloc(), &dpo(&rt, 1, 1));
+    is_ended_by(&rt, rt.alloc(), &dpo(&rt, 65, 0));
+    goes_on_after(&rt, rt.alloc(), &dpo(&rt, 64, 0));
+    goes_on_after(&rt, rt.alloc(), &Wire::Cm(other));
 }
 
 // What the last packet of the first window leads to.
 fn first_window(rt: &impl Abort, state: InState, flow: Flow) -> Received {
     let mut state = goes_on(rt, take(rt, state, &dpo(rt, 64, 0), flow));
     for sequence in 1..64 {
-        state = goes_on(rt, take(rt, state, &zeros(sequence), flow));
+        state = goes_on(rt, take(rt, state, &data(sequence, [0; 7]), flow));
     }
-    take(rt, state, &zeros(64), flow)
+    take(rt, state, &data(64, [0; 7]), flow)
 }
 
-// A frame is taken in place, or not.
-fn takes(
-    rt: &impl Abort,
-    state: &mut InState,
-    queue: &mut TxQueue,
-    wire: &Wire,
-    now: u64,
-    is_taken: bool,
-) {
-    same(rt, take_in_place(rt, state, wire, now, queue), is_taken);
-}
-
-fn take_two(rt: &impl Abort, state: &mut InState, queue: &mut TxQueue) {
-    // Packets that no DPO has announced, and a DPO past what was granted.
-    takes(rt, state, queue, &zeros(1), 50, false);
-    takes(rt, state, queue, &dpo(rt, 3, 1), 50, false);
-    takes(rt, state, queue, &dpo(rt, 3, 0), 60, true);
-    takes(rt, state, queue, &zeros(1), 100, true);
-    takes(rt, state, queue, &zeros(2), 200, true);
-    // A packet that has come and one that is skipped change nothing.
-    takes(rt, state, queue, &zeros(2), 300, false);
-    takes(rt, state, queue, &zeros(4), 300, false);
-    falls_due(rt, state, 950);
-}
-
-// Where its memory is refused, nothing changes, and the next try finds it.
-fn take_third(rt: &impl Abort, state: &mut InState, queue: &mut TxQueue) {
-    let third = zeros(3);
-    let granted = take_in_place(rt, state, &third, 400, queue)
-        || take_in_place(rt, state, &third, 400, queue);
-    holds(rt, granted);
-    has_memory(rt, state, 67 * 7);
+fn take_three(rt: &impl Abort, state: &mut InState, queue: &mut TxQueue) {
+    for (wire, now, is_taken) in [
+        // Packets that no DPO has announced, and a DPO past what was granted.
+        (data(1, [0; 7]), 50, false),
+        (dpo(rt, 3, 1), 50, false),
+        (dpo(rt, 3, 0), 60, true),
+        (data(1, [0; 7]), 100, true),
+        (data(2, [0; 7]), 200, true),
+        // A packet that has come and one that is skipped change nothing.
+        (data(2, [0; 7]), 300, false),
+        (data(4, [0; 7]), 300, false),
+    ] {
+        same(rt, take_in_place(rt, state, &wire, now, queue), is_taken);
+    }
 }
 
 #[test]
 fn packets_in_a_window_are_taken_in_place(rt: HostRuntime) {
-    let mut queue = new_queue(&rt, rt.alloc());
+    let mut queue = got(&rt, TxQueue::new(rt.alloc()));
     let mut state = begun_open(&rt, rt.alloc());
-    take_two(&rt, &mut state, &mut queue);
-    take_third(&rt, &mut state, &mut queue);
+    take_three(&rt, &mut state, &mut queue);
+    falls_due(&rt, &state, 950);
+    // Where its memory is refused, nothing changes, and the next try finds it.
+    let third = data(3, [0; 7]);
+    let granted = take_in_place(&rt, &mut state, &third, 400, &mut queue)
+        || take_in_place(&rt, &mut state, &third, 400, &mut queue);
+    holds(&rt, granted);
+    has_memory(&rt, &state, 67 * 7);
     state.overrun();
     let cts = from_35(&rt, ETP_CTS, [0x40, 4, 0, 0]);
     same(&rt, queue.pop(), Some(cts));
 }
 
-fn miss_an_offset(rt: &impl Abort, state: InState) {
-    let (state, cts) = answers(rt, first_window(rt, state, Flow::Open));
-    grants(rt, cts, 0x40, [0x41, 0]);
-    let state = goes_on(rt, take(rt, state, &zeros(64), Flow::Open));
-    has_memory(rt, &state, 2 * 64 * 7);
-    is_abort(
-        rt,
-        aborted(rt, take(rt, state, &zeros(65), Flow::Open)),
-        250,
-    );
-}
-
 #[test]
 fn old_offset(rt: HostRuntime) {
-    miss_an_offset(&rt, begun_open(&rt, rt.alloc()));
+    let state = begun_open(&rt, rt.alloc());
+    let (state, cts) = answers(&rt, first_window(&rt, state, Flow::Open));
+    same(&rt, cts, from_35(&rt, ETP_CTS, [0x40, 0x41, 0, 0]));
+    let state = goes_on(&rt, take(&rt, state, &data(64, [0; 7]), Flow::Open));
+    has_memory(&rt, &state, 2 * 64 * 7);
+    let ended = aborted(&rt, take(&rt, state, &data(65, [0; 7]), Flow::Open));
+    is_abort(&rt, ended, 250);
 }
 
 // What a timer leads to, where its step needs no more memory than there is at the second try.
@@ -312,35 +268,29 @@ fn fire(rt: &impl Abort, mut state: InState, flow: Flow, now: u64) -> Received {
     state.expire(flow, now)
 }
 
-fn hold_and_open(rt: &impl Abort, state: InState) {
-    let (state, first) = answers(rt, first_window(rt, state, Flow::Held));
-    grants(rt, first, 0, [0x41, 0]);
-    let (state, second) = answers(rt, fire(rt, state, Flow::Held, 500));
-    same(rt, second, first);
-    falls_due(rt, &state, 1000);
-    has_memory(rt, &state, 64 * 7);
-    let (state, cts) = answers(rt, fire(rt, state, Flow::Open, 1000));
-    grants(rt, cts, 0x40, [0x41, 0]);
-    same(rt, state.peer().from(), Address(0x21));
-    is_abort(rt, state.close(), 2);
-}
-
 #[test]
 fn hold(rt: HostRuntime) {
-    hold_and_open(&rt, begun_open(&rt, rt.alloc()));
-}
-
-fn time_out(rt: &impl Abort, state: InState) {
-    falls_due(rt, &state, 1250);
-    let state = goes_on(rt, take(rt, state, &dpo(rt, 64, 0), Flow::Open));
-    let state = goes_on(rt, take(rt, state, &zeros(1), Flow::Open));
-    falls_due(rt, &state, 750);
-    is_abort(rt, aborted(rt, fire(rt, state, Flow::Open, 750)), 3);
+    let state = begun_open(&rt, rt.alloc());
+    let (state, first) = answers(&rt, first_window(&rt, state, Flow::Held));
+    same(&rt, first, from_35(&rt, ETP_CTS, [0, 0x41, 0, 0]));
+    let (state, second) = answers(&rt, fire(&rt, state, Flow::Held, 500));
+    same(&rt, second, first);
+    falls_due(&rt, &state, 1000);
+    has_memory(&rt, &state, 64 * 7);
+    let (state, cts) = answers(&rt, fire(&rt, state, Flow::Open, 1000));
+    same(&rt, cts, from_35(&rt, ETP_CTS, [0x40, 0x41, 0, 0]));
+    same(&rt, state.peer().from(), Address(0x21));
+    is_abort(&rt, state.close(), 2);
 }
 
 #[test]
 fn times_out(rt: HostRuntime) {
-    time_out(&rt, begun_open(&rt, rt.alloc()));
+    let state = begun_open(&rt, rt.alloc());
+    falls_due(&rt, &state, 1250);
+    let state = goes_on(&rt, take(&rt, state, &dpo(&rt, 64, 0), Flow::Open));
+    let state = goes_on(&rt, take(&rt, state, &data(1, [0; 7]), Flow::Open));
+    falls_due(&rt, &state, 750);
+    is_abort(&rt, aborted(&rt, fire(&rt, state, Flow::Open, 750)), 3);
 }
 
 #[test]

@@ -1,14 +1,11 @@
 use crate::checks::{got, holds, same};
 use crate::session::frames::{shows, wire_pgn};
-use bus_frame::Frame;
 use pgn_ids::Address;
 use responder::*;
 use seg_cut::Join;
 use std::alloc::Global;
 use std::process::Abort;
 use tp_wire::{AbortReason, Kind};
-
-const M9: [u8; 9] = [1, 2, 3, 4, 5, 6, 7, 8, 9];
 
 fn diagnostics(rt: &impl Abort) -> Peer {
     Peer::new(Address(0x21), Address(0x35), wire_pgn(rt, 0xFECA))
@@ -36,54 +33,38 @@ fn long_message(rt: &impl Abort, alloc: Global) -> Finished {
     Finished::new(Kind::Etp, diagnostics(rt), join)
 }
 
-// A message is given, with this frame.
-fn given(rt: &impl Abort, message: Finished, id: u32, end: [u8; 8]) -> Vec<u8> {
-    let (bytes, frame) = message.given();
-    shows(rt, frame, id, end);
-    bytes
-}
-
-fn give_nine_bytes(rt: &impl Abort, message: Finished) {
-    same(rt, message.size(), 9);
-    let bytes = given(
-        rt,
-        message,
-        0x1CEC_2135,
-        [0x13, 9, 0, 2, 0xFF, 0xCA, 0xFE, 0],
-    );
-    same(rt, bytes.as_slice(), M9.as_slice());
-}
-
-fn give_long_message(rt: &impl Abort, message: Finished) {
-    let bytes = given(
-        rt,
-        message,
-        0x1CC8_2135,
-        [0x17, 0xFA, 6, 0, 0, 0xCA, 0xFE, 0],
-    );
-    same(rt, bytes.len(), 1786);
-}
-
 #[test]
 fn a_message_is_given_with_its_acknowledgement(rt: HostRuntime) {
-    give_nine_bytes(&rt, nine_bytes(&rt, rt.alloc()));
-    give_long_message(&rt, long_message(&rt, rt.alloc()));
-}
-
-// It is an abort of this reason.
-fn is_abort(rt: &impl Abort, frame: Frame, id: u32, reason: u8) {
-    shows(
-        rt,
-        frame,
-        id,
-        [0xFF, reason, 0xFF, 0xFF, 0xFF, 0xCA, 0xFE, 0],
+    let message = nine_bytes(&rt, rt.alloc());
+    same(&rt, message.size(), 9);
+    let (bytes, end) = message.given();
+    same(
+        &rt,
+        bytes.as_slice(),
+        [1, 2, 3, 4, 5, 6, 7, 8, 9].as_slice(),
     );
+    shows(&rt, end, 0x1CEC_2135, [0x13, 9, 0, 2, 0xFF, 0xCA, 0xFE, 0]);
+    let (bytes, end) = long_message(&rt, rt.alloc()).given();
+    same(&rt, bytes.len(), 1786);
+    shows(&rt, end, 0x1CC8_2135, [0x17, 0xFA, 6, 0, 0, 0xCA, 0xFE, 0]);
 }
 
 #[test]
 fn a_message_is_refused_by_an_abort(rt: HostRuntime) {
-    is_abort(&rt, nine_bytes(&rt, rt.alloc()).refused(), 0x1CEC_2135, 2);
-    is_abort(&rt, long_message(&rt, rt.alloc()).refused(), 0x1CC8_2135, 2);
+    let refused = [0xFF, 2, 0xFF, 0xFF, 0xFF, 0xCA, 0xFE, 0];
+    let timeout = [0xFF, 3, 0xFF, 0xFF, 0xFF, 0xCA, 0xFE, 0];
+    shows(
+        &rt,
+        nine_bytes(&rt, rt.alloc()).refused(),
+        0x1CEC_2135,
+        refused,
+    );
+    shows(
+        &rt,
+        long_message(&rt, rt.alloc()).refused(),
+        0x1CC8_2135,
+        refused,
+    );
     let abort = diagnostics(&rt).abort(Kind::Tp, AbortReason::Timeout);
-    is_abort(&rt, abort, 0x1CEC_2135, 3);
+    shows(&rt, abort, 0x1CEC_2135, timeout);
 }

@@ -2,10 +2,8 @@
 use crate::checks::{got, same};
 pub(crate) use crate::pgns::{pgn, wire_pgn};
 use bus_frame::{CanId, Frame};
-use std::alloc::Global;
 use std::process::Abort;
 use tp_wire::{Heard, Wire};
-use tx_queue::TxQueue;
 
 pub(crate) fn frame(rt: &impl Abort, id: u32, bytes: [u8; 8]) -> Frame {
     Frame::full(got(rt, CanId::new(id)), bytes)
@@ -14,11 +12,6 @@ pub(crate) fn frame(rt: &impl Abort, id: u32, bytes: [u8; 8]) -> Frame {
 /// The frame is this one.
 pub(crate) fn shows(rt: &impl Abort, shown: Frame, id: u32, bytes: [u8; 8]) {
     same(rt, shown, frame(rt, id, bytes));
-}
-
-/// A queue with nothing in it.
-pub(crate) fn new_queue(rt: &impl Abort, alloc: Global) -> TxQueue {
-    got(rt, TxQueue::new(alloc))
 }
 
 /// What a frame with this meaning is heard as.

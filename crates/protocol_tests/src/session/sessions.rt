@@ -23,16 +23,6 @@ const FROM: Address = Address(0x80);
 
 const TO: Address = Address(0x35);
 
-const BROADCAST: Key = Key {
-    source: FROM,
-    kind: SessionKind::Broadcast,
-};
-
-const CONNECTION: Key = Key {
-    source: FROM,
-    kind: SessionKind::Tp,
-};
-
 const FIRST: Wire = Wire::Packet {
     kind: Kind::Tp,
     sequence: 1,
@@ -193,40 +183,30 @@ fn end_in_order(rt: &impl Abort, table: &mut SessionTable<u8>, keys: &[Key; 4]) 
     same(rt, next_due(table, 1250), None);
 }
 
-// In the order in which a table has them.
-const KEYS: [Key; 4] = [
-    Key {
-        source: FROM,
-        kind: SessionKind::Broadcast,
-    },
-    Key {
-        source: FROM,
-        kind: SessionKind::Etp,
-    },
-    Key {
-        source: Address(0x90),
-        kind: SessionKind::Tp,
-    },
-    Key {
-        source: Address(0xA0),
-        kind: SessionKind::Tp,
-    },
-];
-
-fn end_all(rt: &impl Abort, alloc: Global, table: &mut SessionTable<u8>) {
-    open(rt, alloc, table, KEYS[3]);
-    open(rt, alloc, table, KEYS[1]);
-    open(rt, alloc, table, KEYS[2]);
-    open(rt, alloc, table, KEYS[0]);
-    keys_rise(rt, table, &KEYS);
-    end_in_order(rt, table, &KEYS);
-    holds(rt, table.is_empty());
+fn open_all(rt: &impl Abort, alloc: Global, table: &mut SessionTable<u8>, keys: &[Key]) {
+    for key in keys {
+        open(rt, alloc, table, *key);
+    }
 }
 
 #[test]
 fn due_keys_rise(rt: HostRuntime) {
     let mut table = new_table(rt.alloc());
-    end_all(&rt, rt.alloc(), &mut table);
+    let keys = [
+        key(0x80, SessionKind::Broadcast),
+        key(0x80, SessionKind::Etp),
+        key(0x90, SessionKind::Tp),
+        key(0xA0, SessionKind::Tp),
+    ];
+    open_all(
+        &rt,
+        rt.alloc(),
+        &mut table,
+        &[keys[3], keys[1], keys[2], keys[0]],
+    );
+    keys_rise(&rt, &table, &keys);
+    end_in_order(&rt, &mut table, &keys);
+    holds(&rt, table.is_empty());
 }
 
 // A full table hands a session back with what it was to be bound to.
@@ -241,23 +221,15 @@ fn is_refused(rt: &impl Abort, table: &mut SessionTable<u8>, key: Key, bound: u8
     }
 }
 
-fn fill(rt: &impl Abort, alloc: Global, table: &mut SessionTable<u8>) {
-    for source in 0..32 {
-        open(rt, alloc, table, key(source, SessionKind::Tp));
-    }
-}
-
-fn open_one_more(rt: &impl Abort, alloc: Global, table: &mut SessionTable<u8>) {
-    let state = begun(rt, alloc, SessionKind::Tp, FECA);
-    is_refused(rt, table, key(32, SessionKind::Tp), 7, state);
-    same(rt, table.len(), 32);
-}
-
 #[test]
 fn the_33rd_is_refused(rt: HostRuntime) {
     let mut table = new_table(rt.alloc());
-    fill(&rt, rt.alloc(), &mut table);
-    open_one_more(&rt, rt.alloc(), &mut table);
+    for source in 0..32 {
+        open(&rt, rt.alloc(), &mut table, key(source, SessionKind::Tp));
+    }
+    let state = begun(&rt, rt.alloc(), SessionKind::Tp, FECA);
+    is_refused(&rt, &mut table, key(32, SessionKind::Tp), 7, state);
+    same(&rt, table.len(), 32);
 }
 
 // A queue, at the second try where memory is refused.
@@ -268,41 +240,38 @@ fn new_queue(rt: &impl Abort, alloc: Global) -> TxQueue {
     }
 }
 
-// A packet is taken where its session stands, or not.
-fn takes(
-    rt: &impl Abort,
-    table: &mut SessionTable<u8>,
-    wire: &Wire,
-    now: u64,
-    queue: &mut TxQueue,
-    is_taken: bool,
-) {
-    let taken = take_in_place(rt, table, BROADCAST, wire, now, queue);
-    same(rt, taken, is_taken);
-}
-
-fn take_of_a_broadcast(
-    rt: &impl Abort,
-    alloc: Global,
-    table: &mut SessionTable<u8>,
-    queue: &mut TxQueue,
-) {
-    takes(rt, table, &FIRST, 100, queue, true);
-    open(rt, alloc, table, BROADCAST);
-    takes(rt, table, &FIRST, 100, queue, true);
-    takes(rt, table, &LAST, 200, queue, false);
-    same(rt, next_due(table, 849), None);
-    same(rt, next_due(table, 850), Some(BROADCAST));
-    let without = goes_on_without(rt, table, BROADCAST, &LAST, 300, queue);
-    same(rt, without, true);
-    holds(rt, queue.is_empty());
-}
-
 #[test]
 fn a_packet_is_taken_in_place(rt: HostRuntime) {
     let mut table = new_table(rt.alloc());
     let mut queue = new_queue(&rt, rt.alloc());
-    take_of_a_broadcast(&rt, rt.alloc(), &mut table, &mut queue);
+    let key = key(0x80, SessionKind::Broadcast);
+    same(
+        &rt,
+        take_in_place(&rt, &mut table, key, &FIRST, 100, &mut queue),
+        true,
+    );
+    open(&rt, rt.alloc(), &mut table, key);
+    same(
+        &rt,
+        take_in_place(&rt, &mut table, key, &FIRST, 100, &mut queue),
+        true,
+    );
+    same(
+        &rt,
+        take_in_place(&rt, &mut table, key, &LAST, 200, &mut queue),
+        false,
+    );
+    same(
+        &rt,
+        (next_due(&table, 849), next_due(&table, 850)),
+        (None, Some(key)),
+    );
+    same(
+        &rt,
+        goes_on_without(&rt, &mut table, key, &LAST, 300, &mut queue),
+        true,
+    );
+    holds(&rt, queue.is_empty());
 }
 
 // Whether the session of a key leaves this packet, as a connection that awaits its last one does.
@@ -311,59 +280,40 @@ fn leaves(table: &SessionTable<u8>, key: Key, wire: &Wire) -> Option<bool> {
     Some(state.leaves(&heard(wire)))
 }
 
-fn leave_the_last(
-    rt: &impl Abort,
-    alloc: Global,
-    table: &mut SessionTable<u8>,
-    queue: &mut TxQueue,
-) {
-    same(rt, leaves(table, CONNECTION, &LAST), None);
-    open(rt, alloc, table, CONNECTION);
-    same(rt, leaves(table, CONNECTION, &FIRST), Some(false));
-    let taken = take_in_place(rt, table, CONNECTION, &FIRST, 100, queue);
-    same(rt, taken, true);
-    same(rt, leaves(table, CONNECTION, &LAST), Some(true));
-}
-
 #[test]
 fn the_last_packet_is_left(rt: HostRuntime) {
     let mut table = new_table(rt.alloc());
     let mut queue = new_queue(&rt, rt.alloc());
-    leave_the_last(&rt, rt.alloc(), &mut table, &mut queue);
-}
-
-// While the session of a key is taken out, its place is held.
-fn is_held(rt: &impl Abort, table: &SessionTable<u8>, key: Key) {
-    same(rt, (table.len(), table.get(key).is_some()), (1, false));
-    same(rt, next_due(table, 1250), None);
-    same(rt, next_key(table, None), None);
-}
-
-// What stands at a key.
-fn is_there(rt: &impl Abort, table: &SessionTable<u8>, key: Key, bound: u8, pgn: u32) {
-    match table.get(key) {
-        Some((to, state)) => same(
-            rt,
-            (*to, state.kind(), state.pgn().raw()),
-            (bound, key.kind, pgn),
-        ),
-        None => panic!(rt; "nothing at the key"),
-    }
-}
-
-fn put_another(rt: &impl Abort, alloc: Global, table: &mut SessionTable<u8>) {
-    open(rt, alloc, table, CONNECTION);
-    let next = begun(rt, alloc, CONNECTION.kind, 0xEF00);
-    let held = take_out(rt, table, CONNECTION);
-    is_held(rt, table, CONNECTION);
-    table.put_back(held, 9, next);
-    is_there(rt, table, CONNECTION, 9, 0xEF00);
+    let key = key(0x80, SessionKind::Tp);
+    same(&rt, leaves(&table, key, &LAST), None);
+    open(&rt, rt.alloc(), &mut table, key);
+    same(&rt, leaves(&table, key, &FIRST), Some(false));
+    same(
+        &rt,
+        take_in_place(&rt, &mut table, key, &FIRST, 100, &mut queue),
+        true,
+    );
+    same(&rt, leaves(&table, key, &LAST), Some(true));
 }
 
 #[test]
 fn a_new_session_takes_the_place(rt: HostRuntime) {
     let mut table = new_table(rt.alloc());
-    put_another(&rt, rt.alloc(), &mut table);
+    let key = key(0x80, SessionKind::Tp);
+    open(&rt, rt.alloc(), &mut table, key);
+    let next = begun(&rt, rt.alloc(), key.kind, 0xEF00);
+    let held = take_out(&rt, &mut table, key);
+    same(&rt, (table.len(), table.get(key).is_some()), (1, false));
+    same(
+        &rt,
+        (next_due(&table, 1250), next_key(&table, None)),
+        (None, None),
+    );
+    table.put_back(held, 9, next);
+    let there = table
+        .get(key)
+        .map(|(bound, state)| (*bound, state.kind(), state.pgn().raw()));
+    same(&rt, there, Some((9, SessionKind::Tp, 0xEF00)));
 }
 
 // The image of what stands at a key, at the second try where memory is refused.
@@ -396,18 +346,15 @@ fn is_kept_until_a_packet(
     same(rt, is_at(image, table, key), false);
 }
 
-fn show(rt: &impl Abort, alloc: Global, table: &mut SessionTable<u8>, key: Key) {
-    let mut queue = new_queue(rt, alloc);
-    open(rt, alloc, table, key);
-    let image = image_at(rt, alloc, table, key);
-    is_kept_until_a_packet(rt, table, key, &image, &mut queue);
-}
-
 #[test]
 fn an_image_is_of_a_session_as_it_was(rt: HostRuntime) {
-    for key in &[BROADCAST, CONNECTION] {
+    for kind in [SessionKind::Broadcast, SessionKind::Tp] {
         let mut table = new_table(rt.alloc());
-        show(&rt, rt.alloc(), &mut table, *key);
+        let mut queue = new_queue(&rt, rt.alloc());
+        let key = key(0x80, kind);
+        open(&rt, rt.alloc(), &mut table, key);
+        let image = image_at(&rt, rt.alloc(), &table, key);
+        is_kept_until_a_packet(&rt, &mut table, key, &image, &mut queue);
     }
 }
 
@@ -425,25 +372,15 @@ fn bound(alloc: Global, table: &SessionTable<u8>) -> Result<Vec<(Key, Option<u8>
     Ok(bound)
 }
 
-// The keys of an image, at the second try where memory is refused.
-fn bound_twice(rt: &impl Abort, alloc: Global, table: &SessionTable<u8>) -> Vec<(Key, Option<u8>)> {
-    match bound(alloc, table) {
-        Ok(kept) => kept,
-        Err(_) => got(rt, bound(alloc, table)),
-    }
-}
-
-fn show_two(rt: &impl Abort, alloc: Global, table: &mut SessionTable<u8>) {
-    let keys = [key(0x80, SessionKind::Etp), key(0x90, SessionKind::Tp)];
-    open(rt, alloc, table, keys[0]);
-    open(rt, alloc, table, keys[1]);
-    let kept = bound_twice(rt, alloc, table);
-    let both = [(keys[0], Some(0x80)), (keys[1], Some(0x90))];
-    same(rt, kept.as_slice(), both.as_slice());
-}
-
 #[test]
 fn an_image_has_each_key(rt: HostRuntime) {
     let mut table = new_table(rt.alloc());
-    show_two(&rt, rt.alloc(), &mut table);
+    let keys = [key(0x80, SessionKind::Etp), key(0x90, SessionKind::Tp)];
+    open_all(&rt, rt.alloc(), &mut table, &keys);
+    let kept = match bound(rt.alloc(), &table) {
+        Ok(kept) => kept,
+        Err(_) => got(&rt, bound(rt.alloc(), &table)),
+    };
+    let both = [(keys[0], Some(0x80)), (keys[1], Some(0x90))];
+    same(&rt, kept.as_slice(), both.as_slice());
 }

@@ -264,21 +264,17 @@ fn is_image(rt: &impl Abort, lane: &Lane, image: &LaneImage, older: &LaneImage) 
 }
 
 // An image is that of its lane until a message is pushed, begun or ended.
-fn show(rt: &impl Abort, alloc: Global, lane: &mut Lane) {
-    let new = image(rt, alloc, lane);
-    push(rt, alloc, lane, 1);
-    let pushed = image(rt, alloc, lane);
-    is_image(rt, lane, &pushed, &new);
-    pumps(rt, alloc, lane, 0, CM_TO_35, &RTS);
-    let begun = image(rt, alloc, lane);
-    is_image(rt, lane, &begun, &pushed);
-    let step = cancel(rt, lane, 1);
-    ends_by_abort(rt, step, CM_TO_35, 250, 1, Outcome::Cancelled);
-    same(rt, (begun.is_of(lane), new.is_of(lane)), (false, false));
-}
-
 #[test]
 fn an_image_is_that_of_its_lane(rt: HostRuntime) {
     let mut lane = lane_to(&rt, rt.alloc(), Address(0x35));
-    show(&rt, rt.alloc(), &mut lane);
+    let new = image(&rt, rt.alloc(), &lane);
+    push(&rt, rt.alloc(), &mut lane, 1);
+    let pushed = image(&rt, rt.alloc(), &lane);
+    is_image(&rt, &lane, &pushed, &new);
+    pumps(&rt, rt.alloc(), &mut lane, 0, CM_TO_35, &RTS);
+    let begun = image(&rt, rt.alloc(), &lane);
+    is_image(&rt, &lane, &begun, &pushed);
+    let step = cancel(&rt, &mut lane, 1);
+    ends_by_abort(&rt, step, CM_TO_35, 250, 1, Outcome::Cancelled);
+    same(&rt, (begun.is_of(&lane), new.is_of(&lane)), (false, false));
 }

@@ -156,58 +156,45 @@ fn are_wanted(rt: &impl Abort, sessions: &Receivers, wire: &Wire) {
     same(rt, (set.len(), size), (2, 9));
 }
 
-// A test's steps are a function of their own, which owns nothing: what a test owns takes its part of the proof at each of them.
-fn give_at_both_ports(rt: &impl Abort, alloc: Global, sessions: &mut Receivers, ports: &PortTable) {
-    same(rt, sessions.others(KEY), 0);
-    tells_nothing(rt, alloc, sessions, ports, &FIRST);
-    are_wanted(rt, sessions, &LAST);
-    gives(rt, alloc, sessions, ports, &LAST, &[1, 2]);
-    tells_nothing(rt, alloc, sessions, ports, &LAST);
-}
-
 #[test]
 fn given_at_both_ports_once(rt: HostRuntime) {
     let ports = two_ports(&rt, rt.alloc());
     let mut sessions = announce(&rt, rt.alloc(), &ports);
-    give_at_both_ports(&rt, rt.alloc(), &mut sessions, &ports);
-}
-
-fn close_one_port(rt: &impl Abort, alloc: Global, sessions: &mut Receivers, ports: &PortTable) {
-    ends(rt, sessions, 1);
-    tells_nothing(rt, alloc, sessions, ports, &FIRST);
-    gives(rt, alloc, sessions, ports, &LAST, &[2]);
+    same(&rt, sessions.others(KEY), 0);
+    tells_nothing(&rt, rt.alloc(), &mut sessions, &ports, &FIRST);
+    are_wanted(&rt, &sessions, &LAST);
+    gives(&rt, rt.alloc(), &mut sessions, &ports, &LAST, &[1, 2]);
+    tells_nothing(&rt, rt.alloc(), &mut sessions, &ports, &LAST);
 }
 
 #[test]
 fn one_of_its_ports_closes(rt: HostRuntime) {
     let ports = two_ports(&rt, rt.alloc());
     let mut sessions = announce(&rt, rt.alloc(), &ports);
-    close_one_port(&rt, rt.alloc(), &mut sessions, &ports);
-}
-
-fn close_both_ports(rt: &impl Abort, sessions: &mut Receivers) {
-    ends(rt, sessions, 1);
-    ends(rt, sessions, 2);
-    is_due_as(rt, sessions, u64::MAX, None);
+    ends(&rt, &mut sessions, 1);
+    tells_nothing(&rt, rt.alloc(), &mut sessions, &ports, &FIRST);
+    gives(&rt, rt.alloc(), &mut sessions, &ports, &LAST, &[2]);
 }
 
 #[test]
 fn both_of_its_ports_close(rt: HostRuntime) {
     let ports = two_ports(&rt, rt.alloc());
     let mut sessions = announce(&rt, rt.alloc(), &ports);
-    close_both_ports(&rt, &mut sessions);
+    ends(&rt, &mut sessions, 1);
+    ends(&rt, &mut sessions, 2);
+    is_due_as(&rt, &sessions, u64::MAX, None);
 }
 
 fn is_source(rt: &impl Abort, sessions: &Receivers, from: u8, source: Option<Address>) {
     same(rt, sessions.next_source(from), source);
 }
 
-fn take_first_in_place(
-    rt: &impl Abort,
-    sessions: &mut Receivers,
-    ports: &PortTable,
-    queue: &mut TxQueue,
-) {
+// The first packet is taken in place, the last one is left: with it the message is given.
+#[test]
+fn packets_are_taken_in_place(rt: HostRuntime) {
+    let ports = two_ports(&rt, rt.alloc());
+    let mut sessions = announce(&rt, rt.alloc(), &ports);
+    let mut queue = got(&rt, TxQueue::new(rt.alloc()));
     let first = Heard::Packet {
         kind: Kind::Tp,
         sequence: 1,
@@ -218,74 +205,49 @@ fn take_first_in_place(
         sequence: 2,
         bytes: &[8, 9, 255, 255, 255, 255, 255],
     };
-    is_source(rt, sessions, 0x21, Some(KEY.source));
-    is_source(rt, sessions, 0x22, None);
-    takes_in_place(rt, sessions, ports, &first, queue, true);
-    takes_in_place(rt, sessions, ports, &last, queue, false);
-}
-
-// The first packet is taken in place, the last one is left: with it the message is given.
-#[test]
-fn packets_are_taken_in_place(rt: HostRuntime) {
-    let ports = two_ports(&rt, rt.alloc());
-    let mut sessions = announce(&rt, rt.alloc(), &ports);
-    let mut queue = got(&rt, TxQueue::new(rt.alloc()));
-    take_first_in_place(&rt, &mut sessions, &ports, &mut queue);
+    is_source(&rt, &sessions, 0x21, Some(KEY.source));
+    is_source(&rt, &sessions, 0x22, None);
+    takes_in_place(&rt, &mut sessions, &ports, &first, &mut queue, true);
+    takes_in_place(&rt, &mut sessions, &ports, &last, &mut queue, false);
     gives(&rt, rt.alloc(), &mut sessions, &ports, &LAST, &[1, 2]);
-}
-
-fn wait_for_the_end(rt: &impl Abort, alloc: Global, sessions: &mut Receivers, ports: &PortTable) {
-    is_due_as(rt, sessions, 749, None);
-    is_due_as(rt, sessions, 750, Some(KEY));
-    abort(rt, sessions, 0xFEC9);
-    is_due_as(rt, sessions, 750, Some(KEY));
-    same(rt, fire(rt, alloc, sessions, ports, 750), None);
-    is_due_as(rt, sessions, 750, None);
 }
 
 #[test]
 fn a_silent_session_ends(rt: HostRuntime) {
     let ports = two_ports(&rt, rt.alloc());
     let mut sessions = announce(&rt, rt.alloc(), &ports);
-    wait_for_the_end(&rt, rt.alloc(), &mut sessions, &ports);
-}
-
-fn abort_its_pgn(rt: &impl Abort, sessions: &mut Receivers) {
-    abort(rt, sessions, FECA);
-    is_due_as(rt, sessions, 750, None);
+    is_due_as(&rt, &sessions, 749, None);
+    is_due_as(&rt, &sessions, 750, Some(KEY));
+    abort(&rt, &mut sessions, 0xFEC9);
+    is_due_as(&rt, &sessions, 750, Some(KEY));
+    same(&rt, fire(&rt, rt.alloc(), &mut sessions, &ports, 750), None);
+    is_due_as(&rt, &sessions, 750, None);
 }
 
 #[test]
 fn an_abort_ends_the_session_of_its_pgn(rt: HostRuntime) {
     let ports = two_ports(&rt, rt.alloc());
     let mut sessions = announce(&rt, rt.alloc(), &ports);
-    abort_its_pgn(&rt, &mut sessions);
-}
-
-fn end_the_session(rt: &impl Abort, sessions: &mut Receivers) {
-    sessions.end(KEY);
-    is_due_as(rt, sessions, 750, None);
+    abort(&rt, &mut sessions, FECA);
+    is_due_as(&rt, &sessions, 750, None);
 }
 
 #[test]
 fn a_session_is_ended(rt: HostRuntime) {
     let ports = two_ports(&rt, rt.alloc());
     let mut sessions = announce(&rt, rt.alloc(), &ports);
-    end_the_session(&rt, &mut sessions);
-}
-
-fn miss_frames(rt: &impl Abort, sessions: &mut Receivers) {
-    are_none(rt, sessions, false);
-    sessions.overrun();
-    are_none(rt, sessions, true);
-    is_due_as(rt, sessions, 750, None);
+    sessions.end(KEY);
+    is_due_as(&rt, &sessions, 750, None);
 }
 
 #[test]
 fn missed_frames_end_each_session(rt: HostRuntime) {
     let ports = two_ports(&rt, rt.alloc());
     let mut sessions = announce(&rt, rt.alloc(), &ports);
-    miss_frames(&rt, &mut sessions);
+    are_none(&rt, &sessions, false);
+    sessions.overrun();
+    are_none(&rt, &sessions, true);
+    is_due_as(&rt, &sessions, 750, None);
 }
 
 fn image(rt: &impl Abort, sessions: &Receivers) -> ReceiversImage {

@@ -42,22 +42,18 @@ fn broadcast(rt: &impl Abort, alloc: Global, lane: &mut Lane) {
     misses(rt, lane, 100, 0);
 }
 
-fn broadcast_thrice(rt: &impl Abort, alloc: Global, lane: &mut Lane) {
-    refuses(rt, lane, 0, PumpRefused::NothingToSend);
-    pushes(rt, alloc, lane, 3);
-    broadcast(rt, alloc, lane);
-    // The lane to all settles at once, whatever the outcome.
-    pumps(rt, alloc, lane, 100, BAM, &ANNOUNCEMENT);
-    same(rt, queues_abort(lane, 2), false);
-    let step = cancel(rt, lane, 2);
-    ends(rt, step, 2, Outcome::Cancelled);
-    pumps(rt, alloc, lane, 101, BAM, &ANNOUNCEMENT);
-}
-
 #[test]
 fn broadcast_waits_for_its_gaps(rt: HostRuntime) {
     let mut lane = lane_to(&rt, rt.alloc(), Address::GLOBAL);
-    broadcast_thrice(&rt, rt.alloc(), &mut lane);
+    refuses(&rt, &lane, 0, PumpRefused::NothingToSend);
+    pushes(&rt, rt.alloc(), &mut lane, 3);
+    broadcast(&rt, rt.alloc(), &mut lane);
+    // The lane to all settles at once, whatever the outcome.
+    pumps(&rt, rt.alloc(), &mut lane, 100, BAM, &ANNOUNCEMENT);
+    same(&rt, queues_abort(&lane, 2), false);
+    let step = cancel(&rt, &mut lane, 2);
+    ends(&rt, step, 2, Outcome::Cancelled);
+    pumps(&rt, rt.alloc(), &mut lane, 101, BAM, &ANNOUNCEMENT);
 }
 
 // A frame that is queued where the lane stands is the only one.

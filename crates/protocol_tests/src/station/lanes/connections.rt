@@ -24,36 +24,28 @@ fn sends_both(rt: &impl Abort, alloc: Global, lane: &mut Lane, packets: &[Frame]
     same(rt, pump(rt, alloc, lane, 0, packets), None);
 }
 
-fn send_thrice(rt: &impl Abort, alloc: Global, lane: &mut Lane) {
-    let packets = [
-        frame(rt, 0x1CEB_8021, &FIRST),
-        frame(rt, 0x1CEB_8021, &LAST),
-    ];
-    pushes(rt, alloc, lane, 2);
-    pumps(rt, alloc, lane, 0, CM_TO_80, &RTS);
-    for _ in 0..3 {
-        sends_both(rt, alloc, lane, &packets);
-    }
-    cts_ends(rt, lane, 2, 1, 5);
-    requests(rt, alloc, lane, 0);
-}
-
 #[test]
 fn packets_are_sent_again_twice(rt: HostRuntime) {
     let mut lane = lane_to(&rt, rt.alloc(), Address(0x80));
-    send_thrice(&rt, rt.alloc(), &mut lane);
-}
-
-fn skip_a_packet(rt: &impl Abort, alloc: Global, lane: &mut Lane) {
-    push(rt, alloc, lane, 1);
-    pumps(rt, alloc, lane, 0, CM_TO_80, &RTS);
-    cts_ends(rt, lane, 1, 2, 250);
+    let packets = [
+        frame(&rt, 0x1CEB_8021, &FIRST),
+        frame(&rt, 0x1CEB_8021, &LAST),
+    ];
+    pushes(&rt, rt.alloc(), &mut lane, 2);
+    pumps(&rt, rt.alloc(), &mut lane, 0, CM_TO_80, &RTS);
+    for _ in 0..3 {
+        sends_both(&rt, rt.alloc(), &mut lane, &packets);
+    }
+    cts_ends(&rt, &mut lane, 2, 1, 5);
+    requests(&rt, rt.alloc(), &mut lane, 0);
 }
 
 #[test]
 fn a_packet_cannot_be_skipped(rt: HostRuntime) {
     let mut lane = lane_to(&rt, rt.alloc(), Address(0x80));
-    skip_a_packet(&rt, rt.alloc(), &mut lane);
+    push(&rt, rt.alloc(), &mut lane, 1);
+    pumps(&rt, rt.alloc(), &mut lane, 0, CM_TO_80, &RTS);
+    cts_ends(&rt, &mut lane, 1, 2, 250);
 }
 
 fn places(alloc: Global, len: u32) -> Result<Vec<u8>, AllocError> {
@@ -80,46 +72,38 @@ fn changes_nothing(rt: &impl Abort, lane: &mut Lane, frame: CmFrame) {
 }
 
 // An abort of another message, or of another protocol, is none of this one.
-fn abort_others_first(rt: &impl Abort, alloc: Global, lane: &mut Lane) {
-    let pgn = wire_pgn(rt, FECA);
-    let other = CmFrame::Abort {
-        reason: 2,
-        pgn: wire_pgn(rt, 0xFECB),
-    };
-    same(rt, (lane.from(), lane.to()), (FROM, Address(0x35)));
-    push(rt, alloc, lane, 1);
-    pumps(rt, alloc, lane, 0, CM_TO_35, &RTS);
-    changes_nothing(rt, lane, other);
-    changes_nothing(rt, lane, CmFrame::EtpAbort { reason: 2, pgn });
-    let step = hear(lane, CmFrame::Abort { reason: 2, pgn }, 0);
-    ends(rt, step, 1, Outcome::Aborted(2));
-}
-
 #[test]
 fn an_abort_is_that_of_its_message(rt: HostRuntime) {
     let mut lane = lane_to(&rt, rt.alloc(), Address(0x35));
-    abort_others_first(&rt, rt.alloc(), &mut lane);
-}
-
-fn miss_frames(rt: &impl Abort, alloc: Global, lane: &mut Lane) {
-    push_long(rt, alloc, lane);
-    push(rt, alloc, lane, 2);
-    let request = [0x14, 0xFA, 6, 0, 0, 0xCA, 0xFE, 0];
-    pumps(rt, alloc, lane, 0, 0x1CC8_3521, &request);
-    let cts = CmFrame::EtpCts {
-        granted: 64,
-        next: 1,
-        pgn: wire_pgn(rt, FECA),
+    let pgn = wire_pgn(&rt, FECA);
+    let other = CmFrame::Abort {
+        reason: 2,
+        pgn: wire_pgn(&rt, 0xFECB),
     };
-    changes_nothing(rt, lane, cts);
-    let dpo = frame(rt, 0x1CC8_3521, &[0x16, 0x40, 0, 0, 0, 0xCA, 0xFE, 0]);
-    begins_window(rt, alloc, lane, dpo);
-    ends(rt, overrun(lane), 1, Outcome::Overrun);
-    pumps(rt, alloc, lane, 0, REQUEST_TO_35, &[0, 0xEC, 0]);
+    same(&rt, (lane.from(), lane.to()), (FROM, Address(0x35)));
+    push(&rt, rt.alloc(), &mut lane, 1);
+    pumps(&rt, rt.alloc(), &mut lane, 0, CM_TO_35, &RTS);
+    changes_nothing(&rt, &mut lane, other);
+    changes_nothing(&rt, &mut lane, CmFrame::EtpAbort { reason: 2, pgn });
+    let step = hear(&mut lane, CmFrame::Abort { reason: 2, pgn }, 0);
+    ends(&rt, step, 1, Outcome::Aborted(2));
 }
 
 #[test]
 fn an_overrun_leaves_doubt(rt: HostRuntime) {
     let mut lane = lane_to(&rt, rt.alloc(), Address(0x35));
-    miss_frames(&rt, rt.alloc(), &mut lane);
+    push_long(&rt, rt.alloc(), &mut lane);
+    push(&rt, rt.alloc(), &mut lane, 2);
+    let request = [0x14, 0xFA, 6, 0, 0, 0xCA, 0xFE, 0];
+    pumps(&rt, rt.alloc(), &mut lane, 0, 0x1CC8_3521, &request);
+    let cts = CmFrame::EtpCts {
+        granted: 64,
+        next: 1,
+        pgn: wire_pgn(&rt, FECA),
+    };
+    changes_nothing(&rt, &mut lane, cts);
+    let dpo = frame(&rt, 0x1CC8_3521, &[0x16, 0x40, 0, 0, 0, 0xCA, 0xFE, 0]);
+    begins_window(&rt, rt.alloc(), &mut lane, dpo);
+    ends(&rt, overrun(&mut lane), 1, Outcome::Overrun);
+    pumps(&rt, rt.alloc(), &mut lane, 0, REQUEST_TO_35, &[0, 0xEC, 0]);
 }

@@ -61,23 +61,19 @@ fn second_round(rt: &impl Abort, alloc: Global, lane: &mut Lane) {
     ends(rt, step, 3, Outcome::Acknowledged);
 }
 
-fn settle(rt: &impl Abort, alloc: Global, lane: &mut Lane) {
-    pushes(rt, alloc, lane, 3);
-    pumps(rt, alloc, lane, 0, CM_TO_35, &RTS);
-    sends_packets(rt, alloc, lane, 0);
-    same(rt, is_due(lane, 1249), false);
-    times_out(rt, lane, CM_TO_35);
-    first_round(rt, alloc, lane);
-    second_round(rt, alloc, lane);
-    // It stays settled.
-    push(rt, alloc, lane, 4);
-    pumps(rt, alloc, lane, 2600, CM_TO_35, &RTS);
-}
-
 #[test]
 fn lane_settles_after_a_timeout(rt: HostRuntime) {
     let mut lane = lane_to(&rt, rt.alloc(), Address(0x35));
-    settle(&rt, rt.alloc(), &mut lane);
+    pushes(&rt, rt.alloc(), &mut lane, 3);
+    pumps(&rt, rt.alloc(), &mut lane, 0, CM_TO_35, &RTS);
+    sends_packets(&rt, rt.alloc(), &mut lane, 0);
+    same(&rt, is_due(&lane, 1249), false);
+    times_out(&rt, &mut lane, CM_TO_35);
+    first_round(&rt, rt.alloc(), &mut lane);
+    second_round(&rt, rt.alloc(), &mut lane);
+    // It stays settled.
+    push(&rt, rt.alloc(), &mut lane, 4);
+    pumps(&rt, rt.alloc(), &mut lane, 2600, CM_TO_35, &RTS);
 }
 
 fn requests_again(rt: &impl Abort, lane: &mut Lane, now: u64) {
@@ -105,16 +101,12 @@ fn no_message(rt: &impl Abort, alloc: Global, lane: &mut Lane) {
     requests(rt, alloc, lane, 8750);
 }
 
-fn stay_silent(rt: &impl Abort, alloc: Global, lane: &mut Lane) {
-    pushes(rt, alloc, lane, 2);
-    pumps(rt, alloc, lane, 0, CM_TO_80, &RTS);
-    times_out(rt, lane, CM_TO_80);
-    no_answer(rt, alloc, lane);
-    no_message(rt, alloc, lane);
-}
-
 #[test]
 fn silent_node_is_unreachable(rt: HostRuntime) {
     let mut lane = lane_to(&rt, rt.alloc(), Address(0x80));
-    stay_silent(&rt, rt.alloc(), &mut lane);
+    pushes(&rt, rt.alloc(), &mut lane, 2);
+    pumps(&rt, rt.alloc(), &mut lane, 0, CM_TO_80, &RTS);
+    times_out(&rt, &mut lane, CM_TO_80);
+    no_answer(&rt, rt.alloc(), &mut lane);
+    no_message(&rt, rt.alloc(), &mut lane);
 }
