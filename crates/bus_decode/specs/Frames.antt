@@ -1,5 +1,5 @@
 -- The frames of a message as a member of its JSON object: an array of an object for each.
-use Rattle.std.specs.Prelude.{ℕ, List, [], ◌∷◌, ◌++◌, map, true, codes, if◌then◌else◌}
+use Rattle.std.specs.Prelude.{ℕ, List, [], ◌∷◌, map, true, codes, if◌then◌else◌}
 use Rattle.json_objects.specs.Objects.{Named, object_of, array_of, count_of, member_text}
 use Rattle.serde_json.specs.Data.{Data, string}
 use Rattle.log_courses.specs.declared.course.Place.{Place}

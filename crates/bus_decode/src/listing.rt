@@ -1,5 +1,5 @@
 //! The frames of messages, listed behind their lines.
-ghost use Rattle.std.specs.Prelude.{◌≡◌, ◌++◌, OnOk, codes};
+ghost use Rattle.std.specs.Prelude.{◌≡◌, ◌++◌, OnOk};
 ghost use Rattle.bus_decode.specs.Json.{without_each};
 ghost use Rattle.bus_decode.specs.Listing.{range_text, step_text, mark_line, mark_lines, listed_line, listed_lines};
 

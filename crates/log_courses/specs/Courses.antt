@@ -89,9 +89,12 @@ refuses (Given key pgn bytes) = false
 refuses (Aborted key pgn reason who) = false
 refuses (Lost key pgn have size cause) = is_refusal cause
 
--- a message that didn't begin, and an abort of none, have this frame alone
+-- a message that didn't begin, and an abort of none, have this frame alone: the announcement, or the end
 abbrev pub alone : Detail → Place → Told → Course
-alone detail place told = if refuses told then noted detail place Announcement (begun (pgn_told told) place) else ended detail place (begun (pgn_told told) place)
+alone detail place told =
+    if refuses told then noted detail place Announcement (begun (pgn_told told) place)
+    else if ends_by_frame told then ended detail place (begun (pgn_told told) place)
+    else begun (pgn_told told) place
 
 -- the course of what is told at a frame, with that frame where it is one of the message
 abbrev pub course_of : Detail → Place → Told → Courses → Course

@@ -285,7 +285,7 @@ fn alone(alloc: Global, detail: Detail, place: Place, told: &Told) -> Result<Cou
     let mut course = Course::begun(alloc, pgn_told(told), place);
     if refuses(told) {
         course.note(detail, place, Step::Announcement)?;
-    } else {
+    } else if ends_by_frame(told) {
         course.end(detail, place)?;
     }
     Ok(course)

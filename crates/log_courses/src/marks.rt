@@ -1,5 +1,5 @@
 //! The frames that are listed of a message.
-ghost use Rattle.std.specs.Prelude.{◌≡◌, [], ◌∷◌, ◌++◌, OnOk, length, if◌then◌else◌, nat_lt};
+ghost use Rattle.std.specs.Prelude.{◌≡◌, [], ◌∷◌, ◌++◌, OnOk};
 ghost use Rattle.log_courses.specs.Course.{with_mark};
 
 use crate::course::Place;
