@@ -362,8 +362,8 @@ static void rest(void) {
         if (sides[s].count) return;
         if (fulwethi_service_next_at(&sides[s].service, &at) == FULWETHI_DONE && at < first) first = at;
     }
+    if (first == bus_tick + 1000) sched_yield();
     if (first > bus_tick) bus_tick = first;
-    sched_yield();
 }
 
 /* What the main thread does until all others have ended. */
@@ -478,6 +478,7 @@ int main(int words, char **word) {
     if (count < 1 || count > 100000000 || words > 3 || (words == 3 && strcmp(word[2], "scarce") && strcmp(word[2], "unreported"))) {
         return fprintf(stderr, "usage: %s COUNT [scarce|unreported]\n", word[0]), 2;
     }
+    alarm((unsigned)(600 + count / 50)); /* it ends where nothing goes on */
     share = ((uint32_t)count + ENDS - 1) / ENDS;
     reports = words < 3 || strcmp(word[2], "unreported");
     is_scarce = words == 3 && reports;
