@@ -12,7 +12,8 @@ use Rattle.log_courses.specs.Awaited.{Awaited, awaiting_each}
 use Rattle.log_courses.specs.Courses.{Courses}
 use Rattle.log_courses.specs.declared.course.Place.{Place}
 use Rattle.bus_decode.specs.Strays.{stray_left}
-use Rattle.bus_decode.specs.Listening.{Hearing, Seen, single, told_text, heard_courses, frame_told, frame_counts, frame_seen}
+use Rattle.bus_decode.specs.Telling.{told_text}
+use Rattle.bus_decode.specs.Listening.{Hearing, Seen, single, heard_courses, frame_told, frame_counts, frame_seen}
 use Rattle.bus_decode.specs.declared.counts.Counts.{Counts}
 use Rattle.bus_decode.specs.declared.listener.Listener.{Listener}
 use Rattle.bus_decode.specs.declared.options.Options.{Options}

@@ -17,12 +17,10 @@ use Rattle.log_decode.specs.Decoder.{taken, ended}
 use Rattle.log_decode.specs.Stray.{stray_seen}
 use Rattle.bus_decode.specs.Strays.{more, stray_left}
 use Rattle.bus_decode.specs.Counts.{with_frame, with_strays, with_each}
-use Rattle.bus_decode.specs.Text.{told_lines, wrong_line, single_line}
 use Rattle.log_decode.specs.declared.stray.Stray.{Stray}
 use Rattle.log_decode.specs.declared.told.Told.{Told}
-use Rattle.bus_decode.specs.Listing.{listed_lines}
 use Rattle.bus_decode.specs.Options.{follows, detail_of}
-use Rattle.bus_decode.specs.Json.{told_objects, without_each, single_object, wrong_object}
+use Rattle.bus_decode.specs.Telling.{told_text, without_each, single_text, wrong_text}
 use Rattle.bus_decode.specs.declared.counts.Counts.{Counts}
 use Rattle.bus_decode.specs.declared.listener.Listener.{Listener}
 use Rattle.bus_decode.specs.declared.options.Options.{Options}
@@ -53,20 +51,9 @@ is_asking frame = (meaning_of frame.id).pgn == request || (meaning_of frame.id).
 
 -- a frame that carries nothing of a message, where such are asked for
 abbrev pub single : ℕ → Iface → Options → CanFrame → List ℕ
-single now iface options frame = if options.singles && (not (is_transport frame) || is_asking frame) then (if options.json then single_object now iface options frame else single_line now iface options frame) else []
+single now iface options frame = if options.singles && (not (is_transport frame) || is_asking frame) then single_text now iface options frame else []
 
--- what was told at a frame
-abbrev pub told_text : Place → Options → List Told → Courses → List ℕ
-told_text place options told courses =
-    if options.json then told_objects place options told courses
-    else if options.frames then listed_lines place options told courses
-    else told_lines place.time options told
-
--- the courses of the others, where courses are asked for
-abbrev pub left_courses : Options → List Told → Courses → Courses
-left_courses options told courses = if follows options then without_each told courses else courses
-
--- and with the frame
+-- the courses of the messages that go on at a frame, where courses are followed
 abbrev pub heard_courses : Options → Iface → CanFrame → Place → List Told → Courses → Courses
 heard_courses options iface frame place told courses = if follows options then followed (detail_of options) iface frame place told (without_each told courses) else courses
 
@@ -100,9 +87,6 @@ shown_seen options s (Frame time iface frame) = frame_seen options s (unwrap_or 
 abbrev pub form_with : Option Form → List ℕ → Option Form
 form_with None line = form_of line
 form_with (Some form) line = Some form
-
-abbrev pub wrong_text : Options → ℕ → List ℕ
-wrong_text options n = if options.json then wrong_object n else wrong_line n
 
 -- a wrong line, by its number, ends the run where that is asked for; else it is told and counted
 abbrev pub wrong_seen : Options → Listening → ℕ → Result Step Fault

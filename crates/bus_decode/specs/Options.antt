@@ -1,10 +1,10 @@
 -- What of a log is asked for.
 use Rattle.std.specs.Prelude.{ℕ, List, [], ◌∷◌, length, Bool, false, ◌&&◌, ◌||◌, ◌==◌, if◌then◌else◌}
 use Rattle.pgn_ids.specs.declared.address.Address.{Address}
+use Rattle.log_courses.specs.Courses.{key_told, pgn_told}
 use Rattle.log_courses.specs.declared.marks.Detail.{Detail}
 use Rattle.log_courses.specs.declared.marks.Detail.TheVariants.{Ends, Frames}
 use Rattle.log_decode.specs.declared.told.Told.{Told}
-use Rattle.log_decode.specs.declared.told.Told.TheVariants.{Given, Aborted, Lost}
 use Rattle.bus_decode.specs.declared.options.Options.{Options}
 
 abbrev pub is_among : List ℕ → ℕ → Bool
@@ -21,9 +21,7 @@ is_asked_for options from to pgn = takes options.pgns pgn && takes options.from 
 
 -- what was told is asked for
 abbrev pub is_told_asked : Options → Told → Bool
-is_told_asked options (Given key pgn bytes) = is_asked_for options key.from key.to pgn
-is_told_asked options (Aborted key pgn reason who) = is_asked_for options key.from key.to pgn
-is_told_asked options (Lost key pgn have size cause) = is_asked_for options key.from key.to pgn
+is_told_asked options t = is_asked_for options (key_told t).from (key_told t).to (pgn_told t)
 
 -- courses are followed where they are printed
 abbrev pub follows : Options → Bool

@@ -3,15 +3,12 @@
 #![tactic(auto)]
 
 mod counts;
-mod frames;
 mod listener;
 mod listening;
-mod listing;
-mod objects;
 mod options;
 mod running;
 mod strays;
-mod text;
+mod telling;
 
 pub use counts::Counts;
 pub use options::{Options, Wanted};

@@ -2,7 +2,7 @@
 ghost use Rattle.std.specs.Prelude.{◌≡◌, [], ◌∷◌, ◌++◌, OnOk};
 ghost use Rattle.bus_decode.specs.Options.{is_among, takes, is_asked_for, is_told_asked, follows, detail_of};
 
-use log_courses::Detail;
+use log_courses::{Detail, key_told, pgn_told};
 use log_decode::Told;
 use pgn_ids::{Address, Pgn};
 use std::alloc::{AllocError, Global};
@@ -94,11 +94,8 @@ impl Options {
     pub(crate) fn ask_for_told(&self, told: &Told) -> bool
         ensures { result ≡ is_told_asked self.now told.now }
     {
-        match told {
-            Told::Given { key, pgn, .. } => self.ask_for(key.from, key.to, *pgn),
-            Told::Aborted { key, pgn, .. } => self.ask_for(key.from, key.to, *pgn),
-            Told::Lost { key, pgn, .. } => self.ask_for(key.from, key.to, *pgn),
-        }
+        let key = key_told(told);
+        self.ask_for(key.from, key.to, pgn_told(told))
     }
 
     /// Whether the courses of messages are followed.
