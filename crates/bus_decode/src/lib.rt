@@ -3,6 +3,7 @@
 #![tactic(auto)]
 
 mod counts;
+mod followed;
 mod listener;
 mod listening;
 mod options;

@@ -1,17 +1,15 @@
 //! A line of a log, and what it tells.
 ghost use Rattle.std.specs.Prelude.{◌≡◌, ◌++◌, OnOk};
-ghost use Rattle.bus_decode.specs.Telling.{told_text};
-ghost use Rattle.bus_decode.specs.Listening.{is_asking, single, heard_courses, frame_seen, shown_seen, form_with, seen_as, line_seen, Seen, Read, ended_counts, ended_text};
+ghost use Rattle.bus_decode.specs.Listening.{is_asking, single, frame_seen, shown_seen, form_with, seen_as, line_seen, Seen, Read, ended_counts, ended_text};
 ghost use Rattle.bus_decode.specs.declared.listening.LineError.TheVariants.{OutOfMemory};
 
 use crate::counts::Counts;
 use crate::listener::Listener;
 use crate::options::Options;
 use crate::strays::stray_left;
-use crate::telling::{tell, tell_single, tell_wrong};
+use crate::telling::{tell, tell_frame, tell_single, tell_summary, tell_wrong};
 use bus_frame::Frame;
-use log_courses::{Courses, Place};
-use log_decode::Told;
+use log_courses::Place;
 use log_text::{Form, Iface, LogLine, form_of, read_line_as};
 use pgn_ids::read_id;
 use std::alloc::{AllocError, Global};
@@ -53,31 +51,10 @@ fn put_other(
 ) -> Result<(), AllocError>
     ensures { OnOk result (out.new.items ≡ out.old.items ++ single now iface.now options.now frame.now) }
 {
-    if !options.singles || (is_transport(frame) && !is_asking(frame)) {
+    if !options.singles || options.quiet || (is_transport(frame) && !is_asking(frame)) {
         return Ok(());
     }
     tell_single(out, now, iface, options, frame)
-}
-
-/// What was told at a frame is printed, and the messages that go on have one more.
-fn tell_frame(
-    alloc: Global,
-    out: &mut Vec<u8>,
-    place: Place,
-    options: &Options,
-    iface: Iface,
-    frame: &Frame,
-    told: &[Told],
-    courses: &mut Courses,
-) -> Result<(), AllocError>
-    ensures text { OnOk result (out.new.items ≡ out.old.items ++ told_text place options.now told.now courses.old) }
-    ensures courses { OnOk result (courses.new ≡ heard_courses options.now iface frame.now place told.now courses.old) }
-{
-    tell(alloc, out, place, options, told, courses)?;
-    if !options.follows() {
-        return Ok(());
-    }
-    courses.follow(alloc, options.detail(), iface, frame, place, told)
 }
 
 /// A frame is seen at a time on an interface.
@@ -112,7 +89,7 @@ fn take_frame(
         iface,
         frame,
         told.as_slice(),
-        &mut listener.courses,
+        &mut listener.followed,
     )?;
     put_other(out, now, &iface, options, frame)
 }
@@ -213,7 +190,7 @@ pub(crate) fn take_end(
 {
     let Listener {
         decoder,
-        mut courses,
+        mut followed,
         awaited: _,
     } = listener;
     let place = Place {
@@ -223,5 +200,6 @@ pub(crate) fn take_end(
     let mut told = Vec::new(alloc);
     decoder.finish(&mut told)?;
     counts.add_each(options, told.as_slice());
-    tell(alloc, out, place, options, told.as_slice(), &mut courses)
+    tell(alloc, out, place, options, told.as_slice(), &mut followed)?;
+    tell_summary(alloc, out, options, &followed.summary)
 }
