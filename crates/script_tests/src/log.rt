@@ -11,5 +11,6 @@ mod progress;
 mod scripts;
 mod starts;
 mod strays;
+mod summaries;
 mod times;
 mod windows;

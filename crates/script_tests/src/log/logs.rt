@@ -6,7 +6,7 @@ use std::alloc::Global;
 use std::process::Abort;
 
 /// Five messages on two interfaces, one between the packets of the other; node 90 sends a packet twice.
-const FIVE: &str = "\
+pub(crate) const FIVE: &str = "\
 (1700000000.000000) can0 1CECFF21#20090002FFCAFE00\n\
 (1700000000.002500) can0 1CEC3521#10140003FFCAFE00\n\
 (1700000000.005000) can0 1CEC2135#10100003FF00EF00\n\
