@@ -412,7 +412,7 @@ static uint64_t close_all(void) {
         uint64_t made;
         struct fulwethi_service *service = &sides[service_of(station_of(number))].service;
         uint32_t code;
-        while (is_later(code = fulwethi_service_close(service, &ends[number].inbox))) AGAIN(fulwethi_service_turn(service, 0, &made));
+        while (is_later(code = fulwethi_service_close(service, &ends[number].inbox))) AGAIN(fulwethi_service_turn(service, 1, &made));
         WANT(code == FULWETHI_DONE);
         while (receive(number)) { }
         received += ends[number].count;
