@@ -1,13 +1,15 @@
 //! Runs cases, and compares what each prints with the text that is stated for it, byte for byte. Standard input lists the cases, a line each: the
 //! way in which it is run, and the name of its files. Blank lines there and those that begin with `#` are passed over.
 //!
-//! `NAME.text` is what is to be printed of `NAME.script` or `NAME.node`. A case that prints its text is told by its line; of each other
-//! one standard error tells by its name in which line it differs, or why it can't be run, and the status is 1 then.
+//! `NAME.text` is what is to be printed of `NAME.script`, `NAME.log` or `NAME.node`. A case that prints its text is told by its line; of each
+//! other one standard error tells by its name in which line it differs, or why it can't be run, and the status is 1 then.
 #![tactic(auto)]
 
+mod decoding;
 mod differing;
 mod runs;
 
+use decoding::Recorded;
 use differing::tell_difference;
 use runs::{Dialogue, Drawn, Logged, Runs, Scripted};
 use std::alloc::Global;
@@ -81,10 +83,13 @@ fn case_holds(rt: &(impl Eprint + AllocGlobal + Files), way: &str, name: &str) -
         "draw" => holds(rt, Drawn, name, "script"),
         "node" => holds(rt, Dialogue::new(alloc)?, name, "node"),
         "node of any interface" => holds(rt, Dialogue::joining(alloc)?, name, "node"),
-        _ => {
-            eprintln!(rt; "{name}: no case is run as '{way}'")?;
-            Ok(false)
-        }
+        _ => match Recorded::in_way(alloc, way) {
+            Some(recorded) => holds(rt, recorded, name, "log"),
+            None => {
+                eprintln!(rt; "{name}: no case is run as '{way}'")?;
+                Ok(false)
+            }
+        },
     }
 }
 

@@ -15,6 +15,18 @@ pub(crate) trait Runs: Drop {
     fn run(&mut self, alloc: Global, piece: &[u8], shown: &mut Vec<u8>) -> io::Result<()>;
 }
 
+/// Puts what standard error tells, and the status, behind what was written.
+pub(crate) fn show_end(shown: &mut Vec<u8>, errors: &[u8], status: u8) -> io::Result<()> {
+    if !errors.is_empty() {
+        shown.extend_from_slice(b"--\n")?;
+        shown.extend_from_slice(errors)?;
+    }
+    if status != 0 {
+        writeln!(shown, "status {status}")?;
+    }
+    Ok(())
+}
+
 /// Whether a run came to an end without want of memory, for which alone a vector refuses a write. What was printed of a call that found none
 /// isn't shown.
 fn has_ended(ran: &Ran, before: usize, shown: &mut Vec<u8>) -> bool {
@@ -28,26 +40,19 @@ fn has_ended(ran: &Ran, before: usize, shown: &mut Vec<u8>) -> bool {
     }
 }
 
-fn no_memory() -> io::Error {
+pub(crate) fn no_memory() -> io::Error {
     io::Error::from(ErrorKind::OutOfMemory)
 }
 
-/// Puts what a run told on standard error, and its status, behind what it wrote.
-fn show_end(ran: &Ran, before: usize, errors: &mut Vec<u8>, shown: &mut Vec<u8>) -> io::Result<()> {
+/// Puts what a run told behind what it wrote.
+fn show_ran(ran: &Ran, before: usize, errors: &mut Vec<u8>, shown: &mut Vec<u8>) -> io::Result<()> {
     if !has_ended(ran, before, shown) {
         return Err(no_memory());
     }
     if let Some(fault) = ran.fault {
         writeln!(errors, "{fault}")?;
     }
-    if !errors.is_empty() {
-        shown.extend_from_slice(b"--\n")?;
-        shown.extend_from_slice(errors.as_slice())?;
-    }
-    if ran.status() != 0 {
-        writeln!(shown, "status {}", ran.status())?;
-    }
-    Ok(())
+    show_end(shown, errors.as_slice(), ran.status())
 }
 
 /// Each piece is a script.
@@ -59,7 +64,7 @@ impl Runs for Scripted {
         let before = shown.len();
         let mut reader = piece;
         let ran = run_script(alloc, &mut reader, shown);
-        show_end(&ran, before, &mut Vec::new(alloc), shown)
+        show_ran(&ran, before, &mut Vec::new(alloc), shown)
     }
 }
 
@@ -73,7 +78,7 @@ impl Runs for Logged {
         let mut errors = Vec::new(alloc);
         let mut reader = piece;
         let ran = run_logged(alloc, &mut reader, shown, &mut errors);
-        show_end(&ran, before, &mut errors, shown)
+        show_ran(&ran, before, &mut errors, shown)
     }
 }
 
@@ -86,7 +91,7 @@ impl Runs for Drawn {
         let before = shown.len();
         let mut reader = piece;
         let ran = draw_script(alloc, &mut reader, shown);
-        show_end(&ran, before, &mut Vec::new(alloc), shown)
+        show_ran(&ran, before, &mut Vec::new(alloc), shown)
     }
 }
 
@@ -124,6 +129,6 @@ impl Runs for Dialogue {
         let before = shown.len();
         let mut reader = piece;
         let ran = run_node(alloc, &mut self.node, &mut reader, shown);
-        show_end(&ran, before, &mut Vec::new(alloc), shown)
+        show_ran(&ran, before, &mut Vec::new(alloc), shown)
     }
 }
