@@ -1,0 +1,49 @@
+"""What pyproject.toml can't say: the shared libraries of the folder that FULWETHI_LIB names come along, and a wheel that has them is of one platform."""
+
+import os
+import shutil
+from pathlib import Path
+
+from setuptools import setup
+from setuptools.command.build_py import build_py
+
+try:
+    from setuptools.command.bdist_wheel import bdist_wheel
+except ImportError:
+    from wheel.bdist_wheel import bdist_wheel
+
+LIBRARIES = ("libfulwethi.so.0", "libfulwethi_service.so.0")
+
+
+def folder():
+    """The folder of the libraries that come along, or None."""
+    named = os.environ.get("FULWETHI_LIB")
+    return Path(named) if named else None
+
+
+class BuildWithLibraries(build_py):
+    """Copies them into the package."""
+
+    def run(self):
+        super().run()
+        package = Path(self.build_lib) / "fulwethi"
+        for name in LIBRARIES:
+            (package / name).unlink(missing_ok=True)
+            if folder():
+                shutil.copyfile(folder() / name, package / name)
+                (package / name).chmod(0o755)
+
+
+class WheelOfPlatform(bdist_wheel):
+    """Names the platform, and no version of Python: the package calls the libraries by ctypes."""
+
+    def finalize_options(self):
+        super().finalize_options()
+        self.root_is_pure = folder() is None
+
+    def get_tag(self):
+        _, _, platform = super().get_tag()
+        return "py3", "none", platform
+
+
+setup(cmdclass={"build_py": BuildWithLibraries, "bdist_wheel": WheelOfPlatform})
