@@ -14,7 +14,7 @@ from typing import Deque, Optional, Union
 
 import can
 
-from .errors import NoMemory, Refused, StationAddress, TxFull
+from .errors import Closed, NoMemory, Refused, StationAddress, TxFull
 from .node import Node
 from .values import Frame
 
@@ -36,6 +36,10 @@ REMEMBERED = 256
 """How many frames that were put are known as own ones, if they are shown late."""
 
 
+class BusGone(Closed):
+    """The bus went away: reading it or writing to it ended with an error, which is the cause of this one."""
+
+
 class Tell(enum.Enum):
     """What the node is told beside frames."""
 
@@ -55,7 +59,7 @@ class Wire:
         self._put_at = 0
         self._lost_at: Optional[int] = None
         self._blocked_at: Optional[int] = None
-        self._is_stalled = False
+        self._is_blocked = self._is_stalled = False
         self._put: Deque[Frame] = deque(maxlen=REMEMBERED)
         self._given_up: Deque[Frame] = deque(maxlen=REMEMBERED)
         self._has_warned = False
@@ -136,6 +140,7 @@ class Wire:
         """Fires what is due, and puts what the bus takes."""
         self._give_up(now)
         self._tell()
+        self._is_blocked = False
         self._is_stalled = not self._node.fire_all()
         while self._may_put() and self._put_next(now):
             self._tell()
@@ -150,12 +155,13 @@ class Wire:
             self._is_stalled = True
             return False
         if frame is None:
-            self._blocked_at = None
             return False
         try:
             self._bus.send(message_of(frame), timeout=PUT_SECONDS)
         except can.CanError as error:
             return self._refused(frame, now, error)
+        except Exception as error:
+            raise BusGone(f"the bus went away: {error}") from error
         self._blocked_at = None
         if self._shows_own:
             self._outstanding, self._put_at = frame, now
@@ -177,6 +183,7 @@ class Wire:
             self._blocked_at = now
             log.warning("not put yet: %s", error)
         if now - self._blocked_at < ECHO_LOST:
+            self._is_blocked = True
             return False
         self._given_up.append(frame)
         self._end_outstanding(Tell.MISSED, Tell.SENT, Tell.MISSED)
@@ -196,7 +203,7 @@ class Wire:
 
     def next_at(self, now: int) -> Optional[int]:
         """The tick at which there is something to do without a frame, or None. While a frame can't be put, the node's next one has to wait too."""
-        has_failed = bool(self._waiting) or self._blocked_at is not None or self._is_stalled
+        has_failed = bool(self._waiting) or self._is_blocked or self._is_stalled
         ticks = [now + RETRY] if has_failed else []
         if self._outstanding is not None:
             ticks.append(self._lost_at + ECHO_WAIT if self._lost_at is not None else self._put_at + ECHO_LOST)

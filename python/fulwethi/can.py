@@ -25,10 +25,10 @@ import can
 
 from ._inline import contents, u8, u32
 from ._messages import Calls, Messages
-from ._wire import Wire, flush, frame_of
+from ._wire import RETRY, BusGone, Wire, flush, frame_of
 from .errors import Closed, Error, NoMemory, TxFull
 from .node import Node
-from .values import ALL, Counts, Ended, Frame, Given, Lane
+from .values import ALL, Counts, Ended, Event, Frame, Given, Lane
 
 log = logging.getLogger("fulwethi.can")
 
@@ -48,10 +48,6 @@ REQUEST_PRIORITY = 6
 
 T = TypeVar("T")
 Callback = TypeVar("Callback", bound=Callable[..., Any])
-
-
-class BusGone(Closed):
-    """The bus went away: reading it or writing to it ended with an error, which is the cause of this one."""
 
 
 @dataclass(frozen=True)
@@ -90,9 +86,12 @@ class _Ear(can.Listener):
         super().__init__()
         self._station = station
         self._has_dropped = False
+        self.is_deaf = False
 
     def on_message_received(self, msg: can.Message) -> None:
         waiting = self._station._queue
+        if self.is_deaf:
+            return
         if waiting.qsize() >= MOST_WAITING:
             self._has_dropped = True
             return
@@ -102,10 +101,15 @@ class _Ear(can.Listener):
         waiting.put(msg)
 
     def on_error(self, exc: Exception) -> None:
-        self._station._queue.put(functools.partial(self._station._lose_bus, exc))
+        self._end(BusGone(f"the bus went away: {exc}"), exc)
 
     def stop(self) -> None:
-        self._station._queue.put(functools.partial(self._station._lose_bus, None))
+        self._end(BusGone("the bus's notifier was stopped"), None)
+
+    def _end(self, failure: BusGone, cause: Optional[Exception]) -> None:
+        if not self.is_deaf:
+            failure.__cause__ = cause
+            self._station._queue.put(functools.partial(self._station._lose_bus, failure))
 
 
 class Station:
@@ -140,6 +144,7 @@ class Station:
         # Of the station's thread:
         self._under_way: Dict[Tuple[int, int], Sending] = {}
         self._to_cancel: List[Sending] = []
+        self._has_untold = False
         self._ports: List[int] = []
         # Changed as a whole, behind the gate:
         self._readers: Tuple[Messages[Given], ...] = ()
@@ -147,14 +152,12 @@ class Station:
         self._answers: Dict[int, Callable[[Request], Any]] = {}
         self._calls: Optional[Calls] = None
         self._ear = _Ear(self)
-        self._own_notifier: Optional[can.Notifier] = None
-        self._notifier = notifier
+        self._has_own_notifier = notifier is None
+        self._notifier = can.Notifier(bus, [self._ear], timeout=NOTIFIER_SECONDS) if notifier is None else notifier
+        if notifier is not None:
+            notifier.add_listener(self._ear)
         self._thread = threading.Thread(target=self._run, name=f"station {address:02X}", daemon=True)
         self._thread.start()
-        if notifier is None:
-            self._notifier = self._own_notifier = can.Notifier(bus, [self._ear], timeout=NOTIFIER_SECONDS)
-        else:
-            notifier.add_listener(self._ear)
 
     # Calls of any thread
 
@@ -319,12 +322,18 @@ class Station:
         # A tick may be later than a queue can wait for.
         return min(3600.0, max(0.0, (self._start + tick * 1_000_000 - self._clock()) / 1e9))
 
+    def _wait(self) -> Union[can.Message, Callable[[], None], None]:
+        """The next frame or call; None if something else is to be done first."""
+        now = self._ticks()
+        next_at = now + RETRY if self._to_cancel or self._has_untold else self._wire.next_at(now)
+        try:
+            return self._queue.get(timeout=self._seconds_until(next_at))
+        except queue.Empty:
+            return None
+
     def _turn(self) -> None:
         """Waits, and does what is to be done."""
-        try:
-            item = self._queue.get(timeout=self._seconds_until(self._wire.next_at(self._ticks())))
-        except queue.Empty:
-            item = None
+        item = self._wait()
         now = self._ticks()
         try:
             self._node.clock(now)
@@ -361,17 +370,25 @@ class Station:
         return answer is not None
 
     def _tell(self) -> None:
-        """Hands out what the node tells."""
-        for event in self._node.events():
-            if isinstance(event, Given):
-                for reader in self._readers:
-                    reader.put(event)
-                for callback in self._callbacks:
-                    self._call_back(callback, event)
-                continue
-            sending = self._under_way.pop((event.to, event.number), None)
-            if sending is not None and sending.set_running_or_notify_cancel():
-                sending.set_result(event)
+        """Hands out what the node tells. A message for which there is no memory now stays there."""
+        self._has_untold = True
+        try:
+            for event in self._node.events():
+                self._tell_one(event)
+        except MemoryError:
+            return
+        self._has_untold = False
+
+    def _tell_one(self, event: Event) -> None:
+        if isinstance(event, Given):
+            for reader in self._readers:
+                reader.put(event)
+            for callback in self._callbacks:
+                self._call_back(callback, event)
+            return
+        sending = self._under_way.pop((event.to, event.number), None)
+        if sending is not None and sending.set_running_or_notify_cancel():
+            sending.set_result(event)
 
     def _call_back(self, callback: Callable[..., Any], word: object) -> None:
         if self._calls is None:
@@ -403,6 +420,7 @@ class Station:
     def _cancel(self, sending: Sending) -> None:
         if sending.number is not None and self._under_way.pop((sending.to, sending.number), None):
             self._to_cancel.append(sending)
+            self._cancel_those_asked()
 
     def _cancel_those_asked(self) -> None:
         """Cancels what was asked to be, as far as there are places for aborts."""
@@ -418,8 +436,8 @@ class Station:
     def _lose(self) -> None:
         self._wire.lost(self._ticks())
 
-    def _lose_bus(self, error: Optional[Exception]) -> None:
-        raise BusGone("the bus went away" if error is None else f"the bus went away: {error}") from error
+    def _lose_bus(self, failure: BusGone) -> None:
+        raise failure
 
     def _stop(self) -> None:
         self._stop_asked = True
@@ -471,24 +489,23 @@ class Station:
         flush(self._node, self.bus)
 
     def _leave_notifier(self) -> None:
-        self._ear.on_message_received = _nothing  # type: ignore[method-assign]
-        self._ear.on_error = self._ear.stop = _nothing  # type: ignore[method-assign]
-        if self._own_notifier is not None:
-            self._own_notifier.stop()
-        elif self._notifier is not None and self._ear in self._notifier.listeners:
+        self._ear.is_deaf = True
+        if self._has_own_notifier:
+            self._notifier.stop()
+        elif self._ear in self._notifier.listeners:
             self._notifier.remove_listener(self._ear)
-
-
-def _nothing(*_: Any) -> None:
-    """Stands for the ear's calls once the station has ended."""
 
 
 def end_of(failure: Optional[BaseException]) -> Closed:
     """What is raised once the station has ended."""
     if failure is None:
         return Closed("the station is closed")
-    end = BusGone(str(failure)) if isinstance(failure, BusGone) else Closed(f"the station ended: {failure}")
-    end.__cause__ = failure.__cause__ if isinstance(failure, BusGone) else failure
+    if isinstance(failure, BusGone):
+        gone = BusGone(str(failure))
+        gone.__cause__ = failure.__cause__
+        return gone
+    end = Closed(f"the station ended: {failure}")
+    end.__cause__ = failure
     return end
 
 
