@@ -1,4 +1,5 @@
-"""What pyproject.toml can't say: the shared libraries of the folder that FULWETHI_LIB names come along, and a wheel that has them is of one platform."""
+"""What pyproject.toml can't say: the shared libraries of the folder that FULWETHI_LIB names come along, and a wheel that has them is of one platform, this one's
+or that which FULWETHI_PLATFORM names."""
 
 import os
 import shutil
@@ -43,7 +44,7 @@ class WheelOfPlatform(bdist_wheel):
 
     def get_tag(self):
         _, _, platform = super().get_tag()
-        return "py3", "none", platform
+        return "py3", "none", (folder() and os.environ.get("FULWETHI_PLATFORM")) or platform
 
 
 setup(cmdclass={"build_py": BuildWithLibraries, "bdist_wheel": WheelOfPlatform})
