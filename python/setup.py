@@ -5,7 +5,7 @@ import os
 import shutil
 from pathlib import Path
 
-from setuptools import setup
+from setuptools import Distribution, setup
 from setuptools.command.build_py import build_py
 
 try:
@@ -22,6 +22,13 @@ def folder():
     return Path(named) if named else None
 
 
+class PackageWithLibraries(Distribution):
+    """It is of one platform if libraries come along."""
+
+    def has_ext_modules(self):
+        return folder() is not None
+
+
 class BuildWithLibraries(build_py):
     """Copies them into the package."""
 
@@ -36,15 +43,11 @@ class BuildWithLibraries(build_py):
 
 
 class WheelOfPlatform(bdist_wheel):
-    """Names the platform, and no version of Python: the package calls the libraries by ctypes."""
-
-    def finalize_options(self):
-        super().finalize_options()
-        self.root_is_pure = folder() is None
+    """It names no version of Python, since the package calls the libraries by ctypes."""
 
     def get_tag(self):
         _, _, platform = super().get_tag()
         return "py3", "none", (folder() and os.environ.get("FULWETHI_PLATFORM")) or platform
 
 
-setup(cmdclass={"build_py": BuildWithLibraries, "bdist_wheel": WheelOfPlatform})
+setup(distclass=PackageWithLibraries, cmdclass={"build_py": BuildWithLibraries, "bdist_wheel": WheelOfPlatform})

@@ -150,3 +150,8 @@ def test_numbers_are_not_cut() -> None:
                 assert str(said).startswith("it is")
             else:
                 raise AssertionError(wrong)
+
+
+def test_license(top: Path) -> None:
+    """A wheel has the licence that the repository has."""
+    assert (top / "python" / "LICENSE").read_text() == (top / "LICENSE").read_text()
