@@ -6,6 +6,7 @@ ctypes would cut to the size of its C type is refused here before by a ValueErro
 
 from __future__ import annotations
 
+import operator
 from ctypes import CDLL, byref, c_uint8
 from typing import Any
 
@@ -29,8 +30,10 @@ def u64(number: int, what: str) -> int:
 
 
 def _within(number: int, what: str, most: int) -> int:
-    if not isinstance(number, int):
-        raise TypeError(f"{what} is a whole number, and not {number!r}")
+    try:
+        number = operator.index(number)
+    except TypeError:
+        raise TypeError(f"{what} is a whole number, and not {number!r}") from None
     if not 0 <= number <= most:
         raise ValueError(f"{what} is 0 to {most}, and not {number}")
     return number

@@ -14,7 +14,7 @@ from typing import Deque, Optional, Union
 
 import can
 
-from .errors import Closed, NoMemory, Refused, StationAddress, TxFull
+from .errors import Closed, NoMemory, StationAddress, TxFull
 from .node import Node
 from .values import Frame
 
@@ -231,5 +231,5 @@ def flush(node: Node, bus: can.BusABC) -> None:
         while (frame := node.front()) is not None:
             bus.send(message_of(frame), timeout=PUT_SECONDS)
             node.sent()
-    except (can.CanError, OSError, Refused):
-        pass
+    except Exception as error:
+        log.debug("the last frames weren't put: %s", error)

@@ -72,9 +72,9 @@ class Sending(Awaited[Ended]):
     `cancel` ends the message, too.
     """
 
-    def __init__(self, to: int, pgn: int, data: bytes) -> None:
+    def __init__(self, to: int, pgn: int, length: int) -> None:
         super().__init__()
-        self.to, self.pgn, self.data = to, pgn, data
+        self.to, self.pgn, self.length = to, pgn, length
         self.number: Optional[int] = None
         """Its number among the messages to its destination, once it was taken over."""
 
@@ -153,11 +153,14 @@ class Station:
         self._calls: Optional[Calls] = None
         self._ear = _Ear(self)
         self._has_own_notifier = notifier is None
-        self._notifier = can.Notifier(bus, [self._ear], timeout=NOTIFIER_SECONDS) if notifier is None else notifier
-        if notifier is not None:
-            notifier.add_listener(self._ear)
+        self._notifier = can.Notifier(bus, [], timeout=NOTIFIER_SECONDS) if notifier is None else notifier
+        self._notifier.add_listener(self._ear)
         self._thread = threading.Thread(target=self._run, name=f"station {address:02X}", daemon=True)
-        self._thread.start()
+        try:
+            self._thread.start()
+        except BaseException:
+            self._leave_notifier()
+            raise
 
     # Calls of any thread
 
@@ -167,8 +170,9 @@ class Station:
         The result of what is answered is how the message has ended; `await` waits for it too. BadPgn, NoSuchStation, SameStation, TooShort, TooLong, LaneFull (32 to
         this destination have no outcome) and NoMemory are its exception.
         """
-        sending = Sending(u8(to, "an address"), u32(pgn, "a PGN"), contents(data))
-        self._post(functools.partial(self._begin, sending))
+        message = contents(data)
+        sending = Sending(u8(to, "an address"), u32(pgn, "a PGN"), len(message))
+        self._post(functools.partial(self._begin, sending, message))
         sending.add_done_callback(self._cancel_if_asked)
         return sending
 
@@ -213,6 +217,7 @@ class Station:
     def on_message(self, callback: Callback) -> Callback:
         """From now on each message is given to this call, too. Calls are made one after another by a thread of their own; one may wait for a `send`."""
         with self._gate:
+            self._begin_calls()
             self._callbacks += (callback,)
         return callback
 
@@ -222,6 +227,7 @@ class Station:
         The station answers each other Request to itself, that it doesn't have what is asked for.
         """
         with self._gate:
+            self._begin_calls()
             self._answers = {**self._answers, u32(pgn, "a PGN"): callback}
         return callback
 
@@ -229,8 +235,7 @@ class Station:
         """The messages from now on, for `for` or `async for`."""
         reader = Messages(self._forget)
         with self._gate:
-            if self._end_of is not None:
-                raise self._end_of()
+            self._must_be_open()
             self._readers += (reader,)
         return reader
 
@@ -240,16 +245,18 @@ class Station:
         return self._end_of is None
 
     def close(self, timeout: Optional[float] = 5) -> None:
-        """Ends the station. Messages under way are cancelled, futures end by Closed, and its threads have ended, once this returns.
+        """Ends the station. Messages under way are cancelled, futures end by Closed, and its threads have ended, once this returns. The bus stays open.
 
-        A callback that is at work is waited for, so many seconds at most. The bus stays open.
+        A callback that is at work, and a bus that doesn't come back from a call, are waited for, each so many seconds at most.
         """
         self._queue.put(self._stop)
         if threading.current_thread() is self._thread:
             return
-        self._thread.join()
-        if self._calls is not None and not self._calls.join(timeout):
-            log.warning("a callback is still at work after %s seconds", timeout)
+        self._thread.join(timeout)
+        if self._thread.is_alive():
+            log.warning("station %02X: the bus or the callback of a future is still at work after %s seconds", self.address, timeout)
+        elif self._calls is not None and not self._calls.join(timeout):
+            log.warning("station %02X: a callback is still at work after %s seconds", self.address, timeout)
 
     def __enter__(self) -> Station:
         return self
@@ -268,8 +275,7 @@ class Station:
     def _post(self, call: Callable[[], None]) -> None:
         """Has the station's thread make a call."""
         with self._gate:
-            if self._end_of is not None:
-                raise self._end_of()
+            self._must_be_open()
             self._queue.put(call)
 
     def _do(self, call: Callable[[], T]) -> Awaited[T]:
@@ -288,15 +294,27 @@ class Station:
         if not future.set_running_or_notify_cancel():
             return
         try:
+            self._must_be_open()
             answer = call()
         except Exception as error:
-            future.set_exception(self._end_of() if self._end_of is not None else error)
+            future.set_exception(error)
         else:
             future.set_result(answer)
 
     def _cancel_if_asked(self, sending: Future[Ended]) -> None:
         if sending.cancelled() and isinstance(sending, Sending):
             self._queue.put(functools.partial(self._cancel, sending))
+
+    def _must_be_open(self) -> None:
+        """Closed, BusGone: the station has ended."""
+        if self._end_of is not None:
+            raise self._end_of()
+
+    def _begin_calls(self) -> None:
+        """Has a thread for callbacks. It is called behind the gate."""
+        self._must_be_open()
+        if self._calls is None:
+            self._calls = Calls(f"callbacks of station {self.address:02X}")
 
     def _forget(self, reader: Messages[Given]) -> None:
         with self._gate:
@@ -365,8 +383,8 @@ class Station:
         if request is None or request.to not in (self.address, ALL) or request.source == self.address:
             return False
         answer = self._answers.get(request.pgn)
-        if answer is not None:
-            self._call_back(answer, request)
+        if answer is not None and self._calls is not None:
+            self._calls.make(answer, request)
         return answer is not None
 
     def _tell(self) -> None:
@@ -384,16 +402,12 @@ class Station:
             for reader in self._readers:
                 reader.put(event)
             for callback in self._callbacks:
-                self._call_back(callback, event)
+                if self._calls is not None:
+                    self._calls.make(callback, event)
             return
         sending = self._under_way.pop((event.to, event.number), None)
         if sending is not None and sending.set_running_or_notify_cancel():
             sending.set_result(event)
-
-    def _call_back(self, callback: Callable[..., Any], word: object) -> None:
-        if self._calls is None:
-            self._calls = Calls(f"callbacks of station {self.address:02X}")
-        self._calls.make(callback, word)
 
     def _open(self, pgn: int, max_len: int) -> int:
         port = self._node.open(pgn, max_len)
@@ -404,17 +418,16 @@ class Station:
         self._node.close_port(port)
         self._ports.remove(port)
 
-    def _begin(self, sending: Sending) -> None:
+    def _begin(self, sending: Sending, message: bytes) -> None:
         if sending.cancelled():
             return
         try:
-            sending.number = self._node.send(sending.to, sending.pgn, sending.data)
+            self._must_be_open()
+            sending.number = self._node.send(sending.to, sending.pgn, message)
         except Exception as error:
             if sending.set_running_or_notify_cancel():
-                sending.set_exception(self._end_of() if self._end_of is not None else error)
+                sending.set_exception(error)
             return
-        # (the node has a copy)
-        sending.data = b""
         self._under_way[sending.to, sending.number] = sending
 
     def _cancel(self, sending: Sending) -> None:
@@ -468,7 +481,7 @@ class Station:
             self._calls.stop()
 
     def _refuse(self, call: Callable[[], None]) -> None:
-        """Makes a call that waits: the node is closed, so that its future ends by that."""
+        """Makes a call that waits: its future ends by the end of the station."""
         try:
             call()
         except Error:

@@ -16,7 +16,7 @@ import pytest
 from conftest import slow_clock
 from fulwethi import ALL, Closed, Ended, Given, Lane, Outcome, errors
 from fulwethi._messages import Messages
-from fulwethi.can import BusGone, Request, Station, request_of, shows_own_frames, tells_of_loss
+from fulwethi.can import FRAMES_OF_A_TURN, BusGone, Request, Station, request_of, shows_own_frames, tells_of_loss
 from fulwethi.values import Frame
 
 PGN, TO_ALL = 0xEF00, 0xFECA
@@ -197,7 +197,8 @@ def test_close_in_the_middle(bus: Callable[..., can.BusABC]) -> None:
         assert list(reader) == [] and not one.is_open
         with pytest.raises(EOFError):
             reader.get()
-        for call in (lambda: one.send(0x35, PGN, TWENTY), lambda: one.open(PGN, 9), one.messages, one.missed, one.counts, lambda: one.request(PGN)):
+        calls = (lambda: one.send(0x35, PGN, TWENTY), lambda: one.open(PGN, 9), lambda: one.request(PGN), lambda: one.on_message(print), lambda: one.on_request(PGN, print))
+        for call in (*calls, one.messages, one.missed, one.counts):
             with pytest.raises(Closed, match="the station is closed"):
                 call()
 
@@ -240,6 +241,53 @@ def test_a_bus_that_can_t_be_written_to() -> None:
     with Station(BrokenBus(), 0x21) as station:
         with pytest.raises(BusGone, match="unplugged"):
             station.send(0x35, PGN, TWENTY).result()
+
+
+def test_calls_that_wait_for_a_station_that_ends(bus: Callable[..., can.BusABC]) -> None:
+    """What was asked for before the station's thread ends, and not done by then, ends by Closed; and nothing of it is put."""
+    watch, goes_on = bus(), threading.Event()
+    station = Station(bus(), 0x21, clock=slow_clock)
+    station._queue.put(lambda: goes_on.wait(30) and station._stop())
+    futures = [station.send(0x35, PGN, TWENTY)]
+    for _ in range(FRAMES_OF_A_TURN):
+        futures.append(station.request(PGN))
+    goes_on.set()
+    station.close()
+    ended = [type(future.exception()) for future in futures]
+    assert ended[0] is Closed and ended[-1] is Closed
+    assert count_of(watch) == ended.count(type(None))
+
+
+def count_of(watch: can.BusABC) -> int:
+    """How many Requests there were on a bus."""
+    count = 0
+    while (message := watch.recv(0.2)) is not None:
+        count += message.arbitration_id == 0x18EAFF21
+    return count
+
+
+class StuckBus(BrokenBus):
+    """Doesn't come back from a call until it is told to."""
+
+    def __init__(self) -> None:
+        super().__init__()
+        self.goes_on = threading.Event()
+
+    def send(self, msg: can.Message, timeout: Optional[float] = None) -> None:
+        self.goes_on.wait(30)
+
+
+def test_a_bus_that_doesn_t_come_back(caplog: pytest.LogCaptureFixture) -> None:
+    bus = StuckBus()
+    station = Station(bus, 0x21, clock=slow_clock)
+    sending = station.send(0x35, PGN, TWENTY)
+    while station._queue.qsize():
+        time.sleep(0.001)
+    station.close(timeout=0.05)
+    assert "still at work" in caplog.text and not sending.done()
+    bus.goes_on.set()
+    station.close()
+    assert isinstance(sending.exception(), Closed)
 
 
 def test_a_notifier_that_is_stopped(bus: Callable[..., can.BusABC]) -> None:
