@@ -86,12 +86,9 @@ class _Ear(can.Listener):
         super().__init__()
         self._station = station
         self._has_dropped = False
-        self.is_deaf = False
 
     def on_message_received(self, msg: can.Message) -> None:
         waiting = self._station._queue
-        if self.is_deaf:
-            return
         if waiting.qsize() >= MOST_WAITING:
             self._has_dropped = True
             return
@@ -107,9 +104,8 @@ class _Ear(can.Listener):
         self._end(BusGone("the bus's notifier was stopped"), None)
 
     def _end(self, failure: BusGone, cause: Optional[Exception]) -> None:
-        if not self.is_deaf:
-            failure.__cause__ = cause
-            self._station._queue.put(functools.partial(self._station._lose_bus, failure))
+        failure.__cause__ = cause
+        self._station._queue.put(functools.partial(self._station._lose_bus, failure))
 
 
 class Station:
@@ -502,7 +498,6 @@ class Station:
         flush(self._node, self.bus)
 
     def _leave_notifier(self) -> None:
-        self._ear.is_deaf = True
         if self._has_own_notifier:
             self._notifier.stop()
         elif self._ear in self._notifier.listeners:

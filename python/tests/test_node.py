@@ -165,6 +165,15 @@ def test_a_frame_of_more_than_eight_bytes_is_told_by_its_identifier_first() -> N
             node.feed(Frame(1 << 29, bytes(9)))
 
 
+def test_no_byte_of_a_longer_frame_is_read() -> None:
+    """The library isn't called with it, since there are 8 bytes behind the pointer."""
+    with Node(0x35) as node:
+        over(node, OneAnswer(0))
+        assert node.feed(Frame(0x18EA3521, bytes(8))) is Fed.TAKEN
+        with pytest.raises(errors.DataTooLong):
+            node.feed(Frame(0x18EA3521, bytes(9)))
+
+
 def test_wrong_values(pair: Tuple[Node, Node]) -> None:
     one, _ = pair
     for call in (lambda: Node(300), lambda: one.send(-1, PGN, bytes(9)), lambda: one.clock(1 << 64), lambda: one.feed(Frame(1 << 32)), lambda: one.open(1 << 32, 9)):

@@ -153,6 +153,17 @@ def test_missed(bus: Callable[..., can.BusABC]) -> None:
         assert sending.result() == Ended(0x35, 1, Outcome.OVERRUN)
 
 
+def test_an_error_frame(bus: Callable[..., can.BusABC]) -> None:
+    """It tells of a loss by itself, in its place among the frames."""
+    at = bus()
+    with Station(bus(), 0x21, clock=slow_clock) as station:
+        sending = station.send(0x35, PGN, TWENTY)
+        while station.lane(0x35).pending != 1:
+            pass
+        at.send(can.Message(is_error_frame=True))
+        assert sending.result() == Ended(0x35, 1, Outcome.OVERRUN)
+
+
 def test_a_flood_of_frames(bus: Callable[..., can.BusABC], monkeypatch: pytest.MonkeyPatch) -> None:
     """Frames for which there is no place are told as missed."""
     monkeypatch.setattr("fulwethi.can.MOST_WAITING", 4)
@@ -194,7 +205,7 @@ def test_close_in_the_middle(bus: Callable[..., can.BusABC]) -> None:
             with pytest.raises(Closed, match="the station is closed"):
                 sending.result()
         assert to_one.result().outcome is Outcome.ABORTED
-        assert list(reader) == [] and not one.is_open
+        assert list(reader) == [] and not one.is_open and not one._node._held.is_open
         with pytest.raises(EOFError):
             reader.get()
         calls = (lambda: one.send(0x35, PGN, TWENTY), lambda: one.open(PGN, 9), lambda: one.request(PGN), lambda: one.on_message(print), lambda: one.on_request(PGN, print))
