@@ -1,9 +1,9 @@
 #!/usr/bin/env python3
 """A vehicle that answers who asks for its identification text (PGN FEEC): who asks it is answered alone, who asks all is answered to all.
 
-    vehicle.py --interface socketcan --channel vcan0
+    vehicle.py socketcan vcan0     on a bus of python-can, by its interface and channel, until Ctrl-C
 """
-import argparse
+import sys
 import threading
 
 import can
@@ -12,7 +12,7 @@ from fulwethi.can import Request, Station
 
 VIN = 0xFEEC
 ENGINE = 0x00  # the address of an engine (SAE J1939-81)
-TEXT = b"WVWZZZ1JZ3W386752*"  # (SAE J1939-71, SPN 237: it ends with an asterisk)
+TEXT = b"WVWZZZ1JZ3W386752*"  # (SAE J1939-71: the text ends with an asterisk)
 
 
 def vehicle(bus: can.BusABC) -> Station:
@@ -26,14 +26,8 @@ def vehicle(bus: can.BusABC) -> Station:
     return station
 
 
-def main() -> None:
-    parser = argparse.ArgumentParser(description="Answers who asks for its identification text.")
-    parser.add_argument("--interface", default="socketcan", help="an interface of python-can [socketcan]")
-    parser.add_argument("--channel", default="can0", help="its channel [can0]")
-    words = parser.parse_args()
-    with can.Bus(interface=words.interface, channel=words.channel, bitrate=250_000) as bus, vehicle(bus):
-        threading.Event().wait()
-
-
 if __name__ == "__main__":
-    main()
+    if len(sys.argv) != 3:
+        sys.exit(__doc__)
+    with can.Bus(interface=sys.argv[1], channel=sys.argv[2], bitrate=250_000) as bus, vehicle(bus):
+        threading.Event().wait()

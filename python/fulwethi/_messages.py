@@ -31,10 +31,13 @@ class Messages(Generic[T]):
         self._cause: Optional[BaseException] = None
 
     def get(self, timeout: Optional[float] = None) -> T:
-        """The next message. TimeoutError: none came within so many seconds. EOFError: none will come, with the cause as its cause if it is an error."""
+        """The next message. TimeoutError: none came within so many seconds. EOFError: none will come, since the station ended; its cause is why, if that was an error."""
         waiter = self._wait()
         try:
             return waiter.result(timeout)
+        except TimeoutError:
+            self._withdraw(waiter)
+            raise TimeoutError(f"no message came within {timeout} seconds") from None
         except BaseException:
             self._withdraw(waiter)
             raise
