@@ -2,6 +2,7 @@
 
 from __future__ import annotations
 
+import faulthandler
 import itertools
 import os
 import threading
@@ -14,14 +15,19 @@ import pytest
 
 TOP = Path(__file__).resolve().parents[2]
 
-PATIENCE = 100
+PATIENCE = 300
 """No test waits for longer than so many seconds; what waits so long has failed."""
 
 _channels = itertools.count()
 
 
 def slow_clock() -> int:
-    """A clock on which the timers of a connection take 20 times as long: then no timer ends a message, however busy the machine is."""
+    """A clock on which the shortest timer of a connection takes twelve minutes: then none ends a message, however busy the machine is. A broadcast would take as long."""
+    return time.monotonic_ns() // 1000
+
+
+def slower_clock() -> int:
+    """A clock on which it takes fifteen seconds, and a gap of a broadcast one."""
     return time.monotonic_ns() // 20
 
 
@@ -58,15 +64,13 @@ def no_thread_is_left() -> Iterator[None]:
     yield
     left = [thread for thread in threading.enumerate() if thread not in before]
     for thread in left:
-        thread.join(5)
+        thread.join(PATIENCE / 3)
     assert not [thread.name for thread in left if thread.is_alive()]
 
 
 @pytest.fixture(autouse=True)
 def nothing_hangs() -> Iterator[None]:
-    """A test that takes longer than PATIENCE ends the run, and shows where each thread is."""
-    import faulthandler
-
-    faulthandler.dump_traceback_later(PATIENCE, exit=True)
+    """A test that takes longer than twice that ends the run, and shows where each thread is."""
+    faulthandler.dump_traceback_later(2 * PATIENCE, exit=True)
     yield
     faulthandler.cancel_dump_traceback_later()

@@ -6,6 +6,7 @@ import re
 from pathlib import Path
 
 import pytest
+from conftest import slower_clock
 from fulwethi.can import Station
 
 PAGE = (Path(__file__).resolve().parents[2] / "docs" / "PYTHON.md").read_text()
@@ -21,6 +22,7 @@ def test_blocks_are_there() -> None:
 @pytest.mark.parametrize("block, printed", BLOCKS, ids=[str(number) for number in range(1, len(BLOCKS) + 1)])
 def test_blocks(block: str, printed: str, top: Path, monkeypatch: pytest.MonkeyPatch, capsys: pytest.CaptureFixture[str]) -> None:
     monkeypatch.chdir(top)
+    monkeypatch.setitem(Station.__init__.__kwdefaults__, "clock", slower_clock)
     exec(compile(block, "docs/PYTHON.md", "exec"), {"__name__": "shown"})
     said = capsys.readouterr().out
     assert not printed or said.splitlines() == [printed]

@@ -8,6 +8,7 @@ import weakref
 from typing import Any, Callable, Iterator, Tuple
 
 import pytest
+from conftest import PATIENCE
 from fulwethi import ALL, AbortReason, Closed, Ended, Error, Fed, Frame, Given, Lane, Node, Outcome, _inline, errors
 
 PGN = 0xEF00
@@ -240,7 +241,7 @@ def test_no_two_calls_at_once() -> None:
         for thread in threads:
             thread.start()
         for _ in threads:
-            assert library.entered.acquire(timeout=10)
+            assert library.entered.acquire(timeout=PATIENCE)
             assert not library.entered.acquire(timeout=0.05)
             library.goes_on.release()
         for thread in threads:

@@ -13,7 +13,7 @@ from typing import Any, Callable, List, Optional, Tuple
 
 import can
 import pytest
-from conftest import slow_clock
+from conftest import PATIENCE, slow_clock
 from fulwethi import ALL, Closed, Ended, Given, Lane, Outcome, errors
 from fulwethi._messages import Messages
 from fulwethi.can import FRAMES_OF_A_TURN, BusGone, Request, Station, request_of, shows_own_frames, tells_of_loss
@@ -41,7 +41,7 @@ def test_messages_both_ways(bus: Callable[..., can.BusABC], shows_own: bool) -> 
         for to, each in zip((0x35, 0x21), sent):
             assert [it.result() for it in each] == [Ended(to, number, Outcome.ACKNOWLEDGED) for number in range(1, len(lengths) + 1)]
         for station, source, port, reader in ((one, 0x35, ports[0], readers[0]), (other, 0x21, ports[1], readers[1])):
-            came = [reader.get(10) for _ in lengths]
+            came = [reader.get(PATIENCE) for _ in lengths]
             assert came == [Given(source, station.address, PGN, pattern(length, station.address), port) for length in lengths]
             assert station.counts().given == len(lengths)
 
@@ -53,7 +53,7 @@ def test_a_message_to_all(bus: Callable[..., can.BusABC]) -> None:
             station.open(TO_ALL, 1785)
             readers.append(station.messages())
         assert one.send(ALL, TO_ALL, TWENTY).result() == Ended(ALL, 1, Outcome.BROADCAST)
-        assert [reader.get(10).data for reader in readers] == [TWENTY, TWENTY]
+        assert [reader.get(PATIENCE).data for reader in readers] == [TWENTY, TWENTY]
 
 
 @pytest.mark.parametrize(
@@ -172,7 +172,7 @@ def test_a_flood_of_frames(bus: Callable[..., can.BusABC], monkeypatch: pytest.M
         sending = station.send(0x35, PGN, TWENTY)
         while station.lane(0x35).pending != 1:
             pass
-        station._queue.put(lambda: goes_on.wait(30) and None)
+        station._queue.put(lambda: goes_on.wait(PATIENCE) and None)
         ear = station._ear
         for _ in range(10):
             ear.on_message_received(can.Message(arbitration_id=0x18FEF190, data=bytes(8)))
@@ -199,7 +199,7 @@ def test_close_in_the_middle(bus: Callable[..., can.BusABC]) -> None:
         queued = one.send(0x77, PGN, TWENTY)
         while other.counts().frames < 100:
             pass
-        one.close()
+        one.close(PATIENCE)
         one.close()
         for sending in (to_other, queued):
             with pytest.raises(Closed, match="the station is closed"):
@@ -258,7 +258,7 @@ def test_calls_that_wait_for_a_station_that_ends(bus: Callable[..., can.BusABC])
     """What was asked for before the station's thread ends, and not done by then, ends by Closed; and nothing of it is put."""
     watch, goes_on = bus(), threading.Event()
     station = Station(bus(), 0x21, clock=slow_clock)
-    station._queue.put(lambda: goes_on.wait(30) and station._stop())
+    station._queue.put(lambda: goes_on.wait(PATIENCE) and station._stop())
     futures = [station.send(0x35, PGN, TWENTY)]
     for _ in range(FRAMES_OF_A_TURN):
         futures.append(station.request(PGN))
@@ -285,7 +285,7 @@ class StuckBus(BrokenBus):
         self.goes_on = threading.Event()
 
     def send(self, msg: can.Message, timeout: Optional[float] = None) -> None:
-        self.goes_on.wait(30)
+        self.goes_on.wait(PATIENCE)
 
 
 def test_a_bus_that_doesn_t_come_back(caplog: pytest.LogCaptureFixture) -> None:
@@ -330,7 +330,7 @@ def test_callbacks_that_raise(bus: Callable[..., can.BusABC], caplog: pytest.Log
         ended = one.send(0x35, PGN, TWENTY)
         ended.add_done_callback(lambda _: 1 // 0)
         assert [it.result().outcome for it in (ended, *(one.send(0x35, PGN, TWENTY) for _ in range(2)))] == [Outcome.ACKNOWLEDGED] * 3
-        assert done.wait(30)
+        assert done.wait(PATIENCE)
     assert came == [TWENTY] * 3 and caplog.text.count("RuntimeError: on purpose") == 3 and "ZeroDivisionError" in caplog.text
 
 
@@ -350,8 +350,8 @@ def test_a_callback_that_waits_and_closes(bus: Callable[..., can.BusABC]) -> Non
             closed.set()
 
         one.send(0x35, PGN, TWENTY)
-        assert reader.get(30).data == TWENTY[::-1]
-        assert closed.wait(30) and not other.is_open
+        assert reader.get(PATIENCE).data == TWENTY[::-1]
+        assert closed.wait(PATIENCE) and not other.is_open
         other.close()
 
 
@@ -407,8 +407,10 @@ def in_use() -> int:
 def test_requests(bus: Callable[..., can.BusABC]) -> None:
     """A Request is a single frame. The program answers those that it says, and the station the others to itself."""
     watch = bus()
-    with Station(bus(), 0x21, clock=slow_clock) as one, Station(bus(), 0x35, clock=slow_clock) as other:
-        one.open(TO_ALL, 1785)
+    # (who answers to all has a clock on which that takes no hours)
+    with Station(bus(), 0x21, clock=slow_clock) as one, Station(bus(), 0x35, clock=slow_clock) as other, Station(bus(), 0x40) as third:
+        for pgn in (PGN, TO_ALL):
+            one.open(pgn, 1785)
         reader = one.messages()
         asked: List[Request] = []
 
@@ -416,22 +418,28 @@ def test_requests(bus: Callable[..., can.BusABC]) -> None:
             asked.append(request)
             other.send(request.source, request.pgn, TWENTY)
 
-        assert other.on_request(TO_ALL, answer) is answer
-        for to in (0x35, ALL):
-            assert one.request(TO_ALL, to).result() is None
-            assert reader.get(30).data == TWENTY
-        assert asked == [Request(0x21, 0x35, TO_ALL), Request(0x21, ALL, TO_ALL)]
+        def answer_all(request: Request) -> None:
+            asked.append(request)
+            third.send(request.to, request.pgn, TWENTY)
+
+        assert other.on_request(PGN, answer) is answer
+        third.on_request(TO_ALL, answer_all)
+        assert one.request(PGN, 0x35).result() is None
+        assert reader.get(PATIENCE).data == TWENTY
+        one.request(TO_ALL).result()
+        assert reader.get(PATIENCE).to == ALL
+        assert asked == [Request(0x21, 0x35, PGN), Request(0x21, ALL, TO_ALL)]
         one.request(0xFEDA, 0x35).result()
         seen = frames_until(watch, 0x18E8FF35)
-    assert (0x18EA3521, "cafe00") in seen and (0x18EAFF21, "cafe00") in seen and (0x18EA3521, "dafe00") in seen
-    assert [data for it, data in seen if it == 0x18E8FF35] == ["01ffffff21dafe00"]
+    assert (0x18EA3521, "00ef00") in seen and (0x18EAFF21, "cafe00") in seen and (0x18EA3521, "dafe00") in seen
+    assert [data for it, data in seen if it >> 16 == 0x18E8] == ["01ffffff21dafe00"]
 
 
 def frames_until(watch: can.BusABC, last: int) -> List[Tuple[int, str]]:
     """What a bus shows up to a frame with this identifier."""
     seen = []
     while not seen or seen[-1][0] != last:
-        message = watch.recv(30)
+        message = watch.recv(PATIENCE)
         assert message is not None
         seen.append((message.arbitration_id, message.data.hex()))
     return seen
@@ -447,8 +455,8 @@ def test_request_of() -> None:
 
 
 def run(work: Any) -> Any:
-    """Runs a coroutine, for half a minute at most."""
-    return asyncio.run(asyncio.wait_for(work, 30))
+    """Runs a coroutine, no longer than a test may wait."""
+    return asyncio.run(asyncio.wait_for(work, PATIENCE))
 
 
 def test_async(bus: Callable[..., can.BusABC]) -> None:
@@ -522,7 +530,7 @@ def test_one_bus_for_two_stations(bus: Callable[..., can.BusABC]) -> None:
         other.open(PGN, 1785)
         reader = other.messages()
         assert one.send(0x35, PGN, TWENTY).result().outcome is Outcome.ACKNOWLEDGED
-        assert reader.get(30).data == TWENTY
+        assert reader.get(PATIENCE).data == TWENTY
     assert notifier.listeners == []
     notifier.stop()
 
