@@ -30,6 +30,8 @@ from .errors import Closed, Error, NoMemory, TxFull
 from .node import Node
 from .values import ALL, Counts, Ended, Event, Frame, Given, Lane
 
+__all__ = ["Awaited", "BusGone", "Messages", "Request", "Sending", "Station"]
+
 log = logging.getLogger("fulwethi.can")
 
 NOTIFIER_SECONDS = 0.1
