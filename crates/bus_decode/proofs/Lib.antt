@@ -1,3 +1,2 @@
-pub mod Appends
 pub mod FrameSteps
 pub mod RunSteps

@@ -6,7 +6,7 @@ use Rattle.tp_wire.specs.Reading.{is_transport, is_malformed}
 use Rattle.log_decode.specs.declared.stray.Stray.{Stray}
 use Rattle.log_decode.specs.declared.told.Told.{Told}
 use Rattle.log_decode.specs.declared.told.Told.TheVariants.{Given, Aborted, Lost}
-use Rattle.bus_decode.specs.Options.{is_asked_for}
+use Rattle.bus_decode.specs.Options.{is_told_asked}
 use Rattle.bus_decode.specs.Strays.{more, no_strays, with_stray}
 use Rattle.bus_decode.specs.declared.counts.Counts.{Counts}
 use Rattle.bus_decode.specs.declared.options.Options.{Options}
@@ -31,14 +31,18 @@ with_frame frame is_earlier c = record c {
 abbrev pub with_strays : Option Stray → Counts → Counts
 with_strays stray c = record c { strays = with_stray stray c.strays }
 
--- something was told; it is counted where it was asked for
-abbrev pub with_told : Options → Counts → Told → Counts
-with_told options c (Given key pgn bytes) = record c { messages = more_if (is_asked_for options key.from key.to pgn) c.messages }
-with_told options c (Aborted key pgn reason who) = record c { aborted = more_if (is_asked_for options key.from key.to pgn) c.aborted }
-with_told options c (Lost key pgn have size cause) = record c { lost = more_if (is_asked_for options key.from key.to pgn) c.lost }
+-- something was told
+abbrev pub with_told : Told → Counts → Counts
+with_told (Given key pgn bytes) c = record c { messages = more c.messages }
+with_told (Aborted key pgn reason who) c = record c { aborted = more c.aborted }
+with_told (Lost key pgn have size cause) c = record c { lost = more c.lost }
+
+-- it is counted where it was asked for
+abbrev pub with_asked : Options → Counts → Told → Counts
+with_asked options c t = if is_told_asked options t then with_told t c else c
 
 abbrev pub with_each : Options → Counts → List Told → Counts
-with_each options c told = fold (with_told options) c told
+with_each options c told = fold (with_asked options) c told
 
 abbrev pub lines_text : Counts → List ℕ
 lines_text c = codes "lines " ++ decimal c.lines ++ codes " passed " ++ decimal c.passed ++ codes " frames " ++ decimal c.frames

@@ -1,10 +1,8 @@
 pub mod Options
 pub mod Strays
 pub mod Counts
-pub mod Text
-pub mod Frames
-pub mod Json
-pub mod Listing
+pub mod Followed
+pub mod Telling
 pub mod Listening
 pub mod Outcome
 pub mod Ending

@@ -10,19 +10,17 @@ use Rattle.log_text.specs.declared.iface.Iface.{Iface}
 use Rattle.log_text.specs.declared.line.LogLine.{LogLine}
 use Rattle.log_text.specs.declared.line.LogLine.TheVariants.{Frame, Passed}
 use Rattle.log_courses.specs.Awaited.{Awaited, awaiting_each}
-use Rattle.log_courses.specs.Courses.{Courses, followed}
 use Rattle.log_courses.specs.declared.course.Place.{Place}
 use Rattle.log_decode.specs.View.{State, bus_at}
 use Rattle.log_decode.specs.Decoder.{taken, ended}
 use Rattle.log_decode.specs.Stray.{stray_seen}
 use Rattle.bus_decode.specs.Strays.{more, stray_left}
 use Rattle.bus_decode.specs.Counts.{with_frame, with_strays, with_each}
-use Rattle.bus_decode.specs.Text.{told_lines, wrong_line, single_line}
 use Rattle.log_decode.specs.declared.stray.Stray.{Stray}
 use Rattle.log_decode.specs.declared.told.Told.{Told}
-use Rattle.bus_decode.specs.Listing.{listed_lines}
-use Rattle.bus_decode.specs.Options.{follows, detail_of}
-use Rattle.bus_decode.specs.Json.{told_objects, without_each, single_object, wrong_object}
+use Rattle.bus_decode.specs.Followed.{none_followed, heard_followed, left_followed}
+use Rattle.bus_decode.specs.Telling.{told_text, summary_text, single_text, wrong_text}
+use Rattle.bus_decode.specs.declared.followed.Followed.{Followed}
 use Rattle.bus_decode.specs.declared.counts.Counts.{Counts}
 use Rattle.bus_decode.specs.declared.listener.Listener.{Listener}
 use Rattle.bus_decode.specs.declared.options.Options.{Options}
@@ -33,7 +31,7 @@ use Rattle.bus_decode.specs.declared.running.Fault.TheVariants.{NotLogLine}
 
 -- nothing was heard
 abbrev pub first_listener : (most : ℕ) → Listener
-first_listener most = record { decoder = record { most = most; time = 0; buses = [] }; courses = []; awaited = [] }
+first_listener most = record { decoder = record { most = most; time = 0; buses = [] }; followed = none_followed; awaited = [] }
 
 -- a listener, and what was counted
 abbrev pub Hearing : Type 0
@@ -53,29 +51,14 @@ is_asking frame = (meaning_of frame.id).pgn == request || (meaning_of frame.id).
 
 -- a frame that carries nothing of a message, where such are asked for
 abbrev pub single : ℕ → Iface → Options → CanFrame → List ℕ
-single now iface options frame = if options.singles && (not (is_transport frame) || is_asking frame) then (if options.json then single_object now iface options frame else single_line now iface options frame) else []
-
--- what was told at a frame
-abbrev pub told_text : Place → Options → List Told → Courses → List ℕ
-told_text place options told courses =
-    if options.json then told_objects place options told courses
-    else if options.frames then listed_lines place options told courses
-    else told_lines place.time options told
-
--- the courses of the others, where courses are asked for
-abbrev pub left_courses : Options → List Told → Courses → Courses
-left_courses options told courses = if follows options then without_each told courses else courses
-
--- and with the frame
-abbrev pub heard_courses : Options → Iface → CanFrame → Place → List Told → Courses → Courses
-heard_courses options iface frame place told courses = if follows options then followed (detail_of options) iface frame place told (without_each told courses) else courses
+single now iface options frame = if options.singles && not options.quiet && (not (is_transport frame) || is_asking frame) then single_text now iface options frame else []
 
 -- a listener to a frame that was counted, and what is printed: the frame's place in the log is its number and the time to which it brings the
 -- interface
-abbrev pub frame_told : Options → Iface → CanFrame → Courses → Awaited → State × List Told → Counts → Hearing × List ℕ
-frame_told options iface frame courses awaited t counts =
+abbrev pub frame_told : Options → Iface → CanFrame → Followed → Awaited → State × List Told → Counts → Hearing × List ℕ
+frame_told options iface frame f awaited t counts =
     let place : Place = record { number = counts.frames; time = t.0.time } in
-    ((record { decoder = t.0; courses = heard_courses options iface frame place t.1 courses; awaited = awaiting_each t.1 awaited }, counts), told_text place options t.1 courses ++ single t.0.time iface options frame)
+    ((record { decoder = t.0; followed = heard_followed options iface frame place t.1 f; awaited = awaiting_each t.1 awaited }, counts), told_text place options t.1 f ++ single t.0.time iface options frame)
 
 -- what is counted of a frame, of no message or of one, at which this is told
 abbrev pub frame_counts : Options → CanFrame → (is_earlier : Bool) → Option Stray → List Told → Counts → Counts
@@ -86,7 +69,7 @@ unfoldable pub frame_seen : Options → Hearing → (time : ℕ) → Iface → C
 frame_seen options s time iface frame =
     let t = taken s.0.decoder time iface frame [] in
     let left = stray_left (stray_seen s.0.decoder time iface frame) iface frame s.0.awaited in
-    frame_told options iface frame s.0.courses left.0 t (frame_counts options frame (nat_lt time (bus_at iface s.0.decoder.buses).time) left.1 t.1 s.1)
+    frame_told options iface frame s.0.followed left.0 t (frame_counts options frame (nat_lt time (bus_at iface s.0.decoder.buses).time) left.1 t.1 s.1)
 
 abbrev pub with_line : Counts → Counts
 with_line c = record c { lines = more c.lines }
@@ -100,9 +83,6 @@ shown_seen options s (Frame time iface frame) = frame_seen options s (unwrap_or 
 abbrev pub form_with : Option Form → List ℕ → Option Form
 form_with None line = form_of line
 form_with (Some form) line = Some form
-
-abbrev pub wrong_text : Options → ℕ → List ℕ
-wrong_text options n = if options.json then wrong_object n else wrong_line n
 
 -- a wrong line, by its number, ends the run where that is asked for; else it is told and counted
 abbrev pub wrong_seen : Options → Listening → ℕ → Result Step Fault
@@ -118,12 +98,14 @@ seen_as options form s n line = elim (line_as form line) [ None ↦ wrong_seen o
 abbrev pub line_seen : Options → Listening → ℕ → List ℕ → Result Step Fault
 line_seen options s n line = seen_as options (form_with s.0.1 line) (s.0.0, with_line s.1) n line
 
--- at the end each message that is still under way is lost
+-- at the end each message that is still under way is lost, and then the summary is printed
 abbrev pub ended_counts : Options → Hearing → Counts
 ended_counts options s = with_each options s.1 (ended s.0.decoder.buses)
 
 abbrev pub ended_text : Options → Hearing → List ℕ
-ended_text options s = told_text (record { number = s.1.frames; time = s.0.decoder.time }) options (ended s.0.decoder.buses) s.0.courses
+ended_text options s =
+    let place : Place = record { number = s.1.frames; time = s.0.decoder.time } in
+    told_text place options (ended s.0.decoder.buses) s.0.followed ++ summary_text options (left_followed options place (ended s.0.decoder.buses) s.0.followed).summary
 
 -- How the code read a line
 

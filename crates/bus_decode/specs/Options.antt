@@ -1,10 +1,10 @@
 -- What of a log is asked for.
-use Rattle.std.specs.Prelude.{ℕ, List, [], ◌∷◌, length, Bool, false, ◌&&◌, ◌||◌, ◌==◌, if◌then◌else◌}
+use Rattle.std.specs.Prelude.{ℕ, List, [], ◌∷◌, length, Bool, false, not, ◌&&◌, ◌||◌, ◌==◌, if◌then◌else◌}
 use Rattle.pgn_ids.specs.declared.address.Address.{Address}
+use Rattle.log_courses.specs.Courses.{key_told, pgn_told}
 use Rattle.log_courses.specs.declared.marks.Detail.{Detail}
 use Rattle.log_courses.specs.declared.marks.Detail.TheVariants.{Ends, Frames}
 use Rattle.log_decode.specs.declared.told.Told.{Told}
-use Rattle.log_decode.specs.declared.told.Told.TheVariants.{Given, Aborted, Lost}
 use Rattle.bus_decode.specs.declared.options.Options.{Options}
 
 abbrev pub is_among : List ℕ → ℕ → Bool
@@ -21,13 +21,19 @@ is_asked_for options from to pgn = takes options.pgns pgn && takes options.from 
 
 -- what was told is asked for
 abbrev pub is_told_asked : Options → Told → Bool
-is_told_asked options (Given key pgn bytes) = is_asked_for options key.from key.to pgn
-is_told_asked options (Aborted key pgn reason who) = is_asked_for options key.from key.to pgn
-is_told_asked options (Lost key pgn have size cause) = is_asked_for options key.from key.to pgn
+is_told_asked options t = is_asked_for options (key_told t).from (key_told t).to (pgn_told t)
 
--- courses are followed where they are printed
+-- it is printed, unless messages are left out
+abbrev pub shows : Options → Told → Bool
+shows options t = not options.quiet && is_told_asked options t
+
+-- it is counted, where that is asked for
+abbrev pub sums_up : Options → Told → Bool
+sums_up options t = options.summary && is_told_asked options t
+
+-- courses are followed where they are printed or counted
 abbrev pub follows : Options → Bool
-follows options = options.json || options.frames
+follows options = options.json || options.frames || options.summary
 
 abbrev pub detail_of : Options → Detail
 detail_of options = if options.frames then Frames else Ends

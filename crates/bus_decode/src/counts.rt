@@ -2,7 +2,7 @@
 ghost use Rattle.std.specs.Prelude.{◌≡◌, Some};
 ghost use Rattle.std.specs.Fmt.{DisplaysOnOk};
 ghost use Rattle.bus_decode.specs.Strays.{more};
-ghost use Rattle.bus_decode.specs.Counts.{no_counts, with_told, with_each, with_frame, with_strays, lines_text, frames_text, messages_text, rest_text, counts_text};
+ghost use Rattle.bus_decode.specs.Counts.{no_counts, with_told, with_asked, with_each, with_frame, with_strays, lines_text, frames_text, messages_text, rest_text, counts_text};
 
 use crate::options::Options;
 use crate::strays::Strays;
@@ -109,26 +109,23 @@ impl Counts {
         self.strays.add(stray);
     }
 
-    /// Something that was asked for was told.
-    fn add_told(&mut self, options: &Options, told: &Told)
-        ensures { self.new ≡ with_told options.now self.old told.now }
+    /// Something was told.
+    fn add_told(&mut self, told: &Told)
+        ensures { self.new ≡ with_told told.now self.old }
     {
         match told {
-            Told::Given { key, pgn, .. } => {
-                if options.ask_for(key.from, key.to, *pgn) {
-                    self.messages = more(self.messages);
-                }
-            }
-            Told::Aborted { key, pgn, .. } => {
-                if options.ask_for(key.from, key.to, *pgn) {
-                    self.aborted = more(self.aborted);
-                }
-            }
-            Told::Lost { key, pgn, .. } => {
-                if options.ask_for(key.from, key.to, *pgn) {
-                    self.lost = more(self.lost);
-                }
-            }
+            Told::Given { .. } => self.messages = more(self.messages),
+            Told::Aborted { .. } => self.aborted = more(self.aborted),
+            Told::Lost { .. } => self.lost = more(self.lost),
+        }
+    }
+
+    /// Something was told; it is counted where it was asked for.
+    fn add_asked(&mut self, options: &Options, told: &Told)
+        ensures { self.new ≡ with_asked options.now self.old told.now }
+    {
+        if options.ask_for_told(told) {
+            self.add_told(told);
         }
     }
 
@@ -137,7 +134,7 @@ impl Counts {
         ensures { self.new ≡ with_each options.now self.old told.now }
     {
         for one in told {
-            self.add_told(options, one);
+            self.add_asked(options, one);
         }
     }
 }

@@ -3,15 +3,13 @@
 #![tactic(auto)]
 
 mod counts;
-mod frames;
+mod followed;
 mod listener;
 mod listening;
-mod listing;
-mod objects;
 mod options;
 mod running;
 mod strays;
-mod text;
+mod telling;
 
 pub use counts::Counts;
 pub use options::{Options, Wanted};

@@ -2,7 +2,8 @@
 ghost use Rattle.std.specs.Prelude.{◌≡◌};
 ghost use Rattle.bus_decode.specs.Listening.{first_listener};
 
-use log_courses::{Awaited, Courses};
+use crate::followed::Followed;
+use log_courses::Awaited;
 use log_decode::Decoder;
 use std::alloc::Global;
 
@@ -10,8 +11,8 @@ use std::alloc::Global;
 #[derive(Drop)]
 pub(crate) struct Listener {
     pub(crate) decoder: Decoder,
-    /// The courses of the messages under way, where they are asked for; else none.
-    pub(crate) courses: Courses,
+    /// What is followed of its messages.
+    pub(crate) followed: Followed,
     /// The end acknowledgements of the messages that were given.
     pub(crate) awaited: Awaited,
 }
@@ -23,7 +24,7 @@ impl Listener {
     {
         Listener {
             decoder: Decoder::new(alloc, most),
-            courses: Courses::new(alloc),
+            followed: Followed::none(alloc),
             awaited: Awaited::new(alloc),
         }
     }

@@ -1,18 +1,15 @@
 //! A line of a log, and what it tells.
 ghost use Rattle.std.specs.Prelude.{◌≡◌, ◌++◌, OnOk};
-ghost use Rattle.bus_decode.specs.Listening.{is_asking, single, told_text, left_courses, heard_courses, wrong_text, frame_seen, shown_seen, form_with, seen_as, line_seen, Seen, Read, ended_counts, ended_text};
+ghost use Rattle.bus_decode.specs.Listening.{is_asking, single, frame_seen, shown_seen, form_with, seen_as, line_seen, Seen, Read, ended_counts, ended_text};
 ghost use Rattle.bus_decode.specs.declared.listening.LineError.TheVariants.{OutOfMemory};
 
 use crate::counts::Counts;
 use crate::listener::Listener;
-use crate::listing::put_each_listed;
-use crate::objects::{put_objects, put_single_object, put_wrong_object};
 use crate::options::Options;
 use crate::strays::stray_left;
-use crate::text::{put_each, put_single, put_wrong};
+use crate::telling::{tell, tell_frame, tell_single, tell_summary, tell_wrong};
 use bus_frame::Frame;
-use log_courses::{Courses, Place};
-use log_decode::Told;
+use log_courses::Place;
 use log_text::{Form, Iface, LogLine, form_of, read_line_as};
 use pgn_ids::read_id;
 use std::alloc::{AllocError, Global};
@@ -54,55 +51,10 @@ fn put_other(
 ) -> Result<(), AllocError>
     ensures { OnOk result (out.new.items ≡ out.old.items ++ single now iface.now options.now frame.now) }
 {
-    if !options.singles || (is_transport(frame) && !is_asking(frame)) {
+    if !options.singles || options.quiet || (is_transport(frame) && !is_asking(frame)) {
         return Ok(());
     }
-    if options.json {
-        return put_single_object(out, now, *iface, options, frame);
-    }
-    put_single(out, now, iface, options, frame)
-}
-
-/// What was told at a frame is printed. Where courses are asked for, those of what was told are taken out.
-fn tell(
-    alloc: Global,
-    out: &mut Vec<u8>,
-    place: Place,
-    options: &Options,
-    told: &[Told],
-    courses: &mut Courses,
-) -> Result<(), AllocError>
-    ensures text { OnOk result (out.new.items ≡ out.old.items ++ told_text place options.now told.now courses.old) }
-    ensures courses { OnOk result (courses.new ≡ left_courses options.now told.now courses.old) }
-{
-    if options.json {
-        return put_objects(alloc, out, place, options, told, courses);
-    }
-    if options.frames {
-        return put_each_listed(alloc, out, place, options, told, courses);
-    }
-    put_each(out, place.time, options, told)
-}
-
-/// What was told at a frame is printed, and the messages that go on have one more.
-fn tell_frame(
-    alloc: Global,
-    out: &mut Vec<u8>,
-    place: Place,
-    options: &Options,
-    iface: Iface,
-    frame: &Frame,
-    told: &[Told],
-    courses: &mut Courses,
-) -> Result<(), AllocError>
-    ensures text { OnOk result (out.new.items ≡ out.old.items ++ told_text place options.now told.now courses.old) }
-    ensures courses { OnOk result (courses.new ≡ heard_courses options.now iface frame.now place told.now courses.old) }
-{
-    tell(alloc, out, place, options, told, courses)?;
-    if !options.follows() {
-        return Ok(());
-    }
-    courses.follow(alloc, options.detail(), iface, frame, place, told)
+    tell_single(out, now, iface, options, frame)
 }
 
 /// A frame is seen at a time on an interface.
@@ -137,7 +89,7 @@ fn take_frame(
         iface,
         frame,
         told.as_slice(),
-        &mut listener.courses,
+        &mut listener.followed,
     )?;
     put_other(out, now, &iface, options, frame)
 }
@@ -176,17 +128,6 @@ fn form_with(form: Option<Form>, line: &[u8]) -> Option<Form>
     }
 }
 
-/// The line of a wrong line, by its number.
-fn put_wrong_line(out: &mut Vec<u8>, options: &Options, number: u64) -> Result<(), AllocError>
-    ensures { OnOk result (out.new.items ≡ out.old.items ++ wrong_text options.now number) }
-{
-    if options.json {
-        put_wrong_object(out, number)
-    } else {
-        put_wrong(out, number)
-    }
-}
-
 /// A line of a log of this form is read, by its number.
 #[tactic(auto, unfolding(crate::specs::Listening::seen_as))]
 fn take_line_as(
@@ -211,7 +152,7 @@ fn take_line_as(
                 return Err(LineError::NotLogLine);
             }
             counts.add_wrong();
-            put_wrong_line(out, options, number)?;
+            tell_wrong(out, options, number)?;
             Ok(())
         }
     }
@@ -249,7 +190,7 @@ pub(crate) fn take_end(
 {
     let Listener {
         decoder,
-        mut courses,
+        mut followed,
         awaited: _,
     } = listener;
     let place = Place {
@@ -259,5 +200,6 @@ pub(crate) fn take_end(
     let mut told = Vec::new(alloc);
     decoder.finish(&mut told)?;
     counts.add_each(options, told.as_slice());
-    tell(alloc, out, place, options, told.as_slice(), &mut courses)
+    tell(alloc, out, place, options, told.as_slice(), &mut followed)?;
+    tell_summary(alloc, out, options, &followed.summary)
 }

@@ -1,8 +1,8 @@
 //! What of a log is asked for.
 ghost use Rattle.std.specs.Prelude.{◌≡◌, [], ◌∷◌, ◌++◌, OnOk};
-ghost use Rattle.bus_decode.specs.Options.{is_among, takes, is_asked_for, is_told_asked, follows, detail_of};
+ghost use Rattle.bus_decode.specs.Options.{is_among, takes, is_asked_for, is_told_asked, shows, sums_up, follows, detail_of};
 
-use log_courses::Detail;
+use log_courses::{Detail, key_told, pgn_told};
 use log_decode::Told;
 use pgn_ids::{Address, Pgn};
 use std::alloc::{AllocError, Global};
@@ -78,6 +78,10 @@ pub struct Options {
     pub json: bool,
     /// Whether the frames of each message are listed, but for its packets.
     pub frames: bool,
+    /// Whether what came of the messages is counted, and printed as a table where the log ends.
+    pub summary: bool,
+    /// Whether neither messages nor frames are printed.
+    pub quiet: bool,
 }
 
 impl Options {
@@ -94,18 +98,29 @@ impl Options {
     pub(crate) fn ask_for_told(&self, told: &Told) -> bool
         ensures { result ≡ is_told_asked self.now told.now }
     {
-        match told {
-            Told::Given { key, pgn, .. } => self.ask_for(key.from, key.to, *pgn),
-            Told::Aborted { key, pgn, .. } => self.ask_for(key.from, key.to, *pgn),
-            Told::Lost { key, pgn, .. } => self.ask_for(key.from, key.to, *pgn),
-        }
+        let key = key_told(told);
+        self.ask_for(key.from, key.to, pgn_told(told))
+    }
+
+    /// Whether what was told is printed.
+    pub(crate) fn shows(&self, told: &Told) -> bool
+        ensures { result ≡ shows self.now told.now }
+    {
+        !self.quiet && self.ask_for_told(told)
+    }
+
+    /// Whether what was told is counted in a summary.
+    pub(crate) fn sums_up(&self, told: &Told) -> bool
+        ensures { result ≡ sums_up self.now told.now }
+    {
+        self.summary && self.ask_for_told(told)
     }
 
     /// Whether the courses of messages are followed.
     pub(crate) fn follows(&self) -> bool
         ensures { result ≡ follows self.now }
     {
-        self.json || self.frames
+        self.json || self.frames || self.summary
     }
 
     /// What is kept of each course.

@@ -23,6 +23,10 @@ pub struct OfLog {
     pub json: bool,
     /// Whether the frames of each message are listed, but for its packets.
     pub frames: bool,
+    /// Whether what came of the messages is counted, and printed where the log ends.
+    pub summary: bool,
+    /// Whether neither messages nor frames are printed.
+    pub quiet: bool,
 }
 
 /// The longest message that a transport carries, in bytes.
@@ -52,9 +56,15 @@ packets:
   (TIME) NUMBER again FIRST LAST
   (TIME) NUMBER hold
   (TIME) NUMBER end
+With --summary a table follows where the log ends, of a row for each interface,
+PGN, sender and destination between which there was a message: how many were
+given, their bytes, mean and longest time in microseconds, packets asked for
+again, and the share of the interface's frames in parts per thousand; behind it
+what messages were aborted and lost for. With --quiet there is the table alone.
 
 Examples:
   j1939bus decode can0.log can0.log.1
+  j1939bus decode --summary --quiet can0.log
   printf '%s\\n' '(1.000000) can0 1CECFF21#20090002FFCAFE00' \\
     '(1.050000) can0 1CEBFF21#0101020304050607' \\
     '(1.100000) can0 1CEBFF21#020809FFFFFFFFFF' | j1939bus decode
@@ -101,6 +111,18 @@ fn frames_arg<'a>(alloc: Global) -> Arg<'a> {
     )
 }
 
+fn summary_arg<'a>(alloc: Global) -> Arg<'a> {
+    flag(
+        alloc,
+        "summary",
+        "Ends with what came of the messages: a row for each interface, PGN, sender and destination",
+    )
+}
+
+fn quiet_arg<'a>(alloc: Global) -> Arg<'a> {
+    flag(alloc, "quiet", "Prints neither messages nor frames")
+}
+
 fn strict_arg<'a>(alloc: Global) -> Arg<'a> {
     flag(alloc, "strict", "Ends at a wrong line")
 }
@@ -121,6 +143,8 @@ fn decode_args<'a>(alloc: Global) -> Result<Vec<Arg<'a>>, AllocError> {
             strict_arg(alloc),
             json_arg(alloc),
             frames_arg(alloc),
+            summary_arg(alloc),
+            quiet_arg(alloc),
             files(
                 alloc,
                 "Logs in the order of their times, - for standard input [default: -]",
@@ -185,5 +209,7 @@ pub(crate) fn read_decode(alloc: Global, matches: &ArgMatches) -> Result<OfLog, 
         strict: matches.get_flag("strict"),
         json: matches.get_flag("json"),
         frames: matches.get_flag("frames"),
+        summary: matches.get_flag("summary"),
+        quiet: matches.get_flag("quiet"),
     })
 }

@@ -153,6 +153,8 @@ fn decode<R: Print + Eprint + AllocGlobal + Clock, I: Read + Drop>(
         strict: asked.strict,
         json: asked.json,
         frames: asked.frames,
+        summary: asked.summary,
+        quiet: asked.quiet,
     };
     let decoded = decode_all(rt, errors, &options, input, size)?;
     if let Some(fault) = decoded.fault {

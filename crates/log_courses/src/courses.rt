@@ -37,7 +37,8 @@ impl Drop for Courses {
     }
 }
 
-fn key_told(told: &Told) -> Key
+/// What tells the message that is told apart from others.
+pub fn key_told(told: &Told) -> Key
     ensures { result ≡ key_told told.now }
 {
     match told {
@@ -47,7 +48,8 @@ fn key_told(told: &Told) -> Key
     }
 }
 
-fn pgn_told(told: &Told) -> Pgn
+/// The PGN of the message that is told.
+pub fn pgn_told(told: &Told) -> Pgn
     ensures { result ≡ pgn_told told.now }
 {
     match told {

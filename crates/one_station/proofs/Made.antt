@@ -80,13 +80,6 @@ took_in now segment mid after address events told left missed call fed view same
     by WithoutRoom t = did_two (node_of segment address events missed) call (Take address false) mid after events left (puts events) t
     by PassedBy t = t
 
--- and one of its own, which it passed by
-pub passed_own : (now : Node) (segment mid after : Segment) (address : Address) (events : List Event) (missed : Bool) → node_of segment address events missed ≡ now → Puts segment (Transmit address) mid → Puts mid (Take address true) after
-    → Did now (Transmit now.address ∷ Take now.address true ∷ []) (node_of after address events missed)
-passed_own now segment mid after address events missed view puts passes =
-    subst (λ (n : Node). Did n (Transmit n.address ∷ Take n.address true ∷ []) (node_of after address events missed)) view
-    (did_two (node_of segment address events missed) (Transmit address) (Take address true) mid after events events (puts events) (passes events))
-
 -- first the node is ready, and then it takes the frame
 pub fed_ready : (before ready : Node) (frame : CanFrame) (after : Node) (fed : Result Fed NodeError) → IsReady before ready → IsTakenIn ready frame after fed → IsFed before frame after fed
 fed_ready before ready frame after (Ok Taken) first taken = (ready, first, taken)

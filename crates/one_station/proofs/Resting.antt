@@ -15,9 +15,9 @@ use Rattle.segment_law.specs.Reached.{IsReached}
 use Rattle.segment_law.specs.Readers.{queue_len}
 use Rattle.segment_law.specs.declared.call.Call.{Call}
 use Rattle.segment_law.specs.declared.call.Call.TheVariants.{Open, Close, Send, Pump, Transmit, Take, TakeAgain, Overrun, Tick, Fire, Cancel, Inject, Pause, Resume}
-use Rattle.segment_law.specs.declared.refusal.Refusal.{Refusal}
 use Rattle.segment_law.specs.declared.refusal.Refusal.TheVariants as refusal
 use Rattle.segment_law.specs.declared.reply.Reply.{Reply}
+use Rattle.segment_law.specs.declared.reply.Reply.TheVariants as replies
 use Rattle.segment_law.specs.declared.reply.Reply.TheVariants.{Done}
 use Rattle.segment_law.proofs.Records.{stands_reached}
 use Rattle.record_law.proofs.EachCall.{Holds, Accepted, each_called}
@@ -28,7 +28,7 @@ use Rattle.segment_core.specs.Memory.{MayAskMemory}
 use Rattle.one_station.specs.Node.{Node}
 use Rattle.one_station.specs.Looks.{comes_on_bus, Tells, Puts, PassesInPlace, HasLooked}
 use Rattle.one_station.specs.NodeFields.{IsStood, IsAlone, HasLookedAtAll}
-use Rattle.one_station.specs.Answers.{feed_refusal, sent_refusal, has_frame, overruns, is_own, is_queue_full, as_error}
+use Rattle.one_station.specs.Answers.{IsUndone, IsTakenIn, first_cause, feed_refusal, has_frame, overruns, is_own, is_queue_full, as_error}
 use Rattle.one_station.specs.declared.error.NodeError.{NodeError}
 use Rattle.one_station.specs.declared.error.NodeError.TheVariants.{Refused}
 use Rattle.one_station.specs.declared.error.Fed.{Fed}
@@ -76,30 +76,44 @@ room_on_bus address segment call comes stood looked = by call comes
     by (Pause port) e = absurd cc
     by (Resume port) e = absurd cc
 
--- what isn't refused to `feed` and `sent`
-as_none : (o : Option Refusal) → as_error o ≡ None → o ≡ None
-as_none None e = refl
-as_none (Some cause) e = absurd (cc)
+-- what isn't refused
+pub none_of : (x : Answer) → IsOk x → refusal_of x ≡ None
+none_of (Ok step) ok = refl
+none_of (Err cause) ok = absurd (cc)
 
-ok_of : (x : Answer) → refusal_of x ≡ None → IsOk x
-ok_of (Ok step) e = refl
-ok_of (Err cause) e = absurd (cc)
+-- a call that is done isn't refused
+pub done_ok : (seg new : Segment) (call : Call) (events : List Event) → applied seg call ≡ (new, Done events) → IsOk (called seg call)
+done_ok seg new call events e = by (called seg call) e
+  where
+    by : (x : Answer) → replied seg x ≡ (new, Done events) → IsOk x
+    by (Ok step) e = refl
+    by (Err cause) e = absurd (let same : replies.Refused cause ≡ Done events = ap (λ (p : Segment × Reply). p.1) e in cc)
 
-open_feed : (own full : Bool) (o : Option Refusal) → cond {A = Option NodeError} own (Some (Refused refusal.StationAddress)) (cond full (Some (Refused refusal.TxFull)) (as_error o)) ≡ None → (full ≡ false) × (o ≡ None)
-open_feed true full o e = absurd (cc)
-open_feed false true o e = absurd (cc)
-open_feed false false None e = (refl, refl)
-open_feed false false (Some cause) e = absurd (cc)
+abbrev causes : (own full : Bool) → Option NodeError → Option NodeError
+causes own full o = cond {A = Option NodeError} own (Some (Refused refusal.StationAddress)) (cond full (Some (Refused refusal.TxFull)) o)
 
-pub may_feed : (now : Node) (segment : Segment) (address : Address) (events : List Event) (missed : Bool) (frame : CanFrame) → node_of segment address events missed ≡ now → feed_refusal now frame ≡ None
-    → (nat_le queue_limit (queue_len segment address) ≡ false) × IsOk (called segment (Inject frame))
+none_early : (own full : Bool) (o : Option NodeError) → causes own full None ≡ None → (full ≡ false) × (causes own full o ≡ o)
+none_early true full o e = absurd (cc)
+none_early false true o e = absurd (cc)
+none_early false false o e = (refl, refl)
+
+some_early : (own full : Bool) (o : Option NodeError) (error : NodeError) → causes own full None ≡ Some error → causes own full o ≡ Some error
+some_early true full o error e = e
+some_early false true o error e = e
+some_early false false o error e = absurd (cc)
+
+-- a frame is refused early
+pub early_undone : (now : Node) (frame : CanFrame) (error : NodeError) → first_cause now frame None ≡ Some error → IsTakenIn now frame now (Err error)
+early_undone now frame error e =
+    subst (λ o. IsUndone o now now error) (sym (some_early (is_own now frame) (is_queue_full now) (as_error (refusal_of (called now.segment (Inject frame)))) error e)) (refl, refl)
+
+-- or it isn't: there is a place for its answer, and the inner bus has the word
+pub may_feed : (now : Node) (segment : Segment) (address : Address) (events : List Event) (missed : Bool) (frame : CanFrame) → node_of segment address events missed ≡ now → first_cause now frame None ≡ None
+    → (nat_le queue_limit (queue_len segment address) ≡ false) × (feed_refusal now frame ≡ as_error (refusal_of (called segment (Inject frame))))
 may_feed now segment address events missed frame view free =
+    let P : Node → Type 0 = λ n. first_cause n frame None ≡ None → (nat_le queue_limit (queue_len segment address) ≡ false) × (feed_refusal n frame ≡ as_error (refusal_of (called segment (Inject frame)))) in
     let node : Node = node_of segment address events missed in
-    let o = open_feed (is_own node frame) (is_queue_full node) (refusal_of (called segment (Inject frame))) (subst (λ (n : Node). feed_refusal n frame ≡ None) (sym view) free) in
-    (o.0, ok_of (called segment (Inject frame)) o.1)
-
-pub may_put : (now : Node) (segment : Segment) (address : Address) (events : List Event) (missed : Bool) → node_of segment address events missed ≡ now → sent_refusal now ≡ None → IsOk (called segment (Transmit address))
-may_put now segment address events missed view free = ok_of (called segment (Transmit address)) (as_none (refusal_of (called segment (Transmit address))) (subst (λ (n : Node). sent_refusal n ≡ None) (sym view) free))
+    subst P view (none_early (is_own node frame) (is_queue_full node) (as_error (refusal_of (called segment (Inject frame))))) free
 
 -- a frame that came on the bus is taken
 pub stood_by : (address : Address) (before after : Segment) (waiting left : List Event) (call : Call) → Tells before waiting call after left → IsStood address before → IsStood address after

@@ -97,12 +97,16 @@ is_own node frame = (meaning_of frame.id).from.0 == node.address.0
 abbrev pub is_queue_full : Node → Bool
 is_queue_full node = nat_le queue_limit (queue_len node.segment node.address)
 
--- why a frame isn't fed: the first of its causes
-abbrev pub feed_refusal : Node → CanFrame → Option NodeError
-feed_refusal node frame =
+-- the first of the causes for which a frame isn't fed, of which the last may be the inner bus's
+abbrev pub first_cause : Node → CanFrame → (last : Option NodeError) → Option NodeError
+first_cause node frame last =
     if is_own node frame then Some (Refused refusal.StationAddress)
     else if is_queue_full node then Some (Refused refusal.TxFull)
-    else as_error (refusal_of (called node.segment (Inject frame)))
+    else last
+
+-- why a frame isn't fed
+abbrev pub feed_refusal : Node → CanFrame → Option NodeError
+feed_refusal node frame = first_cause node frame (as_error (refusal_of (called node.segment (Inject frame))))
 
 -- a call, and then the Take of the frame that it put, with room or without
 abbrev pub DidAndLooked : (before : Node) → Call → (after : Node) → Fed → Type 0

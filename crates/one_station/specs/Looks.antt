@@ -1,12 +1,13 @@
 -- What one call does with the inner bus and with what was told.
-use Rattle.std.specs.Prelude.{◌≡◌, Bool, true, false, List, [], ◌∷◌, ◌++◌}
+use Rattle.std.specs.Prelude.{◌≡◌, Bool, true, false, List, [], ◌∷◌, ◌++◌, Result, Ok, Err, IsOk}
 use Rattle.pgn_ids.specs.declared.address.Address.{Address}
 use Rattle.message_events.specs.declared.event.Event.{Event}
 use Rattle.segment_law.specs.Segment.{Segment}
-use Rattle.segment_law.specs.Calls.{applied, events_of}
+use Rattle.segment_law.specs.Calls.{called, applied, events_of}
 use Rattle.segment_law.specs.Record.{Record, StandsAt}
 use Rattle.segment_law.specs.declared.call.Call.{Call}
 use Rattle.segment_law.specs.declared.call.Call.TheVariants.{Transmit, Take, Inject}
+use Rattle.segment_law.specs.declared.refusal.Refusal.{Refusal}
 use Rattle.segment_core.specs.InPlace.{is_quiet, MayLackMemory}
 use Rattle.one_station.specs.declared.error.Fed.{Fed}
 use Rattle.one_station.specs.declared.error.Fed.TheVariants.{Taken, WithoutRoom, PassedBy}
@@ -26,6 +27,11 @@ pub record Tells (before : Segment) (waiting : List Event) (call : Call) (after 
 -- it tells nothing
 abbrev pub Puts : Segment → Call → Segment → Type 0
 Puts before call after = (waiting : List Event) → Tells before waiting call after waiting
+
+-- it does so, or is refused and changes nothing
+abbrev pub IsPut : (before : Segment) → Call → (after : Segment) → Result (Unit {0}) Refusal → Type 0
+IsPut before call after (Ok done) = IsOk (called before call) × Puts before call after
+IsPut before call after (Err cause) = (called before call ≡ Err cause) × (after ≡ before)
 
 -- to take the next frame isn't refused, tells nothing, and asks for no memory
 abbrev pub PassesInPlace : Segment → Address → Type 0

@@ -1,13 +1,13 @@
 //! Frames from the bus and for the bus.
-ghost use Rattle.std.specs.Prelude.{◌≡◌, ◌∷◌, [], None, IfOk, IfErr, OnOk, OnErr};
+ghost use Rattle.std.specs.Prelude.{◌≡◌, None, IfOk, IfErr, OnOk, OnErr};
 ghost use Rattle.segment_law.specs.Readers.{front_at, next_pump};
 ghost use Rattle.one_station.specs.declared.error.NodeError.TheVariants.{OutOfMemory};
-ghost use Rattle.segment_law.specs.declared.call.Call.TheVariants.{Pump, Transmit};
+ghost use Rattle.segment_law.specs.declared.call.Call.TheVariants.{Pump};
 ghost use Rattle.one_station.specs.Node.{Did};
-ghost use Rattle.one_station.specs.Answers.{IsAnswered, IsFed, IsTakenIn, IsSent, looks, feed_refusal, sent_refusal, front_calls};
+ghost use Rattle.one_station.specs.Answers.{IsAnswered, IsFed, IsTakenIn, IsSent, IsPassedBy, first_cause, front_calls};
 
 use crate::error::{Fed, NodeError};
-use crate::look::{look, pass, put};
+use crate::look::{look, pass, put_foreign, put_own};
 use crate::node::{Node, make_one};
 use broadcast_law::stations_queue_their_own;
 use bus_frame::Frame;
@@ -33,29 +33,15 @@ impl Node {
         if !self.make_ready() {
             return Ok(Fed::PassedBy);
         }
-        match self.feed_refusal(&frame) {
+        match self.early_refusal(&frame) {
             Some(error) => Err(error),
             None => self.take_in(frame),
         }
     }
 
-    // A frame that isn't refused comes on the inner bus, and the station takes it.
-    fn take_in(&mut self, frame: Frame) -> Result<Fed, NodeError>
-        requires { feed_refusal self.old frame ≡ None }
-        ensures { IsTakenIn self.old frame self.new result }
-    {
-        match make_one(&mut self.told, self.owed) {
-            Ok(()) => {}
-            Err(_) => return Err(NodeError::OutOfMemory),
-        }
-        let station = self.address;
-        put(&mut self.segment, Call::Inject { frame });
-        Ok(look(&mut self.segment, &mut self.told, &mut self.owed, station))
-    }
-
-    // Why a frame isn't fed.
-    fn feed_refusal(&self, frame: &Frame) -> Option<NodeError>
-        ensures { result ≡ feed_refusal self.now frame.now }
+    // Why a frame isn't fed, whatever the inner bus says to it.
+    fn early_refusal(&self, frame: &Frame) -> Option<NodeError>
+        ensures { result ≡ first_cause self.now frame.now None }
     {
         if read_id(frame.id()).from.0 == self.address.0 {
             return Some(NodeError::Refused(Refusal::StationAddress));
@@ -63,10 +49,23 @@ impl Node {
         if self.segment.queue_len(self.address) >= QUEUE_LIMIT {
             return Some(NodeError::Refused(Refusal::TxFull));
         }
-        match self.segment.refusal(&Call::Inject { frame: *frame }) {
-            None => None,
-            Some(cause) => Some(NodeError::Refused(cause)),
+        None
+    }
+
+    // Any other frame comes on the inner bus, unless that refuses it, and the station takes it.
+    fn take_in(&mut self, frame: Frame) -> Result<Fed, NodeError>
+        requires { first_cause self.old frame None ≡ None }
+        ensures { IsTakenIn self.old frame self.new result }
+    {
+        match make_one(&self.segment, &mut self.told, self.owed, &frame) {
+            Ok(()) => {}
+            Err(error) => return Err(error),
         }
+        if let Err(cause) = put_foreign(&mut self.segment, frame) {
+            return Err(NodeError::Refused(cause));
+        }
+        let station = self.address;
+        Ok(look(&mut self.segment, &mut self.told, &mut self.owed, station))
     }
 
     /// The first frame of the transmit queue, or none where that is empty. It is what `front` answers then, and stays the first until
@@ -94,7 +93,12 @@ impl Node {
         ensures { IsAnswered self.old (Pump self.old.address to) self.new result }
     {
         let station = self.address;
-        self.make(Call::Pump { station, to })
+        let pump = Call::Pump { station, to };
+        // As a rule it tells nothing, and needs no place for that.
+        if self.segment.apply_in_place(&pump) {
+            return Ok(());
+        }
+        self.make(pump)
     }
 
     /// The frame that is next for the bus, or none where there is nothing to put now. It stays the next until `sent` says that it
@@ -111,10 +115,11 @@ impl Node {
         if let Some(frame) = self.queued() {
             return Ok(Some(frame));
         }
-        if let Some(to) = self.next_pump() {
-            if let Err(error) = self.pump(to) {
-                return Err(error);
-            }
+        let Some(to) = self.next_pump() else {
+            return Ok(None);
+        };
+        if let Err(error) = self.pump(to) {
+            return Err(error);
         }
         Ok(self.queued())
     }
@@ -131,36 +136,21 @@ impl Node {
         if !self.make_ready() {
             return Err(NodeError::OutOfMemory);
         }
-        match self.sent_refusal() {
-            Some(error) => Err(error),
-            None => {
-                self.pass_own();
-                Ok(())
-            }
-        }
-    }
-
-    // Why no frame was put.
-    fn sent_refusal(&self) -> Option<NodeError>
-        ensures { result ≡ sent_refusal self.now }
-    {
-        let station = self.address;
-        match self.segment.refusal(&Call::Transmit { station }) {
-            None => None,
-            Some(cause) => Some(NodeError::Refused(cause)),
-        }
+        self.pass_own()
     }
 
     // The first frame of the transmit queue comes on the inner bus. It is the station's own, which passes it by.
-    fn pass_own(&mut self)
-        requires { sent_refusal self.old ≡ None }
-        ensures { Did self.old (Transmit self.old.address ∷ looks self.old ∷ []) self.new }
+    fn pass_own(&mut self) -> Result<(), NodeError>
+        ensures { IsPassedBy self.old self.new result }
     {
         // A law, by which it is its own: the call does nothing.
         stations_queue_their_own();
         let station = self.address;
         let _at_most_full = self.segment.queue_len(station);
-        put(&mut self.segment, Call::Transmit { station });
+        if let Err(cause) = put_own(&mut self.segment, station) {
+            return Err(NodeError::Refused(cause));
+        }
         pass(&mut self.segment, station);
+        Ok(())
     }
 }

@@ -4,6 +4,7 @@ ghost use Rattle.std.specs.VecDeque.{deque_len, deque_capacity};
 ghost use Rattle.segment_law.specs.Segment.{are_addresses};
 ghost use Rattle.segment_law.specs.Calls.{called};
 ghost use Rattle.segment_law.specs.Record.{StandsAt};
+ghost use Rattle.segment_law.specs.declared.call.Call.TheVariants.{Inject};
 ghost use Rattle.one_station.specs.Node.{new_node};
 ghost use Rattle.one_station.specs.Answers.{IsAnswered, IsStopped};
 ghost use Rattle.one_station.specs.Looks.{comes_on_bus};
@@ -11,6 +12,7 @@ ghost use Rattle.one_station.specs.Told.{told_events, IsFrontFirst};
 
 use crate::error::NodeError;
 use crate::told::Told;
+use bus_frame::Frame;
 use pgn_ids::Address;
 use segment_core::{Call, Event, Events, NewRefused, Reply, Segment};
 use std::alloc::{AllocError, Global};
@@ -126,19 +128,6 @@ pub(crate) fn ended(events: &Events) -> usize {
     }
 }
 
-/// Makes a place for what one more call tells, unless there is one.
-pub(crate) fn make_one(told: &mut Told, owed: usize) -> Result<(), AllocError>
-    requires { IsFrontFirst told.old }
-    ensures events { told_events told.new ≡ told_events told.old }
-    ensures sound { IsFrontFirst told.new }
-    ensures room { OnOk result (deque_len told.new.parts < deque_capacity told.new.parts) }
-{
-    if told.has_room() {
-        return Ok(());
-    }
-    told.reserve(owed)
-}
-
 // Whether a call gives a message.
 fn gives(segment: &Segment, call: &Call) -> bool {
     match call {
@@ -174,4 +163,23 @@ pub(crate) fn make_room(
         Ok(()) => Ok(()),
         Err(_) => Err(NodeError::OutOfMemory),
     }
+}
+
+/// Makes a place for what a frame tells that another node puts, unless there is one or the frame is refused.
+pub(crate) fn make_one(
+    segment: &Segment,
+    told: &mut Told,
+    owed: usize,
+    frame: &Frame,
+) -> Result<(), NodeError>
+    requires { IsFrontFirst told.old }
+    ensures events { told_events told.new ≡ told_events told.old }
+    ensures sound { IsFrontFirst told.new }
+    ensures room { OnOk result (deque_len told.new.parts < deque_capacity told.new.parts) }
+    ensures err { IfErr result (λ error. IsStopped (called segment.now (Inject frame.now)) error) }
+{
+    if told.has_room() {
+        return Ok(());
+    }
+    make_room(segment, told, owed, &Call::Inject { frame: *frame })
 }

@@ -1,4 +1,4 @@
-//! Tests of logs: their lines, and the messages that are put together of them, with the exact text that is printed.
+//! Tests of logs: their lines, what of them is asked for, and readers and writers that fail.
 mod decoding;
 mod failures;
 mod forms;
@@ -6,10 +6,5 @@ mod frames;
 mod lines;
 mod listeners;
 mod logs;
-mod objects;
 mod progress;
 mod scripts;
-mod starts;
-mod strays;
-mod times;
-mod windows;

@@ -1,6 +1,7 @@
-//! Tests of whole scripts: the language, its faults, and worked exchanges with the exact text that they print.
+//! Tests of scripts that are no cases of `script_cases`: readers, writers and memory that fail, texts that are too long for a file, and the command
+//! line.
 mod command_lines;
 mod drawn;
-mod exchanges;
 mod logged;
+mod long_message;
 mod scripts;

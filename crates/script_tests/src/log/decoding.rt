@@ -15,6 +15,8 @@ pub(crate) fn all(alloc: Global) -> Options {
         strict: false,
         json: false,
         frames: false,
+        summary: false,
+        quiet: false,
     }
 }
 

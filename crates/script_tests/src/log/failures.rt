@@ -16,6 +16,8 @@ fn all(alloc: Global) -> Options {
         strict: false,
         json: false,
         frames: false,
+        summary: false,
+        quiet: false,
     }
 }
 

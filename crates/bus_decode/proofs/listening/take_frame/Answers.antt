@@ -9,5 +9,5 @@ returns c =
     (rw (c.add_stray.ensures, c.add_frame.ensures, c.time_on.ensures, c.as_slice-2.ensures.value) at c.add_each-2.ensures)
     (rw c.as_slice.ensures.value at c.in_ok-add_each.ensures)
     (rw (c.time-now.ensures, c.as_slice-3.ensures.value) at c.in_ok-tell_frame.ensures.text)
-    (rw (c.time-now.ensures, c.as_slice-3.ensures.value) at c.in_ok-tell_frame.ensures.courses)
+    (rw (c.time-now.ensures, c.as_slice-3.ensures.value) at c.in_ok-tell_frame.ensures.followed)
     (rw c.time-now.ensures at c.put_other.ensures)

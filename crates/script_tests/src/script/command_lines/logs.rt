@@ -27,7 +27,7 @@ fn a_log_is_asked_for(rt: HostRuntime) {
         &rt,
         asked.most == 117_440_505 && !asked.singles && !asked.strict && !asked.json,
     );
-    holds(&rt, !asked.frames);
+    holds(&rt, !asked.frames && !asked.summary && !asked.quiet);
     let two = ["j1939bus", "decode", "a.log", "-"];
     names(&rt, alloc, &two, &Asked::Decode(asked), &["a.log", "-"])
 }
@@ -55,6 +55,8 @@ fn parts_of_a_log_are_asked_for(rt: HostRuntime) {
             "--strict",
             "--json",
             "--frames",
+            "--summary",
+            "--quiet",
         ],
     );
     holds(&rt, asked.pgns.as_slice() == [0xFECA, 0x3_FFFF].as_slice());
@@ -64,7 +66,7 @@ fn parts_of_a_log_are_asked_for(rt: HostRuntime) {
         &rt,
         asked.most == 1_785 && asked.singles && asked.strict && asked.json,
     );
-    holds(&rt, asked.frames);
+    holds(&rt, asked.frames && asked.summary && asked.quiet);
 }
 
 fn refuses(rt: &impl Abort, alloc: Global, option: &str, value: &str, told: &str) {
@@ -106,6 +108,8 @@ Options:
       --strict         Ends at a wrong line
       --json           Prints each line as a JSON object
       --frames         Lists the announcement, windows and end of each message, with time and number
+      --summary        Ends with what came of the messages: a row for each interface, PGN, sender and destination
+      --quiet          Prints neither messages nor frames
   -h, --help           Print help
 
 A log has lines as candump writes them, (SECONDS.MICROS) IFACE ID#HEX, or shows
@@ -125,9 +129,15 @@ packets:
   (TIME) NUMBER again FIRST LAST
   (TIME) NUMBER hold
   (TIME) NUMBER end
+With --summary a table follows where the log ends, of a row for each interface,
+PGN, sender and destination between which there was a message: how many were
+given, their bytes, mean and longest time in microseconds, packets asked for
+again, and the share of the interface's frames in parts per thousand; behind it
+what messages were aborted and lost for. With --quiet there is the table alone.
 
 Examples:
   j1939bus decode can0.log can0.log.1
+  j1939bus decode --summary --quiet can0.log
   printf '%s\\n' '(1.000000) can0 1CECFF21#20090002FFCAFE00' \\
     '(1.050000) can0 1CEBFF21#0101020304050607' \\
     '(1.100000) can0 1CEBFF21#020809FFFFFFFFFF' | j1939bus decode

@@ -1,8 +1,0 @@
-use Rattle.std.proofs.Common.{◌≡◌, ◌++◌, drop}
-use Rattle.bus_decode.specs.Json.{told_objects, without_each}
-use Rattle.bus_decode.proofs.objects.put_objects.Given as goal
-
-abbrev pub invariant-loop-one : goal.invariant-loop-one
-invariant-loop-one l =
-    (l.out.items ++ told_objects l.place l.options (drop l.one-index l.told) l.courses ≡ l.fn.out.items ++ told_objects l.place l.options l.told l.fn.courses)
-    × (without_each (drop l.one-index l.told) l.courses ≡ without_each l.told l.fn.courses)

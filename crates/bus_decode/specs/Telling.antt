@@ -1,0 +1,57 @@
+-- What is printed of what was told.
+use Rattle.std.specs.Prelude.{ℕ, List, [], ◌∷◌, ◌++◌, flat_map, if◌then◌else◌}
+use Rattle.bus_frame.specs.Frames.{CanFrame}
+use Rattle.pgn_ids.specs.Identifier.{meaning_of}
+use Rattle.log_text.specs.declared.iface.Iface.{Iface}
+use Rattle.log_courses.specs.Courses.{course_of}
+use Rattle.log_courses.specs.declared.course.Course.{Course}
+use Rattle.log_courses.specs.declared.course.Place.{Place}
+use Rattle.log_decode.specs.declared.told.Told.{Told}
+use Rattle.log_lines.specs.Listing.{mark_lines}
+use Rattle.log_lines.specs.Text.{told_line, single_line, wrong_line}
+use Rattle.log_objects.specs.Json.{told_object, single_object, wrong_object}
+use Rattle.log_summary.specs.Rows.{Summary}
+use Rattle.summary_lines.specs.Json.{row_objects}
+use Rattle.summary_lines.specs.Table.{table_text}
+use Rattle.bus_decode.specs.Followed.{after_told}
+use Rattle.bus_decode.specs.Options.{is_asked_for, shows, follows, detail_of}
+use Rattle.bus_decode.specs.declared.followed.Followed.{Followed}
+use Rattle.bus_decode.specs.declared.options.Options.{Options}
+
+-- a message that was told at a time, with the frames that are listed of its course
+abbrev pub message_text : Options → (now : ℕ) → Course → Told → List ℕ
+message_text options now c t = if options.json then told_object (detail_of options) now c t else told_line now t ++ mark_lines c.marks
+
+-- where it is shown
+abbrev pub shown_text : Options → (now : ℕ) → Course → Told → List ℕ
+shown_text options now c t = if shows options t then message_text options now c t else []
+
+-- one behind the other, each with its course
+abbrev pub followed_text : Place → Options → List Told → Followed → List ℕ
+followed_text place options [] f = []
+followed_text place options (t ∷ ts) f = shown_text options place.time (course_of (detail_of options) place t f.courses) t ++ followed_text place options ts (after_told options place t f)
+
+-- where no course is followed
+abbrev pub plain_line : (now : ℕ) → Options → Told → List ℕ
+plain_line now options t = if shows options t then told_line now t else []
+
+abbrev pub plain_text : (now : ℕ) → Options → List Told → List ℕ
+plain_text now options told = flat_map (plain_line now options) told
+
+-- what was told at a frame
+abbrev pub told_text : Place → Options → List Told → Followed → List ℕ
+told_text place options told f = if follows options then followed_text place options told f else plain_text place.time options told
+
+-- the summary of a log that has ended, where it is asked for
+abbrev pub summary_text : Options → Summary → List ℕ
+summary_text options s = if options.summary then (if options.json then row_objects s else table_text s) else []
+
+-- a frame that carries nothing of a message, where it is asked for
+abbrev pub single_text : (now : ℕ) → Iface → Options → CanFrame → List ℕ
+single_text now iface options frame =
+    let m = meaning_of frame.id in
+    if is_asked_for options m.from m.to m.pgn then (if options.json then single_object now iface frame else single_line now iface frame) else []
+
+-- a wrong line, by its number
+abbrev pub wrong_text : Options → ℕ → List ℕ
+wrong_text options n = if options.json then wrong_object n else wrong_line n

@@ -1,0 +1,201 @@
+//! What is printed of what was told, as the options say.
+ghost use Rattle.std.specs.Prelude.{◌≡◌, ◌++◌, OnOk, if◌then◌else◌};
+ghost use Rattle.summary_lines.specs.Json.{row_objects};
+ghost use Rattle.summary_lines.specs.Table.{table_text};
+ghost use Rattle.bus_decode.specs.Followed.{after_each, left_followed, heard_followed};
+ghost use Rattle.bus_decode.specs.Telling.{message_text, shown_text, followed_text, plain_line, plain_text, told_text, summary_text, single_text, wrong_text};
+
+use crate::followed::{Followed, sum_up};
+use crate::options::Options;
+use bus_frame::Frame;
+use log_courses::{Course, Place};
+use log_decode::Told;
+use log_lines::{put_marks, put_single, put_told, put_wrong};
+use log_objects::{put_single_object, put_told_object, put_wrong_object};
+use log_summary::Summary;
+use log_text::Iface;
+use pgn_ids::read_id;
+use std::alloc::{AllocError, Global};
+use summary_lines::{put_row_objects, put_table};
+
+/// A message that was told at a time.
+fn put_message(
+    out: &mut Vec<u8>,
+    now: u64,
+    options: &Options,
+    course: &Course,
+    told: &Told,
+) -> Result<(), AllocError>
+    ensures { OnOk result (out.new.items ≡ out.old.items ++ message_text options.now now course.now told.now) }
+{
+    if options.json {
+        return put_told_object(out, options.detail(), now, course, told);
+    }
+    put_told(out, now, told)?;
+    put_marks(out, course.marks.as_slice())
+}
+
+/// The same, where it is shown.
+fn put_shown(
+    out: &mut Vec<u8>,
+    now: u64,
+    options: &Options,
+    course: &Course,
+    told: &Told,
+) -> Result<(), AllocError>
+    ensures { OnOk result (out.new.items ≡ out.old.items ++ shown_text options.now now course.now told.now) }
+{
+    if options.shows(told) {
+        return put_message(out, now, options, course, told);
+    }
+    Ok(())
+}
+
+/// What was told at a frame, each with its course, which is taken out.
+fn put_followed(
+    alloc: Global,
+    out: &mut Vec<u8>,
+    place: Place,
+    options: &Options,
+    told: &[Told],
+    followed: &mut Followed,
+) -> Result<(), AllocError>
+    ensures text { OnOk result (out.new.items ≡ out.old.items ++ followed_text place options.now told.now followed.old) }
+    ensures followed { OnOk result (followed.new ≡ after_each options.now place told.now followed.old) }
+{
+    for one in told {
+        let course = followed.courses.end(alloc, options.detail(), place, one)?;
+        sum_up(&mut followed.summary, options, &course, one)?;
+        put_shown(out, place.time, options, &course, one)?;
+    }
+    Ok(())
+}
+
+/// The line of a message without its course, where it is shown.
+fn put_line(out: &mut Vec<u8>, now: u64, options: &Options, told: &Told) -> Result<(), AllocError>
+    ensures { OnOk result (out.new.items ≡ out.old.items ++ plain_line now options.now told.now) }
+{
+    if options.shows(told) {
+        return put_told(out, now, told);
+    }
+    Ok(())
+}
+
+/// What was told at a time, where no course is followed.
+fn put_plain(
+    out: &mut Vec<u8>,
+    now: u64,
+    options: &Options,
+    told: &[Told],
+) -> Result<(), AllocError>
+    ensures { OnOk result (out.new.items ≡ out.old.items ++ plain_text now options.now told.now) }
+{
+    for one in told {
+        put_line(out, now, options, one)?;
+    }
+    Ok(())
+}
+
+/// What was told where the log ends. Where courses are followed, those of what was told are taken out.
+pub(crate) fn tell(
+    alloc: Global,
+    out: &mut Vec<u8>,
+    place: Place,
+    options: &Options,
+    told: &[Told],
+    followed: &mut Followed,
+) -> Result<(), AllocError>
+    ensures text { OnOk result (out.new.items ≡ out.old.items ++ told_text place options.now told.now followed.old) }
+    ensures followed { OnOk result (followed.new ≡ left_followed options.now place told.now followed.old) }
+{
+    if options.follows() {
+        return put_followed(alloc, out, place, options, told, followed);
+    }
+    put_plain(out, place.time, options, told)
+}
+
+/// What was told at a frame; then the messages that go on have one more, where courses are followed.
+pub(crate) fn tell_frame(
+    alloc: Global,
+    out: &mut Vec<u8>,
+    place: Place,
+    options: &Options,
+    iface: Iface,
+    frame: &Frame,
+    told: &[Told],
+    followed: &mut Followed,
+) -> Result<(), AllocError>
+    ensures text { OnOk result (out.new.items ≡ out.old.items ++ told_text place options.now told.now followed.old) }
+    ensures followed { OnOk result (followed.new ≡ heard_followed options.now iface frame.now place told.now followed.old) }
+{
+    if !options.follows() {
+        return put_plain(out, place.time, options, told);
+    }
+    put_followed(alloc, out, place, options, told, followed)?;
+    followed.hear(alloc, options, iface, frame, place, told)
+}
+
+fn put_summary(
+    alloc: Global,
+    out: &mut Vec<u8>,
+    options: &Options,
+    summary: &Summary,
+) -> Result<(), AllocError>
+    ensures { OnOk result (out.new.items ≡ out.old.items ++ (if options.now.json then row_objects summary.now else table_text summary.now)) }
+{
+    if options.json {
+        put_row_objects(alloc, out, summary)
+    } else {
+        put_table(alloc, out, summary)
+    }
+}
+
+/// The summary of a log that has ended, where it is asked for.
+pub(crate) fn tell_summary(
+    alloc: Global,
+    out: &mut Vec<u8>,
+    options: &Options,
+    summary: &Summary,
+) -> Result<(), AllocError>
+    ensures { OnOk result (out.new.items ≡ out.old.items ++ summary_text options.now summary.now) }
+{
+    if options.summary {
+        return put_summary(alloc, out, options, summary);
+    }
+    Ok(())
+}
+
+/// A frame that carries nothing of a message, where it is asked for.
+pub(crate) fn tell_single(
+    out: &mut Vec<u8>,
+    now: u64,
+    iface: &Iface,
+    options: &Options,
+    frame: &Frame,
+) -> Result<(), AllocError>
+    ensures { OnOk result (out.new.items ≡ out.old.items ++ single_text now iface.now options.now frame.now) }
+{
+    let meaning = read_id(frame.id());
+    if !options.ask_for(meaning.from, meaning.to, meaning.pgn) {
+        return Ok(());
+    }
+    if options.json {
+        return put_single_object(out, now, *iface, frame);
+    }
+    put_single(out, now, iface, frame)
+}
+
+/// A wrong line, by its number.
+pub(crate) fn tell_wrong(
+    out: &mut Vec<u8>,
+    options: &Options,
+    number: u64,
+) -> Result<(), AllocError>
+    ensures { OnOk result (out.new.items ≡ out.old.items ++ wrong_text options.now number) }
+{
+    if options.json {
+        put_wrong_object(out, number)
+    } else {
+        put_wrong(out, number)
+    }
+}

@@ -1,0 +1,90 @@
+-- What is printed of a log, as lines.
+use Rattle.std.specs.Prelude.{ℕ, List, ◌++◌, length, codes}
+use Rattle.std.specs.Fmt.{decimal}
+use Rattle.bus_frame.specs.Frames.{CanFrame}
+use Rattle.pgn_ids.specs.Identifier.{meaning_of}
+use Rattle.pgn_ids.specs.declared.address.Address.{Address}
+use Rattle.text_digits.specs.Digits.{digits, unspaced}
+use Rattle.log_text.specs.Iface.{name_of}
+use Rattle.log_text.specs.Written.{time_text}
+use Rattle.log_text.specs.declared.iface.Iface.{Iface}
+use Rattle.log_decode.specs.declared.key.Key.{Key}
+use Rattle.log_decode.specs.declared.told.Cause.{Cause}
+use Rattle.log_decode.specs.declared.told.Cause.TheVariants.{Missing, Replaced, TimedOut, WentBack, Acknowledged, Unsound, TooLong, EndOfLog}
+use Rattle.log_decode.specs.declared.told.Told.{Told}
+use Rattle.log_decode.specs.declared.told.Told.TheVariants.{Given, Aborted, Lost}
+
+-- the time, the interface, and what was seen there
+abbrev pub place_text : ℕ → Iface → List ℕ → List ℕ
+place_text now iface what = time_text now ++ codes " " ++ name_of iface ++ what
+
+unfoldable pub address_text : Address → List ℕ
+address_text a = digits 16 2 a.0
+
+unfoldable pub pgn_text : ℕ → List ℕ
+pgn_text pgn = digits 16 5 pgn
+
+abbrev pub ends_text : (from to : Address) → List ℕ
+ends_text from to = address_text from ++ codes " " ++ address_text to ++ codes " "
+
+-- between which addresses, and of which PGN
+abbrev pub way_text : (from to : Address) → ℕ → List ℕ
+way_text from to pgn = ends_text from to ++ pgn_text pgn ++ codes " "
+
+-- how many bytes, and the bytes
+abbrev pub message_text : List ℕ → List ℕ
+message_text bytes = decimal (length bytes) ++ codes " " ++ unspaced bytes ++ codes "\n"
+
+abbrev pub cause_text : Cause → List ℕ
+cause_text Missing = codes "packet missing\n"
+cause_text Replaced = codes "replaced\n"
+cause_text TimedOut = codes "timed out\n"
+cause_text WentBack = codes "time went back\n"
+cause_text Acknowledged = codes "acknowledged\n"
+cause_text Unsound = codes "wrong size\n"
+cause_text TooLong = codes "too long\n"
+cause_text EndOfLog = codes "end of log\n"
+
+-- the reason of an abort, and whose it is
+abbrev pub abort_text : ℕ → Address → List ℕ
+abort_text reason who = decimal reason ++ codes " " ++ address_text who ++ codes "\n"
+
+-- how many bytes came, of how many, and why the others didn't
+abbrev pub loss_text : (have size : ℕ) → Cause → List ℕ
+loss_text have size cause = decimal have ++ codes " " ++ decimal size ++ codes " " ++ cause_text cause
+
+-- where and when a message was told, what came of it, between which addresses it went, and of which PGN
+abbrev pub head_text : ℕ → Key → (what : List ℕ) → (pgn : ℕ) → List ℕ
+head_text now key what pgn = place_text now key.iface what ++ way_text key.from key.to pgn
+
+-- all of it came
+abbrev pub given_line : ℕ → Key → (pgn : ℕ) → List ℕ → List ℕ
+given_line now key pgn bytes = head_text now key (codes " given ") pgn ++ message_text bytes
+
+-- one of its ends aborted it, for a reason
+abbrev pub aborted_line : ℕ → Key → (pgn reason : ℕ) → Address → List ℕ
+aborted_line now key pgn reason who = head_text now key (codes " aborted ") pgn ++ abort_text reason who
+
+-- it is lost: so many of its bytes came
+abbrev pub lost_line : ℕ → Key → (pgn have size : ℕ) → Cause → List ℕ
+lost_line now key pgn have size cause = head_text now key (codes " lost ") pgn ++ loss_text have size cause
+
+-- what was told at a time
+abbrev pub told_line : ℕ → Told → List ℕ
+told_line now (Given key pgn bytes) = given_line now key pgn bytes
+told_line now (Aborted key pgn reason who) = aborted_line now key pgn reason who
+told_line now (Lost key pgn have size cause) = lost_line now key pgn have size cause
+
+-- a number between texts
+unfoldable pub between_texts : List ℕ → ℕ → List ℕ → List ℕ
+between_texts before n behind = before ++ decimal n ++ behind
+
+-- a wrong line, by its number
+abbrev pub wrong_line : ℕ → List ℕ
+wrong_line n = between_texts (codes "line ") n (codes ": not a log line\n")
+
+-- a frame that carries nothing of a message
+abbrev pub single_line : ℕ → Iface → CanFrame → List ℕ
+single_line now iface frame =
+    let m = meaning_of frame.id in
+    place_text now iface (codes " frame ") ++ way_text m.from m.to m.pgn ++ message_text frame.bytes

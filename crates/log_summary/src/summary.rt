@@ -1,0 +1,177 @@
+//! The rows of a log.
+ghost use Rattle.std.specs.Prelude.{◌≡◌, ◌≤◌, ◌++◌, OnOk, IfOk};
+ghost use Rattle.log_summary.specs.Rows.{row_told, aborts_told, aborted, aborts_for, aborts_below, frames_named, frames_on, no_summary, with_frame, with_message, rows_of, aborts_of};
+
+use crate::key::{AbortKey, Name, RowKey};
+use crate::row::Row;
+use log_courses::{Course, key_told, pgn_told};
+use log_decode::Told;
+use log_text::Iface;
+use std::alloc::{AllocError, Global};
+use std::collections::BTreeMap;
+use std::marker::Model;
+
+/// How often messages were aborted for a reason, which is told as its byte.
+#[derive(Clone, Copy)]
+pub struct AbortCount {
+    pub reason: u8,
+    pub count: u64,
+}
+
+/// What came of the messages of a log. Each number stays at 2^64 - 1 where it would pass it.
+pub struct Summary {
+    rows: BTreeMap<RowKey, Row>,
+    aborts: BTreeMap<AbortKey, u64>,
+    frames: BTreeMap<Name, u64>,
+}
+
+impl Model for Summary {
+    ghost use Rattle.log_summary.specs.Rows.{Summary};
+
+    ghost Value = { Summary };
+
+    ghost view = { λ s. record { rows = s.rows.entries; aborts = s.aborts.entries; frames = s.frames.entries } };
+}
+
+impl Drop for Summary {
+    fn drop(self) {
+        let Summary {
+            rows: _,
+            aborts: _,
+            frames: _,
+        } = self;
+    }
+}
+
+/// How many reasons of an abort there are.
+const REASONS: u16 = 256;
+
+impl Summary {
+    /// Nothing was seen. It takes no memory.
+    pub fn new(alloc: Global) -> Summary
+        ensures { result ≡ no_summary }
+    {
+        Summary {
+            rows: BTreeMap::new(alloc),
+            aborts: BTreeMap::new(alloc),
+            frames: BTreeMap::new(alloc),
+        }
+    }
+
+    fn frames_named(&self, name: Name) -> u64
+        ensures { result ≡ frames_named name self.now.frames }
+    {
+        self.frames.get(&name).copied().unwrap_or(0)
+    }
+
+    /// A frame is seen on an interface, of a message or of none. It fails only where memory is refused; then nothing has changed.
+    pub fn add_frame(&mut self, iface: Iface) -> Result<(), AllocError>
+        ensures { OnOk result (self.new ≡ with_frame iface self.old) }
+    {
+        let name = Name::of(iface);
+        let seen = self.frames_named(name);
+        self.frames.insert(name, seen.saturating_add(1))?;
+        Ok(())
+    }
+
+    fn add_row(&mut self, key: RowKey, course: &Course, told: &Told) -> Result<(), AllocError>
+        ensures { OnOk result (self.new ≡ record self.old { rows = row_told key course.now told.now self.old.rows }) }
+    {
+        let mut row = match self.rows.get(&key) {
+            None => Row::new(&key_told(told), pgn_told(told)),
+            Some(row) => *row,
+        };
+        row.add(course, told);
+        self.rows.insert(key, row)?;
+        Ok(())
+    }
+
+    fn add_abort(&mut self, row: RowKey, told: &Told) -> Result<(), AllocError>
+        ensures { OnOk result (self.new ≡ record self.old { aborts = aborts_told row told.now self.old.aborts }) }
+    {
+        match told {
+            Told::Given { .. } => Ok(()),
+            Told::Aborted { reason, .. } => {
+                let key = AbortKey {
+                    row,
+                    reason: *reason,
+                };
+                let seen = self.aborts.get(&key).copied().unwrap_or(0);
+                self.aborts.insert(key, seen.saturating_add(1))?;
+                Ok(())
+            }
+            Told::Lost { .. } => Ok(()),
+        }
+    }
+
+    /// A message is told, with its course. It fails only where memory is refused; what it leaves then is not said.
+    pub fn add(&mut self, course: &Course, told: &Told) -> Result<(), AllocError>
+        ensures { OnOk result (self.new ≡ with_message course.now told.now self.old) }
+    {
+        let key = key_told(told);
+        let row = RowKey::of(key.iface, pgn_told(told), key.from, key.to);
+        self.add_row(row, course, told)?;
+        self.add_abort(row, told)
+    }
+
+    /// The rows, in the order of the names of their interfaces, of their PGNs, senders and destinations.
+    pub fn rows(&self, alloc: Global) -> Result<Vec<Row>, AllocError>
+        ensures { IfOk result (λ rows. rows.items ≡ rows_of self.now) }
+    {
+        self.rows.values().copied().collect(alloc)
+    }
+
+    fn aborted(&self, row: RowKey, reason: u8) -> u64
+        ensures { result ≡ aborted row reason self.now.aborts }
+    {
+        let key = AbortKey { row, reason };
+        self.aborts.get(&key).copied().unwrap_or(0)
+    }
+
+    /// A reason is put where messages of a row were aborted for it.
+    fn put_aborts(
+        &self,
+        found: &mut Vec<AbortCount>,
+        row: RowKey,
+        reason: u8,
+    ) -> Result<(), AllocError>
+        ensures { OnOk result (found.new.items ≡ found.old.items ++ aborts_for row self.now.aborts reason) }
+    {
+        let count = self.aborted(row, reason);
+        if count != 0 {
+            found.push(AbortCount { reason, count })?;
+        }
+        Ok(())
+    }
+
+    fn aborts_below(
+        &self,
+        alloc: Global,
+        row: RowKey,
+        end: u16,
+    ) -> Result<Vec<AbortCount>, AllocError>
+        requires { end ≤ 256 }
+        ensures { IfOk result (λ found. found.items ≡ aborts_below row self.now.aborts end) }
+    {
+        let mut found = Vec::new(alloc);
+        for at in 0..end {
+            self.put_aborts(&mut found, row, at as u8)?;
+        }
+        Ok(found)
+    }
+
+    /// The reasons for which messages of a row were aborted, from the lowest on.
+    pub fn aborts(&self, alloc: Global, row: &Row) -> Result<Vec<AbortCount>, AllocError>
+        ensures { IfOk result (λ aborts. aborts.items ≡ aborts_of row.now self.now) }
+    {
+        let key = RowKey::of(row.iface, row.pgn, row.from, row.to);
+        self.aborts_below(alloc, key, REASONS)
+    }
+
+    /// How many frames were seen on an interface, of messages or of none.
+    pub fn frames_on(&self, iface: Iface) -> u64
+        ensures { result ≡ frames_on iface self.now }
+    {
+        self.frames_named(Name::of(iface))
+    }
+}
