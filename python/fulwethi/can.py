@@ -13,18 +13,18 @@ import asyncio
 import functools
 import logging
 import queue
-import socket
 import threading
 import time
 from concurrent.futures import Future
-from dataclasses import dataclass
 from types import TracebackType
 from typing import Any, Callable, Dict, Generator, List, Optional, Tuple, Type, TypeVar, Union
 
 import can
 
+from ._buses import shows_own_frames, tells_of_loss
 from ._inline import contents, u8, u32
 from ._messages import Calls, Messages
+from ._requests import Request, frame_of_request, request_of
 from ._wire import RETRY, BusGone, Wire, flush, frame_of
 from .errors import Closed, Error, NoMemory, TxFull
 from .node import Node
@@ -43,22 +43,8 @@ MOST_WAITING = 65536
 FRAMES_OF_A_TURN = 64
 """After so many frames the node's own ones are put."""
 
-REQUEST = 0xEA00
-"""The PGN of a Request (SAE J1939-21)."""
-
-REQUEST_PRIORITY = 6
-
 T = TypeVar("T")
 Callback = TypeVar("Callback", bound=Callable[..., Any])
-
-
-@dataclass(frozen=True)
-class Request:
-    """Another node asks for a PGN, of this node or of all (255)."""
-
-    source: int
-    to: int
-    pgn: int
 
 
 class Awaited(Future[T]):
@@ -179,10 +165,8 @@ class Station:
 
         The answer comes as a message if it has more than 8 bytes and a port is open for it.
         """
-        if u32(pgn, "a PGN") >= 1 << 18:
-            raise ValueError(f"a PGN has 18 bits, and not {pgn:X}")
-        identifier = REQUEST_PRIORITY << 26 | REQUEST << 8 | u8(to, "an address") << 8 | self.address
-        return self._do(functools.partial(self._wire.put_single, Frame(identifier, pgn.to_bytes(3, "little"))))
+        frame = frame_of_request(Request(self.address, u8(to, "an address"), u32(pgn, "a PGN")))
+        return self._do(functools.partial(self._wire.put_single, frame))
 
     def open(self, pgn: int, max_len: int) -> int:
         """Opens a port for messages of a PGN of at most `max_len` bytes, and answers its number. BadPgn, PortsFull, NoMemory."""
@@ -517,35 +501,3 @@ def end_of(failure: Optional[BaseException]) -> Closed:
     end = Closed(f"the station ended: {failure}")
     end.__cause__ = failure
     return end
-
-
-def request_of(frame: Frame) -> Optional[Request]:
-    """What a Request asks for; None of another frame."""
-    if frame.id >> 16 & 0x3FF != REQUEST >> 8 or not 3 <= len(frame.data) <= 8:
-        return None
-    return Request(frame.source, frame.id >> 8 & 0xFF, int.from_bytes(frame.data[:3], "little"))
-
-
-def shows_own_frames(bus: can.BusABC) -> bool:
-    """Whether a bus shows frames that it put to who put them, as far as it tells: by its attribute, or by the option of its CAN socket."""
-    for name in ("receive_own_messages", "_receive_own_messages"):
-        said = getattr(bus, name, None)
-        if isinstance(said, bool):
-            return said
-    its_socket = getattr(bus, "socket", None)
-    if isinstance(its_socket, socket.socket) and its_socket.family == getattr(socket, "AF_CAN", None):
-        return bool(its_socket.getsockopt(socket.SOL_CAN_RAW, socket.CAN_RAW_RECV_OWN_MSGS))
-    return False
-
-
-RESTARTED, BUS_OFF, CONTROLLER, RX_OVERFLOW = 0x100, 0x40, 0x04, 0x01
-"""Classes of error frames of Linux (linux/can/error.h), and of a controller's the bit of its second byte that says that it was overrun."""
-
-
-def tells_of_loss(bus: can.BusABC, message: can.Message) -> bool:
-    """Whether frames were lost, by an error frame. Of SocketCAN it is known which ones say so; of another bus each one is taken so."""
-    its_socket = getattr(bus, "socket", None)
-    if not isinstance(its_socket, socket.socket) or its_socket.family != getattr(socket, "AF_CAN", None):
-        return True
-    is_overrun = bool(message.arbitration_id & CONTROLLER) and len(message.data) > 1 and bool(message.data[1] & RX_OVERFLOW)
-    return bool(message.arbitration_id & (RESTARTED | BUS_OFF)) or is_overrun

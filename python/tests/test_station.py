@@ -6,6 +6,7 @@ import asyncio
 import concurrent.futures
 import gc
 import itertools
+import socket
 import threading
 import time
 import tracemalloc
@@ -15,8 +16,10 @@ import can
 import pytest
 from conftest import PATIENCE, slow_clock
 from fulwethi import ALL, Closed, Ended, Given, Lane, Outcome, errors
+from fulwethi._buses import shows_own_frames, tells_of_loss
 from fulwethi._messages import Messages
-from fulwethi.can import FRAMES_OF_A_TURN, BusGone, Request, Station, request_of, shows_own_frames, tells_of_loss
+from fulwethi._requests import frame_of_request, request_of
+from fulwethi.can import FRAMES_OF_A_TURN, BusGone, Request, Station
 from fulwethi.values import Frame
 
 PGN, TO_ALL = 0xEF00, 0xFECA
@@ -447,6 +450,7 @@ def frames_until(watch: can.BusABC, last: int) -> List[Tuple[int, str]]:
 
 def test_request_of() -> None:
     assert request_of(Frame(0x18EA3521, bytes.fromhex("CAFE00"))) == Request(0x21, 0x35, 0xFECA)
+    assert frame_of_request(Request(0x21, 0x35, 0xFECA)) == Frame(0x18EA3521, bytes.fromhex("CAFE00"))
     for other in (Frame(0x18EB3521, bytes(3)), Frame(0x19EA3521, bytes(3)), Frame(0x18EA3521, bytes(2)), Frame(0x18EA3521, bytes(9))):
         assert request_of(other) is None
 
@@ -539,6 +543,28 @@ def test_what_is_known_of_a_bus(bus: Callable[..., can.BusABC]) -> None:
     assert shows_own_frames(bus(receive_own_messages=True)) and not shows_own_frames(bus())
     assert not shows_own_frames(BrokenBus())
     assert tells_of_loss(bus(), can.Message(is_error_frame=True))
+
+
+class CanSocket(socket.socket):
+    """Says that it is a CAN socket, and whether it shows own frames."""
+
+    family = socket.AF_CAN
+    shows_own = 0
+
+    def getsockopt(self, *option: int) -> int:  # type: ignore[override]
+        assert option == (socket.SOL_CAN_RAW, socket.CAN_RAW_RECV_OWN_MSGS)
+        return self.shows_own
+
+
+def test_what_is_known_of_socketcan() -> None:
+    at = BrokenBus()
+    with CanSocket(socket.AF_UNIX, socket.SOCK_DGRAM) as its_socket:
+        at.socket = its_socket  # type: ignore[attr-defined]
+        assert not shows_own_frames(at)
+        its_socket.shows_own = 1
+        assert shows_own_frames(at)
+        told = {(error, second): tells_of_loss(at, can.Message(is_error_frame=True, arbitration_id=error, data=bytes([0, second, 0]))) for error in (0x100, 0x40, 0x04, 0x08) for second in (0, 1, 4)}
+    assert [key for key, is_loss in told.items() if is_loss] == [(0x100, 0), (0x100, 1), (0x100, 4), (0x40, 0), (0x40, 1), (0x40, 4), (0x04, 1)]
 
 
 def test_frames_that_are_passed_over(bus: Callable[..., can.BusABC]) -> None:
