@@ -29,7 +29,7 @@
  * received), and so is each outcome. It comes from the three functions of examples/c/heap.c.
  *
  * Units: as in fulwethi.h, of which this takes frames, counts, codes and outcomes. A program that calls nothing of fulwethi.h itself links
- * libfulwethi_service.a alone; both libraries can be linked into one program.
+ * libfulwethi_service alone, static (.a) or shared (.so); both libraries can be linked into one program, each of them static or shared.
  */
 #ifndef FULWETHI_SERVICE_H
 #define FULWETHI_SERVICE_H
