@@ -34,6 +34,7 @@ struct bus {
     uint32_t drops;             /* how many frames the socket dropped so far */
     struct fulwethi_frame kept; /* a frame that the service didn't take yet */
     int has_kept, outstanding, is_lost, is_blocked; /* is_lost: a loss was told since the outstanding frame was put */
+    int has_told;               /* the service was told something since the others were: what was missed ends messages */
     uint8_t station;            /* of the outstanding frame */
     char tell[16];              /* what the service is to be told next: 0 to 2 that a station missed frames, s that the frame was put */
 };
@@ -152,6 +153,7 @@ static int is_told(struct bus *bus) {
         uint32_t code = bus->tell[0] == 's' ? fulwethi_service_sent(&bus->service, bus->station) : fulwethi_service_missed(&bus->service, ADDRESS[bus->tell[0] - '0']);
         if (code == FULWETHI_NO_MEMORY || code == FULWETHI_BUS_FULL || code == FULWETHI_TRACE_FULL) return 0;
         if (code) fail("tell", code);
+        bus->has_told = 1;
     }
     return 1;
 }
@@ -233,7 +235,7 @@ static int pause_for(struct bus *bus) {
     return pause < 0 || left < (uint64_t)pause ? (int)left : pause;
 }
 
-/* Whether all is done: then the others are told to end; else that there is news, if a turn has done something. */
+/* Whether all is done: then the others are told to end; else that there is news, if something may have come of it. */
 static int tell_others(int has_done) {
     pthread_mutex_lock(&lock);
     is_over = ended == STATIONS * messages && received >= acknowledged;
@@ -259,7 +261,9 @@ static int turn(struct bus *bus) {
         all += made;
         transmit(bus);
     } while (made && !code);
-    return !tell_others(all > 0);
+    int has_done = all > 0 || bus->has_told;
+    bus->has_told = 0;
+    return !tell_others(has_done);
 }
 
 /* The service, with a client and an inbox at each station. */
