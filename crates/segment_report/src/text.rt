@@ -1,8 +1,8 @@
 //! The text of what threads leave of a segment.
 ghost use Rattle.std.specs.Prelude.{◌≡◌, ◌++◌, ◌==◌, ◌<◌, ◌↔◌, suc, length, All, OnOk, IfErr, IsTrue};
 ghost use Rattle.script_runs.specs.declared.ending.Lost.TheVariants.{NotThisSegment};
-ghost use Rattle.segment_shared.specs.Record.{trail, given, notes_of};
-ghost use Rattle.segment_shared.specs.Reports.{HasPort};
+ghost use Rattle.live_parts.specs.Record.{trail, given, notes_of};
+ghost use Rattle.live_segment.specs.Reports.{HasPort};
 ghost use Rattle.segment_report.specs.Texts.{below, given_lines, port_lines, ports_at, numbered_lines, highest, outcome_lines, clients_at};
 ghost use Rattle.segment_report.specs.Known.{ArePorts, ArePortsAt, HaveClients, HaveClientsAt};
 ghost use Rattle.segment_report.specs.Noted.{count_from, HasRunOut};

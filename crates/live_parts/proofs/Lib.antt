@@ -1,0 +1,12 @@
+pub mod Results
+pub mod Seats
+pub mod Trails
+pub mod Prefixes
+pub mod Doors
+pub mod Buffers
+pub mod Preparing
+pub mod SeatsSame
+pub mod Pieces
+pub mod Fronts
+pub mod Refusing
+pub mod Held

@@ -1,0 +1,16 @@
+pub mod Working
+pub mod ViewsSame
+pub mod Holding
+pub mod Viewed
+pub mod Replays
+pub mod Laws
+pub mod Shown
+pub mod Sending
+pub mod Ready
+pub mod Lacking
+pub mod Telling
+pub mod Applying
+pub mod Quiet
+pub mod Closings
+pub mod Openings
+pub mod Uncut
