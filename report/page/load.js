@@ -12,6 +12,13 @@ function loadWords(load, cell) {
   return `${load.name}, second ${count(Math.floor(since(cell.start) / 1e6 + 1))}: ${plural(Math.round(rate(cell, load)), "frame")}${each}, ${percent(cell, load).toFixed(1)} % of ${count(report.bitrate / 1000)} kbit/s, ${count(cell.transport)} of messages in packets`;
 }
 
+// The highest second, for the margin.
+function highestWords(load) {
+  const most = load.cells.reduce((best, it) => (it.frames > best.frames ? it : best));
+  const share = percent(most, load);
+  return `max. ${count(Math.round(rate(most, load)))}/s, ${share.toFixed(share < 10 ? 1 : 0)} %`;
+}
+
 function drawLoad({ canvas, load, chosen }) {
   const { pen, width } = prepared(canvas, LOAD);
   const most = lastOf(load.cells, (it) => it.frames) || 1;
@@ -35,7 +42,7 @@ function drawLoad({ canvas, load, chosen }) {
     const part = (cell.transport / most) * (LOAD - 10);
     pen.fillStyle = colours.rest;
     pen.fillRect(from, LOAD - high, wide, high);
-    pen.fillStyle = colours.given;
+    pen.fillStyle = colours.load;
     pen.fillRect(from, LOAD - part, wide, part);
     if (index === chosen) {
       pen.strokeStyle = colours.focus;
@@ -47,7 +54,8 @@ function drawLoad({ canvas, load, chosen }) {
   pen.fillStyle = colours.ink;
   pen.fillText(load.name, 10, 14, gutter - 16);
   pen.fillStyle = colours.quiet;
-  pen.fillText(`max. ${count(Math.round((most * 1e6) / load.width))}/s`, 10, 31, gutter - 16);
+  pen.font = pen.font.replace("12px", "11px");
+  pen.fillText(highestWords(load), 10, 31, gutter - 16);
 }
 
 function drawLoads() {
@@ -96,8 +104,12 @@ function startLoads() {
   const width = report.load.width;
   if (width > 1) byId("load-heading").textContent = `Load of the bus by ${width} seconds`;
   loads.forEach(startLoad);
-  const frames = loads.reduce((sum, it) => sum + it.cells.reduce((most, cell) => most + cell.frames, 0), 0);
+  const sum = (of) => loads.reduce((all, it) => it.cells.reduce((some, cell) => some + of(cell), all), 0);
   if (!loads.length) byId("load-said").textContent = report.counts.frames ? "The log has no times." : "There is no frame.";
-  else byId("load-said").textContent = `${plural(frames, "frame")}; dark: of messages in packets`;
+  else {
+    const inPackets = sum((it) => it.transport);
+    const swatch = (name) => element("i", { class: `swatch ${name}` });
+    byId("load-said").replaceChildren(swatch("load"), `${plural(inPackets, "frame")} of messages in packets`, swatch("rest"), `${count(sum((it) => it.frames) - inPackets)} others`);
+  }
   if (report.load.isCut) byId("loads").append(element("p", { class: "quiet" }, `Of more than ${loads.length} interfaces the others are left out here.`));
 }

@@ -13,7 +13,8 @@ function startHead() {
   if (report.chosen.length) words.push(`chosen by ${report.chosen.join(" ")}`);
   byId("about").textContent = words.join(" · ");
   const endings = ENDINGS.map((kind, at) => [kind, kind, messages.reduce((sum, it) => sum + (it[KIND] === at), 0)]);
-  endings.push(["again", "packets asked for again", messages.reduce((sum, it) => sum + it[AGAIN], 0)]);
+  const again = messages.reduce((sum, it) => sum + it[AGAIN], 0);
+  endings.push(["again", `${again === 1 ? "packet" : "packets"} asked for again`, again]);
   byId("endings").replaceChildren(...endings.map(([kind, said, number]) => element("li", { "data-kind": kind }, sign(kind), element("span", {}, element("b", {}, count(number)), ` ${said}`))));
   byId("footer").textContent = `Made by j1939-report ${report.version} of ${report.logs.join(" ")}. Addresses and PGNs are hexadecimal. A frame of N bytes counts as 67 + 8 N bits, or 47 + 8 N if its identifier has 11; stuff bits aren't counted.`;
 }
@@ -40,9 +41,9 @@ function summaryRow(row) {
   const choose = element("button", { type: "button", "aria-label": `Messages of PGN ${pgn(group)} from ${address(from)} to ${target(to)} on ${report.interfaces[iface]}`, onclick: () => showOnly(iface, group, from, to) }, pgn(group));
   const text = (value, name) => element("td", { class: name }, value);
   const why = [
-    ...Object.entries(aborts).map(([reason, times]) => ["aborted", `${count(times)} × reason ${reason}${REASONS[reason] ? ` (${REASONS[reason]})` : ""}`]),
-    ...Object.entries(losses).map(([cause, times]) => ["lost", `${count(times)} × ${cause}`]),
-  ].map(([kind, said]) => element("span", {}, sign(kind), said));
+    ...Object.entries(aborts).map(([reason, times]) => ["aborted", `${count(times)} × reason ${reason}`, REASONS[reason]]),
+    ...Object.entries(losses).map(([cause, times]) => ["lost", `${count(times)} × ${cause}`, CAUSES[cause]]),
+  ].map(([kind, said, title]) => element("span", { title }, sign(kind), said));
   return element("tr", {}, text(report.interfaces[iface], "text"), element("td", { class: "text" }, choose), text(address(from), "text code"), text(target(to), "text code"), text(count(given)), text(count(bytes)), text(given ? duration(mean) : ""), text(given ? duration(longest) : ""), text(count(again)), text(`${(share / 10).toFixed(1)} %`), element("td", { class: "text why" }, ...why));
 }
 
@@ -104,6 +105,7 @@ function showMessage() {
   const title = element("h2", { id: "message-title", tabindex: -1 }, `${address(it[FROM])} → ${target(it[TO])}, PGN ${pgn(it[PGN])}`);
   const said = it[KIND] === 0 ? `given: ${plural(it[LENGTH], "byte")} in ${took(it)}` : ending(it);
   room.replaceChildren(element("div", { class: "bar" }, element("div", {}, title, element("p", { class: "said" }, sign(ENDINGS[it[KIND]]), said)), buttons), facts(it), element("h3", {}, "Frames"), ...sequence(it, width));
+  room.append(element("p", { class: "quiet" }, "Between frames stand the packets that were announced or asked for."));
   if (it[MEANING].length) room.append(element("h3", {}, "Meaning"), element("ul", { class: "meaning" }, ...it[MEANING].map((line) => element("li", {}, line))));
   room.append(element("h3", {}, "Bytes"), ...bytesOf(it, width));
 }

@@ -22,7 +22,7 @@ function stepsOf(it) {
     switch (STEPS[code]) {
       case "announcement":
         made.push({ ...step, way: 1, kind: at > 0 ? "again" : "frame", text: `announces ${it[LENGTH] < 0 ? "a message" : plural(it[LENGTH], "byte")}${at > 0 ? " once more" : ""}` });
-        if (it[TO] === ALL && it[KIND] !== 1 && !["wrong size", "too long"].includes(it[WHY])) made.push({ way: 1, kind: "band", packets: packetsOf(it[LENGTH]), text: packets(1, packetsOf(it[LENGTH])) });
+        if (it[TO] === ALL && it[KIND] !== 1 && !["wrong size", "too long"].includes(it[WHY])) made.push({ way: 1, kind: "band", packets: packetsOf(it[LENGTH]), text: it[KIND] === 2 ? `${count(it[HAVE])} of ${plural(it[LENGTH], "byte")}` : packets(1, packetsOf(it[LENGTH])) });
         break;
       case "window":
         if (!isRepeat && last <= asked) {

@@ -11,7 +11,7 @@ let gutter = 120;
 let colours = {};
 function readColours() {
   const style = getComputedStyle(document.documentElement);
-  for (const name of ["paper", "wash", "line", "ink", "quiet", "given", "given-faint", "aborted", "lost", "again", "rest", "gap", "chosen", "focus", "mono"]) {
+  for (const name of ["paper", "wash", "line", "ink", "quiet", "given", "given-faint", "aborted", "lost", "again", "load", "rest", "gap", "chosen", "focus", "mono"]) {
     colours[name] = style.getPropertyValue(`--${name}`).trim();
   }
 }

@@ -43,6 +43,7 @@ const seconds = (micros, digits = 6) => (micros / 1e6).toFixed(digits);
 
 // A time that something takes, in the unit that fits.
 function duration(micros) {
+  if (micros === 0) return "0";
   if (micros < 1000) return `${micros} µs`;
   if (micros < 1e6) return `${(micros / 1000).toFixed(micros < 1e5 ? 1 : 0)} ms`;
   if (micros < 6e7) return `${(micros / 1e6).toFixed(micros < 1e7 ? 2 : 1)} s`;
