@@ -8,17 +8,26 @@ let sorted = { by: "time", way: 1 };
 let isStacked = false;
 const rowHeight = () => (isStacked ? 52 : 28);
 
+// The place of each interface among their names, and of each ending among the causes: what is sorted is a number.
+const rankOf = (list) => {
+  const places = new Map([...list].sort().map((it, at) => [it, at]));
+  return (it) => places.get(it);
+};
+const rankOfInterface = rankOf(report.interfaces);
+const rankOfCause = rankOf(Object.keys(CAUSES));
+const rankOfEnding = (it) => 1000 * it[KIND] + (it[KIND] === 2 ? rankOfCause(it[WHY]) ?? 999 : it[WHY]);
+
 // The columns: name, words at the head, what to sort by, and the text of a cell.
 const COLUMNS = [
   { name: "time", head: isTimed ? "Time" : "Frame", of: startOf, text: (it) => (isTimed ? seconds(since(it[START])) : count(it[FIRST])), class: "code" },
-  { name: "iface", head: "Interface", of: named, text: named },
+  { name: "iface", head: "Interface", of: (it) => rankOfInterface(named(it)), text: named },
   { name: "pgn", head: "PGN", of: (it) => it[PGN], text: (it) => pgn(it[PGN]), class: "code" },
   { name: "from", head: "From", of: (it) => it[FROM], text: (it) => address(it[FROM]), class: "code" },
   { name: "to", head: "To", of: (it) => it[TO], text: (it) => (it[TO] === ALL ? "all" : address(it[TO])), class: "code" },
   { name: "bytes", head: "Bytes", of: (it) => it[LENGTH], text: (it) => (it[LENGTH] < 0 ? "" : count(it[LENGTH])), class: "right" },
   { name: "took", head: isTimed ? "Took" : "Frames", of: (it) => endOf(it) - startOf(it), text: (it) => (isTimed ? took(it) : count(it[LAST] - it[FIRST] + 1)), class: "right" },
   { name: "again", head: "Again", of: (it) => it[AGAIN], text: (it) => (it[AGAIN] ? count(it[AGAIN]) : ""), class: "right" },
-  { name: "ending", head: "Ending", of: ending, text: ending },
+  { name: "ending", head: "Ending", of: rankOfEnding, text: ending },
 ];
 
 // What an ending can be chosen by.
@@ -42,11 +51,15 @@ function textTest(text) {
     const lower = hex(it.charCodeAt(0), 2);
     return upper === lower ? upper : `(?:${upper}|${lower})`;
   };
-  const form = ascii ? new RegExp([...wanted].map(pairs).join("")) : null;
+  const form = ascii ? new RegExp([...wanted].map(pairs).join(""), "g") : null;
   const isThere = (data) => {
     if (isHex) for (let at = data.indexOf(digits); at >= 0; at = data.indexOf(digits, at + 1)) if (at % 2 === 0) return true;
     if (!form) return false;
-    for (let at = 0, found; at < data.length && (found = data.slice(at).search(form)) >= 0; at += found + 1) if ((at + found) % 2 === 0) return true;
+    form.lastIndex = 0;
+    for (let found = form.exec(data); found; found = form.exec(data)) {
+      if (found.index % 2 === 0) return true;
+      form.lastIndex = found.index + 1;
+    }
     return false;
   };
   return (it) =>
@@ -90,10 +103,10 @@ function filter() {
 
 function sort() {
   const { of } = COLUMNS.find((it) => it.name === sorted.by);
-  const keys = new Array(messages.length);
+  const keys = new Float64Array(messages.length);
   for (const index of order) keys[index] = of(messages[index]);
   const { way } = sorted;
-  order.sort((a, b) => (keys[a] < keys[b] ? -way : keys[a] > keys[b] ? way : a - b));
+  order.sort((a, b) => way * (keys[a] - keys[b]) || a - b);
   const said = order.length === messages.length ? plural(messages.length, "message") : `${count(order.length)} of ${plural(messages.length, "message")}`;
   byId("matches").textContent = said;
   byId("messages").setAttribute("aria-rowcount", order.length + 1);

@@ -10,6 +10,8 @@ function startHead() {
   if (counts.lines !== undefined) words.push(plural(counts.lines, "line"), plural(counts.frames, "frame"));
   const start = dated(base + BigInt(Math.trunc(whole.from)));
   if (isTimed && counts.frames) words.push(`${duration(Math.round(whole.to - whole.from))}${start ? ` from ${start}` : ""}`);
+  const strays = ["packets", "windows", "acknowledgements"].filter((it) => counts[`stray ${it}`]).map((it) => `${count(counts[`stray ${it}`])} ${it}`);
+  if (strays.length) words.push(`of no message: ${strays.join(", ")}`);
   if (report.chosen.length) words.push(`chosen by ${report.chosen.join(" ")}`);
   byId("about").textContent = words.join(" · ");
   const endings = ENDINGS.map((kind, at) => [kind, kind, messages.reduce((sum, it) => sum + (it[KIND] === at), 0)]);
@@ -26,8 +28,6 @@ function startNotes() {
   made.push(...report.faults);
   if (report.wrongCount) made.push(`${plural(report.wrongCount, "line")} of the log ${report.wrongCount === 1 ? "is" : "are"} wrong: ${report.wrong.slice(0, 12).map(count).join(", ")}${report.wrongCount > 12 ? " .." : ""}.`);
   if (report.leftOut) made.push(`This page holds the first ${count(report.held)} of ${plural(report.held + report.leftOut, "message")}; the table of what came counts all. --pgn, --from and --to choose others.`);
-  const strays = ["packets", "windows", "acknowledgements"].filter((it) => report.counts[`stray ${it}`]).map((it) => `${count(report.counts[`stray ${it}`])} ${it}`);
-  if (strays.length) made.push(`Of no message are ${strays.join(", ")}.`);
   if (report.isWhole && report.counts.lines === 0) made.push("The log is empty.");
   const long = gaps.length + report.load.moreGaps;
   if (long) made.push(`${plural(long, "time")} an interface has no frame for a second or longer; the longest is ${duration(lastOf(gaps, (it) => it.micros))}.`);
@@ -94,9 +94,13 @@ function facts(it) {
   return element("dl", {}, ...made.flatMap(([name, value]) => [element("dt", {}, name), element("dd", {}, value)]));
 }
 
+// Shows the message that is open; what has the focus there keeps it.
+let shownWidth = 0;
 function showMessage() {
   const it = messages[opened];
   const room = byId("message");
+  const had = room.contains(document.activeElement) ? document.activeElement.id : "";
+  shownWidth = room.clientWidth;
   const style = getComputedStyle(room);
   const width = Math.max(260, room.clientWidth - parseFloat(style.paddingLeft) - parseFloat(style.paddingRight));
   const place = placeOf(opened);
@@ -108,6 +112,7 @@ function showMessage() {
   room.append(element("p", { class: "quiet" }, "Between frames stand the packets that were announced or asked for."));
   if (it[MEANING].length) room.append(element("h3", {}, "Meaning"), element("ul", { class: "meaning" }, ...it[MEANING].map((line) => element("li", {}, line))));
   room.append(element("h3", {}, "Bytes"), ...bytesOf(it, width));
+  if (had) byId(byId(had) && !byId(had).disabled ? had : "message-title").focus();
 }
 
 // Opens a message beside the table, or over it where there is no room beside.
@@ -142,12 +147,7 @@ function close() {
 function follow(by) {
   const to = placeOf(opened) + by;
   if (to < 0 || to >= order.length) return;
-  active = order[to];
-  const isButton = by < 0 ? "before" : "behind";
   activate(to);
-  const button = byId(isButton);
-  if (!button.disabled) button.focus();
-  else byId("message-title").focus();
 }
 
 function layOut() {
@@ -170,10 +170,8 @@ function start() {
   startMessages();
   look(whole.from, whole.to);
   new ResizeObserver(layOut).observe(byId("messages"));
-  let wide = 0;
   new ResizeObserver(() => {
-    if (opened >= 0 && byId("message").clientWidth !== wide) showMessage();
-    wide = byId("message").clientWidth;
+    if (opened >= 0 && byId("message").clientWidth !== shownWidth) showMessage();
   }).observe(byId("message"));
   NARROW.addEventListener("change", () => { byId("main").inert = opened >= 0 && NARROW.matches; });
   window.matchMedia("(prefers-color-scheme: dark)").addEventListener("change", () => {
