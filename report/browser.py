@@ -10,6 +10,7 @@ import signal
 import subprocess
 import tempfile
 import time
+import urllib.parse
 
 # How many seconds an answer may take.
 LIMIT = 120
@@ -91,19 +92,22 @@ class Browser:
 
     def open(self, path, place=""):
         """Opens a file, and answers how many seconds it took until its script had run and a picture of it could be shown."""
-        self.events, self.said = [], []
         # (a page that differs by its place alone isn't loaded again)
-        self.ask("Page.navigate", url="about:blank")
-        self.events = []
+        self.load("about:blank")
+        self.said = []
         began = time.monotonic()
-        told = self.ask("Page.navigate", url=f"file://{os.path.abspath(path)}{place}")
-        if "errorText" in told:
-            raise Failed(f"{path}: {told['errorText']}")
-        until = began + LIMIT
-        while "Page.loadEventFired" not in self.events:
-            self.keep(self.receive(until))
+        self.load("file://" + urllib.parse.quote(os.path.abspath(path)) + place)
         self.settle()
         return time.monotonic() - began
+
+    def load(self, address):
+        self.events = []
+        told = self.ask("Page.navigate", url=address)
+        if "errorText" in told:
+            raise Failed(f"{address}: {told['errorText']}")
+        until = time.monotonic() + LIMIT
+        while "Page.loadEventFired" not in self.events:
+            self.keep(self.receive(until))
 
     def settle(self):
         """Waits until what is due has been drawn."""

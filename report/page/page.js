@@ -29,6 +29,7 @@ function startNotes() {
   if (report.wrongCount) made.push(`${plural(report.wrongCount, "line")} of the log ${report.wrongCount === 1 ? "is" : "are"} wrong: ${report.wrong.slice(0, 12).map(count).join(", ")}${report.wrongCount > 12 ? " .." : ""}.`);
   if (report.leftOut) made.push(`This page holds the first ${count(report.held)} of ${plural(report.held + report.leftOut, "message")}; the table of what came counts all. --pgn, --from and --to choose others.`);
   if (report.isWhole && report.counts.lines === 0) made.push("The log is empty.");
+  else if (report.isWhole && report.counts.lines === report.counts.passed) made.push("Every line of the log was passed over: its form is another one than that of candump.");
   const long = gaps.length + report.load.moreGaps;
   if (long) made.push(`${plural(long, "time")} an interface has no frame for a second or longer; the longest is ${duration(lastOf(gaps, (it) => it.micros))}.`);
   byId("notes").replaceChildren(...made.map((it) => element("p", { class: "note" }, it)));
