@@ -1,4 +1,4 @@
-"""Chromium without a window, spoken to over its own pipe: it opens pages, presses keys, takes pictures, and tells what its console says."""
+"""Chromium without a window, spoken to over its own pipe: it opens pages, presses keys, takes pictures, and tells what its console says and what it asks for."""
 
 import base64
 import fcntl
@@ -43,11 +43,11 @@ class Browser:
         self.ran = subprocess.Popen(words, close_fds=False, preexec_fn=lambda: (os.dup2(ends[0], 3), os.dup2(ends[1], 4)), start_new_session=True, stdin=subprocess.DEVNULL, stdout=subprocess.DEVNULL, stderr=subprocess.DEVNULL)
         for end in ends:
             os.close(end)
-        self.rest, self.number, self.events, self.said = b"", 0, [], []
+        self.rest, self.number, self.events, self.said, self.asked = b"", 0, [], [], []
         self.session = None
         target = next(it for it in self.ask("Target.getTargets")["targetInfos"] if it["type"] == "page")
         self.session = self.ask("Target.attachToTarget", targetId=target["targetId"], flatten=True)["sessionId"]
-        for domain in ("Page", "Runtime", "Log"):
+        for domain in ("Page", "Runtime", "Log", "Network"):
             self.ask(f"{domain}.enable")
 
     def receive(self, until):
@@ -85,6 +85,8 @@ class Browser:
         if told.get("method") == "Runtime.exceptionThrown":
             details = parameters["exceptionDetails"]
             self.said.append(details.get("exception", {}).get("description", details["text"]))
+        elif told.get("method") == "Network.requestWillBeSent":
+            self.asked.append(parameters["request"]["url"])
         elif told.get("method") == "Log.entryAdded":
             self.said.append(parameters["entry"]["text"])
         elif told.get("method") == "Runtime.consoleAPICalled":
@@ -94,7 +96,7 @@ class Browser:
         """Opens a file, and answers how many seconds it took until its script had run and a picture of it could be shown."""
         # (a page that differs by its place alone isn't loaded again)
         self.load("about:blank")
-        self.said = []
+        self.said, self.asked = [], []
         began = time.monotonic()
         self.load("file://" + urllib.parse.quote(os.path.abspath(path)) + place)
         self.settle()
