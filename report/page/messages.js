@@ -203,7 +203,7 @@ function startFilters() {
   choose("by-from", FROM, address);
   choose("by-to", TO, (value) => (value === ALL ? "FF, to all" : address(value)));
   byId("by-ending").replaceChildren(element("option", { value: "" }, "all"), ...CHOICES.map(([words, test], at) => element("option", { value: at }, `${words} (${count(messages.filter(test).length)})`)));
-  byId("by-order").replaceChildren(...COLUMNS.flatMap(({ name, head }) => [element("option", { value: `${name} 1` }, `${head}, upward`), element("option", { value: `${name} -1` }, `${head}, downward`)]));
+  byId("by-order").replaceChildren(...COLUMNS.flatMap(({ name, head }) => [element("option", { value: `${name} 1` }, `${head} ↑`), element("option", { value: `${name} -1` }, `${head} ↓`)]));
   const form = byId("filters");
   form.addEventListener("submit", (event) => event.preventDefault());
   form.addEventListener("reset", () => setTimeout(filter));
