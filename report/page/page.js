@@ -116,6 +116,13 @@ function showMessage() {
   if (had) byId(byId(had) && !byId(had).disabled ? had : "message-title").focus();
 }
 
+// Puts the message that is open behind the page's name, once no other follows at once: browsers refuse to do so often.
+let placing = 0;
+function place() {
+  clearTimeout(placing);
+  placing = setTimeout(() => history.replaceState(null, "", opened < 0 ? "#" : `#message-${opened + 1}`), 400);
+}
+
 // Opens a message beside the table, or over it where there is no room beside.
 function open(index, isFocused) {
   const isOther = opened !== index;
@@ -126,7 +133,7 @@ function open(index, isFocused) {
   showMessage();
   if (isOther) byId("message").scrollTop = 0;
   if (isFocused || NARROW.matches) byId("message-title").focus();
-  history.replaceState(null, "", `#message-${index + 1}`);
+  place();
   fill();
   redraw();
 }
@@ -138,7 +145,7 @@ function close() {
   byId("message").hidden = true;
   document.body.classList.remove("open");
   byId("main").inert = false;
-  history.replaceState(null, "", "#");
+  place();
   byId("messages").focus({ preventScroll: true });
   fill();
   redraw();
