@@ -22,7 +22,7 @@ function highestWords(load) {
 function drawLoad({ canvas, load, chosen }) {
   const { pen, width } = prepared(canvas, LOAD);
   const most = lastOf(load.cells, (it) => it.frames) || 1;
-  drawGaps(pen, width, 0, LOAD, load.name);
+  drawGaps(pen, width, LOAD, 0, load.name);
   drawTicks(pen, width, LOAD);
   pen.fillStyle = colours.paper;
   pen.fillRect(0, 0, gutter, LOAD);
@@ -109,7 +109,7 @@ function startLoads() {
   else {
     const inPackets = sum((it) => it.transport);
     const swatch = (name) => element("i", { class: `swatch ${name}` });
-    byId("load-said").replaceChildren(swatch("load"), `${plural(inPackets, "frame")} of messages in packets`, swatch("rest"), `${count(sum((it) => it.frames) - inPackets)} others`);
+    byId("load-said").replaceChildren(swatch("load"), `${plural(inPackets, "frame")} of messages in packets`, swatch("rest"), plural(sum((it) => it.frames) - inPackets, "other frame"));
   }
   if (report.load.isCut) byId("loads").append(element("p", { class: "quiet" }, `Of more than ${loads.length} interfaces the others are left out here.`));
 }

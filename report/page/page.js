@@ -31,7 +31,7 @@ function startNotes() {
   if (report.isWhole && report.counts.lines === 0) made.push("The log is empty.");
   else if (report.isWhole && report.counts.lines === report.counts.passed) made.push("Every line of the log was passed over: its form is another one than that of candump.");
   const long = gaps.length + report.load.moreGaps;
-  if (long) made.push(`${plural(long, "time")} an interface has no frame for a second or longer; the longest is ${duration(lastOf(gaps, (it) => it.micros))}.`);
+  if (long) made.push(`${plural(long, "gap")} of a second or longer, in which an interface has no frame; the longest is ${duration(lastOf(gaps, (it) => it.micros))}.`);
   byId("notes").replaceChildren(...made.map((it) => element("p", { class: "note" }, it)));
 }
 

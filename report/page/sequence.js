@@ -91,7 +91,7 @@ function drawStep(step, y, [left, right]) {
     return group;
   }
   if (step.kind === "pause") {
-    group.append(drawn("path", { class: "pause", d: `M${left} ${y - 26} V${y + 2} M${right} ${y - 26} V${y + 2}` }), drawn("text", { x: middle, y: y - 8, "text-anchor": "middle", class: "faint" }, `${step.text} without one of these frames`));
+    group.append(drawn("path", { class: "silence", d: `M${left} ${y - 26} V${y + 2} M${right} ${y - 26} V${y + 2}` }), drawn("text", { x: middle, y: y - 8, "text-anchor": "middle", class: "faint" }, `${step.text} without one of these frames`));
     return group;
   }
   if (step.kind.startsWith("remark")) {

@@ -63,17 +63,17 @@ const lanes = (() => {
 const scale = (width) => (width - gutter - 14) / (view.to - view.from);
 const xOf = (at, width) => gutter + (at - view.from) * scale(width);
 
-// The silences of the interface, or of all.
-function drawGaps(pen, width, top, height, name) {
+// The silences of an interface; where there is room, how long each is.
+function drawGaps(pen, width, height, top, name) {
   if (!isTimed) return;
   pen.fillStyle = colours.gap;
   for (const gap of gaps) {
-    if (name !== undefined && gap.name !== name) continue;
+    if (gap.name !== name) continue;
     const from = Math.max(gutter, xOf(gap.from, width));
     const to = Math.min(width, xOf(gap.from + gap.micros, width));
     if (to - from < 1) continue;
     pen.fillRect(from, top, to - from, height);
-    if (to - from > 90 && height >= ROW) {
+    if (to - from > 110 && height > ROW) {
       pen.fillStyle = colours.quiet;
       pen.textAlign = "center";
       pen.fillText(`no frame for ${duration(gap.micros)}`, (from + to) / 2, top + height / 2);
@@ -194,7 +194,7 @@ function drawTimeline() {
       pen.fillText(lane.heading, 10, y, gutter - 16);
       continue;
     }
-    drawGaps(pen, width, y - ROW / 2, ROW, lane.name);
+    drawGaps(pen, width, ROW, y - ROW / 2, lane.name);
     pen.fillStyle = colours.ink;
     pen.fillText(lane.label, 10, y);
     pen.fillStyle = colours.quiet;
