@@ -120,7 +120,13 @@ function showMessage() {
 let placing = 0;
 function place() {
   clearTimeout(placing);
-  placing = setTimeout(() => history.replaceState(null, "", opened < 0 ? "#" : `#message-${opened + 1}`), 400);
+  placing = setTimeout(() => {
+    try {
+      history.replaceState(null, "", opened < 0 ? "#" : `#message-${opened + 1}`);
+    } catch (refused) {
+      // The page does without: its name then leads to no message.
+    }
+  }, 400);
 }
 
 // Opens a message beside the table, or over it where there is no room beside.
