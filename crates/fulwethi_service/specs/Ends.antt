@@ -7,8 +7,8 @@ use Rattle.live_segment.specs.LiveView.{LiveView, SameLive, Attached, OpenedFor,
 use Rattle.live_segment.specs.Refusals.{attaching_refusal}
 use Rattle.live_segment.specs.Reports.{ClosedFor, IsCloseCause}
 use Rattle.live_segment.specs.declared.closing.Closed.{Closed}
-use Rattle.live_parts.specs.declared.refused.NotMade.{NotMade}
-use Rattle.live_parts.specs.declared.refused.NotMade.TheVariants.{Refused, OutOfMemory}
+use Rattle.live_segment.specs.declared.refused.NotMade.{NotMade}
+use Rattle.live_segment.specs.declared.refused.NotMade.TheVariants.{Refused, OutOfMemory}
 use Rattle.fulwethi_service.specs.declared.desk.Desk.{Desk}
 use Rattle.fulwethi_service.specs.declared.post.Post.{Post}
 

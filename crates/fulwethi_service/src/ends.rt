@@ -2,7 +2,7 @@
 ghost use Rattle.std.specs.Prelude.{◌≡◌, ◌<◌, ◌≤◌, ◌+◌, ℕ, Some, IsSome, MatchOption, length, drop};
 ghost use Rattle.live_segment.specs.LiveView.{IsOpenCause, clients_at};
 ghost use Rattle.live_segment.specs.Refusals.{attaching_refusal};
-ghost use Rattle.live_parts.specs.declared.refused.NotMade.TheVariants.{OutOfMemory};
+ghost use Rattle.live_segment.specs.declared.refused.NotMade.TheVariants.{OutOfMemory};
 ghost use Rattle.c_parts.specs.Codes.{value_code};
 ghost use Rattle.c_parts.specs.Reads.{read_pgn};
 ghost use Rattle.fulwethi_service.specs.declared.post.Post.{Post};

@@ -12,14 +12,14 @@ use Rattle.segment_law.specs.declared.reply.Reply.TheVariants.{Refused, Done}
 use Rattle.reply_law.specs.Replies.{reply_of, opens}
 use Rattle.segment_rings.specs.Views.{SeatView, DoorView, new_door}
 use Rattle.stored_calls.specs.declared.stored.Stored.{Stored}
-use Rattle.live_parts.specs.declared.call.Owed.{Owed}
-use Rattle.live_parts.specs.declared.call.WorkerCall.{WorkerCall}
-use Rattle.live_parts.specs.declared.call.WorkerCall.TheVariants.{Pump, Transmit, Take, TakeAgain, Overrun, Tick, Fire, Cancel, Inject, Pause, Resume}
-use Rattle.live_parts.specs.Words.{call_of, wanted_by}
-use Rattle.live_parts.specs.Record.{settle_notes, trail, stored}
-use Rattle.live_parts.specs.Facts.{IdsFrom, note_all, give_all}
-use Rattle.live_parts.specs.Places.{times, LacksPlace, IsFound}
-use Rattle.live_segment.specs.LiveView.{client_of, port_of, door_free, PortView, live_view, NoPlace, Applied, SparesClosed, calls_after, port_after, clients_after, told_clients, Kept}
+use Rattle.live_segment.specs.declared.call.Owed.{Owed}
+use Rattle.live_segment.specs.declared.call.WorkerCall.{WorkerCall}
+use Rattle.live_segment.specs.declared.call.WorkerCall.TheVariants.{Pump, Transmit, Take, TakeAgain, Overrun, Tick, Fire, Cancel, Inject, Pause, Resume}
+use Rattle.live_segment.specs.Words.{call_of, wanted_by}
+use Rattle.live_segment.specs.Record.{settle_notes, trail}
+use Rattle.live_segment.specs.Facts.{IdsFrom, note_all, give_all}
+use Rattle.live_segment.specs.Places.{times, LacksPlace, IsFound}
+use Rattle.live_segment.specs.LiveView.{stored, client_of, port_of, door_free, PortView, live_view, NoPlace, Applied, SparesClosed, calls_after, port_after, clients_after, told_clients, Kept}
 use Rattle.live_segment.proofs.Telling.{ports_told, clients_told, ports_untold, clients_untold}
 
 -- no place was found for what is wanted

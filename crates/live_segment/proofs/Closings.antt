@@ -11,11 +11,11 @@ use Rattle.reply_law.specs.Replies.{reply_of}
 use Rattle.segment_rings.specs.Ends.{InboxEnd, closes}
 use Rattle.segment_rings.specs.Views.{SeatView, DoorView}
 use Rattle.stored_calls.specs.declared.stored.Stored.{Stored}
-use Rattle.live_parts.specs.declared.call.Owed.{Owed}
+use Rattle.live_segment.specs.declared.call.Owed.{Owed}
 use Rattle.live_segment.specs.declared.closing.Closed.{Closed}
-use Rattle.live_parts.specs.Record.{given, trail, stored}
-use Rattle.live_parts.specs.Facts.{Holds}
-use Rattle.live_segment.specs.LiveView.{LiveView, PortView, live_view, stored_calls, client_of, port_of, calls_after, told_clients, Kept}
+use Rattle.live_segment.specs.Record.{given, trail}
+use Rattle.live_segment.specs.Facts.{Holds}
+use Rattle.live_segment.specs.LiveView.{LiveView, PortView, live_view, stored_calls, client_of, port_of, stored, calls_after, told_clients, Kept}
 use Rattle.live_segment.specs.Reports.{HasPort, InboxAgrees, CloseMade, ClosedFor, closing}
 use Rattle.live_segment.proofs.Laws.{pushed_at, has_port}
 use Rattle.live_segment.proofs.Viewed.{door_within}

@@ -9,14 +9,14 @@ use Rattle.live_segment.specs.declared.report.ClientReport.{ClientReport}
 use Rattle.live_segment.specs.declared.report.InboxReport.{InboxReport}
 use Rattle.segment_rings.specs.Ends.{ClientEnd, InboxEnd}
 use Rattle.live_segment.specs.Reports.{HasPort, IsClientReport, IsInboxReport, AreClientReports, AreInboxReports}
-use Rattle.live_parts.proofs.Doors.{none_at, same_port-refl}
+use Rattle.live_segment.proofs.Doors.{none_at, same_port-refl}
 use Rattle.stored_calls.specs.declared.stored.Stored.{Stored}
 use Rattle.segment_rings.specs.declared.words.Note.{Note}
-use Rattle.live_parts.specs.declared.call.Owed.{Owed}
+use Rattle.live_segment.specs.declared.call.Owed.{Owed}
 use Rattle.segment_rings.specs.Views.{SeatView, DoorView, new_door}
-use Rattle.live_parts.specs.Record.{accepted, given, notes_of, trail}
-use Rattle.live_parts.specs.Facts.{IdsFrom, PopsAccepted, HasNotes, PushesNotes, PushesGiven, NoneAt, Holds, HaveSenders, seat_station}
-use Rattle.live_parts.specs.Past.{HasPast}
+use Rattle.live_segment.specs.Record.{accepted, given, notes_of, trail}
+use Rattle.live_segment.specs.Facts.{IdsFrom, PopsAccepted, HasNotes, PushesNotes, PushesGiven, NoneAt, Holds, HaveSenders, seat_station}
+use Rattle.live_segment.specs.Past.{HasPast}
 use Rattle.live_segment.specs.LiveView.{LiveView, ClientView, PortView, live_view, client_of, port_of, stations_of, Laws, Kept}
 
 popped : (n c : ℕ) (xs : List Stored) (ss : List SeatView) (v : ClientView) → c < length ss → IdsFrom n ss → PopsAccepted xs ss → (get_or (map client_of ss) c v).popped ≡ accepted (n + c) xs

@@ -16,11 +16,11 @@ use Rattle.reply_law.specs.Replies.{reply_of}
 use Rattle.segment_rings.specs.Ends.{InboxEnd, new_inbox_end}
 use Rattle.segment_rings.specs.Views.{SeatView, DoorView, new_door}
 use Rattle.stored_calls.specs.declared.stored.Stored.{Stored}
-use Rattle.live_parts.specs.declared.refused.NotMade.{NotMade}
-use Rattle.live_parts.specs.declared.refused.NotMade.TheVariants as not_made
-use Rattle.live_parts.specs.Record.{trail, stored}
-use Rattle.live_parts.specs.Past.{count_since}
-use Rattle.live_segment.specs.LiveView.{LiveView, live_view, port_of, new_port_view, IsOpenCause, OpenedFor, Kept}
+use Rattle.live_segment.specs.declared.refused.NotMade.{NotMade}
+use Rattle.live_segment.specs.declared.refused.NotMade.TheVariants as not_made
+use Rattle.live_segment.specs.Record.{trail}
+use Rattle.live_segment.specs.Past.{count_since}
+use Rattle.live_segment.specs.LiveView.{LiveView, live_view, port_of, new_port_view, stored, IsOpenCause, OpenedFor, Kept}
 
 pub refused_reply : (st : Segment) (c : Refusal) (x : Answer) → Some c ≡ refusal_of x → Refused c ≡ (replied st x).1
 refused_reply st c (Ok step) e = absurd (cc)

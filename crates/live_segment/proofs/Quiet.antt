@@ -8,14 +8,14 @@ use Rattle.segment_law.specs.declared.reply.Reply.TheVariants.{Done}
 use Rattle.reply_law.specs.Replies.{reply_of, left_by, Follows}
 use Rattle.segment_rings.specs.Views.{SeatView, DoorView}
 use Rattle.stored_calls.specs.declared.stored.Stored.{Stored}
-use Rattle.live_parts.specs.declared.call.Owed.{Owed}
-use Rattle.live_parts.specs.declared.call.WorkerCall.{WorkerCall}
-use Rattle.live_parts.specs.Words.{call_of}
-use Rattle.live_parts.specs.Record.{trail, stored}
-use Rattle.live_parts.specs.Facts.{IdsFrom, HaveRoom, OwedWithin, note_all, give_all, Holds}
-use Rattle.live_segment.specs.LiveView.{live_view, client_of, port_of, Applied, Kept}
-use Rattle.live_parts.proofs.Seats.{note_all_none}
-use Rattle.live_parts.proofs.Doors.{give_all_none}
+use Rattle.live_segment.specs.declared.call.Owed.{Owed}
+use Rattle.live_segment.specs.declared.call.WorkerCall.{WorkerCall}
+use Rattle.live_segment.specs.Words.{call_of}
+use Rattle.live_segment.specs.Record.{trail}
+use Rattle.live_segment.specs.Facts.{IdsFrom, HaveRoom, OwedWithin, note_all, give_all, Holds}
+use Rattle.live_segment.specs.LiveView.{stored, live_view, client_of, port_of, Applied, Kept}
+use Rattle.live_segment.proofs.Seats.{note_all_none}
+use Rattle.live_segment.proofs.Doors.{give_all_none}
 use Rattle.live_segment.proofs.Telling.{ports_untold, clients_untold}
 use Rattle.live_segment.proofs.Applying.{spares_none}
 use Rattle.live_segment.proofs.Holding.{holds-tell}

@@ -10,12 +10,12 @@ use Rattle.reply_law.specs.Replies.{EachAt, EachShort, expected}
 use Rattle.reply_law.proofs.Gives.{none_short}
 use Rattle.segment_rings.specs.declared.words.Delivery.{Delivery}
 use Rattle.segment_rings.specs.Views.{DoorView}
-use Rattle.live_parts.specs.declared.call.WorkerCall.{WorkerCall}
-use Rattle.live_parts.specs.declared.call.WorkerCall.TheVariants.{Pump, Transmit, Take, TakeAgain, Overrun, Tick, Fire, Cancel, Inject, Pause, Resume}
-use Rattle.live_parts.specs.Words.{call_of, wanted_by}
-use Rattle.live_parts.specs.Record.{given}
+use Rattle.live_segment.specs.declared.call.WorkerCall.{WorkerCall}
+use Rattle.live_segment.specs.declared.call.WorkerCall.TheVariants.{Pump, Transmit, Take, TakeAgain, Overrun, Tick, Fire, Cancel, Inject, Pause, Resume}
+use Rattle.live_segment.specs.Words.{call_of, wanted_by}
+use Rattle.live_segment.specs.Record.{given}
 use Rattle.live_segment.specs.LiveView.{port_of, SparesClosed}
-use Rattle.live_parts.specs.Places.{times, HasPlaces, HavePlaces, TakesAll, AtLeast, EnoughFor, IsFound}
+use Rattle.live_segment.specs.Places.{times, HasPlaces, HavePlaces, TakesAll, AtLeast, EnoughFor, IsFound}
 
 same_address : (a b : Address) → a.0 ≡ b.0 → a ≡ b
 same_address a b e = λ i. record { 0 = e i }

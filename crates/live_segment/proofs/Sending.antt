@@ -19,18 +19,17 @@ use Rattle.segment_rings.specs.declared.words.Submission.{Submission}
 use Rattle.segment_rings.specs.declared.words.Note.{Note}
 use Rattle.segment_rings.specs.Views.{SeatView, DoorView, popped_one}
 use Rattle.stored_calls.specs.declared.stored.Stored.{Stored}
-use Rattle.live_parts.specs.declared.call.Owed.{Owed}
-use Rattle.live_parts.specs.Record.{accepted, owed_by, settle_notes, settle_owed, owe, Trail, trail, step, stored}
-use Rattle.live_parts.specs.Facts.{IdsFrom, HaveRoom, OwedWithin, PopsAccepted, PushesNotes, PushesGiven, Holds, NotedWithin, HaveSenders, seat_station}
-use Rattle.live_parts.specs.Past.{count_since}
-use Rattle.live_segment.specs.LiveView.{ClientView, live_view, client_of, port_of, seat_seen, seat_free, Kept}
-use Rattle.live_parts.specs.Offers.{send_call, owed_for, IsCauseFor, LacksRoomToSend}
-use Rattle.live_segment.specs.Acceptance.{popped_client, SentFor, RefusedSend, LacksMemoryFor}
-use Rattle.live_parts.proofs.Doors.{known-more, each-more}
-use Rattle.live_segment.proofs.Shown.{free_is, waits_at}
+use Rattle.live_segment.specs.declared.call.Owed.{Owed}
+use Rattle.live_segment.specs.Record.{accepted, owed_by, settle_notes, settle_owed, owe, Trail, trail, step}
+use Rattle.live_segment.specs.Facts.{IdsFrom, HaveRoom, OwedWithin, PopsAccepted, PushesNotes, PushesGiven, Holds, NotedWithin, HaveSenders, seat_station}
+use Rattle.live_segment.specs.Past.{count_since}
+use Rattle.live_segment.specs.LiveView.{ClientView, live_view, stored, client_of, port_of, seat_seen, seat_free, Kept}
+use Rattle.live_segment.specs.Offers.{send_call, owed_for, popped_client, SentFor, RefusedSend, IsCauseFor, LacksRoomToSend, LacksMemoryFor}
+use Rattle.live_segment.proofs.Doors.{known-more, each-more}
+use Rattle.live_segment.proofs.Fronts.{waits_at, free_is}
 use Rattle.live_segment.proofs.Holding.{stands-more, state-more}
-use Rattle.live_parts.proofs.Seats.{apart, together}
-use Rattle.live_parts.proofs.Trails.{trail-snoc, made-trail, accepted-append, senders-append}
+use Rattle.live_segment.proofs.Seats.{apart, together}
+use Rattle.live_segment.proofs.Trails.{trail-snoc, made-trail, accepted-append, senders-append}
 
 pub owed_by-append : (c : ℕ) (ws : List Owed) (w : Owed) → owed_by c (ws ++ w ∷ []) ≡ owed_by c ws + cond (w.client == c) 1 0
 owed_by-append c [] w = omega arith

@@ -7,12 +7,12 @@ use Rattle.segment_rings.specs.declared.words.Note.{Note}
 use Rattle.segment_rings.specs.declared.words.Delivery.{Delivery}
 use Rattle.segment_rings.specs.Views.{SeatView, DoorView, closed_seat, closed_door, noted_after}
 use Rattle.segment_rings.specs.Ends.{ClientEnd, InboxEnd}
-use Rattle.live_parts.specs.Record.{notes_of}
-use Rattle.live_parts.specs.Facts.{IdsFrom, NoneAt, PortsApart, note_all, give_all}
+use Rattle.live_segment.specs.Record.{notes_of}
+use Rattle.live_segment.specs.Facts.{IdsFrom, NoneAt, PortsApart, note_all, give_all}
 use Rattle.live_segment.specs.LiveView.{ClientView, PortView, client_of, port_of, port_after, clients_after}
 use Rattle.live_segment.specs.Reports.{closing, gone, gone_clients, gone_ports}
-use Rattle.live_parts.proofs.Doors.{none_at, same_port-sym, same_port-refl}
-use Rattle.live_parts.proofs.Seats.{noted_none}
+use Rattle.live_segment.proofs.Doors.{none_at, same_port-sym, same_port-refl}
+use Rattle.live_segment.proofs.Seats.{noted_none}
 
 pub ports_told : (es : List Event) (ds : List DoorView) → map port_of (give_all es ds) ≡ map (port_after es) (map port_of ds)
 ports_told es [] = refl

@@ -1,10 +1,10 @@
 -- A segment of which nothing was cut.
 use Rattle.std.proofs.Common.{◌≡◌, List, [], ◌++◌, length, drop, subst}
 use Rattle.segment_rings.specs.Ends.{ClientEnd}
-use Rattle.live_parts.specs.declared.calls.Piece.{Piece}
+use Rattle.live_segment.specs.declared.calls.Piece.{Piece}
 use Rattle.live_segment.specs.declared.report.ClientReport.{ClientReport}
-use Rattle.live_parts.specs.Record.{accepted}
-use Rattle.live_parts.specs.Past.{joined, since}
+use Rattle.live_segment.specs.Record.{accepted}
+use Rattle.live_segment.specs.Past.{joined, since}
 use Rattle.live_segment.specs.LiveView.{LiveView}
 use Rattle.live_segment.specs.Reports.{IsClientReport}
 

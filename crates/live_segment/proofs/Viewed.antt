@@ -5,13 +5,13 @@ use Rattle.pgn_ids.specs.declared.address.Address.{Address}
 use Rattle.segment_law.specs.Segment.{Segment}
 use Rattle.segment_rings.specs.Views.{SeatView, DoorView}
 use Rattle.stored_calls.specs.declared.stored.Stored.{Stored}
-use Rattle.live_parts.specs.declared.call.Owed.{Owed}
-use Rattle.live_parts.specs.declared.calls.Piece.{Piece}
-use Rattle.live_parts.specs.Facts.{SameDoors, SameSeats, Holds}
-use Rattle.live_parts.specs.Past.{count_since, IsCutImage}
+use Rattle.live_segment.specs.declared.call.Owed.{Owed}
+use Rattle.live_segment.specs.declared.calls.Piece.{Piece}
+use Rattle.live_segment.specs.Facts.{SameDoors, SameSeats, Holds}
+use Rattle.live_segment.specs.Past.{count_since, IsCutImage}
 use Rattle.live_segment.specs.LiveView.{LiveView, live_view, keep, SameLive, port_of}
 use Rattle.live_segment.proofs.Holding.{holds-same}
-use Rattle.live_segment.proofs.ViewsSame.{ports-same, clients-same}
+use Rattle.live_segment.proofs.SeatsSame.{clients-same, ports-same}
 
 -- the invariant, of equal parts
 pub holds_at : (addresses : List Address) (st next : Segment) (xs ys : List Stored) (ps qs : List Piece) (i j : Option Segment) (ws vs : List Owed) (ss ts : List SeatView) (ds es : List DoorView)

@@ -1,6 +1,12 @@
+pub mod Words
+pub mod Record
+pub mod Past
+pub mod PastCode
+pub mod Facts
+pub mod Places
 pub mod LiveView
 pub mod Rejoining
 pub mod Refusals
-pub mod Acceptance
+pub mod Offers
 pub mod Reports
 pub mod Turns

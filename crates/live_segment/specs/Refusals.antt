@@ -5,8 +5,8 @@ use Rattle.segment_law.specs.Segment.{are_addresses}
 use Rattle.segment_law.specs.declared.refusal.Refusal.{Refusal}
 use Rattle.segment_law.specs.declared.refusal.Refusal.TheVariants.{BadAddresses, NoSuchStation, ClientsFull}
 use Rattle.live_segment.specs.LiveView.{LiveView, is_station_of, clients_at}
-use Rattle.live_parts.specs.declared.refused.NotMade.{NotMade}
-use Rattle.live_parts.specs.declared.refused.NotMade.TheVariants.{Refused, OutOfMemory}
+use Rattle.live_segment.specs.declared.refused.NotMade.{NotMade}
+use Rattle.live_segment.specs.declared.refused.NotMade.TheVariants.{Refused, OutOfMemory}
 
 -- what is answered: the first cause; and only where there is none, want of memory
 abbrev pub IsAnsweredBy : (refusal : Option Refusal) → (answered : Option NotMade) → Type 0

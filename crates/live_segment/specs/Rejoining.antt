@@ -8,11 +8,11 @@ use Rattle.segment_law.specs.declared.call.Call.{Call}
 use Rattle.segment_law.specs.declared.refusal.Refusal.{Refusal}
 use Rattle.segment_law.specs.declared.refusal.Refusal.TheVariants.{TraceFull, PiecesDontJoin}
 use Rattle.stored_calls.specs.declared.stored.Stored.{Stored}
-use Rattle.live_parts.specs.declared.calls.Piece.{Piece}
-use Rattle.live_parts.specs.declared.refused.NotMade.{NotMade}
-use Rattle.live_parts.specs.declared.refused.NotMade.TheVariants as not_made
-use Rattle.live_parts.specs.Record.{trail}
-use Rattle.live_parts.specs.Past.{joined, NumberedAfter, IsPastCounts, HasCounts}
+use Rattle.live_segment.specs.declared.calls.Piece.{Piece}
+use Rattle.live_segment.specs.declared.refused.NotMade.{NotMade}
+use Rattle.live_segment.specs.declared.refused.NotMade.TheVariants as not_made
+use Rattle.live_segment.specs.Record.{trail}
+use Rattle.live_segment.specs.Past.{joined, NumberedAfter, IsPastCounts, HasCounts}
 use Rattle.live_segment.specs.LiveView.{LiveView, since_cut}
 
 -- the piece holds the calls that were stored, by the next number, and nothing else changed

@@ -9,13 +9,13 @@ use Rattle.reply_law.specs.Replies.{reply_of}
 use Rattle.segment_rings.specs.declared.words.Submission.{Submission}
 use Rattle.segment_rings.specs.Ends.{ClientEnd, InboxEnd, closes}
 use Rattle.live_segment.specs.declared.closing.Closed.{Closed}
-use Rattle.live_parts.specs.declared.refused.NotMade.{NotMade}
-use Rattle.live_parts.specs.declared.refused.NotMade.TheVariants as not_made
+use Rattle.live_segment.specs.declared.refused.NotMade.{NotMade}
+use Rattle.live_segment.specs.declared.refused.NotMade.TheVariants as not_made
 use Rattle.live_segment.specs.declared.report.ClientReport.{ClientReport}
 use Rattle.live_segment.specs.declared.report.InboxReport.{InboxReport}
-use Rattle.live_parts.specs.Record.{accepted, given, notes_of, trail, stored}
-use Rattle.live_parts.specs.Past.{joined}
-use Rattle.live_segment.specs.LiveView.{LiveView, ClientView, PortView, stored_calls, since_cut, calls_after, told_clients}
+use Rattle.live_segment.specs.Record.{accepted, given, notes_of, trail}
+use Rattle.live_segment.specs.Past.{joined}
+use Rattle.live_segment.specs.LiveView.{LiveView, ClientView, PortView, stored, stored_calls, since_cut, calls_after, told_clients}
 
 -- how many messages of client c were accepted before the last cut
 abbrev pub accepted_before : LiveView → ℕ → ℕ

@@ -10,14 +10,14 @@ use Rattle.segment_law.specs.declared.refusal.Refusal.{Refusal}
 use Rattle.segment_law.specs.declared.refusal.Refusal.TheVariants.{TraceFull}
 use Rattle.segment_law.specs.declared.reply.Reply.{Reply}
 use Rattle.segment_law.specs.declared.reply.Reply.TheVariants.{Opened, Sent, Refused, Done}
-use Rattle.live_parts.specs.declared.call.WorkerCall.{WorkerCall}
-use Rattle.live_parts.specs.declared.call.WorkerCall.TheVariants.{Pump, Transmit, Take, Overrun, Tick, Fire}
-use Rattle.live_parts.specs.declared.refused.Accepted.{Accepted}
-use Rattle.live_parts.specs.declared.refused.Accepted.TheVariants as accepted
+use Rattle.live_segment.specs.declared.call.WorkerCall.{WorkerCall}
+use Rattle.live_segment.specs.declared.call.WorkerCall.TheVariants.{Pump, Transmit, Take, Overrun, Tick, Fire}
+use Rattle.live_segment.specs.declared.refused.Accepted.{Accepted}
+use Rattle.live_segment.specs.declared.refused.Accepted.TheVariants as accepted
 use Rattle.live_segment.specs.declared.turns.Turn.{Turn}
-use Rattle.live_parts.specs.Record.{trail}
+use Rattle.live_segment.specs.Record.{trail}
 use Rattle.live_segment.specs.LiveView.{ClientView, LiveView, SameLive, Applied, LacksMemory, stored_calls}
-use Rattle.live_segment.specs.Acceptance.{AcceptedAs, LacksMemoryFor}
+use Rattle.live_segment.specs.Offers.{AcceptedAs, LacksMemoryFor}
 
 abbrev pub state_of : LiveView → Segment
 state_of v = (trail v.addresses v.calls).state

@@ -4,8 +4,12 @@ ghost use mathlib.Core.List.{IsPrefix};
 ghost use Rattle.segment_rings.specs.Ends.{closes};
 ghost use Rattle.segment_rings.specs.Views.{DoorView, closed_door};
 
+use crate::compare::{begins, copy_deliveries};
 use crate::live::Live;
-use live_parts::{NotMade, begins, copy_deliveries, door_of, make, tell};
+use crate::places::door_of;
+use crate::refused::NotMade;
+use crate::step::make;
+use crate::tell::tell;
 use segment_core::{Call, PortId, Refusal, Reply};
 use segment_rings::{Delivery, Door, Inbox};
 use std::alloc::{AllocError, Global};
@@ -46,7 +50,7 @@ impl Live {
     ghost use Rattle.std.specs.Prelude.{◌≡◌, ◌<◌, length, slice_index_or, IfOk, OnOk, IfErr, OnErr};
     ghost use mathlib.Core.List.{IsPrefix};
     ghost use Rattle.segment_rings.specs.Ends.{with_room_kept};
-    ghost use Rattle.live_parts.specs.Record.{trail, given};
+    ghost use Rattle.live_segment.specs.Record.{trail, given};
     ghost use Rattle.live_segment.specs.LiveView.{PortView, SameLive, stored_calls};
     ghost use Rattle.live_segment.specs.Reports.{CloseMade, ClosedFor, IsCloseCause};
 

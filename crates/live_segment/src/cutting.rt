@@ -1,11 +1,12 @@
 //! A segment hands out the calls that are stored, and goes on.
 ghost use Rattle.std.specs.Prelude.{◌≡◌, length, IfOk, IfErr, OnErr, IsTrue, ◌↔◌};
-ghost use Rattle.live_parts.specs.Record.{trail};
-ghost use Rattle.live_parts.specs.Past.{joined};
+ghost use Rattle.live_segment.specs.Record.{trail};
+ghost use Rattle.live_segment.specs.Past.{joined};
 ghost use Rattle.live_segment.specs.Rejoining.{CutAs, IsCutCause};
 
+use crate::calls::Piece;
 use crate::live::Live;
-use live_parts::{NotMade, Piece};
+use crate::refused::NotMade;
 use segment_core::{Refusal, Segment};
 
 impl Live {

@@ -1,17 +1,19 @@
 //! What is reported once the threads have ended.
 ghost use Rattle.std.specs.Prelude.{◌≡◌, ◌<◌, length, IfOk, OnOk, OnErr, IfErr, IsTrue, ◌↔◌, true, false};
 ghost use mathlib.Core.List.{IsPrefix};
-ghost use Rattle.live_parts.specs.Record.{accepted};
-ghost use Rattle.live_parts.specs.Past.{joined};
+ghost use Rattle.live_segment.specs.Record.{accepted};
+ghost use Rattle.live_segment.specs.Past.{joined};
 ghost use Rattle.live_segment.specs.LiveView.{stored_calls};
 ghost use Rattle.live_segment.specs.Reports.{accepted_before as accepted_before_of, ClientAgrees, InboxAgrees, IsClientReport, IsInboxReport, AreClientReports, AreInboxReports, EachClientAgrees, EachInboxAgrees, Retired};
 
-use crate::live::Live;
-use crate::report::{ClientReport, FinishRefused, InboxReport, Report};
-use live_parts::{
-    Piece, accepted_begin, begins, copy_deliveries, copy_submissions, count_accepted, door_of,
-    notes_begin, pieces_accepted_begin,
+use crate::calls::Piece;
+use crate::compare::{
+    accepted_begin, begins, copy_deliveries, copy_submissions, count_accepted, notes_begin,
+    pieces_accepted_begin,
 };
+use crate::live::Live;
+use crate::places::door_of;
+use crate::report::{ClientReport, FinishRefused, InboxReport, Report};
 use segment_core::PortId;
 use segment_rings::{Client, Inbox};
 use std::alloc::{AllocError, Global};

@@ -8,19 +8,33 @@
 //! again are the calls of its record.
 #![tactic(auto)]
 
+mod call;
+mod calls;
 mod closing;
+mod compare;
 mod cutting;
 mod ending;
+mod hand;
 mod live;
+mod offer;
+mod places;
 mod readers;
+mod refused;
 mod rejoining;
 mod report;
+mod settle;
+mod step;
+mod tell;
 mod turns;
+mod wanted;
 
+pub use call::{Owed, WorkerCall};
+pub use calls::Piece;
 pub use closing::Closed;
 pub use ending::{finish, pieces_begin};
 pub use live::Live;
-pub use live_parts::{Accepted, MOST_CALLS, NotMade, Owed, Piece, WorkerCall};
+pub use offer::MOST_CALLS;
+pub use refused::{Accepted, NotMade};
 pub use rejoining::{RejoinRefused, rejoin};
 pub use report::{ClientReport, FinishRefused, InboxReport, Report};
 pub use segment_core::{Bytes, Event, Events, PortId, Refusal, Reply};

@@ -2,10 +2,14 @@
 ghost use Rattle.std.specs.Prelude.{◌≡◌, ◌≤◌, map, true};
 ghost use Rattle.live_segment.specs.LiveView.{is_station_of, clients_at, client_of};
 
-use live_parts::{
-    Accepted, Calls, Found, NotMade, Owed, Ready, WorkerCall, find_places, make, make_in_place,
-    make_ready, refusal_for, store, tell, wanted_of,
-};
+use crate::call::{Owed, WorkerCall};
+use crate::calls::Calls;
+use crate::offer::{Ready, make_ready, store};
+use crate::places::{Found, find_places};
+use crate::refused::{Accepted, NotMade};
+use crate::step::{make, make_in_place, refusal_for};
+use crate::tell::tell;
+use crate::wanted::wanted_of;
 use pgn_ids::{Address, Pgn};
 use segment_core::{Call, Events, NewRefused, Refusal, Reply, Segment, the_headline_holds};
 use segment_law::Counts;
@@ -38,8 +42,8 @@ pub struct Live {
 
 impl Model for Live {
     ghost use Rattle.live_segment.specs.LiveView.{LiveView, live_view, keep};
-    ghost use Rattle.live_parts.specs.Facts.{Holds};
-    ghost use Rattle.live_parts.specs.Past.{IsCutImage};
+    ghost use Rattle.live_segment.specs.Facts.{Holds};
+    ghost use Rattle.live_segment.specs.Past.{IsCutImage};
 
     ghost Value = { LiveView };
 
@@ -71,9 +75,9 @@ impl Live {
     ghost use Rattle.std.specs.Bool.{OnTrue, OnFalse};
     ghost use Rattle.segment_law.specs.declared.reply.Reply.TheVariants.{Refused, Done};
     ghost use Rattle.segment_law.specs.declared.refusal.Refusal.TheVariants.{TraceFull};
-    ghost use Rattle.live_parts.specs.Record.{trail};
+    ghost use Rattle.live_segment.specs.Record.{trail};
     ghost use Rattle.live_segment.specs.LiveView.{live_view, keep, stored_calls, since_cut, halted, SameLive, Applied, LacksMemory, Attached, Laws, OpenedFor, IsOpenCause};
-    ghost use Rattle.live_segment.specs.Acceptance.{AcceptedAs, LacksMemoryFor};
+    ghost use Rattle.live_segment.specs.Offers.{AcceptedAs, LacksMemoryFor};
     ghost use Rattle.live_segment.specs.Refusals.{IsAnsweredBy, making_refusal, attaching_refusal};
     ghost use Rattle.std.specs.Result.{result_err};
 

@@ -1,11 +1,11 @@
 //! What is read of a shared segment: its clients, what each submitted and was told, and what each port was given.
 ghost use Rattle.std.specs.Prelude.{◌≡◌, ◌≤◌, ◌<◌, length, MatchOption, slice_index_or};
-ghost use Rattle.live_parts.specs.Record.{trail, accepted, given, notes_of};
+ghost use Rattle.live_segment.specs.Record.{trail, accepted, given, notes_of};
 ghost use Rattle.live_segment.specs.LiveView.{ClientView};
 ghost use Rattle.live_segment.specs.Reports.{HasPort};
 
 use crate::live::Live;
-use live_parts::door_of;
+use crate::places::door_of;
 use pgn_ids::Address;
 use segment_core::PortId;
 use segment_rings::{Delivery, Note};

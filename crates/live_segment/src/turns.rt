@@ -2,11 +2,12 @@
 ghost use Rattle.std.specs.Prelude.{◌≡◌, ◌<◌, length};
 ghost use Rattle.segment_law.specs.Segment.{waiting_at};
 ghost use Rattle.segment_law.specs.Readers.{next_pump};
-ghost use Rattle.live_parts.specs.declared.call.WorkerCall.TheVariants.{Overrun as OverrunCall};
+ghost use Rattle.live_segment.specs.declared.call.WorkerCall.TheVariants.{Overrun as OverrunCall};
 ghost use Rattle.live_segment.specs.Turns.{IsNext, is_stuck, point, no_turn, one_more, after_refusal, after_reply, after_accept, Makes, Accepts, AcceptsOne, AcceptsBelow, MakesWhere, PumpsTo, StationTurn, BusTurn, state_of};
 
+use crate::call::WorkerCall;
 use crate::live::Live;
-use live_parts::{Accepted, WorkerCall};
+use crate::refused::Accepted;
 use pgn_ids::Address;
 use segment_core::{Refusal, Reply, Segment};
 

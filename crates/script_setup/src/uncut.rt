@@ -1,8 +1,8 @@
 //! A segment of which nothing was cut.
 ghost use Rattle.std.specs.Prelude.{◌≡◌, []};
 
+use live_segment::{Inbox, Live, NotMade};
 use pgn_ids::{Address, Pgn};
-use segment_shared::{Inbox, Live, NotMade};
 use std::alloc::Global;
 use std::marker::Model;
 use stored_calls::StoredCalls;

@@ -1,7 +1,7 @@
 use Rattle.std.proofs.Common.{◌<◌, ◌++◌, [], length, take, refl, sym, subst, arith}
 use Rattle.segment_law.specs.Segment.{Segment}
 use Rattle.segment_law.specs.declared.reply.Reply.TheVariants.{Done}
-use Rattle.live_parts.specs.Record.{trail}
+use Rattle.live_segment.specs.Record.{trail}
 use Rattle.live_segment.specs.Rejoining.{StandsAfter}
 use Rattle.live_segment.proofs.Replays.{next_more}
 use Rattle.live_segment.proofs.rejoining.make_all.Goals as goal

@@ -11,27 +11,24 @@ use Rattle.reply_law.specs.Replies.{reply_of, left_by, IsRefusal, IsAnsweredBy, 
 use Rattle.segment_law.specs.declared.refusal.Refusal.TheVariants.{TraceFull}
 use Rattle.segment_rings.specs.Views.{SeatView, new_seat, popped_one}
 use Rattle.stored_calls.specs.declared.stored.Stored.{Stored}
-use Rattle.live_parts.specs.declared.call.Owed.{Owed}
-use Rattle.live_parts.specs.declared.calls.Piece.{Piece}
-use Rattle.live_parts.specs.declared.offer.Ready.{Ready}
-use Rattle.live_parts.specs.declared.refused.Accepted.TheVariants as accepted
-use Rattle.live_parts.specs.Record.{owed_by, trail, stored}
-use Rattle.live_parts.specs.Past.{count_since}
-use Rattle.live_parts.specs.Facts.{Holds}
-use Rattle.live_segment.specs.LiveView.{LiveView, seat_free, keep}
-use Rattle.live_parts.specs.Offers.{IsReadyToSend, IsCauseFor, LacksRoomToSend, HasSpace, send_call, owed_for}
-use Rattle.live_segment.specs.Acceptance.{AcceptedAs, LacksMemoryFor}
-use Rattle.live_parts.proofs.Trails.{accepted_le}
-use Rattle.live_parts.proofs.Doors.{same_doors-refl}
-use Rattle.live_segment.proofs.Shown.{none_at, free_is, waits_at, empty_at}
-use Rattle.live_segment.proofs.Holding.{holds-same, same_live}
-use Rattle.live_parts.proofs.Results.{on_err}
+use Rattle.live_segment.specs.declared.call.Owed.{Owed}
+use Rattle.live_segment.specs.declared.calls.Piece.{Piece}
+use Rattle.live_segment.specs.declared.offer.Ready.{Ready}
+use Rattle.live_segment.specs.declared.refused.Accepted.TheVariants as accepted
+use Rattle.live_segment.specs.Record.{owed_by, trail}
+use Rattle.live_segment.specs.Past.{count_since}
+use Rattle.live_segment.specs.Facts.{Holds}
+use Rattle.live_segment.specs.LiveView.{LiveView, seat_free, stored, keep}
+use Rattle.live_segment.specs.Offers.{IsReadyToSend, IsCauseFor, LacksRoomToSend, HasSpace, AcceptedAs, LacksMemoryFor, send_call, owed_for}
+use Rattle.live_segment.proofs.Trails.{accepted_le}
+use Rattle.live_segment.proofs.Doors.{same_doors-refl}
+use Rattle.live_segment.proofs.Fronts.{none_at, empty_at, waits_at, free_is}
+use Rattle.live_segment.proofs.Holding.{holds-same, same_live, on_err}
 use Rattle.live_segment.proofs.Viewed.{holds_at, stays, viewed, still}
-use Rattle.live_parts.proofs.SeatsSame.{same_seats-refl}
-use Rattle.live_segment.proofs.ViewsSame.{clients-same}
+use Rattle.live_segment.proofs.SeatsSame.{same_seats-refl, clients-same}
 use Rattle.live_segment.proofs.Sending.{holds-send, sent_for, refused_send, popped_at, same_front, lacks_memory_for}
 use Rattle.live_segment.proofs.Openings.{refused_reply}
-use Rattle.live_parts.proofs.Refusing.{no_cause}
+use Rattle.live_segment.proofs.Refusing.{no_cause}
 use Rattle.live_segment.proofs.live.Live.accept.Goals as goal
 
 abbrev nobody : SeatView

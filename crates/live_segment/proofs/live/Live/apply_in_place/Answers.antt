@@ -3,9 +3,9 @@ use Rattle.segment_law.specs.Record.{StandsAt}
 use Rattle.segment_law.specs.declared.call.Call.{Call}
 use Rattle.segment_law.specs.declared.reply.Reply.TheVariants.{Done}
 use Rattle.reply_law.specs.Replies.{reply_of, left_by, Follows}
-use Rattle.live_parts.specs.Words.{call_of}
-use Rattle.live_parts.specs.Record.{trail, stored}
-use Rattle.live_segment.specs.LiveView.{keep}
+use Rattle.live_segment.specs.Words.{call_of}
+use Rattle.live_segment.specs.Record.{trail}
+use Rattle.live_segment.specs.LiveView.{stored, keep}
 use Rattle.live_segment.proofs.Quiet.{holds_untold, applied_untold}
 use Rattle.live_segment.proofs.live.Live.apply_in_place.Goals as goal
 

@@ -1,4 +1,4 @@
-use Rattle.live_parts.specs.Past.{count_since}
+use Rattle.live_segment.specs.Past.{count_since}
 use Rattle.std.proofs.Common.{◌≡◌, Bool, ◌<◌, List, [], ◌∷◌, ◌++◌, length, map, true, false, None, refl, sym, ap, ◌∙◌, subst, ◌^◌, ◌+◌}
 use Rattle.std.proofs.lemmas.Bool.{false≢true}
 use Rattle.segment_law.specs.Calls.{called, is_send}
@@ -9,23 +9,21 @@ use Rattle.segment_law.specs.declared.reply.Reply.TheVariants.{Done, Refused}
 use Rattle.reply_law.specs.Replies.{reply_of, left_by, opens, IsRefusal, IsAnsweredBy, Follows}
 use Rattle.segment_rings.specs.Views.{SeatView}
 use Rattle.stored_calls.specs.declared.stored.Stored.{Stored}
-use Rattle.live_parts.specs.declared.call.Owed.{Owed}
-use Rattle.live_parts.specs.declared.wanted.Wanted.{Wanted}
-use Rattle.live_parts.specs.Words.{call_of, wanted_by}
-use Rattle.live_parts.specs.Record.{settle_notes, settle_owed, trail, stored}
-use Rattle.live_parts.specs.Facts.{IdsFrom, HaveRoom, OwedWithin, note_all, Holds, give_all}
-use Rattle.live_parts.specs.Places.{IsFound}
-use Rattle.live_segment.specs.LiveView.{LiveView, Applied, LacksMemory, port_of, SparesClosed, keep, stored_calls}
+use Rattle.live_segment.specs.declared.call.Owed.{Owed}
+use Rattle.live_segment.specs.declared.wanted.Wanted.{Wanted}
+use Rattle.live_segment.specs.Words.{call_of, wanted_by}
+use Rattle.live_segment.specs.Record.{settle_notes, settle_owed, trail}
+use Rattle.live_segment.specs.Facts.{IdsFrom, HaveRoom, OwedWithin, note_all, Holds, give_all}
+use Rattle.live_segment.specs.Places.{IsFound}
+use Rattle.live_segment.specs.LiveView.{LiveView, Applied, LacksMemory, stored, port_of, SparesClosed, keep, stored_calls}
 use Rattle.live_segment.proofs.Applying.{applied_as, answered, refused_as, told_as, given_as, found_false, never_opens, never_sends}
-use Rattle.live_parts.proofs.Doors.{apart-same, give_all_unplaced, same_doors-refl}
+use Rattle.live_segment.proofs.Doors.{apart-same, give_all_unplaced, same_doors-refl}
 use Rattle.live_segment.proofs.Openings.{refused_reply}
 use Rattle.live_segment.proofs.Ready.{found_ready, none_given}
-use Rattle.live_segment.proofs.Lacking.{lacks_memory}
-use Rattle.live_segment.proofs.Holding.{holds-same, holds-tell}
-use Rattle.live_parts.proofs.Results.{on_err}
+use Rattle.live_segment.proofs.Refusing.{lacks_memory}
+use Rattle.live_segment.proofs.Holding.{holds-same, holds-tell, on_err}
 use Rattle.live_segment.proofs.Viewed.{holds_at, stays, viewed, still, few_kept}
-use Rattle.live_parts.proofs.SeatsSame.{same_seats-refl}
-use Rattle.live_segment.proofs.ViewsSame.{ports-same}
+use Rattle.live_segment.proofs.SeatsSame.{same_seats-refl, ports-same}
 use Rattle.live_segment.proofs.live.Live.apply_telling.Goals as goal
 
 pub invariant_of-self-in_err-room : goal.invariant_of-self-in_err-room

@@ -5,8 +5,7 @@ use Rattle.segment_rings.specs.Ends.{ClientEnd, new_client_end}
 use Rattle.segment_rings.specs.Views.{SeatView, DoorView, new_seat}
 use Rattle.stored_calls.specs.declared.stored.Stored.{Stored}
 use Rattle.live_segment.specs.LiveView.{LiveView, ClientView, Attached, Kept, live_view, keep, client_of}
-use Rattle.live_segment.proofs.Holding.{holds-attach}
-use Rattle.live_parts.proofs.Results.{no_ok, on_err}
+use Rattle.live_segment.proofs.Holding.{holds-attach, no_ok, on_err}
 use Rattle.live_segment.proofs.Viewed.{holds_at, viewed}
 use Rattle.live_segment.proofs.live.Live.attach.Goals as goal
 

@@ -4,10 +4,10 @@ use mathlib.Core.List.{IsPrefix}
 use Rattle.port_table.specs.declared.port.PortId.{PortId}
 use Rattle.segment_rings.specs.declared.words.Delivery.{Delivery}
 use Rattle.segment_rings.specs.Views.{DoorView}
-use Rattle.live_parts.specs.Record.{given, trail}
-use Rattle.live_parts.specs.Facts.{NoneAt}
-use Rattle.live_parts.specs.Places.{IsPlaceIn}
-use Rattle.live_parts.specs.Past.{count_since}
+use Rattle.live_segment.specs.Record.{given, trail}
+use Rattle.live_segment.specs.Facts.{NoneAt}
+use Rattle.live_segment.specs.Places.{IsPlaceIn}
+use Rattle.live_segment.specs.Past.{count_since}
 use Rattle.live_segment.specs.LiveView.{live_view, keep}
 use Rattle.live_segment.specs.Reports.{InboxAgrees}
 use Rattle.live_segment.proofs.Closings.{inbox_agrees}

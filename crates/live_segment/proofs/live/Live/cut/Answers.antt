@@ -1,7 +1,7 @@
 use Rattle.std.proofs.Common.{◌≡◌, [], ◌∷◌, ◌++◌, sym, ap, ◌∙◌}
-use Rattle.live_parts.specs.Past.{joined}
-use Rattle.live_parts.specs.Record.{trail}
-use Rattle.live_parts.proofs.Pieces.{joined_push}
+use Rattle.live_segment.specs.Past.{joined}
+use Rattle.live_segment.specs.Record.{trail}
+use Rattle.live_segment.proofs.Pieces.{joined_push}
 use Rattle.live_segment.proofs.live.Live.cut.Goals as goal
 
 pub invariant_of-self : goal.invariant_of-self

@@ -1,9 +1,9 @@
 use Rattle.std.proofs.Common.{List, ap, ◌∙◌, subst}
 use Rattle.port_table.specs.declared.port.PortId.{PortId}
 use Rattle.segment_rings.specs.Views.{DoorView}
-use Rattle.live_parts.specs.Record.{given, trail}
-use Rattle.live_parts.specs.Facts.{NoneAt}
-use Rattle.live_parts.specs.Places.{IsPlaceIn}
+use Rattle.live_segment.specs.Record.{given, trail}
+use Rattle.live_segment.specs.Facts.{NoneAt}
+use Rattle.live_segment.specs.Places.{IsPlaceIn}
 use Rattle.live_segment.proofs.Laws.{pushed_at, has_port, no_port}
 use Rattle.live_segment.proofs.live.Live.given_to.Goals as goal
 

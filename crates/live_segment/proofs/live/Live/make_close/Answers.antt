@@ -7,14 +7,14 @@ use Rattle.segment_law.specs.declared.reply.Reply.TheVariants.{Done, Refused}
 use Rattle.reply_law.specs.Replies.{reply_of, IsRefusal, IsAnsweredBy, Follows}
 use Rattle.segment_rings.specs.Views.{SeatView}
 use Rattle.stored_calls.specs.declared.stored.Stored.{Stored}
-use Rattle.live_parts.specs.declared.call.Owed.{Owed}
-use Rattle.live_parts.specs.Record.{settle_notes, settle_owed, trail, stored}
-use Rattle.live_parts.specs.Facts.{IdsFrom, HaveRoom, OwedWithin, note_all}
-use Rattle.live_segment.specs.LiveView.{LiveView, client_of, port_of, keep, stored_calls}
+use Rattle.live_segment.specs.declared.call.Owed.{Owed}
+use Rattle.live_segment.specs.Record.{settle_notes, settle_owed, trail}
+use Rattle.live_segment.specs.Facts.{IdsFrom, HaveRoom, OwedWithin, note_all}
+use Rattle.live_segment.specs.LiveView.{LiveView, client_of, port_of, stored, keep, stored_calls}
 use Rattle.live_segment.specs.Reports.{CloseMade}
 use Rattle.live_segment.proofs.Applying.{told_as}
 use Rattle.live_segment.proofs.Closings.{close_made}
-use Rattle.live_parts.proofs.Doors.{give_all_unplaced}
+use Rattle.live_segment.proofs.Doors.{give_all_unplaced}
 use Rattle.live_segment.proofs.Telling.{clients_untold}
 use Rattle.live_segment.proofs.Holding.{holds-tell}
 use Rattle.live_segment.proofs.Ready.{none_ready}

@@ -1,7 +1,7 @@
 use Rattle.std.proofs.Common.{◌≡◌, ℕ, ◌+◌, ◌<◌, length, ap, ◌∙◌, arith}
 use Rattle.std.proofs.lemmas.List.{length-map}
 use Rattle.segment_rings.specs.Views.{SeatView}
-use Rattle.live_parts.specs.Record.{notes_of, trail}
+use Rattle.live_segment.specs.Record.{notes_of, trail}
 use Rattle.live_segment.proofs.Laws.{kept_at}
 use Rattle.live_segment.proofs.live.Live.notes_of.Goals as goal
 

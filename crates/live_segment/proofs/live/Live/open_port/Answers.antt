@@ -10,12 +10,11 @@ use Rattle.segment_core.specs.Answers.{refusal_of}
 use Rattle.reply_law.specs.Replies.{reply_of, IsRefusal, IsAnsweredBy, Follows}
 use Rattle.segment_rings.specs.Views.{DoorView, new_door}
 use Rattle.stored_calls.specs.declared.stored.Stored.{Stored}
-use Rattle.live_parts.specs.Record.{trail, stored}
-use Rattle.live_parts.specs.declared.refused.NotMade.{NotMade}
-use Rattle.live_parts.specs.declared.refused.NotMade.TheVariants as not_made
-use Rattle.live_segment.specs.LiveView.{LiveView, keep, IsOpenCause, OpenedFor}
-use Rattle.live_segment.proofs.Holding.{holds-open}
-use Rattle.live_parts.proofs.Results.{on_err}
+use Rattle.live_segment.specs.Record.{trail}
+use Rattle.live_segment.specs.declared.refused.NotMade.{NotMade}
+use Rattle.live_segment.specs.declared.refused.NotMade.TheVariants as not_made
+use Rattle.live_segment.specs.LiveView.{LiveView, stored, keep, IsOpenCause, OpenedFor}
+use Rattle.live_segment.proofs.Holding.{holds-open, on_err}
 use Rattle.live_segment.proofs.Openings.{refused_reply, open_free, open_lacks, open_cause, opened_for, out_of_memory}
 use Rattle.live_segment.proofs.Viewed.{holds_at, unchanged, viewed, few_kept}
 use Rattle.live_segment.proofs.live.Live.open_port.Goals as goal

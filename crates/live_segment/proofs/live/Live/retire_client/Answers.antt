@@ -1,6 +1,6 @@
 use Rattle.std.proofs.Common.{◌≡◌, ◌<◌, get_or, set, map, length, sym, ap, ◌∙◌, subst, arith}
 use Rattle.segment_rings.specs.Views.{SeatView, closed_seat}
-use Rattle.live_parts.specs.Facts.{Holds}
+use Rattle.live_segment.specs.Facts.{Holds}
 use Rattle.live_segment.specs.LiveView.{client_of}
 use Rattle.live_segment.proofs.Holding.{holds-close_seat}
 use Rattle.live_segment.proofs.Telling.{client_gone, none_gone}

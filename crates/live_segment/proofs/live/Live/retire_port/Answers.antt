@@ -1,7 +1,7 @@
 use Rattle.std.proofs.Common.{◌≡◌, get_or, set, map, sym, ap, ◌∙◌, subst, List}
 use Rattle.segment_rings.specs.Views.{DoorView, closed_door}
-use Rattle.live_parts.specs.Facts.{Holds, NoneAt}
-use Rattle.live_parts.specs.Places.{IsPlaceIn}
+use Rattle.live_segment.specs.Facts.{Holds, NoneAt}
+use Rattle.live_segment.specs.Places.{IsPlaceIn}
 use Rattle.live_segment.specs.LiveView.{port_of}
 use Rattle.live_segment.proofs.Holding.{holds-close_door}
 use Rattle.live_segment.proofs.Telling.{ports_closed, ports_unclosed}

@@ -4,8 +4,8 @@ use mathlib.Core.List.{IsPrefix}
 use Rattle.segment_rings.specs.declared.words.Delivery.{Delivery}
 use Rattle.segment_rings.specs.Ends.{InboxEnd, closes}
 use Rattle.segment_rings.specs.Views.{DoorView, new_door}
-use Rattle.live_parts.specs.Record.{given, trail}
-use Rattle.live_parts.specs.Facts.{Holds}
+use Rattle.live_segment.specs.Record.{given, trail}
+use Rattle.live_segment.specs.Facts.{Holds}
 use Rattle.live_segment.specs.LiveView.{LiveView, PortView, port_of, keep}
 use Rattle.live_segment.specs.Reports.{closing}
 use Rattle.live_segment.proofs.Closings.{given_seen, closed_for}
