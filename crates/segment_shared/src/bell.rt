@@ -3,6 +3,9 @@ use std::sync::Wait;
 use std::sync::atomic::{AtomicU64, Ordering};
 use std::time::Duration;
 
+/// A thread sleeps on the low 32 bits of a word.
+const LOW_BITS: u64 = 1 << 32;
+
 /// Wakes all threads that rest by it.
 #[derive(Drop)]
 pub(crate) struct Bell {
@@ -35,7 +38,7 @@ impl Bell {
     pub(crate) fn rest<R: Wait>(&self, rt: &R, heard: u64, ticks: u64) {
         self.resting.fetch_add(1, Ordering::SeqCst);
         self.rung
-            .park_timeout(rt, heard as u32, Duration::from_millis(ticks));
+            .park_timeout(rt, (heard % LOW_BITS) as u32, Duration::from_millis(ticks));
         self.resting.fetch_sub(1, Ordering::SeqCst);
     }
 }
