@@ -111,7 +111,10 @@ fn talk_to_a_foreign_node(
     client: &mut Client,
 ) {
     let hand = Hand::new();
-    got(rt, submitted(rt, client, FOREIGN, FECA, bytes(rt, alloc, 1, 9)));
+    got(
+        rt,
+        submitted(rt, client, FOREIGN, FECA, bytes(rt, alloc, 1, 9)),
+    );
     go_by(rt, shared, &hand, LONG);
     hand.set(1_249);
     go_by(rt, shared, &hand, LONG);
@@ -171,8 +174,7 @@ fn work_station<T: Wait + std::time::Clock>(
         keeper: &hand,
         at: usize::MAX,
     };
-    let tally =
-        clocked_station_worker(rt, shared, station, &gate, &cutting, clock, u64::MAX);
+    let tally = clocked_station_worker(rt, shared, station, &gate, &cutting, clock, u64::MAX);
     board.note(tally.end);
 }
 

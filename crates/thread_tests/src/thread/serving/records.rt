@@ -119,7 +119,11 @@ fn cut_every_seven(rt: &(impl Abort + Wait), shared: &SharedSegment) {
     let bus = cutting_bus_worker(rt, shared, &gate, &cutting, 100);
     same(rt, bus.end, WorkerEnd::Turns);
     same(rt, keeper.pieces(), 14);
-    same(rt, keeper.calls().saturating_add(keeper.stored()), bus.calls);
+    same(
+        rt,
+        keeper.calls().saturating_add(keeper.stored()),
+        bus.calls,
+    );
     cutting.at = 0;
     let station = cutting_station_worker(rt, shared, A, &gate, &cutting, 3);
     same(rt, told(station), (0, WorkerEnd::Turns));
