@@ -24,10 +24,11 @@ pub struct Pace<'a, G> {
 }
 
 impl<G> Pace<'_, G> {
-    // Whether a worker at this turn is ahead of a sender that has messages to submit, or of the other workers on an average.
+    // Whether a worker at this turn is ahead of a sender that has messages to submit, or of the other workers on an average. None is once all are to end.
     fn is_ahead(&self, turn: u64) -> bool {
         let turn = turn.saturating_sub(AHEAD);
         turn > 0
+            && !self.board.stops()
             && (self.board.sent.load(Ordering::SeqCst) < self.senders
                 || self.board.passed.load(Ordering::SeqCst) < turn.saturating_mul(self.workers))
     }

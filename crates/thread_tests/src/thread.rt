@@ -1,4 +1,5 @@
-//! Tests of what threads share: the ends of rings, and a segment under its lock.
+//! Tests of what threads share: the ends of rings, a segment under its lock, and workers that serve for long.
 mod calls;
 mod rings;
+mod serving;
 mod shared;

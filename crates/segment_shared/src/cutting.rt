@@ -1,0 +1,45 @@
+//! Workers hand out the calls that are stored, before no more can be.
+ghost use Rattle.std.specs.Prelude.{◌≡◌, ◌≤◌, IfOk, IfErr, OnErr, MatchOption};
+ghost use Rattle.live_segment.specs.LiveView.{stored_calls};
+ghost use Rattle.live_segment.specs.Rejoining.{CutAs, IsCutCause};
+ghost use Rattle.segment_shared.specs.Cutting.{is_cut_due};
+
+use live_segment::{Live, MOST_CALLS, NotMade, Piece};
+
+/// How many calls a record has as a rule when it is cut: the threads of a program can still make 100,000 while memory for a cut is lacking.
+pub const CUT_AT: usize = 900_000;
+
+/// Who takes the pieces of a record: to keep them, to write them to a file, or to drop them.
+pub trait PieceKeeper {
+    /// Takes a piece. The segment's lock is free meanwhile, so that another worker may hand in a later piece at the same time: each has its number.
+    /// The worker makes no turn until this returns.
+    fn keep(&self, piece: Piece);
+}
+
+/// When a record is cut, and who takes its pieces.
+#[derive(Drop)]
+pub struct Cutting<'a, K> {
+    pub keeper: &'a K,
+    /// How many calls the record has at least when it is cut: 1 to 1,000,000; what is less is taken as 1, what is more as 1,000,000.
+    pub at: usize,
+}
+
+// Whether a record of so many calls is cut.
+fn is_due(calls: usize, at: usize) -> bool
+    ensures { result ≡ is_cut_due calls at }
+{
+    calls > 0 && (calls >= at || calls >= MOST_CALLS)
+}
+
+/// Cuts the record where it has so many calls. That a cut is refused, or finds no memory, changes nothing.
+pub(crate) fn cut_at(live: &mut Live, at: usize) -> Result<Option<Piece>, NotMade>
+    ensures done { IfOk result (λ r. MatchOption r (live.new ≡ live.old) (λ p. CutAs live.old live.new p)) }
+    ensures refused { IfErr result (λ e. IsCutCause live.old e) }
+    ensures err { OnErr result (live.new ≡ live.old) }
+{
+    if !is_due(live.calls().len(), at) {
+        return Ok(None);
+    }
+    let piece = live.cut()?;
+    Ok(Some(piece))
+}

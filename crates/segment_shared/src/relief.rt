@@ -1,0 +1,75 @@
+//! What a station does that finds no memory for what it takes.
+use live_segment::{Live, Reply, Turn, WorkerCall};
+use pgn_ids::Address;
+
+/// How many turns a worker tries in vain to take a frame for want of memory, before its station misses what waits for it.
+pub const MEMORY_TRIES: u64 = 1_000;
+
+/// How many frames a station's queue holds: with so many it takes nothing.
+const QUEUE_LIMIT: usize = 64;
+
+/// Makes the clock go on by so many ticks; how many calls that was.
+pub(crate) fn tick(live: &mut Live, n: u64) -> u64 {
+    match live.apply(WorkerCall::Tick { n }) {
+        Ok(Reply::Done(_)) => 1,
+        Ok(_) | Err(_) => 0,
+    }
+}
+
+// Whether a station has taken nothing in a turn before which frames waited for it, though its queue has a place: then its Take
+// found no memory. A turn frees no place of the queue.
+fn is_starved(live: &Live, station: Address, waited: u64, done: &Turn) -> bool {
+    let segment = live.segment();
+    waited > 0
+        && segment.waiting(station) == waited
+        && segment.queue_len(station) < QUEUE_LIMIT
+        && !done.ended
+}
+
+// Whether nothing is to be done on the segment but that a station takes what waits for it.
+fn rests_but_for(live: &Live, station: Address) -> bool {
+    let segment = live.segment();
+    live
+        .addresses()
+        .iter()
+        .all(|address| segment.queue_len(*address) == 0
+            && segment.next_pump(*address).is_none()
+            && (address.0 == station.0 || segment.waiting(*address) == 0))
+}
+
+// The station misses what waits for it. Where there is no memory for that either, the clock goes on where nothing else makes it go on: it doesn't
+// by itself while a frame waits, and the senders of messages to this station are told of it by their timers.
+fn miss(live: &mut Live, station: Address, is_timed: bool) -> (u64, bool) {
+    let n = live.segment().waiting(station);
+    match live.apply(WorkerCall::Overrun { station, n }) {
+        Ok(Reply::Done(_)) => return (1, true),
+        Ok(_) => return (0, false),
+        Err(_) => {}
+    }
+    if !is_timed && rests_but_for(live, station) {
+        return (tick(live, 1), false);
+    }
+    (0, false)
+}
+
+/// A turn of a station's worker that has tried so many turns in vain to take a frame, and how many it has tried then. `is_timed`: the segment's clock
+/// goes by another.
+pub(crate) fn relieved_turn(
+    live: &mut Live,
+    station: Address,
+    tried: u64,
+    is_timed: bool,
+) -> (Turn, u64) {
+    let waited = live.segment().waiting(station);
+    let mut done = live.station_turn(station);
+    if !is_starved(live, station, waited, &done) {
+        return (done, 0);
+    }
+    let tried = tried.saturating_add(1);
+    if tried < MEMORY_TRIES {
+        return (done, tried);
+    }
+    let (calls, is_missed) = miss(live, station, is_timed);
+    done.calls = done.calls.saturating_add(calls);
+    (done, if is_missed { 0 } else { tried })
+}

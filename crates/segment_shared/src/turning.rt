@@ -1,0 +1,209 @@
+//! The turns of a worker, one after another.
+use crate::clock::Clock;
+use crate::cutting::{Cutting, PieceKeeper, cut_at};
+use crate::relief::{relieved_turn, tick};
+use crate::shared::SharedSegment;
+use crate::workers::{BUS, Gate, Tally, WorkerEnd};
+use live_segment::{Live, MOST_CALLS, NotMade, Piece, Turn};
+use pgn_ids::Address;
+use std::sync::Wait;
+use std::thread;
+
+/// Whose turns a worker makes.
+#[derive(Clone, Copy)]
+pub(crate) enum Whose {
+    Station(Address),
+    Bus,
+}
+
+impl Whose {
+    fn number(self) -> u8 {
+        match self {
+            Whose::Station(station) => station.0,
+            Whose::Bus => BUS,
+        }
+    }
+}
+
+/// A worker: whose turns it makes, the gate that it passes, and, where it cuts the record or goes by a clock, these.
+pub(crate) struct Worker<'a, G, K, C> {
+    pub(crate) whose: Whose,
+    pub(crate) gate: &'a G,
+    pub(crate) cutting: Option<&'a Cutting<'a, K>>,
+    pub(crate) clock: Option<&'a C>,
+}
+
+impl<G, K, C> Drop for Worker<'_, G, K, C> {
+    fn drop(self) {
+        let Worker {
+            whose: _,
+            gate: _,
+            cutting: _,
+            clock: _,
+        } = self;
+    }
+}
+
+/// Keeps no pieces and says no time: of workers that neither cut nor go by a clock.
+#[derive(Drop)]
+pub(crate) struct Nobody {}
+
+impl PieceKeeper for Nobody {
+    fn keep(&self, _piece: Piece) {}
+}
+
+impl Clock for Nobody {
+    fn now(&self) -> u64 {
+        0
+    }
+}
+
+// What came of a turn: its calls, and those among them by which the clock went by another; how often in a row the station found no memory for what
+// it takes; whether the worker waits for others; why it ends, if it does; and what was cut.
+#[derive(Drop)]
+struct Turned {
+    calls: u64,
+    ticks: u64,
+    tried: u64,
+    waits: bool,
+    end: Option<WorkerEnd>,
+    piece: Option<Piece>,
+}
+
+impl Turned {
+    // Nothing was done.
+    fn nothing(tried: u64, end: Option<WorkerEnd>) -> Turned {
+        Turned {
+            calls: 0,
+            ticks: 0,
+            tried,
+            waits: true,
+            end,
+            piece: None,
+        }
+    }
+}
+
+impl<G: Gate, K: PieceKeeper, C: Clock> Worker<'_, G, K, C> {
+    /// Makes so many turns at most. A worker with nothing to do lets other threads run: what it waits for is theirs to do.
+    pub(crate) fn work<R: Wait>(&self, rt: &R, shared: &SharedSegment, turns: u64) -> Tally {
+        let mut calls = 0u64;
+        let mut tried = 0u64;
+        for turn in 0..turns {
+            self.gate.pass(self.whose.number(), turn + 1);
+            let Turned {
+                calls: made,
+                ticks,
+                tried: now_tried,
+                waits,
+                end,
+                piece,
+            } = self.turn_under_lock(rt, shared, tried);
+            tried = now_tried;
+            calls = calls.saturating_add(made);
+            self.hand_over(piece);
+            if let Some(end) = end {
+                return Tally { calls, end };
+            }
+            self.gate
+                .made(self.whose.number(), made.saturating_sub(ticks));
+            if waits {
+                thread::yield_now();
+            }
+        }
+        Tally {
+            calls,
+            end: WorkerEnd::Turns,
+        }
+    }
+
+    // Hands a piece to who keeps it. The lock is free.
+    fn hand_over(&self, piece: Option<Piece>) {
+        if let Some(piece) = piece
+            && let Some(cutting) = self.cutting
+        {
+            cutting.keeper.keep(piece);
+        }
+    }
+
+    // A turn under the lock.
+    fn turn_under_lock<R: Wait>(&self, rt: &R, shared: &SharedSegment, tried: u64) -> Turned {
+        let mut live = shared.lock_for_turn(rt);
+        if live.is_stopped() {
+            return Turned::nothing(tried, Some(WorkerEnd::Stopped));
+        }
+        let (piece, is_past) = self.cut(&mut live);
+        if live.calls().len() >= MOST_CALLS {
+            return Turned::nothing(tried, self.end_if(is_past));
+        }
+        let mut turned = self.turn(&mut live, tried);
+        turned.piece = piece;
+        turned
+    }
+
+    // Cuts the record where that is due; and whether a count would pass its last value. Without memory it is tried again at the next turn.
+    fn cut(&self, live: &mut Live) -> (Option<Piece>, bool) {
+        let Some(cutting) = self.cutting else {
+            return (None, false);
+        };
+        match cut_at(live, cutting.at) {
+            Ok(piece) => (piece, false),
+            Err(NotMade::OutOfMemory) => (None, false),
+            Err(NotMade::Refused(_)) => (None, true),
+        }
+    }
+
+    // Why a worker ends that finds the record full: who cuts doesn't, unless no cut can come.
+    fn end_if(&self, is_past: bool) -> Option<WorkerEnd> {
+        if self.cutting.is_none() || is_past {
+            return Some(WorkerEnd::RecordFull);
+        }
+        None
+    }
+
+    // A turn of a segment whose record has room.
+    fn turn(&self, live: &mut Live, tried: u64) -> Turned {
+        let ticks = self.keep_time(live);
+        let now = live.segment().now();
+        let (done, tried) = self.turn_of(live, tried);
+        let end = if done.ended { self.end_if(false) } else { None };
+        Turned {
+            calls: done.calls.saturating_add(ticks),
+            ticks,
+            tried,
+            waits: done.calls == 0 || live.segment().now() != now,
+            end,
+            piece: None,
+        }
+    }
+
+    // Brings the segment's clock to the one that it goes by; how many calls that takes.
+    fn keep_time(&self, live: &mut Live) -> u64 {
+        let Some(clock) = self.clock else {
+            return 0;
+        };
+        match clock.now().saturating_sub(live.segment().now()) {
+            0 => 0,
+            behind => tick(live, behind),
+        }
+    }
+
+    fn turn_of(&self, live: &mut Live, tried: u64) -> (Turn, u64) {
+        let is_timed = self.clock.is_some();
+        match self.whose {
+            Whose::Station(station) => relieved_turn(live, station, tried, is_timed),
+            Whose::Bus => (self.turn_of_bus(live, is_timed), tried),
+        }
+    }
+
+    // Where the clock goes by another, it doesn't go on by itself.
+    fn turn_of_bus(&self, live: &mut Live, is_timed: bool) -> Turn {
+        if is_timed && live.lowest().is_none() {
+            return Turn {
+                calls: 0,
+                ended: false,
+            };
+        }
+        live.bus_turn()
+    }
+}

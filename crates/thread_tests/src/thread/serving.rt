@@ -1,0 +1,49 @@
+//! Workers that serve for long: how they end, how they cut the record, and the clocks by which they go.
+mod clocks;
+mod records;
+mod stops;
+
+use crate::checks::got;
+use pgn_ids::Address;
+use segment_shared::{Gate, Live, Tally, WorkerEnd};
+use std::alloc::Global;
+use std::process::Abort;
+use std::sync::atomic::{AtomicU64, Ordering};
+
+const A: Address = Address(0x21);
+
+const R: Address = Address(0x35);
+
+// A segment with the stations 21 and 35.
+fn two(rt: &impl Abort, alloc: Global) -> Live {
+    got(rt, Live::new(alloc, &[A, R]))
+}
+
+/// Lets all pass, and counts how often.
+#[derive(Drop)]
+struct Open {
+    passed: AtomicU64,
+}
+
+impl Open {
+    fn new() -> Open {
+        Open {
+            passed: AtomicU64::new(0),
+        }
+    }
+
+    fn passed(&self) -> u64 {
+        self.passed.load(Ordering::SeqCst)
+    }
+}
+
+impl Gate for Open {
+    fn pass(&self, _worker: u8, _turn: u64) {
+        self.passed.fetch_add(1, Ordering::SeqCst);
+    }
+}
+
+// How many calls a worker made, and why it ended.
+fn told(tally: Tally) -> (u64, WorkerEnd) {
+    (tally.calls, tally.end)
+}
