@@ -1,5 +1,5 @@
 //! One relay.
-ghost use Rattle.std.specs.Prelude.{◌≡◌, ◌+◌, ◌≤◌, true, List, [], ◌++◌, length, Some, None, IfOk, OnErr, vec_capacity};
+ghost use Rattle.std.specs.Prelude.{◌≡◌, ◌+◌, ◌≤◌, true, false, List, [], ◌++◌, length, Some, None, IfOk, OnErr, vec_capacity};
 ghost use Rattle.crossbeam_channel.specs.Claims.{view, IsSeatAt};
 ghost use Rattle.crossbeam_channel.specs.Ends.{sends_on, receives_on, ruled_capacity};
 ghost use Rattle.segment_rings.specs.Ends.{ClientEnd, InboxEnd};
@@ -149,15 +149,13 @@ fn run_rounds<R: Threads + Wait + Sync, G: Gate + Sync>(
 )
     requires line { (receives_on receiver.now ≡ sends_on sender.now) × (ruled_capacity (sends_on sender.now) ≡ 16) }
     requires seats { IsSeatAt (sends_on sender.now) puller.old.pass × IsSeatAt (sends_on sender.now) pusher.old.pass }
-    requires may { ((view puller.old.pass).puts ≡ true) × ((view pusher.old.pass).takes ≡ true) }
-    requires within { puller.old.worked.count ≤ terms.now.limit }
-    requires few { pusher.old.worked.count ≤ pusher.old.course.turns }
-    requires begins { puller.old.course.ended ≡ None }
+    requires puller { (view puller.old.pass ≡ log true false [] []) × (puller.old.worked.count ≡ 0) × (puller.old.worked.hand ≡ None) × (puller.old.course.ended ≡ None) }
+    requires pusher { (view pusher.old.pass ≡ log false true [] []) × (pusher.old.worked.count ≡ 0) × (pusher.old.worked.hand ≡ None) }
     ensures seats { IsSeatAt (sends_on sender.now) puller.new.pass × IsSeatAt (sends_on sender.now) pusher.new.pass }
     ensures may { ((view puller.new.pass).puts ≡ true) × ((view pusher.new.pass).takes ≡ true) }
+    ensures pulled { HasPulled inbox.old inbox.new (view puller.new.pass) puller.new.worked }
+    ensures pushed { HasPushed terms.now.to client.old client.new (view pusher.new.pass) pusher.new.worked }
     ensures within { puller.new.worked.count ≤ terms.now.limit }
-    ensures pulled { (start : InboxEnd) → HasPulled start inbox.old (view puller.old.pass) puller.old.worked → HasPulled start inbox.new (view puller.new.pass) puller.new.worked }
-    ensures pushed { (start : ClientEnd) → HasPushed terms.now.to start client.old (view pusher.old.pass) pusher.old.worked → HasPushed terms.now.to start client.new (view pusher.new.pass) pusher.new.worked }
     ensures limit { puller.new.course.ended ≡ Some Limit → puller.new.worked.count ≡ terms.now.limit }
 {
     for _ in 0..u64::MAX {
