@@ -9,13 +9,13 @@ use Rattle.segment_rings.specs.declared.words.Submission.{Submission}
 use Rattle.segment_rings.specs.declared.words.Delivery.{Delivery}
 use Rattle.segment_rings.specs.Ends.{ClientEnd, InboxEnd}
 use Rattle.stored_calls.specs.declared.stored.Stored.{Stored}
-use Rattle.segment_shared.specs.declared.report.ClientReport.{ClientReport}
-use Rattle.segment_shared.specs.declared.report.InboxReport.{InboxReport}
-use Rattle.segment_shared.specs.LiveView.{LiveView}
-use Rattle.segment_shared.proofs.Uncut.{left_uncut}
-use Rattle.segment_shared.specs.Record.{accepted, given, notes_of, trail}
-use Rattle.segment_shared.specs.Reports.{AreClientReports, AreInboxReports}
-use Rattle.segment_shared.proofs.Prefixes.{prefix_length}
+use Rattle.live_segment.specs.declared.report.ClientReport.{ClientReport}
+use Rattle.live_segment.specs.declared.report.InboxReport.{InboxReport}
+use Rattle.live_segment.specs.LiveView.{LiveView}
+use Rattle.live_segment.proofs.Uncut.{left_uncut}
+use Rattle.live_segment.specs.Record.{accepted, given, notes_of, trail}
+use Rattle.live_segment.specs.Reports.{AreClientReports, AreInboxReports}
+use Rattle.live_segment.proofs.Prefixes.{prefix_length}
 use Rattle.port_relay.specs.Relaying.{IsRelayed}
 use Rattle.port_relay.specs.Working.{relayed_to}
 use Rattle.port_relay.specs.declared.relaying.Relayed.{Relayed}

@@ -3,9 +3,9 @@ use Rattle.std.specs.Prelude.{◌≡◌, ℕ, List, [], ◌++◌, cond, Bool, tr
 use Rattle.pgn_ids.specs.declared.address.Address.{Address}
 use Rattle.port_table.specs.declared.port.PortId.{PortId}
 use Rattle.segment_law.specs.Headline.{Headline}
-use Rattle.segment_shared.specs.Record.{Trail, trail}
+use Rattle.live_segment.specs.Record.{Trail, trail}
 use Rattle.stored_calls.specs.declared.stored.Stored.{Stored}
-use Rattle.segment_shared.specs.LiveView.{LiveView, Laws}
+use Rattle.live_segment.specs.LiveView.{LiveView, Laws}
 use Rattle.script_text.specs.Parts.{line}
 use Rattle.script_text.specs.Counts.{relayed_line}
 use Rattle.script_runs.specs.Reading.{Planned}

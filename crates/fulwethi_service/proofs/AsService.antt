@@ -1,8 +1,8 @@
 -- The handle and the parts own what a box at the same types owns.
 use denote.Signature.{Slot, plain}
 use Rattle.std_alloc.proofs.BoxSteps.Form.{Bx}
-use Rattle.segment_shared.specs.contracts.live.Live as Inner
-use Rattle.segment_shared.proofs.live.Live.TheLaws as inner
+use Rattle.live_segment.specs.contracts.live.Live as Inner
+use Rattle.live_segment.proofs.live.Live.TheLaws as inner
 use Rattle.c_parts.proofs.Boxes.{box_of, parts_of}
 use Rattle.fulwethi_service.specs.contracts.service_handle.ServiceHandle as Handle
 

@@ -4,7 +4,7 @@ use Rattle.std.specs.Prelude.{◌==◌, cond, slice_index_or}
 use Rattle.std.specs.Int.{from_bool}
 use Rattle.std.proofs.lemmas.List.{drop_more}
 use Rattle.pgn_ids.specs.declared.address.Address.{Address}
-use Rattle.segment_shared.specs.LiveView.{ClientView, clients_at, new_client}
+use Rattle.live_segment.specs.LiveView.{ClientView, clients_at, new_client}
 
 counted : (b : Bool) → cond {A = ℕ} b 1 0 ≡ from_bool b
 counted true = refl

@@ -1,7 +1,7 @@
 -- One round more.
 use Rattle.std.proofs.Common.{◌≡◌, ℕ, suc, ◌+◌, subst, arith}
 use Rattle.segment_law.specs.Segment.{plus}
-use Rattle.segment_shared.specs.LiveView.{LiveView}
+use Rattle.live_segment.specs.LiveView.{LiveView}
 use Rattle.fulwethi_service.specs.Turned.{IsRound, Rounds}
 
 pub rounds_more : (n : ℕ) (p m q : LiveView) (before last calls : ℕ) → Rounds n p m before → IsRound m q last → calls ≡ plus before last → Rounds (n + 1) p q calls

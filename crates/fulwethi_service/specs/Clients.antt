@@ -7,8 +7,8 @@ use Rattle.segment_law.specs.declared.refusal.Refusal.TheVariants.{RingFull}
 use Rattle.segment_rings.specs.Ends.{ClientEnd, submits, reads, SameClient}
 use Rattle.segment_rings.specs.Submitting.{why_refused}
 use Rattle.segment_rings.specs.declared.words.Note.{Note}
-use Rattle.segment_shared.specs.declared.refused.NotMade.{NotMade}
-use Rattle.segment_shared.specs.declared.refused.NotMade.TheVariants.{Refused, OutOfMemory}
+use Rattle.live_segment.specs.declared.refused.NotMade.{NotMade}
+use Rattle.live_segment.specs.declared.refused.NotMade.TheVariants.{Refused, OutOfMemory}
 use Rattle.fulwethi_service.specs.declared.desk.Desk.{Desk}
 use Rattle.fulwethi_service.specs.declared.shown.CNote.{CNote}
 use Rattle.fulwethi_service.specs.Shown.{shown_note}

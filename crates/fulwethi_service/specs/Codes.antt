@@ -4,8 +4,8 @@ use Rattle.std.specs.declared.alloc.AllocError.{AllocError}
 use Rattle.segment_law.specs.Refusals.{refusal_number}
 use Rattle.segment_law.specs.declared.reply.Reply.{Reply}
 use Rattle.segment_law.specs.declared.reply.Reply.TheVariants.{Opened, Sent, Refused, Done}
-use Rattle.segment_shared.specs.declared.refused.NotMade.{NotMade}
-use Rattle.segment_shared.specs.declared.refused.NotMade.TheVariants as not_made
+use Rattle.live_segment.specs.declared.refused.NotMade.{NotMade}
+use Rattle.live_segment.specs.declared.refused.NotMade.TheVariants as not_made
 use Rattle.fulwethi_service.specs.declared.inboxes.Received.{Received}
 use Rattle.fulwethi_service.specs.declared.inboxes.Received.TheVariants as received
 

@@ -3,12 +3,12 @@ use Rattle.std.specs.Prelude.{◌≡◌, ℕ, [], Option, Some, None, Result, Ok
 use Rattle.pgn_ids.specs.declared.address.Address.{Address}
 use Rattle.segment_law.specs.declared.refusal.Refusal.{Refusal}
 use Rattle.segment_rings.specs.Ends.{ClientEnd, InboxEnd, with_room_kept}
-use Rattle.segment_shared.specs.LiveView.{LiveView, SameLive, Attached, OpenedFor, IsOpenCause}
-use Rattle.segment_shared.specs.Refusals.{attaching_refusal}
-use Rattle.segment_shared.specs.Reports.{ClosedFor, IsCloseCause}
-use Rattle.segment_shared.specs.declared.closing.Closed.{Closed}
-use Rattle.segment_shared.specs.declared.refused.NotMade.{NotMade}
-use Rattle.segment_shared.specs.declared.refused.NotMade.TheVariants.{Refused, OutOfMemory}
+use Rattle.live_segment.specs.LiveView.{LiveView, SameLive, Attached, OpenedFor, IsOpenCause}
+use Rattle.live_segment.specs.Refusals.{attaching_refusal}
+use Rattle.live_segment.specs.Reports.{ClosedFor, IsCloseCause}
+use Rattle.live_segment.specs.declared.closing.Closed.{Closed}
+use Rattle.live_segment.specs.declared.refused.NotMade.{NotMade}
+use Rattle.live_segment.specs.declared.refused.NotMade.TheVariants.{Refused, OutOfMemory}
 use Rattle.fulwethi_service.specs.declared.desk.Desk.{Desk}
 use Rattle.fulwethi_service.specs.declared.post.Post.{Post}
 

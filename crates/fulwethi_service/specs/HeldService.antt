@@ -3,7 +3,7 @@ use base.Fml.{Fml}
 use base.Stored.{Coded}
 use denote.RawPtr.{Ptr}
 use Rattle.std.specs.Global.{Global}
-use Rattle.segment_shared.specs.contracts.live.Live.{the_row}
+use Rattle.live_segment.specs.contracts.live.Live.{the_row}
 use Rattle.c_parts.specs.Held.{HeldOf, coded_of, owns_of}
 
 abbrev pub Held : Type 0

@@ -1,10 +1,10 @@
 -- New services.
 use Rattle.std.specs.Prelude.{◌≡◌, false, List, [], Option, Some, None, Result, Ok, Err}
 use Rattle.pgn_ids.specs.declared.address.Address.{Address}
-use Rattle.segment_shared.specs.LiveView.{LiveView, live_view, keep}
-use Rattle.segment_shared.specs.Refusals.{making_refusal}
-use Rattle.segment_shared.specs.declared.refused.NotMade.{NotMade}
-use Rattle.segment_shared.specs.declared.refused.NotMade.TheVariants.{Refused, OutOfMemory}
+use Rattle.live_segment.specs.LiveView.{LiveView, live_view, keep}
+use Rattle.live_segment.specs.Refusals.{making_refusal}
+use Rattle.live_segment.specs.declared.refused.NotMade.{NotMade}
+use Rattle.live_segment.specs.declared.refused.NotMade.TheVariants.{Refused, OutOfMemory}
 
 -- the handle has a new service; or it is as it was, for the addresses, or else for want of memory
 abbrev pub IsMade : List Address → (old new : Option LiveView) → Result (Unit {0}) NotMade → Type 0

@@ -12,11 +12,11 @@ use Rattle.segment_law.specs.declared.reply.Reply.{Reply}
 use Rattle.segment_law.specs.declared.reply.Reply.TheVariants as reply
 use Rattle.segment_core.specs.Due.{any_due}
 use Rattle.segment_core.specs.Next.{any_work}
-use Rattle.segment_shared.specs.LiveView.{LiveView, SameLive, LacksMemory, Laws}
-use Rattle.segment_shared.specs.Record.{trail}
-use Rattle.segment_shared.specs.Turns.{IsAnswered, IsNext, state_of}
-use Rattle.segment_shared.specs.declared.call.WorkerCall.{WorkerCall}
-use Rattle.segment_shared.specs.declared.call.WorkerCall.TheVariants.{Inject, Overrun, Tick}
+use Rattle.live_segment.specs.LiveView.{LiveView, SameLive, LacksMemory, Laws}
+use Rattle.live_segment.specs.Record.{trail}
+use Rattle.live_segment.specs.Turns.{IsAnswered, IsNext, state_of}
+use Rattle.live_segment.specs.declared.call.WorkerCall.{WorkerCall}
+use Rattle.live_segment.specs.declared.call.WorkerCall.TheVariants.{Inject, Overrun, Tick}
 use Rattle.c_parts.specs.Calls.{IsMadeOn}
 use Rattle.c_parts.specs.Shown.{shown_frame}
 use Rattle.c_parts.specs.declared.shown.CFrame.{CFrame}

@@ -1,12 +1,12 @@
 -- Rounds of the stations' turns.
 use Rattle.std.specs.Prelude.{◌≡◌, ℕ, zero, suc, ◌<◌, ◌≤◌, ◌⊎◌, length, slice_get, MatchOption, Result, OnOk, IfErr}
 use Rattle.segment_law.specs.Segment.{plus}
-use Rattle.segment_shared.specs.LiveView.{LiveView, stored_calls}
-use Rattle.segment_shared.specs.Rejoining.{CutAs, IsCutCause}
-use Rattle.segment_shared.specs.Turns.{StationTurn, point, no_turn}
-use Rattle.segment_shared.specs.declared.calls.Piece.{Piece}
-use Rattle.segment_shared.specs.declared.refused.NotMade.{NotMade}
-use Rattle.segment_shared.specs.declared.turns.Turn.{Turn}
+use Rattle.live_segment.specs.LiveView.{LiveView, stored_calls}
+use Rattle.live_segment.specs.Rejoining.{CutAs, IsCutCause}
+use Rattle.live_segment.specs.Turns.{StationTurn, point, no_turn}
+use Rattle.live_segment.specs.declared.calls.Piece.{Piece}
+use Rattle.live_segment.specs.declared.refused.NotMade.{NotMade}
+use Rattle.live_segment.specs.declared.turns.Turn.{Turn}
 
 -- a turn of the station at place k, if there is one, which made so many calls
 abbrev pub TurnAt : ℕ → (p q : LiveView) → (calls : ℕ) → Type 0

@@ -8,9 +8,9 @@ ghost use Rattle.fulwethi_service.specs.Clients.{cause_of_refusal, OnClient, IsS
 use crate::client_handle::ClientHandle;
 use crate::desk::Desk;
 use crate::shown::{CNote, write_note, write_ticket};
+use live_segment::{Bytes, Client, NotMade, Note, Refusal, SubmitRefused};
 use pgn_ids::{Address, Pgn};
 use segment_rings::submit_refusal;
-use segment_shared::{Bytes, Client, NotMade, Note, Refusal, SubmitRefused};
 use std::alloc::{AllocError, Global};
 
 /// Submits a message, and writes its ticket.

@@ -4,7 +4,7 @@ ghost use Rattle.c_parts.specs.Codes.{value_code};
 ghost use Rattle.fulwethi_service.specs.Codes.{not_made_code, reply_code, clock_code};
 
 use c_parts::{CLOCK_PASSED, DONE, NO_MEMORY, cause_code};
-use segment_shared::{NotMade, Reply};
+use live_segment::{NotMade, Reply};
 use std::alloc::AllocError;
 
 /// The code of a call that isn't made.

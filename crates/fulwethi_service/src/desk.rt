@@ -1,5 +1,5 @@
 //! A client, at a place that was made before it.
-use segment_shared::Client;
+use live_segment::Client;
 
 /// The client is there once its station has it.
 #[derive(Drop)]

@@ -1,8 +1,8 @@
 //! The ends of rings that go to applications: clients, and the inboxes of ports.
 ghost use Rattle.std.specs.Prelude.{◌≡◌, ◌<◌, ◌≤◌, ◌+◌, ℕ, Some, IsSome, MatchOption, length, drop};
-ghost use Rattle.segment_shared.specs.LiveView.{IsOpenCause, clients_at};
-ghost use Rattle.segment_shared.specs.Refusals.{attaching_refusal};
-ghost use Rattle.segment_shared.specs.declared.refused.NotMade.TheVariants.{OutOfMemory};
+ghost use Rattle.live_segment.specs.LiveView.{IsOpenCause, clients_at};
+ghost use Rattle.live_segment.specs.Refusals.{attaching_refusal};
+ghost use Rattle.live_segment.specs.declared.refused.NotMade.TheVariants.{OutOfMemory};
 ghost use Rattle.c_parts.specs.Codes.{value_code};
 ghost use Rattle.c_parts.specs.Reads.{read_pgn};
 ghost use Rattle.fulwethi_service.specs.declared.post.Post.{Post};
@@ -17,8 +17,8 @@ use crate::inbox_handle::InboxHandle;
 use crate::post::Post;
 use crate::service_handle::ServiceHandle;
 use c_parts::read_pgn;
+use live_segment::{Live, MOST_CALLS, NotMade, Refusal};
 use pgn_ids::{Address, Pgn};
-use segment_shared::{Live, MOST_CALLS, NotMade, Refusal};
 use std::alloc::Global;
 use std::collections::VecDeque;
 

@@ -1,8 +1,8 @@
 //! Frames from the bus and for the bus.
 ghost use Rattle.std.specs.Prelude.{◌≡◌, Option, IsSome};
 ghost use Rattle.pgn_ids.specs.declared.address.Address.{Address};
-ghost use Rattle.segment_shared.specs.Turns.{IsNext, state_of};
-ghost use Rattle.segment_shared.specs.declared.call.WorkerCall.TheVariants.{Transmit, Overrun};
+ghost use Rattle.live_segment.specs.Turns.{IsNext, state_of};
+ghost use Rattle.live_segment.specs.declared.call.WorkerCall.TheVariants.{Transmit, Overrun};
 ghost use Rattle.c_parts.specs.Codes.{found_code};
 ghost use Rattle.c_parts.specs.Reads.{read_frame};
 ghost use Rattle.fulwethi_service.specs.Codes.{reply_code};
@@ -11,8 +11,8 @@ ghost use Rattle.fulwethi_service.specs.Served.{IsServed, IsFrameFed, IsFront, I
 use crate::codes::reply_code;
 use crate::service_handle::ServiceHandle;
 use c_parts::{CFrame, DONE, NOTHING, read_frame, show_frame};
+use live_segment::{Live, Reply, WorkerCall};
 use pgn_ids::Address;
-use segment_shared::{Live, Reply, WorkerCall};
 use std::alloc::AllocError;
 
 /// A frame of a node that is no station of the service comes from the bus.

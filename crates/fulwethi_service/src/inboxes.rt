@@ -10,7 +10,7 @@ use crate::inbox_handle::InboxHandle;
 use crate::post::Post;
 use crate::shown::{CMessage, show_delivery};
 use c_parts::{DONE, NO_MEMORY, NOTHING, TOO_LITTLE_ROOM};
-use segment_shared::Delivery;
+use live_segment::Delivery;
 
 /// What became of a call to receive.
 #[derive(Clone, Copy)]

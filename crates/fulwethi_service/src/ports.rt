@@ -1,13 +1,13 @@
 //! The pause of a port.
 ghost use Rattle.std.specs.Prelude.{IsSome};
-ghost use Rattle.segment_shared.specs.declared.call.WorkerCall.TheVariants.{Pause, Resume};
+ghost use Rattle.live_segment.specs.declared.call.WorkerCall.TheVariants.{Pause, Resume};
 ghost use Rattle.fulwethi_service.specs.Codes.{reply_code};
 ghost use Rattle.fulwethi_service.specs.Served.{IsServed, IsAsked};
 
 use crate::codes::reply_code;
 use crate::service_handle::ServiceHandle;
+use live_segment::{PortId, WorkerCall};
 use pgn_ids::Address;
-use segment_shared::{PortId, WorkerCall};
 
 /// Pauses a port of a station.
 #[unsafe(no_mangle)]

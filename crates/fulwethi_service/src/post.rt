@@ -1,5 +1,5 @@
 //! An inbox, with what was taken out of it and isn't copied out yet.
-use segment_shared::{Delivery, Inbox};
+use live_segment::{Delivery, Inbox};
 use std::collections::VecDeque;
 
 /// The inbox is there once its port is open. What comes next is `held`, then `rest`, which its closing handed out, and then the inbox's.

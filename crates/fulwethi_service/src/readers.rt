@@ -1,6 +1,6 @@
 //! What a service counted.
 ghost use Rattle.std.specs.Prelude.{IsSome};
-ghost use Rattle.segment_shared.specs.Turns.{state_of};
+ghost use Rattle.live_segment.specs.Turns.{state_of};
 ghost use Rattle.c_parts.specs.Calls.{IsRead};
 ghost use Rattle.c_parts.specs.Shown.{shown_counts};
 ghost use Rattle.fulwethi_service.specs.Served.{IsServed};

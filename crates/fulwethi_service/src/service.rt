@@ -8,8 +8,8 @@ ghost use Rattle.fulwethi_service.specs.Made.{IsMade};
 
 use crate::codes::made_code;
 use crate::service_handle::ServiceHandle;
+use live_segment::{Live, NotMade, Refusal};
 use pgn_ids::Address;
-use segment_shared::{Live, NotMade, Refusal};
 use std::alloc::Global;
 
 /// How many stations a service has at most.

@@ -4,7 +4,7 @@ ghost use Rattle.fulwethi_service.specs.HeldService.{Held, held_coded, held_owns
 ghost use Rattle.fulwethi_service.specs.Served.{HoldsOf};
 
 use c_parts::Parts;
-use segment_shared::Live;
+use live_segment::Live;
 use std::alloc::Global;
 use std::marker::{Model, Send};
 

@@ -8,7 +8,7 @@ ghost use Rattle.fulwethi_service.specs.Clients.{IsNoteWritten};
 
 use crate::codes::not_made_code;
 use c_parts::{DONE, NO_MEMORY, NOTHING, outcome_number, outcome_reason};
-use segment_shared::{Delivery, NotMade, Note};
+use live_segment::{Delivery, NotMade, Note};
 use std::alloc::AllocError;
 
 /// The outcome of a client's message: that with this ticket, which had this number among all that its station sent to the destination.

@@ -8,7 +8,7 @@ ghost use Rattle.fulwethi_service.specs.Served.{IsServed, IsClocked, IsDueNext, 
 use crate::codes::clock_code;
 use crate::service_handle::ServiceHandle;
 use c_parts::write_tick;
-use segment_shared::{Live, Reply, WorkerCall};
+use live_segment::{Live, Reply, WorkerCall};
 use std::alloc::AllocError;
 
 /// The clock goes on to a tick.

@@ -1,6 +1,6 @@
 //! The turns of the stations.
 ghost use Rattle.std.specs.Prelude.{◌≡◌, IsSome, IfOk, IfErr, length, slice_get};
-ghost use Rattle.segment_shared.specs.Rejoining.{IsCutCause};
+ghost use Rattle.live_segment.specs.Rejoining.{IsCutCause};
 ghost use Rattle.c_parts.specs.Codes.{value_code};
 ghost use Rattle.fulwethi_service.specs.Codes.{not_made_code};
 ghost use Rattle.fulwethi_service.specs.Served.{IsServed};
@@ -8,8 +8,8 @@ ghost use Rattle.fulwethi_service.specs.Turned.{IsTurned, IsRound, TurnsBelow, T
 
 use crate::codes::made_code;
 use crate::service_handle::ServiceHandle;
+use live_segment::{Live, NotMade};
 use pgn_ids::Address;
-use segment_shared::{Live, NotMade};
 
 /// How many calls a record has at most before it is cut: with some room below the 1,000,000 that it can have, since a round makes few.
 const MOST_KEPT: usize = 900_000;

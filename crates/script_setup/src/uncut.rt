@@ -1,8 +1,8 @@
 //! A segment of which nothing was cut.
 ghost use Rattle.std.specs.Prelude.{◌≡◌, []};
 
+use live_segment::{Inbox, Live, NotMade};
 use pgn_ids::{Address, Pgn};
-use segment_shared::{Inbox, Live, NotMade};
 use std::alloc::Global;
 use std::marker::Model;
 use stored_calls::StoredCalls;
@@ -15,7 +15,7 @@ pub struct Uncut {
 
 impl Model for Uncut {
     ghost use Rattle.std.specs.Prelude.{◌≡◌, []};
-    ghost use Rattle.segment_shared.specs.LiveView.{LiveView};
+    ghost use Rattle.live_segment.specs.LiveView.{LiveView};
 
     ghost Value = { LiveView };
 
@@ -27,8 +27,8 @@ impl Model for Uncut {
 impl Uncut {
     ghost use Rattle.std.specs.Prelude.{◌≡◌, [], false, IfOk, IfErr, OnErr};
     ghost use Rattle.std.specs.Result.{result_err};
-    ghost use Rattle.segment_shared.specs.LiveView.{live_view, keep, is_station_of, OpenedFor, IsOpenCause};
-    ghost use Rattle.segment_shared.specs.Refusals.{IsAnsweredBy, making_refusal};
+    ghost use Rattle.live_segment.specs.LiveView.{live_view, keep, is_station_of, OpenedFor, IsOpenCause};
+    ghost use Rattle.live_segment.specs.Refusals.{IsAnsweredBy, making_refusal};
 
     /// A new segment, as `Live::new` makes it.
     pub fn new(alloc: Global, addresses: &[Address]) -> Result<Uncut, NotMade>

@@ -1,5 +1,5 @@
 use Rattle.std.proofs.Common.{◌≡◌, ◌+◌, ◌≤◌, drop}
-use Rattle.segment_shared.specs.LiveView.{clients_at}
+use Rattle.live_segment.specs.LiveView.{clients_at}
 use Rattle.fulwethi_service.proofs.ends.clients_at.Given as goal
 
 abbrev pub invariant-loop-client : goal.invariant-loop-client

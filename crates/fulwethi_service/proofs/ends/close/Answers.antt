@@ -1,6 +1,6 @@
 use Rattle.std.proofs.Common.{◌≡◌, ◌∙◌, refl, sym, subst}
 use Rattle.segment_rings.specs.Ends.{InboxEnd}
-use Rattle.segment_shared.specs.Reports.{ClosedFor}
+use Rattle.live_segment.specs.Reports.{ClosedFor}
 use Rattle.fulwethi_service.proofs.Same.{same}
 use Rattle.fulwethi_service.proofs.ends.close.Goals as goal
 

@@ -1,5 +1,5 @@
 use Rattle.std.proofs.Common.{◌∙◌, ap, sym, ℕ, ◌+◌, drop}
-use Rattle.segment_shared.specs.LiveView.{clients_at}
+use Rattle.live_segment.specs.LiveView.{clients_at}
 use Rattle.fulwethi_service.proofs.Counting.{counts_next}
 use Rattle.fulwethi_service.proofs.ends.count_client.Goals as goal
 

@@ -1,5 +1,5 @@
 use Rattle.std.proofs.Common.{◌∙◌, ap, sym, Some}
-use Rattle.segment_shared.specs.LiveView.{LiveView}
+use Rattle.live_segment.specs.LiveView.{LiveView}
 use Rattle.fulwethi_service.specs.declared.post.Post.{Post}
 use Rattle.fulwethi_service.proofs.ends.fulwethi_raw_service_close.Goals as goal
 

@@ -5,8 +5,8 @@ use denote.Struct.Struct.{exits_of}
 use denote.Struct.Owning.{shape, fields, to}
 use Rattle.std.proofs.alloc.Global.TheSendSync as heap
 use Rattle.std_alloc.proofs.SendSync.{quiet}
-use Rattle.segment_shared.specs.contracts.live.Live as Inner
-use Rattle.segment_shared.proofs.live.Live.TheSendSync as inner
+use Rattle.live_segment.specs.contracts.live.Live as Inner
+use Rattle.live_segment.proofs.live.Live.TheSendSync as inner
 use Rattle.c_parts.proofs.Boxes.{owned_goes}
 use Rattle.fulwethi_service.specs.contracts.service_handle.ServiceHandle.{the_row, the_type}
 

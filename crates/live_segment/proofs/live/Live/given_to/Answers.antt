@@ -1,0 +1,24 @@
+use Rattle.std.proofs.Common.{List, ap, ◌∙◌, subst}
+use Rattle.port_table.specs.declared.port.PortId.{PortId}
+use Rattle.segment_rings.specs.Views.{DoorView}
+use Rattle.live_segment.specs.Record.{given, trail}
+use Rattle.live_segment.specs.Facts.{NoneAt}
+use Rattle.live_segment.specs.Places.{IsPlaceIn}
+use Rattle.live_segment.proofs.Laws.{pushed_at, has_port, no_port}
+use Rattle.live_segment.proofs.live.Live.given_to.Goals as goal
+
+pub returns-in-Some : goal.returns-in-Some
+returns-in-Some c =
+    let k = c.in-Some.k in
+    let q = c.args.port in
+    let ds = c.self.inside.doors.items in
+    let es = (trail c.self.inside.addresses.items c.self.inside.calls.items).events in
+    let p = subst (λ (u : List DoorView). IsPlaceIn u q k) c.as_slice.ensures.value c.in-Some.ensures in
+    let d = c.index.result.now in
+    let e = c.deliveries.ensures ∙ ap (λ (x : DoorView). x.pushed) c.index.ensures ∙ pushed_at k es ds d p.0 c.self.invariant.0.gives ∙ ap (λ (x : PortId). given x es) (p.1 d) in
+    rw (← c.self.view_is) (has_port ds k q p.0 p.1, e)
+
+pub returns-in-None : goal.returns-in-None
+returns-in-None c =
+    let n = subst (λ (u : List DoorView). NoneAt c.args.port u) c.as_slice.ensures.value c.in-None.ensures in
+    rw (← c.self.view_is) (no_port c.self.inside.doors.items c.args.port n)

@@ -1,0 +1,31 @@
+use Rattle.std.proofs.Common.{◌≡◌, get_or, set, map, sym, ap, ◌∙◌, subst, List}
+use Rattle.segment_rings.specs.Views.{DoorView, closed_door}
+use Rattle.live_segment.specs.Facts.{Holds, NoneAt}
+use Rattle.live_segment.specs.Places.{IsPlaceIn}
+use Rattle.live_segment.specs.LiveView.{port_of}
+use Rattle.live_segment.proofs.Holding.{holds-close_door}
+use Rattle.live_segment.proofs.Telling.{ports_closed, ports_unclosed}
+use Rattle.live_segment.proofs.live.Live.retire_port.Goals as goal
+
+pub invariant_of-self : goal.invariant_of-self
+invariant_of-self c =
+    let i = c.self.inside in
+    let k = c.in-Some.k in
+    let ds = i.doors.items in
+    let d = c.index_mut-door.result.now in
+    let e : c.close.new.self ≡ closed_door (get_or ds k d) = c.close.ensures ∙ ap closed_door c.index_mut-door.ensures.value in
+    (subst (λ (u : DoorView). Holds i.addresses.items i.segment i.calls.items i.owed.items i.seats.items (set ds k u)) (sym e) (holds-close_door i.addresses.items i.segment i.calls.items i.owed.items i.seats.items ds k d c.self.invariant.0), c.self.invariant.1)
+
+pub returns-in-Some-clause-ports : goal.returns-in-Some-clause-ports
+returns-in-Some-clause-ports c =
+    let k = c.in-Some.k in
+    let ds = c.self.inside.doors.items in
+    let d = c.index_mut-door.result.now in
+    let e : c.close.new.self ≡ closed_door (get_or ds k d) = c.close.ensures ∙ ap closed_door c.index_mut-door.ensures.value in
+    let here : IsPlaceIn ds c.args.port k = subst (λ (xs : List DoorView). IsPlaceIn xs c.args.port k) c.as_slice.ensures.value c.in-Some.ensures in
+    rw (← c.self.view_is) (ap (λ (u : DoorView). map port_of (set ds k u)) e ∙ ports_closed c.args.port k ds d here.0 (here.1 d) c.self.invariant.0.apart)
+
+pub returns-in_default-clause-ports : goal.returns-in_default-clause-ports
+returns-in_default-clause-ports c =
+    let none : NoneAt c.args.port c.self.inside.doors.items = subst (NoneAt c.args.port) c.as_slice.ensures.value c.in_default.ensures in
+    rw (← c.self.view_is) (sym (ports_unclosed c.args.port c.self.inside.doors.items none))

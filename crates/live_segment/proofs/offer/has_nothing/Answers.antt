@@ -1,0 +1,19 @@
+use Rattle.std.proofs.Common.{subst}
+use Rattle.segment_rings.specs.Views.{SeatView, SameSeat}
+use Rattle.live_segment.proofs.SeatsSame.{same_seats-set}
+use Rattle.live_segment.proofs.offer.has_nothing.Goals as goal
+
+pub returns-in-Empty-clause-same : goal.returns-in-Empty-clause-same
+returns-in-Empty-clause-same c =
+    let s = c.index_mut-seat.result.now in
+    same_seats-set c.args.seats.now.items c.args.k s _ c.requires (subst (λ (x : SeatView). SameSeat x c.offer.new.self) c.index_mut-seat.ensures.value c.offer.ensures.same)
+
+pub returns-in-Owed-clause-same : goal.returns-in-Owed-clause-same
+returns-in-Owed-clause-same c =
+    let s = c.index_mut-seat.result.now in
+    same_seats-set c.args.seats.now.items c.args.k s _ c.requires (subst (λ (x : SeatView). SameSeat x c.offer.new.self) c.index_mut-seat.ensures.value c.offer.ensures.same)
+
+pub returns-in-Ready-clause-same : goal.returns-in-Ready-clause-same
+returns-in-Ready-clause-same c =
+    let s = c.index_mut-seat.result.now in
+    same_seats-set c.args.seats.now.items c.args.k s _ c.requires (subst (λ (x : SeatView). SameSeat x c.offer.new.self) c.index_mut-seat.ensures.value c.offer.ensures.same)

@@ -1,0 +1,24 @@
+use Rattle.std.proofs.Common.{subst}
+use Rattle.segment_rings.specs.Views.{SeatView, SameSeat}
+use Rattle.live_segment.proofs.SeatsSame.{same_seats-set}
+use Rattle.live_segment.proofs.offer.look.Goals as goal
+
+pub returns-then-stored-ge-MOST_CALLS-clause-same : goal.returns-then-stored-ge-MOST_CALLS-clause-same
+returns-then-stored-ge-MOST_CALLS-clause-same c =
+    let s = c.index_mut-seat.result.now in
+    same_seats-set c.args.seats.now.items c.args.k s _ c.requires (subst (λ (x : SeatView). SameSeat x c.offer.new.self) c.index_mut-seat.ensures.value c.offer.ensures.same)
+
+pub returns-in-Empty-clause-same : goal.returns-in-Empty-clause-same
+returns-in-Empty-clause-same c =
+    let s = c.index_mut-seat.result.now in
+    same_seats-set c.args.seats.now.items c.args.k s _ c.requires (subst (λ (x : SeatView). SameSeat x c.offer.new.self) c.index_mut-seat.ensures.value c.offer.ensures.same)
+
+pub returns-in-Owed-clause-same : goal.returns-in-Owed-clause-same
+returns-in-Owed-clause-same c =
+    let s = c.index_mut-seat.result.now in
+    same_seats-set c.args.seats.now.items c.args.k s _ c.requires (subst (λ (x : SeatView). SameSeat x c.offer.new.self) c.index_mut-seat.ensures.value c.offer.ensures.same)
+
+pub returns-else-stored-ge-MOST_CALLS-clause-same : goal.returns-else-stored-ge-MOST_CALLS-clause-same
+returns-else-stored-ge-MOST_CALLS-clause-same c =
+    let s = c.index_mut-seat.result.now in
+    same_seats-set c.args.seats.now.items c.args.k s _ c.requires (subst (λ (x : SeatView). SameSeat x c.offer.new.self) c.index_mut-seat.ensures.value c.offer.ensures.same)

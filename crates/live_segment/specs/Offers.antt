@@ -1,0 +1,135 @@
+-- Whether a submission is accepted, and what its acceptance changes.
+use Rattle.std.specs.Prelude.{◌≡◌, ℕ, ◌+◌, ◌<◌, ◌≤◌, true, false, List, [], ◌∷◌, ◌++◌, length, slice_index_or, slice_index, slice_set, ◌⊎◌, Option, Some, None}
+use mathlib.Core.List.{IsPrefix}
+use Rattle.pgn_ids.specs.declared.address.Address.{Address}
+use Rattle.segment_law.specs.Segment.{Segment}
+use Rattle.segment_law.specs.Calls.{called}
+use Rattle.segment_law.specs.declared.call.Call.{Call}
+use Rattle.segment_law.specs.declared.call.Call.TheVariants.{Send}
+use Rattle.segment_law.specs.declared.refusal.Refusal.{Refusal as Cause}
+use Rattle.segment_law.specs.declared.refusal.Refusal.TheVariants.{TraceFull}
+use Rattle.segment_core.specs.Answers.{refusal_of}
+use Rattle.segment_law.specs.declared.reply.Reply.{Reply}
+use Rattle.segment_law.specs.declared.reply.Reply.TheVariants.{Sent, Refused}
+use Rattle.reply_law.specs.Replies.{reply_of}
+use Rattle.segment_rings.specs.declared.words.Submission.{Submission}
+use Rattle.segment_rings.specs.Views.{SeatView, popped_one}
+use Rattle.stored_calls.specs.declared.stored.Stored.{Stored}
+use Rattle.live_segment.specs.declared.call.Owed.{Owed}
+use Rattle.live_segment.specs.declared.refused.Accepted.{Accepted}
+use Rattle.live_segment.specs.declared.refused.Accepted.TheVariants as accepted
+use Rattle.live_segment.specs.declared.offer.Front.{Front}
+use Rattle.live_segment.specs.declared.offer.Front.TheVariants as front
+use Rattle.live_segment.specs.declared.offer.Ready.{Ready}
+use Rattle.live_segment.specs.declared.offer.Ready.TheVariants as ready
+use Rattle.live_segment.specs.Record.{owed_by, trail}
+use Rattle.live_segment.specs.LiveView.{ClientView, LiveView, SameLive, stored, stored_calls}
+
+-- a submission of the seat is seen in front, and is taken
+abbrev pub IsWaiting : SeatView → Type 0
+IsWaiting s = (s.active ≡ true) × (0 < length s.ahead)
+
+-- what is found of the seat at a place that is owed so many notes, where so many calls are stored
+abbrev pub IsFrontIn : List SeatView → (k owed stored : ℕ) → Front → Type 0
+IsFrontIn ss k owed stored front.Empty = (s : SeatView) → ((slice_index_or ss k s).active ≡ false) ⊎ (length (slice_index_or ss k s).ahead ≡ 0)
+IsFrontIn ss k owed stored front.Owed = (s : SeatView) → IsWaiting (slice_index_or ss k s) × ((slice_index_or ss k s).free ≤ owed)
+IsFrontIn ss k owed stored front.Full = (1000000 ≤ stored) × ((s : SeatView) → IsWaiting (slice_index_or ss k s) × (owed < (slice_index_or ss k s).free))
+IsFrontIn ss k owed stored front.Waits = (stored < 1000000) × ((s : SeatView) → IsWaiting (slice_index_or ss k s) × (owed < (slice_index_or ss k s).free))
+
+abbrev pub send_call : Address → Submission → Call
+send_call from x = Send from x.to x.pgn x.bytes
+
+-- the call sends the submission in front
+abbrev pub IsSendOf : SeatView → Call → Type 0
+IsSendOf s call = (x : Submission) × IsPrefix (x ∷ []) s.ahead × (call ≡ send_call s.station x)
+
+-- the segment would refuse to send the submission in front for this cause, or wouldn't refuse it
+abbrev pub IsCauseFor : Segment → SeatView → Option Cause → Type 0
+IsCauseFor st s cause = (x : Submission) × IsPrefix (x ∷ []) s.ahead × (cause ≡ refusal_of (called st (send_call s.station x)))
+
+-- whether the front submission of client k can be sent where so many calls are stored, and by which call
+abbrev pub IsReadyToSend : Segment → (stored : ℕ) → List Owed → List SeatView → ℕ → Ready → Type 0
+IsReadyToSend st stored ws ss k ready.Empty = IsFrontIn ss k (owed_by k ws) stored front.Empty
+IsReadyToSend st stored ws ss k ready.Owed = IsFrontIn ss k (owed_by k ws) stored front.Owed
+IsReadyToSend st stored ws ss k ready.Full = IsFrontIn ss k (owed_by k ws) stored front.Full
+IsReadyToSend st stored ws ss k (ready.NotSent c) = IsFrontIn ss k (owed_by k ws) stored front.Waits × ((s : SeatView) → IsCauseFor st (slice_index_or ss k s) (Some c))
+IsReadyToSend st stored ws ss k (ready.Send call) = ((stored < 1000000) × ((s : SeatView) → IsWaiting (slice_index_or ss k s) × (owed_by k ws < (slice_index_or ss k s).free) × (owed_by k ws < (slice_index_or ss k s).spare)))
+    × ((s : SeatView) → IsSendOf (slice_index_or ss k s) call)
+
+-- nothing but memory is lacking
+abbrev pub LacksRoomToSend : Segment → (stored : ℕ) → List Owed → List SeatView → ℕ → Type 0
+LacksRoomToSend st stored ws ss k = IsFrontIn ss k (owed_by k ws) stored front.Waits × ((s : SeatView) → IsCauseFor st (slice_index_or ss k s) None)
+
+abbrev pub HasSpace : ℕ → ℕ → Ready → Type 0
+HasSpace n m ready.Empty = Unit {0}
+HasSpace n m ready.Owed = Unit {0}
+HasSpace n m ready.Full = Unit {0}
+HasSpace n m (ready.NotSent c) = Unit {0}
+HasSpace n m (ready.Send call) = n < m
+
+abbrev pub owed_for : ℕ → SeatView → Submission → ℕ → Owed
+owed_for k s x number = record { client = k; ticket = length s.popped + 1; from = s.station; to = x.to; number = number }
+
+-- the submission x in front of the seat s was taken, and is stored and owed
+pub record IsStored (s : SeatView) (k number : ℕ) (x : Submission) (xs ys : List Stored) (ws vs : List Owed) (ss ts : List SeatView) : Type 0 where
+  pub rest : List Submission
+  pub front : s.ahead ≡ x ∷ rest
+  pub calls : ys ≡ xs ++ stored (Some k) (send_call s.station x) ∷ []
+  pub owed : vs ≡ ws ++ owed_for k s x number ∷ []
+  pub seats : ts ≡ slice_set ss k (popped_one s x rest)
+
+-- no client has this number, its submissions are taken no more, or none is seen
+abbrev pub IsEmptyAt : LiveView → ℕ → Type 0
+IsEmptyAt b c = (length b.clients ≤ c) ⊎ (((v : ClientView) → (slice_index_or b.clients c v).active ≡ false) ⊎ (length (slice_index_or b.seen c []) ≡ 0))
+
+-- a submission of the client is seen in front, and is taken
+pub record WaitsAt (b : LiveView) (c : ℕ) : Type 0 where
+  pub within : c < length b.clients
+  pub active : (v : ClientView) → (slice_index_or b.clients c v).active ≡ true
+  pub seen : 0 < length (slice_index_or b.seen c [])
+
+abbrev pub popped_client : ClientView → Submission → ClientView
+popped_client v x = record v { popped = v.popped ++ x ∷ [] }
+
+-- the front submission was taken out of the client's ring, and its Send is stored with the client's id
+pub record SentFor (a b : LiveView) (c n : ℕ) (x : Submission) : Type 0 where
+  pub within : c < length a.clients
+  pub active : (v : ClientView) → (slice_index_or a.clients c v).active ≡ true
+  pub addresses : b.addresses ≡ a.addresses
+  pub stopped : b.stopped ≡ a.stopped
+  pub pieces : b.pieces ≡ a.pieces
+  pub clients : (v : ClientView) → b.clients ≡ slice_set a.clients c (popped_client (slice_index_or a.clients c v) x)
+  pub calls : (v : ClientView) → b.calls ≡ a.calls ++ stored (Some c) (send_call (slice_index_or a.clients c v).station x) ∷ []
+  pub reply : (v : ClientView) → Sent n ≡ reply_of (trail a.addresses a.calls).state (send_call (slice_index_or a.clients c v).station x)
+  pub ports : b.ports ≡ a.ports
+
+-- the segment refused the Send of the submission that is seen in front
+pub record RefusedSend (a b : LiveView) (c : ℕ) (r : Reply) : Type 0 where
+  pub few : stored_calls a < 1000000
+  pub x : Submission
+  pub front : IsPrefix (x ∷ []) (slice_index_or b.seen c [])
+  pub reply : (v : ClientView) → r ≡ reply_of (trail a.addresses a.calls).state (send_call (slice_index_or a.clients c v).station x)
+
+-- why a submission was refused: no more calls can be stored, or else the segment refuses its Send
+abbrev pub IsCause : LiveView → LiveView → ℕ → Reply → Type 0
+IsCause a b c r = ((r ≡ Refused TraceFull) × (1000000 ≤ stored_calls a)) ⊎ RefusedSend a b c r
+
+-- nothing but memory is lacking to send the submission that is seen in front: calls can be stored, its note has a place, and the
+-- segment doesn't refuse its Send
+pub record LacksMemoryFor (a b : LiveView) (c : ℕ) : Type 0 where
+  pub few : stored_calls a < 1000000
+  pub waits : WaitsAt b c
+  pub place : owed_by c (trail a.addresses a.calls).owed < slice_index b.note_free c
+  pub x : Submission
+  pub front : IsPrefix (x ∷ []) (slice_index_or b.seen c [])
+  pub passes : (v : ClientView) → refusal_of (called (trail a.addresses a.calls).state (send_call (slice_index_or a.clients c v).station x)) ≡ None
+
+-- how many messages of the client are without an outcome
+abbrev pub owed_at : LiveView → ℕ → ℕ
+owed_at a c = owed_by c (trail a.addresses a.calls).owed
+
+abbrev pub AcceptedAs : LiveView → LiveView → ℕ → Accepted → Type 0
+AcceptedAs a b c accepted.Empty = SameLive a b × IsEmptyAt b c
+AcceptedAs a b c accepted.Owed = SameLive a b × WaitsAt b c × (slice_index b.note_free c ≤ owed_at a c)
+AcceptedAs a b c (accepted.Refused e) = SameLive a b × WaitsAt b c × (owed_at a c < slice_index b.note_free c) × IsCause a b c (Refused e)
+AcceptedAs a b c (accepted.Sent n) = (x : Submission) × SentFor a b c n x

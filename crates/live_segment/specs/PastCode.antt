@@ -1,0 +1,22 @@
+-- How lists of calls with their pieces are told apart.
+use Rattle.std.specs.Prelude.{ℕ, List, Option, refl}
+use Rattle.std.specs.Coded.{Coded, code_by, coded×, coded_ℕ, coded_list, coded_option}
+use Rattle.segment_law.specs.Segment.{Segment}
+use Rattle.segment_core.specs.SegmentCode.{segment_code}
+use Rattle.stored_calls.specs.declared.stored.Stored.{Stored}
+use Rattle.stored_calls.specs.contracts.stored.Stored as stored
+use Rattle.live_segment.specs.declared.calls.Piece.{Piece}
+use Rattle.live_segment.specs.contracts.calls.Piece as piece
+use Rattle.live_segment.specs.Past.{CallsView}
+
+abbrev Parts : Type 0
+Parts = List Piece × (List Stored × (Option Segment × ℕ))
+
+-- they are told apart by their parts
+abbrev pub calls_code : Coded CallsView
+calls_code =
+    code_by Parts
+    (coded× (coded_list ((piece.the_row).coded)) (coded× (coded_list ((stored.the_row).coded)) (coded× (coded_option segment_code) coded_ℕ)))
+    (λ c. (c.pieces, (c.items, (c.image, c.spare))))
+    (λ p. record { pieces = p.0; items = p.1.0; image = p.1.1.0; spare = p.1.1.1 })
+    (λ _. refl)

@@ -1,0 +1,174 @@
+//! The calls that were made: those that are stored, and the pieces in which those before them were handed out.
+use crate::offer::MOST_CALLS;
+use segment_core::Image;
+use segment_rings::Outlet;
+use std::alloc::{AllocError, Global};
+use std::marker::Model;
+use stored_calls::{Stored, StoredCalls};
+
+/// The calls that were stored between two cuts, each with the client whose message it sends. The pieces of a segment are
+/// numbered from 1.
+#[derive(Debug, Drop)]
+pub struct Piece {
+    pub number: u64,
+    pub calls: StoredCalls,
+}
+
+/// All calls that were made. Those of a piece that was handed out are not kept: contracts alone see them.
+pub(crate) struct Calls {
+    stored: StoredCalls,
+    outlet: Outlet<Piece>,
+    cuts: u64,
+    before: u64,
+    image: Option<Image>,
+}
+
+impl Model for Calls {
+    ghost use Rattle.std.specs.Prelude.{◌≡◌, ◌+◌, ◌<◌, ◌≤◌, ◌^◌, ◌++◌, length};
+    ghost use Rattle.live_segment.specs.Past.{CallsView, joined, NumberedAfter};
+    ghost use Rattle.live_segment.specs.PastCode.{calls_code};
+
+    ghost Value = { CallsView };
+
+    ghost coded = { calls_code };
+
+    ghost view = { λ c. record { pieces = c.outlet; items = joined c.outlet ++ c.stored.items; image = c.image; spare = c.stored.spare } };
+
+    ghost invariant = { λ c. (c.cuts ≡ length c.outlet) × (c.before ≡ length (joined c.outlet)) × (c.before + 1000000 < 2 ^ 64) × (length c.stored.items ≤ 1000000) × NumberedAfter 0 c.outlet };
+}
+
+impl Drop for Calls {
+    fn drop(self) {
+        let Calls {
+            stored: _,
+            outlet: _,
+            cuts: _,
+            before: _,
+            image: _,
+        } = self;
+    }
+}
+
+impl Calls {
+    ghost use Rattle.std.specs.Prelude.{◌≡◌, ◌≤◌, ◌<◌, ◌+◌, ◌^◌, [], ◌∷◌, ◌++◌, length, IfOk, OnOk, IsTrue, IsFalse, ◌↔◌, Some, None};
+    ghost use Rattle.live_segment.specs.Past.{CallsView, joined, since, count_since, HasPast, IsPastCounts, HasCounts};
+
+    /// No calls. It takes memory for what hands pieces out.
+    pub(crate) fn new(alloc: Global) -> Result<Calls, AllocError>
+        ensures items { IfOk result (λ c. c.items ≡ []) }
+        ensures pieces { IfOk result (λ c. c.pieces ≡ []) }
+        ensures image { IfOk result (λ c. c.image ≡ None) }
+    {
+        let outlet = Outlet::new(alloc)?;
+        Ok(Calls {
+            stored: StoredCalls::new(alloc),
+            outlet,
+            cuts: 0,
+            before: 0,
+            image: None,
+        })
+    }
+
+    /// What holds of the pieces and the calls that are stored. It does nothing.
+    pub(crate) fn laws(&self)
+        ensures { HasPast self.now.pieces self.now.items }
+    {
+        let _stored = &self.stored;
+    }
+
+    /// How many pieces were handed out.
+    pub(crate) fn cuts(&self) -> u64
+        ensures { result ≡ length self.now.pieces }
+    {
+        self.cuts
+    }
+
+    /// How many calls are stored.
+    pub(crate) fn len(&self) -> usize
+        ensures { result ≡ count_since self.now.pieces self.now.items }
+    {
+        self.stored.len()
+    }
+
+    /// Whether no more calls can be stored.
+    pub(crate) fn is_full(&self) -> bool
+        ensures full { IsTrue result → 1000000 ≤ count_since self.now.pieces self.now.items }
+        ensures few { IsFalse result → count_since self.now.pieces self.now.items < 1000000 }
+    {
+        self.stored.len() >= MOST_CALLS
+    }
+
+    /// The calls that are stored.
+    pub(crate) fn stored(&self) -> &StoredCalls
+        ensures { result.now.items ≡ since self.now.pieces self.now.items }
+    {
+        &self.stored
+    }
+
+    /// The segment as it stood at the last cut.
+    pub(crate) fn image(&self) -> &Option<Image>
+        ensures { result.now ≡ self.now.image }
+    {
+        &self.image
+    }
+
+    /// Whether one more call has its place in memory.
+    pub(crate) fn has_room(&self) -> bool
+        ensures room { IsTrue result ↔ (0 < self.now.spare) }
+        ensures few { count_since self.now.pieces self.now.items < 1000000 → length self.now.items + 1 < 2 ^ 64 }
+    {
+        self.stored.has_room()
+    }
+
+    /// Makes room for one call more.
+    pub(crate) fn reserve(&mut self) -> Result<(), AllocError>
+        ensures items { self.new.items ≡ self.old.items }
+        ensures pieces { self.new.pieces ≡ self.old.pieces }
+        ensures image { self.new.image ≡ self.old.image }
+        ensures room { OnOk result (0 < self.new.spare) }
+        ensures few { count_since self.old.pieces self.old.items < 1000000 → length self.old.items + 1 < 2 ^ 64 }
+    {
+        self.stored.reserve()
+    }
+
+    /// Stores one call more, for which there is room.
+    // As a rule its caller says which call it is, and so how it is stored.
+    #[inline(always)]
+    pub(crate) fn push_reserved(&mut self, call: Stored)
+        requires room { 0 < self.old.spare }
+        requires few { count_since self.old.pieces self.old.items < 1000000 }
+        ensures items { self.new.items ≡ self.old.items ++ call ∷ [] }
+        ensures pieces { self.new.pieces ≡ self.old.pieces }
+        ensures image { self.new.image ≡ self.old.image }
+    {
+        self.stored.push_reserved(call);
+    }
+
+    /// Whether the number of one more piece, or how many calls can have been made then, would pass the last value of a count.
+    pub(crate) fn is_past_counts(&self) -> bool
+        ensures past { IsTrue result → IsPastCounts self.now.pieces self.now.items }
+        ensures fits { IsFalse result → HasCounts self.now.pieces self.now.items }
+    {
+        self.cuts == u64::MAX
+            || self.before + self.stored.len() as u64 > u64::MAX - MOST_CALLS as u64
+    }
+
+    /// Hands out the calls that are stored, where the segment stands at this image. It takes no memory.
+    pub(crate) fn cut(&mut self, alloc: Global, image: Image) -> Piece
+        requires { HasCounts self.old.pieces self.old.items }
+        ensures number { result.number ≡ length self.old.pieces + 1 }
+        ensures calls { joined self.old.pieces ++ result.calls.items ≡ self.old.items }
+        ensures pieces { self.new.pieces ≡ self.old.pieces ++ result ∷ [] }
+        ensures items { self.new.items ≡ self.old.items }
+        ensures image { self.new.image ≡ Some image }
+    {
+        self.before += self.stored.len() as u64;
+        self.cuts += 1;
+        self.image = Some(image);
+        let calls = std::mem::replace(&mut self.stored, StoredCalls::new(alloc));
+        self.outlet.hand_out(Piece {
+            number: self.cuts,
+            calls,
+        })
+    }
+}

@@ -1,0 +1,49 @@
+//! A segment hands out the calls that are stored, and goes on.
+ghost use Rattle.std.specs.Prelude.{◌≡◌, length, IfOk, IfErr, OnErr, IsTrue, ◌↔◌};
+ghost use Rattle.live_segment.specs.Record.{trail};
+ghost use Rattle.live_segment.specs.Past.{joined};
+ghost use Rattle.live_segment.specs.Rejoining.{CutAs, IsCutCause};
+
+use crate::calls::Piece;
+use crate::live::Live;
+use crate::refused::NotMade;
+use segment_core::{Refusal, Segment};
+
+impl Live {
+    /// Hands out all calls that are stored, and stores the next ones anew. The segment, its clients and its ports go on as if
+    /// nothing had been: what is given, noted and owed is what it would have been.
+    ///
+    /// Refused as `TraceFull` exactly where the piece's number, or the number of all calls that can have been made by the next
+    /// cut, would pass the last value of u64, and else as `OutOfMemory` where memory for the image is refused. These change
+    /// nothing.
+    pub fn cut(&mut self) -> Result<Piece, NotMade>
+        ensures cut { IfOk result (λ p. CutAs self.old self.new p) }
+        ensures refused { IfErr result (λ e. IsCutCause self.old e) }
+        ensures err { OnErr result (self.new ≡ self.old) }
+    {
+        if self.calls.is_past_counts() {
+            return Err(NotMade::Refused(Refusal::TraceFull));
+        }
+        let image = self.segment.image()?;
+        Ok(self.calls.cut(self.alloc, image))
+    }
+
+    /// How many pieces were cut.
+    pub fn cuts(&self) -> u64
+        ensures { result ≡ length self.now.pieces }
+    {
+        self.calls.cuts()
+    }
+
+    // Whether a segment that stands where so many pieces leave it stands where the segment stood at the last cut.
+    pub(crate) fn is_at_cut(&self, segment: &Segment, pieces: &[Piece]) -> bool
+        requires stands { segment.now ≡ (trail self.now.addresses (joined pieces.now)).state }
+        requires count { length pieces.now ≡ length self.now.pieces }
+        ensures { IsTrue result ↔ ((trail self.now.addresses (joined pieces.now)).state ≡ (trail self.now.addresses (joined self.now.pieces)).state) }
+    {
+        match self.calls.image() {
+            Some(image) => image.is_of(segment),
+            None => true,
+        }
+    }
+}

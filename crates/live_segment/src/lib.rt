@@ -1,0 +1,43 @@
+//! One bus with its stations, with the far ends of the rings that lead to each client and each port, for one thread at a time.
+//!
+//! At every moment the segment stands at the record of all calls that were made, and what went through each ring is what this record
+//! says: each client's submissions are its accepted messages, each port's deliveries its given ones, each client's notes the
+//! outcomes of its messages.
+//!
+//! The calls are stored until they are handed out: a segment that is cut goes on from where it stands, and the pieces joined
+//! again are the calls of its record.
+#![tactic(auto)]
+
+mod call;
+mod calls;
+mod closing;
+mod compare;
+mod cutting;
+mod ending;
+mod hand;
+mod live;
+mod offer;
+mod places;
+mod readers;
+mod refused;
+mod rejoining;
+mod report;
+mod settle;
+mod step;
+mod tell;
+mod turns;
+mod wanted;
+
+pub use call::{Owed, WorkerCall};
+pub use calls::Piece;
+pub use closing::Closed;
+pub use ending::{finish, pieces_begin};
+pub use live::Live;
+pub use offer::MOST_CALLS;
+pub use refused::{Accepted, NotMade};
+pub use rejoining::{RejoinRefused, rejoin};
+pub use report::{ClientReport, FinishRefused, InboxReport, Report};
+pub use segment_core::{Bytes, Event, Events, PortId, Refusal, Reply};
+pub use segment_rings::{Client, Delivery, Inbox, Note, Submission, SubmitRefused};
+pub use stored_calls::{Stored, StoredCalls};
+pub use turns::Turn;

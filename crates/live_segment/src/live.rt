@@ -1,0 +1,397 @@
+//! A segment with its stored calls and the far ends of all rings.
+ghost use Rattle.std.specs.Prelude.{◌≡◌, ◌≤◌, map, true};
+ghost use Rattle.live_segment.specs.LiveView.{is_station_of, clients_at, client_of};
+
+use crate::call::{Owed, WorkerCall};
+use crate::calls::Calls;
+use crate::offer::{Ready, make_ready, store};
+use crate::places::{Found, find_places};
+use crate::refused::{Accepted, NotMade};
+use crate::step::{make, make_in_place, refusal_for};
+use crate::tell::tell;
+use crate::wanted::wanted_of;
+use pgn_ids::{Address, Pgn};
+use segment_core::{Call, Events, NewRefused, Refusal, Reply, Segment, the_headline_holds};
+use segment_law::Counts;
+use segment_rings::{Client, Door, Doorway, Inbox, Seat};
+use std::alloc::{AllocError, Global};
+use std::marker::Model;
+use stored_calls::{Stored, StoredCalls};
+
+/// How many clients a station has at most.
+pub const MOST_CLIENTS: usize = 16;
+
+/// How many words stand before what is under a lock: two lines of a processor's cache, which may be fetched as one.
+const WORDS_BEFORE: usize = 16;
+
+/// A segment, the calls that were made on it, and the far ends of its clients' and ports' rings.
+///
+/// Contracts see all calls that were made; in memory are those since the last cut.
+pub struct Live {
+    // The word of the lock lies before these. A thread that tries the lock so doesn't take away from its holder what that works on.
+    before: [u64; WORDS_BEFORE],
+    pub(crate) alloc: Global,
+    pub(crate) addresses: Vec<Address>,
+    pub(crate) segment: Segment,
+    pub(crate) calls: Calls,
+    pub(crate) owed: Vec<Owed>,
+    pub(crate) seats: Vec<Seat>,
+    pub(crate) doors: Vec<Door>,
+    pub(crate) stopped: bool,
+}
+
+impl Model for Live {
+    ghost use Rattle.live_segment.specs.LiveView.{LiveView, live_view, keep};
+    ghost use Rattle.live_segment.specs.Facts.{Holds};
+    ghost use Rattle.live_segment.specs.Past.{IsCutImage};
+
+    ghost Value = { LiveView };
+
+    ghost view = { λ s. live_view (keep s.stopped s.calls.pieces) s.addresses.items s.calls.items s.seats.items s.doors.items };
+
+    ghost invariant = { λ s. Holds s.addresses.items s.segment s.calls.items s.owed.items s.seats.items s.doors.items × IsCutImage s.addresses.items s.calls.pieces s.calls.image };
+}
+
+impl Drop for Live {
+    fn drop(self) {
+        let Live {
+            before: _,
+            alloc: _,
+            addresses: _,
+            segment: _,
+            calls: _,
+            owed: _,
+            seats: _,
+            doors: _,
+            stopped: _,
+        } = self;
+    }
+}
+
+impl Live {
+    ghost use Rattle.std.specs.Prelude.{◌≡◌, ◌≤◌, ◌<◌, [], Bool, true, false, IfOk, OnErr, IfErr, Ok};
+    ghost use Rattle.segment_law.specs.Headline.{Headline};
+    ghost use Rattle.segment_law.specs.Record.{StandsAt};
+    ghost use Rattle.std.specs.Bool.{OnTrue, OnFalse};
+    ghost use Rattle.segment_law.specs.declared.reply.Reply.TheVariants.{Refused, Done};
+    ghost use Rattle.segment_law.specs.declared.refusal.Refusal.TheVariants.{TraceFull};
+    ghost use Rattle.live_segment.specs.Record.{trail};
+    ghost use Rattle.live_segment.specs.LiveView.{live_view, keep, stored_calls, since_cut, halted, SameLive, Applied, LacksMemory, Attached, Laws, OpenedFor, IsOpenCause};
+    ghost use Rattle.live_segment.specs.Offers.{AcceptedAs, LacksMemoryFor};
+    ghost use Rattle.live_segment.specs.Refusals.{IsAnsweredBy, making_refusal, attaching_refusal};
+    ghost use Rattle.std.specs.Result.{result_err};
+
+    /// A new segment with stations of these addresses, no clients and no ports.
+    ///
+    /// Refused as `BadAddresses` exactly where there is no address, one twice, one above 253 or more than 32, and else as
+    /// `OutOfMemory` where memory is refused.
+    pub fn new(alloc: Global, addresses: &[Address]) -> Result<Live, NotMade>
+        ensures ok { IfOk result (λ live. live ≡ live_view (keep false []) addresses.now [] [] []) }
+        ensures refused { IsAnsweredBy (making_refusal addresses.now) (result_err result) }
+    {
+        let segment = match Segment::new(alloc, addresses) {
+            Ok(segment) => segment,
+            Err(NewRefused::BadAddresses) => return Err(NotMade::Refused(Refusal::BadAddresses)),
+            Err(NewRefused::OutOfMemory) => return Err(NotMade::OutOfMemory),
+        };
+        let Ok(addresses) = Vec::from_slice(alloc, addresses) else {
+            return Err(NotMade::OutOfMemory);
+        };
+        let calls = Calls::new(alloc)?;
+        Ok(Live {
+            before: [0; WORDS_BEFORE],
+            alloc,
+            addresses,
+            segment,
+            calls,
+            owed: Vec::new(alloc),
+            seats: Vec::new(alloc),
+            doors: Vec::new(alloc),
+            stopped: false,
+        })
+    }
+
+    /// The segment. It stands at the record of the stored calls.
+    pub fn segment(&self) -> &Segment
+        ensures value { result.now ≡ (trail self.now.addresses self.now.calls).state }
+        ensures stands { StandsAt self.now.addresses (trail self.now.addresses self.now.calls).steps result.now }
+    {
+        &self.segment
+    }
+
+    /// What the segment counted.
+    pub fn counts(&self) -> Counts
+        ensures { result ≡ (trail self.now.addresses self.now.calls).state.counts }
+    {
+        self.segment.counts()
+    }
+
+    /// What went through the rings is what the stored calls say. Each stored Send is of a client of the station that it is from, and any
+    /// other call is nobody's. The headline holds of their record: each port was given the messages of one station to one destination at
+    /// most once, in order, byte for byte, and what was acknowledged was given.
+    pub fn laws(&self)
+        ensures laws { Laws self.now }
+        ensures headline { Headline self.now.addresses (trail self.now.addresses self.now.calls).steps }
+    {
+        // Laws, for the clauses: the calls do nothing.
+        the_headline_holds();
+        self.calls.laws();
+        let _segment = &self.segment;
+    }
+
+    /// The addresses of the stations, in the order in which they were given.
+    pub fn addresses(&self) -> &[Address]
+        ensures { result.now ≡ self.now.addresses }
+    {
+        self.addresses.as_slice()
+    }
+
+    /// Whether an address is that of a station.
+    pub fn has_station(&self, address: Address) -> bool
+        ensures { result ≡ is_station_of self.now.addresses address }
+    {
+        is_station(self.addresses.as_slice(), address)
+    }
+
+    /// The calls that are stored since the last cut.
+    pub fn calls(&self) -> &StoredCalls
+        ensures { result.now.items ≡ since_cut self.now }
+    {
+        self.calls.stored()
+    }
+
+    /// Makes a call, and gives and notes what it tells. `room` is false only where a ring that the call needs has no place
+    /// that is known to be free, or is that of a closed port: such a port is given nothing.
+    ///
+    /// Refused where no more calls can be stored, and then where the segment refuses the call. Want of memory is answered
+    /// only for a call that isn't refused. A refused call and want of memory change nothing.
+    // As a rule its caller says which call it is: what that does in place is then done at once.
+    #[inline(always)]
+    pub fn apply(&mut self, call: WorkerCall) -> Result<Reply, AllocError>
+        ensures full { 1000000 ≤ stored_calls self.old → (result ≡ Ok (Refused TraceFull)) × (self.new ≡ self.old) }
+        ensures applied { stored_calls self.old < 1000000 → IfOk result (λ r. (room : Bool) × Applied self.old self.new call r room) }
+        ensures err { OnErr result (SameLive self.old self.new) }
+        ensures not_refused { OnErr result (LacksMemory self.old call) }
+    {
+        if self.apply_in_place(&call) {
+            return Ok(Reply::Done(Events::none(self.alloc)));
+        }
+        self.apply_tried(call)
+    }
+
+    /// Makes a call as `apply` does, but doesn't try to make it in place first: for who has tried that by `apply_in_place`.
+    #[inline(always)]
+    pub(crate) fn apply_tried(&mut self, call: WorkerCall) -> Result<Reply, AllocError>
+        ensures full { 1000000 ≤ stored_calls self.old → (result ≡ Ok (Refused TraceFull)) × (self.new ≡ self.old) }
+        ensures applied { stored_calls self.old < 1000000 → IfOk result (λ r. (room : Bool) × Applied self.old self.new call r room) }
+        ensures err { OnErr result (SameLive self.old self.new) }
+        ensures not_refused { OnErr result (LacksMemory self.old call) }
+    {
+        if self.calls.is_full() {
+            return Ok(Reply::Refused(Refusal::TraceFull));
+        }
+        self.apply_telling(call)
+    }
+
+    /// Makes and stores a call that tells nothing and ends nothing, where the list of calls has its place, and answers whether it did:
+    /// faster than `apply`, since no reply is made. Any other changes nothing.
+    #[inline(always)]
+    pub(crate) fn apply_in_place(&mut self, call: &WorkerCall) -> bool
+        ensures few { OnTrue result (stored_calls self.old < 1000000) }
+        ensures applied { OnTrue result (Applied self.old self.new call.now (Done []) true) }
+        ensures other { OnFalse result (self.new ≡ self.old) }
+    {
+        if self.calls.is_full() {
+            return false;
+        }
+        if !self.calls.has_room() {
+            return false;
+        }
+        let asked = call.with_room(true);
+        if !make_in_place(&mut self.segment, &asked) {
+            return false;
+        }
+        self.calls.push_reserved(Stored {
+            by: None,
+            call: asked,
+        });
+        true
+    }
+
+    // Any other call.
+    #[inline(never)]
+    fn apply_telling(&mut self, call: WorkerCall) -> Result<Reply, AllocError>
+        requires { stored_calls self.old < 1000000 }
+        ensures applied { IfOk result (λ r. (room : Bool) × Applied self.old self.new call r room) }
+        ensures err { OnErr result (SameLive self.old self.new) }
+        ensures not_refused { OnErr result (LacksMemory self.old call) }
+    {
+        if let Some(refusal) = refusal_for(&self.segment, &call) {
+            return Ok(Reply::Refused(refusal));
+        }
+        self.calls.reserve()?;
+        let Found { room, buffers } = find_places(
+            self.alloc,
+            &mut self.doors,
+            &wanted_of(&self.segment, &call),
+        )?;
+        match make(&mut self.segment, call.with_room(room))? {
+            Reply::Done(events) => {
+                let told = tell(
+                    self.alloc,
+                    &mut self.doors,
+                    &mut self.owed,
+                    &mut self.seats,
+                    buffers,
+                    events,
+                );
+                self.calls.push_reserved(Stored {
+                    by: None,
+                    call: call.with_room(room),
+                });
+                Ok(Reply::Done(told))
+            }
+            Reply::Refused(refusal) => Ok(Reply::Refused(refusal)),
+            Reply::Opened(_) => unreachable!(),
+            Reply::Sent(_) => unreachable!(),
+        }
+    }
+
+    /// Accepts the front submission of a client: its message is sent, and the Send is stored with the client's number.
+    ///
+    /// The first that holds is answered: `Empty` where none is seen or no client has the number, `Owed`, and `Refused` where no
+    /// more calls can be stored or else where the segment refuses the Send. Want of memory is answered only where none of them
+    /// holds. These and want of memory change nothing.
+    pub fn accept(&mut self, client: u64) -> Result<Accepted, AllocError>
+        ensures accepted { IfOk result (λ r. AcceptedAs self.old self.new client r) }
+        ensures err { OnErr result (SameLive self.old self.new) }
+        ensures not_refused { OnErr result (LacksMemoryFor self.old self.new client) }
+    {
+        if client >= self.seats.len() as u64 {
+            return Ok(Accepted::Empty);
+        }
+        let k = client as usize;
+        match make_ready(
+            self.alloc,
+            &self.segment,
+            &mut self.calls,
+            &mut self.owed,
+            &mut self.seats,
+            k,
+        )? {
+            Ready::Empty => Ok(Accepted::Empty),
+            Ready::Owed => Ok(Accepted::Owed),
+            Ready::Full => Ok(Accepted::Refused(Refusal::TraceFull)),
+            Ready::NotSent(refusal) => Ok(Accepted::Refused(refusal)),
+            Ready::Send(call) => match make(&mut self.segment, call)? {
+                Reply::Sent(number) => {
+                    store(&mut self.calls, &mut self.owed, &mut self.seats, k, number);
+                    Ok(Accepted::Sent(number))
+                }
+                Reply::Refused(refusal) => Ok(Accepted::Refused(refusal)),
+                Reply::Opened(_) => unreachable!(),
+                Reply::Done(_) => unreachable!(),
+            },
+        }
+    }
+
+    /// A new client of a station, with empty lists.
+    ///
+    /// Refused as `NoSuchStation` exactly where no station has the address, else as `ClientsFull` where it has 16 clients, and
+    /// else as `OutOfMemory` where memory is refused. These change nothing.
+    pub fn attach(&mut self, station: Address) -> Result<Client, NotMade>
+        ensures attached { IfOk result (λ c. Attached self.old self.new station c) }
+        ensures refused { IsAnsweredBy (attaching_refusal self.old station) (result_err result) }
+        ensures err { OnErr result (self.new ≡ self.old) }
+    {
+        if !is_station(self.addresses.as_slice(), station) {
+            return Err(NotMade::Refused(Refusal::NoSuchStation));
+        }
+        if clients_of(self.seats.as_slice(), station) >= MOST_CLIENTS {
+            return Err(NotMade::Refused(Refusal::ClientsFull));
+        }
+        let id = self.seats.len() as u64;
+        self.seats.reserve(1)?;
+        let (seat, client) = Seat::new(self.alloc, id, station)?;
+        self.seats.push_reserved(seat);
+        Ok(client)
+    }
+
+    /// Opens a port, and gives its inbox.
+    ///
+    /// Refused where the segment refuses the Open, and then where no more calls can be stored. Want of memory is answered only
+    /// where neither holds. These and want of memory change nothing.
+    pub fn open_port(&mut self, station: Address, pgn: Pgn, max_len: u32) -> Result<Inbox, NotMade>
+        ensures opened { IfOk result (λ i. OpenedFor self.old self.new station pgn max_len i) }
+        ensures refused { IfErr result (λ e. IsOpenCause self.old station pgn max_len e) }
+        ensures err { OnErr result (self.new ≡ self.old) }
+    {
+        match self.segment.open_refusal(station) {
+            Some(refusal) => return Err(NotMade::Refused(refusal)),
+            None => {}
+        }
+        if self.calls.is_full() {
+            return Err(NotMade::Refused(Refusal::TraceFull));
+        }
+        let doorway = Doorway::new(self.alloc)?;
+        self.calls.reserve()?;
+        self.doors.reserve(1)?;
+        let call = Call::Open {
+            station,
+            pgn,
+            max_len,
+        };
+        match make(&mut self.segment, call)? {
+            Reply::Opened(port) => {
+                let (door, inbox) = doorway.open(port);
+                self.doors.push_reserved(door);
+                self.calls.push_reserved(Stored {
+                    by: None,
+                    call: Call::Open {
+                        station,
+                        pgn,
+                        max_len,
+                    },
+                });
+                Ok(inbox)
+            }
+            Reply::Refused(refusal) => Err(NotMade::Refused(refusal)),
+            Reply::Sent(_) => unreachable!(),
+            Reply::Done(_) => unreachable!(),
+        }
+    }
+
+    /// The workers are to end.
+    pub fn stop(&mut self)
+        ensures { self.new ≡ halted self.old }
+    {
+        self.stopped = true;
+    }
+
+    /// Whether the workers are to end.
+    pub fn is_stopped(&self) -> bool
+        ensures { result ≡ self.now.stopped }
+    {
+        self.stopped
+    }
+}
+
+// Whether an address is one of these.
+fn is_station(addresses: &[Address], station: Address) -> bool
+    ensures { result ≡ is_station_of addresses.now station }
+{
+    addresses.iter().any(|address| address.0 == station.0)
+}
+
+// How many clients a station has.
+fn clients_of(seats: &[Seat], station: Address) -> usize
+    ensures { result ≡ clients_at station (map client_of seats.now) }
+{
+    let mut count = 0;
+    for seat in seats {
+        if seat.station().0 == station.0 {
+            count += 1;
+        }
+    }
+    count
+}

@@ -1,0 +1,225 @@
+//! The turns of workers, each within one hold of the lock.
+ghost use Rattle.std.specs.Prelude.{◌≡◌, ◌<◌, length};
+ghost use Rattle.segment_law.specs.Segment.{waiting_at};
+ghost use Rattle.segment_law.specs.Readers.{next_pump};
+ghost use Rattle.live_segment.specs.declared.call.WorkerCall.TheVariants.{Overrun as OverrunCall};
+ghost use Rattle.live_segment.specs.Turns.{IsNext, is_stuck, point, no_turn, one_more, after_refusal, after_reply, after_accept, Makes, Accepts, AcceptsOne, AcceptsBelow, MakesWhere, PumpsTo, StationTurn, BusTurn, state_of};
+
+use crate::call::WorkerCall;
+use crate::live::Live;
+use crate::refused::Accepted;
+use pgn_ids::Address;
+use segment_core::{Refusal, Reply, Segment};
+
+/// What one turn did: how many calls were applied, up to the last value, and whether the worker ends since no more calls can
+/// be stored.
+#[derive(Clone, Copy, Debug, Drop)]
+pub struct Turn {
+    pub calls: u64,
+    pub ended: bool,
+}
+
+/// How many frames a station's queue holds.
+const QUEUE_LIMIT: usize = 64;
+
+/// How many frames can wait for a station that has taken one: the bus keeps 4,096, and that one is among them.
+const MOST_WAITING: u64 = 4_095;
+
+/// How far the clock goes on while nothing is to do.
+const IDLE_TICKS: u64 = 50;
+
+impl Turn {
+    fn new() -> Turn
+        ensures { result ≡ no_turn }
+    {
+        Turn {
+            calls: 0,
+            ended: false,
+        }
+    }
+
+    // One call more.
+    fn add(&mut self)
+        ensures { self.new ≡ one_more self.old }
+    {
+        self.calls = self.calls.saturating_add(1);
+    }
+
+    // The worker ends where no more calls can be stored.
+    fn refused(&mut self, refusal: Refusal)
+        ensures { self.new ≡ after_refusal self.old refusal }
+    {
+        match refusal {
+            Refusal::TraceFull => self.ended = true,
+            _ => {}
+        }
+    }
+
+    fn answered(&mut self, reply: &Reply)
+        ensures { self.new ≡ after_reply self.old reply.now }
+    {
+        match reply {
+            Reply::Opened(_) => self.add(),
+            Reply::Sent(_) => self.add(),
+            Reply::Refused(refusal) => self.refused(*refusal),
+            Reply::Done(_) => self.add(),
+        }
+    }
+
+    fn accepted(&mut self, accepted: Accepted)
+        ensures { self.new ≡ after_accept self.old accepted }
+    {
+        match accepted {
+            Accepted::Empty => {}
+            Accepted::Owed => {}
+            Accepted::Refused(refusal) => self.refused(refusal),
+            Accepted::Sent(_) => self.add(),
+        }
+    }
+
+    // Makes a call, of which each caller says which it is.
+    #[inline(always)]
+    fn make(&mut self, live: &mut Live, call: WorkerCall)
+        ensures { Makes call (point live.old self.old) (point live.new self.new) }
+    {
+        if live.apply_in_place(&call) {
+            self.add();
+            return;
+        }
+        match live.apply_tried(call) {
+            Ok(reply) => self.answered(&reply),
+            Err(_) => {}
+        }
+    }
+
+    // Looks at the front submission of a client.
+    fn accept(&mut self, live: &mut Live, client: u64)
+        ensures { Accepts client (point live.old self.old) (point live.new self.new) }
+    {
+        match live.accept(client) {
+            Ok(accepted) => self.accepted(accepted),
+            Err(_) => {}
+        }
+    }
+
+    // The same, where it is a client of the station.
+    fn accept_one(&mut self, live: &mut Live, station: Address, client: u64)
+        ensures { AcceptsOne station client (point live.old self.old) (point live.new self.new) }
+    {
+        let Some(other) = live.station_of(client) else {
+            return;
+        };
+        if other.0 != station.0 {
+            return;
+        }
+        self.accept(live, client);
+    }
+
+    // Accepts once for each client of a station.
+    fn accept_all(&mut self, live: &mut Live, station: Address)
+        ensures { AcceptsBelow (length live.old.clients) station (point live.old self.old) (point live.new self.new) }
+    {
+        for client in 0..live.clients() {
+            self.accept_one(live, station, client);
+        }
+    }
+
+    // Makes the Pump that has something to queue, if there is one.
+    fn pump(&mut self, live: &mut Live, station: Address)
+        ensures { PumpsTo (next_pump (state_of live.old) station) station (point live.old self.old) (point live.new self.new) }
+    {
+        if let Some(to) = live.segment().next_pump(station) {
+            self.make(live, WorkerCall::Pump { station, to });
+        }
+    }
+
+    // Makes a call where it has something to do.
+    #[inline(always)]
+    fn make_where(&mut self, live: &mut Live, is_wanted: bool, call: WorkerCall)
+        ensures { MakesWhere is_wanted call (point live.old self.old) (point live.new self.new) }
+    {
+        if is_wanted {
+            self.make(live, call);
+        }
+    }
+
+    // A station whose queue is full takes nothing more. Where so many frames wait for it that the bus is full, no station can
+    // transmit either, and nothing would go on: it misses what waits.
+    fn miss(&mut self, live: &mut Live, station: Address)
+        ensures { MakesWhere (is_stuck (state_of live.old) station) (OverrunCall station (waiting_at (state_of live.old) station)) (point live.old self.old) (point live.new self.new) }
+    {
+        let waiting = live.segment().waiting(station);
+        let is_stuck = waiting >= MOST_WAITING && live.segment().queue_len(station) >= QUEUE_LIMIT;
+        self.make_where(
+            live,
+            is_stuck,
+            WorkerCall::Overrun {
+                station,
+                n: waiting,
+            },
+        );
+    }
+}
+
+// The station whose first frame has the lowest identifier, of several the first.
+fn next_of(segment: &Segment, addresses: &[Address]) -> Option<Address>
+    ensures { IsNext segment.now addresses.now result }
+{
+    let mut lowest = None;
+    let mut least = u32::MAX;
+    for address in addresses {
+        let Some(frame) = segment.front(*address) else {
+            continue;
+        };
+        let raw = frame.id().raw();
+        if raw >= least {
+            continue;
+        }
+        least = raw;
+        lowest = Some(*address);
+    }
+    lowest
+}
+
+impl Live {
+    /// One turn of a station's worker: it accepts once for each client of the station, by rising number, and then makes at most
+    /// one Pump, one Take and one Fire, each where there is something to do. Where its queue of 64 frames is full then and 4,095
+    /// frames or more wait for it, it misses them by an Overrun: the bus is as good as full, so its queue could not empty and
+    /// nothing would go on. A call that is refused or finds no memory changes nothing and isn't counted.
+    pub fn station_turn(&mut self, station: Address) -> Turn
+        ensures { StationTurn station (point self.old no_turn) (point self.new result) }
+    {
+        let mut turn = Turn::new();
+        turn.accept_all(self, station);
+        turn.pump(self, station);
+        let waits = self.segment().waiting(station) > 0;
+        turn.make_where(self, waits, WorkerCall::Take { station });
+        let is_due = self.segment().is_due(station);
+        turn.make_where(self, is_due, WorkerCall::Fire { station });
+        turn.miss(self, station);
+        turn
+    }
+
+    /// The station whose waiting frame has the lowest identifier, of several the first in the order of their addresses; none
+    /// where no station's queue has a frame.
+    pub fn lowest(&self) -> Option<Address>
+        ensures { IsNext (state_of self.now) self.now.addresses result }
+    {
+        next_of(self.segment(), self.addresses())
+    }
+
+    /// One turn of the bus's worker: the waiting frame of lowest identifier comes on the bus; or the clock goes on by 50 ticks
+    /// where no frame waits and nothing is to do.
+    pub fn bus_turn(&mut self) -> Turn
+        ensures { BusTurn (point self.old no_turn) (point self.new result) }
+    {
+        let mut turn = Turn::new();
+        if let Some(station) = self.lowest() {
+            turn.make(self, WorkerCall::Transmit { station });
+            return turn;
+        }
+        let is_idle = self.segment().is_idle();
+        turn.make_where(self, is_idle, WorkerCall::Tick { n: IDLE_TICKS });
+        turn
+    }
+}

@@ -1,6 +1,0 @@
-use Rattle.std.proofs.Common.{take}
-use Rattle.segment_shared.specs.Past.{NumberedAfter}
-use Rattle.segment_shared.proofs.rejoining.are_numbered.Given as goal
-
-abbrev pub invariant-loop-i : goal.invariant-loop-i
-invariant-loop-i l = NumberedAfter 0 (take l.i l.pieces)

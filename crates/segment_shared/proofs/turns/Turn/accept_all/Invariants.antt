@@ -1,5 +1,0 @@
-use Rattle.segment_shared.specs.Turns.{AcceptsBelow, point}
-use Rattle.segment_shared.proofs.turns.Turn.accept_all.Given as goal
-
-abbrev pub invariant-loop-client : goal.invariant-loop-client
-invariant-loop-client l = AcceptsBelow l.client l.station (point l.initial.live l.initial.self) (point l.live l.self)
