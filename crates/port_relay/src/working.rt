@@ -185,9 +185,10 @@ fn pull_turns<R: Wait, G: Gate>(
     ensures within { worked.new.count ≤ terms.now.limit }
     ensures limit { result.ended ≡ Some Limit → worked.new.count ≡ terms.now.limit }
 {
+    let mut turns = made;
     for turn in made..terms.turns {
         terms.gate.pass(PULLS, turn + 1);
-        let turns = turn + 1;
+        turns = turn + 1;
         if terms.stop.is_stopped() {
             return Course {
                 turns,
@@ -209,7 +210,7 @@ fn pull_turns<R: Wait, G: Gate>(
         thread::yield_now();
     }
     Course {
-        turns: terms.turns.max(made),
+        turns,
         ended: Some(Ended::Turns),
     }
 }
@@ -322,9 +323,10 @@ fn push_turns<R: Wait, G: Gate>(
     ensures pushed { (start : ClientEnd) → HasPushed terms.now.to start client.old (view pass.old) worked.old → HasPushed terms.now.to start client.new (view pass.new) worked.new }
     ensures few { worked.new.count ≤ result.turns }
 {
+    let mut turns = made;
     for turn in made..terms.turns {
         terms.gate.pass(PUSHES, turn + 1);
-        let turns = turn + 1;
+        turns = turn + 1;
         if terms.stop.is_stopped() {
             return Course {
                 turns,
@@ -346,7 +348,7 @@ fn push_turns<R: Wait, G: Gate>(
         thread::yield_now();
     }
     Course {
-        turns: terms.turns.max(made),
+        turns,
         ended: Some(Ended::Turns),
     }
 }

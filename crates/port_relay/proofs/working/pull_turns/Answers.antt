@@ -1,25 +1,15 @@
-use Rattle.std.proofs.Common.{ap, arith}
+use Rattle.std.proofs.Common.{arith}
 use Rattle.crossbeam_channel.specs.Claims.{view}
-use Rattle.port_relay.proofs.Worked.{carried}
-use Rattle.port_relay.proofs.working.pull.Goals.{else-loop-turn-test, then-loop-turn-test+then-not-receive_one, then-loop-turn-test+else-not-receive_one+then-is_some+then-ended}
-use Rattle.port_relay.proofs.working.pull.Goals as goal
+use Rattle.port_relay.proofs.working.pull_turns.Goals as goal
+
+pub returns-then-not-begins-clause-pulled : goal.returns-then-not-begins-clause-pulled
+returns-then-not-begins-clause-pulled g c start h =
+    c.put_one.ensures.pulled start c.receive_one-ended.new.inbox (c.receive_one-ended.ensures.pulled start (view c.loop-turn.pass) (c.loop-turn.invariant.2 start h))
 
 pub loop-turn-preserved : goal.loop-turn-preserved
-loop-turn-preserved g c =
-    let begun = c.loop-turn.invariant in
-    let start = c.args.inbox.now in (
-      c.put_one.ensures.seat,
-      c.put_one.ensures.may,
-      c.put_one.ensures.pulled start c.receive_one.new.inbox (c.receive_one.ensures.pulled start (view c.loop-turn.pass) begun.2),
-      omega (arith, c.put_one.ensures.count, c.receive_one.ensures.within),
-    )
-
-pub returns-clause-pulled : goal.returns-clause-pulled
-returns-clause-pulled g c =
-    let begun = c.loop-turn.invariant in
-    let start = c.args.inbox.now in
-    elim c.loop-turn-test.branch [
-      | else-loop-turn-test w ↦ carried start _ _ _ _ _ _ w.inbox-is (ap view w.pass-is) w.worked-is begun.2
-      | then-loop-turn-test+then-not-receive_one w ↦ carried start _ _ _ _ _ _ w.inbox-is (ap view w.pass-is) w.worked-is (w.receive_one.ensures.pulled start (view c.loop-turn.pass) begun.2)
-      | then-loop-turn-test+else-not-receive_one+then-is_some+then-ended w ↦ carried start _ _ _ _ _ _ w.inbox-is (ap view w.pass-is) w.worked-is (w.put_one.ensures.pulled start w.receive_one.new.inbox (w.receive_one.ensures.pulled start (view c.loop-turn.pass) begun.2))
-    ]
+loop-turn-preserved g c = (
+  c.put_one.ensures.seat,
+  c.put_one.ensures.may,
+  λ start h. c.put_one.ensures.pulled start c.receive_one-ended.new.inbox (c.receive_one-ended.ensures.pulled start (view c.loop-turn.pass) (c.loop-turn.invariant.2 start h)),
+  omega (arith, c.put_one.ensures.count, c.receive_one-ended.ensures.within),
+)

@@ -11,3 +11,4 @@ invariant-loop-turn g l =
     × ((view l.pass).takes ≡ true)
     × ((start : ClientEnd) → HasPushed l.terms.to start l.fn.client (view l.fn.pass) l.fn.worked → HasPushed l.terms.to start l.client (view l.pass) l.worked)
     × (l.worked.count ≤ l.turn)
+    × (l.turns ≡ l.turn)
