@@ -214,7 +214,10 @@ fn a_relay_that_is_stopped_before_moves_nothing(rt: HostRuntime) {
 }
 
 /// How often the thread that stops looks whether the relay has begun.
-const LOOKS: u64 = 1_000_000;
+const LOOKS: u64 = 100_000;
+
+/// How many turns of both sides it waits for.
+const BEGUN: u64 = 100;
 
 // Counts the turns of both sides.
 #[derive(Drop)]
@@ -230,12 +233,25 @@ impl Gate for Counted {
 
 fn stop_later(gate: &Counted, stop: &Stop) {
     for _ in 0..LOOKS {
-        if gate.turns.load(Ordering::SeqCst) > 100 {
+        if gate.turns.load(Ordering::SeqCst) >= BEGUN {
             break;
         }
         thread::yield_now();
     }
     stop.stop();
+}
+
+// Nobody waits for the turns of a relay that has ended.
+fn carry_counted<R: Threads + Wait + Abort + Sync>(
+    rt: &R,
+    alloc: Global,
+    ends: &mut Ends,
+    gate: &Counted,
+    stop: &Stop,
+) -> Relayed {
+    let carried = carry(rt, alloc, ends, &job(3, NO_END), gate, Some(stop));
+    gate.turns.fetch_add(BEGUN, Ordering::SeqCst);
+    carried
 }
 
 fn is_stopped(ended: Ended) -> bool {
@@ -249,11 +265,9 @@ fn stop_beside<R: Threads + Wait + Abort + Sync>(rt: &R, alloc: Global, ends: &m
     let gate = Counted {
         turns: AtomicU64::new(0),
     };
-    let until = Some(&stop);
-    let whole = job(3, NO_END);
     let (carried, _) = thread::join(
         rt,
-        || carry(rt, alloc, ends, &whole, &gate, until),
+        || carry_counted(rt, alloc, ends, &gate, &stop),
         || stop_later(&gate, &stop),
     );
     has_memory(rt, &carried);
