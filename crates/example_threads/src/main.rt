@@ -1,14 +1,15 @@
 //! Two stations on one bus, and a thread for each: it sends the other a message, waits for the outcome, and receives the other's.
-//! Three more threads move the bus on.
+//! Three more threads move the bus on. The program tells so and ends where one of them can't be made.
 #![tactic(auto)]
 
+use anyhow::bail;
 use pgn_ids::{Address, Pgn};
 use segment_shared::{
     Bytes, Client, Delivery, Gate, Inbox, Live, Note, SharedSegment, bus_worker, station_worker,
 };
 use std::alloc::{AllocError, Global};
 use std::sync::Wait;
-use std::thread::{self, Threads};
+use std::thread::{self, Scope, Threads};
 
 const HERE: Address = Address(0x21);
 
@@ -49,17 +50,36 @@ fn talk<R: Wait>(rt: &R, ends: Ends, to: Address) -> Talk {
     Ok((client.outcome(rt, TURNS)?, inbox.receive(rt, TURNS)?))
 }
 
-fn run<R: Threads + Wait + Sync>(rt: &R, live: Live, here: Ends, there: Ends) -> (Talk, Talk) {
-    let shared = SharedSegment::share(live);
-    let station = |address| { station_worker(rt, &shared, address, &Pace {}, TURNS) };
-    let stations = || { thread::join(rt, || station(HERE), || station(THERE)) };
-    let bus = || bus_worker(rt, &shared, &Pace {}, TURNS);
-    let talks = || {
-        let talks = thread::join(rt, || talk(rt, here, THERE), || talk(rt, there, HERE));
+/// A thread for each station's turns, one for those of the bus, one for the talk of 21, and this one for that of 35, which waits for
+/// the others: so it begins once all are made.
+fn talk_both<'s, E, R: Threads + Wait + Sync>(
+    scope: &Scope<'s, E>,
+    rt: &'s R,
+    shared: &'s SharedSegment,
+    here: Ends,
+    there: Ends,
+) -> Result<(Talk, Talk), AllocError> {
+    for address in [HERE, THERE] {
+        scope.spawn(move || station_worker(rt, shared, address, &Pace {}, TURNS))?;
+    }
+    scope.spawn(move || bus_worker(rt, shared, &Pace {}, TURNS))?;
+    let at_21 = scope.spawn(move || talk(rt, here, THERE))?;
+    let at_35 = talk(rt, there, HERE);
+    Ok((at_21.join(rt), at_35))
+}
+
+/// What the talks came to. The workers are stopped in each case: the scope ends with its threads.
+fn run<R: Threads + Wait + Sync>(
+    rt: &R,
+    shared: &SharedSegment,
+    here: Ends,
+    there: Ends,
+) -> Result<(Talk, Talk), AllocError> {
+    thread::scope(thread::scope_env(), rt, move |scope| {
+        let talks = talk_both(scope, rt, shared, here, there);
         shared.stop(rt);
         talks
-    };
-    thread::join(rt, || thread::join(rt, stations, bus), talks).1
+    })
 }
 
 fn show(rt: &impl Print, name: &str, talk: Talk) -> anyhow::Result<()> {
@@ -74,7 +94,10 @@ fn main(rt: HostRuntime) -> anyhow::Result<()> {
     let mut live = Live::new(rt.alloc(), &[HERE, THERE])?;
     let here = ends(rt.alloc(), &mut live, HERE, b"ping from 21")?;
     let there = ends(rt.alloc(), &mut live, THERE, b"pong from 35")?;
-    let (at_21, at_35) = run(&rt, live, here, there);
+    let shared = SharedSegment::share(live);
+    let Ok((at_21, at_35)) = run(&rt, &shared, here, there) else {
+        bail!("a thread could not be made");
+    };
     show(&rt, "21", at_21)?;
     show(&rt, "35", at_35)
 }

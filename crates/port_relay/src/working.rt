@@ -1,72 +1,151 @@
-//! The two workers: one receives messages and puts them into the line, the other takes them out and submits them.
-ghost use Rattle.std.specs.Prelude.{◌≡◌, ◌+◌, ◌^◌, ◌<◌, ◌≤◌, true, false, [], None};
+//! The two sides of a relay: one receives messages and puts them into the line, the other takes them out and submits them.
+ghost use Rattle.std.specs.Prelude.{◌≡◌, ◌+◌, ◌^◌, ◌<◌, ◌≤◌, true, false, [], Some, None};
 ghost use Rattle.crossbeam_channel.specs.Claims.{view, IsSeatAt};
 ghost use Rattle.crossbeam_channel.specs.Ends.{sends_on, receives_on, ruled_capacity};
 ghost use Rattle.pgn_ids.specs.declared.address.Address.{Address};
 ghost use Rattle.segment_rings.specs.Ends.{ClientEnd, InboxEnd};
 ghost use Rattle.port_relay.specs.declared.line.Log.{Log};
+ghost use Rattle.port_relay.specs.declared.stopping.Ended.TheVariants.{Limit};
 ghost use Rattle.port_relay.specs.Line.{log};
 ghost use Rattle.port_relay.specs.Working.{HasPulled, HasPushed};
 
 use crate::line::{Receiver, Sender, Way, put, take};
+use crate::stopping::{Ended, Stop};
 use pgn_ids::Address;
 use segment_shared::{Client, Delivery, Gate, Inbox, Refusal, SubmitRefused};
 use std::sync::Wait;
 use std::sync::atomic::{AtomicBool, Ordering};
 use std::thread;
 
-/// The worker that receives, for a gate.
+/// The side that receives, for a gate.
 const PULLS: u8 = 0;
 
-/// The worker that submits.
+/// The side that submits.
 const PUSHES: u8 = 1;
 
-/// How many turns each worker has at most, and which of them has ended.
+/// How often the side that receives lets other threads run before it takes the other side for one that has no thread. That of one
+/// which has is mostly at work long before.
+const YIELDS: u32 = 1_000;
+
+/// What both sides go by: how many messages are to be received at most, the station that they are submitted to, how many turns each
+/// side has at most, the gate that it passes in each, and what stops both.
 #[derive(Drop)]
-pub(crate) struct Rounds {
+pub(crate) struct Terms<'t, G> {
+    pub(crate) limit: u64,
+    pub(crate) to: Address,
     pub(crate) turns: u64,
-    pub(crate) has_pulled: AtomicBool,
-    pub(crate) has_pushed: AtomicBool,
+    pub(crate) gate: &'t G,
+    pub(crate) stop: &'t Stop,
 }
 
-/// How many messages a worker received or submitted, and a message that it could not hand on yet.
+/// What the sides tell one another in a round: whether the one that submits has begun, whether the one that receives has ended the
+/// round and goes on in the next one, and which of them has ended for good.
+#[derive(Drop)]
+pub(crate) struct Round {
+    has_begun: AtomicBool,
+    has_paused: AtomicBool,
+    has_pulled: AtomicBool,
+    has_pushed: AtomicBool,
+}
+
+impl Round {
+    pub(crate) fn new() -> Round {
+        Round {
+            has_begun: AtomicBool::new(false),
+            has_paused: AtomicBool::new(false),
+            has_pulled: AtomicBool::new(false),
+            has_pushed: AtomicBool::new(false),
+        }
+    }
+
+    // Whether the side that submits has begun. One that has a thread has time to.
+    fn begins(&self) -> bool {
+        for _ in 0..YIELDS {
+            if self.has_begun.load(Ordering::SeqCst) {
+                return true;
+            }
+            thread::yield_now();
+        }
+        false
+    }
+}
+
+/// How many messages a side received or submitted, and a message that it could not hand on yet.
 #[derive(Drop)]
 pub(crate) struct Worked {
     pub(crate) count: u64,
     pub(crate) hand: Option<Delivery>,
 }
 
-impl Worked {
-    fn new() -> Worked
-        ensures { (result.count ≡ 0) × (result.hand ≡ None) }
+/// How many turns a side has made, and why it has ended, where it has and will do nothing more.
+#[derive(Clone, Copy)]
+pub(crate) struct Course {
+    pub(crate) turns: u64,
+    pub(crate) ended: Option<Ended>,
+}
+
+impl Course {
+    /// Why the side ended, once one of both has.
+    pub(crate) fn reason(self) -> Ended
+        ensures { result ≡ Limit → self.ended ≡ Some Limit }
     {
-        Worked {
-            count: 0,
-            hand: None,
+        match self.ended {
+            Some(ended) => ended,
+            None => Ended::OtherEnded,
         }
     }
 }
 
-// Receives a message, where none is in hand, one waits and fewer than the limit were received. False where no more are to be.
-fn receive_one(inbox: &mut Inbox, worked: &mut Worked, limit: u64) -> bool
+/// A side of a relay: its pass for the line, what it has done, and how far it has come.
+#[derive(Drop)]
+pub(crate) struct Side {
+    pub(crate) pass: Way,
+    pub(crate) worked: Worked,
+    pub(crate) course: Course,
+}
+
+impl Side {
+    /// One that has done nothing yet.
+    pub(crate) fn new(pass: Way) -> Side
+        ensures pass { result.pass ≡ pass }
+        ensures worked { (result.worked.count ≡ 0) × (result.worked.hand ≡ None) }
+        ensures course { (result.course.turns ≡ 0) × (result.course.ended ≡ None) }
+    {
+        Side {
+            pass,
+            worked: Worked {
+                count: 0,
+                hand: None,
+            },
+            course: Course {
+                turns: 0,
+                ended: None,
+            },
+        }
+    }
+}
+
+// Receives a message, where none is in hand, one waits and fewer than the limit were received. Why no more are to be, where none are.
+fn receive_one(inbox: &mut Inbox, worked: &mut Worked, limit: u64) -> Option<Ended>
     requires within { worked.old.count ≤ limit }
     ensures pulled { (start : InboxEnd) (v : Log) → HasPulled start inbox.old v worked.old → HasPulled start inbox.new v worked.new }
     ensures within { worked.new.count ≤ limit }
+    ensures limit { result ≡ Some Limit → worked.new.count ≡ limit }
 {
     if worked.hand.is_some() {
-        return true;
+        return None;
     }
     if worked.count >= limit {
-        return false;
+        return Some(Ended::Limit);
     }
     match inbox.try_receive() {
         Ok(Some(delivery)) => {
             worked.count += 1;
             worked.hand = Some(delivery);
-            true
+            None
         }
-        Ok(None) => true,
-        Err(_) => false,
+        Ok(None) => None,
+        Err(_) => Some(Ended::OutOfMemory),
     }
 }
 
@@ -85,40 +164,95 @@ fn put_one<R: Wait>(rt: &R, line: &Sender, pass: &mut Way, worked: &mut Worked)
     }
 }
 
-/// Receives at most so many messages, and puts them into the line; at most one in each turn, which passes the gate first.
-///
-/// It ends at the limit, after its turns, at want of memory, or where the line is full and nobody takes any more.
-pub(crate) fn pull<R: Wait, G: Gate>(
+// The turns of the side that receives in one round.
+fn pull_turns<R: Wait, G: Gate>(
     rt: &R,
     line: &Sender,
     pass: &mut Way,
     inbox: &mut Inbox,
-    gate: &G,
-    rounds: &Rounds,
-    limit: u64,
-) -> Worked
+    worked: &mut Worked,
+    made: u64,
+    terms: &Terms<'_, G>,
+    round: &Round,
+) -> Course
     requires places { ruled_capacity (sends_on line.now) ≡ 16 }
     requires seat { IsSeatAt (sends_on line.now) pass.old }
-    requires begins { view pass.old ≡ log true false [] [] }
+    requires may { (view pass.old).puts ≡ true }
+    requires within { worked.old.count ≤ terms.now.limit }
     ensures seat { IsSeatAt (sends_on line.now) pass.new }
-    ensures pulled { HasPulled inbox.old inbox.new (view pass.new) result }
-    ensures within { result.count ≤ limit }
+    ensures may { (view pass.new).puts ≡ true }
+    ensures pulled { (start : InboxEnd) → HasPulled start inbox.old (view pass.old) worked.old → HasPulled start inbox.new (view pass.new) worked.new }
+    ensures within { worked.new.count ≤ terms.now.limit }
+    ensures limit { result.ended ≡ Some Limit → worked.new.count ≡ terms.now.limit }
 {
-    let mut worked = Worked::new();
-    for turn in 0..rounds.turns {
-        gate.pass(PULLS, turn + 1);
-        let ended = rounds.has_pushed.load(Ordering::SeqCst);
-        if !receive_one(inbox, &mut worked, limit) {
-            break;
+    let mut turns = made;
+    for turn in made..terms.turns {
+        terms.gate.pass(PULLS, turn + 1);
+        turns = turn + 1;
+        if terms.stop.is_stopped() {
+            return Course {
+                turns,
+                ended: Some(Ended::Stopped),
+            };
         }
-        put_one(rt, line, pass, &mut worked);
-        if worked.hand.is_some() && ended {
-            break;
+        if round.has_pushed.load(Ordering::SeqCst) {
+            return Course { turns, ended: None };
+        }
+        let ended = receive_one(inbox, worked, terms.limit);
+        if ended.is_some() {
+            return Course { turns, ended };
+        }
+        let is_idle = worked.hand.is_none();
+        put_one(rt, line, pass, worked);
+        if (is_idle || worked.hand.is_some()) && !round.begins() {
+            return Course { turns, ended: None };
         }
         thread::yield_now();
     }
-    rounds.has_pulled.store(true, Ordering::SeqCst);
-    worked
+    Course {
+        turns,
+        ended: Some(Ended::Turns),
+    }
+}
+
+/// Receives messages, up to the limit, and puts them into the line; at most one in each turn, which passes the gate first.
+///
+/// It ends for good at the limit, after its turns, at want of memory and where it is stopped. It ends its round where the other side
+/// has ended, and where it can do nothing while the other side has not begun, as one that no thread could be made for.
+pub(crate) fn pull<R: Wait, G: Gate>(
+    rt: &R,
+    line: &Sender,
+    side: &mut Side,
+    inbox: &mut Inbox,
+    terms: &Terms<'_, G>,
+    round: &Round,
+)
+    requires places { ruled_capacity (sends_on line.now) ≡ 16 }
+    requires seat { IsSeatAt (sends_on line.now) side.old.pass }
+    requires may { (view side.old.pass).puts ≡ true }
+    requires within { side.old.worked.count ≤ terms.now.limit }
+    ensures seat { IsSeatAt (sends_on line.now) side.new.pass }
+    ensures may { (view side.new.pass).puts ≡ true }
+    ensures pulled { (start : InboxEnd) → HasPulled start inbox.old (view side.old.pass) side.old.worked → HasPulled start inbox.new (view side.new.pass) side.new.worked }
+    ensures within { side.new.worked.count ≤ terms.now.limit }
+    ensures limit { side.new.course.ended ≡ Some Limit → side.new.worked.count ≡ terms.now.limit }
+{
+    let made = side.course.turns;
+    side.course = pull_turns(
+        rt,
+        line,
+        &mut side.pass,
+        inbox,
+        &mut side.worked,
+        made,
+        terms,
+        round,
+    );
+    if side.course.ended.is_some() {
+        round.has_pulled.store(true, Ordering::SeqCst);
+    } else {
+        round.has_paused.store(true, Ordering::SeqCst);
+    }
 }
 
 // Takes a message out of the line, where one is there.
@@ -134,14 +268,14 @@ fn take_one<R: Wait>(rt: &R, line: &Receiver, pass: &mut Way, worked: &mut Worke
     worked.hand = take(rt, line, pass);
 }
 
-// Submits what is in hand, where there is something. False where nothing is to be submitted any more.
-fn submit_one(client: &mut Client, to: Address, worked: &mut Worked) -> bool
+// Submits what is in hand, where there is something. Why nothing is to be submitted any more, where it isn't.
+fn submit_one(client: &mut Client, to: Address, worked: &mut Worked) -> Option<Ended>
     requires few { worked.old.count + 1 < 2 ^ 64 }
     ensures pushed { (start : ClientEnd) (v : Log) → HasPushed to start client.old v worked.old → HasPushed to start client.new v worked.new }
     ensures few { worked.new.count ≤ worked.old.count + 1 }
 {
     let Some(delivery) = worked.hand.take() else {
-        return true;
+        return None;
     };
     let Delivery {
         from,
@@ -152,7 +286,7 @@ fn submit_one(client: &mut Client, to: Address, worked: &mut Worked) -> bool
     match client.submit(to, pgn.raw(), bytes) {
         Ok(_) => {
             worked.count += 1;
-            true
+            None
         }
         Err(SubmitRefused { refusal, bytes }) => {
             worked.hand = Some(Delivery {
@@ -161,44 +295,96 @@ fn submit_one(client: &mut Client, to: Address, worked: &mut Worked) -> bool
                 pgn,
                 bytes,
             });
-            refusal == Some(Refusal::RingFull)
+            match refusal {
+                None => Some(Ended::OutOfMemory),
+                Some(Refusal::RingFull) => None,
+                Some(cause) => Some(Ended::Refused(cause)),
+            }
         }
     }
 }
 
-/// Takes messages out of the line, and submits them to a station; at most one in each turn, which passes the gate first. Where
-/// the client's ring is full it tries again.
-///
-/// It ends after its turns, at any other refusal and at want of memory, or where the line is empty and nobody puts any more.
-pub(crate) fn push<R: Wait, G: Gate>(
+// The turns of the side that submits in one round.
+fn push_turns<R: Wait, G: Gate>(
     rt: &R,
     line: &Receiver,
     pass: &mut Way,
     client: &mut Client,
-    gate: &G,
-    rounds: &Rounds,
-    to: Address,
-) -> Worked
+    worked: &mut Worked,
+    made: u64,
+    terms: &Terms<'_, G>,
+    round: &Round,
+) -> Course
     requires seat { IsSeatAt (receives_on line.now) pass.old }
-    requires begins { view pass.old ≡ log false true [] [] }
+    requires may { (view pass.old).takes ≡ true }
+    requires few { worked.old.count ≤ made }
     ensures seat { IsSeatAt (receives_on line.now) pass.new }
-    ensures pushed { HasPushed to client.old client.new (view pass.new) result }
+    ensures may { (view pass.new).takes ≡ true }
+    ensures pushed { (start : ClientEnd) → HasPushed terms.now.to start client.old (view pass.old) worked.old → HasPushed terms.now.to start client.new (view pass.new) worked.new }
+    ensures few { worked.new.count ≤ result.turns }
 {
-    let mut worked = Worked::new();
-    for turn in 0..rounds.turns {
-        gate.pass(PUSHES, turn + 1);
-        let ended = rounds.has_pulled.load(Ordering::SeqCst);
+    let mut turns = made;
+    for turn in made..terms.turns {
+        terms.gate.pass(PUSHES, turn + 1);
+        turns = turn + 1;
+        if terms.stop.is_stopped() {
+            return Course {
+                turns,
+                ended: Some(Ended::Stopped),
+            };
+        }
+        let is_paused = round.has_paused.load(Ordering::SeqCst);
+        let is_last = is_paused || round.has_pulled.load(Ordering::SeqCst);
         if worked.hand.is_none() {
-            take_one(rt, line, pass, &mut worked);
+            take_one(rt, line, pass, worked);
         }
-        if worked.hand.is_none() && ended {
-            break;
+        if worked.hand.is_none() && is_last {
+            return Course { turns, ended: None };
         }
-        if !submit_one(client, to, &mut worked) {
-            break;
+        let ended = submit_one(client, terms.to, worked);
+        if ended.is_some() || (worked.hand.is_some() && is_paused) {
+            return Course { turns, ended };
         }
         thread::yield_now();
     }
-    rounds.has_pushed.store(true, Ordering::SeqCst);
-    worked
+    Course {
+        turns,
+        ended: Some(Ended::Turns),
+    }
+}
+
+/// Takes messages out of the line, and submits them to the station; at most one in each turn, which passes the gate first. Where
+/// the client's ring is full it tries again.
+///
+/// It ends for good after its turns, at any other refusal, at want of memory and where it is stopped. It ends its round where the
+/// other side has ended and the line is empty, and where it can do nothing while the other side waits for the next round.
+pub(crate) fn push<R: Wait, G: Gate>(
+    rt: &R,
+    line: &Receiver,
+    side: &mut Side,
+    client: &mut Client,
+    terms: &Terms<'_, G>,
+    round: &Round,
+)
+    requires seat { IsSeatAt (receives_on line.now) side.old.pass }
+    requires may { (view side.old.pass).takes ≡ true }
+    requires few { side.old.worked.count ≤ side.old.course.turns }
+    ensures seat { IsSeatAt (receives_on line.now) side.new.pass }
+    ensures may { (view side.new.pass).takes ≡ true }
+    ensures pushed { (start : ClientEnd) → HasPushed terms.now.to start client.old (view side.old.pass) side.old.worked → HasPushed terms.now.to start client.new (view side.new.pass) side.new.worked }
+    ensures few { side.new.worked.count ≤ side.new.course.turns }
+{
+    round.has_begun.store(true, Ordering::SeqCst);
+    let made = side.course.turns;
+    side.course = push_turns(
+        rt,
+        line,
+        &mut side.pass,
+        client,
+        &mut side.worked,
+        made,
+        terms,
+        round,
+    );
+    round.has_pushed.store(true, Ordering::SeqCst);
 }

@@ -1,4 +1,5 @@
 //! Tests of the gateway between two segments.
+mod endings;
 mod ends;
 mod pace;
 mod relays;

@@ -7,7 +7,7 @@ pub(crate) use crate::messages::{FECA, bytes, feca};
 use crate::relay::pace::Pace;
 use message_events::Bytes;
 use pgn_ids::{Address, Pgn};
-use port_relay::{Relayed, Route, relay};
+use port_relay::{Gate, Relayed, Route, Stop, relay, relay_until};
 use port_table::PortId;
 use segment_rings::{Client, Delivery, Door, Doorway, Inbox, Seat, Submission};
 use std::alloc::{AllocError, Global};
@@ -101,30 +101,37 @@ pub(crate) struct Job {
     pub(crate) turns: u64,
 }
 
-fn run<R: Threads + Wait + Abort + Sync>(
+fn run<R: Threads + Wait + Abort + Sync, G: Gate + Sync>(
     rt: &R,
     alloc: Global,
     inbox: &mut Inbox,
     client: &mut Client,
     job: &Job,
-    pace: &Pace,
+    gate: &G,
+    stop: Option<&Stop>,
 ) -> Result<Relayed, AllocError> {
     let route = route(rt, job.to);
-    relay(rt, alloc, inbox, client, route, job.limit, job.turns, pace)
+    match stop {
+        None => relay(rt, alloc, inbox, client, route, job.limit, job.turns, gate),
+        Some(stop) => relay_until(
+            rt, alloc, inbox, client, route, job.limit, job.turns, gate, stop,
+        ),
+    }
 }
 
-// A run by which no message is lost, whatever it came to.
-fn run_whole<R: Threads + Wait + Abort + Sync>(
+/// A relay by which no message is lost, whatever it came to, until it is stopped, where it can be.
+pub(crate) fn run_whole<R: Threads + Wait + Abort + Sync, G: Gate + Sync>(
     rt: &R,
     alloc: Global,
     inbox: &mut Inbox,
     client: &mut Client,
     job: &Job,
-    pace: &Pace,
+    gate: &G,
+    stop: Option<&Stop>,
 ) -> Result<Relayed, AllocError> {
     let received = inbox.received().len();
     let submitted = client.submitted().len();
-    let relayed = run(rt, alloc, inbox, client, job, pace)?;
+    let relayed = run(rt, alloc, inbox, client, job, gate, stop)?;
     let came = behind(rt, inbox.received(), received);
     let went = behind(rt, client.submitted(), submitted);
     is_whole(rt, came, went, &relayed, job.to);
@@ -140,7 +147,7 @@ pub(crate) fn relayed<R: Threads + Wait + Abort + Sync>(
     job: &Job,
 ) -> Result<Relayed, AllocError> {
     let pace = Pace::new();
-    let relayed = run_whole(rt, alloc, inbox, client, job, &pace);
+    let relayed = run_whole(rt, alloc, inbox, client, job, &pace, None);
     // Where no thread could be made for a worker, one came after the other: want of memory too.
     if job.turns > 0 && !pace.has_crossed() {
         return Err(AllocError);

@@ -119,12 +119,23 @@ fn carry_up_to_a_short_one<R: Threads + Wait + Abort + Sync>(
     for (first, many) in &WITH_A_SHORT_ONE {
         give(rt, alloc, &mut ends.door, *first, *many);
     }
-    let left = carry(rt, alloc, ends, FAR, 5, [5, 2, 3]);
-    is_left(rt, left.as_slice(), 0, 3);
-    is_left(rt, left.as_slice(), 1, 4);
-    is_left(rt, left.as_slice(), 2, 5);
-    drop(carry(rt, alloc, ends, GATEWAY, 1, [0, 0, 0]));
-    drop(left);
+    let job = Job {
+        to: FAR,
+        limit: 5,
+        turns: TURNS,
+    };
+    let carried = got(rt, relay(rt, alloc, ends, &job));
+    got(rt, is_up_to_a_short_one(&carried));
+    is_left(rt, carried.left.as_slice(), 0, 3);
+    drop(carried);
+}
+
+// Two are submitted, and the third is left, with what was received behind it meanwhile.
+fn is_up_to_a_short_one(carried: &Relayed) -> Result<(), AllocError> {
+    if carried.pushed != 2 || carried.pulled < 3 {
+        return Err(AllocError);
+    }
+    Ok(())
 }
 
 #[test]

@@ -1,8 +1,10 @@
 //! Threads on one segment, and what clients, ports and workers do on one thread.
 mod limits;
+mod memory;
 mod pieces;
 mod steps;
 mod threads;
+mod worker_calls;
 
 use pgn_ids::Address;
 use segment_shared::{

@@ -180,9 +180,13 @@ fn ends_of(rt: &impl Abort, live: &mut Live) -> Ends {
     }
 }
 
-fn are_applied(rt: &impl Abort, live: &Live, pace: &Pace) {
-    holds(rt, live.is_stopped());
+// Each worker came to its first turn before any went on.
+fn has_crossed(rt: &impl Abort, pace: &Pace) {
     same(rt, pace.missed.load(Ordering::SeqCst), 0);
+}
+
+// Beside the opening of the port, which none of them made, the stored calls are those that the workers say they made.
+fn add_up(rt: &impl Abort, live: &Live, pace: &Pace) {
     let applied = pace.calls.load(Ordering::SeqCst);
     same(rt, live.calls().len() as u64, applied.saturating_add(1));
 }
@@ -204,15 +208,35 @@ fn leave_nothing(rt: &impl Abort, alloc: Global, live: &mut Live, ends: Ends) {
     leaves(rt, alloc, live, clients, inbox, nothing);
 }
 
-#[test]
-fn messages_of_two_threads_come_to_a_third(rt: HostRuntime) {
-    let mut live = three(&rt, rt.alloc());
-    let mut ends = ends_of(&rt, &mut live);
+// The two clients talk by threads, and nothing is left; the segment, and what its workers came to.
+fn talk_through<T: Threads + Wait + Abort + Sync>(rt: &T, alloc: Global) -> (Live, Pace) {
+    let mut live = three(rt, alloc);
+    let mut ends = ends_of(rt, &mut live);
     let shared = SharedSegment::share(live);
     let pace = Pace::new();
-    talk_by_threads(&rt, rt.alloc(), &shared, &pace, &mut ends);
+    talk_by_threads(rt, alloc, &shared, &pace, &mut ends);
     let mut live = shared.into_live();
-    are_applied(&rt, &live, &pace);
-    leave_nothing(&rt, rt.alloc(), &mut live, ends);
+    leave_nothing(rt, alloc, &mut live, ends);
+    (live, pace)
+}
+
+#[test]
+fn messages_of_two_threads_come_to_a_third(rt: HostRuntime) {
+    let (live, _pace) = talk_through(&rt, rt.alloc());
+    holds(&rt, live.is_stopped());
+    drop(live);
+}
+
+#[test]
+fn gate_crossed(rt: HostRuntime) {
+    let (live, pace) = talk_through(&rt, rt.alloc());
+    has_crossed(&rt, &pace);
+    drop(live);
+}
+
+#[test]
+fn tallies_add_up(rt: HostRuntime) {
+    let (live, pace) = talk_through(&rt, rt.alloc());
+    add_up(&rt, &live, &pace);
     drop(live);
 }
