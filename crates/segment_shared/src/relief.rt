@@ -29,24 +29,22 @@ fn is_starved(live: &Live, station: Address, waited: u64, done: &Turn) -> bool {
 // Whether nothing is to be done on the segment but that a station takes what waits for it.
 fn rests_but_for(live: &Live, station: Address) -> bool {
     let segment = live.segment();
-    live
-        .addresses()
-        .iter()
-        .all(|address| segment.queue_len(*address) == 0
-            && segment.next_pump(*address).is_none()
-            && (address.0 == station.0 || segment.waiting(*address) == 0))
+    live.addresses().iter().all(|address| segment.queue_len(*address) == 0
+        && segment.next_pump(*address).is_none()
+        && (address.0 == station.0 || segment.waiting(*address) == 0))
 }
 
-// The station misses what waits for it. Where there is no memory for that either, the clock goes on where nothing else makes it go on: it doesn't
-// by itself while a frame waits, and the senders of messages to this station are told of it by their timers.
-fn miss(live: &mut Live, station: Address, is_timed: bool) -> (u64, bool) {
+// The station misses what waits for it. If there is no memory for that either, the clock goes on by a tick if nothing else makes it go on: it doesn't
+// by itself while a frame waits, and the senders of messages to this station are told of it by their timers. If frames wait for another station too, that
+// one may have found no memory either, so the clock goes on once in `MEMORY_TRIES` turns: too slowly to end what the others are at.
+fn miss(live: &mut Live, station: Address, tried: u64, is_timed: bool) -> (u64, bool) {
     let n = live.segment().waiting(station);
     match live.apply(WorkerCall::Overrun { station, n }) {
         Ok(Reply::Done(_)) => return (1, true),
         Ok(_) => return (0, false),
         Err(_) => {}
     }
-    if !is_timed && rests_but_for(live, station) {
+    if !is_timed && (tried % MEMORY_TRIES == 0 || rests_but_for(live, station)) {
         return (tick(live, 1), false);
     }
     (0, false)
@@ -69,7 +67,7 @@ pub(crate) fn relieved_turn(
     if tried < MEMORY_TRIES {
         return (done, tried);
     }
-    let (calls, is_missed) = miss(live, station, is_timed);
+    let (calls, is_missed) = miss(live, station, tried, is_timed);
     done.calls = done.calls.saturating_add(calls);
     (done, if is_missed { 0 } else { tried })
 }
