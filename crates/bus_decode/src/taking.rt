@@ -179,11 +179,12 @@ fn take_held<R: BufRead, W: Write>(
     let Some(len) = held_line(MAX_LINE, held) else {
         return Ok(Turn::Open);
     };
-    match take_text(alloc, options, run, &held[..len], writer) {
+    let taken = take_text(alloc, options, run, &held[..len], writer);
+    reader.consume(len + 1);
+    match taken {
         Ok(()) => {}
         Err(cause) => return Err(cause),
     }
-    reader.consume(len + 1);
     if len + 1 < count {
         return Ok(Turn::Line);
     }

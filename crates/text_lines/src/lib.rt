@@ -1,4 +1,4 @@
-//! Lines of a reader, one held at a time, and text for a writer, written and flushed at once.
+//! Lines of a reader, one held at a time or looked at where the reader has it, and text for a writer, written and flushed at once.
 #![tactic(auto)]
 
 mod lines;
