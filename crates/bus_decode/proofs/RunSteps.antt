@@ -83,7 +83,7 @@ keeps_none None b k = tt
 keeps_none (Some s) None k = k
 keeps_none (Some s) (Some t) k = k ∙ sym (append-nil s)
 
-keeps_front : (a b : Option (List ℕ)) (x : List ℕ) → Keeps a b → IsFront a b x
+pub keeps_front : (a b : Option (List ℕ)) (x : List ℕ) → Keeps a b → IsFront a b x
 keeps_front None b x k = ([], tt)
 keeps_front (Some s) None x k = absurd k
 keeps_front (Some s) (Some t) x k = (x, ap (λ v. v ++ x) k)

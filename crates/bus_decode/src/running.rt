@@ -75,7 +75,7 @@ fn failed(line: u64, cause: Cause, counts: Counts) -> Decoded
 }
 
 /// The log ends: what that tells is written and flushed.
-#[tactic(auto, using(text_lines::proofs::Known::front_none))]
+#[tactic(auto, using(text_lines::proofs::Known::front_none, crate::proofs::RunSteps::keeps_front))]
 fn end_run<W: Write>(alloc: Global, options: &Options, run: Run, writer: &mut W) -> Decoded
     ensures { Ended result (W.contents writer.old) (W.contents writer.new) (last_outcome options.now (run.listener, run.counts)) }
 {

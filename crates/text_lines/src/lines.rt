@@ -66,6 +66,7 @@ fn before_feed(bytes: &[u8]) -> usize
 ///
 /// So a line is looked at where it lies, and none is copied but one that goes over the end of the reader's buffer: what `fill_buf` shows is
 /// looked at, and the line consumed with its line feed.
+#[inline]
 pub fn held_line(most: usize, held: &[u8]) -> Option<usize>
     ensures { result ≡ held_line most held.now }
 {
