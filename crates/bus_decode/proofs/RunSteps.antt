@@ -229,11 +229,11 @@ flushed_line options old new flushed (Some all) None a b c same t k = absurd t.0
 flushed_line options old new flushed (Some all) (Some rest) a b c same t k =
     (subst (λ o. GoesOn a c o (further options old (lines_of all))) (sym (further_same options new flushed (lines_of rest) same)) (goes_kept a b c _ _ t.0 k), same.1 ∙ t.1)
 
-pub unflushed_line : (options : Options) (old new last : Run) (ra rb a b c : Option (List ℕ)) → Takes (Ok Line) options old new ra rb a b → Keeps b c
-    → Takes (Err causes.WriteFailed) options old last ra rb a c
-unflushed_line options old new last None rb a b c t k = tt
-unflushed_line options old new last (Some all) None a b c t k = absurd t.0
-unflushed_line options old new last (Some all) (Some rest) a b c t k = kept_front a b c _ (goes_front a b _ _ t.0) k
+pub unflushed_line : (options : Options) (old new : Run) (ra rb a b c : Option (List ℕ)) → Takes (Ok Line) options old new ra rb a b → Keeps b c
+    → IfSome ra (λ all. IsFront a c (further options old (lines_of all)).text)
+unflushed_line options old new None rb a b c t k = tt
+unflushed_line options old new (Some all) None a b c t k = absurd t.0
+unflushed_line options old new (Some all) (Some rest) a b c t k = kept_front a b c _ (goes_front a b _ _ t.0) k
 
 -- with no line there, or none that was taken
 pub no_line_left : (options : Options) (run : Run) (held : List ℕ) (ra rb a : Option (List ℕ)) → length held ≡ 0 → IfSome ra (λ all. length held ≡ 0 → all ≡ []) → Takes (Ok End) options run run ra rb a a
@@ -243,10 +243,11 @@ no_line_left options run held (Some all) rb a none end = (ap lines_of (end none)
 pub left_open : (options : Options) (run : Run) (ra rb a : Option (List ℕ)) → Keeps ra rb → Takes (Ok Open) options run run ra rb a a
 left_open options run ra rb a k = (k, keeps_same a, refl, refl)
 
-pub not_read : (options : Options) (run : Run) (error : ReadError) (ra rb a : Option (List ℕ)) → Takes (Err (read_cause error)) options run run ra rb a a
-not_read options run error None rb a = tt
-not_read options run reads.Failed (Some all) rb a = keeps_front a a _ (keeps_same a)
-not_read options run reads.OutOfMemory (Some all) rb a = keeps_front a a _ (keeps_same a)
+pub not_read : (options : Options) (run : Run) (n : ℕ) (counts : Counts) (error : ReadError) (ra a : Option (List ℕ))
+    → IfSome ra (λ all. EndedByCause n (read_cause error) counts a a (further options run (lines_of all)))
+not_read options run n counts error None a = tt
+not_read options run n counts reads.Failed (Some all) a = keeps_front a a _ (keeps_same a)
+not_read options run n counts reads.OutOfMemory (Some all) a = keeps_front a a _ (keeps_same a)
 
 pub long_line : (options : Options) (run : Run) (line : List ℕ) (ra rb a : Option (List ℕ)) → Known ra rb (ReadsLine readings.TooLong line)
     → Takes (Err (causes.Fault (limit_fault run.number))) options run run ra rb a a
@@ -276,37 +277,37 @@ cause_before n causes.ReadFailed counts a b c o k e = (e.0, keeps_appends a b (a
 cause_before n causes.OutOfMemory counts a b c o k e = (e.0, keeps_appends a b (append_known c e.0) o.text k e.1)
 cause_before n causes.WriteFailed counts a b c o k e = (e.0, keeps_appends a b (append_known c e.0) o.text k e.1)
 
-pub next_line : (options : Options) (old open new : Run) (ra rb rc a b c d : Option (List ℕ)) → Takes (Ok Open) options old open ra rb a b → Keeps b c
-    → Takes (Ok Line) options open new rb rc c d → Takes (Ok Line) options old new ra rc a d
-next_line options old open new None rb rc a b c d t k u = (tt, u.1 ∙ ap (λ n. n + 1) t.2.1)
-next_line options old open new (Some all) None rc a b c d t k u = absurd t.0
-next_line options old open new (Some all) (Some rest) None a b c d t k u = absurd u.0
-next_line options old open new (Some all) (Some rest) (Some left) a b c d t k u =
-    let whole = further_same options old open (lines_of rest) t.2 ∙ ap (λ x. further options old (lines_of x)) t.0 in
+pub next_line : (options : Options) (old mid new : Run) (ra rb rc a b c d : Option (List ℕ)) → Takes (Ok Open) options old mid ra rb a b → Keeps b c
+    → Takes (Ok Line) options mid new rb rc c d → Takes (Ok Line) options old new ra rc a d
+next_line options old mid new None rb rc a b c d t k u = (tt, u.1 ∙ ap (λ n. n + 1) t.2.1)
+next_line options old mid new (Some all) None rc a b c d t k u = absurd t.0
+next_line options old mid new (Some all) (Some rest) None a b c d t k u = absurd u.0
+next_line options old mid new (Some all) (Some rest) (Some left) a b c d t k u =
+    let whole = further_same options old mid (lines_of rest) t.2 ∙ ap (λ x. further options old (lines_of x)) t.0 in
     (goes_before a c d _ _ (keeps_both a b c t.1 k) (subst (λ o. GoesOn c d (further options new (lines_of left)) o) whole u.0), u.1 ∙ ap (λ n. n + 1) t.2.1)
 
-pub next_end : (options : Options) (old open new : Run) (ra rb rc a b c d : Option (List ℕ)) → Takes (Ok Open) options old open ra rb a b → Keeps b c
-    → Takes (Ok End) options open new rb rc c d → Takes (Ok End) options old new ra rc a d
-next_end options old open new ra rb rc a b c d t k u = (none ra rb t.0 u.0, keeps_both a c d (keeps_both a b c t.1 k) u.1, u.2.0 ∙ t.2.0, u.2.1 ∙ t.2.1)
+pub next_end : (options : Options) (old mid new : Run) (ra rb rc a b c d : Option (List ℕ)) → Takes (Ok Open) options old mid ra rb a b → Keeps b c
+    → Takes (Ok End) options mid new rb rc c d → Takes (Ok End) options old new ra rc a d
+next_end options old mid new ra rb rc a b c d t k u = (none ra rb t.0 u.0, keeps_both a c d (keeps_both a b c t.1 k) u.1, u.2.0 ∙ t.2.0, u.2.1 ∙ t.2.1)
   where
     none : (x y : Option (List ℕ)) → Keeps x y → IfSome y (λ all. lines_of all ≡ []) → IfSome x (λ all. lines_of all ≡ [])
     none None y h e = tt
     none (Some all) None h e = absurd h
     none (Some all) (Some rest) h e = subst (λ l. lines_of l ≡ []) h e
 
-pub next_cause : (options : Options) (old open new : Run) (cause : Cause) (ra rb rc a b c d : Option (List ℕ)) → Takes (Ok Open) options old open ra rb a b → Keeps b c
-    → Takes (Err cause) options open new rb rc c d → Takes (Err cause) options old new ra rc a d
-next_cause options old open new cause None rb rc a b c d t k u = tt
-next_cause options old open new cause (Some all) None rc a b c d t k u = absurd t.0
-next_cause options old open new cause (Some all) (Some rest) rc a b c d t k u =
-    let whole = further_same options old open (lines_of rest) t.2 ∙ ap (λ x. further options old (lines_of x)) t.0 in
+pub next_cause : (options : Options) (old mid new : Run) (cause : Cause) (ra rb rc a b c d : Option (List ℕ)) → Takes (Ok Open) options old mid ra rb a b → Keeps b c
+    → Takes (Err cause) options mid new rb rc c d → Takes (Err cause) options old new ra rc a d
+next_cause options old mid new cause None rb rc a b c d t k u = tt
+next_cause options old mid new cause (Some all) None rc a b c d t k u = absurd t.0
+next_cause options old mid new cause (Some all) (Some rest) rc a b c d t k u =
+    let whole = further_same options old mid (lines_of rest) t.2 ∙ ap (λ x. further options old (lines_of x)) t.0 in
     cause_before new.number cause new.counts a c d _ (keeps_both a b c t.1 k) (subst (λ o. EndedByCause new.number cause new.counts c d o) whole u)
 
 -- nothing of it was written
-pub next_unwritten : (options : Options) (old open new : Run) (ra rb rc a b c : Option (List ℕ)) → Takes (Ok Open) options old open ra rb a b → Keeps b c
-    → Takes (Err causes.WriteFailed) options old new ra rc a c
-next_unwritten options old open new None rb rc a b c t k = tt
-next_unwritten options old open new (Some all) rb rc a b c t k = keeps_front a c _ (keeps_both a b c t.1 k)
+pub next_unwritten : (options : Options) (old mid : Run) (ra rb a b c : Option (List ℕ)) → Takes (Ok Open) options old mid ra rb a b → Keeps b c
+    → IfSome ra (λ all. IsFront a c (further options old (lines_of all)).text)
+next_unwritten options old mid None rb a b c t k = tt
+next_unwritten options old mid (Some all) rb a b c t k = keeps_front a c _ (keeps_both a b c t.1 k)
 
 -- A log, line by line
 

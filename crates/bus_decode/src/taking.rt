@@ -141,9 +141,7 @@ fn take_text<W: Write>(
             return Err(cause_of(error));
         }
     }
-    if !run.told.is_empty() {
-        run.is_flushed = false;
-    }
+    run.is_flushed = run.is_flushed && run.told.is_empty();
     let Ok(()) = put_all(writer, run.told.as_slice()) else {
         return Err(Cause::WriteFailed);
     };
