@@ -60,7 +60,7 @@ pub keeps_same : (b : Option (List ℕ)) → Keeps b b
 keeps_same None = tt
 keeps_same (Some t) = refl
 
-keeps_both : (a b c : Option (List ℕ)) → Keeps a b → Keeps b c → Keeps a c
+pub keeps_both : (a b c : Option (List ℕ)) → Keeps a b → Keeps b c → Keeps a c
 keeps_both None b c h k = tt
 keeps_both (Some s) None c h k = absurd h
 keeps_both (Some s) (Some t) None h k = k
@@ -237,11 +237,11 @@ unflushed_line options old new (Some all) (Some rest) a b c t k = kept_front a b
 
 -- with no line there, or none that was taken
 pub no_line_left : (options : Options) (run : Run) (held : List ℕ) (ra rb a : Option (List ℕ)) → length held ≡ 0 → IfSome ra (λ all. length held ≡ 0 → all ≡ []) → Takes (Ok End) options run run ra rb a a
-no_line_left options run held None rb a none end = (tt, keeps_same a, refl, refl)
-no_line_left options run held (Some all) rb a none end = (ap lines_of (end none), keeps_same a, refl, refl)
+no_line_left options run held None rb a none end = (tt, keeps_same a, (refl, refl))
+no_line_left options run held (Some all) rb a none end = (ap lines_of (end none), keeps_same a, (refl, refl))
 
 pub left_open : (options : Options) (run : Run) (ra rb a : Option (List ℕ)) → Keeps ra rb → Takes (Ok Open) options run run ra rb a a
-left_open options run ra rb a k = (k, keeps_same a, refl, refl)
+left_open options run ra rb a k = (k, keeps_same a, (refl, refl))
 
 pub not_read : (options : Options) (run : Run) (n : ℕ) (counts : Counts) (error : ReadError) (ra a : Option (List ℕ))
     → IfSome ra (λ all. EndedByCause n (read_cause error) counts a a (further options run (lines_of all)))
@@ -258,13 +258,22 @@ long_line options run line (Some all) (Some rest) a reads =
         (fault_ends options (listening_of run) run.number reads.0 (limit_fault run.number) run.counts a (too_long options (listening_of run) run.number reads.0 reads.3) refl reads.1)
 
 pub copied_end : (options : Options) (run : Run) (line : List ℕ) (ra rb a : Option (List ℕ)) → Known ra rb (ReadsLine readings.End line) → Takes (Ok End) options run run ra rb a a
-copied_end options run line None rb a reads = (tt, keeps_same a, refl, refl)
+copied_end options run line None rb a reads = (tt, keeps_same a, (refl, refl))
 copied_end options run line (Some all) None a reads = absurd reads
-copied_end options run line (Some all) (Some rest) a reads = (reads, keeps_same a, refl, refl)
+copied_end options run line (Some all) (Some rest) a reads = (reads, keeps_same a, (refl, refl))
+
+-- the reader failed
+pub unread : (options : Options) (run : Run) (ra a : Option (List ℕ)) → IfSome ra (λ all. IsFront a a (further options run (lines_of all)).text)
+unread options run None a = tt
+unread options run (Some all) a = keeps_front a a _ (keeps_same a)
 
 -- what was read, by its name
 pub reads_as : (read as_known : LineRead) (rb rc : Option (List ℕ)) (line : List ℕ) → read ≡ as_known → Known rb rc (ReadsLine read line) → Known rb rc (ReadsLine as_known line)
 reads_as read as_known rb rc line e k = subst (λ r. Known rb rc (ReadsLine r line)) e k
+
+-- what came of the next line, by its name
+pub turns_as : (turn as_known : Turn) (options : Options) (old new : Run) (ra rb a b : Option (List ℕ)) → turn ≡ as_known → Takes (Ok turn) options old new ra rb a b → Takes (Ok as_known) options old new ra rb a b
+turns_as turn as_known options old new ra rb a b e t = subst (λ x. Takes (Ok x) options old new ra rb a b) e t
 
 -- A line that isn't taken where it lies, and then copied
 
@@ -288,7 +297,7 @@ next_line options old mid new (Some all) (Some rest) (Some left) a b c d t k u =
 
 pub next_end : (options : Options) (old mid new : Run) (ra rb rc a b c d : Option (List ℕ)) → Takes (Ok Open) options old mid ra rb a b → Keeps b c
     → Takes (Ok End) options mid new rb rc c d → Takes (Ok End) options old new ra rc a d
-next_end options old mid new ra rb rc a b c d t k u = (none ra rb t.0 u.0, keeps_both a c d (keeps_both a b c t.1 k) u.1, u.2.0 ∙ t.2.0, u.2.1 ∙ t.2.1)
+next_end options old mid new ra rb rc a b c d t k u = (none ra rb t.0 u.0, keeps_both a c d (keeps_both a b c t.1 k) u.1, (u.2.0 ∙ t.2.0, u.2.1 ∙ t.2.1))
   where
     none : (x y : Option (List ℕ)) → Keeps x y → IfSome y (λ all. lines_of all ≡ []) → IfSome x (λ all. lines_of all ≡ [])
     none None y h e = tt
