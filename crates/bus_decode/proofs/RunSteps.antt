@@ -12,7 +12,7 @@ use Rattle.text_lines.specs.declared.lines.LineRead.TheVariants as readings
 use Rattle.bus_decode.specs.Listening.{Listening, Step, Read, line_seen}
 use Rattle.bus_decode.specs.Outcome.{Outcome, lines_end, limit_fault, numbered_line, then_rest, last_outcome, outcome_from, first_listening, outcome}
 use Rattle.bus_decode.specs.Ending.{cause_of, read_cause, EndedByCause, EndedBy, Ended, IsLastCause}
-use Rattle.bus_decode.specs.Taking.{GoesOn, listening_of, further, TakesText, IsAsBefore, Takes, TakesNext}
+use Rattle.bus_decode.specs.Taking.{GoesOn, listening_of, further, IsNumbered, TakesText, IsAsBefore, Takes, TakesNext}
 use Rattle.bus_decode.specs.declared.counts.Counts.{Counts}
 use Rattle.bus_decode.specs.declared.options.Options.{Options}
 use Rattle.bus_decode.specs.declared.listening.LineError.{LineError}
@@ -222,12 +222,15 @@ failed_line options old new line cause (Some all) (Some rest) a b reads t =
     subst (λ ls. EndedByCause new.number cause new.counts a b (further options old ls)) (sym reads) (t (lines_of rest))
 
 -- and then flushed, or not
+numbered_still : (old new flushed : Run) → IsAsBefore new flushed → IsNumbered old new → IsNumbered old flushed
+numbered_still old new flushed same t = (same.1 ∙ t.0, t.1)
+
 pub flushed_line : (options : Options) (old new flushed : Run) (ra rb a b c : Option (List ℕ)) → IsAsBefore new flushed → Takes (Ok Line) options old new ra rb a b → Keeps b c
     → Takes (Ok Line) options old flushed ra rb a c
-flushed_line options old new flushed None rb a b c same t k = (tt, same.1 ∙ t.1)
+flushed_line options old new flushed None rb a b c same t k = (tt, numbered_still old new flushed same t.1)
 flushed_line options old new flushed (Some all) None a b c same t k = absurd t.0
 flushed_line options old new flushed (Some all) (Some rest) a b c same t k =
-    (subst (λ o. GoesOn a c o (further options old (lines_of all))) (sym (further_same options new flushed (lines_of rest) same)) (goes_kept a b c _ _ t.0 k), same.1 ∙ t.1)
+    (subst (λ o. GoesOn a c o (further options old (lines_of all))) (sym (further_same options new flushed (lines_of rest) same)) (goes_kept a b c _ _ t.0 k), numbered_still old new flushed same t.1)
 
 pub unflushed_line : (options : Options) (old new : Run) (ra rb a b c : Option (List ℕ)) → Takes (Ok Line) options old new ra rb a b → Keeps b c
     → IfSome ra (λ all. IsFront a c (further options old (lines_of all)).text)
@@ -286,14 +289,17 @@ cause_before n causes.ReadFailed counts a b c o k e = (e.0, keeps_appends a b (a
 cause_before n causes.OutOfMemory counts a b c o k e = (e.0, keeps_appends a b (append_known c e.0) o.text k e.1)
 cause_before n causes.WriteFailed counts a b c o k e = (e.0, keeps_appends a b (append_known c e.0) o.text k e.1)
 
+numbered_later : (old mid new : Run) → IsAsBefore old mid → IsNumbered mid new → IsNumbered old new
+numbered_later old mid new same t = (t.0 ∙ ap (λ n. n + 1) same.1, subst (λ n. n < lines_end) same.1 t.1)
+
 pub next_line : (options : Options) (old mid new : Run) (ra rb rc a b c d : Option (List ℕ)) → Takes (Ok Open) options old mid ra rb a b → Keeps b c
     → Takes (Ok Line) options mid new rb rc c d → Takes (Ok Line) options old new ra rc a d
-next_line options old mid new None rb rc a b c d t k u = (tt, u.1 ∙ ap (λ n. n + 1) t.2.1)
+next_line options old mid new None rb rc a b c d t k u = (tt, numbered_later old mid new t.2 u.1)
 next_line options old mid new (Some all) None rc a b c d t k u = absurd t.0
 next_line options old mid new (Some all) (Some rest) None a b c d t k u = absurd u.0
 next_line options old mid new (Some all) (Some rest) (Some left) a b c d t k u =
     let whole = further_same options old mid (lines_of rest) t.2 ∙ ap (λ x. further options old (lines_of x)) t.0 in
-    (goes_before a c d _ _ (keeps_both a b c t.1 k) (subst (λ o. GoesOn c d (further options new (lines_of left)) o) whole u.0), u.1 ∙ ap (λ n. n + 1) t.2.1)
+    (goes_before a c d _ _ (keeps_both a b c t.1 k) (subst (λ o. GoesOn c d (further options new (lines_of left)) o) whole u.0), numbered_later old mid new t.2 u.1)
 
 pub next_end : (options : Options) (old mid new : Run) (ra rb rc a b c d : Option (List ℕ)) → Takes (Ok Open) options old mid ra rb a b → Keeps b c
     → Takes (Ok End) options mid new rb rc c d → Takes (Ok End) options old new ra rc a d

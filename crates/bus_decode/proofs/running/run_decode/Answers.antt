@@ -5,7 +5,7 @@ use Rattle.bus_decode.proofs.running.run_decode.Goals as goal
 pub lines-smaller : goal.lines-smaller
 lines-smaller g c =
     let taken = rw c.in-Ok-true.field-0-test at c.in-Ok-true.ensures in
-    omega (arith, taken.1, c.take_next.type_inv, c.take_next.auto.run)
+    omega (arith, taken.1.0, taken.1.1)
 
 pub returns-in-Ok-false : goal.returns-in-Ok-false
 returns-in-Ok-false g c =

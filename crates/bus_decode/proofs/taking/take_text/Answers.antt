@@ -17,4 +17,4 @@ returns-in_default g c =
 pub returns : goal.returns
 returns g c =
     let seen = rw c.clear.ensures.items at c.in-Ok.ensures in
-    (text_done _ _ _ _ _ _ _ _ c.if-run-ge-LINES_END.false c.requires (was_told _ _ _ _ seen) (rw c.as_slice.ensures.value at c.in-Ok-put_all.ensures.written), refl)
+    (text_done _ _ _ _ _ _ _ _ c.if-run-ge-LINES_END.false c.requires (was_told _ _ _ _ seen) (rw c.as_slice.ensures.value at c.in-Ok-put_all.ensures.written), (refl, c.if-run-ge-LINES_END.false))
