@@ -121,7 +121,7 @@ fn a_relay_ends_after_its_turns(rt: HostRuntime) {
 }
 
 /// How many turns a side has made where something else has ended the other one.
-const FAR_TOO_MANY: u64 = 1_000_000;
+const FAR_TOO_MANY: u64 = 100_000;
 
 // Sets it once the side that receives has filled the line, the other one has tried its message twice behind that, and the first has made
 // three turns more: by then each of both holds a message.
