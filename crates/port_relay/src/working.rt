@@ -1,12 +1,11 @@
 //! The two sides of a relay: one receives messages and puts them into the line, the other takes them out and submits them.
-ghost use Rattle.std.specs.Prelude.{◌≡◌, ◌+◌, ◌^◌, ◌<◌, ◌≤◌, true, false, [], Some, None};
+ghost use Rattle.std.specs.Prelude.{◌≡◌, ◌+◌, ◌^◌, ◌<◌, ◌≤◌, true, Some, None};
 ghost use Rattle.crossbeam_channel.specs.Claims.{view, IsSeatAt};
 ghost use Rattle.crossbeam_channel.specs.Ends.{sends_on, receives_on, ruled_capacity};
 ghost use Rattle.pgn_ids.specs.declared.address.Address.{Address};
 ghost use Rattle.segment_rings.specs.Ends.{ClientEnd, InboxEnd};
 ghost use Rattle.port_relay.specs.declared.line.Log.{Log};
 ghost use Rattle.port_relay.specs.declared.stopping.Ended.TheVariants.{Limit};
-ghost use Rattle.port_relay.specs.Line.{log};
 ghost use Rattle.port_relay.specs.Working.{HasPulled, HasPushed};
 
 use crate::line::{Receiver, Sender, Way, put, take};

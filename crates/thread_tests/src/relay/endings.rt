@@ -2,7 +2,6 @@
 //! where no second thread can be made, and comes to the same.
 use crate::checks::{got, holds, same};
 use crate::relay::ends::*;
-use crate::relay::pace::Pace;
 use message_events::Bytes;
 use port_relay::{Ended, Gate, Relayed, Stop};
 use segment_rings::Delivery;
@@ -122,7 +121,7 @@ fn a_relay_ends_after_its_turns(rt: HostRuntime) {
 }
 
 /// How many turns a side has made where something else has ended the other one.
-const FAR_TOO_MANY: u64 = 1_000_000;
+const FAR_TOO_MANY: u64 = 100_000;
 
 // Sets it once the side that receives has filled the line, the other one has tried its message twice behind that, and the first has made
 // three turns more: by then each of both holds a message.
@@ -289,13 +288,49 @@ fn another_thread_stops_a_relay(rt: HostRuntime) {
     drop(ends);
 }
 
-// Both sides come to their first turns before either goes on.
+/// How often a side looks at its first turn whether the other one has come.
+const FIRST_LOOKS: u64 = 10_000_000;
+
+// Holds both sides at their first turns until both have come, or the looks are used up.
+#[derive(Drop)]
+struct Meeting {
+    come: AtomicU64,
+    missed: AtomicU64,
+}
+
+impl Gate for Meeting {
+    fn pass(&self, _side: u8, turn: u64) {
+        if turn > 1 {
+            return;
+        }
+        self.come.fetch_add(1, Ordering::SeqCst);
+        for _ in 0..FIRST_LOOKS {
+            if self.come.load(Ordering::SeqCst) >= 2 {
+                return;
+            }
+            thread::yield_now();
+        }
+        self.missed.fetch_add(1, Ordering::SeqCst);
+    }
+}
+
+// Where no thread could be made for a side, one came after the other: want of memory too.
+fn has_crossed(meeting: &Meeting) -> Result<(), AllocError> {
+    if meeting.missed.load(Ordering::SeqCst) > 0 {
+        return Err(AllocError);
+    }
+    Ok(())
+}
+
 fn cross<R: Threads + Wait + Abort + Sync>(rt: &R, alloc: Global, ends: &mut Ends) {
     give_all(rt, alloc, ends, 40, 9);
-    let pace = Pace::new();
-    let carried = carry(rt, alloc, ends, &job(40, NO_END), &pace, None);
-    // Where no thread could be made for a side, one came after the other: want of memory too.
-    got(rt, pace.has_crossed().then_some(()).ok_or(AllocError));
+    let meeting = Meeting {
+        come: AtomicU64::new(0),
+        missed: AtomicU64::new(0),
+    };
+    let carried = carry(rt, alloc, ends, &job(40, NO_END), &meeting, None);
+    got(rt, has_crossed(&meeting));
+    same(rt, meeting.come.load(Ordering::SeqCst), 2);
     is_ended(rt, &carried, [40, 40, 0], Ended::Limit, Ended::OtherEnded);
     drop(carried);
 }
