@@ -1,2 +1,2 @@
 pub mod FieldSteps
-pub mod Fields
+pub mod FieldWalk

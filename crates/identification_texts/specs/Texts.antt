@@ -28,9 +28,12 @@ lines_of kind (f ∷ fs) = field_lines kind 1 (f ∷ fs)
 abbrev pub identification : Kind → List ℕ → List (List ℕ)
 identification kind text = lines_of kind (fields_of text)
 
--- how many fields are announced, and how many there are, if these are others
+-- how many fields there are, if these are others than were announced
+abbrev pub found_text : (announced found : ℕ) → List ℕ
+found_text n m = if n == m then [] else codes ", but there are " ++ decimal m
+
 abbrev pub count_line : (announced found : ℕ) → List ℕ
-count_line n m = codes "software fields: " ++ decimal n ++ (if n == m then [] else codes ", but there are " ++ decimal m)
+count_line n m = codes "software fields: " ++ decimal n ++ found_text n m
 
 -- the first byte announces how many fields there are
 abbrev pub software_identification : List ℕ → List (List ℕ)

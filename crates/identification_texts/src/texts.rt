@@ -1,7 +1,7 @@
 //! The lines of an identification.
 ghost use Rattle.std.specs.Prelude.{◌≡◌, ◌++◌, ◌+◌, length, IfOk, OnOk};
 ghost use Rattle.identification_texts.specs.Fields.{texts};
-ghost use Rattle.identification_texts.specs.Texts.{behind_colon, field_line, field_lines, identification, count_line, software_identification};
+ghost use Rattle.identification_texts.specs.Texts.{behind_colon, field_line, field_lines, identification, found_text, count_line, software_identification};
 
 use crate::fields::split_fields;
 use crate::naming::{Kind, put_name};
@@ -59,17 +59,25 @@ pub fn identification(alloc: Global, kind: Kind, text: &[u8]) -> Result<Vec<Line
     Ok(lines)
 }
 
-/// How many fields are announced, and how many there are, if these are others.
+/// How many fields there are, if these are others than were announced.
+fn put_found(out: &mut Vec<u8>, announced: u64, found: u64) -> Result<(), AllocError>
+    ensures { OnOk result (out.new.items ≡ out.old.items ++ found_text announced found) }
+{
+    if announced == found {
+        return Ok(());
+    }
+    put_text(out, ", but there are ")?;
+    put_decimal(out, found)
+}
+
+/// How many fields are announced.
 fn count_line(alloc: Global, announced: u8, found: u64) -> Result<Line, AllocError>
     ensures { IfOk result (λ l. l ≡ count_line announced found) }
 {
     let mut text = Vec::new(alloc);
     put_text(&mut text, "software fields: ")?;
     put_decimal(&mut text, u64::from(announced))?;
-    if u64::from(announced) != found {
-        put_text(&mut text, ", but there are ")?;
-        put_decimal(&mut text, found)?;
-    }
+    put_found(&mut text, u64::from(announced), found)?;
     Ok(Line::new(text))
 }
 

@@ -1,5 +1,5 @@
 use Rattle.std.proofs.Common.{◌<◌, length, refl, arith}
-use Rattle.identification_texts.proofs.Fields.{one_more, at_last}
+use Rattle.identification_texts.proofs.FieldWalk.{one_more, at_last}
 use Rattle.identification_texts.proofs.texts.push_fields.Goals as goal
 
 pub loop-at-preserved : goal.loop-at-preserved
