@@ -38,6 +38,13 @@ EndedBy (Some f) counts a b o = EndedByCause f.line f.cause counts a b o
 abbrev pub Ended : Decoded → Option (List ℕ) → Option (List ℕ) → Outcome → Type 0
 Ended d a b o = EndedBy d.fault d.counts a b o
 
+-- a writer that fails at the last flush is why the run ends
+abbrev pub IsLastCause : (before last : Cause) → Type 0
+IsLastCause before causes.WriteFailed = Unit {0}
+IsLastCause before causes.ReadFailed = before ≡ causes.ReadFailed
+IsLastCause before causes.OutOfMemory = before ≡ causes.OutOfMemory
+IsLastCause before (causes.Fault f) = before ≡ causes.Fault f
+
 -- the status of a program
 abbrev pub status_of : Decoded → ℕ
 status_of d = elim d.fault [ None ↦ if d.counts.wrong == 0 then 0 else 1 | Some f ↦ 1 ]

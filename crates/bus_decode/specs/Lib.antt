@@ -6,3 +6,4 @@ pub mod Telling
 pub mod Listening
 pub mod Outcome
 pub mod Ending
+pub mod Taking

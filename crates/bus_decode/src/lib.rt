@@ -9,6 +9,7 @@ mod listening;
 mod options;
 mod running;
 mod strays;
+mod taking;
 mod telling;
 
 pub use counts::Counts;

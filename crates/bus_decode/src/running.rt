@@ -1,16 +1,17 @@
 //! A log, read line by line.
-ghost use Rattle.std.specs.Prelude.{◌≡◌, IfSome, Some};
-ghost use Rattle.bus_decode.specs.Outcome.{fault_text, limit_fault, last_outcome, outcome};
-ghost use Rattle.bus_decode.specs.Ending.{cause_of, read_cause, Ended, fault_line, status_of};
+ghost use Rattle.std.specs.Prelude.{◌≡◌, true, IfSome, Some};
+ghost use Rattle.std.specs.Io.KnownBytes.{Keeps};
+ghost use Rattle.bus_decode.specs.Outcome.{fault_text, last_outcome, outcome};
+ghost use Rattle.bus_decode.specs.Ending.{Ended, IsLastCause, fault_line, status_of};
 
 use crate::counts::Counts;
-use crate::listener::Listener;
-use crate::listening::{LineError, take_end, take_line};
+use crate::listening::take_end;
 use crate::options::Options;
+use crate::taking::{Run, flush_told, take_next};
 use std::alloc::Global;
 use std::fmt;
 use std::io::{BufRead, Write};
-use text_lines::{LineRead, ReadError, read_line, tell};
+use text_lines::tell;
 
 /// What is wrong with a line of a log, in the order in which it is looked for.
 #[derive(Clone, Copy, Debug, PartialEq, Eq)]
@@ -64,38 +65,6 @@ pub struct Decoded {
     pub fault: Option<LogFault>,
 }
 
-fn cause_of(error: LineError) -> Cause
-    ensures { result ≡ cause_of error }
-{
-    match error {
-        LineError::OutOfMemory => Cause::OutOfMemory,
-        LineError::NotLogLine => Cause::Fault(Fault::NotLogLine),
-    }
-}
-
-fn read_cause(error: ReadError) -> Cause
-    ensures { result ≡ read_cause error }
-{
-    match error {
-        ReadError::Failed => Cause::ReadFailed,
-        ReadError::OutOfMemory => Cause::OutOfMemory,
-    }
-}
-
-/// One more than the most lines that a log may have.
-const LINES_END: u64 = u64::MAX;
-
-/// The fault of a line that is too long. Lines count from 1.
-fn limit_fault(line: u64) -> Fault
-    ensures { result ≡ limit_fault line }
-{
-    if line >= LINES_END {
-        Fault::TooManyLines
-    } else {
-        Fault::LineTooLong
-    }
-}
-
 fn failed(line: u64, cause: Cause, counts: Counts) -> Decoded
     ensures { result ≡ record { counts = counts; fault = Some (record { line = line; cause = cause }) } }
 {
@@ -106,24 +75,27 @@ fn failed(line: u64, cause: Cause, counts: Counts) -> Decoded
 }
 
 /// The log ends: what that tells is written and flushed.
-#[tactic(auto, using(text_lines::proofs::Known::front_none))]
-fn end_run<W: Write>(
-    alloc: Global,
-    listener: Listener,
-    counts: Counts,
-    options: &Options,
-    line: u64,
-    writer: &mut W,
-) -> Decoded
-    ensures { Ended result (W.contents writer.old) (W.contents writer.new) (last_outcome options.now (listener, counts)) }
+#[tactic(auto, using(text_lines::proofs::Known::front_none, crate::proofs::RunSteps::keeps_front))]
+fn end_run<W: Write>(alloc: Global, options: &Options, run: Run, writer: &mut W) -> Decoded
+    ensures { Ended result (W.contents writer.old) (W.contents writer.new) (last_outcome options.now (run.listener, run.counts)) }
 {
-    let mut counts = counts;
-    let mut out = Vec::new(alloc);
-    let Ok(()) = take_end(alloc, listener, &mut counts, options, &mut out) else {
-        return failed(line, Cause::OutOfMemory, counts);
+    let Run {
+        listener,
+        form: _,
+        mut counts,
+        number,
+        mut is_flushed,
+        mut told,
+    } = run;
+    let Ok(()) = flush_told(&mut is_flushed, writer) else {
+        return failed(number, Cause::WriteFailed, counts);
     };
-    let Ok(()) = tell(writer, out.as_slice()) else {
-        return failed(line, Cause::WriteFailed, counts);
+    told.clear();
+    let Ok(()) = take_end(alloc, listener, &mut counts, options, &mut told) else {
+        return failed(number, Cause::OutOfMemory, counts);
+    };
+    let Ok(()) = tell(writer, told.as_slice()) else {
+        return failed(number, Cause::WriteFailed, counts);
     };
     Decoded {
         counts,
@@ -131,11 +103,25 @@ fn end_run<W: Write>(
     }
 }
 
-/// Reads a log to its end, and writes and flushes what each line tells before the next one is read. It ends at the first fault: a wrong line is
+/// Why the run ends. What was written before is flushed; a writer that fails then is why.
+fn last_cause<W: Write>(cause: Cause, is_flushed: &mut bool, writer: &mut W) -> Cause
+    ensures kept { Keeps (W.contents writer.old) (W.contents writer.new) }
+    ensures cause { IsLastCause cause result }
+    ensures flushed { is_flushed.old ≡ true → result ≡ cause }
+{
+    let Ok(()) = flush_told(is_flushed, writer) else {
+        return Cause::WriteFailed;
+    };
+    cause
+}
+
+/// Reads a log to its end, and writes what each line tells before the next one is read. What was written is flushed before the reader is asked
+/// for more than it holds, so at the latest if it holds no further whole line, and where the run ends. It ends at the first fault: a wrong line is
 /// one where the options say so, else it is told by its number.
 ///
 /// Unless it reports a failed read or write or refused memory, exactly the text of the log was written, and counts and fault are those of
-/// the log. Where it reports one of these, a front of that text was written.
+/// the log. Where it reports one of these, a front of that text was written. A line is looked at where the reader holds it; one that goes over
+/// the end of what it holds is copied, which takes memory for it.
 pub fn run_decode<R: BufRead, W: Write>(
     alloc: Global,
     options: &Options,
@@ -145,44 +131,17 @@ pub fn run_decode<R: BufRead, W: Write>(
     ensures { IfSome (R.remaining reader.old) (λ log.
         Ended result (W.contents writer.old) (W.contents writer.new) (outcome options.now log)) }
 {
-    let mut listener = Listener::new(alloc, options.most);
-    let mut form = None;
-    let mut counts = Counts::none();
+    let mut run = Run::new(alloc, options.most);
     let mut line = Vec::new(alloc);
-    let mut out = Vec::new(alloc);
-    let mut number = 1;
     'lines: loop {
-        match read_line(reader, &mut line) {
-            Ok(LineRead::End) => return end_run(alloc, listener, counts, options, number, writer),
-            Ok(LineRead::TooLong) => {
-                return failed(number, Cause::Fault(limit_fault(number)), counts);
+        match take_next(alloc, options, &mut run, &mut line, reader, writer) {
+            Ok(true) => {}
+            Ok(false) => return end_run(alloc, options, run, writer),
+            Err(cause) => {
+                let cause = last_cause(cause, &mut run.is_flushed, writer);
+                return failed(run.number, cause, run.counts);
             }
-            Ok(LineRead::Line) => {}
-            Err(error) => return failed(number, read_cause(error), counts),
         }
-        if number >= LINES_END {
-            return failed(number, Cause::Fault(Fault::TooManyLines), counts);
-        }
-        out.clear();
-        let before = counts;
-        let text = line.as_slice();
-        match take_line(
-            alloc,
-            &mut listener,
-            &mut form,
-            &mut counts,
-            options,
-            number,
-            text,
-            &mut out,
-        ) {
-            Ok(()) => {}
-            Err(error) => return failed(number, cause_of(error), before),
-        }
-        let Ok(()) = tell(writer, out.as_slice()) else {
-            return failed(number, Cause::WriteFailed, counts);
-        };
-        number += 1;
     }
 }
 

@@ -1,8 +1,8 @@
 -- What came of the messages of a log, by interface, PGN, sender and destination.
-use Rattle.std.specs.Prelude.{ℕ, zero, suc, ◌+◌, ◌-◌, ◌*◌, ◌/◌, List, [], ◌∷◌, ◌++◌, length, take, replicate, ◌==◌, min, max, if◌then◌else◌, unwrap_or, flat_map}
+use Rattle.std.specs.Prelude.{ℕ, zero, suc, ◌+◌, ◌-◌, ◌*◌, ◌/◌, List, [], ◌∷◌, ◌++◌, length, take, replicate, ◌==◌, min, max, if◌then◌else◌, Option, Some, None, unwrap_or, flat_map}
 use Rattle.std.specs.declared.cmp.Ordering.{Ordering}
 use Rattle.std.specs.BTreeMap.{insert_entry, is_at}
-use Rattle.std.specs.Map.{lookup, values_of}
+use Rattle.std.specs.Map.{lookup, remove_entry, values_of}
 use Rattle.log_text.specs.Iface.{name_of}
 use Rattle.log_text.specs.declared.iface.Iface.{Iface}
 use Rattle.pgn_ids.specs.declared.address.Address.{Address}
@@ -127,8 +127,17 @@ pub record Summary : Type 0 where
 abbrev pub no_summary : Summary
 no_summary = record { rows = []; aborts = []; frames = [] }
 
+-- the row of a key, where it is there
+abbrev pub row_at : RowKey → List (RowKey × Row) → Option Row
+row_at key rows = lookup (is_at (by_row key)) rows
+
+-- the row of a key becomes what it was before, or goes
+abbrev pub put_back : RowKey → Option Row → List (RowKey × Row) → List (RowKey × Row)
+put_back key None rows = remove_entry (is_at (by_row key)) rows
+put_back key (Some row) rows = insert_entry by_row rows key row
+
 abbrev pub row_told : RowKey → Course → Told → List (RowKey × Row) → List (RowKey × Row)
-row_told key c t rows = insert_entry by_row rows key (with_told c t (unwrap_or (lookup (is_at (by_row key)) rows) (new_row (key_told t) (pgn_told t))))
+row_told key c t rows = insert_entry by_row rows key (with_told c t (unwrap_or (row_at key rows) (new_row (key_told t) (pgn_told t))))
 
 -- how often messages of a row were aborted for a reason
 abbrev pub aborted : RowKey → (reason : ℕ) → List (AbortKey × ℕ) → ℕ

@@ -1,6 +1,8 @@
 //! The rows of a log.
-ghost use Rattle.std.specs.Prelude.{◌≡◌, ◌≤◌, ◌++◌, OnOk, IfOk};
-ghost use Rattle.log_summary.specs.Rows.{row_told, aborts_told, aborted, aborts_for, aborts_below, frames_named, frames_on, no_summary, with_frame, with_message, rows_of, aborts_of};
+ghost use Rattle.std.specs.Prelude.{◌≡◌, ◌≤◌, ◌++◌, OnOk, OnErr, IfOk, IsSome};
+ghost use Rattle.std.specs.List.Sorted.{IsStrictlySortedBy};
+ghost use Rattle.std.specs.Map.{keys_of};
+ghost use Rattle.log_summary.specs.Rows.{by_row, row_at, put_back, row_told, aborts_told, aborted, aborts_for, aborts_below, frames_named, frames_on, no_summary, with_frame, with_message, rows_of, aborts_of};
 
 use crate::key::{AbortKey, Name, RowKey};
 use crate::row::Row;
@@ -64,30 +66,62 @@ impl Summary {
         self.frames.get(&name).copied().unwrap_or(0)
     }
 
-    /// A frame is seen on an interface, of a message or of none. It fails only where memory is refused; then nothing has changed.
+    /// A frame is seen on an interface, of a message or of none. It fails only where memory is refused, which the first frame of an interface
+    /// wants; then nothing has changed.
     pub fn add_frame(&mut self, iface: Iface) -> Result<(), AllocError>
-        ensures { OnOk result (self.new ≡ with_frame iface self.old) }
+        ensures counted { OnOk result (self.new ≡ with_frame iface self.old) }
+        ensures refused { OnErr result (self.new ≡ self.old) }
+        ensures first { OnErr result (frames_on iface self.old ≡ 0) }
     {
         let name = Name::of(iface);
-        let seen = self.frames_named(name);
-        self.frames.insert(name, seen.saturating_add(1))?;
+        if let Some(seen) = self.frames.get_mut(&name) {
+            *seen = seen.saturating_add(1);
+            return Ok(());
+        }
+        self.frames.insert(name, 1)?;
         Ok(())
     }
 
-    fn add_row(&mut self, key: RowKey, course: &Course, told: &Told) -> Result<(), AllocError>
-        ensures { OnOk result (self.new ≡ record self.old { rows = row_told key course.now told.now self.old.rows }) }
+    /// A message counts in its row. The row is answered as it was, if it was there.
+    fn add_row(
+        &mut self,
+        key: RowKey,
+        course: &Course,
+        told: &Told,
+    ) -> Result<Option<Row>, AllocError>
+        ensures told { OnOk result (self.new ≡ record self.old { rows = row_told key course.now told.now self.old.rows }) }
+        ensures before { IfOk result (λ row. row ≡ row_at key self.old.rows) }
+        ensures ordered { IsStrictlySortedBy by_row (keys_of self.old.rows) }
+        ensures there { OnOk result (IsSome (row_at key self.new.rows)) }
+        ensures refused { OnErr result (self.new ≡ self.old) }
     {
         let mut row = match self.rows.get(&key) {
             None => Row::new(&key_told(told), pgn_told(told)),
             Some(row) => *row,
         };
         row.add(course, told);
-        self.rows.insert(key, row)?;
-        Ok(())
+        let before = self.rows.insert(key, row)?;
+        Ok(before)
+    }
+
+    /// A row that is there becomes what it was before, or goes if it wasn't there.
+    fn put_back(&mut self, key: RowKey, before: Option<Row>)
+        requires { IsSome (row_at key self.old.rows) }
+        ensures { self.new ≡ record self.old { rows = put_back key before self.old.rows } }
+    {
+        match before {
+            None => {
+                let _ = self.rows.remove(&key);
+            }
+            Some(row) => {
+                let _ = self.rows.insert(key, row);
+            }
+        }
     }
 
     fn add_abort(&mut self, row: RowKey, told: &Told) -> Result<(), AllocError>
-        ensures { OnOk result (self.new ≡ record self.old { aborts = aborts_told row told.now self.old.aborts }) }
+        ensures told { OnOk result (self.new ≡ record self.old { aborts = aborts_told row told.now self.old.aborts }) }
+        ensures refused { OnErr result (self.new ≡ self.old) }
     {
         match told {
             Told::Given { .. } => Ok(()),
@@ -104,14 +138,19 @@ impl Summary {
         }
     }
 
-    /// A message is told, with its course. It fails only where memory is refused; what it leaves then is not said.
+    /// A message is told, with its course. It fails only where memory is refused; then nothing has changed.
     pub fn add(&mut self, course: &Course, told: &Told) -> Result<(), AllocError>
-        ensures { OnOk result (self.new ≡ with_message course.now told.now self.old) }
+        ensures told { OnOk result (self.new ≡ with_message course.now told.now self.old) }
+        ensures refused { OnErr result (self.new ≡ self.old) }
     {
         let key = key_told(told);
         let row = RowKey::of(key.iface, pgn_told(told), key.from, key.to);
-        self.add_row(row, course, told)?;
-        self.add_abort(row, told)
+        let before = self.add_row(row, course, told)?;
+        let Ok(()) = self.add_abort(row, told) else {
+            self.put_back(row, before);
+            return Err(AllocError);
+        };
+        Ok(())
     }
 
     /// The rows, in the order of the names of their interfaces, of their PGNs, senders and destinations.

@@ -1,5 +1,6 @@
 -- Known bytes over several calls: what each of them took or wrote stands one behind the other.
-use Rattle.std.proofs.Common.{take, drop, ◌+◌, ◌≤◌, IfSome, ◌≡◌, ℕ, ◌<◌, List, [], ◌∷◌, ◌++◌, length, Option, Some, None, refl, sym, ◌∙◌, ap, append_assoc, arith}
+use Rattle.std.proofs.Common.{take, drop, ◌+◌, ◌≤◌, IfSome, ◌≡◌, ℕ, ◌<◌, List, [], ◌∷◌, ◌++◌, length, Option, Some, None, refl, sym, ◌∙◌, ap, append_assoc, arith, nat_lt, subst, true, false}
+use Rattle.std.proofs.lemmas.Bool.Decides.{nat_tests}
 use Rattle.std.proofs.lemmas.List.{append-nil, take-append-drop}
 use Rattle.std.specs.Io.{StartsWith}
 use Rattle.std.specs.Io.BufRead.{DropsConsumable}
@@ -7,9 +8,14 @@ use Rattle.std.specs.Io.KnownBytes.{Keeps, Consumes, IsAtEnd, Appends, append_kn
 use Rattle.std.proofs.BufReadLemmas.{Consumes_shown}
 use Rattle.std.proofs.Math.Seq.{take-add}
 use Rattle.text_lines.specs.Known.{Known, IsFront}
-use Rattle.text_lines.specs.Lines.{ReadsLineUpTo, NoFeed, lines_of}
+use Rattle.text_lines.specs.Lines.{ReadsLineUpTo, NoFeed, lines_of, before_feed, held_line}
 use Rattle.text_lines.specs.declared.lines.LineRead.TheVariants.{End, Line, TooLong}
-use Rattle.text_lines.proofs.LineFronts.{no_feed_more, last_line, ended_line, long_line}
+use Rattle.text_lines.proofs.LineFronts.{no_feed_before, feed_behind, no_feed_more, last_line, ended_line, long_line}
+
+-- nothing was taken
+consumes_none : (a : Option (List ℕ)) → Consumes a a []
+consumes_none None = tt
+consumes_none (Some all) = refl
 
 -- a part more
 pub consumes_more : (a b c : Option (List ℕ)) (line part : List ℕ) → Consumes a b line → Consumes b c part → Consumes a c (line ++ part)
@@ -50,6 +56,23 @@ reads_line most (Some all) (Some rest) None line part f g p q = q
 reads_line most (Some all) (Some rest) (Some left) line part f g p q =
     let e : all ≡ (line ++ part) ++ 10 ∷ left = p ∙ ap (λ r. line ++ r) (q ∙ append_assoc part (10 ∷ []) left) ∙ sym (append_assoc line part (10 ∷ left)) in
     rw e (ended_line (line ++ part) left (no_feed_more line part f g))
+
+-- a line that was shown whole, and consumed with its line feed
+held_at : (most : ℕ) (held : List ℕ) (n : ℕ) → held_line most held ≡ Some n → (before_feed held ≡ n) × (n < length held) × (n ≤ most)
+held_at most held n e = elim (nat_lt (before_feed held) (length held)) as (λ b. nat_lt (before_feed held) (length held) ≡ b → (before_feed held ≡ n) × (n < length held) × (n ≤ most)) [
+  | true ↦ λ t. grind (arith, nat_tests)
+  | false ↦ λ f. absurd (grind (arith, nat_tests))
+] refl
+
+pub reads_held : (most : ℕ) (a b c : Option (List ℕ)) (limit : Option ℕ) (held : List ℕ) (n : ℕ) → held_line most held ≡ Some n
+    → IfSome a (λ xs. StartsWith xs held) → IfSome a (λ xs. length held ≡ 0 → xs ≡ []) → Keeps a b × IfSome a (λ _. IfSome limit (λ k. length held ≤ k))
+    → DropsConsumable b c limit (n + 1) → Known a c (ReadsLineUpTo most Line (take n held))
+reads_held most a b c limit held n e front end kept drops =
+    let h = held_at most held n e in
+    let none : NoFeed (take n held) = subst (λ k. NoFeed (take k held)) h.0 (no_feed_before held) in
+    let taken : take (n + 1) held ≡ take n held ++ 10 ∷ [] = subst (λ k. take (k + 1) held ≡ take k held ++ 10 ∷ []) h.0 (feed_behind held (omega (arith, h.0, h.1))) in
+    reads_line most a a c [] (take n held) tt none (consumes_none a)
+        (subst (Consumes a c) taken (takes_shown a b c limit held (n + 1) (omega (arith, h.1)) front end kept drops))
 
 -- too many bytes
 pub reads_long : (most : ℕ) (a b c : Option (List ℕ)) (line part : List ℕ) → NoFeed line → NoFeed part → most < length (line ++ part) → Consumes a b line → Consumes b c part → Known a c (ReadsLineUpTo most TooLong line)

@@ -1,5 +1,5 @@
 -- The lines of a text: each ends by a line feed, the last one also by the end of the text.
-use Rattle.std.specs.Prelude.{◌≡◌, ◌≢◌, ℕ, ◌+◌, ◌<◌, List, [], ◌∷◌, length, ◌==◌, if◌then◌else◌, ⊤}
+use Rattle.std.specs.Prelude.{◌≡◌, ◌≢◌, ℕ, ◌+◌, ◌<◌, List, [], ◌∷◌, length, ◌==◌, ◌&&◌, nat_lt, nat_le, if◌then◌else◌, Option, Some, None, ⊤}
 use Rattle.text_lines.specs.declared.lines.LineRead.{LineRead}
 use Rattle.text_lines.specs.declared.lines.LineRead.TheVariants.{End, Line, TooLong}
 
@@ -16,6 +16,10 @@ lines_of (b ∷ bs) = if b == 10 then [] ∷ lines_of bs else before_lines b (li
 abbrev pub before_feed : List ℕ → ℕ
 before_feed [] = 0
 before_feed (b ∷ bs) = if b == 10 then 0 else before_feed bs + 1
+
+-- the length of the first line of these bytes, where its line feed is among them and it has no more bytes than most
+abbrev pub held_line : ℕ → List ℕ → Option ℕ
+held_line most held = if nat_lt (before_feed held) (length held) && nat_le (before_feed held) most then Some (before_feed held) else None
 
 -- none of them is a line feed
 abbrev pub NoFeed : List ℕ → Type 0

@@ -2,7 +2,7 @@
 ghost use Rattle.std.specs.Prelude.{◌≡◌, ◌≤◌, length, IfOk};
 ghost use Rattle.text_lines.specs.declared.lines.ReadError.TheVariants.{OutOfMemory};
 ghost use Rattle.text_lines.specs.Known.{TakesPart, Known};
-ghost use Rattle.text_lines.specs.Lines.{before_feed, ReadsLine, ReadsLineUpTo};
+ghost use Rattle.text_lines.specs.Lines.{before_feed, held_line, ReadsLine, ReadsLineUpTo};
 
 use memchr::memchr;
 use std::alloc::AllocError;
@@ -61,6 +61,23 @@ fn before_feed(bytes: &[u8]) -> usize
     }
 }
 
+/// How many bytes the next line has, if it lies whole in what a reader holds, and its line feed with it. The line has up to `most` bytes;
+/// if there is no such line, the next one goes on behind these bytes, is longer, or isn't there.
+///
+/// So a line is looked at where it lies, and none is copied but one that goes over the end of the reader's buffer: what `fill_buf` shows is
+/// looked at, and the line consumed with its line feed.
+#[inline]
+pub fn held_line(most: usize, held: &[u8]) -> Option<usize>
+    ensures { result ≡ held_line most held.now }
+{
+    let len = before_feed(held);
+    if len < held.len() && len <= most {
+        Some(len)
+    } else {
+        None
+    }
+}
+
 /// Takes what the reader holds of a line, and puts it behind what the line has.
 fn take_part<R: BufRead>(most: usize, reader: &mut R, line: &mut Vec<u8>) -> Result<Part, ReadError>
     requires { length line.old.items ≤ most }
@@ -96,7 +113,7 @@ fn take_part<R: BufRead>(most: usize, reader: &mut R, line: &mut Vec<u8>) -> Res
 }
 
 /// The most bytes that a line of a script may have.
-const MAX_LINE: usize = 8192;
+pub const MAX_LINE: usize = 8192;
 
 /// Reads the next line of a script into `line`, without its line feed: it may have up to 8,192 bytes.
 pub fn read_line<R: BufRead>(reader: &mut R, line: &mut Vec<u8>) -> Result<LineRead, ReadError>
