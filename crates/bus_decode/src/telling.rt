@@ -49,12 +49,7 @@ fn words_told(alloc: Global, options: &Options, told: &Told) -> Result<Vec<Line>
 }
 
 /// The line of a message and what it means in words.
-fn put_lines(
-    out: &mut Vec<u8>,
-    now: u64,
-    told: &Told,
-    words: &[Line],
-) -> Result<(), AllocError>
+fn put_lines(out: &mut Vec<u8>, now: u64, told: &Told, words: &[Line]) -> Result<(), AllocError>
     ensures { OnOk result (out.new.items ≡ out.old.items ++ (told_line now told.now ++ words_lines words.now)) }
 {
     put_told(out, now, told)?;

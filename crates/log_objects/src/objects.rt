@@ -246,7 +246,16 @@ pub fn put_told_object(
 {
     match told {
         Told::Given { key, pgn, bytes } => {
-            put_given(out, detail, now, course, explained, key, *pgn, bytes.as_slice())
+            put_given(
+                out,
+                detail,
+                now,
+                course,
+                explained,
+                key,
+                *pgn,
+                bytes.as_slice(),
+            )
         }
         Told::Aborted {
             key,
