@@ -21,7 +21,7 @@ import sys
 import threading
 from dataclasses import dataclass, field
 from pathlib import Path
-from typing import Any, Dict, Iterable, Iterator, List, Optional, Sequence, Union
+from typing import Any, Dict, Iterable, Iterator, List, Optional, Sequence, Tuple, Union
 
 import can
 
@@ -68,6 +68,11 @@ class Told:
         return " ".join([said, *map(str, words)])
 
 
+def with_lines(line: str, explained: Sequence[str]) -> str:
+    """A line, and below it what it means in words, each line indented by two blanks."""
+    return "\n  ".join([line, *explained])
+
+
 @dataclass(frozen=True)
 class OfMessage(Told):
     """What is told of a message: its first and its last frame, and how many packets its receiver asked for again."""
@@ -79,12 +84,13 @@ class OfMessage(Told):
 
 @dataclass(frozen=True)
 class Given(OfMessage):
-    """All of a message came."""
+    """All of a message came. `explained` has it in words, a text a line, if that was asked for and its PGN has such (docs/LOGS.md, "In words")."""
 
     data: bytes = field(repr=False)
+    explained: Tuple[str, ...] = ()
 
     def __str__(self) -> str:
-        return self.line("given", len(self.data), self.data.hex().upper())
+        return with_lines(self.line("given", len(self.data), self.data.hex().upper()), self.explained)
 
 
 @dataclass(frozen=True)
@@ -112,12 +118,13 @@ class Lost(OfMessage):
 
 @dataclass(frozen=True)
 class Single(Told):
-    """A frame that carries nothing of a message, as a Request."""
+    """A frame that carries nothing of a message, as a Request. `explained` is as in Given."""
 
     data: bytes = field(repr=False)
+    explained: Tuple[str, ...] = ()
 
     def __str__(self) -> str:
-        return self.line("frame", len(self.data), self.data.hex().upper())
+        return with_lines(self.line("frame", len(self.data), self.data.hex().upper()), self.explained)
 
 
 AnyTold = Union[Given, Aborted, Lost, Single]
@@ -139,14 +146,15 @@ def decode(
     sources: Sequence[int] = (),
     destinations: Sequence[int] = (),
     singles: bool = False,
+    explain: bool = False,
     program: Optional[Sequence[str]] = None,
 ) -> Iterator[AnyTold]:
     """What is told of the frames of a log, in the order of their times.
 
-    Only that of these PGNs, sources and destinations, where some are named; `singles` tells frames that carry nothing of a message, too. `program` is the
-    command of j1939bus. The frames are read in the thread that reads what is told. ProgramMissing, DecodeFailed; and what the frames raise.
+    Only that of these PGNs, sources and destinations, where some are named; `singles` tells frames that carry nothing of a message, too; `explain` tells fault
+    lists and identifications in words, too, also those of a single frame. `program` is the command of j1939bus. The frames are read in the thread that reads what is told. ProgramMissing, DecodeFailed; and what the frames raise.
     """
-    words = [*(program or find_program()), "decode", "--json", *options_of(pgns, sources, destinations, singles), "-"]
+    words = [*(program or find_program()), "decode", "--json", *options_of(pgns, sources, destinations, singles, explain), "-"]
     with _Program(words) as running:
         lines = (line_of(frame) for frame in frames if carries(frame))
         while batch := "".join(itertools.islice(lines, LINES_AT_ONCE)):
@@ -156,12 +164,12 @@ def decode(
         yield from running.rest()
 
 
-def options_of(pgns: Sequence[int], sources: Sequence[int], destinations: Sequence[int], singles: bool) -> List[str]:
+def options_of(pgns: Sequence[int], sources: Sequence[int], destinations: Sequence[int], singles: bool, explain: bool) -> List[str]:
     """The program's options."""
     options = [word for pgn in pgns for word in ("--pgn", f"{pgn:X}")]
     options += [word for source in sources for word in ("--from", f"{source:02X}")]
     options += [word for to in destinations for word in ("--to", f"{to:02X}")]
-    return options + (["--all"] if singles else [])
+    return options + ["--all"] * singles + ["--explain"] * explain
 
 
 class _Program:
@@ -254,10 +262,10 @@ def told_of(line: Dict[str, Any]) -> AnyTold:
         raise DecodeFailed(f"line {line.get('line')}: the program took it for a wrong one")
     of = (line["time"], line["interface"], line["from"], line["to"], line["pgn"])
     if line["kind"] == "frame":
-        return Single(*of, bytes.fromhex(line["data"]))
+        return Single(*of, bytes.fromhex(line["data"]), tuple(line.get("explained", ())))
     course = (Place(**line["first"]), Place(**line["last"]), line["again"])
     if line["kind"] == "given":
-        return Given(*of, *course, bytes.fromhex(line["data"]))
+        return Given(*of, *course, bytes.fromhex(line["data"]), tuple(line.get("explained", ())))
     if line["kind"] == "aborted":
         return Aborted(*of, *course, AbortReason(line["reason"]), line["by"])
     return Lost(*of, *course, line["length"], line["have"], line["cause"])
@@ -286,10 +294,11 @@ def main(words: Optional[Sequence[str]] = None) -> int:
     parser.add_argument("--from", type=_hexadecimal, action="append", default=[], dest="sources", metavar="A", help="only messages from this address, hexadecimal")
     parser.add_argument("--to", type=_hexadecimal, action="append", default=[], metavar="A", help="only messages to this address, FF for those to all")
     parser.add_argument("--all", action="store_true", help="prints frames that carry nothing of a message too")
+    parser.add_argument("--explain", action="store_true", help="shows fault lists and identifications in words too, also those of a single frame")
     given = parser.parse_args(words)
     try:
         for file in given.files:
-            for told in decode_file(file, pgns=given.pgn, sources=given.sources, destinations=given.to, singles=given.all):
+            for told in decode_file(file, pgns=given.pgn, sources=given.sources, destinations=given.to, singles=given.all, explain=given.explain):
                 print(told)
         sys.stdout.flush()
     except BrokenPipeError:

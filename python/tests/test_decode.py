@@ -105,6 +105,27 @@ def test_what_is_told_beside_messages() -> None:
     assert [type(it) for it in decode.decode(log, destinations=[0x35], pgns=[0xEF00], sources=[0x21])] == [Aborted]
 
 
+def test_what_a_message_means_in_words(top: Path) -> None:
+    lamps = "lamps: malfunction off, red stop off, amber warning on, protect off"
+    log = [
+        frame(0x18FECA21, "04FF5B020B01FFFF", 1.0),
+        frame(0x1CECFF21, "20120003FFECFE00", 1.1),
+        frame(0x1CEBFF21, "01314D3847444D39", 1.2),
+        frame(0x1CEBFF21, "0241584B50303432", 1.3),
+        frame(0x1CEBFF21, "033738382AFFFFFF", 1.4),
+        frame(0x1CECFF21, "20090002FFE3FE00", 1.5),
+        frame(0x1CEBFF21, "0101020304050607", 1.6),
+        frame(0x1CEBFF21, "020809FFFFFFFFFF", 1.7),
+    ]
+    told = list(decode.decode(log, explain=True))
+    assert [getattr(it, "explained") for it in told] == [(lamps, "fault: SPN 603 FMI 11 count 1"), ("vehicle identification: 1M8GDM9AXKP042788",), ()]
+    assert [getattr(it, "explained") for it in decode.decode(log)] == [(), ()]
+    words = str(top / "examples" / "words.log")
+    wanted = subprocess.run([*decode.find_program(), "decode", "--explain", words], stdout=subprocess.PIPE, stderr=subprocess.PIPE, text=True, check=True).stdout
+    ran = subprocess.run([sys.executable, "-m", "fulwethi.decode", "--explain", words], stdout=subprocess.PIPE, text=True, check=True)
+    assert ran.stdout == wanted
+
+
 def test_a_long_log_is_told_as_it_is_read() -> None:
     """A message is told before the log is read to its end: what a consumer leaves is never read."""
     read = []

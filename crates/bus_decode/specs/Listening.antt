@@ -19,6 +19,7 @@ use Rattle.bus_decode.specs.Counts.{with_frame, with_strays, with_each}
 use Rattle.log_decode.specs.declared.stray.Stray.{Stray}
 use Rattle.log_decode.specs.declared.told.Told.{Told}
 use Rattle.bus_decode.specs.Followed.{none_followed, heard_followed, left_followed}
+use Rattle.bus_decode.specs.Options.{shows_singles}
 use Rattle.bus_decode.specs.Telling.{told_text, summary_text, single_text, wrong_text}
 use Rattle.bus_decode.specs.declared.followed.Followed.{Followed}
 use Rattle.bus_decode.specs.declared.counts.Counts.{Counts}
@@ -49,9 +50,9 @@ Step = Listening × List ℕ
 abbrev pub is_asking : CanFrame → Bool
 is_asking frame = (meaning_of frame.id).pgn == request || (meaning_of frame.id).pgn == acknowledgement
 
--- a frame that carries nothing of a message, where such are asked for
+-- a frame that carries nothing of a message, where it is asked for
 abbrev pub single : ℕ → Iface → Options → CanFrame → List ℕ
-single now iface options frame = if options.singles && not options.quiet && (not (is_transport frame) || is_asking frame) then single_text now iface options frame else []
+single now iface options frame = if shows_singles options && (not (is_transport frame) || is_asking frame) then single_text now iface options frame else []
 
 -- a listener to a frame that was counted, and what is printed: the frame's place in the log is its number and the time to which it brings the
 -- interface

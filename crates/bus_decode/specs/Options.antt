@@ -1,6 +1,7 @@
 -- What of a log is asked for.
 use Rattle.std.specs.Prelude.{ℕ, List, [], ◌∷◌, length, Bool, false, not, ◌&&◌, ◌||◌, ◌==◌, if◌then◌else◌}
 use Rattle.pgn_ids.specs.declared.address.Address.{Address}
+use Rattle.explained_messages.specs.Groups.{has_form}
 use Rattle.log_courses.specs.Courses.{key_told, pgn_told}
 use Rattle.log_courses.specs.declared.marks.Detail.{Detail}
 use Rattle.log_courses.specs.declared.marks.Detail.TheVariants.{Ends, Frames}
@@ -30,6 +31,14 @@ shows options t = not options.quiet && is_told_asked options t
 -- it is counted, where that is asked for
 abbrev pub sums_up : Options → Told → Bool
 sums_up options t = options.summary && is_told_asked options t
+
+-- frames that carry nothing of a message are looked at, where some are asked for
+abbrev pub shows_singles : Options → Bool
+shows_singles options = (options.singles || options.explain) && not options.quiet
+
+-- a frame of this PGN that carries nothing of a message
+abbrev pub is_single_asked : Options → (pgn : ℕ) → Bool
+is_single_asked options pgn = options.singles || (options.explain && has_form pgn)
 
 -- courses are followed where they are printed or counted
 abbrev pub follows : Options → Bool

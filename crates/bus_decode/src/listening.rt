@@ -41,8 +41,9 @@ fn is_asking(frame: &Frame) -> bool
     pgn == REQUEST || pgn == ACKNOWLEDGEMENT
 }
 
-/// The line of a frame, where it carries nothing of a message and such frames are asked for.
+/// The line of a frame, where it carries nothing of a message, and is asked for.
 fn put_other(
+    alloc: Global,
     out: &mut Vec<u8>,
     now: u64,
     iface: &Iface,
@@ -51,10 +52,10 @@ fn put_other(
 ) -> Result<(), AllocError>
     ensures { OnOk result (out.new.items ≡ out.old.items ++ single now iface.now options.now frame.now) }
 {
-    if !options.singles || options.quiet || (is_transport(frame) && !is_asking(frame)) {
+    if !options.shows_singles() || (is_transport(frame) && !is_asking(frame)) {
         return Ok(());
     }
-    tell_single(out, now, iface, options, frame)
+    tell_single(alloc, out, now, iface, options, frame)
 }
 
 /// A frame is seen at a time on an interface.
@@ -91,7 +92,7 @@ fn take_frame(
         told.as_slice(),
         &mut listener.followed,
     )?;
-    put_other(out, now, &iface, options, frame)
+    put_other(alloc, out, now, &iface, options, frame)
 }
 
 /// A line shows a frame, or is passed over.

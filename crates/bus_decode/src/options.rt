@@ -1,7 +1,8 @@
 //! What of a log is asked for.
 ghost use Rattle.std.specs.Prelude.{◌≡◌, [], ◌∷◌, ◌++◌, OnOk};
-ghost use Rattle.bus_decode.specs.Options.{is_among, takes, is_asked_for, is_told_asked, shows, sums_up, follows, detail_of};
+ghost use Rattle.bus_decode.specs.Options.{is_among, takes, is_asked_for, is_told_asked, shows, sums_up, shows_singles, is_single_asked, follows, detail_of};
 
+use explained_messages::has_form;
 use log_courses::{Detail, key_told, pgn_told};
 use log_decode::Told;
 use pgn_ids::{Address, Pgn};
@@ -78,6 +79,8 @@ pub struct Options {
     pub json: bool,
     /// Whether the frames of each message are listed, but for its packets.
     pub frames: bool,
+    /// Whether messages whose form is known are shown in words too, and single frames that have such a message.
+    pub explain: bool,
     /// Whether what came of the messages is counted, and printed as a table where the log ends.
     pub summary: bool,
     /// Whether neither messages nor frames are printed.
@@ -114,6 +117,20 @@ impl Options {
         ensures { result ≡ sums_up self.now told.now }
     {
         self.summary && self.ask_for_told(told)
+    }
+
+    /// Whether frames that carry nothing of a message are looked at.
+    pub(crate) fn shows_singles(&self) -> bool
+        ensures { result ≡ shows_singles self.now }
+    {
+        (self.singles || self.explain) && !self.quiet
+    }
+
+    /// Whether a frame of this PGN that carries nothing of a message is asked for.
+    pub(crate) fn ask_for_single(&self, pgn: Pgn) -> bool
+        ensures { result ≡ is_single_asked self.now pgn }
+    {
+        self.singles || (self.explain && has_form(pgn))
     }
 
     /// Whether the courses of messages are followed.

@@ -1,25 +1,64 @@
 //! What is printed of what was told, as the options say.
-ghost use Rattle.std.specs.Prelude.{◌≡◌, ◌++◌, OnOk, if◌then◌else◌};
+ghost use Rattle.std.specs.Prelude.{◌≡◌, ◌++◌, IfOk, OnOk, if◌then◌else◌};
+ghost use Rattle.log_lines.specs.Explained.{words_lines};
+ghost use Rattle.log_lines.specs.Text.{told_line};
 ghost use Rattle.summary_lines.specs.Json.{row_objects};
 ghost use Rattle.summary_lines.specs.Table.{table_text};
 ghost use Rattle.bus_decode.specs.Followed.{after_each, left_followed, heard_followed};
-ghost use Rattle.bus_decode.specs.Telling.{message_text, shown_text, followed_text, plain_line, plain_text, told_text, summary_text, single_text, wrong_text};
+ghost use Rattle.bus_decode.specs.Telling.{in_words, words_told, message_text, shown_text, followed_text, plain_line, plain_text, told_text, summary_text, single_text, wrong_text};
 
 use crate::followed::{Followed, sum_up};
 use crate::options::Options;
 use bus_frame::Frame;
+use explained_lines::Line;
+use explained_messages::explain;
 use log_courses::{Course, Place};
 use log_decode::Told;
-use log_lines::{put_marks, put_single, put_told, put_wrong};
+use log_lines::{put_explained, put_marks, put_single, put_told, put_wrong};
 use log_objects::{put_single_object, put_told_object, put_wrong_object};
 use log_summary::Summary;
 use log_text::Iface;
-use pgn_ids::read_id;
+use pgn_ids::{Pgn, read_id};
 use std::alloc::{AllocError, Global};
 use summary_lines::{put_row_objects, put_table};
 
+/// The lines of a message in words, where these are asked for.
+fn in_words(
+    alloc: Global,
+    options: &Options,
+    pgn: Pgn,
+    bytes: &[u8],
+) -> Result<Vec<Line>, AllocError>
+    ensures { IfOk result (λ lines. lines.items ≡ in_words options.now pgn bytes.now) }
+{
+    if options.explain {
+        return explain(alloc, pgn, bytes);
+    }
+    Ok(Vec::new(alloc))
+}
+
+/// The same of what was told: of a message that was given.
+fn words_told(alloc: Global, options: &Options, told: &Told) -> Result<Vec<Line>, AllocError>
+    ensures { IfOk result (λ lines. lines.items ≡ words_told options.now told.now) }
+{
+    match told {
+        Told::Given { pgn, bytes, .. } => in_words(alloc, options, *pgn, bytes.as_slice()),
+        Told::Aborted { .. } => Ok(Vec::new(alloc)),
+        Told::Lost { .. } => Ok(Vec::new(alloc)),
+    }
+}
+
+/// The line of a message and what it means in words.
+fn put_lines(out: &mut Vec<u8>, now: u64, told: &Told, words: &[Line]) -> Result<(), AllocError>
+    ensures { OnOk result (out.new.items ≡ out.old.items ++ (told_line now told.now ++ words_lines words.now)) }
+{
+    put_told(out, now, told)?;
+    put_explained(out, words)
+}
+
 /// A message that was told at a time.
 fn put_message(
+    alloc: Global,
     out: &mut Vec<u8>,
     now: u64,
     options: &Options,
@@ -28,15 +67,17 @@ fn put_message(
 ) -> Result<(), AllocError>
     ensures { OnOk result (out.new.items ≡ out.old.items ++ message_text options.now now course.now told.now) }
 {
+    let words = words_told(alloc, options, told)?;
     if options.json {
-        return put_told_object(out, options.detail(), now, course, told);
+        return put_told_object(out, options.detail(), now, course, words.as_slice(), told);
     }
-    put_told(out, now, told)?;
+    put_lines(out, now, told, words.as_slice())?;
     put_marks(out, course.marks.as_slice())
 }
 
 /// The same, where it is shown.
 fn put_shown(
+    alloc: Global,
     out: &mut Vec<u8>,
     now: u64,
     options: &Options,
@@ -46,7 +87,7 @@ fn put_shown(
     ensures { OnOk result (out.new.items ≡ out.old.items ++ shown_text options.now now course.now told.now) }
 {
     if options.shows(told) {
-        return put_message(out, now, options, course, told);
+        return put_message(alloc, out, now, options, course, told);
     }
     Ok(())
 }
@@ -66,23 +107,31 @@ fn put_followed(
     for one in told {
         let course = followed.courses.end(alloc, options.detail(), place, one)?;
         sum_up(&mut followed.summary, options, &course, one)?;
-        put_shown(out, place.time, options, &course, one)?;
+        put_shown(alloc, out, place.time, options, &course, one)?;
     }
     Ok(())
 }
 
-/// The line of a message without its course, where it is shown.
-fn put_line(out: &mut Vec<u8>, now: u64, options: &Options, told: &Told) -> Result<(), AllocError>
+/// The lines of a message without its course, where it is shown.
+fn put_line(
+    alloc: Global,
+    out: &mut Vec<u8>,
+    now: u64,
+    options: &Options,
+    told: &Told,
+) -> Result<(), AllocError>
     ensures { OnOk result (out.new.items ≡ out.old.items ++ plain_line now options.now told.now) }
 {
     if options.shows(told) {
-        return put_told(out, now, told);
+        let words = words_told(alloc, options, told)?;
+        return put_lines(out, now, told, words.as_slice());
     }
     Ok(())
 }
 
 /// What was told at a time, where no course is followed.
 fn put_plain(
+    alloc: Global,
     out: &mut Vec<u8>,
     now: u64,
     options: &Options,
@@ -91,7 +140,7 @@ fn put_plain(
     ensures { OnOk result (out.new.items ≡ out.old.items ++ plain_text now options.now told.now) }
 {
     for one in told {
-        put_line(out, now, options, one)?;
+        put_line(alloc, out, now, options, one)?;
     }
     Ok(())
 }
@@ -111,7 +160,7 @@ pub(crate) fn tell(
     if options.follows() {
         return put_followed(alloc, out, place, options, told, followed);
     }
-    put_plain(out, place.time, options, told)
+    put_plain(alloc, out, place.time, options, told)
 }
 
 /// What was told at a frame; then the messages that go on have one more, where courses are followed.
@@ -129,7 +178,7 @@ pub(crate) fn tell_frame(
     ensures followed { OnOk result (followed.new ≡ heard_followed options.now iface frame.now place told.now followed.old) }
 {
     if !options.follows() {
-        return put_plain(out, place.time, options, told);
+        return put_plain(alloc, out, place.time, options, told);
     }
     put_followed(alloc, out, place, options, told, followed)?;
     followed.hear(alloc, options, iface, frame, place, told)
@@ -167,6 +216,7 @@ pub(crate) fn tell_summary(
 
 /// A frame that carries nothing of a message, where it is asked for.
 pub(crate) fn tell_single(
+    alloc: Global,
     out: &mut Vec<u8>,
     now: u64,
     iface: &Iface,
@@ -176,13 +226,17 @@ pub(crate) fn tell_single(
     ensures { OnOk result (out.new.items ≡ out.old.items ++ single_text now iface.now options.now frame.now) }
 {
     let meaning = read_id(frame.id());
-    if !options.ask_for(meaning.from, meaning.to, meaning.pgn) {
+    if !options.ask_for_single(meaning.pgn)
+        || !options.ask_for(meaning.from, meaning.to, meaning.pgn)
+    {
         return Ok(());
     }
+    let words = in_words(alloc, options, meaning.pgn, frame.bytes())?;
     if options.json {
-        return put_single_object(out, now, *iface, frame);
+        return put_single_object(out, now, *iface, words.as_slice(), frame);
     }
-    put_single(out, now, iface, frame)
+    put_single(out, now, iface, frame)?;
+    put_explained(out, words.as_slice())
 }
 
 /// A wrong line, by its number.

@@ -23,6 +23,8 @@ pub struct OfLog {
     pub json: bool,
     /// Whether the frames of each message are listed, but for its packets.
     pub frames: bool,
+    /// Whether fault lists and identifications are shown in words too.
+    pub explain: bool,
     /// Whether what came of the messages is counted, and printed where the log ends.
     pub summary: bool,
     /// Whether neither messages nor frames are printed.
@@ -56,6 +58,10 @@ packets:
   (TIME) NUMBER again FIRST LAST
   (TIME) NUMBER hold
   (TIME) NUMBER end
+With --explain the lamps and faults of DM1 and DM2 (PGN FECA, FECB) follow, and
+the texts of a vehicle's, component's, ECU's and software's identification
+(FEEC, FEEB, FDC5, FEDA), each on a line of its own; and frames of these PGNs
+are printed as with --all.
 With --summary a table follows where the log ends, of a row for each interface,
 PGN, sender and destination between which there was a message: how many were
 given, their bytes, mean and longest time in microseconds, packets asked for
@@ -111,6 +117,14 @@ fn frames_arg<'a>(alloc: Global) -> Arg<'a> {
     )
 }
 
+fn explain_arg<'a>(alloc: Global) -> Arg<'a> {
+    flag(
+        alloc,
+        "explain",
+        "Shows fault lists and identifications in words too, also those of a single frame",
+    )
+}
+
 fn summary_arg<'a>(alloc: Global) -> Arg<'a> {
     flag(
         alloc,
@@ -143,6 +157,7 @@ fn decode_args<'a>(alloc: Global) -> Result<Vec<Arg<'a>>, AllocError> {
             strict_arg(alloc),
             json_arg(alloc),
             frames_arg(alloc),
+            explain_arg(alloc),
             summary_arg(alloc),
             quiet_arg(alloc),
             files(
@@ -209,6 +224,7 @@ pub(crate) fn read_decode(alloc: Global, matches: &ArgMatches) -> Result<OfLog, 
         strict: matches.get_flag("strict"),
         json: matches.get_flag("json"),
         frames: matches.get_flag("frames"),
+        explain: matches.get_flag("explain"),
         summary: matches.get_flag("summary"),
         quiet: matches.get_flag("quiet"),
     })

@@ -153,6 +153,7 @@ fn decode<R: Print + Eprint + AllocGlobal + Clock, I: Read + Drop>(
         strict: asked.strict,
         json: asked.json,
         frames: asked.frames,
+        explain: asked.explain,
         summary: asked.summary,
         quiet: asked.quiet,
     };

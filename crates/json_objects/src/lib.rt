@@ -8,3 +8,4 @@ mod members;
 mod strings;
 
 pub use members::{put_hex, put_key, put_number, put_string};
+pub use strings::put_quoted;

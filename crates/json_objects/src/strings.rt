@@ -60,7 +60,7 @@ fn put_each(out: &mut Vec<u8>, text: &[u8]) -> Result<(), AllocError>
 }
 
 /// A text, quoted.
-pub(crate) fn put_quoted(out: &mut Vec<u8>, text: &[u8]) -> Result<(), AllocError>
+pub fn put_quoted(out: &mut Vec<u8>, text: &[u8]) -> Result<(), AllocError>
     ensures { OnOk result (out.new.items ≡ out.old.items ++ quoted text.now) }
 {
     out.push(b'"')?;

@@ -1,10 +1,12 @@
-//! What is printed of a log as lines of text: a message that was told, a frame of it, a frame that carries nothing of a message, and a wrong line.
+//! What is printed of a log as lines of text: a message that was told, what it means in words, a frame of it, a frame that carries nothing of a message, and a wrong line.
 //!
 //! Each call puts its text behind what `out` holds. It fails only where memory is refused, and may have put a part of the text then.
 #![tactic(auto)]
 
+mod explained;
 mod listing;
 mod text;
 
+pub use explained::put_explained;
 pub use listing::put_marks;
 pub use text::{put_single, put_told, put_wrong};

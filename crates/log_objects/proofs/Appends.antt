@@ -7,6 +7,7 @@ use Rattle.log_courses.specs.declared.course.Place.{Place}
 use Rattle.log_courses.specs.declared.marks.Detail.{Detail}
 use Rattle.log_courses.specs.declared.marks.Detail.TheVariants.{Ends, Frames}
 use Rattle.log_courses.specs.declared.marks.Mark.{Mark}
+use Rattle.log_objects.specs.Explained.{with_explained, explained_text}
 use Rattle.log_objects.specs.Frames.{with_frames, frames_text}
 use Rattle.log_objects.specs.Json.{place_object}
 
@@ -27,3 +28,13 @@ pub frames_put : (result : Result (Unit {0}) AllocError) (detail : Detail) (mark
     → OnOk result (c ≡ a ++ rest_text (with_frames detail marks ms))
 frames_put (Ok done) detail marks ms a b c p q = q ∙ ap (λ s. s ++ rest_text ms) p ∙ append_assoc a (frames_text detail marks) (rest_text ms) ∙ ap (λ s. a ++ s) (by_frames detail marks ms)
 frames_put (Err error) detail marks ms a b c p q = tt
+
+by_explained : (lines : List (List ℕ)) (ms : List Named) → explained_text lines ++ rest_text ms ≡ rest_text (with_explained lines ms)
+by_explained [] ms = refl
+by_explained (l ∷ ls) ms = refl
+
+-- members behind the one of lines in words, if that is there
+pub explained_put : (result : Result (Unit {0}) AllocError) (lines : List (List ℕ)) (ms : List Named) (a b c : List ℕ) → b ≡ a ++ explained_text lines → OnOk result (c ≡ b ++ rest_text ms)
+    → OnOk result (c ≡ a ++ rest_text (with_explained lines ms))
+explained_put (Ok done) lines ms a b c p q = q ∙ ap (λ s. s ++ rest_text ms) p ∙ append_assoc a (explained_text lines) (rest_text ms) ∙ ap (λ s. a ++ s) (by_explained lines ms)
+explained_put (Err error) lines ms a b c p q = tt

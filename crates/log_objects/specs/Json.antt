@@ -16,6 +16,7 @@ use Rattle.log_decode.specs.declared.told.Cause.{Cause}
 use Rattle.log_decode.specs.declared.told.Cause.TheVariants.{Missing, Replaced, TimedOut, WentBack, Acknowledged, Unsound, TooLong, EndOfLog}
 use Rattle.log_decode.specs.declared.told.Told.{Told}
 use Rattle.log_decode.specs.declared.told.Told.TheVariants.{Given, Aborted, Lost}
+use Rattle.log_objects.specs.Explained.{with_explained}
 use Rattle.log_objects.specs.Frames.{with_frames}
 
 -- the number and the time of a frame
@@ -45,13 +46,13 @@ measured_members now iface kind c size pgn to =
     ∷ (codes "to", count_of to.0) ∷ []
 
 -- all of it came
-unfoldable pub given_members : Detail → (now : ℕ) → Course → Key → (pgn : ℕ) → List ℕ → List Named
-given_members detail now c key pgn bytes =
+unfoldable pub given_members : Detail → (now : ℕ) → Course → (explained : List (List ℕ)) → Key → (pgn : ℕ) → List ℕ → List Named
+given_members detail now c explained key pgn bytes =
     (codes "again", count_of c.again)
     ∷ (codes "data", string (unspaced bytes))
-    ∷ (codes "first", place_object c.first)
+    ∷ with_explained explained ((codes "first", place_object c.first)
     ∷ with_frames detail c.marks ((codes "from", count_of key.from.0)
-    ∷ measured_members now key.iface (codes "given") c (length bytes) pgn key.to)
+    ∷ measured_members now key.iface (codes "given") c (length bytes) pgn key.to))
 
 -- it is lost: so many of its bytes came
 unfoldable pub lost_members : Detail → (now : ℕ) → Course → Key → (pgn have size : ℕ) → Cause → List Named
@@ -83,31 +84,31 @@ aborted_members detail now c key pgn reason who =
     ∷ abort_members now c key pgn reason)
 
 -- a frame that carries nothing of a message
-abbrev pub frame_members : (now : ℕ) → Iface → (from to : Address) → (pgn : ℕ) → List ℕ → List Named
-frame_members now iface from to pgn bytes =
+abbrev pub frame_members : (now : ℕ) → Iface → (explained : List (List ℕ)) → (from to : Address) → (pgn : ℕ) → List ℕ → List Named
+frame_members now iface explained from to pgn bytes =
     (codes "data", string (unspaced bytes))
-    ∷ (codes "from", count_of from.0)
+    ∷ with_explained explained ((codes "from", count_of from.0)
     ∷ (codes "interface", string (name_of iface))
     ∷ (codes "kind", string (codes "frame"))
     ∷ (codes "length", count_of (length bytes))
     ∷ (codes "pgn", count_of pgn)
     ∷ (codes "time", count_of now)
-    ∷ (codes "to", count_of to.0) ∷ []
+    ∷ (codes "to", count_of to.0) ∷ [])
 
 abbrev pub wrong_members : ℕ → List Named
 wrong_members n = (codes "kind", string (codes "wrong line")) ∷ (codes "line", count_of n) ∷ []
 
--- what was told at a time, with its course
-abbrev pub told_object : Detail → (now : ℕ) → Course → Told → List ℕ
-told_object detail now c (Given key pgn bytes) = object_line (given_members detail now c key pgn bytes)
-told_object detail now c (Aborted key pgn reason who) = object_line (aborted_members detail now c key pgn reason who)
-told_object detail now c (Lost key pgn have size cause) = object_line (lost_members detail now c key pgn have size cause)
+-- what was told at a time, with its course, and what it means in words
+abbrev pub told_object : Detail → (now : ℕ) → Course → (explained : List (List ℕ)) → Told → List ℕ
+told_object detail now c explained (Given key pgn bytes) = object_line (given_members detail now c explained key pgn bytes)
+told_object detail now c explained (Aborted key pgn reason who) = object_line (aborted_members detail now c key pgn reason who)
+told_object detail now c explained (Lost key pgn have size cause) = object_line (lost_members detail now c key pgn have size cause)
 
 -- a frame that carries nothing of a message
-abbrev pub single_object : (now : ℕ) → Iface → CanFrame → List ℕ
-single_object now iface frame =
+abbrev pub single_object : (now : ℕ) → Iface → (explained : List (List ℕ)) → CanFrame → List ℕ
+single_object now iface explained frame =
     let m = meaning_of frame.id in
-    object_line (frame_members now iface m.from m.to m.pgn frame.bytes)
+    object_line (frame_members now iface explained m.from m.to m.pgn frame.bytes)
 
 abbrev pub wrong_object : ℕ → List ℕ
 wrong_object n = object_line (wrong_members n)

@@ -52,7 +52,7 @@ fn put_step(out: &mut Vec<u8>, place: Place, step: Step) -> Result<(), AllocErro
     }
 }
 
-fn put_comma(out: &mut Vec<u8>, later: bool) -> Result<(), AllocError>
+pub(crate) fn put_comma(out: &mut Vec<u8>, later: bool) -> Result<(), AllocError>
     ensures { OnOk result (out.new.items ≡ out.old.items ++ comma_if later) }
 {
     if later { put_text(out, ",") } else { Ok(()) }

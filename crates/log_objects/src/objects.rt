@@ -5,8 +5,10 @@ ghost use Rattle.serde_json.specs.Data.{string};
 ghost use Rattle.log_text.specs.Iface.{name_of};
 ghost use Rattle.log_objects.specs.Json.{place_object, cause_words, measured_members, given_members, abort_members, aborted_members, lost_members, frame_members, told_object, single_object, wrong_object};
 
+use crate::explained::put_explained;
 use crate::frames::put_frames;
 use bus_frame::Frame;
+use explained_lines::Line;
 use json_objects::{put_hex, put_key, put_number, put_string};
 use log_courses::{Course, Detail, Place};
 use log_decode::{Cause, Key, Told};
@@ -120,15 +122,17 @@ fn put_given(
     detail: Detail,
     now: u64,
     course: &Course,
+    explained: &[Line],
     key: &Key,
     pgn: Pgn,
     bytes: &[u8],
 ) -> Result<(), AllocError>
-    ensures { OnOk result (out.new.items ≡ out.old.items ++ object_line (given_members detail now course.now key.now pgn bytes.now)) }
+    ensures { OnOk result (out.new.items ≡ out.old.items ++ object_line (given_members detail now course.now explained.now key.now pgn bytes.now)) }
 {
     put_text(out, "{")?;
     put_number(out, false, "again", course.again)?;
     put_hex(out, true, "data", bytes)?;
+    put_explained(out, explained)?;
     put_place(out, "first", course.first)?;
     put_frames(out, detail, course.marks.as_slice())?;
     put_address(out, "from", key.from)?;
@@ -228,19 +232,30 @@ fn put_aborted(
     put_abort(out, now, course, key, pgn, reason)
 }
 
-/// The line of what was told at a time in microseconds, with its course: with the frames of that, where frames are listed.
+/// The line of what was told at a time in microseconds, with its course: with the frames of that, where frames are listed. One that was given has
+/// these lines that say what it means, if there are any.
 pub fn put_told_object(
     out: &mut Vec<u8>,
     detail: Detail,
     now: u64,
     course: &Course,
+    explained: &[Line],
     told: &Told,
 ) -> Result<(), AllocError>
-    ensures { OnOk result (out.new.items ≡ out.old.items ++ told_object detail now course.now told.now) }
+    ensures { OnOk result (out.new.items ≡ out.old.items ++ told_object detail now course.now explained.now told.now) }
 {
     match told {
         Told::Given { key, pgn, bytes } => {
-            put_given(out, detail, now, course, key, *pgn, bytes.as_slice())
+            put_given(
+                out,
+                detail,
+                now,
+                course,
+                explained,
+                key,
+                *pgn,
+                bytes.as_slice(),
+            )
         }
         Told::Aborted {
             key,
@@ -269,15 +284,17 @@ fn put_frame(
     out: &mut Vec<u8>,
     now: u64,
     iface: Iface,
+    explained: &[Line],
     from: Address,
     to: Address,
     pgn: Pgn,
     bytes: &[u8],
 ) -> Result<(), AllocError>
-    ensures { OnOk result (out.new.items ≡ out.old.items ++ object_line (frame_members now iface from to pgn bytes.now)) }
+    ensures { OnOk result (out.new.items ≡ out.old.items ++ object_line (frame_members now iface explained.now from to pgn bytes.now)) }
 {
     put_text(out, "{")?;
     put_hex(out, false, "data", bytes)?;
+    put_explained(out, explained)?;
     put_address(out, "from", from)?;
     put_interface(out, iface)?;
     put_word(out, true, "kind", "frame")?;
@@ -288,18 +305,20 @@ fn put_frame(
     put_text(out, "}\n")
 }
 
-/// The line of a frame that carries nothing of a message, seen at a time in microseconds.
+/// The line of a frame that carries nothing of a message, seen at a time in microseconds, with these lines that say what it means, if there are
+/// any.
 pub fn put_single_object(
     out: &mut Vec<u8>,
     now: u64,
     iface: Iface,
+    explained: &[Line],
     frame: &Frame,
 ) -> Result<(), AllocError>
-    ensures { OnOk result (out.new.items ≡ out.old.items ++ single_object now iface frame.now) }
+    ensures { OnOk result (out.new.items ≡ out.old.items ++ single_object now iface explained.now frame.now) }
 {
     let meaning = read_id(frame.id());
     let (from, to, pgn) = (meaning.from, meaning.to, meaning.pgn);
-    put_frame(out, now, iface, from, to, pgn, frame.bytes())
+    put_frame(out, now, iface, explained, from, to, pgn, frame.bytes())
 }
 
 /// The line of a wrong line, by its number.

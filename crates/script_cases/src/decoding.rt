@@ -21,6 +21,7 @@ fn ask(options: &mut Options, word: &str) -> bool {
         "--strict" => options.strict = true,
         "--json" => options.json = true,
         "--frames" => options.frames = true,
+        "--explain" => options.explain = true,
         "--summary" => options.summary = true,
         "--quiet" => options.quiet = true,
         _ => return false,
@@ -53,6 +54,7 @@ impl Recorded {
             strict: false,
             json: false,
             frames: false,
+            explain: false,
             summary: false,
             quiet: false,
         };

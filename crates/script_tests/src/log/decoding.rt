@@ -15,6 +15,7 @@ pub(crate) fn all(alloc: Global) -> Options {
         strict: false,
         json: false,
         frames: false,
+        explain: false,
         summary: false,
         quiet: false,
     }

@@ -16,6 +16,7 @@ fn all(alloc: Global) -> Options {
         strict: false,
         json: false,
         frames: false,
+        explain: false,
         summary: false,
         quiet: false,
     }

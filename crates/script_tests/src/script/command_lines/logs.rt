@@ -27,7 +27,10 @@ fn a_log_is_asked_for(rt: HostRuntime) {
         &rt,
         asked.most == 117_440_505 && !asked.singles && !asked.strict && !asked.json,
     );
-    holds(&rt, !asked.frames && !asked.summary && !asked.quiet);
+    holds(
+        &rt,
+        !asked.frames && !asked.explain && !asked.summary && !asked.quiet,
+    );
     let two = ["j1939bus", "decode", "a.log", "-"];
     names(&rt, alloc, &two, &Asked::Decode(asked), &["a.log", "-"])
 }
@@ -55,6 +58,7 @@ fn parts_of_a_log_are_asked_for(rt: HostRuntime) {
             "--strict",
             "--json",
             "--frames",
+            "--explain",
             "--summary",
             "--quiet",
         ],
@@ -66,7 +70,10 @@ fn parts_of_a_log_are_asked_for(rt: HostRuntime) {
         &rt,
         asked.most == 1_785 && asked.singles && asked.strict && asked.json,
     );
-    holds(&rt, asked.frames && asked.summary && asked.quiet);
+    holds(
+        &rt,
+        asked.frames && asked.explain && asked.summary && asked.quiet,
+    );
 }
 
 fn refuses(rt: &impl Abort, alloc: Global, option: &str, value: &str, told: &str) {
@@ -108,6 +115,7 @@ Options:
       --strict         Ends at a wrong line
       --json           Prints each line as a JSON object
       --frames         Lists the announcement, windows and end of each message, with time and number
+      --explain        Shows fault lists and identifications in words too, also those of a single frame
       --summary        Ends with what came of the messages: a row for each interface, PGN, sender and destination
       --quiet          Prints neither messages nor frames
   -h, --help           Print help
@@ -129,6 +137,10 @@ packets:
   (TIME) NUMBER again FIRST LAST
   (TIME) NUMBER hold
   (TIME) NUMBER end
+With --explain the lamps and faults of DM1 and DM2 (PGN FECA, FECB) follow, and
+the texts of a vehicle's, component's, ECU's and software's identification
+(FEEC, FEEB, FDC5, FEDA), each on a line of its own; and frames of these PGNs
+are printed as with --all.
 With --summary a table follows where the log ends, of a row for each interface,
 PGN, sender and destination between which there was a message: how many were
 given, their bytes, mean and longest time in microseconds, packets asked for

@@ -1,0 +1,3 @@
+pub mod Lamps
+pub mod Faults
+pub mod List

@@ -1,0 +1,24 @@
+-- Fields of text, each ended by an asterisk.
+use Rattle.std.specs.Prelude.{ℕ, List, [], ◌∷◌, ◌++◌, map, Bool, true, ◌&&◌, ◌==◌, if◌then◌else◌}
+use Rattle.std.specs.Borrow.{Bor}
+
+-- what references point to
+abbrev pub texts : List (Bor (List ℕ)) → List (List ℕ)
+texts fields = map (λ f. f.now) fields
+
+-- each byte is FF
+abbrev pub is_filled : List ℕ → Bool
+is_filled [] = true
+is_filled (b ∷ bs) = b == 255 && is_filled bs
+
+-- what stands behind the last asterisk is a field too, unless it is padding or nothing
+abbrev pub last_field : List ℕ → List (List ℕ)
+last_field field = if is_filled field then [] else field ∷ []
+
+-- the fields of a text that goes on by these bytes, of whose next field these stand before them
+abbrev pub fields_from : List ℕ → List ℕ → List (List ℕ)
+fields_from field [] = last_field field
+fields_from field (b ∷ bs) = if b == 42 then field ∷ fields_from [] bs else fields_from (field ++ b ∷ []) bs
+
+abbrev pub fields_of : List ℕ → List (List ℕ)
+fields_of text = fields_from [] text
