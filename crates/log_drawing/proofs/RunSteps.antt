@@ -9,7 +9,7 @@ use Rattle.script_commands.specs.declared.ending.Cause.{Cause}
 use Rattle.script_commands.specs.declared.ending.Cause.TheVariants as causes
 use Rattle.script_commands.specs.declared.fault.Fault.{Fault}
 use Rattle.line_runs.specs.Limits.{above, IsAbove, Read}
-use Rattle.log_drawing.specs.Open.{closing}
+use Rattle.log_drawing.specs.Packets.{closing}
 use Rattle.log_drawing.specs.Picture.{Step, is_ended, line_seen}
 use Rattle.log_drawing.specs.Outcome.{Outcome, log_limits, closed, told, then_rest, by_limits, outcome_from, outcome}
 use Rattle.log_drawing.specs.Ending.{is_of_log, WrittenBy, WrittenAs, SaysBy, Says, Stopped, Ended}
@@ -93,7 +93,7 @@ no_line options s n = refl
 
 -- what is open is drawn at the end of the log
 pub at_end : (options : Options) (rb rc : Option (List ℕ)) (line : List ℕ) (b c f : Option (List ℕ)) (s : Picture) (n : ℕ) (d : Drawn) → Read log_limits n (Ok false) line rb rc
-    → WrittenAs d b c (closing s.open) → Says d (closed s None) → EndedHere options rb d b c f f s n
+    → WrittenAs d b c (closing s.packets) → Says d (closed s None) → EndedHere options rb d b c f f s n
 at_end options None rc line b c f s n d reads written says = tt
 at_end options (Some rest) None line b c f s n d reads written says = absurd reads
 at_end options (Some rest) (Some left) line b c f s n d reads written says =
@@ -125,7 +125,7 @@ failed_there options None b c f s n d e = tt
 failed_there options (Some rest) b c f s n d e = fails_moved d b c f (outcome_from options s n (lines_of rest)) e
 
 at_long : (options : Options) (rb b c f : Option (List ℕ)) (s : Picture) (n : ℕ) (d : Drawn) (fault : Fault) → IfSome rb (IsAbove log_limits n fault)
-    → WrittenAs d b c (closing s.open) → Says d (closed s (Some (n, fault))) → EndedHere options rb d b c f f s n
+    → WrittenAs d b c (closing s.packets) → Says d (closed s (Some (n, fault))) → EndedHere options rb d b c f f s n
 at_long options None b c f s n d fault next written says = tt
 at_long options (Some rest) b c f s n d fault next written says =
     let x : Ended d b c f f (closed s (Some (n, fault))) = record { text = written; errors = nothing (is_of_log d.fault) f; told = says } in
@@ -186,7 +186,7 @@ at_next options (Some all) (Some rest) (Some left) line a b c e f h s n step inv
     goes_on a b c e f h step next (outcome options all) p q (subst (λ x. GoesOn a b e f x (outcome options all)) o inv)
 
 -- it was told, and ends the drawing
-ended_there : (d : Drawn) (b c g f h : Option (List ℕ)) (step : Step) → Appends b c step.text → Appends f h step.errors → WrittenAs d c g (closing step.left.open) → Says d (closed step.left None)
+ended_there : (d : Drawn) (b c g f h : Option (List ℕ)) (step : Step) → Appends b c step.text → Appends f h step.errors → WrittenAs d c g (closing step.left.packets) → Says d (closed step.left None)
     → Ended d b g f h (told step (closed step.left None))
 ended_there d b c g f h step p q written says =
     let last : Outcome = closed step.left None in
@@ -199,7 +199,7 @@ ended_there d b c g f h step p q written says =
     ended_more d b c g f h h last (told step last) w record { text = written; errors = nothing (is_of_log d.fault) h; told = says }
 
 pub at_wrong : (options : Options) (rb rc : Option (List ℕ)) (line : List ℕ) (b c g f h : Option (List ℕ)) (s : Picture) (n : ℕ) (d : Drawn) (step : Step) → IsLine n line rb rc → line_seen options s n line ≡ step
-    → is_ended options step.left ≡ true → Appends b c step.text → Appends f h step.errors → WrittenAs d c g (closing step.left.open) → Says d (closed step.left None) → EndedHere options rb d b g f h s n
+    → is_ended options step.left ≡ true → Appends b c step.text → Appends f h step.errors → WrittenAs d c g (closing step.left.packets) → Says d (closed step.left None) → EndedHere options rb d b g f h s n
 at_wrong options None rc line b c g f h s n d step reads seen ended p q written says = tt
 at_wrong options (Some rest) None line b c g f h s n d step reads seen ended p q written says = absurd reads.1
 at_wrong options (Some rest) (Some left) line b c g f h s n d step reads seen ended p q written says =

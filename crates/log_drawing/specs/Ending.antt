@@ -6,7 +6,7 @@ use Rattle.script_commands.specs.declared.ending.Cause.{Cause}
 use Rattle.script_commands.specs.declared.ending.Cause.TheVariants as causes
 use Rattle.script_commands.specs.declared.ending.ScriptFault.{ScriptFault}
 use Rattle.script_commands.specs.declared.fault.Fault.{Fault}
-use Rattle.log_drawing.specs.Open.{closing}
+use Rattle.log_drawing.specs.Packets.{closing}
 use Rattle.log_drawing.specs.Outcome.{Outcome, closed}
 use Rattle.log_drawing.specs.declared.counts.Counts.{Counts}
 use Rattle.log_drawing.specs.declared.picture.Picture.{Picture}
@@ -55,7 +55,7 @@ Says d o = SaysBy (is_of_log d.fault) d o
 
 -- why no line n was read: at a fault of it the packets that are open are drawn, else nothing is written
 abbrev pub Stopped : Cause → Drawn → Option (List ℕ) → Option (List ℕ) → Picture → ℕ → Type 0
-Stopped (causes.Fault fault) d a b s n = WrittenAs d a b (closing s.open) × Says d (closed s (Some (n, fault)))
+Stopped (causes.Fault fault) d a b s n = WrittenAs d a b (closing s.packets) × Says d (closed s (Some (n, fault)))
 Stopped causes.ReadFailed d a b s n = (is_of_log d.fault ≡ false) × (a ≡ b)
 Stopped causes.OutOfMemory d a b s n = (is_of_log d.fault ≡ false) × (a ≡ b)
 Stopped causes.WriteFailed d a b s n = (is_of_log d.fault ≡ false) × (a ≡ b)

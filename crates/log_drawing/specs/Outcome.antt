@@ -4,7 +4,7 @@ use Rattle.text_lines.specs.Lines.{lines_of}
 use Rattle.script_commands.specs.declared.fault.Fault.{Fault}
 use Rattle.line_runs.specs.Limits.{above}
 use Rattle.line_runs.specs.declared.limits.Limits.{Limits}
-use Rattle.log_drawing.specs.Open.{closing}
+use Rattle.log_drawing.specs.Packets.{closing}
 use Rattle.log_drawing.specs.Picture.{Step, first_picture, is_ended, line_seen}
 use Rattle.log_drawing.specs.declared.counts.Counts.{Counts}
 use Rattle.log_drawing.specs.declared.options.Options.{Options}
@@ -23,7 +23,7 @@ pub record Outcome : Type 0 where
 
 -- nothing is read behind it: the packets that are open are drawn
 abbrev pub closed : Picture → Option (ℕ × Fault) → Outcome
-closed s fault = record { text = closing s.open; errors = []; counts = s.counts; fault = fault }
+closed s fault = record { text = closing s.packets; errors = []; counts = s.counts; fault = fault }
 
 -- what a line tells, and then the rest
 abbrev pub told : Step → Outcome → Outcome

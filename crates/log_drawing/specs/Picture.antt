@@ -12,7 +12,7 @@ use Rattle.log_text.specs.declared.line.LogLine.{LogLine}
 use Rattle.log_text.specs.declared.line.LogLine.TheVariants.{Frame, Passed}
 use Rattle.log_drawing.specs.Options.{is_wanted}
 use Rattle.log_drawing.specs.Counts.{no_counts, more}
-use Rattle.log_drawing.specs.Open.{drawn_at, open_after}
+use Rattle.log_drawing.specs.Packets.{drawn_at, open_after}
 use Rattle.log_drawing.specs.declared.options.Options.{Options}
 use Rattle.log_drawing.specs.declared.options.Pair.{Pair}
 use Rattle.log_drawing.specs.declared.picture.Picture.{Picture}
@@ -32,7 +32,7 @@ beginning options drawn = if drawn == 0 then heading ++ participants options.pai
 
 -- nothing was drawn
 abbrev pub first_picture : Options → Picture
-first_picture options = record { form = None; iface = options.iface; open = None; counts = no_counts }
+first_picture options = record { form = None; iface = options.iface; packets = None; counts = no_counts }
 
 -- interfaces are the same if their names are
 abbrev pub same_iface : Iface → Iface → Bool
@@ -50,7 +50,7 @@ is_ended options s = options.strict && not (s.counts.wrong == 0)
 abbrev pub with_frame : Options → Picture → Option ℕ → Iface → CanFrame → Picture × List ℕ
 with_frame options s time iface frame =
     if is_elsewhere s iface then (record s { counts = record s.counts { elsewhere = more s.counts.elsewhere } }, [])
-    else (record s { iface = Some iface; open = open_after s.open time frame; counts = record s.counts { drawn = more s.counts.drawn } }, beginning options s.counts.drawn ++ drawn_at s.open time frame)
+    else (record s { iface = Some iface; packets = open_after s.packets time frame; counts = record s.counts { drawn = more s.counts.drawn } }, beginning options s.counts.drawn ++ drawn_at s.packets time frame)
 
 abbrev pub frame_counted : Picture → Picture
 frame_counted s = record s { counts = record s.counts { frames = more s.counts.frames } }

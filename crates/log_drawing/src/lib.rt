@@ -2,7 +2,7 @@
 #![tactic(auto)]
 
 mod counts;
-mod open;
+mod packets;
 mod options;
 mod picture;
 mod running;

@@ -3,7 +3,7 @@ ghost use Rattle.std.specs.Prelude.{◌≡◌, ◌++◌, OnOk};
 ghost use Rattle.log_drawing.specs.Picture.{wrong_line, participants, beginning, first_picture, same_iface, is_elsewhere, is_ended, with_frame, frame_seen, shown_seen, form_with, seen_as, line_seen};
 
 use crate::counts::{Counts, more};
-use crate::open::{Open, draw_at};
+use crate::packets::{Packets, draw_at};
 use crate::options::{Options, Pair};
 use bus_frame::Frame;
 use frame_arrows::{draw_heading, draw_participants};
@@ -19,7 +19,7 @@ pub(crate) struct Picture {
     /// The interface whose frames are drawn, where it is known.
     pub(crate) iface: Option<Iface>,
     /// The packets that aren't drawn yet.
-    pub(crate) open: Option<Open>,
+    pub(crate) packets: Option<Packets>,
     /// What was counted.
     pub(crate) counts: Counts,
 }
@@ -71,7 +71,7 @@ impl Picture {
         Picture {
             form: None,
             iface: options.iface,
-            open: None,
+            packets: None,
             counts: Counts::none(),
         }
     }
@@ -110,9 +110,9 @@ impl Picture {
             return Ok(());
         }
         draw_beginning(out, options, self.counts.drawn)?;
-        let open = draw_at(out, self.open, time, frame)?;
+        let packets = draw_at(out, self.packets, time, frame)?;
         self.iface = Some(iface);
-        self.open = open;
+        self.packets = packets;
         self.counts.drawn = more(self.counts.drawn);
         Ok(())
     }

@@ -2,12 +2,12 @@
 ghost use Rattle.std.specs.Prelude.{◌≡◌, ◌×◌, IfSome, MatchResult, Some};
 ghost use Rattle.std.specs.Io.KnownBytes.{Appends};
 ghost use Rattle.text_lines.specs.Known.{IsFront};
-ghost use Rattle.log_drawing.specs.Open.{closing};
+ghost use Rattle.log_drawing.specs.Packets.{closing};
 ghost use Rattle.log_drawing.specs.Outcome.{log_limits, outcome, closed};
 ghost use Rattle.log_drawing.specs.Ending.{at_line, WrittenAs, Says, Stopped, Ended, status_of};
 
 use crate::counts::Counts;
-use crate::open::draw_open;
+use crate::packets::draw_open;
 use crate::options::Options;
 use crate::picture::Picture;
 use line_runs::{Limits, next_line};
@@ -66,12 +66,12 @@ fn end_run<W: Write>(
     out: &mut Vec<u8>,
     writer: &mut W,
 ) -> Drawn
-    ensures text { WrittenAs result (W.contents writer.old) (W.contents writer.new) (closing picture.now.open) }
+    ensures text { WrittenAs result (W.contents writer.old) (W.contents writer.new) (closing picture.now.packets) }
     ensures told { Says result (closed picture.now (at_line line fault)) }
 {
     let counts = picture.counts;
     out.clear();
-    let Ok(()) = draw_open(out, picture.open) else {
+    let Ok(()) = draw_open(out, picture.packets) else {
         return failed(line, Cause::OutOfMemory, counts);
     };
     let Ok(()) = tell(writer, out.as_slice()) else {

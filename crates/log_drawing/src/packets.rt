@@ -1,6 +1,6 @@
 //! Arrows with times, one for packets that follow on one another.
 ghost use Rattle.std.specs.Prelude.{◌≡◌, ◌++◌, OnOk, IfOk};
-ghost use Rattle.log_drawing.specs.Open.{stamp, until_words, run_words, open_line, closing, frame_line, alone, with_packet, open_after, drawn_at};
+ghost use Rattle.log_drawing.specs.Packets.{stamp, until_words, run_words, open_line, closing, frame_line, alone, with_packet, open_after, drawn_at};
 
 use bus_frame::Frame;
 use frame_arrows::{Run, goes_on, longer, put_ends, put_meaning, put_packets, run_of};
@@ -11,7 +11,7 @@ use text_digits::put_text;
 
 /// Packets that follow on one another, which aren't drawn yet, since the next one may follow on them.
 #[derive(Clone, Copy, Debug, PartialEq, Eq)]
-pub(crate) struct Open {
+pub(crate) struct Packets {
     /// The packets.
     pub(crate) run: Run,
     /// The time of the first one, where the log says it.
@@ -32,49 +32,49 @@ fn put_stamp(out: &mut Vec<u8>, time: Option<u64>) -> Result<(), AllocError>
 }
 
 /// The time of the last of several packets, behind the words.
-fn put_until(out: &mut Vec<u8>, open: &Open) -> Result<(), AllocError>
-    ensures { OnOk result (out.new.items ≡ out.old.items ++ until_words open.now) }
+fn put_until(out: &mut Vec<u8>, packets: &Packets) -> Result<(), AllocError>
+    ensures { OnOk result (out.new.items ≡ out.old.items ++ until_words packets.now) }
 {
-    if open.run.first == open.run.last {
+    if packets.run.first == packets.run.last {
         return Ok(());
     }
-    let Some(time) = open.until else {
+    let Some(time) = packets.until else {
         return Ok(());
     };
     put_text(out, " until ")?;
     put_time(out, time)
 }
 
-#[tactic(auto, unfolding(crate::specs::Open::run_words))]
-fn put_run(out: &mut Vec<u8>, open: &Open) -> Result<(), AllocError>
-    ensures { OnOk result (out.new.items ≡ out.old.items ++ run_words open.now) }
+#[tactic(auto, unfolding(crate::specs::Packets::run_words))]
+fn put_run(out: &mut Vec<u8>, packets: &Packets) -> Result<(), AllocError>
+    ensures { OnOk result (out.new.items ≡ out.old.items ++ run_words packets.now) }
 {
-    put_stamp(out, open.since)?;
-    put_packets(out, open.run.first, open.run.last)?;
-    put_until(out, open)
+    put_stamp(out, packets.since)?;
+    put_packets(out, packets.run.first, packets.run.last)?;
+    put_until(out, packets)
 }
 
-#[tactic(auto, unfolding(crate::specs::Open::open_line, frame_arrows::specs::Words::arrow_line))]
-fn draw_run(out: &mut Vec<u8>, open: &Open) -> Result<(), AllocError>
-    ensures { OnOk result (out.new.items ≡ out.old.items ++ open_line open.now) }
+#[tactic(auto, unfolding(crate::specs::Packets::open_line, frame_arrows::specs::Words::arrow_line))]
+fn draw_run(out: &mut Vec<u8>, packets: &Packets) -> Result<(), AllocError>
+    ensures { OnOk result (out.new.items ≡ out.old.items ++ open_line packets.now) }
 {
-    put_ends(out, open.run.from, open.run.to)?;
-    put_run(out, open)?;
+    put_ends(out, packets.run.from, packets.run.to)?;
+    put_run(out, packets)?;
     put_text(out, "\n")
 }
 
 /// Draws the packets that are open, if there are any.
-pub(crate) fn draw_open(out: &mut Vec<u8>, open: Option<Open>) -> Result<(), AllocError>
-    ensures { OnOk result (out.new.items ≡ out.old.items ++ closing open) }
+pub(crate) fn draw_open(out: &mut Vec<u8>, packets: Option<Packets>) -> Result<(), AllocError>
+    ensures { OnOk result (out.new.items ≡ out.old.items ++ closing packets) }
 {
-    match open {
+    match packets {
         None => Ok(()),
-        Some(open) => draw_run(out, &open),
+        Some(packets) => draw_run(out, &packets),
     }
 }
 
 /// The arrow of a frame with its time.
-#[tactic(auto, unfolding(crate::specs::Open::frame_line, frame_arrows::specs::Words::arrow_line))]
+#[tactic(auto, unfolding(crate::specs::Packets::frame_line, frame_arrows::specs::Words::arrow_line))]
 fn draw_frame(out: &mut Vec<u8>, time: Option<u64>, frame: &Frame) -> Result<(), AllocError>
     ensures { OnOk result (out.new.items ≡ out.old.items ++ frame_line time frame.now) }
 {
@@ -86,10 +86,10 @@ fn draw_frame(out: &mut Vec<u8>, time: Option<u64>, frame: &Frame) -> Result<(),
 }
 
 /// A packet with which others may follow.
-fn alone(time: Option<u64>, packet: Run) -> Open
+fn alone(time: Option<u64>, packet: Run) -> Packets
     ensures { result ≡ alone time packet }
 {
-    Open {
+    Packets {
         run: packet,
         since: time,
         until: time,
@@ -97,40 +97,40 @@ fn alone(time: Option<u64>, packet: Run) -> Open
 }
 
 /// The open packets with one more that follows on them. None where it doesn't, or where none are open.
-fn with_packet(open: Option<Open>, time: Option<u64>, packet: Run) -> Option<Open>
-    ensures { result ≡ with_packet open time packet }
+fn with_packet(packets: Option<Packets>, time: Option<u64>, packet: Run) -> Option<Packets>
+    ensures { result ≡ with_packet packets time packet }
 {
-    let open = open?;
-    if !goes_on(Some(open.run), packet) {
+    let packets = packets?;
+    if !goes_on(Some(packets.run), packet) {
         return None;
     }
-    Some(Open {
-        run: longer(Some(open.run), packet),
-        since: open.since,
+    Some(Packets {
+        run: longer(Some(packets.run), packet),
+        since: packets.since,
         until: time,
     })
 }
 
 /// What is drawn at a frame, and the packets that are open behind it.
-#[tactic(auto, unfolding(crate::specs::Open::drawn_at, crate::specs::Open::open_after))]
+#[tactic(auto, unfolding(crate::specs::Packets::drawn_at, crate::specs::Packets::open_after))]
 pub(crate) fn draw_at(
     out: &mut Vec<u8>,
-    open: Option<Open>,
+    packets: Option<Packets>,
     time: Option<u64>,
     frame: &Frame,
-) -> Result<Option<Open>, AllocError>
-    ensures drawn { OnOk result (out.new.items ≡ out.old.items ++ drawn_at open time frame.now) }
-    ensures open { IfOk result (λ behind. behind ≡ open_after open time frame.now) }
+) -> Result<Option<Packets>, AllocError>
+    ensures drawn { OnOk result (out.new.items ≡ out.old.items ++ drawn_at packets time frame.now) }
+    ensures behind { IfOk result (λ behind. behind ≡ open_after packets time frame.now) }
 {
     let Some(packet) = run_of(frame) else {
-        draw_open(out, open)?;
+        draw_open(out, packets)?;
         draw_frame(out, time, frame)?;
         return Ok(None);
     };
-    let longer = with_packet(open, time, packet);
+    let longer = with_packet(packets, time, packet);
     if longer.is_some() {
         return Ok(longer);
     }
-    draw_open(out, open)?;
+    draw_open(out, packets)?;
     Ok(Some(alone(time, packet)))
 }
