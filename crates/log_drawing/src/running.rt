@@ -1,5 +1,5 @@
 //! A log, read and drawn line by line.
-ghost use Rattle.std.specs.Prelude.{◌≡◌, ◌×◌, IfSome, MatchResult, Some};
+ghost use Rattle.std.specs.Prelude.{◌≡◌, IfSome, MatchResult, Some};
 ghost use Rattle.std.specs.Io.KnownBytes.{Appends};
 ghost use Rattle.text_lines.specs.Known.{IsFront};
 ghost use Rattle.log_drawing.specs.Packets.{closing};
