@@ -180,10 +180,11 @@ pub(crate) fn read_draw(alloc: Global, matches: &ArgMatches) -> Result<Option<Of
     if matches.get_flag("log") {
         return Ok(Some(read_log(alloc, matches)?));
     }
-    if matches.get_strs("files").unwrap_or(&[]).len() > 1 {
-        return Err(Refused::Word(format!(in alloc;
-            "a script is one file; several logs are drawn with '--log'"
-        )?));
-    }
-    Ok(None)
+    let Some(second) = matches.get_strs("files").unwrap_or(&[]).get(1) else {
+        return Ok(None);
+    };
+    let second = *second;
+    Err(Refused::Word(format!(in alloc;
+        "unexpected argument '{second}' found: a script is one file"
+    )?))
 }

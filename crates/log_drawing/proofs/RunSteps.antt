@@ -9,6 +9,7 @@ use Rattle.script_commands.specs.declared.ending.Cause.{Cause}
 use Rattle.script_commands.specs.declared.ending.Cause.TheVariants as causes
 use Rattle.script_commands.specs.declared.fault.Fault.{Fault}
 use Rattle.line_runs.specs.Limits.{above, IsAbove, Read}
+use Rattle.line_runs.specs.declared.limits.Limits.{Limits}
 use Rattle.log_drawing.specs.Packets.{closing}
 use Rattle.log_drawing.specs.Picture.{Step, is_ended, line_seen}
 use Rattle.log_drawing.specs.Outcome.{Outcome, log_limits, closed, told, then_rest, by_limits, outcome_from, outcome}
@@ -210,3 +211,7 @@ at_wrong options (Some rest) (Some left) line b c g f h s n d step reads seen en
 -- whether a line was read, by its value
 pub read_as : (n : ℕ) (is_line as_known : Bool) (line : List ℕ) (old new : Option (List ℕ)) → is_line ≡ as_known → Read log_limits n (Ok is_line) line old new → Read log_limits n (Ok as_known) line old new
 read_as n is_line as_known line old new e h = subst (λ (b : Bool). Read log_limits n (Ok b) line old new) e h
+
+-- the limits are those of a log
+pub reads : (m : Limits) (n : ℕ) (r : Result Bool Cause) (line : List ℕ) (old new : Option (List ℕ)) → m ≡ log_limits → Read m n r line old new → Read log_limits n r line old new
+reads m n r line old new e h = subst (λ (k : Limits). Read k n r line old new) e h
