@@ -107,5 +107,5 @@ fn a_read_that_fails_leaves_out_the_packets_before_it(rt: HostRuntime) {
             .is_some_and(|fault| fault.line == 4 && fault.cause == Cause::ReadFailed),
     );
     holds(&rt, text.as_slice() == ANNOUNCED.as_bytes());
-    holds(&rt, told.as_slice() == b"line 2: not a log line\n");
+    holds(&rt, told.as_slice() == "line 2: not a log line\n".as_bytes());
 }
