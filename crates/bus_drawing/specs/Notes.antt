@@ -1,5 +1,5 @@
--- The beginning of a drawing, and the notes of what is told.
-use Rattle.std.specs.Prelude.{ℕ, List, [], ◌++◌, ◌==◌, if◌then◌else◌, length, flat_map, codes}
+-- The notes of what is told.
+use Rattle.std.specs.Prelude.{ℕ, List, ◌++◌, length, flat_map, codes}
 use Rattle.std.specs.Fmt.{decimal}
 use Rattle.pgn_ids.specs.declared.address.Address.{Address}
 use Rattle.port_table.specs.declared.port.PortId.{PortId}
@@ -9,17 +9,7 @@ use Rattle.message_events.specs.declared.event.Event.TheVariants as events
 use Rattle.tp_wire.specs.declared.outcome.Outcome.{Outcome}
 use Rattle.script_text.specs.Parts.{port_text}
 use Rattle.script_text.specs.Replies.{outcome_text}
-use Rattle.bus_drawing.specs.Words.{line, name_of}
-
-unfoldable pub participant_line : Address → List ℕ
-participant_line a = line (codes "  participant " ++ name_of a)
-
-unfoldable pub heading : List ℕ
-heading = codes "sequenceDiagram\n"
-
--- the kind of the drawing, and the stations in the order in which they are named
-abbrev pub opening : List Address → List ℕ
-opening addresses = if length addresses == 0 then [] else heading ++ flat_map participant_line addresses
+use Rattle.frame_arrows.specs.Words.{line, name_of, length_words}
 
 unfoldable pub note_over : List ℕ
 note_over = codes "  Note over "
@@ -30,9 +20,6 @@ note_line at words = line (note_over ++ name_of at ++ codes ": " ++ words)
 
 unfoldable pub pgn_words : ℕ → List ℕ
 pgn_words pgn = codes ", PGN " ++ digits 16 5 pgn
-
-unfoldable pub length_words : ℕ → List ℕ
-length_words bytes = codes ", " ++ decimal bytes ++ codes " bytes"
 
 abbrev pub message_words : ℕ → List ℕ → List ℕ
 message_words pgn bytes = pgn_words pgn ++ length_words (length bytes)

@@ -1,9 +1,9 @@
-//! The beginning of a drawing, and the notes of what is told.
-ghost use Rattle.std.specs.Prelude.{◌≡◌, ◌++◌, OnOk, flat_map, codes};
-ghost use Rattle.bus_drawing.specs.Words.{name_of};
-ghost use Rattle.bus_drawing.specs.Notes.{participant_line, heading, opening, note_over, note_line, pgn_words, length_words, message_words, given_words, outcome_words, event_note, notes};
+//! The notes of what is told.
+ghost use Rattle.std.specs.Prelude.{◌≡◌, ◌++◌, OnOk, codes};
+ghost use Rattle.frame_arrows.specs.Words.{name_of, length_words};
+ghost use Rattle.bus_drawing.specs.Notes.{note_over, note_line, pgn_words, message_words, given_words, outcome_words, event_note, notes};
 
-use crate::words::{put_name, put_pgn};
+use frame_arrows::{put_length, put_name, put_pgn};
 use message_events::{Bytes, Event, Events};
 use pgn_ids::{Address, Pgn};
 use port_table::PortId;
@@ -13,57 +13,12 @@ use std::alloc::AllocError;
 use text_digits::{put_decimal, put_text};
 use tp_wire::Outcome;
 
-#[tactic(auto, unfolding(crate::specs::Notes::participant_line))]
-fn draw_participant(out: &mut Vec<u8>, station: Address) -> Result<(), AllocError>
-    ensures { OnOk result (out.new.items ≡ out.old.items ++ participant_line station) }
-{
-    put_text(out, "  participant ")?;
-    put_name(out, station)?;
-    put_text(out, "\n")
-}
-
-fn draw_participants(out: &mut Vec<u8>, stations: &[Address]) -> Result<(), AllocError>
-    ensures { OnOk result (out.new.items ≡ out.old.items ++ flat_map participant_line stations.now) }
-{
-    for station in stations {
-        draw_participant(out, *station)?;
-    }
-    Ok(())
-}
-
-#[tactic(auto, unfolding(crate::specs::Notes::heading))]
-fn put_heading(out: &mut Vec<u8>) -> Result<(), AllocError>
-    ensures { OnOk result (out.new.items ≡ out.old.items ++ heading) }
-{
-    put_text(out, "sequenceDiagram\n")
-}
-
-/// The beginning of a drawing: its kind, and its stations as participants in this order. Nothing where there is no station.
-pub fn draw_opening(out: &mut Vec<u8>, stations: &[Address]) -> Result<(), AllocError>
-    ensures { OnOk result (out.new.items ≡ out.old.items ++ opening stations.now) }
-{
-    if stations.is_empty() {
-        return Ok(());
-    }
-    put_heading(out)?;
-    draw_participants(out, stations)
-}
-
 #[tactic(auto, unfolding(crate::specs::Notes::pgn_words))]
 fn put_pgn_words(out: &mut Vec<u8>, pgn: Pgn) -> Result<(), AllocError>
     ensures { OnOk result (out.new.items ≡ out.old.items ++ pgn_words pgn) }
 {
     put_text(out, ", PGN ")?;
     put_pgn(out, pgn)
-}
-
-#[tactic(auto, unfolding(crate::specs::Notes::length_words))]
-fn put_length(out: &mut Vec<u8>, bytes: u64) -> Result<(), AllocError>
-    ensures { OnOk result (out.new.items ≡ out.old.items ++ length_words bytes) }
-{
-    put_text(out, ", ")?;
-    put_decimal(out, bytes)?;
-    put_text(out, " bytes")
 }
 
 fn put_message(out: &mut Vec<u8>, pgn: Pgn, bytes: &Bytes) -> Result<(), AllocError>

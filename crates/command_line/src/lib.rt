@@ -10,7 +10,8 @@ mod refused;
 use clap::{ArgAction, ArgMatches, Command, Error};
 pub use decode::OfLog;
 use decode::{decode_command, read_decode};
-use draw::draw_command;
+pub use draw::OfDrawing;
+use draw::{draw_command, read_draw};
 pub use node::{OfNode, OfPort};
 use node::{node_command, read_node};
 use parts::{SCRIPT, add, described, files, flag, list, named, names, of_numbers, within};
@@ -26,6 +27,8 @@ pub enum Asked {
     Logged,
     /// It is run so, and drawn as a sequence diagram.
     Drawn,
+    /// Logs are drawn so.
+    DrawnLog(OfDrawing),
     /// It is run by threads, each worker with at most so many turns.
     Live { turns: u64 },
     /// Its two segments are run by threads, with a relay between them.
@@ -221,8 +224,11 @@ fn read_asked(alloc: Global, matches: &ArgMatches) -> Result<Asked, Refused> {
     if let Some(turns) = turns_of(matches, "relay") {
         return Ok(Asked::Relay { turns });
     }
-    if matches.subcommand_matches("draw").is_some() {
-        return Ok(Asked::Drawn);
+    if let Some(draw) = matches.subcommand_matches("draw") {
+        return Ok(match read_draw(alloc, draw)? {
+            Some(log) => Asked::DrawnLog(log),
+            None => Asked::Drawn,
+        });
     }
     if matches.get_flag("log") {
         return Ok(Asked::Logged);

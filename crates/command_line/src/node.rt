@@ -174,7 +174,7 @@ pub(crate) fn read_node(alloc: Global, matches: &ArgMatches) -> Result<OfNode, R
 }
 
 /// The interface that is named.
-fn interface(alloc: Global, matches: &ArgMatches) -> Result<Option<String>, AllocError> {
+pub(crate) fn interface(alloc: Global, matches: &ArgMatches) -> Result<Option<String>, AllocError> {
     match first_of(matches, "interface") {
         Some(name) => Ok(Some(String::from_str(alloc, name)?)),
         None => Ok(None),
@@ -182,7 +182,7 @@ fn interface(alloc: Global, matches: &ArgMatches) -> Result<Option<String>, Allo
 }
 
 /// The first value of an argument.
-fn first_of<'a>(matches: &ArgMatches<'a>, name: &str) -> Option<&'a str> {
+pub(crate) fn first_of<'a>(matches: &ArgMatches<'a>, name: &str) -> Option<&'a str> {
     match matches.get_strs(name).unwrap_or(&[]).first() {
         Some(word) => Some(*word),
         None => None,

@@ -1,5 +1,5 @@
 //! `j1939bus` reads a script, a file or standard input, and prints the replies to its lines, or with `--log` the frames that it puts,
-//! as the log of a bus; `j1939bus draw` draws it as a sequence diagram; `j1939bus live` runs it by threads and prints what came of it;
+//! as the log of a bus; `j1939bus draw` draws it, or with `--log` a log, as a sequence diagram; `j1939bus live` runs it by threads and prints what came of it;
 //! `j1939bus relay` runs two segments so, with a relay between them; `j1939bus decode` reads logs of a bus and prints their messages;
 //! `j1939bus node` is a station on the bus whose log it reads while it runs (SAE J1939-21, ISO 11783-3).
 //!
@@ -15,9 +15,10 @@ use bus_live::{Gate, run_live};
 use bus_node::{Node, Ran, run_node};
 use bus_relay::run_relay;
 use bus_script::{run_logged, run_script};
-use command_line::{Asked, Line, OfLog, OfNode, OfPort, read_command_line};
+use command_line::{Asked, Line, OfDrawing, OfLog, OfNode, OfPort, read_command_line};
 use inputs::{open_inputs, size_to_tell};
-use log_text::Iface;
+use log_drawing::{Pair, draw_log};
+use log_text::{BadName, Iface};
 use pgn_ids::Address;
 use read_progress::Progress;
 use script_drawing::draw_script;
@@ -69,6 +70,56 @@ fn draw<R: Print + Eprint + AllocGlobal, I: Read + Drop>(rt: &R, input: I) -> io
     let mut writer = BufWriter::new(alloc, io::writer(rt))?;
     let ran = draw_script(alloc, &mut reader, &mut writer);
     end(rt, ran.fault, ran.status())
+}
+
+/// The interface that is named.
+fn interface(named: &Option<String>) -> Result<Option<Iface>, BadName> {
+    match named {
+        Some(name) => Ok(Some(Iface::new(name.as_bytes())?)),
+        None => Ok(None),
+    }
+}
+
+/// What of a log is drawn.
+fn drawn_of(asked: &OfDrawing) -> Result<log_drawing::Options, BadName> {
+    Ok(log_drawing::Options {
+        pair: match asked.pair {
+            Some((first, second)) => Some(Pair {
+                first: Address(first),
+                second: Address(second),
+            }),
+            None => None,
+        },
+        from: asked.from,
+        to: asked.to,
+        iface: interface(&asked.interface)?,
+        others: asked.others,
+        strict: asked.strict,
+    })
+}
+
+/// Prints the drawing of a log.
+fn draw_recorded<R: Print + Eprint + AllocGlobal, I: Read + Drop>(
+    rt: &R,
+    errors: &io::Stderr,
+    asked: &OfDrawing,
+    input: I,
+) -> io::Result<ExitCode> {
+    let alloc = rt.alloc();
+    let Ok(options) = drawn_of(asked) else {
+        eprintln!(rt; "error: an interface has a name of 1 to 15 printable characters")?;
+        return Ok(ExitCode::from(2));
+    };
+    let mut reader = BufReader::new(alloc, input)?;
+    let mut writer = BufWriter::new(alloc, io::writer(rt))?;
+    let mut told = BufWriter::new(alloc, io::writer(errors))?;
+    let drawn = draw_log(alloc, &options, &mut reader, &mut writer, &mut told);
+    if let Some(fault) = drawn.fault {
+        eprintln!(rt; "{fault}")?;
+    }
+    let counts = drawn.counts;
+    eprintln!(rt; "{counts}")?;
+    Ok(ExitCode::from(drawn.status()))
 }
 
 /// Lets each worker pass at once.
@@ -243,6 +294,7 @@ fn obey<R: Threads + Wait + Sync + Input + Print + Eprint + AllocGlobal + Files 
         Asked::Script => run(rt, input),
         Asked::Logged => log(rt, errors, input),
         Asked::Drawn => draw(rt, input),
+        Asked::DrawnLog(asked) => draw_recorded(rt, errors, asked, input),
         Asked::Live { turns } => live(rt, *turns, input),
         Asked::Relay { turns } => relay(rt, *turns, input),
         Asked::Decode(asked) => decode(rt, errors, asked, input, size_to_tell(rt, errors, names)),

@@ -7,10 +7,12 @@
 
 mod decoding;
 mod differing;
+mod recording;
 mod runs;
 
 use decoding::Recorded;
 use differing::tell_difference;
+use recording::Pictured;
 use runs::{Dialogue, Drawn, Logged, Runs, Scripted};
 use std::alloc::Global;
 use std::io::{BufRead, BufReader};
@@ -74,6 +76,20 @@ fn holds<R: Runs>(
     prints(rt, &mut runs, name, input.as_str(), text.as_str())
 }
 
+/// Whether a case holds whose log is decoded or drawn in this way.
+fn log_holds(rt: &(impl Eprint + AllocGlobal + Files), way: &str, name: &str) -> io::Result<bool> {
+    if let Some(recorded) = Recorded::in_way(rt.alloc(), way) {
+        return holds(rt, recorded, name, "log");
+    }
+    match Pictured::in_way(way) {
+        Some(pictured) => holds(rt, pictured, name, "log"),
+        None => {
+            eprintln!(rt; "{name}: no case is run as '{way}'")?;
+            Ok(false)
+        }
+    }
+}
+
 /// Whether a case holds that is run in this way.
 fn case_holds(rt: &(impl Eprint + AllocGlobal + Files), way: &str, name: &str) -> io::Result<bool> {
     let alloc = rt.alloc();
@@ -83,13 +99,7 @@ fn case_holds(rt: &(impl Eprint + AllocGlobal + Files), way: &str, name: &str) -
         "draw" => holds(rt, Drawn, name, "script"),
         "node" => holds(rt, Dialogue::new(alloc)?, name, "node"),
         "node of any interface" => holds(rt, Dialogue::joining(alloc)?, name, "node"),
-        _ => match Recorded::in_way(alloc, way) {
-            Some(recorded) => holds(rt, recorded, name, "log"),
-            None => {
-                eprintln!(rt; "{name}: no case is run as '{way}'")?;
-                Ok(false)
-            }
-        },
+        _ => log_holds(rt, way, name),
     }
 }
 

@@ -1,8 +1,9 @@
 -- What a script draws, line by line.
 use Rattle.std.specs.Prelude.{ℕ, List, ◌++◌}
 use Rattle.bus_script.specs.Telling.{Telling}
-use Rattle.bus_drawing.specs.Runs.{arrows}
-use Rattle.bus_drawing.specs.Notes.{opening, notes}
+use Rattle.frame_arrows.specs.Opening.{opening}
+use Rattle.frame_arrows.specs.Runs.{arrows}
+use Rattle.bus_drawing.specs.Notes.{notes}
 
 -- of what a line tells: the stations where the segment is made, the arrows of the frames that are put, the notes of the events
 abbrev pub drawing_of : Telling → List ℕ

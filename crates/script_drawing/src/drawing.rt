@@ -1,10 +1,11 @@
 //! What is drawn of what a line tells.
 ghost use Rattle.std.specs.Prelude.{◌≡◌, ◌++◌, OnOk, option_to_list};
-ghost use Rattle.bus_drawing.specs.Runs.{arrows};
+ghost use Rattle.frame_arrows.specs.Runs.{arrows};
 
-use bus_drawing::{draw_each_told, draw_frames, draw_opening, draw_told};
+use bus_drawing::{draw_each_told, draw_told};
 use bus_frame::Frame;
 use bus_script::{Sheet, Told};
+use frame_arrows::{draw_frames, draw_opening};
 use pgn_ids::Address;
 use script_commands::LineError;
 use segment_core::{Counts, DriveEnd, Refusal, Reply, Segment};

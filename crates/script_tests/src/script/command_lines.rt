@@ -1,5 +1,6 @@
 //! The command line: its name alone or with a file runs a script, with `--log` for its frames, `live` runs it by threads; whatever else is
 //! asked for is answered by a text.
+mod drawings;
 mod logs;
 
 use crate::checks::{got, holds, same};
@@ -162,7 +163,7 @@ Commands:
   live    Runs a script by threads, and prints what came of it
   relay   Runs two segments by threads, and relays from a port of the first to the second
   decode  Prints the messages of logs, put together of their packets
-  draw    Runs a script, and draws it as a sequence diagram
+  draw    Runs a script, and draws it as a sequence diagram, or draws a log
   node    Is one station on a real bus, whose frames are read from standard input
   help    Print this message or the help of the given subcommand(s)
 

@@ -1,8 +1,12 @@
-//! A script that is drawn, and a writer that fails.
-use crate::checks::{holds, same};
+//! Scripts and logs that are drawn, and readers and writers that fail.
+use crate::checks::{got, holds, same};
+use crate::readers::Breaking;
+use log_drawing::{Drawn, Options, draw_log};
+use script_commands::Cause;
 use script_drawing::draw_script;
+use std::alloc::Global;
 use std::io;
-use std::io::{Error, ErrorKind, Write};
+use std::io::{BufRead, BufReader, Error, ErrorKind, Write};
 
 const BROADCAST: &str = "stations 35 21\n\
 open 35 FECA 1785\n\
@@ -30,4 +34,78 @@ fn a_write_that_fails_ends_a_drawing(rt: HostRuntime) {
     let ran = draw_script(rt.alloc(), &mut reader, &mut Full {});
     holds(&rt, ran.fault.is_some_and(|fault| fault.line == 1));
     same(&rt, ran.status(), 1);
+}
+
+const LOG: &str = "(1.000000) can0 1CECFF21#20090002FFCAFE00\n\
+(1.010000) can0 1CEBFF2\n\
+(1.050000) can0 1CEBFF21#0101020304050607\n";
+
+const ANNOUNCED: &str = "sequenceDiagram\n  21->>all: (0000000001.000000) BAM 9 bytes in 2 packets\n";
+
+/// A log, of which each frame is drawn.
+fn draw<R: BufRead, W: Write, E: Write>(
+    alloc: Global,
+    reader: &mut R,
+    writer: &mut W,
+    errors: &mut E,
+) -> Drawn {
+    let options = Options {
+        pair: None,
+        from: None,
+        to: None,
+        iface: None,
+        others: false,
+        strict: false,
+    };
+    draw_log(alloc, &options, reader, writer, errors)
+}
+
+#[test]
+fn a_write_that_fails_ends_the_drawing_of_a_log(rt: HostRuntime) {
+    let alloc = rt.alloc();
+    let mut told = Vec::new(alloc);
+    let mut reader = LOG.as_bytes();
+    let drawn = draw(alloc, &mut reader, &mut Full {}, &mut told);
+    holds(
+        &rt,
+        drawn
+            .fault
+            .is_some_and(|fault| fault.line == 1 && fault.cause == Cause::WriteFailed),
+    );
+    same(&rt, drawn.status(), 1);
+    holds(&rt, told.is_empty());
+}
+
+#[test]
+fn a_wrong_line_that_cannot_be_told_ends_the_drawing_of_a_log(rt: HostRuntime) {
+    let alloc = rt.alloc();
+    let mut text = Vec::new(alloc);
+    let mut reader = LOG.as_bytes();
+    let drawn = draw(alloc, &mut reader, &mut text, &mut Full {});
+    holds(
+        &rt,
+        drawn
+            .fault
+            .is_some_and(|fault| fault.line == 2 && fault.cause == Cause::WriteFailed),
+    );
+    holds(&rt, text.as_slice() == ANNOUNCED.as_bytes());
+}
+
+#[test]
+fn a_read_that_fails_leaves_out_the_packets_before_it(rt: HostRuntime) {
+    let alloc = rt.alloc();
+    let (mut text, mut told) = (Vec::new(alloc), Vec::new(alloc));
+    let broken = Breaking {
+        text: LOG.as_bytes(),
+    };
+    let mut reader = got(&rt, BufReader::new(alloc, broken));
+    let drawn = draw(alloc, &mut reader, &mut text, &mut told);
+    holds(
+        &rt,
+        drawn
+            .fault
+            .is_some_and(|fault| fault.line == 4 && fault.cause == Cause::ReadFailed),
+    );
+    holds(&rt, text.as_slice() == ANNOUNCED.as_bytes());
+    holds(&rt, told.as_slice() == "line 2: not a log line\n".as_bytes());
 }

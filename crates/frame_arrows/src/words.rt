@@ -2,7 +2,7 @@
 ghost use Rattle.std.specs.Prelude.{◌≡◌, ◌++◌, OnOk, codes};
 ghost use Rattle.std.specs.Fmt.{decimal};
 ghost use Rattle.text_digits.specs.Digits.{digits};
-ghost use Rattle.bus_drawing.specs.Words.{name_of, size_words, from_words, grant_words, management_words, packet_words, words_of, arrow_line, other_arrow, arrow_of};
+ghost use Rattle.frame_arrows.specs.Words.{name_of, size_words, from_words, grant_words, management_words, packet_words, words_of, length_words, other_words, meaning_words, ends, arrow_of};
 
 use bus_frame::Frame;
 use pgn_ids::{Address, Pgn, read_id};
@@ -10,14 +10,16 @@ use std::alloc::AllocError;
 use text_digits::{put_decimal, put_digits, put_text};
 use tp_wire::{CmFrame, Wire, read};
 
-pub(crate) fn put_pgn(out: &mut Vec<u8>, pgn: Pgn) -> Result<(), AllocError>
+/// A PGN, in five hexadecimal digits.
+pub fn put_pgn(out: &mut Vec<u8>, pgn: Pgn) -> Result<(), AllocError>
     ensures { OnOk result (out.new.items ≡ out.old.items ++ digits 16 5 pgn) }
 {
     put_digits(out, 16, 5, u64::from(pgn.raw()))
 }
 
+/// The name of a participant: a node by its address in two hexadecimal digits, or all.
 #[tactic(auto, unfolding(crate::specs::Words::name_of))]
-pub(crate) fn put_name(out: &mut Vec<u8>, address: Address) -> Result<(), AllocError>
+pub fn put_name(out: &mut Vec<u8>, address: Address) -> Result<(), AllocError>
     ensures { OnOk result (out.new.items ≡ out.old.items ++ name_of address) }
 {
     if address.0 == 255 {
@@ -95,7 +97,8 @@ fn put_management(out: &mut Vec<u8>, frame: &CmFrame) -> Result<(), AllocError>
     }
 }
 
-pub(crate) fn put_packets(out: &mut Vec<u8>, first: u8, last: u8) -> Result<(), AllocError>
+/// Packets with the sequence numbers from `first` to `last`.
+pub fn put_packets(out: &mut Vec<u8>, first: u8, last: u8) -> Result<(), AllocError>
     ensures { OnOk result (out.new.items ≡ out.old.items ++ packet_words first last) }
 {
     if first == last {
@@ -121,8 +124,8 @@ fn put_words(out: &mut Vec<u8>, wire: &Wire) -> Result<(), AllocError>
 }
 
 /// The beginning of an arrow's line, up to its words.
-pub(crate) fn put_ends(out: &mut Vec<u8>, from: Address, to: Address) -> Result<(), AllocError>
-    ensures { OnOk result (out.new.items ≡ out.old.items ++ (codes "  " ++ name_of from ++ codes "->>" ++ name_of to ++ codes ": ")) }
+pub fn put_ends(out: &mut Vec<u8>, from: Address, to: Address) -> Result<(), AllocError>
+    ensures { OnOk result (out.new.items ≡ out.old.items ++ ends from to) }
 {
     put_text(out, "  ")?;
     put_name(out, from)?;
@@ -131,41 +134,45 @@ pub(crate) fn put_ends(out: &mut Vec<u8>, from: Address, to: Address) -> Result<
     put_text(out, ": ")
 }
 
-/// A frame of other traffic, or a malformed one.
-#[tactic(auto, unfolding(crate::specs::Words::other_arrow, crate::specs::Words::arrow_line))]
-fn draw_other(out: &mut Vec<u8>, frame: &Frame) -> Result<(), AllocError>
-    ensures { OnOk result (out.new.items ≡ out.old.items ++ other_arrow frame.now) }
+/// How many bytes there are, behind a comma.
+#[tactic(auto, unfolding(crate::specs::Words::length_words))]
+pub fn put_length(out: &mut Vec<u8>, bytes: u64) -> Result<(), AllocError>
+    ensures { OnOk result (out.new.items ≡ out.old.items ++ length_words bytes) }
 {
-    let meaning = read_id(frame.id());
-    put_ends(out, meaning.from, meaning.to)?;
-    put_text(out, "frame ")?;
-    put_pgn(out, meaning.pgn)?;
     put_text(out, ", ")?;
-    put_decimal(out, frame.bytes().len() as u64)?;
-    put_text(out, " bytes\n")
+    put_decimal(out, bytes)?;
+    put_text(out, " bytes")
 }
 
-#[tactic(auto, unfolding(crate::specs::Words::arrow_line))]
-fn draw_meaning(
-    out: &mut Vec<u8>,
-    wire: &Wire,
-    from: Address,
-    to: Address,
-) -> Result<(), AllocError>
-    ensures { OnOk result (out.new.items ≡ out.old.items ++ arrow_line from to (words_of wire.now)) }
+/// A frame of other traffic, or a malformed one, by its PGN and how many bytes it has.
+#[tactic(auto, unfolding(crate::specs::Words::other_words))]
+fn put_other(out: &mut Vec<u8>, pgn: Pgn, bytes: u64) -> Result<(), AllocError>
+    ensures { OnOk result (out.new.items ≡ out.old.items ++ other_words pgn bytes) }
 {
-    put_ends(out, from, to)?;
-    put_words(out, wire)?;
-    put_text(out, "\n")
+    put_text(out, "frame ")?;
+    put_pgn(out, pgn)?;
+    put_length(out, bytes)
+}
+
+/// What a frame means, in words.
+#[tactic(auto, unfolding(crate::specs::Words::meaning_words))]
+pub fn put_meaning(out: &mut Vec<u8>, frame: &Frame) -> Result<(), AllocError>
+    ensures { OnOk result (out.new.items ≡ out.old.items ++ meaning_words frame.now) }
+{
+    let Some((wire, _, _)) = read(frame) else {
+        let meaning = read_id(frame.id());
+        return put_other(out, meaning.pgn, frame.bytes().len() as u64);
+    };
+    put_words(out, &wire)
 }
 
 /// The arrow of a frame.
-#[tactic(auto, unfolding(crate::specs::Words::arrow_of))]
+#[tactic(auto, unfolding(crate::specs::Words::arrow_of, crate::specs::Words::arrow_line))]
 pub(crate) fn draw_frame(out: &mut Vec<u8>, frame: &Frame) -> Result<(), AllocError>
     ensures { OnOk result (out.new.items ≡ out.old.items ++ arrow_of frame.now) }
 {
-    let Some((wire, from, to)) = read(frame) else {
-        return draw_other(out, frame);
-    };
-    draw_meaning(out, &wire, from, to)
+    let meaning = read_id(frame.id());
+    put_ends(out, meaning.from, meaning.to)?;
+    put_meaning(out, frame)?;
+    put_text(out, "\n")
 }

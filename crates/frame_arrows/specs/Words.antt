@@ -1,4 +1,4 @@
--- What a frame means, in words, and the lines of a drawing (Mermaid, a sequence diagram).
+-- What a frame means, in words, and the arrow of it (Mermaid, a sequence diagram).
 use Rattle.std.specs.Prelude.{ℕ, List, ◌++◌, length, codes, Option, Some, None, ◌==◌, if◌then◌else◌}
 use Rattle.std.specs.Fmt.{decimal}
 use Rattle.bus_frame.specs.Frames.{CanFrame}
@@ -18,9 +18,13 @@ line text = text ++ codes "\n"
 unfoldable pub name_of : Address → List ℕ
 name_of a = if a.0 == 255 then codes "all" else digits 16 2 a.0
 
--- an arrow between two participants, with its words
+-- the ends of an arrow between two participants
+abbrev pub ends : (from to : Address) → List ℕ
+ends from to = codes "  " ++ name_of from ++ codes "->>" ++ name_of to ++ codes ": "
+
+-- and its words behind them
 unfoldable pub arrow_line : (from to : Address) → List ℕ → List ℕ
-arrow_line from to words = line (codes "  " ++ name_of from ++ codes "->>" ++ name_of to ++ codes ": " ++ words)
+arrow_line from to words = line (ends from to ++ words)
 
 -- how many bytes, in how many packets
 abbrev pub size_words : (size packets : ℕ) → List ℕ
@@ -56,14 +60,22 @@ words_of (Packet kind sequence bytes) = packet_words sequence sequence
 words_of (Request pgn) = codes "Request"
 words_of (Ack control address pgn) = codes "Acknowledgement"
 
+-- how many bytes there are
+unfoldable pub length_words : ℕ → List ℕ
+length_words bytes = codes ", " ++ decimal bytes ++ codes " bytes"
+
 -- other traffic and malformed frames: the PGN of the identifier, and how many bytes
-unfoldable pub other_arrow : CanFrame → List ℕ
-other_arrow frame = arrow_line (meaning_of frame.id).from (meaning_of frame.id).to (codes "frame " ++ digits 16 5 (meaning_of frame.id).pgn ++ codes ", " ++ decimal (length frame.bytes) ++ codes " bytes")
+unfoldable pub other_words : (pgn bytes : ℕ) → List ℕ
+other_words pgn bytes = codes "frame " ++ digits 16 5 pgn ++ length_words bytes
 
--- the arrow of a frame that was read so
-abbrev pub arrow_by : CanFrame → Option (Wire × Address × Address) → List ℕ
-arrow_by frame (Some (wire, from, to)) = arrow_line from to (words_of wire)
-arrow_by frame None = other_arrow frame
+-- of a frame that was read so
+abbrev pub words_by : CanFrame → Option (Wire × Address × Address) → List ℕ
+words_by frame (Some (wire, from, to)) = words_of wire
+words_by frame None = other_words (meaning_of frame.id).pgn (length frame.bytes)
 
+unfoldable pub meaning_words : CanFrame → List ℕ
+meaning_words frame = words_by frame (reading frame)
+
+-- from the source to the destination of its identifier
 unfoldable pub arrow_of : CanFrame → List ℕ
-arrow_of frame = arrow_by frame (reading frame)
+arrow_of frame = arrow_line (meaning_of frame.id).from (meaning_of frame.id).to (meaning_words frame)

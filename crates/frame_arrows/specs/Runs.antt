@@ -5,8 +5,8 @@ use Rattle.pgn_ids.specs.declared.address.Address.{Address}
 use Rattle.tp_wire.specs.Reading.{reading}
 use Rattle.tp_wire.specs.declared.wire.Wire.{Wire}
 use Rattle.tp_wire.specs.declared.wire.Wire.TheVariants.{Packet}
-use Rattle.bus_drawing.specs.Words.{arrow_line, arrow_of, packet_words}
-use Rattle.bus_drawing.specs.declared.run.Run.{Run}
+use Rattle.frame_arrows.specs.Words.{arrow_line, arrow_of, packet_words}
+use Rattle.frame_arrows.specs.declared.run.Run.{Run}
 
 -- a packet is a run of one
 abbrev pub run_by : Option (Wire × Address × Address) → Option Run

@@ -1,7 +1,7 @@
 //! Arrows of frames, one for packets that follow on one another.
 ghost use Rattle.std.specs.Prelude.{◌≡◌, ◌++◌, OnOk, IfOk};
-ghost use Rattle.bus_drawing.specs.Words.{arrow_line};
-ghost use Rattle.bus_drawing.specs.Runs.{run_of, run_arrow, goes_on, longer, open_after, drawn_at, arrows};
+ghost use Rattle.frame_arrows.specs.Words.{arrow_line};
+ghost use Rattle.frame_arrows.specs.Runs.{run_of, run_arrow, goes_on, longer, open_after, drawn_at, arrows};
 
 use crate::words::{draw_frame, put_ends, put_packets};
 use bus_frame::Frame;
@@ -25,7 +25,7 @@ pub struct Run {
 
 /// The run of one that a frame is, where it is a packet.
 #[tactic(auto, unfolding(crate::specs::Runs::run_of))]
-fn run_of(frame: &Frame) -> Option<Run>
+pub fn run_of(frame: &Frame) -> Option<Run>
     ensures { result ≡ run_of frame.now }
 {
     let Some((wire, from, to)) = read(frame) else {
@@ -56,8 +56,8 @@ fn draw_run(out: &mut Vec<u8>, run: Option<Run>) -> Result<(), AllocError>
     put_text(out, "\n")
 }
 
-/// Whether a packet goes on with a run.
-fn goes_on(run: Option<Run>, packet: Run) -> bool
+/// Whether a packet goes on with a run, if one is open.
+pub fn goes_on(run: Option<Run>, packet: Run) -> bool
     ensures { result ≡ goes_on run packet }
 {
     let Some(run) = run else {
@@ -68,8 +68,8 @@ fn goes_on(run: Option<Run>, packet: Run) -> bool
         && u16::from(run.last) + 1 == u16::from(packet.first)
 }
 
-/// A run with one packet more.
-fn longer(run: Option<Run>, packet: Run) -> Run
+/// A run with one packet more; where none is open, the packet alone.
+pub fn longer(run: Option<Run>, packet: Run) -> Run
     ensures { result ≡ longer run packet }
 {
     match run {

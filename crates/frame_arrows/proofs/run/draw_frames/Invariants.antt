@@ -1,6 +1,6 @@
 use Rattle.std.proofs.Common.{◌≡◌, ◌++◌, drop}
-use Rattle.bus_drawing.specs.Runs.{arrows, arrows_from}
-use Rattle.bus_drawing.proofs.run.draw_frames.Given as goal
+use Rattle.frame_arrows.specs.Runs.{arrows, arrows_from}
+use Rattle.frame_arrows.proofs.run.draw_frames.Given as goal
 
 -- what was drawn so far, and then what the rest draws, is what all draw
 abbrev pub invariant-loop-frame : goal.invariant-loop-frame
