@@ -72,7 +72,7 @@ reads_held most a b c limit held n e front end kept drops =
     let none : NoFeed (take n held) = subst (λ k. NoFeed (take k held)) h.0 (no_feed_before held) in
     let taken : take (n + 1) held ≡ take n held ++ 10 ∷ [] = subst (λ k. take (k + 1) held ≡ take k held ++ 10 ∷ []) h.0 (feed_behind held (omega (arith, h.0, h.1))) in
     reads_line most a a c [] (take n held) tt none (consumes_none a)
-        (subst (Consumes a c) taken (takes_shown a b c limit held (n + 1) (omega (arith, h.1)) front end kept drops))
+    (subst (Consumes a c) taken (takes_shown a b c limit held (n + 1) (omega (arith, h.1)) front end kept drops))
 
 -- too many bytes
 pub reads_long : (most : ℕ) (a b c : Option (List ℕ)) (line part : List ℕ) → NoFeed line → NoFeed part → most < length (line ++ part) → Consumes a b line → Consumes b c part → Known a c (ReadsLineUpTo most TooLong line)
