@@ -37,8 +37,7 @@ impl Bell {
     /// Sleeps for so many ticks of 1 ms at most, unless it has rung more often than `heard` times; a ring ends the sleep.
     pub(crate) fn rest<R: Wait>(&self, rt: &R, heard: u64, ticks: u64) {
         self.resting.fetch_add(1, Ordering::SeqCst);
-        self.rung
-            .park_timeout(rt, (heard % LOW_BITS) as u32, Duration::from_millis(ticks));
+        self.rung.park_timeout(rt, (heard % LOW_BITS) as u32, Duration::from_millis(ticks));
         self.resting.fetch_sub(1, Ordering::SeqCst);
     }
 }

@@ -42,8 +42,7 @@ impl<'a, R: std::time::Clock> MachineClock<'a, R> {
     fn passed(&self) -> Option<u64> {
         let time = self.start?.elapsed(self.rt).ok()?;
         Some(
-            time
-                .as_secs()
+            time.as_secs()
                 .saturating_mul(1_000)
                 .saturating_add(u64::from(time.subsec_millis())),
         )

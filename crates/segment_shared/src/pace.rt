@@ -82,9 +82,7 @@ fn has_work(live: &Live, worker: u8) -> bool {
     }
     let station = Address(worker);
     let segment = live.segment();
-    segment.waiting(station) > 0
-        || segment.next_pump(station).is_some()
-        || segment.is_due(station)
+    segment.waiting(station) > 0 || segment.next_pump(station).is_some() || segment.is_due(station)
 }
 
 impl<R: Wait, C: Clock> Pace<'_, R, C> {
@@ -93,7 +91,13 @@ impl<R: Wait, C: Clock> Pace<'_, R, C> {
         let live = self.shared.lock_for_turn(self.rt);
         let segment = live.segment();
         let is_kept = has_work(&live, worker);
-        rest_for(is_kept, segment.next_at(), segment.now(), self.clock.now(), self.look)
+        rest_for(
+            is_kept,
+            segment.next_at(),
+            segment.now(),
+            self.clock.now(),
+            self.look,
+        )
     }
 }
 

@@ -29,12 +29,9 @@ fn is_starved(live: &Live, station: Address, waited: u64, done: &Turn) -> bool {
 // Whether nothing is to be done on the segment but that a station takes what waits for it.
 fn rests_but_for(live: &Live, station: Address) -> bool {
     let segment = live.segment();
-    live
-        .addresses()
-        .iter()
-        .all(|address| segment.queue_len(*address) == 0
-            && segment.next_pump(*address).is_none()
-            && (address.0 == station.0 || segment.waiting(*address) == 0))
+    live.addresses().iter().all(|address| segment.queue_len(*address) == 0
+        && segment.next_pump(*address).is_none()
+        && (address.0 == station.0 || segment.waiting(*address) == 0))
 }
 
 // The station misses what waits for it. Where there is no memory for that either, the clock goes on where nothing else makes it go on: it doesn't
