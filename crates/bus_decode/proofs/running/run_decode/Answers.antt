@@ -1,4 +1,4 @@
-use Rattle.std.proofs.Common.{arith, ◌+◌, ◌<◌, ◌^◌}
+use Rattle.std.proofs.Common.{arith}
 use Rattle.bus_decode.proofs.RunSteps.{at_end, at_cause}
 use Rattle.bus_decode.proofs.running.run_decode.Goals as goal
 
