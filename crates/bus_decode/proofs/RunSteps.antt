@@ -12,7 +12,7 @@ use Rattle.text_lines.specs.declared.lines.LineRead.TheVariants as readings
 use Rattle.bus_decode.specs.Listening.{Listening, Step, Read, line_seen}
 use Rattle.bus_decode.specs.Outcome.{Outcome, lines_end, limit_fault, numbered_line, then_rest, last_outcome, outcome_from, first_listening, outcome}
 use Rattle.bus_decode.specs.Ending.{cause_of, read_cause, EndedByCause, EndedBy, Ended, IsLastCause}
-use Rattle.bus_decode.specs.Taking.{GoesOn, listening_of, further, IsNumbered, TakesText, IsAsBefore, Takes, TakesNext}
+use Rattle.bus_decode.specs.Taking.{GoesOn, listening_of, further, IsNumbered, TakesText, IsAsBefore, Takes}
 use Rattle.bus_decode.specs.declared.counts.Counts.{Counts}
 use Rattle.bus_decode.specs.declared.options.Options.{Options}
 use Rattle.bus_decode.specs.declared.listening.LineError.{LineError}
@@ -221,10 +221,10 @@ failed_line options old new line cause (Some all) None a b reads t = absurd read
 failed_line options old new line cause (Some all) (Some rest) a b reads t =
     subst (λ ls. EndedByCause new.number cause new.counts a b (further options old ls)) (sym reads) (t (lines_of rest))
 
--- and then flushed, or not
 numbered_still : (old new flushed : Run) → IsAsBefore new flushed → IsNumbered old new → IsNumbered old flushed
 numbered_still old new flushed same t = (same.1 ∙ t.0, t.1)
 
+-- and then flushed, or not
 pub flushed_line : (options : Options) (old new flushed : Run) (ra rb a b c : Option (List ℕ)) → IsAsBefore new flushed → Takes (Ok Line) options old new ra rb a b → Keeps b c
     → Takes (Ok Line) options old flushed ra rb a c
 flushed_line options old new flushed None rb a b c same t k = (tt, numbered_still old new flushed same t.1)
@@ -258,7 +258,7 @@ long_line options run line None rb a reads = tt
 long_line options run line (Some all) None a reads = absurd reads
 long_line options run line (Some all) (Some rest) a reads =
     subst (λ ls. EndedByCause run.number (causes.Fault (limit_fault run.number)) run.counts a a (further options run ls)) (sym reads.2)
-        (fault_ends options (listening_of run) run.number reads.0 (limit_fault run.number) run.counts a (too_long options (listening_of run) run.number reads.0 reads.3) refl reads.1)
+    (fault_ends options (listening_of run) run.number reads.0 (limit_fault run.number) run.counts a (too_long options (listening_of run) run.number reads.0 reads.3) refl reads.1)
 
 pub copied_end : (options : Options) (run : Run) (line : List ℕ) (ra rb a : Option (List ℕ)) → Known ra rb (ReadsLine readings.End line) → Takes (Ok End) options run run ra rb a a
 copied_end options run line None rb a reads = (tt, keeps_same a, (refl, refl))
@@ -368,6 +368,6 @@ at_end options old new d None rb rc a b c e inv t u = tt
 at_end options old new d (Some all) None rc a b c e inv t u = absurd inv
 at_end options old new d (Some all) (Some rest) rc a b c e inv t u =
     let left : further options old (lines_of rest) ≡ last_outcome options (new.listener, new.counts) =
-        ap (further options old) t.0 ∙ sym (further_same options old new [] t.2) ∙ no_lines options new in
+    ap (further options old) t.0 ∙ sym (further_same options old new [] t.2) ∙ no_lines options new in
     let w = goes_kept a b c _ _ (subst (λ o. GoesOn a b o (outcome options all)) left inv) t.1 in
     ended_more d.fault d.counts a c e _ _ w u

@@ -1,10 +1,9 @@
 -- How the next line of a log is taken.
-use Rattle.std.specs.Prelude.{◌≡◌, ℕ, ◌+◌, ◌<◌, Bool, true, false, List, [], ◌∷◌, Option, None, Result, Ok, Err, IfSome}
+use Rattle.std.specs.Prelude.{◌≡◌, ℕ, ◌+◌, ◌<◌, Bool, true, false, List, [], ◌∷◌, Option, Result, Ok, Err, IfSome}
 use Rattle.std.specs.Io.KnownBytes.{Appends, Keeps, append_known}
 use Rattle.text_lines.specs.Known.{Known}
 use Rattle.text_lines.specs.Lines.{lines_of}
-use Rattle.bus_decode.specs.Counts.{no_counts}
-use Rattle.bus_decode.specs.Listening.{Listening, first_listener}
+use Rattle.bus_decode.specs.Listening.{Listening}
 use Rattle.bus_decode.specs.Outcome.{Outcome, lines_end, outcome_from}
 use Rattle.bus_decode.specs.Ending.{EndedByCause}
 use Rattle.bus_decode.specs.declared.options.Options.{Options}

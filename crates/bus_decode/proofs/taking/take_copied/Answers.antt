@@ -13,4 +13,4 @@ pub returns-in_default : goal.returns-in_default
 returns-in_default g c =
     let line = c.read_line.new.line.items in
     unflushed_line _ c.args.run.now c.take_text.new.run _ _ _ _ _ (taken_line _ _ c.args.run.now c.take_text.new.run line _ _ _ _ (reads_as _ _ _ _ line c.in-Ok-Line.field-0-is c.in-Ok-Line.ensures.reads)
-        (rw c.as_slice.ensures.value at c.in-Ok.ensures)) c.in_default.ensures.kept
+    (rw c.as_slice.ensures.value at c.in-Ok.ensures)) c.in_default.ensures.kept

@@ -1,4 +1,4 @@
-use Rattle.std.proofs.Common.{◌≡◌, ◌+◌, refl, sym, subst, take}
+use Rattle.std.proofs.Common.{refl, sym, subst, take}
 use Rattle.std.specs.Io.BufRead.{FillKeeps}
 use Rattle.text_lines.specs.Lines.{held_line}
 use Rattle.text_lines.proofs.Known.{reads_held}
