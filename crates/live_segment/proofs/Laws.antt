@@ -1,4 +1,4 @@
-use Rattle.std.proofs.Common.{◌≡◌, ℕ, zero, suc, ◌+◌, ◌<◌, true, false, Option, List, [], ◌∷◌, ◌++◌, length, drop, map, get_or, refl, sym, ◌∙◌, ap, subst, arith}
+use Rattle.std.proofs.Common.{◌≡◌, ℕ, zero, suc, ◌+◌, ◌<◌, ◌≤◌, true, false, Option, List, [], ◌∷◌, ◌++◌, length, drop, map, get_or, refl, sym, ◌∙◌, ap, subst, arith}
 use Rattle.std.proofs.lemmas.List.{get_or-map, length-map}
 use Rattle.std.specs.Option.{option_map}
 use Rattle.std.proofs.lemmas.Option.{slice_get-map, slice_get-get_or}
@@ -60,6 +60,12 @@ pub kept_at : (n c : ℕ) (ns : List (ℕ × Note)) (ss : List SeatView) (d : Se
 kept_at n c ns [] d l i h = absurd (omega arith)
 kept_at n zero ns (s ∷ ss) d l i h = let e : s.id ≡ n + 0 = omega (arith, i.0) in h.0.1 ∙ ap (λ k. drop s.gone (notes_of k ns)) e
 kept_at n (suc c) ns (s ∷ ss) d l i h = let e : n + 1 + c ≡ n + suc c = omega arith in kept_at (n + 1) c ns ss d (omega arith) i.1 h.2 ∙ ap (λ k. drop (get_or ss c d).gone (notes_of k ns)) e
+
+-- no more of its notes aren't kept than there are
+pub gone_at : (n c : ℕ) (ns : List (ℕ × Note)) (ss : List SeatView) (d : SeatView) → c < length ss → IdsFrom n ss → PushesNotes ns ss → (get_or ss c d).gone ≤ length (notes_of (n + c) ns)
+gone_at n c ns [] d l i h = absurd (omega arith)
+gone_at n zero ns (s ∷ ss) d l i h = let e : s.id ≡ n + 0 = omega (arith, i.0) in subst (λ k. s.gone ≤ length (notes_of k ns)) e h.0.0
+gone_at n (suc c) ns (s ∷ ss) d l i h = let e : n + 1 + c ≡ n + suc c = omega arith in subst (λ k. (get_or ss c d).gone ≤ length (notes_of k ns)) e (gone_at (n + 1) c ns ss d (omega arith) i.1 h.2)
 
 -- how many of its notes aren't kept is what the segment shows
 pub notes_gone_at : (keeps : Kept) (addresses : List Address) (xs : List Stored) (ss : List SeatView) (ds : List DoorView) (c : ℕ) (d : SeatView) → c < length ss → notes_gone (live_view keeps addresses xs ss ds) c ≡ (get_or ss c d).gone

@@ -40,7 +40,7 @@ impl Live {
 
     /// How many of the first notes of a client are kept no more, if there is a client with this number.
     pub fn notes_gone(&self, client: u64) -> Option<u64>
-        ensures { MatchOption result (length self.now.clients ≤ client) (λ n. (client < length self.now.clients) × (n ≡ notes_gone self.now client)) }
+        ensures { MatchOption result (length self.now.clients ≤ client) (λ n. (client < length self.now.clients) × (n ≡ notes_gone self.now client) × (n ≤ length (notes_of client (trail self.now.addresses self.now.calls).noted))) }
     {
         if client >= self.seats.len() as u64 {
             return None;
