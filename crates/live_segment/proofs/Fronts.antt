@@ -25,6 +25,7 @@ same_seat-spare a b c h e m =
       station = ap (λ (x : SeatView). x.station) e ∙ h.station;
       active = ap (λ (x : SeatView). x.active) e ∙ h.active;
       popped = ap (λ (x : SeatView). x.popped) e ∙ h.popped;
+      gone = ap (λ (x : SeatView). x.gone) e ∙ h.gone;
       kept = ap (λ (x : SeatView). x.kept) e ∙ h.kept;
       noted = ap (λ (x : SeatView). x.noted) e ∙ h.noted;
       free = omega (arith, f, h.free);

@@ -1,6 +1,6 @@
 -- What holds stays so.
-use Rattle.std.proofs.Common.{◌≡◌, ℕ, zero, suc, ◌+◌, ◌<◌, false, true, List, [], ◌∷◌, ◌++◌, length, map, set, get_or, None, refl, sym, ◌∙◌, ap, subst, arith, append-nil, ◌^◌}
-use Rattle.std.proofs.lemmas.List.{length_push, length-map, length-set, map-append}
+use Rattle.std.proofs.Common.{◌≡◌, ℕ, zero, suc, ◌+◌, ◌<◌, false, true, List, [], ◌∷◌, ◌++◌, length, map, set, get_or, None, refl, sym, ◌∙◌, ap, subst, arith, append-nil, length-append, ◌^◌}
+use Rattle.std.proofs.lemmas.List.{length_push, length-map, length-set, map-append, drop-append-le}
 use Rattle.std.specs.Prelude.{Result, Ok, Err, IsErr, IfOk, OnErr}
 use Rattle.pgn_ids.specs.declared.address.Address.{Address}
 use Rattle.port_table.specs.declared.port.PortId.{PortId}
@@ -20,7 +20,7 @@ use Rattle.segment_rings.specs.Views.{SeatView, DoorView, new_seat, new_door, cl
 use Rattle.stored_calls.specs.declared.stored.Stored.{Stored}
 use Rattle.live_segment.specs.declared.call.Owed.{Owed}
 use Rattle.live_segment.specs.Record.{accepted, notes_of, owed_by, settle_notes, settle_owed, owe, Trail, trail, step}
-use Rattle.live_segment.specs.Facts.{IdsFrom, HaveRoom, note_all, OwedWithin, PopsAccepted, HasNotes, PushesNotes, PushesGiven, NoneAt, PortsApart, DoorsKnown, give_all, SameDoors, SameSeats, Holds, NotedWithin, HaveSenders, seat_station}
+use Rattle.live_segment.specs.Facts.{IdsFrom, HaveRoom, note_all, OwedWithin, PopsAccepted, HasNotes, IsEndOf, PushesNotes, PushesGiven, NoneAt, PortsApart, DoorsKnown, give_all, SameDoors, SameSeats, Holds, NotedWithin, HaveSenders, seat_station}
 use Rattle.live_segment.specs.LiveView.{stored, live_view, SameLive, Kept}
 use Rattle.live_segment.proofs.Seats.{notes_of-append, length-note_all, stations-note_all, noted-append, settle_notes-within, noted-more, within-more, notes_of-none, owed_by-none, has_more, has_first}
 use Rattle.live_segment.proofs.Doors.{apart-same, pushes-same, apart-give_all, pushes-give_all, known-same, known-give_all, known-more, known-push, each-append, each-more, given_unknown, apart-push, pushes-push}
@@ -66,12 +66,15 @@ holds-same addresses st xs ws ss ts ds es s d h = record {
   noted = rw (length-same ss ts s) h.noted;
 }
 
+end-more : (g : ℕ) (ks xs ys : List Note) → IsEndOf g ks xs → IsEndOf g (ks ++ ys) (xs ++ ys)
+end-more g ks xs ys h = (omega (arith, length-append xs ys, h.0), ap (λ (l : List Note). l ++ ys) h.1 ∙ sym (drop-append-le g xs ys h.0))
+
 pub notes-note_all : (ms ns : List (ℕ × Note)) (ss : List SeatView) → PushesNotes ms ss → PushesNotes (ms ++ ns) (note_all ns ss)
 notes-note_all ms ns [] h = tt
 notes-note_all ms ns (s ∷ ss) h =
     let e = sym (notes_of-append s.id ms ns) in
     let own = has_more s.active s.noted (notes_of s.id ms) (notes_of s.id ns) h.1 in
-    (ap (λ l. l ++ notes_of s.id ns) h.0 ∙ e, subst (HasNotes s.active (noted_after s.active s.noted (notes_of s.id ns))) e own, notes-note_all ms ns ss h.2)
+    (subst (IsEndOf s.gone (s.kept ++ notes_of s.id ns)) e (end-more s.gone s.kept (notes_of s.id ms) (notes_of s.id ns) h.0), subst (HasNotes s.active (noted_after s.active s.noted (notes_of s.id ns))) e own, notes-note_all ms ns ss h.2)
 
 pops-note_all : (xs ys : List Stored) (ns : List (ℕ × Note)) (ss : List SeatView) → ((c : ℕ) → accepted c ys ≡ accepted c xs) → PopsAccepted xs ss → PopsAccepted ys (note_all ns ss)
 pops-note_all xs ys ns [] e h = tt
@@ -169,7 +172,7 @@ pops-append : (xs : List Stored) (ss : List SeatView) (s : SeatView) → PopsAcc
 pops-append xs [] s h e = (e, tt)
 pops-append xs (x ∷ ss) s h e = (h.0, pops-append xs ss s h.1 e)
 
-notes-append : (ns : List (ℕ × Note)) (ss : List SeatView) (s : SeatView) → PushesNotes ns ss → s.kept ≡ notes_of s.id ns → HasNotes s.active s.noted (notes_of s.id ns) → PushesNotes ns (ss ++ s ∷ [])
+notes-append : (ns : List (ℕ × Note)) (ss : List SeatView) (s : SeatView) → PushesNotes ns ss → IsEndOf s.gone s.kept (notes_of s.id ns) → HasNotes s.active s.noted (notes_of s.id ns) → PushesNotes ns (ss ++ s ∷ [])
 notes-append ns [] s h e f = (e, f, tt)
 notes-append ns (x ∷ ss) s h e f = (h.0, h.1, notes-append ns ss s h.2 e f)
 
@@ -190,7 +193,7 @@ holds-attach addresses st xs ws ss ds station free spare h =
       room = room-append ws ss s h.room (owed_by-none n n ws (omega arith) h.within);
       within = rw more (within-more n ws h.within);
       pops = pops-append xs ss s h.pops (sym (accepted-none (map seat_station ss) n xs (omega (arith, length-map ss seat_station)) h.senders));
-      notes = notes-append (trail addresses xs).noted ss s h.notes none none;
+      notes = notes-append (trail addresses xs).noted ss s h.notes (omega arith, none) none;
       gives = h.gives;
       apart = h.apart;
       known = h.known;

@@ -5,7 +5,7 @@ use Rattle.segment_rings.specs.Views.{SeatView, DoorView, SameSeat}
 use Rattle.stored_calls.specs.declared.stored.Stored.{Stored}
 use Rattle.live_segment.specs.declared.call.Owed.{Owed}
 use Rattle.live_segment.specs.Record.{accepted, notes_of, owed_by}
-use Rattle.live_segment.specs.Facts.{IdsFrom, HaveRoom, PopsAccepted, HasNotes, PushesNotes, SameDoors, SameSeats, seat_station}
+use Rattle.live_segment.specs.Facts.{IdsFrom, HaveRoom, PopsAccepted, HasNotes, IsEndOf, PushesNotes, SameDoors, SameSeats, seat_station}
 use Rattle.live_segment.specs.LiveView.{client_of, port_of}
 
 pub ids-same : (n : ℕ) (ss ts : List SeatView) → SameSeats ss ts → IdsFrom n ss → IdsFrom n ts
@@ -40,6 +40,9 @@ pops-same xs [] (t ∷ ts) s h = absurd s
 pops-same xs (x ∷ ss) [] s h = absurd s
 pops-same xs (x ∷ ss) (t ∷ ts) s h = (s.0.popped ∙ h.0 ∙ sym (ap (λ n. accepted n xs) s.0.id), pops-same xs ss ts s.1 h.1)
 
+end-same : (g h : ℕ) (ks ls xs ys : List Note) → h ≡ g → ls ≡ ks → ys ≡ xs → IsEndOf g ks xs → IsEndOf h ls ys
+end-same g h ks ls xs ys a b c e = rw (a, b, c) e
+
 pub notes-same : (ns : List (ℕ × Note)) (ss ts : List SeatView) → SameSeats ss ts → PushesNotes ns ss → PushesNotes ns ts
 notes-same ns [] [] s h = tt
 notes-same ns [] (t ∷ ts) s h = absurd s
@@ -47,14 +50,14 @@ notes-same ns (x ∷ ss) [] s h = absurd s
 notes-same ns (x ∷ ss) (t ∷ ts) s h =
     let i : notes_of x.id ns ≡ notes_of t.id ns = sym (ap (λ n. notes_of n ns) s.0.id) in
     let own : HasNotes x.active x.noted (notes_of t.id ns) = subst (HasNotes x.active x.noted) i h.1 in
-    (s.0.kept ∙ h.0 ∙ i, rw (s.0.active, s.0.noted) own, notes-same ns ss ts s.1 h.2)
+    (end-same x.gone t.gone x.kept t.kept (notes_of x.id ns) (notes_of t.id ns) s.0.gone s.0.kept (sym i) h.0, rw (s.0.active, s.0.noted) own, notes-same ns ss ts s.1 h.2)
 
 pub same_seat-refl : (s : SeatView) → SameSeat s s
-same_seat-refl s = record { id = refl; station = refl; active = refl; popped = refl; kept = refl; noted = refl; free = omega arith; spare = omega arith }
+same_seat-refl s = record { id = refl; station = refl; active = refl; popped = refl; gone = refl; kept = refl; noted = refl; free = omega arith; spare = omega arith }
 
 pub same_seats-refl : (ss : List SeatView) → SameSeats ss ss
 same_seats-refl [] = tt
-same_seats-refl (s ∷ ss) = (record { id = refl; station = refl; active = refl; popped = refl; kept = refl; noted = refl; free = omega arith; spare = omega arith }, same_seats-refl ss)
+same_seats-refl (s ∷ ss) = (record { id = refl; station = refl; active = refl; popped = refl; gone = refl; kept = refl; noted = refl; free = omega arith; spare = omega arith }, same_seats-refl ss)
 
 pub same_seats-trans : (ss ts us : List SeatView) → SameSeats ss ts → SameSeats ts us → SameSeats ss us
 same_seats-trans [] [] [] s t = tt
@@ -68,6 +71,7 @@ same_seats-trans (x ∷ ss) (y ∷ ts) (u ∷ us) s t = (
     station = t.0.station ∙ s.0.station;
     active = t.0.active ∙ s.0.active;
     popped = t.0.popped ∙ s.0.popped;
+    gone = t.0.gone ∙ s.0.gone;
     kept = t.0.kept ∙ s.0.kept;
     noted = t.0.noted ∙ s.0.noted;
     free = omega (arith, s.0.free, t.0.free);
@@ -79,10 +83,10 @@ same_seats-trans (x ∷ ss) (y ∷ ts) (u ∷ us) s t = (
 pub same_seats-set : (ss : List SeatView) (i : ℕ) (d t : SeatView) → i < length ss → SameSeat (get_or ss i d) t → SameSeats ss (set ss i t)
 same_seats-set [] i d t l s = absurd (omega arith)
 same_seats-set (x ∷ ss) zero d t l s = (s, same_seats-refl ss)
-same_seats-set (x ∷ ss) (suc i) d t l s = (record { id = refl; station = refl; active = refl; popped = refl; kept = refl; noted = refl; free = omega arith; spare = omega arith }, same_seats-set ss i d t (omega arith) s)
+same_seats-set (x ∷ ss) (suc i) d t l s = (record { id = refl; station = refl; active = refl; popped = refl; gone = refl; kept = refl; noted = refl; free = omega arith; spare = omega arith }, same_seats-set ss i d t (omega arith) s)
 
 client-same : (s t : SeatView) → SameSeat s t → client_of t ≡ client_of s
-client-same s t h = let a = h.station in let b = h.active in let c = h.popped in let d = h.noted in cc
+client-same s t h = let a = h.station in let b = h.active in let c = h.popped in let d = h.noted in let e = h.gone in cc
 
 pub clients-same : (ss ts : List SeatView) → SameSeats ss ts → map client_of ts ≡ map client_of ss
 clients-same [] [] s = refl
@@ -94,4 +98,4 @@ pub ports-same : (ds es : List DoorView) → SameDoors ds es → map port_of es 
 ports-same [] [] s = refl
 ports-same [] (t ∷ ts) s = absurd s
 ports-same (x ∷ ss) [] s = absurd s
-ports-same (x ∷ ss) (t ∷ ts) s = let a = s.0.port in let b = s.0.active in let c = s.0.pushed in let d = ports-same ss ts s.1 in cc
+ports-same (x ∷ ss) (t ∷ ts) s = let a = s.0.port in let b = s.0.active in let c = s.0.pushed in let g = s.0.gone in let d = ports-same ss ts s.1 in cc

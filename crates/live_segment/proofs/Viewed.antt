@@ -7,21 +7,23 @@ use Rattle.segment_rings.specs.Views.{SeatView, DoorView}
 use Rattle.stored_calls.specs.declared.stored.Stored.{Stored}
 use Rattle.live_segment.specs.declared.call.Owed.{Owed}
 use Rattle.live_segment.specs.declared.calls.Piece.{Piece}
-use Rattle.live_segment.specs.Facts.{SameDoors, SameSeats, Holds}
-use Rattle.live_segment.specs.Past.{count_since, IsCutImage}
+use Rattle.live_segment.specs.Facts.{SameDoors, SameSeats, Holds, IsCut}
+use Rattle.live_segment.specs.Past.{count_since}
 use Rattle.live_segment.specs.LiveView.{LiveView, live_view, keep, SameLive, port_of}
 use Rattle.live_segment.proofs.Holding.{holds-same}
 use Rattle.live_segment.proofs.SeatsSame.{clients-same, ports-same}
+use Rattle.live_segment.proofs.Keeping.{cut_with, notes_kept-same, given_kept-same}
 
 -- the invariant, of equal parts
 pub holds_at : (addresses : List Address) (st next : Segment) (xs ys : List Stored) (ps qs : List Piece) (i j : Option Segment) (ws vs : List Owed) (ss ts : List SeatView) (ds es : List DoorView)
-    → next ≡ st → ys ≡ xs → qs ≡ ps → j ≡ i → vs ≡ ws → ts ≡ ss → es ≡ ds → Holds addresses st xs ws ss ds → IsCutImage addresses ps i → Holds addresses next ys vs ts es × IsCutImage addresses qs j
+    → next ≡ st → ys ≡ xs → qs ≡ ps → j ≡ i → vs ≡ ws → ts ≡ ss → es ≡ ds → Holds addresses st xs ws ss ds → IsCut addresses ps i ss ds → Holds addresses next ys vs ts es × IsCut addresses qs j ts es
 holds_at addresses st next xs ys ps qs i j ws vs ss ts ds es a b p m o s d h cut = rw (a, b, p, m, o, s, d) (h, cut)
 
 -- the same where more is known of the rings
 pub stays : (addresses : List Address) (st next : Segment) (xs ys : List Stored) (ps qs : List Piece) (i j : Option Segment) (ws vs : List Owed) (ss ts : List SeatView) (ds es : List DoorView)
-    → next ≡ st → ys ≡ xs → qs ≡ ps → j ≡ i → vs ≡ ws → SameSeats ss ts → SameDoors ds es → Holds addresses st xs ws ss ds × IsCutImage addresses ps i → Holds addresses next ys vs ts es × IsCutImage addresses qs j
-stays addresses st next xs ys ps qs i j ws vs ss ts ds es a b p m o s d h = holds_at addresses st next xs ys ps qs i j ws vs ts ts es es a b p m o refl refl (holds-same addresses st xs ws ss ts ds es s d h.0) h.1
+    → next ≡ st → ys ≡ xs → qs ≡ ps → j ≡ i → vs ≡ ws → SameSeats ss ts → SameDoors ds es → Holds addresses st xs ws ss ds × IsCut addresses ps i ss ds → Holds addresses next ys vs ts es × IsCut addresses qs j ts es
+stays addresses st next xs ys ps qs i j ws vs ss ts ds es a b p m o s d h = holds_at addresses st next xs ys ps qs i j ws vs ts ts es es a b p m o refl refl (holds-same addresses st xs ws ss ts ds es s d h.0)
+    (cut_with addresses ps i ss ts ds es (notes_kept-same ss ts s) (given_kept-same ds es d) h.1)
 
 -- what is seen of a segment, of equal parts
 pub viewed : (P : LiveView → LiveView → Type 0) (a : LiveView) (stopped : Bool) (addresses : List Address) (ps qs : List Piece) (xs ys zs : List Stored) (ss ts us : List SeatView) (ds es : List DoorView)

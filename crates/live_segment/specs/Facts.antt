@@ -1,5 +1,5 @@
 -- What holds of a shared segment at every moment.
-use Rattle.std.specs.Prelude.{◌≡◌, ℕ, ◌+◌, ◌-◌, ◌≤◌, ◌<◌, ◌^◌, Bool, true, false, List, [], ◌∷◌, ◌++◌, length, map, Option, Some, None, slice_get}
+use Rattle.std.specs.Prelude.{◌≡◌, ℕ, ◌+◌, ◌-◌, ◌≤◌, ◌<◌, ◌^◌, Bool, true, false, List, [], ◌∷◌, ◌++◌, length, drop, map, Option, Some, None, slice_get, slice_index_or}
 use mathlib.Core.List.{IsPrefix}
 use Rattle.pgn_ids.specs.declared.address.Address.{Address}
 use Rattle.port_table.specs.declared.port.PortId.{PortId}
@@ -11,10 +11,12 @@ use Rattle.segment_law.specs.declared.call.Call.{Call}
 use Rattle.segment_law.specs.declared.call.Call.TheVariants.{Send}
 use Rattle.reply_law.specs.Replies.{IsKnown, EachKnown}
 use Rattle.segment_rings.specs.declared.words.Note.{Note}
-use Rattle.segment_rings.specs.Views.{SeatView, DoorView, SameSeat, SameDoor, noted_after, free_after}
+use Rattle.segment_rings.specs.Views.{SeatView, DoorView, SameSeat, SameDoor, CutSeat, CutDoor, noted_after, free_after}
 use Rattle.stored_calls.specs.declared.stored.Stored.{Stored}
 use Rattle.live_segment.specs.declared.call.Owed.{Owed}
 use Rattle.live_segment.specs.Record.{accepted, given, notes_of, owed_by, trail}
+use Rattle.live_segment.specs.declared.calls.Piece.{Piece}
+use Rattle.live_segment.specs.Past.{IsCutImage}
 
 -- client c is the c-th seat
 abbrev pub IdsFrom : ℕ → List SeatView → Type 0
@@ -54,10 +56,14 @@ abbrev pub HasNotes : (active : Bool) → List Note → List Note → Type 0
 HasNotes true noted ns = noted ≡ ns
 HasNotes false noted ns = IsPrefix noted ns
 
--- all notes of each client are kept, and went into its ring until it was gone
+-- what is kept of these notes are all but so many of the first
+abbrev pub IsEndOf : (gone : ℕ) → (kept all : List Note) → Type 0
+IsEndOf gone kept all = (gone ≤ length all) × (kept ≡ drop gone all)
+
+-- the notes of each client are kept but for the first of them, and went into its ring until it was gone
 abbrev pub PushesNotes : List (ℕ × Note) → List SeatView → Type 0
 PushesNotes ns [] = Unit {0}
-PushesNotes ns (s ∷ ss) = (s.kept ≡ notes_of s.id ns) × HasNotes s.active s.noted (notes_of s.id ns) × PushesNotes ns ss
+PushesNotes ns (s ∷ ss) = IsEndOf s.gone s.kept (notes_of s.id ns) × HasNotes s.active s.noted (notes_of s.id ns) × PushesNotes ns ss
 
 -- what was pushed into each port's ring is what it was given
 abbrev pub PushesGiven : List Event → List DoorView → Type 0
@@ -137,3 +143,24 @@ pub record Holds (addresses : List Address) (state : Segment) (xs : List Stored)
   pub past : EachKnown state (trail addresses xs).events
   pub senders : HaveSenders (map seat_station ss) xs
   pub noted : NotedWithin (length ss) (trail addresses xs).noted
+
+-- each note of these seats is kept, and each delivery of these doors
+abbrev pub KeepNotes : List SeatView → Type 0
+KeepNotes [] = Unit {0}
+KeepNotes (s ∷ ss) = (s.gone ≡ 0) × KeepNotes ss
+
+abbrev pub KeepGiven : List DoorView → Type 0
+KeepGiven [] = Unit {0}
+KeepGiven (d ∷ ds) = (d.gone ≡ 0) × KeepGiven ds
+
+-- the pieces with the image of the last cut; before the first cut everything is kept
+pub record IsCut (addresses : List Address) (ps : List Piece) (image : Option Segment) (ss : List SeatView) (ds : List DoorView) : Type 0 where
+  pub is_of : IsCutImage addresses ps image
+  pub keeps : ps ≡ [] → KeepNotes ss × KeepGiven ds
+
+-- each seat was cut, and each door
+abbrev pub CutSeats : List SeatView → List SeatView → Type 0
+CutSeats ss ts = (length ts ≡ length ss) × ((k : ℕ) (s : SeatView) → k < length ss → CutSeat (slice_index_or ss k s) (slice_index_or ts k s))
+
+abbrev pub CutDoors : List DoorView → List DoorView → Type 0
+CutDoors ds es = (length es ≡ length ds) × ((k : ℕ) (d : DoorView) → k < length ds → CutDoor (slice_index_or ds k d) (slice_index_or es k d))

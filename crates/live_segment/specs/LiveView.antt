@@ -29,17 +29,20 @@ use Rattle.live_segment.specs.Facts.{HasNotes, HaveSenders}
 use Rattle.live_segment.specs.declared.calls.Piece.{Piece}
 use Rattle.live_segment.specs.Past.{count_since, since, HasPast}
 
--- popped, noted: what went out of the client's submissions and into its notes
+-- popped, noted: what went out of the client's submissions and into its notes; notes_gone: how many of its first notes are kept no more
 pub record ClientView : Type 0 where
   pub station : Address
   pub active : Bool
   pub popped : List Submission
   pub noted : List Note
+  pub notes_gone : ℕ
 
+-- pushed: what it was given; given_gone: how much of that, from the first delivery on, is kept no more
 pub record PortView : Type 0 where
   pub port : PortId
   pub active : Bool
   pub pushed : List Delivery
+  pub given_gone : ℕ
 
 -- the stations' addresses, the pieces that were handed out, all calls that were made, the clients by their ids, the ports in the order
 -- of opening; and of the rings: the submissions that are seen, and the places that are known to be free; stopped: the workers are
@@ -56,7 +59,7 @@ pub record LiveView : Type 0 where
   pub stopped : Bool
 
 abbrev pub client_of : SeatView → ClientView
-client_of s = record { station = s.station; active = s.active; popped = s.popped; noted = s.noted }
+client_of s = record { station = s.station; active = s.active; popped = s.popped; noted = s.noted; notes_gone = s.gone }
 
 -- the stations of clients, in the order of their ids
 abbrev pub client_station : ClientView → Address
@@ -66,7 +69,7 @@ abbrev pub stations_of : List ClientView → List Address
 stations_of cs = map client_station cs
 
 abbrev pub port_of : DoorView → PortView
-port_of d = record { port = d.port; active = d.active; pushed = d.pushed }
+port_of d = record { port = d.port; active = d.active; pushed = d.pushed; given_gone = d.gone }
 
 abbrev pub seat_seen : SeatView → List Submission
 seat_seen s = s.ahead
@@ -172,7 +175,7 @@ pub record LacksMemory (a : LiveView) (call : WorkerCall) : Type 0 where
   pub passes : (room : Bool) → refusal_of (called (trail a.addresses a.calls).state (call_of call room)) ≡ None
 
 abbrev pub new_client : Address → ClientView
-new_client station = record { station = station; active = true; popped = []; noted = [] }
+new_client station = record { station = station; active = true; popped = []; noted = []; notes_gone = 0 }
 
 abbrev pub is_station_of : List Address → Address → Bool
 is_station_of addresses a = list_any (λ b. b.0 == a.0) addresses
@@ -192,6 +195,10 @@ pub record Attached (a b : LiveView) (station : Address) (c : ClientEnd) : Type 
   pub clients : b.clients ≡ a.clients ++ new_client station ∷ []
   pub ports : b.ports ≡ a.ports
 
+-- before the first cut no note of these clients and no delivery to these ports is kept no more
+abbrev pub KeepsUncut : List Piece → List ClientView → List PortView → Type 0
+KeepsUncut ps cs ds = ps ≡ [] → ((c : ℕ) (x : ClientView) → c < length cs → (slice_index_or cs c x).notes_gone ≡ 0) × ((k : ℕ) (p : PortView) → k < length ds → (slice_index_or ds k p).given_gone ≡ 0)
+
 -- what went through the rings is what the stored calls say, and each stored Send is of a client of the station that it is from
 pub record Laws (v : LiveView) : Type 0 where
   pub past : HasPast v.pieces v.calls
@@ -200,9 +207,10 @@ pub record Laws (v : LiveView) : Type 0 where
   pub noted : (c : ℕ) (x : ClientView) → c < length v.clients → HasNotes (slice_index_or v.clients c x).active (slice_index_or v.clients c x).noted (notes_of c (trail v.addresses v.calls).noted)
   pub pushed : (k : ℕ) (p : PortView) → k < length v.ports → (slice_index_or v.ports k p).pushed ≡ given (slice_index_or v.ports k p).port (trail v.addresses v.calls).events
   pub senders : HaveSenders (stations_of v.clients) v.calls
+  pub uncut : KeepsUncut v.pieces v.clients v.ports
 
 abbrev pub new_port_view : PortId → PortView
-new_port_view p = record { port = p; active = true; pushed = [] }
+new_port_view p = record { port = p; active = true; pushed = []; given_gone = 0 }
 
 -- why a port isn't opened: the segment refuses the Open, or else no more calls can be stored; or for want of memory, where
 -- neither holds

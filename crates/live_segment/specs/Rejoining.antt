@@ -1,5 +1,5 @@
 -- A segment is cut, and its pieces are joined again.
-use Rattle.std.specs.Prelude.{◌≡◌, ◌+◌, List, [], ◌∷◌, ◌++◌, length, map, Option, Some, None}
+use Rattle.std.specs.Prelude.{◌≡◌, ℕ, ◌+◌, ◌≤◌, ◌<◌, true, false, List, [], ◌∷◌, ◌++◌, length, map, Option, Some, None, slice_index, slice_index_or}
 use Rattle.pgn_ids.specs.declared.address.Address.{Address}
 use Rattle.segment_law.specs.Segment.{Segment}
 use Rattle.segment_law.specs.Record.{StandsAt}
@@ -7,19 +7,50 @@ use Rattle.segment_law.specs.Headline.{Headline}
 use Rattle.segment_law.specs.declared.call.Call.{Call}
 use Rattle.segment_law.specs.declared.refusal.Refusal.{Refusal}
 use Rattle.segment_law.specs.declared.refusal.Refusal.TheVariants.{TraceFull, PiecesDontJoin}
+use Rattle.segment_rings.specs.Tails.{known_out}
+use Rattle.segment_rings.specs.Ends.{ring_places}
 use Rattle.stored_calls.specs.declared.stored.Stored.{Stored}
 use Rattle.live_segment.specs.declared.calls.Piece.{Piece}
 use Rattle.live_segment.specs.declared.refused.NotMade.{NotMade}
 use Rattle.live_segment.specs.declared.refused.NotMade.TheVariants as not_made
 use Rattle.live_segment.specs.Record.{trail}
 use Rattle.live_segment.specs.Past.{joined, NumberedAfter, IsPastCounts, HasCounts}
-use Rattle.live_segment.specs.LiveView.{LiveView, since_cut}
+use Rattle.live_segment.specs.LiveView.{LiveView, ClientView, PortView, since_cut}
 
--- the piece holds the calls that were stored, by the next number, and nothing else changed
+-- so many places of the ring of the client's notes are known to be free: the notes that are known to be out of it are kept no more, those
+-- that may be in it are; of a client that is gone all are kept as they were
+pub record CutClient (a b : ClientView) (free : ℕ) : Type 0 where
+  pub same : b ≡ record a { notes_gone = b.notes_gone }
+  pub more : a.notes_gone ≤ b.notes_gone
+  pub gone : a.active ≡ true → b.notes_gone ≡ known_out ring_places free (length a.noted)
+  pub left : a.active ≡ false → b.notes_gone ≡ a.notes_gone
+  pub unread : b.notes_gone + ring_places ≤ length a.noted + free
+
+-- the same of a port
+pub record CutPort (a b : PortView) (free : ℕ) : Type 0 where
+  pub same : b ≡ record a { given_gone = b.given_gone }
+  pub more : a.given_gone ≤ b.given_gone
+  pub gone : b.given_gone ≡ known_out ring_places free (length a.pushed)
+  pub unread : b.given_gone + ring_places ≤ length a.pushed + free
+
+abbrev pub CutClients : List ClientView → List ClientView → (free : List ℕ) → Type 0
+CutClients old new free = (length new ≡ length old) × ((c : ℕ) (x : ClientView) → c < length old → CutClient (slice_index_or old c x) (slice_index_or new c x) (slice_index free c))
+
+abbrev pub CutPorts : List PortView → List PortView → (free : List ℕ) → Type 0
+CutPorts old new free = (length new ≡ length old) × ((k : ℕ) (p : PortView) → k < length old → CutPort (slice_index_or old k p) (slice_index_or new k p) (slice_index free k))
+
+-- the piece holds the calls that were stored, by the next number; what is known to be read is kept no more, and nothing else changed but
+-- what is known of the rings' free places
 pub record CutAs (a b : LiveView) (p : Piece) : Type 0 where
   pub number : p.number ≡ length a.pieces + 1
   pub calls : p.calls.items ≡ since_cut a
-  pub after : b ≡ record a { pieces = a.pieces ++ p ∷ [] }
+  pub addresses : b.addresses ≡ a.addresses
+  pub stopped : b.stopped ≡ a.stopped
+  pub pieces : b.pieces ≡ a.pieces ++ p ∷ []
+  pub made : b.calls ≡ a.calls
+  pub seen : b.seen ≡ a.seen
+  pub clients : CutClients a.clients b.clients b.note_free
+  pub ports : CutPorts a.ports b.ports b.port_free
 
 -- why a segment isn't cut: a count would pass its last value; or for want of memory, where none would
 abbrev pub IsCutCause : LiveView → NotMade → Type 0

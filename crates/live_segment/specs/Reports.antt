@@ -1,5 +1,5 @@
 -- What is reported once the threads have ended.
-use Rattle.std.specs.Prelude.{◌≡◌, ℕ, zero, suc, ◌<◌, ◌≤◌, ◌⊎◌, false, cond, List, [], ◌∷◌, ◌++◌, length, drop, map, slice_index_or, None}
+use Rattle.std.specs.Prelude.{◌≡◌, ℕ, zero, suc, ◌<◌, ◌≤◌, ◌⊎◌, false, cond, List, [], ◌∷◌, ◌++◌, length, drop, map, slice_get, slice_index_or, Option, Some, None}
 use mathlib.Core.List.{IsPrefix}
 use Rattle.port_table.specs.declared.port.PortId.{PortId}
 use Rattle.segment_law.specs.Told.{same_port}
@@ -7,6 +7,7 @@ use Rattle.segment_law.specs.declared.call.Call.TheVariants.{Close}
 use Rattle.segment_law.specs.declared.refusal.Refusal.TheVariants.{NotThisSegment, TraceFull}
 use Rattle.reply_law.specs.Replies.{reply_of}
 use Rattle.segment_rings.specs.declared.words.Submission.{Submission}
+use Rattle.segment_rings.specs.declared.words.Delivery.{Delivery}
 use Rattle.segment_rings.specs.Ends.{ClientEnd, InboxEnd, closes}
 use Rattle.live_segment.specs.declared.closing.Closed.{Closed}
 use Rattle.live_segment.specs.declared.refused.NotMade.{NotMade}
@@ -21,37 +22,72 @@ use Rattle.live_segment.specs.LiveView.{LiveView, ClientView, PortView, stored, 
 abbrev pub accepted_before : LiveView → ℕ → ℕ
 accepted_before v c = length (accepted c (joined v.pieces))
 
+abbrev pub client_gone : Option ClientView → ℕ
+client_gone None = 0
+client_gone (Some x) = x.notes_gone
+
 -- what the client submitted but for these
 abbrev pub submitted_since : LiveView → ClientEnd → List Submission
 submitted_since v c = drop (accepted_before v c.id) c.submitted
 
+-- how many of the first notes of client c, and of the first deliveries to port q, are kept no more
+abbrev pub notes_gone : LiveView → ℕ → ℕ
+notes_gone v c = client_gone (slice_get v.clients c)
+
+abbrev pub gone_of : List PortView → PortId → ℕ
+gone_of [] q = 0
+gone_of (p ∷ ps) q = cond (same_port q p.port) p.given_gone (gone_of ps q)
+
+abbrev pub given_gone : LiveView → PortId → ℕ
+given_gone v q = gone_of v.ports q
+
+-- the client submitted what was accepted before the last cut, and keeps what it submitted since
+abbrev pub HasSubmitted : LiveView → ClientEnd → Type 0
+HasSubmitted v c = (c.gone ≤ accepted_before v c.id) × (accepted_before v c.id ≤ length c.submitted)
+
+-- it read the notes that are kept no more, and keeps those that it read since
+abbrev pub HasRead : LiveView → ClientEnd → Type 0
+HasRead v c = (c.read_gone ≤ notes_gone v c.id) × (notes_gone v c.id ≤ length c.read)
+
+-- an inbox received the deliveries that are kept no more, and keeps those that it received since
+abbrev pub HasReceived : LiveView → InboxEnd → Type 0
+HasReceived v i = (i.gone ≤ given_gone v i.port) × (given_gone v i.port ≤ length i.received)
+
 -- the client is of this segment, and its lists begin and are begun as they are to; what it submitted is compared from the messages on
--- that were accepted since the last cut
+-- that were accepted since the last cut, and the notes that it read from those on that are kept
 pub record ClientAgrees (v : LiveView) (c : ClientEnd) : Type 0 where
   pub within : c.id < length v.clients
-  pub before : accepted_before v c.id ≤ length c.submitted
+  pub has_submitted : HasSubmitted v c
   pub submitted : IsPrefix (accepted c.id (since_cut v)) (submitted_since v c)
-  pub read : IsPrefix c.read (notes_of c.id (trail v.addresses v.calls).noted)
+  pub has_read : HasRead v c
+  pub read : IsPrefix (drop (notes_gone v c.id) c.read) (drop (notes_gone v c.id) (notes_of c.id (trail v.addresses v.calls).noted))
 
 abbrev pub HasPort : List PortView → PortId → Type 0
 HasPort ps q = (k : ℕ) × (k < length ps) × ((p : PortView) → (slice_index_or ps k p).port ≡ q)
 
+-- the inbox is of this segment, and what it received, from the deliveries on that are kept, begins what its port was given from there on
 pub record InboxAgrees (v : LiveView) (i : InboxEnd) : Type 0 where
   pub within : HasPort v.ports i.port
-  pub received : IsPrefix i.received (given i.port (trail v.addresses v.calls).events)
+  pub has_received : HasReceived v i
+  pub received : IsPrefix (drop (given_gone v i.port) i.received) (drop (given_gone v i.port) (given i.port (trail v.addresses v.calls).events))
 
--- what was submitted since the last cut is what was accepted since, and then what is left; the notes that were read, and then the unread
--- ones, are all notes
+-- what was submitted since the last cut is what was accepted since, and then what is left; the notes that were read, from those on that
+-- are kept, and then the unread ones, are all notes from there on
 pub record IsClientReport (v : LiveView) (c : ClientEnd) (r : ClientReport) : Type 0 where
   pub id : r.id ≡ c.id
   pub within : c.id < length v.clients
   pub left : submitted_since v c ≡ accepted c.id (since_cut v) ++ r.left.items
-  pub unread : c.read ++ r.unread.items ≡ notes_of c.id (trail v.addresses v.calls).noted
+  pub read_before : notes_gone v c.id ≤ length c.read
+  pub unread : drop (notes_gone v c.id) c.read ++ r.unread.items ≡ drop (notes_gone v c.id) (notes_of c.id (trail v.addresses v.calls).noted)
+
+-- what was received, from the deliveries on that are kept, and then the rest, is what was given from there on
+abbrev pub IsRest : LiveView → InboxEnd → List Delivery → Type 0
+IsRest v i rest = (given_gone v i.port ≤ length i.received) × (drop (given_gone v i.port) i.received ++ rest ≡ drop (given_gone v i.port) (given i.port (trail v.addresses v.calls).events))
 
 pub record IsInboxReport (v : LiveView) (i : InboxEnd) (r : InboxReport) : Type 0 where
   pub port : r.port ≡ i.port
   pub within : HasPort v.ports i.port
-  pub rest : i.received ++ r.rest.items ≡ given i.port (trail v.addresses v.calls).events
+  pub rest : IsRest v i r.rest.items
 
 abbrev pub AreClientReports : LiveView → List ClientEnd → List ClientReport → Type 0
 AreClientReports v [] [] = Unit {0}
@@ -81,7 +117,7 @@ pub record ClosedFor (a b : LiveView) (i j : InboxEnd) (r : Closed) : Type 0 whe
   pub few : stored_calls a < 1000000
   pub within : HasPort a.ports i.port
   pub port : r.port ≡ i.port
-  pub rest : i.received ++ r.rest.items ≡ given i.port (trail a.addresses a.calls).events
+  pub rest : IsRest a i r.rest.items
   pub inbox : j ≡ closes i r.rest.items j.spare
   pub addresses : b.addresses ≡ a.addresses
   pub stopped : b.stopped ≡ a.stopped

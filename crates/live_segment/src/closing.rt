@@ -1,18 +1,19 @@
 //! A port closes, and its inbox is handed what it did not receive.
-ghost use Rattle.std.specs.Prelude.{◌≡◌, ◌<◌, ◌≤◌, ◌++◌, length, slice_set, slice_index_or, IfOk};
-ghost use mathlib.Core.List.{IsPrefix};
+ghost use Rattle.std.specs.Prelude.{◌≡◌, ◌<◌, ◌≤◌, length, slice_set, slice_index_or};
 ghost use Rattle.segment_rings.specs.Ends.{closes};
 ghost use Rattle.segment_rings.specs.Views.{DoorView, closed_door};
 
-use crate::compare::{begins, copy_deliveries};
+use crate::compare::copy_deliveries;
+use crate::ending::{inbox_agrees, report_inbox};
 use crate::live::Live;
 use crate::places::door_of;
 use crate::refused::NotMade;
+use crate::report::InboxReport;
 use crate::step::make;
 use crate::tell::tell;
 use segment_core::{Call, PortId, Refusal, Reply};
 use segment_rings::{Delivery, Door, Inbox};
-use std::alloc::{AllocError, Global};
+use std::alloc::AllocError;
 use stored_calls::Stored;
 
 /// What a closed port was given and its inbox did not receive.
@@ -20,18 +21,6 @@ use stored_calls::Stored;
 pub struct Closed {
     pub port: PortId,
     pub rest: Vec<Delivery>,
-}
-
-// What follows what was received.
-fn rest_after(
-    alloc: Global,
-    received: &[Delivery],
-    given: &[Delivery],
-) -> Result<Vec<Delivery>, AllocError>
-    requires { IsPrefix received.now given.now }
-    ensures { IfOk result (λ rest. received.now ++ rest.items ≡ given.now) }
-{
-    copy_deliveries(alloc, &given[received.len()..])
 }
 
 // Hands the rest to an inbox, and gives nothing more to its port.
@@ -48,17 +37,15 @@ fn hand_over(doors: &mut Vec<Door>, k: usize, inbox: &mut Inbox, kept: Vec<Deliv
 
 impl Live {
     ghost use Rattle.std.specs.Prelude.{◌≡◌, ◌<◌, length, slice_index_or, IfOk, OnOk, IfErr, OnErr};
-    ghost use mathlib.Core.List.{IsPrefix};
     ghost use Rattle.segment_rings.specs.Ends.{with_room_kept};
-    ghost use Rattle.live_segment.specs.Record.{trail, given};
     ghost use Rattle.live_segment.specs.LiveView.{PortView, SameLive, stored_calls};
-    ghost use Rattle.live_segment.specs.Reports.{CloseMade, ClosedFor, IsCloseCause};
+    ghost use Rattle.live_segment.specs.Reports.{InboxAgrees, CloseMade, ClosedFor, IsCloseCause};
 
     /// Closes the port of an inbox, and hands out what the port was given and the inbox did not receive. No later call gives
     /// to it.
     ///
-    /// Refused where the port was never opened here, or what the inbox received isn't the beginning of what the port was
-    /// given; and then where no more calls can be stored. These and want of memory change nothing but what is known of the rings.
+    /// Refused where the port was never opened here, or what the inbox received, from the deliveries on that are kept, isn't the
+    /// beginning of what the port was given from there on; and then where no more calls can be stored. These and want of memory change nothing but what is known of the rings.
     pub fn close_on(&mut self, inbox: &mut Inbox) -> Result<Closed, NotMade>
         ensures closed { IfOk result (λ r. ClosedFor self.old self.new inbox.old inbox.new r) }
         ensures refused { IfErr result (λ e. IsCloseCause self.old inbox.old e) }
@@ -68,7 +55,7 @@ impl Live {
         let Some(k) = door_of(self.doors.as_slice(), inbox.port()) else {
             return Err(NotMade::Refused(Refusal::NotThisSegment));
         };
-        if !begins(inbox.received(), self.doors[k].deliveries()) {
+        if !inbox_agrees(self, inbox) {
             return Err(NotMade::Refused(Refusal::NotThisSegment));
         }
         if self.calls.is_full() {
@@ -84,14 +71,13 @@ impl Live {
     fn shut(&mut self, k: usize, inbox: &mut Inbox) -> Result<Closed, AllocError>
         requires within { k < length self.old.ports }
         requires port { (p : PortView) → (slice_index_or self.old.ports k p).port ≡ inbox.old.port }
-        requires begins { IsPrefix inbox.old.received (given inbox.old.port (trail self.old.addresses self.old.calls).events) }
+        requires agrees { InboxAgrees self.old inbox.old }
         requires few { stored_calls self.old < 1000000 }
         ensures closed { IfOk result (λ r. ClosedFor self.old self.new inbox.old inbox.new r) }
         ensures err { OnErr result (SameLive self.old self.new) }
         ensures kept { OnErr result (inbox.new ≡ with_room_kept inbox.old inbox.new.spare) }
     {
-        let port = inbox.port();
-        let rest = rest_after(self.alloc, inbox.received(), self.doors[k].deliveries())?;
+        let InboxReport { port, rest } = report_inbox(self.alloc, self, inbox)?;
         let kept = copy_deliveries(self.alloc, rest.as_slice())?;
         inbox.reserve(kept.len())?;
         self.make_close(port)?;

@@ -1,5 +1,5 @@
 //! Comparisons of lists, and copies of what is left.
-ghost use Rattle.std.specs.Prelude.{◌≡◌, ◌≤◌, ◌<◌, ◌+◌, ◌++◌, cond, length, take, IfOk, IsTrue, ◌↔◌, MatchOption};
+ghost use Rattle.std.specs.Prelude.{◌≡◌, ◌≤◌, ◌<◌, ◌+◌, ◌++◌, List, cond, length, take, drop, IfOk, IsTrue, ◌↔◌, MatchOption};
 ghost use mathlib.Core.List.{IsPrefix};
 ghost use Rattle.live_segment.specs.Record.{accepted, sent_in, is_by};
 ghost use Rattle.live_segment.specs.Past.{joined};
@@ -27,6 +27,21 @@ fn same_delivery(a: &Delivery, b: &Delivery) -> bool
         && a.to.0 == b.to.0
         && a.pgn.raw() == b.pgn.raw()
         && a.bytes.as_slice() == b.bytes.as_slice()
+}
+
+/// A list from the item on that has so many before it, where the list has these and keeps all from there on. `gone` of its first items
+/// aren't kept.
+pub(crate) fn kept_from<T>(kept: &[T], gone: u64, before: u64) -> Option<&[T]>
+    ensures { (all : List T) → gone ≤ length all → kept.now ≡ drop gone all → MatchOption result ((gone ≤ before) × (before ≤ length all) → ⊥) (λ rest. (gone ≤ before) × (before ≤ length all) × (rest.now ≡ drop before all)) }
+{
+    if gone > before {
+        return None;
+    }
+    let at = (before - gone) as usize;
+    if at > kept.len() {
+        return None;
+    }
+    Some(&kept[at..])
 }
 
 /// Whether the first list begins the second.

@@ -3,15 +3,40 @@ ghost use Rattle.std.specs.Prelude.{◌≡◌, length, IfOk, IfErr, OnErr, IsTru
 ghost use Rattle.live_segment.specs.Record.{trail};
 ghost use Rattle.live_segment.specs.Past.{joined};
 ghost use Rattle.live_segment.specs.Rejoining.{CutAs, IsCutCause};
+ghost use Rattle.live_segment.specs.Facts.{CutSeats, CutDoors};
 
 use crate::calls::Piece;
 use crate::live::Live;
 use crate::refused::NotMade;
 use segment_core::{Refusal, Segment};
+use segment_rings::{Door, Seat};
+
+// Each client's notes that are known to be read are kept no more.
+fn cut_seats(seats: &mut Vec<Seat>)
+    ensures { CutSeats seats.old.items seats.new.items }
+{
+    for k in 0..seats.len() {
+        let seat = &mut seats[k];
+        seat.cut();
+    }
+}
+
+// Each port's deliveries that are known to be received are kept no more.
+fn cut_doors(doors: &mut Vec<Door>)
+    ensures { CutDoors doors.old.items doors.new.items }
+{
+    for k in 0..doors.len() {
+        let door = &mut doors[k];
+        door.cut();
+    }
+}
 
 impl Live {
     /// Hands out all calls that are stored, and stores the next ones anew. The segment, its clients and its ports go on as if
     /// nothing had been: what is given, noted and owed is what it would have been.
+    ///
+    /// What a client is known to have read, or an inbox to have received, the segment keeps no more, nor do these when they are called
+    /// next; a client then keeps no more what was accepted either. What may be unread stays.
     ///
     /// Refused as `TraceFull` exactly where the piece's number, or the number of all calls that can have been made by the next
     /// cut, would pass the last value of u64, and else as `OutOfMemory` where memory for the image is refused. These change
@@ -25,6 +50,8 @@ impl Live {
             return Err(NotMade::Refused(Refusal::TraceFull));
         }
         let image = self.segment.image()?;
+        cut_seats(&mut self.seats);
+        cut_doors(&mut self.doors);
         Ok(self.calls.cut(self.alloc, image))
     }
 

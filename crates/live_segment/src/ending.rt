@@ -1,21 +1,21 @@
 //! What is reported once the threads have ended.
-ghost use Rattle.std.specs.Prelude.{◌≡◌, ◌<◌, length, IfOk, OnOk, OnErr, IfErr, IsTrue, ◌↔◌, true, false};
+ghost use Rattle.std.specs.Prelude.{◌≡◌, ◌<◌, length, drop, IfOk, OnOk, OnErr, IfErr, IsTrue, ◌↔◌, MatchOption, true, false, ◌≤◌};
 ghost use mathlib.Core.List.{IsPrefix};
 ghost use Rattle.live_segment.specs.Record.{accepted};
 ghost use Rattle.live_segment.specs.Past.{joined};
 ghost use Rattle.live_segment.specs.LiveView.{stored_calls};
-ghost use Rattle.live_segment.specs.Reports.{accepted_before as accepted_before_of, ClientAgrees, InboxAgrees, IsClientReport, IsInboxReport, AreClientReports, AreInboxReports, EachClientAgrees, EachInboxAgrees, Retired};
+ghost use Rattle.live_segment.specs.Reports.{accepted_before as accepted_before_of, submitted_since as submitted_since_of, notes_gone, given_gone, HasPort, HasSubmitted, HasRead, HasReceived, ClientAgrees, InboxAgrees, IsClientReport, IsInboxReport, AreClientReports, AreInboxReports, EachClientAgrees, EachInboxAgrees, Retired};
 
 use crate::calls::Piece;
 use crate::compare::{
-    accepted_begin, begins, copy_deliveries, copy_submissions, count_accepted, notes_begin,
-    pieces_accepted_begin,
+    accepted_begin, begins, copy_deliveries, copy_submissions, count_accepted, kept_from,
+    notes_begin, pieces_accepted_begin,
 };
 use crate::live::Live;
 use crate::places::door_of;
 use crate::report::{ClientReport, FinishRefused, InboxReport, Report};
 use segment_core::PortId;
-use segment_rings::{Client, Inbox};
+use segment_rings::{Client, Delivery, Inbox, Note, Submission};
 use std::alloc::{AllocError, Global};
 
 // How many messages of a client were accepted before the last cut.
@@ -28,11 +28,12 @@ fn accepted_before(live: &Live, client: u64) -> usize
 }
 
 /// Whether what these pieces hold of a client is what it submitted first. `finish` compares nothing of the calls before the last cut;
-/// who keeps all pieces of a segment, from the first on, compares the rest by this.
+/// who keeps all pieces of a segment, from the first on, compares the rest by this. Of a client that keeps its submissions no more from
+/// the first on it is false, since nothing is left to compare.
 pub fn pieces_begin(pieces: &[Piece], client: &Client) -> bool
-    ensures { IsTrue result ↔ IsPrefix (accepted client.now.id (joined pieces.now)) client.now.submitted }
+    ensures { IsTrue result ↔ ((client.now.gone ≡ 0) × IsPrefix (accepted client.now.id (joined pieces.now)) client.now.submitted) }
 {
-    pieces_accepted_begin(pieces, client.id(), client.submitted())
+    client.submitted_gone() == 0 && pieces_accepted_begin(pieces, client.id(), client.submitted())
 }
 
 // Whether a client is of this segment, and its lists begin and are begun as they are to.
@@ -43,22 +44,60 @@ fn client_agrees(live: &Live, client: &Client) -> bool
     let Some(notes) = live.notes_of(id) else {
         return false;
     };
-    let submitted = client.submitted();
-    let before = accepted_before(live, id);
-    if before > submitted.len() {
+    let Some(submitted) = submitted_since(live, client) else {
         return false;
-    }
-    accepted_begin(live.calls(), id, &submitted[before..]) && notes_begin(client.read(), notes)
+    };
+    let Some(read) = read_since(live, client) else {
+        return false;
+    };
+    accepted_begin(live.calls(), id, submitted) && notes_begin(read, notes)
 }
 
-// Whether an inbox is of this segment, and its list begins what its port was given.
-fn inbox_agrees(live: &Live, inbox: &Inbox) -> bool
+// What a client submitted since the last cut, where it submitted as much before as was accepted then, and keeps what came since.
+fn submitted_since<'a>(live: &Live, client: &'a Client) -> Option<&'a [Submission]>
+    requires { client.now.id < length live.now.clients }
+    ensures { MatchOption result (HasSubmitted live.now client.now → ⊥) (λ xs. HasSubmitted live.now client.now × (xs.now ≡ submitted_since_of live.now client.now)) }
+{
+    kept_from(
+        client.submitted(),
+        client.submitted_gone(),
+        accepted_before(live, client.id()) as u64,
+    )
+}
+
+// The notes that a client read, from those on that the segment keeps, where it read the notes before them, and keeps these.
+fn read_since<'a>(live: &Live, client: &'a Client) -> Option<&'a [Note]>
+    requires { client.now.id < length live.now.clients }
+    ensures { MatchOption result (HasRead live.now client.now → ⊥) (λ xs. HasRead live.now client.now × (xs.now ≡ drop (notes_gone live.now client.now.id) client.now.read)) }
+{
+    let Some(gone) = live.notes_gone(client.id()) else {
+        unreachable!()
+    };
+    kept_from(client.read(), client.read_gone(), gone)
+}
+
+// What an inbox received, from the deliveries on that the segment keeps, where it received those before them, and keeps these.
+fn received_since<'a>(live: &Live, inbox: &'a Inbox) -> Option<&'a [Delivery]>
+    requires { HasPort live.now.ports inbox.now.port }
+    ensures { MatchOption result (HasReceived live.now inbox.now → ⊥) (λ xs. HasReceived live.now inbox.now × (xs.now ≡ drop (given_gone live.now inbox.now.port) inbox.now.received)) }
+{
+    let Some(gone) = live.given_gone(inbox.port()) else {
+        unreachable!()
+    };
+    kept_from(inbox.received(), inbox.gone(), gone)
+}
+
+/// Whether an inbox is of this segment, and its list begins what its port was given.
+pub(crate) fn inbox_agrees(live: &Live, inbox: &Inbox) -> bool
     ensures { IsTrue result ↔ InboxAgrees live.now inbox.now }
 {
     let Some(given) = live.given_to(inbox.port()) else {
         return false;
     };
-    begins(inbox.received(), given)
+    let Some(received) = received_since(live, inbox) else {
+        return false;
+    };
+    begins(received, given)
 }
 
 fn clients_agree(live: &Live, clients: &[Client]) -> bool
@@ -96,18 +135,27 @@ fn report_client(alloc: Global, live: &Live, client: &Client) -> Result<ClientRe
     ensures { IfOk result (λ r. IsClientReport live.now client.now r) }
 {
     let id = client.id();
-    let submitted = &client.submitted()[accepted_before(live, id)..];
+    let Some(submitted) = submitted_since(live, client) else {
+        unreachable!()
+    };
     let taken = count_accepted(live.calls(), id);
     let left = copy_submissions(alloc, &submitted[taken..])?;
     let Some(notes) = live.notes_of(id) else {
         unreachable!()
     };
-    let unread = Vec::from_slice(alloc, &notes[client.read().len()..])?;
+    let Some(read) = read_since(live, client) else {
+        unreachable!()
+    };
+    let unread = Vec::from_slice(alloc, &notes[read.len()..])?;
     Ok(ClientReport { id, left, unread })
 }
 
-// What is left for an inbox whose list agrees.
-fn report_inbox(alloc: Global, live: &Live, inbox: &Inbox) -> Result<InboxReport, AllocError>
+/// What is left for an inbox whose list agrees.
+pub(crate) fn report_inbox(
+    alloc: Global,
+    live: &Live,
+    inbox: &Inbox,
+) -> Result<InboxReport, AllocError>
     requires { InboxAgrees live.now inbox.now }
     ensures { IfOk result (λ r. IsInboxReport live.now inbox.now r) }
 {
@@ -115,7 +163,10 @@ fn report_inbox(alloc: Global, live: &Live, inbox: &Inbox) -> Result<InboxReport
     let Some(given) = live.given_to(port) else {
         unreachable!()
     };
-    let rest = copy_deliveries(alloc, &given[inbox.received().len()..])?;
+    let Some(received) = received_since(live, inbox) else {
+        unreachable!()
+    };
+    let rest = copy_deliveries(alloc, &given[received.len()..])?;
     Ok(InboxReport { port, rest })
 }
 
@@ -167,8 +218,9 @@ fn report_both(
 /// Compares the lists of clients and inboxes with those of the segment, and reports what is left of each. Afterwards no
 /// submission of these clients is taken, and the rings of these ports have no free place.
 ///
-/// Refused exactly where a client or an inbox isn't of this segment, or its lists don't agree with it; want of memory is answered
-/// only where all agree. Both hand the clients and inboxes back, and change nothing.
+/// The submissions are compared from those on that were accepted since the last cut, the notes and deliveries from those on that the
+/// segment keeps. Refused exactly where a client or an inbox isn't of this segment, or its lists don't agree with it; want of memory is
+/// answered only where all agree. Both hand the clients and inboxes back, and change nothing.
 pub fn finish(
     live: &mut Live,
     clients: Vec<Client>,

@@ -42,14 +42,13 @@ pub struct Live {
 
 impl Model for Live {
     ghost use Rattle.live_segment.specs.LiveView.{LiveView, live_view, keep};
-    ghost use Rattle.live_segment.specs.Facts.{Holds};
-    ghost use Rattle.live_segment.specs.Past.{IsCutImage};
+    ghost use Rattle.live_segment.specs.Facts.{Holds, IsCut};
 
     ghost Value = { LiveView };
 
     ghost view = { λ s. live_view (keep s.stopped s.calls.pieces) s.addresses.items s.calls.items s.seats.items s.doors.items };
 
-    ghost invariant = { λ s. Holds s.addresses.items s.segment s.calls.items s.owed.items s.seats.items s.doors.items × IsCutImage s.addresses.items s.calls.pieces s.calls.image };
+    ghost invariant = { λ s. Holds s.addresses.items s.segment s.calls.items s.owed.items s.seats.items s.doors.items × IsCut s.addresses.items s.calls.pieces s.calls.image s.seats.items s.doors.items };
 }
 
 impl Drop for Live {

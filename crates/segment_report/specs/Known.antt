@@ -1,5 +1,5 @@
 -- What a segment has: the ports and clients that a text of it names.
-use Rattle.std.specs.Prelude.{◌≡◌, ℕ, ◌<◌, ◌≤◌, List, length, slice_index_or, All}
+use Rattle.std.specs.Prelude.{◌≡◌, ℕ, ◌<◌, ◌≤◌, List, [], length, slice_index_or, All}
 use Rattle.pgn_ids.specs.declared.address.Address.{Address}
 use Rattle.port_table.specs.declared.port.PortId.{PortId}
 use Rattle.live_segment.specs.LiveView.{LiveView, ClientView, PortView}
@@ -21,10 +21,12 @@ HaveClientsAt station clients stations = (k : ℕ) → (a : Address) → k < len
 abbrev pub HaveClients : List ClientView → List Address → Type 0
 HaveClients clients stations = length stations ≤ length clients
 
--- the segment has these ports, and a client of each of these stations
+-- the segment has these ports, and a client of each of these stations; and nothing was cut of it, so that it keeps all that it gave and
+-- noted
 pub record AreKnown (stations : List Address) (ports : List PortId) (v : LiveView) : Type 0 where
   pub opened : ArePorts v.ports ports
   pub clients : HaveClients v.clients stations
+  pub uncut : v.pieces ≡ []
 
 -- and they are its stations
 pub record IsThisSegment (stations : List Address) (ports : List PortId) (v : LiveView) : Type 0 where

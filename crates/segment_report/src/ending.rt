@@ -39,7 +39,7 @@ fn print_end(
 /// The text of what the threads leave, where it is a segment of these stations that has these ports and a client of each station.
 /// The turns ran out unless each message has its outcome and the bus was drained.
 ///
-/// `NotThisSegment` where it is another segment, and only there; `OutOfMemory` where memory was refused.
+/// `NotThisSegment` where it is another segment, or one that was cut, and only there; `OutOfMemory` where memory was refused.
 pub fn text_of(
     alloc: Global,
     live: &Live,

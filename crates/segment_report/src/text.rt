@@ -1,5 +1,5 @@
 //! The text of what threads leave of a segment.
-ghost use Rattle.std.specs.Prelude.{◌≡◌, ◌++◌, ◌==◌, ◌<◌, ◌↔◌, suc, length, All, OnOk, IfErr, IsTrue};
+ghost use Rattle.std.specs.Prelude.{◌≡◌, ◌++◌, ◌==◌, ◌<◌, ◌≤◌, ◌↔◌, [], true, false, suc, length, All, OnOk, IfErr, IsTrue, MatchOption};
 ghost use Rattle.script_runs.specs.declared.ending.Lost.TheVariants.{NotThisSegment};
 ghost use Rattle.live_segment.specs.Record.{trail, given, notes_of};
 ghost use Rattle.live_segment.specs.Reports.{HasPort};
@@ -76,14 +76,24 @@ fn print_deliveries(out: &mut Vec<u8>, port: PortId, given: &[Delivery]) -> Resu
     Ok(())
 }
 
+// What a port was given: all of it, since nothing was cut.
+fn whole_given(live: &Live, port: PortId) -> Option<&[Delivery]>
+    requires { live.now.pieces ≡ [] }
+    ensures { MatchOption result (HasPort live.now.ports port → ⊥) (λ ds. HasPort live.now.ports port × (ds.now ≡ given port (trail live.now.addresses live.now.calls).events)) }
+{
+    live.laws();
+    live.given_to(port)
+}
+
 // A port, and what it was given.
 #[tactic(auto, unfolding(crate::specs::Texts::port_lines))]
 fn print_given_to(out: &mut Vec<u8>, live: &Live, port: PortId) -> Result<(), Lost>
+    requires { live.now.pieces ≡ [] }
     ensures text { OnOk result (out.new.items ≡ out.old.items ++ port_lines port (given port (trail live.now.addresses live.now.calls).events)) }
     ensures known { OnOk result (HasPort live.now.ports port) }
     ensures unknown { IfErr result (λ lost. lost ≡ NotThisSegment → HasPort live.now.ports port → ⊥) }
 {
-    let Some(given) = live.given_to(port) else {
+    let Some(given) = whole_given(live, port) else {
         return Err(Lost::NotThisSegment);
     };
     print_port(out, port)?;
@@ -98,6 +108,7 @@ fn print_ports_at(
     ports: &[PortId],
     station: u16,
 ) -> Result<(), Lost>
+    requires { live.now.pieces ≡ [] }
     ensures text { OnOk result (out.new.items ≡ out.old.items ++ ports_at station ports.now (trail live.now.addresses live.now.calls)) }
     ensures known { OnOk result (ArePortsAt station live.now.ports ports.now) }
     ensures small { OnOk result (All (λ port. port.station.0 < 256) ports.now) }
@@ -114,13 +125,17 @@ fn print_ports_at(
 /// Prints the ports by rising station, and those of one station in the order in which they are listed: each with what the record of the
 /// segment gives to it, by rising sender and destination and in the order in which it was given.
 ///
-/// `NotThisSegment` where one of them is no port of the segment, `OutOfMemory` where memory was refused; what the buffer holds then is
-/// not said.
+/// `NotThisSegment` where one of them is no port of the segment, or the segment was cut, since it may then not keep all that was given;
+/// `OutOfMemory` where memory was refused. What the buffer holds then is not said.
 pub fn print_ports(out: &mut Vec<u8>, live: &Live, ports: &[PortId]) -> Result<(), Lost>
     ensures text { OnOk result (out.new.items ≡ out.old.items ++ below 256 (λ station. ports_at station ports.now (trail live.now.addresses live.now.calls))) }
     ensures known { OnOk result (ArePorts live.now.ports ports.now) }
-    ensures unknown { IfErr result (λ lost. lost ≡ NotThisSegment → ArePorts live.now.ports ports.now → ⊥) }
+    ensures uncut { OnOk result (live.now.pieces ≡ []) }
+    ensures unknown { IfErr result (λ lost. lost ≡ NotThisSegment → live.now.pieces ≡ [] → ArePorts live.now.ports ports.now → ⊥) }
 {
+    if live.cuts() > 0 {
+        return Err(Lost::NotThisSegment);
+    }
     for station in 0..ADDRESSES {
         print_ports_at(out, live, ports, station)?;
     }
@@ -184,12 +199,22 @@ fn print_outcomes(out: &mut Vec<u8>, from: Address, notes: &[Note]) -> Result<()
     Ok(())
 }
 
+// The notes of a client: all of them, since nothing was cut.
+fn whole_notes(live: &Live, client: u64) -> Option<&[Note]>
+    requires { live.now.pieces ≡ [] }
+    ensures { MatchOption result (length live.now.clients ≤ client) (λ ns. (client < length live.now.clients) × (ns.now ≡ notes_of client (trail live.now.addresses live.now.calls).noted)) }
+{
+    live.laws();
+    live.notes_of(client)
+}
+
 fn print_client(out: &mut Vec<u8>, live: &Live, client: u64, from: Address) -> Result<(), Lost>
+    requires { live.now.pieces ≡ [] }
     ensures text { OnOk result (out.new.items ≡ out.old.items ++ outcome_lines from (notes_of client (trail live.now.addresses live.now.calls).noted)) }
     ensures known { OnOk result (client < length live.now.clients) }
     ensures unknown { IfErr result (λ lost. lost ≡ NotThisSegment → client < length live.now.clients → ⊥) }
 {
-    let Some(notes) = live.notes_of(client) else {
+    let Some(notes) = whole_notes(live, client) else {
         return Err(Lost::NotThisSegment);
     };
     print_outcomes(out, from, notes)?;
@@ -203,6 +228,7 @@ fn print_clients_at(
     stations: &[Address],
     station: u16,
 ) -> Result<(), Lost>
+    requires { live.now.pieces ≡ [] }
     ensures text { OnOk result (out.new.items ≡ out.old.items ++ clients_at station 0 stations.now (trail live.now.addresses live.now.calls)) }
     ensures known { OnOk result (HaveClientsAt station live.now.clients stations.now) }
     ensures small { OnOk result (All (λ address. address.0 < 256) stations.now) }
@@ -219,12 +245,16 @@ fn print_clients_at(
 /// Prints the outcomes that are noted in the record of the segment, by rising station, destination and number. Each station has a client,
 /// and they are numbered from 0 in the order of the stations.
 ///
-/// `NotThisSegment` where one of them has none, `OutOfMemory` where memory was refused; what the buffer holds then is not said.
+/// `NotThisSegment` where one of them has none, or the segment was cut, since it may then not keep all notes; `OutOfMemory` where memory
+/// was refused. What the buffer holds then is not said.
 pub fn print_clients(out: &mut Vec<u8>, live: &Live, stations: &[Address]) -> Result<(), Lost>
     ensures text { OnOk result (out.new.items ≡ out.old.items ++ below 256 (λ station. clients_at station 0 stations.now (trail live.now.addresses live.now.calls))) }
     ensures known { OnOk result (HaveClients live.now.clients stations.now) }
-    ensures unknown { IfErr result (λ lost. lost ≡ NotThisSegment → HaveClients live.now.clients stations.now → ⊥) }
+    ensures unknown { IfErr result (λ lost. lost ≡ NotThisSegment → live.now.pieces ≡ [] → HaveClients live.now.clients stations.now → ⊥) }
 {
+    if live.cuts() > 0 {
+        return Err(Lost::NotThisSegment);
+    }
     for station in 0..ADDRESSES {
         print_clients_at(out, live, stations, station)?;
     }
@@ -259,6 +289,20 @@ fn count_from(station: Address, messages: &[Message]) -> usize
     count
 }
 
+// Whether there is no client of this number, or it has fewer notes than these. Those that a cut kept no more count too.
+fn lacks_notes(live: &Live, client: u64, count: usize) -> bool
+    ensures lacks { result ≡ true → client < length live.now.clients → length (notes_of client (trail live.now.addresses live.now.calls).noted) < count }
+    ensures has { result ≡ false → (client < length live.now.clients) × (count ≤ length (notes_of client (trail live.now.addresses live.now.calls).noted)) }
+{
+    let Some(gone) = live.notes_gone(client) else {
+        return true;
+    };
+    let Some(notes) = live.notes_of(client) else {
+        return true;
+    };
+    notes.len() < count.saturating_sub(gone as usize)
+}
+
 /// Whether the turns ran out before the bus was drained and each message had its outcome in the record. Each station has a client, and
 /// they are numbered from 0 in the order of the stations; where one has none, the turns ran out.
 pub fn has_run_out(live: &Live, stations: &[Address], messages: &[Message], drained: bool) -> bool
@@ -268,10 +312,7 @@ pub fn has_run_out(live: &Live, stations: &[Address], messages: &[Message], drai
         return true;
     }
     for (client, station) in stations.iter().enumerate() {
-        let Some(notes) = live.notes_of(client as u64) else {
-            return true;
-        };
-        if notes.len() < count_from(*station, messages) {
+        if lacks_notes(live, client as u64, count_from(*station, messages)) {
             return true;
         }
     }

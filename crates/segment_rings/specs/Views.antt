@@ -1,5 +1,5 @@
 -- What a segment keeps of one client and of one port, as contracts see it.
-use Rattle.std.specs.Prelude.{◌≡◌, ℕ, ◌-◌, ◌≤◌, ◌<◌, Bool, true, false, List, [], ◌∷◌, ◌++◌, length, ◌⊎◌}
+use Rattle.std.specs.Prelude.{◌≡◌, ℕ, ◌-◌, ◌≤◌, ◌<◌, Bool, true, false, List, [], ◌∷◌, ◌++◌, length, drop, ◌+◌, ◌⊎◌}
 use Rattle.pgn_ids.specs.declared.address.Address.{Address}
 use Rattle.port_table.specs.declared.port.PortId.{PortId}
 use Rattle.segment_rings.specs.declared.words.Submission.{Submission}
@@ -7,31 +7,35 @@ use Rattle.segment_rings.specs.declared.words.Note.{Note}
 use Rattle.segment_rings.specs.declared.words.Delivery.{Delivery}
 use Rattle.segment_rings.specs.declared.seat.Offer.{Offer}
 use Rattle.segment_rings.specs.declared.seat.Offer.TheVariants as offer
+use Rattle.segment_rings.specs.Tails.{GoesOn, known_out}
+use Rattle.segment_rings.specs.Ends.{ring_places}
 
--- popped and noted: what went out of and into the client's rings; ahead and free: what is known of them; kept: all its notes;
--- spare: room for more of them
+-- popped and noted: what went out of and into the client's rings; ahead and free: what is known of them; gone: how many of its first
+-- notes are kept no more; kept: all others; spare: room for more of them
 pub record SeatView : Type 0 where
   pub id : ℕ
   pub station : Address
   pub active : Bool
   pub popped : List Submission
   pub ahead : List Submission
+  pub gone : ℕ
   pub kept : List Note
   pub noted : List Note
   pub free : ℕ
   pub spare : ℕ
 
--- pushed: what went into the port's ring; free: how many places of it are known to be free; spare: room for deliveries that
--- are kept
+-- pushed: what went into the port's ring; free: how many places of it are known to be free; gone: how many of the first deliveries
+-- are kept no more; spare: room for deliveries that are kept
 pub record DoorView : Type 0 where
   pub port : PortId
   pub active : Bool
   pub pushed : List Delivery
   pub free : ℕ
+  pub gone : ℕ
   pub spare : ℕ
 
 abbrev pub new_seat : ℕ → Address → ℕ → ℕ → SeatView
-new_seat id station free spare = record { id = id; station = station; active = true; popped = []; ahead = []; kept = []; noted = []; free = free; spare = spare }
+new_seat id station free spare = record { id = id; station = station; active = true; popped = []; ahead = []; gone = 0; kept = []; noted = []; free = free; spare = spare }
 
 abbrev pub looked : SeatView → List Submission → SeatView
 looked s ahead = record s { ahead = ahead }
@@ -66,8 +70,26 @@ pub record SameSeat (a b : SeatView) : Type 0 where
   pub station : b.station ≡ a.station
   pub active : b.active ≡ a.active
   pub popped : b.popped ≡ a.popped
+  pub gone : b.gone ≡ a.gone
   pub kept : b.kept ≡ a.kept
   pub noted : b.noted ≡ a.noted
+  pub free : a.free ≤ b.free
+  pub spare : a.spare ≤ b.spare
+
+-- the same seat, of which more may be known; the notes that are known to be out of the ring are kept no more, those that may be in it
+-- are. Of a client that is gone all are kept as they were
+pub record CutSeat (a b : SeatView) : Type 0 where
+  pub id : b.id ≡ a.id
+  pub station : b.station ≡ a.station
+  pub active : b.active ≡ a.active
+  pub popped : b.popped ≡ a.popped
+  pub ahead : b.ahead ≡ a.ahead
+  pub noted : b.noted ≡ a.noted
+  pub gone : a.active ≡ true → b.gone ≡ known_out ring_places b.free (length b.noted)
+  pub left : a.active ≡ false → b.gone ≡ a.gone
+  pub more : GoesOn a.gone b.gone b.noted
+  pub kept : b.kept ≡ drop (b.gone - a.gone) a.kept
+  pub unread : b.gone + ring_places ≤ length b.noted + b.free
   pub free : a.free ≤ b.free
   pub spare : a.spare ≤ b.spare
 
@@ -79,7 +101,7 @@ IsOffer s owed offer.Owed = (s.active ≡ true) × (0 < length s.ahead) × (s.fr
 IsOffer s owed offer.Ready = (s.active ≡ true) × (0 < length s.ahead) × (owed < s.free)
 
 abbrev pub new_door : PortId → ℕ → ℕ → DoorView
-new_door port free spare = record { port = port; active = true; pushed = []; free = free; spare = spare }
+new_door port free spare = record { port = port; active = true; pushed = []; free = free; gone = 0; spare = spare }
 
 abbrev pub door_looked : DoorView → ℕ → DoorView
 door_looked d free = record d { free = free }
@@ -98,5 +120,18 @@ pub record SameDoor (a b : DoorView) : Type 0 where
   pub port : b.port ≡ a.port
   pub active : b.active ≡ a.active
   pub pushed : b.pushed ≡ a.pushed
+  pub free : a.free ≤ b.free
+  pub gone : b.gone ≡ a.gone
+  pub spare : a.spare ≤ b.spare
+
+-- the same door, of which more may be known; the deliveries that are known to be out of the ring are kept no more, those that may be
+-- in it are
+pub record CutDoor (a b : DoorView) : Type 0 where
+  pub port : b.port ≡ a.port
+  pub active : b.active ≡ a.active
+  pub pushed : b.pushed ≡ a.pushed
+  pub gone : b.gone ≡ known_out ring_places b.free (length b.pushed)
+  pub more : GoesOn a.gone b.gone b.pushed
+  pub unread : b.gone + ring_places ≤ length b.pushed + b.free
   pub free : a.free ≤ b.free
   pub spare : a.spare ≤ b.spare

@@ -1,4 +1,6 @@
 //! A client: what it submitted and the notes that it read, with its ends of the two rings.
+use crate::kept::Kept;
+use crate::mark::Mark;
 use crate::words::{Note, Submission};
 use lane_core::longest_to;
 use message_events::Bytes;
@@ -19,27 +21,29 @@ pub struct SubmitRefused {
 }
 
 /// Submits messages of one station and reads their outcomes. It may move to a thread of its own; `submit` and `try_outcome` take
-/// no lock and never wait.
+/// no lock and never wait. It keeps what it submitted and read until the segment is cut.
 pub struct Client {
     alloc: Global,
     id: u64,
     station: Address,
     submissions: Producer<Submission>,
     notes: Consumer<Note>,
-    submitted: Vec<Submission>,
-    read: Vec<Note>,
+    submitted: Kept<Submission>,
+    read: Kept<Note>,
+    submitted_mark: Mark,
+    read_mark: Mark,
 }
 
 impl Model for Client {
-    ghost use Rattle.std.specs.Prelude.{◌≡◌};
     ghost use Rattle.rtrb.specs.Ring.{sent, received, known_free};
     ghost use Rattle.segment_rings.specs.Ends.{ClientEnd};
+    ghost use Rattle.segment_rings.specs.Tails.{IsTailOf};
 
     ghost Value = { ClientEnd };
 
-    ghost view = { λ c. record { id = c.id; station = c.station; submitted = sent c.submissions; read = received c.notes; free = known_free c.submissions } };
+    ghost view = { λ c. record { id = c.id; station = c.station; submitted = sent c.submissions; read = received c.notes; gone = c.submitted.gone; read_gone = c.read.gone; free = known_free c.submissions } };
 
-    ghost invariant = { λ c. (c.submitted.items ≡ sent c.submissions) × (c.read.items ≡ received c.notes) };
+    ghost invariant = { λ c. IsTailOf c.submitted (sent c.submissions) × IsTailOf c.read (received c.notes) };
 }
 
 impl Drop for Client {
@@ -52,6 +56,8 @@ impl Drop for Client {
             notes: _,
             submitted: _,
             read: _,
+            submitted_mark: _,
+            read_mark: _,
         } = self;
     }
 }
@@ -87,33 +93,36 @@ fn refused(refusal: Option<Refusal>, bytes: Bytes) -> SubmitRefused
 }
 
 impl Client {
-    ghost use Rattle.std.specs.Prelude.{◌≡◌, ◌+◌, ◌<◌, [], ◌≤◌, length, IfOk, OnOk, OnErr, IfErr, MatchOption, Option, Some, None, ◌⊎◌};
+    ghost use Rattle.std.specs.Prelude.{◌≡◌, ◌+◌, ◌<◌, [], ◌≤◌, length, drop, IfOk, OnOk, OnErr, IfErr, MatchOption, Option, Some, None, ◌⊎◌};
     ghost use Rattle.rtrb.specs.Ring.{sent, received, known_free};
     ghost use Rattle.segment_law.specs.declared.refusal.Refusal.{Refusal};
     ghost use Rattle.segment_law.specs.declared.refusal.Refusal.TheVariants as refusal;
-    ghost use Rattle.segment_rings.specs.Ends.{ClientEnd, new_client_end, submits, reads, SameClient};
+    ghost use Rattle.segment_rings.specs.Ends.{ClientEnd, new_client_end, submits, reads, lets_read_go, SameClient};
+    ghost use Rattle.segment_rings.specs.Tails.{GoesOn};
     ghost use Rattle.segment_rings.specs.Submitting.{why_refused};
 
     pub(crate) fn new(
         alloc: Global,
         id: u64,
         station: Address,
-        submissions: Producer<Submission>,
-        notes: Consumer<Note>,
+        submissions: (Producer<Submission>, Mark),
+        notes: (Consumer<Note>, Mark),
     ) -> Client
-        requires submissions { sent submissions ≡ [] }
-        requires free { known_free submissions ≡ 64 }
-        requires notes { received notes ≡ [] }
+        requires submissions { sent submissions.0 ≡ [] }
+        requires free { known_free submissions.0 ≡ 64 }
+        requires notes { received notes.0 ≡ [] }
         ensures { result ≡ new_client_end id station }
     {
         Client {
             alloc,
             id,
             station,
-            submissions,
-            notes,
-            submitted: Vec::new(alloc),
-            read: Vec::new(alloc),
+            submissions: submissions.0,
+            notes: notes.0,
+            submitted: Kept::new(alloc),
+            read: Kept::new(alloc),
+            submitted_mark: submissions.1,
+            read_mark: notes.1,
         }
     }
 
@@ -134,9 +143,11 @@ impl Client {
     /// Submits a message, and answers its ticket: its place among all that the client submitted, from 1.
     ///
     /// It is refused where the PGN is none, then for its destination and its length, and then where the ring has no free
-    /// place. Want of memory is told by no refusal. The bytes come back in each case, and nothing has changed.
+    /// place. Want of memory is told by no refusal. The bytes come back in each case, and nothing has changed. Whatever it answers, it
+    /// keeps no more the first submissions of which a cut of the segment told that they needn't be kept.
     pub fn submit(&mut self, to: Address, pgn: u32, bytes: Bytes) -> Result<u64, SubmitRefused>
-        ensures new { IfOk result (λ n. self.new ≡ submits self.old to pgn bytes self.new.free) }
+        ensures new { IfOk result (λ n. self.new ≡ submits self.old to pgn bytes self.new.free self.new.gone) }
+        ensures gone { GoesOn self.old.gone self.new.gone self.old.submitted }
         ensures ticket { IfOk result (λ n. n ≡ length self.new.submitted) }
         ensures fit { IfOk result (λ n. why_refused self.old.station to pgn (length bytes) ≡ None) }
         ensures refused { (c : Refusal) → why_refused self.old.station to pgn (length bytes) ≡ Some c → IfErr result (λ e. e.refusal ≡ Some c) }
@@ -145,6 +156,7 @@ impl Client {
         ensures back { IfErr result (λ e. e.bytes ≡ bytes) }
         ensures err { OnErr result (SameClient self.old self.new) }
     {
+        self.submitted.let_go(self.submitted_mark.look());
         let Ok(pgn) = Pgn::new(pgn) else {
             return Err(refused(Some(Refusal::BadPgn), bytes));
         };
@@ -167,14 +179,17 @@ impl Client {
             pgn,
             bytes: copy,
         });
-        Ok(self.submitted.len() as u64)
+        Ok(self.submitted.count())
     }
 
-    /// Reads the next note, if one is there. Want of memory leaves it in the ring.
+    /// Reads the next note, if one is there. Want of memory leaves it in the ring. Whatever it answers, it keeps no more the first notes of
+    /// which a cut of the segment told that they needn't be kept.
     pub fn try_outcome(&mut self) -> Result<Option<Note>, AllocError>
-        ensures note { IfOk result (λ r. MatchOption r (self.new ≡ self.old) (λ n. self.new ≡ reads self.old n)) }
-        ensures err { OnErr result (self.new ≡ self.old) }
+        ensures note { IfOk result (λ r. MatchOption r (self.new ≡ lets_read_go self.old self.new.read_gone) (λ n. self.new ≡ reads self.old n self.new.read_gone)) }
+        ensures gone { GoesOn self.old.read_gone self.new.read_gone self.old.read }
+        ensures err { OnErr result (self.new ≡ lets_read_go self.old self.new.read_gone) }
     {
+        self.read.let_go(self.read_mark.look());
         if self.notes.is_empty() {
             return Ok(None);
         }
@@ -186,9 +201,11 @@ impl Client {
 
     /// Tries to read a note at most so often, and ends at the first, or at want of memory, which leaves it in the ring.
     pub fn outcome<R: Wait>(&mut self, _rt: &R, turns: u64) -> Result<Option<Note>, AllocError>
-        ensures note { IfOk result (λ r. MatchOption r (self.new ≡ self.old) (λ n. self.new ≡ reads self.old n)) }
-        ensures err { OnErr result (self.new ≡ self.old) }
+        ensures note { IfOk result (λ r. MatchOption r (self.new ≡ lets_read_go self.old self.new.read_gone) (λ n. self.new ≡ reads self.old n self.new.read_gone)) }
+        ensures gone { GoesOn self.old.read_gone self.new.read_gone self.old.read }
+        ensures err { OnErr result (self.new ≡ lets_read_go self.old self.new.read_gone) }
     {
+        let _client = &self.alloc;
         for _ in 0..turns {
             if let Some(note) = self.try_outcome()? {
                 return Ok(Some(note));
@@ -198,16 +215,32 @@ impl Client {
         Ok(None)
     }
 
-    /// What was submitted, in order.
+    /// How many of the first submissions are kept no more.
+    pub fn submitted_gone(&self) -> u64
+        ensures value { result ≡ self.now.gone }
+        ensures within { result ≤ length self.now.submitted }
+    {
+        self.submitted.gone()
+    }
+
+    /// What was submitted, in order, without the submissions that are kept no more.
     pub fn submitted(&self) -> &[Submission]
-        ensures { result.now ≡ self.now.submitted }
+        ensures { result.now ≡ drop self.now.gone self.now.submitted }
     {
         self.submitted.as_slice()
     }
 
-    /// The notes that were read, in order.
+    /// How many of the first notes are kept no more.
+    pub fn read_gone(&self) -> u64
+        ensures value { result ≡ self.now.read_gone }
+        ensures within { result ≤ length self.now.read }
+    {
+        self.read.gone()
+    }
+
+    /// The notes that were read, in order, without those that are kept no more.
     pub fn read(&self) -> &[Note]
-        ensures { result.now ≡ self.now.read }
+        ensures { result.now ≡ drop self.now.read_gone self.now.read }
     {
         self.read.as_slice()
     }

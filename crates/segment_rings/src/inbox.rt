@@ -1,4 +1,6 @@
 //! An inbox: what a port received, with its end of the ring.
+use crate::kept::Kept;
+use crate::mark::Mark;
 use crate::words::Delivery;
 use port_table::PortId;
 use rtrb::Consumer;
@@ -7,25 +9,28 @@ use std::marker::Model;
 use std::sync::Wait;
 use std::thread;
 
-/// Receives what a port is given. It may move to a thread of its own; `try_receive` takes no lock and never waits.
+/// Receives what a port is given. It may move to a thread of its own; `try_receive` takes no lock and never waits. It keeps what it
+/// received until the segment is cut.
 pub struct Inbox {
     alloc: Global,
     port: PortId,
     closed: bool,
     deliveries: Consumer<Delivery>,
-    taken: Vec<Delivery>,
+    taken: Kept<Delivery>,
+    mark: Mark,
 }
 
 impl Model for Inbox {
-    ghost use Rattle.std.specs.Prelude.{◌≡◌, ◌-◌, false, vec_len, vec_capacity};
+    ghost use Rattle.std.specs.Prelude.{◌≡◌, ◌≤◌, ◌++◌, false, length, take};
     ghost use Rattle.rtrb.specs.Ring.{received};
     ghost use Rattle.segment_rings.specs.Ends.{InboxEnd};
+    ghost use Rattle.segment_rings.specs.Tails.{IsTailOf};
 
     ghost Value = { InboxEnd };
 
-    ghost view = { λ i. record { port = i.port; closed = i.closed; popped = received i.deliveries; received = i.taken.items; spare = vec_capacity i.taken - vec_len i.taken } };
+    ghost view = { λ i. record { port = i.port; closed = i.closed; popped = received i.deliveries; received = take i.taken.gone (received i.deliveries) ++ i.taken.items; gone = i.taken.gone; spare = i.taken.spare } };
 
-    ghost invariant = { λ i. i.closed ≡ false → i.taken.items ≡ received i.deliveries };
+    ghost invariant = { λ i. (i.taken.gone ≤ length (received i.deliveries)) × (i.closed ≡ false → IsTailOf i.taken (received i.deliveries)) };
 }
 
 impl Drop for Inbox {
@@ -36,6 +41,7 @@ impl Drop for Inbox {
             closed: _,
             deliveries: _,
             taken: _,
+            mark: _,
         } = self;
     }
 }
@@ -56,11 +62,17 @@ pub(crate) fn copy_delivery(alloc: Global, delivery: &Delivery) -> Result<Delive
 }
 
 impl Inbox {
-    ghost use Rattle.std.specs.Prelude.{◌≡◌, ◌<◌, ◌≤◌, [], length, true, false, IfOk, OnErr, OnOk, MatchOption, Some, None, Ok};
+    ghost use Rattle.std.specs.Prelude.{◌≡◌, ◌<◌, ◌≤◌, [], length, drop, true, false, IfOk, OnErr, OnOk, MatchOption, Some, None, Ok};
     ghost use Rattle.rtrb.specs.Ring.{received};
-    ghost use Rattle.segment_rings.specs.Ends.{InboxEnd, new_inbox_end, with_room_kept, receives, closes};
+    ghost use Rattle.segment_rings.specs.Ends.{InboxEnd, new_inbox_end, with_room_kept, lets_received_go, receives, closes};
+    ghost use Rattle.segment_rings.specs.Tails.{GoesOn};
 
-    pub(crate) fn new(alloc: Global, port: PortId, deliveries: Consumer<Delivery>) -> Inbox
+    pub(crate) fn new(
+        alloc: Global,
+        port: PortId,
+        deliveries: Consumer<Delivery>,
+        mark: Mark,
+    ) -> Inbox
         requires { received deliveries ≡ [] }
         ensures { result ≡ new_inbox_end port result.spare }
     {
@@ -69,7 +81,8 @@ impl Inbox {
             port,
             closed: false,
             deliveries,
-            taken: Vec::new(alloc),
+            taken: Kept::new(alloc),
+            mark,
         }
     }
 
@@ -87,15 +100,18 @@ impl Inbox {
         self.closed
     }
 
-    /// Receives the next delivery, if one is there. A closed inbox gives none. Want of memory leaves it in the ring.
+    /// Receives the next delivery, if one is there. A closed inbox gives none. Want of memory leaves it in the ring. Whatever it answers, an
+    /// open inbox keeps no more the first deliveries of which a cut of the segment told that they needn't be kept.
     pub fn try_receive(&mut self) -> Result<Option<Delivery>, AllocError>
-        ensures delivery { IfOk result (λ r. MatchOption r (self.new ≡ self.old) (λ d. self.new ≡ receives self.old d self.new.spare)) }
-        ensures closed { self.old.closed ≡ true → result ≡ Ok None }
-        ensures err { OnErr result (self.new ≡ with_room_kept self.old self.new.spare) }
+        ensures delivery { IfOk result (λ r. MatchOption r (self.new ≡ lets_received_go self.old self.new.gone self.new.spare) (λ d. self.new ≡ receives self.old d self.new.gone self.new.spare)) }
+        ensures gone { GoesOn self.old.gone self.new.gone self.old.received }
+        ensures closed { self.old.closed ≡ true → (result ≡ Ok None) × (self.new ≡ self.old) }
+        ensures err { OnErr result (self.new ≡ lets_received_go self.old self.new.gone self.new.spare) }
     {
         if self.closed {
             return Ok(None);
         }
+        self.taken.let_go(self.mark.look());
         if self.deliveries.is_empty() {
             return Ok(None);
         }
@@ -108,10 +124,12 @@ impl Inbox {
 
     /// Tries to receive at most so often, and ends at the first delivery, or at want of memory, which leaves it in the ring.
     pub fn receive<R: Wait>(&mut self, _rt: &R, turns: u64) -> Result<Option<Delivery>, AllocError>
-        ensures delivery { IfOk result (λ r. MatchOption r (self.new ≡ self.old) (λ d. self.new ≡ receives self.old d self.new.spare)) }
-        ensures closed { self.old.closed ≡ true → result ≡ Ok None }
-        ensures err { OnErr result (self.new ≡ with_room_kept self.old self.new.spare) }
+        ensures delivery { IfOk result (λ r. MatchOption r (self.new ≡ lets_received_go self.old self.new.gone self.new.spare) (λ d. self.new ≡ receives self.old d self.new.gone self.new.spare)) }
+        ensures gone { GoesOn self.old.gone self.new.gone self.old.received }
+        ensures closed { self.old.closed ≡ true → (result ≡ Ok None) × (self.new ≡ self.old) }
+        ensures err { OnErr result (self.new ≡ lets_received_go self.old self.new.gone self.new.spare) }
     {
+        let _inbox = &self.alloc;
         for _ in 0..turns {
             if let Some(delivery) = self.try_receive()? {
                 return Ok(Some(delivery));
@@ -121,9 +139,17 @@ impl Inbox {
         Ok(None)
     }
 
-    /// What was received, in order.
+    /// How many of the first deliveries are kept no more.
+    pub fn gone(&self) -> u64
+        ensures value { result ≡ self.now.gone }
+        ensures within { result ≤ length self.now.received }
+    {
+        self.taken.gone()
+    }
+
+    /// What was received, in order, without the deliveries that are kept no more.
     pub fn received(&self) -> &[Delivery]
-        ensures { result.now ≡ self.now.received }
+        ensures { result.now ≡ drop self.now.gone self.now.received }
     {
         self.taken.as_slice()
     }
@@ -141,11 +167,7 @@ impl Inbox {
         requires { length rest.items ≤ self.old.spare }
         ensures { self.new ≡ closes self.old rest.items self.new.spare }
     {
-        let mut rest = rest;
         self.closed = true;
-        match self.taken.append(&mut rest) {
-            Ok(()) => {}
-            Err(_) => unreachable!(),
-        }
+        self.taken.append_reserved(rest);
     }
 }

@@ -2,7 +2,8 @@
 //! list of all that went through it.
 //!
 //! A client pushes submissions and pops notes; its seat is the other end of both rings. An inbox pops deliveries; its door
-//! pushes them. An outlet has both ends of its ring, so that contracts see all that a struct gave away. Nothing above this crate
+//! pushes them. A seat and a door that are cut keep only what may be unread, and tell the other end by a mark, which then keeps no
+//! more either. An outlet has both ends of its ring, so that contracts see all that a struct gave away. Nothing above this crate
 //! sees a ring. Nothing here takes a lock; only `outcome` and `receive` wait, for so many turns at most.
 #![tactic(auto)]
 
@@ -10,6 +11,8 @@ mod buffer;
 mod client;
 mod door;
 mod inbox;
+mod kept;
+mod mark;
 mod outlet;
 mod seat;
 mod words;

@@ -1,5 +1,7 @@
 //! What a segment keeps of one client: the far ends of its two rings, and the notes made for it.
 use crate::client::Client;
+use crate::kept::Kept;
+use crate::mark::Mark;
 use crate::words::{Note, RING_PLACES, Submission};
 use pgn_ids::Address;
 use rtrb::{Consumer, Producer, RingBuffer};
@@ -24,20 +26,24 @@ pub struct Seat {
     active: bool,
     submissions: Consumer<Submission>,
     notes: Producer<Note>,
-    kept: Vec<Note>,
+    kept: Kept<Note>,
     taken: u64,
+    taken_mark: Mark,
+    notes_mark: Mark,
 }
 
 impl Model for Seat {
-    ghost use Rattle.std.specs.Prelude.{◌≡◌, ◌-◌, length, vec_len, vec_capacity};
+    ghost use Rattle.std.specs.Prelude.{◌≡◌, ◌≤◌, ◌+◌, length, true};
     ghost use Rattle.rtrb.specs.Ring.{sent, received, known_free, known_items};
     ghost use Rattle.segment_rings.specs.Views.{SeatView};
+    ghost use Rattle.segment_rings.specs.Tails.{IsTailOf};
+    ghost use Rattle.segment_rings.specs.Ends.{ring_places};
 
     ghost Value = { SeatView };
 
-    ghost view = { λ s. record { id = s.id; station = s.station; active = s.active; popped = received s.submissions; ahead = known_items s.submissions; kept = s.kept.items; noted = sent s.notes; free = known_free s.notes; spare = vec_capacity s.kept - vec_len s.kept } };
+    ghost view = { λ s. record { id = s.id; station = s.station; active = s.active; popped = received s.submissions; ahead = known_items s.submissions; gone = s.kept.gone; kept = s.kept.items; noted = sent s.notes; free = known_free s.notes; spare = s.kept.spare } };
 
-    ghost invariant = { λ s. s.taken ≡ length (received s.submissions) };
+    ghost invariant = { λ s. (s.taken ≡ length (received s.submissions)) × (s.kept.gone ≤ length (sent s.notes)) × (s.kept.gone + ring_places ≤ length (sent s.notes) + known_free s.notes) × (s.active ≡ true → IsTailOf s.kept (sent s.notes)) };
 }
 
 impl Drop for Seat {
@@ -50,6 +56,8 @@ impl Drop for Seat {
             notes: _,
             kept: _,
             taken: _,
+            taken_mark: _,
+            notes_mark: _,
         } = self;
     }
 }
@@ -57,8 +65,8 @@ impl Drop for Seat {
 impl Seat {
     ghost use Rattle.std.specs.Prelude.{◌≡◌, ◌≤◌, ◌<◌, ◌+◌, ◌-◌, ◌^◌, ◌↔◌, [], ◌∷◌, length, true, false, IfOk, OnOk, IsTrue};
     ghost use mathlib.Core.List.{IsPrefix};
-    ghost use Rattle.segment_rings.specs.Views.{SeatView, new_seat, looked, looked_for_room, with_spare, popped_one, with_note, closed_seat, SameSeat, IsOffer};
-    ghost use Rattle.segment_rings.specs.Ends.{new_client_end};
+    ghost use Rattle.segment_rings.specs.Views.{SeatView, new_seat, looked, looked_for_room, with_spare, popped_one, with_note, closed_seat, SameSeat, CutSeat, IsOffer};
+    ghost use Rattle.segment_rings.specs.Ends.{new_client_end, ring_places};
     ghost use Rattle.segment_rings.specs.declared.seat.Offer.TheVariants as offer;
 
     /// A client of a station, and the seat that it has in the segment.
@@ -68,16 +76,27 @@ impl Seat {
     {
         let (producer, submissions) = RingBuffer::new(alloc, RING_PLACES)?;
         let (notes, consumer) = RingBuffer::new(alloc, RING_PLACES)?;
+        let (taken_mark, submitted_mark) = Mark::pair(alloc)?;
+        let (notes_mark, read_mark) = Mark::pair(alloc)?;
         let seat = Seat {
             id,
             station,
             active: true,
             submissions,
             notes,
-            kept: Vec::new(alloc),
+            kept: Kept::new(alloc),
             taken: 0,
+            taken_mark,
+            notes_mark,
         };
-        Ok((seat, Client::new(alloc, id, station, producer, consumer)))
+        let client = Client::new(
+            alloc,
+            id,
+            station,
+            (producer, submitted_mark),
+            (consumer, read_mark),
+        );
+        Ok((seat, client))
     }
 
     /// The client's number in its segment.
@@ -171,11 +190,46 @@ impl Seat {
         self.active = false;
     }
 
-    /// The notes made so far.
+    /// The notes made so far, without those that are kept no more.
     pub fn notes(&self) -> &[Note]
         ensures { result.now ≡ self.now.kept }
     {
         self.kept.as_slice()
+    }
+
+    /// How many of the first notes are kept no more.
+    pub fn notes_gone(&self) -> u64
+        ensures value { result ≡ self.now.gone }
+        ensures within { result ≤ length self.now.noted }
+    {
+        self.kept.gone()
+    }
+
+    /// Keeps no more the notes that its client is known to have read, and tells the client what it needn't keep any more: these
+    /// notes, and all submissions that were taken. It takes no memory and never waits.
+    pub fn cut(&mut self)
+        ensures { CutSeat self.old self.new }
+    {
+        self.taken_mark.raise(self.taken);
+        if !self.active {
+            return;
+        }
+        let read = self.count_read();
+        self.kept.let_go(read);
+        self.notes_mark.raise(self.kept.gone());
+    }
+
+    // How many notes are known to be out of the ring, while all go into it.
+    fn count_read(&mut self) -> u64
+        requires { self.old.active ≡ true }
+        ensures same { self.new ≡ looked_for_room self.old self.new.free }
+        ensures more { self.old.free ≤ self.new.free }
+        ensures value { result ≡ length self.new.noted - (ring_places - self.new.free) }
+        ensures none_again { self.new.gone ≤ result }
+        ensures within { result ≤ length self.new.noted }
+    {
+        let unread = RING_PLACES.saturating_sub(self.notes.slots());
+        self.kept.count().saturating_sub(unread as u64)
     }
 
     /// Looks whether a submission waits and its note has a place beside those that are owed.

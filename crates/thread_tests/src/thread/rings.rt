@@ -344,3 +344,85 @@ fn a_closed_inbox_gives_nothing(rt: HostRuntime) {
     drop(door);
     drop(inbox);
 }
+
+// How many of the first items aren't kept any more, and how many are kept.
+fn door_keeps(rt: &impl Abort, door: &Door, gone: u64, kept: usize) {
+    same(rt, door.gone(), gone);
+    same(rt, door.deliveries().len(), kept);
+}
+
+fn inbox_keeps(rt: &impl Abort, inbox: &Inbox, gone: u64, kept: usize) {
+    same(rt, inbox.gone(), gone);
+    same(rt, inbox.received().len(), kept);
+}
+
+// Of three deliveries two are unread at the first cut, and none at the second.
+fn cut_a_door(rt: &(impl Abort + Wait), alloc: Global, door: &mut Door, inbox: &mut Inbox) {
+    for _ in 0..3 {
+        holds(rt, give_one(rt, alloc, door));
+    }
+    receives_nine(rt, inbox);
+    door.cut();
+    door_keeps(rt, door, 1, 2);
+    inbox_keeps(rt, inbox, 0, 1);
+    receives_nine(rt, inbox);
+    inbox_keeps(rt, inbox, 1, 1);
+    receives_nine(rt, inbox);
+    door.cut();
+    door_keeps(rt, door, 3, 0);
+    receives_nothing(rt, inbox);
+    inbox_keeps(rt, inbox, 3, 0);
+}
+
+#[test]
+fn a_cut_keeps_the_unread_deliveries(rt: HostRuntime) {
+    let (mut door, mut inbox) = got(&rt, Doorway::new(rt.alloc())).open(PORT);
+    cut_a_door(&rt, rt.alloc(), &mut door, &mut inbox);
+    drop(door);
+    drop(inbox);
+}
+
+fn seat_keeps(rt: &impl Abort, seat: &Seat, gone: u64, kept: usize) {
+    same(rt, seat.notes_gone(), gone);
+    same(rt, seat.notes().len(), kept);
+}
+
+fn client_keeps(rt: &impl Abort, client: &Client, submitted: (u64, usize), read: (u64, usize)) {
+    same(rt, client.submitted_gone(), submitted.0);
+    same(rt, client.submitted().len(), submitted.1);
+    same(rt, client.read_gone(), read.0);
+    same(rt, client.read().len(), read.1);
+}
+
+// Of two submissions one is taken, and of two notes one is read, before the cut. What the client keeps it looks up at its next calls,
+// and it counts on from all that it submitted.
+fn cut_a_seat(rt: &impl Abort, alloc: Global, seat: &mut Seat, client: &mut Client) {
+    submits(rt, alloc, client, 1);
+    submits(rt, alloc, client, 2);
+    holds(rt, note_one(rt, seat, 1));
+    holds(rt, note_one(rt, seat, 2));
+    takes_nine(rt, seat);
+    reads(rt, client, Some(note_of(1)));
+    seat.cut();
+    seat_keeps(rt, seat, 1, 1);
+    client_keeps(rt, client, (0, 2), (0, 1));
+    submits(rt, alloc, client, 3);
+    reads(rt, client, Some(note_of(2)));
+    client_keeps(rt, client, (1, 2), (1, 1));
+}
+
+// A client that is gone reads nothing more, and its seat keeps its notes.
+fn cut_a_closed_seat(rt: &impl Abort, seat: &mut Seat) {
+    closes(rt, seat);
+    seat.cut();
+    seat_keeps(rt, seat, 1, 1);
+}
+
+#[test]
+fn a_cut_keeps_the_unread_notes_and_the_submissions_in_the_ring(rt: HostRuntime) {
+    let (mut seat, mut client) = got(&rt, Seat::new(rt.alloc(), 0, SENDER));
+    cut_a_seat(&rt, rt.alloc(), &mut seat, &mut client);
+    cut_a_closed_seat(&rt, &mut seat);
+    drop(seat);
+    drop(client);
+}

@@ -25,6 +25,7 @@ use Rattle.live_segment.proofs.Doors.{same_doors-refl}
 use Rattle.live_segment.proofs.Fronts.{none_at, empty_at, waits_at, free_is}
 use Rattle.live_segment.proofs.Holding.{holds-same, same_live, on_err}
 use Rattle.live_segment.proofs.Viewed.{holds_at, stays, viewed, still}
+use Rattle.live_segment.proofs.Keeping.{cut_with, notes_kept-same, notes_kept-set}
 use Rattle.live_segment.proofs.SeatsSame.{same_seats-refl, clients-same}
 use Rattle.live_segment.proofs.Sending.{holds-send, sent_for, refused_send, popped_at, same_front, lacks_memory_for}
 use Rattle.live_segment.proofs.Openings.{refused_reply}
@@ -230,7 +231,7 @@ invariant_of-self-in-Sent c =
     let more : List Stored = stored (Some k) (send_call s.station x) ∷ [] in
     let calls : c.store.new.calls.items ≡ xs ++ more = e.1.calls ∙ ap (λ (u : List Stored). u ++ more) c.make_ready.ensures.calls in
     let owed : c.store.new.owed.items ≡ ws ++ owed_for k s x c.in-Sent.number ∷ [] = e.1.owed ∙ ap (λ (u : List Owed). u ++ owed_for k s x c.in-Sent.number ∷ []) c.make_ready.ensures.owed in
-    holds_at _ _ _ _ _ _ _ _ _ _ _ _ _ _ _ refl calls (c.store.ensures.pieces ∙ c.make_ready.ensures.pieces) (c.store.ensures.image ∙ c.make_ready.ensures.image) owed e.1.seats refl (holds-send addrs st c.make.new.segment xs ws ts ds k c.in-Sent.number x e.1.rest s h l' fits at (r.0.1 d).1 (r.0.1 d).2 rep aft stands f) c.self.invariant.1
+    holds_at _ _ _ _ _ _ _ _ _ _ _ _ _ _ _ refl calls (c.store.ensures.pieces ∙ c.make_ready.ensures.pieces) (c.store.ensures.image ∙ c.make_ready.ensures.image) owed e.1.seats refl (holds-send addrs st c.make.new.segment xs ws ts ds k c.in-Sent.number x e.1.rest s h l' fits at (r.0.1 d).1 (r.0.1 d).2 rep aft stands f) (cut_with _ _ _ _ _ _ _ (λ k0. notes_kept-set k ts s (popped_one s x e.1.rest) (ap (λ (u : SeatView). u.gone) at) (notes_kept-same c.self.inside.seats.items ts c.make_ready.ensures.seats k0)) (λ k0. k0) c.self.invariant.1)
 
 pub returns-in-Sent-clause-accepted : goal.returns-in-Sent-clause-accepted
 returns-in-Sent-clause-accepted c =

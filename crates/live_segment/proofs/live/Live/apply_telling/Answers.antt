@@ -22,6 +22,7 @@ use Rattle.live_segment.proofs.Openings.{refused_reply}
 use Rattle.live_segment.proofs.Ready.{found_ready, none_given}
 use Rattle.live_segment.proofs.Refusing.{lacks_memory}
 use Rattle.live_segment.proofs.Holding.{holds-same, holds-tell, on_err}
+use Rattle.live_segment.proofs.Keeping.{cut_with, notes_kept-all, given_kept-all, given_kept-same}
 use Rattle.live_segment.proofs.Viewed.{holds_at, stays, viewed, still, few_kept}
 use Rattle.live_segment.proofs.SeatsSame.{same_seats-refl, ports-same}
 use Rattle.live_segment.proofs.live.Live.apply_telling.Goals as goal
@@ -105,7 +106,7 @@ invariant_of-self-in-Done c =
     let ids = subst (IdsFrom 0) seats c.tell-told.ensures.ids in
     let rm = subst (λ (u : List SeatView). HaveRoom (settle_owed ws es) u) seats (subst (λ (u : List Owed). HaveRoom u c.tell-told.new.seats.items) owed c.tell-told.ensures.room) in
     let within = subst (λ (u : List SeatView). OwedWithin (length u) (settle_owed ws es)) seats (subst (λ (u : List Owed). OwedWithin (length c.tell-told.new.seats.items) u) owed c.tell-told.ensures.within) in
-    holds_at _ _ _ _ _ _ _ _ _ _ _ _ _ _ _ refl calls pieces image owed seats doors (holds-tell addrs st next xs ws ss ds call es h few rep left stands f ids rm within) c.self.invariant.1
+    holds_at _ _ _ _ _ _ _ _ _ _ _ _ _ _ _ refl calls pieces image owed seats doors (holds-tell addrs st next xs ws ss ds call es h few rep left stands f ids rm within) (cut_with _ _ _ _ _ _ _ (notes_kept-all (settle_notes ws es) ss) (λ k0. given_kept-all es ds (given_kept-same c.self.inside.doors.items ds c.find_places.ensures.same k0)) c.self.invariant.1)
 
 pub invariant_of-self-in-Refused-1 : goal.invariant_of-self-in-Refused-1
 invariant_of-self-in-Refused-1 c =

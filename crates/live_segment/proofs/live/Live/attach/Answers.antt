@@ -6,6 +6,7 @@ use Rattle.segment_rings.specs.Views.{SeatView, DoorView, new_seat}
 use Rattle.stored_calls.specs.declared.stored.Stored.{Stored}
 use Rattle.live_segment.specs.LiveView.{LiveView, ClientView, Attached, Kept, live_view, keep, client_of}
 use Rattle.live_segment.proofs.Holding.{holds-attach, no_ok, on_err}
+use Rattle.live_segment.proofs.Keeping.{cut_with, notes_kept-push}
 use Rattle.live_segment.proofs.Viewed.{holds_at, viewed}
 use Rattle.live_segment.proofs.live.Live.attach.Goals as goal
 
@@ -44,7 +45,7 @@ invariant_of-self-2 c =
     let e : s ≡ new_seat (length ss) c.args.station s.free s.spare = c.in_ok-seat.ensures.seat ∙ ap (λ (k : ℕ). new_seat k c.args.station s.free s.spare) n in
     let seats : c.push_reserved.new.self.items ≡ ss ++ new_seat (length ss) c.args.station s.free s.spare ∷ [] = c.push_reserved.ensures.items ∙ ap (λ (u : List SeatView). u ++ s ∷ []) c.reserve.ensures.items ∙ ap (λ (u : SeatView). ss ++ u ∷ []) e in
     holds_at i.addresses.items i.segment i.segment i.calls.items i.calls.items i.calls.pieces i.calls.pieces i.calls.image i.calls.image i.owed.items i.owed.items (ss ++ new_seat (length ss) c.args.station s.free s.spare ∷ []) c.push_reserved.new.self.items i.doors.items i.doors.items refl refl refl refl refl seats refl
-    (holds-attach i.addresses.items i.segment i.calls.items i.owed.items ss i.doors.items c.args.station s.free s.spare c.self.invariant.0) c.self.invariant.1
+    (holds-attach i.addresses.items i.segment i.calls.items i.owed.items ss i.doors.items c.args.station s.free s.spare c.self.invariant.0) (cut_with _ _ _ _ _ _ _ (notes_kept-push ss (new_seat (length ss) c.args.station s.free s.spare) refl) (λ k0. k0) c.self.invariant.1)
 
 pub returns-clause-attached : goal.returns-clause-attached
 returns-clause-attached c =

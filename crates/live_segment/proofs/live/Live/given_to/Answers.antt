@@ -1,10 +1,11 @@
-use Rattle.std.proofs.Common.{List, ap, ◌∙◌, subst}
+use Rattle.std.proofs.Common.{ℕ, List, drop, get_or, sym, ap, ◌∙◌, subst}
 use Rattle.port_table.specs.declared.port.PortId.{PortId}
+use Rattle.segment_rings.specs.declared.words.Delivery.{Delivery}
 use Rattle.segment_rings.specs.Views.{DoorView}
 use Rattle.live_segment.specs.Record.{given, trail}
 use Rattle.live_segment.specs.Facts.{NoneAt}
 use Rattle.live_segment.specs.Places.{IsPlaceIn}
-use Rattle.live_segment.proofs.Laws.{pushed_at, has_port, no_port}
+use Rattle.live_segment.proofs.Laws.{pushed_at, has_port, no_port, given_gone_at}
 use Rattle.live_segment.proofs.live.Live.given_to.Goals as goal
 
 pub returns-in-Some : goal.returns-in-Some
@@ -15,7 +16,10 @@ returns-in-Some c =
     let es = (trail c.self.inside.addresses.items c.self.inside.calls.items).events in
     let p = subst (λ (u : List DoorView). IsPlaceIn u q k) c.as_slice.ensures.value c.in-Some.ensures in
     let d = c.index.result.now in
-    let e = c.deliveries.ensures ∙ ap (λ (x : DoorView). x.pushed) c.index.ensures ∙ pushed_at k es ds d p.0 c.self.invariant.0.gives ∙ ap (λ (x : PortId). given x es) (p.1 d) in
+    let gone = given_gone_at k q ds d p.0 (p.1 d) c.self.invariant.0.apart in
+    let all = ap (λ (x : DoorView). drop x.gone x.pushed) c.index.ensures in
+    let is = pushed_at k es ds d p.0 c.self.invariant.0.gives ∙ ap (λ (x : PortId). given x es) (p.1 d) in
+    let e = c.deliveries.ensures ∙ all ∙ ap (λ (xs : List Delivery). drop (get_or ds k d).gone xs) is ∙ ap (λ (n : ℕ). drop n (given q es)) (sym gone) in
     rw (← c.self.view_is) (has_port ds k q p.0 p.1, e)
 
 pub returns-in-None : goal.returns-in-None

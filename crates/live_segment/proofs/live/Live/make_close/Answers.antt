@@ -18,6 +18,7 @@ use Rattle.live_segment.proofs.Doors.{give_all_unplaced}
 use Rattle.live_segment.proofs.Telling.{clients_untold}
 use Rattle.live_segment.proofs.Holding.{holds-tell}
 use Rattle.live_segment.proofs.Ready.{none_ready}
+use Rattle.live_segment.proofs.Keeping.{cut_with, notes_kept-all, given_kept-all}
 use Rattle.live_segment.proofs.Viewed.{holds_at, viewed, few_kept}
 use Rattle.live_segment.proofs.live.Live.make_close.Goals as goal
 
@@ -68,7 +69,7 @@ invariant_of-self-in-Done c =
     let rm = subst (λ (u : List SeatView). HaveRoom (settle_owed ws es) u) seats (subst (λ (u : List Owed). HaveRoom u c.tell-told.new.seats.items) owed c.tell-told.ensures.room) in
     let inside = subst (λ (u : List SeatView). OwedWithin (length u) (settle_owed ws es)) seats (subst (λ (u : List Owed). OwedWithin (length c.tell-told.new.seats.items) u) owed c.tell-told.ensures.within) in
     holds_at _ _ _ _ _ _ _ _ _ _ _ _ _ _ _ refl calls (c.push_reserved.ensures.pieces ∙ c.reserve.ensures.pieces) (c.push_reserved.ensures.image ∙ c.reserve.ensures.image) owed seats c.tell-told.ensures.doors
-    (holds-tell addrs st next xs ws ss ds (Close p) es c.self.invariant.0 few rep c.in_ok-events.ensures.after stands f ids rm inside) c.self.invariant.1
+    (holds-tell addrs st next xs ws ss ds (Close p) es c.self.invariant.0 few rep c.in_ok-events.ensures.after stands f ids rm inside) (cut_with _ _ _ _ _ _ _ (notes_kept-all (settle_notes ws es) ss) (given_kept-all es ds) c.self.invariant.1)
 
 pub invariant_of-self-in-Refused : goal.invariant_of-self-in-Refused
 invariant_of-self-in-Refused c =

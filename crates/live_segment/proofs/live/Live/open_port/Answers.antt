@@ -16,6 +16,7 @@ use Rattle.live_segment.specs.declared.refused.NotMade.TheVariants as not_made
 use Rattle.live_segment.specs.LiveView.{LiveView, stored, keep, IsOpenCause, OpenedFor}
 use Rattle.live_segment.proofs.Holding.{holds-open, on_err}
 use Rattle.live_segment.proofs.Openings.{refused_reply, open_free, open_lacks, open_cause, opened_for, out_of_memory}
+use Rattle.live_segment.proofs.Keeping.{cut_with, given_kept-push}
 use Rattle.live_segment.proofs.Viewed.{holds_at, unchanged, viewed, few_kept}
 use Rattle.live_segment.proofs.live.Live.open_port.Goals as goal
 
@@ -38,7 +39,7 @@ invariant_of-self-in-Opened c =
     let f : Follows st call next (Opened p) = subst (Follows st call next) c.in-Opened.is (c.in_ok-port.ensures.follows addrs steps c.self.invariant.0.stands) in
     let doors : c.push_reserved.new.self.items ≡ ds ++ new_door p d.free d.spare ∷ [] = c.push_reserved.ensures.items ∙ ap (λ (u : List DoorView). u ++ d ∷ []) c.reserve-2.ensures.items ∙ ap (λ (u : DoorView). ds ++ u ∷ []) c.open-door.ensures.door in
     let calls : c.push_reserved-in-Opened.new.self.items ≡ xs ++ stored None call ∷ [] = c.push_reserved-in-Opened.ensures.items ∙ ap (λ (u : List Stored). u ++ stored None call ∷ []) c.reserve.ensures.items in
-    holds_at _ _ _ _ _ _ _ _ _ _ _ _ _ _ _ refl calls pieces image refl refl doors (holds-open addrs st next xs c.self.inside.owed.items c.self.inside.seats.items ds c.args.station c.args.pgn c.args.max_len d.free d.spare p c.self.invariant.0 few rep c.in_ok-port.ensures.after stands f) c.self.invariant.1
+    holds_at _ _ _ _ _ _ _ _ _ _ _ _ _ _ _ refl calls pieces image refl refl doors (holds-open addrs st next xs c.self.inside.owed.items c.self.inside.seats.items ds c.args.station c.args.pgn c.args.max_len d.free d.spare p c.self.invariant.0 few rep c.in_ok-port.ensures.after stands f) (cut_with _ _ _ _ _ _ _ (λ k0. k0) (given_kept-push ds (new_door p d.free d.spare) refl) c.self.invariant.1)
 
 pub invariant_of-self : goal.invariant_of-self
 invariant_of-self c =

@@ -3,6 +3,7 @@ use Rattle.segment_rings.specs.Views.{SeatView, closed_seat}
 use Rattle.live_segment.specs.Facts.{Holds}
 use Rattle.live_segment.specs.LiveView.{client_of}
 use Rattle.live_segment.proofs.Holding.{holds-close_seat}
+use Rattle.live_segment.proofs.Keeping.{cut_with, notes_kept-set}
 use Rattle.live_segment.proofs.Telling.{client_gone, none_gone}
 use Rattle.live_segment.proofs.live.Live.retire_client.Goals as goal
 
@@ -13,7 +14,7 @@ invariant_of-self c =
     let ss = i.seats.items in
     let s = c.index_mut-seat.result.now in
     let e : c.close.new.self ≡ closed_seat (get_or ss k s) = c.close.ensures ∙ ap closed_seat c.index_mut-seat.ensures.value in
-    (subst (λ (u : SeatView). Holds i.addresses.items i.segment i.calls.items i.owed.items (set ss k u) i.doors.items) (sym e) (holds-close_seat i.addresses.items i.segment i.calls.items i.owed.items ss i.doors.items k s c.self.invariant.0), c.self.invariant.1)
+    (subst (λ (u : SeatView). Holds i.addresses.items i.segment i.calls.items i.owed.items (set ss k u) i.doors.items) (sym e) (holds-close_seat i.addresses.items i.segment i.calls.items i.owed.items ss i.doors.items k s c.self.invariant.0), cut_with _ _ _ _ _ _ _ (notes_kept-set k ss s c.close.new.self (ap (λ (u : SeatView). u.gone) e)) (λ k0. k0) c.self.invariant.1)
 
 pub returns-then-client-len-clause-clients : goal.returns-then-client-len-clause-clients
 returns-then-client-len-clause-clients c =

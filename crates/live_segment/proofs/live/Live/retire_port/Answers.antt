@@ -4,6 +4,7 @@ use Rattle.live_segment.specs.Facts.{Holds, NoneAt}
 use Rattle.live_segment.specs.Places.{IsPlaceIn}
 use Rattle.live_segment.specs.LiveView.{port_of}
 use Rattle.live_segment.proofs.Holding.{holds-close_door}
+use Rattle.live_segment.proofs.Keeping.{cut_with, given_kept-set}
 use Rattle.live_segment.proofs.Telling.{ports_closed, ports_unclosed}
 use Rattle.live_segment.proofs.live.Live.retire_port.Goals as goal
 
@@ -14,7 +15,7 @@ invariant_of-self c =
     let ds = i.doors.items in
     let d = c.index_mut-door.result.now in
     let e : c.close.new.self ≡ closed_door (get_or ds k d) = c.close.ensures ∙ ap closed_door c.index_mut-door.ensures.value in
-    (subst (λ (u : DoorView). Holds i.addresses.items i.segment i.calls.items i.owed.items i.seats.items (set ds k u)) (sym e) (holds-close_door i.addresses.items i.segment i.calls.items i.owed.items i.seats.items ds k d c.self.invariant.0), c.self.invariant.1)
+    (subst (λ (u : DoorView). Holds i.addresses.items i.segment i.calls.items i.owed.items i.seats.items (set ds k u)) (sym e) (holds-close_door i.addresses.items i.segment i.calls.items i.owed.items i.seats.items ds k d c.self.invariant.0), cut_with _ _ _ _ _ _ _ (λ k0. k0) (given_kept-set k ds d c.close.new.self (ap (λ (u : DoorView). u.gone) e)) c.self.invariant.1)
 
 pub returns-in-Some-clause-ports : goal.returns-in-Some-clause-ports
 returns-in-Some-clause-ports c =

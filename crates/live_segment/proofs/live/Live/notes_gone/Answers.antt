@@ -1,0 +1,21 @@
+use Rattle.std.proofs.Common.{◌≡◌, ℕ, ◌+◌, ◌<◌, ◌≤◌, length, get_or, sym, ap, ◌∙◌, subst, arith}
+use Rattle.std.proofs.lemmas.List.{length-map}
+use Rattle.segment_rings.specs.Views.{SeatView}
+use Rattle.live_segment.specs.LiveView.{keep}
+use Rattle.live_segment.specs.Record.{notes_of, trail}
+use Rattle.live_segment.proofs.Laws.{gone_at, notes_gone_at}
+use Rattle.live_segment.proofs.live.Live.notes_gone.Goals as goal
+
+pub returns : goal.returns
+returns c =
+    let i = c.self.inside in
+    let k = c.args.client in
+    let ss = i.seats.items in
+    let l : k < length ss = omega (arith, i.seats.ok.0, c.len.ensures) in
+    let s = c.index.result.now in
+    let gone = notes_gone_at (keep i.stopped i.calls.pieces) i.addresses.items i.calls.items ss i.doors.items k s l in
+    let is = c.notes_gone.ensures.value ∙ ap (λ (x : SeatView). x.gone) c.index.ensures in
+    let ns = (trail i.addresses.items i.calls.items).noted in
+    let z : 0 + k ≡ k = omega arith in
+    let few = subst (λ (n : ℕ). (get_or ss k s).gone ≤ length (notes_of n ns)) z (gone_at 0 k ns ss s l c.self.invariant.0.ids c.self.invariant.0.notes) in
+    rw (← c.self.view_is) (rw length-map l, is ∙ sym gone, subst (λ (n : ℕ). n ≤ length (notes_of k ns)) (sym is) few)
