@@ -208,10 +208,13 @@ at_wrong options (Some rest) (Some left) line b c g f h s n d step reads seen en
     let o : outcome_from options s n (lines_of rest) ≡ told step (closed step.left None) = here options rest left line s n step reads.0 reads.1 seen ∙ ap (λ (w : Bool). told step (cond w (closed step.left None) next)) ended in
     subst (λ x. Ended d b g f h x) (sym o) (ended_there d b c g f h step p q written says)
 
--- whether a line was read, by its value
-pub read_as : (n : ℕ) (is_line as_known : Bool) (line : List ℕ) (old new : Option (List ℕ)) → is_line ≡ as_known → Read log_limits n (Ok is_line) line old new → Read log_limits n (Ok as_known) line old new
-read_as n is_line as_known line old new e h = subst (λ (b : Bool). Read log_limits n (Ok b) line old new) e h
-
--- the limits are those of a log
+-- what was read, by its value, within the limits of a log
 pub reads : (m : Limits) (n : ℕ) (r : Result Bool Cause) (line : List ℕ) (old new : Option (List ℕ)) → m ≡ log_limits → Read m n r line old new → Read log_limits n r line old new
 reads m n r line old new e h = subst (λ (k : Limits). Read k n r line old new) e h
+
+pub reads_as : (m : Limits) (n : ℕ) (is_line as_known : Bool) (line : List ℕ) (old new : Option (List ℕ)) → m ≡ log_limits → is_line ≡ as_known → Read m n (Ok is_line) line old new → Read log_limits n (Ok as_known) line old new
+reads_as m n is_line as_known line old new e k h = subst (λ (b : Bool). Read log_limits n (Ok b) line old new) k (reads m n (Ok is_line) line old new e h)
+
+-- a step by its parts
+pub was_seen : (step : Step) (left : Picture) (text errors : List ℕ) → left ≡ step.left → text ≡ step.text → errors ≡ step.errors → step ≡ record { left = left; text = text; errors = errors }
+was_seen step left text errors a b e = rw (a, b, e) refl

@@ -1,5 +1,5 @@
 -- What is counted of a log.
-use Rattle.std.specs.Prelude.{ℕ, ◌+◌, ◌-◌, ◌^◌, min, List, [], ◌++◌, codes, ◌==◌, if◌then◌else◌}
+use Rattle.std.specs.Prelude.{ℕ, ◌+◌, ◌-◌, ◌^◌, min, List, ◌++◌, codes, ◌==◌, if◌then◌else◌}
 use Rattle.std.specs.Fmt.{decimal}
 use Rattle.log_drawing.specs.declared.counts.Counts.{Counts}
 
@@ -15,11 +15,11 @@ abbrev pub lines_text : Counts → List ℕ
 lines_text c = codes "lines " ++ decimal c.lines ++ codes " passed " ++ decimal c.passed ++ codes " wrong " ++ decimal c.wrong
 
 abbrev pub frames_text : Counts → List ℕ
-frames_text c = codes " frames " ++ decimal c.frames ++ codes " drawn " ++ decimal c.drawn ++ codes " elsewhere " ++ decimal c.elsewhere
+frames_text c = codes " frames " ++ decimal c.frames ++ codes " drawn " ++ decimal c.drawn
 
--- what is said where nothing was drawn
+-- and whether nothing was drawn
 abbrev pub rest_text : Counts → List ℕ
-rest_text c = if c.drawn == 0 then codes ": no frame is drawn" else []
+rest_text c = if c.drawn == 0 then codes " elsewhere " ++ decimal c.elsewhere ++ codes ": no frame is drawn" else codes " elsewhere " ++ decimal c.elsewhere
 
 -- each number behind its name
 abbrev pub counts_text : Counts → List ℕ

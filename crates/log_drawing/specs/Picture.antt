@@ -17,9 +17,13 @@ use Rattle.log_drawing.specs.declared.options.Options.{Options}
 use Rattle.log_drawing.specs.declared.options.Pair.{Pair}
 use Rattle.log_drawing.specs.declared.picture.Picture.{Picture}
 
+-- a number between texts
+unfoldable pub between_texts : List ℕ → ℕ → List ℕ → List ℕ
+between_texts before n behind = before ++ decimal n ++ behind
+
 -- a wrong line, by its number
 abbrev pub wrong_line : ℕ → List ℕ
-wrong_line n = codes "line " ++ decimal n ++ codes ": not a log line\n"
+wrong_line n = between_texts (codes "line ") n (codes ": not a log line\n")
 
 -- the pair that is named
 abbrev pub participants : Option Pair → List ℕ

@@ -57,18 +57,19 @@ fn put_lines<W: fmt::Write>(counts: &Counts, f: &mut fmt::Formatter<W>) -> fmt::
 fn put_frames<W: fmt::Write>(counts: &Counts, f: &mut fmt::Formatter<W>) -> fmt::Result
     ensures { DisplaysOnOk W.write_str_gives f.old result (Some (frames_text counts.now)) f.new }
 {
-    let (frames, drawn, elsewhere) = (counts.frames, counts.drawn, counts.elsewhere);
-    write!(f, " frames {frames} drawn {drawn} elsewhere {elsewhere}")
+    let (frames, drawn) = (counts.frames, counts.drawn);
+    write!(f, " frames {frames} drawn {drawn}")
 }
 
-/// What is said where nothing was drawn.
+/// What wasn't, though it was asked for, and what is said where nothing was drawn.
 fn put_rest<W: fmt::Write>(counts: &Counts, f: &mut fmt::Formatter<W>) -> fmt::Result
     ensures { DisplaysOnOk W.write_str_gives f.old result (Some (rest_text counts.now)) f.new }
 {
+    let elsewhere = counts.elsewhere;
     if counts.drawn == 0 {
-        return write!(f, ": no frame is drawn");
+        return write!(f, " elsewhere {elsewhere}: no frame is drawn");
     }
-    Ok(())
+    write!(f, " elsewhere {elsewhere}")
 }
 
 impl fmt::Display for Counts {

@@ -1,6 +1,6 @@
 //! What a line of a log draws.
 ghost use Rattle.std.specs.Prelude.{◌≡◌, ◌++◌, OnOk};
-ghost use Rattle.log_drawing.specs.Picture.{wrong_line, participants, beginning, first_picture, same_iface, is_elsewhere, is_ended, with_frame, frame_seen, shown_seen, form_with, seen_as, line_seen};
+ghost use Rattle.log_drawing.specs.Picture.{between_texts, wrong_line, participants, beginning, first_picture, same_iface, is_elsewhere, is_ended, with_frame, frame_seen, shown_seen, form_with, seen_as, line_seen};
 
 use crate::counts::{Counts, more};
 use crate::packets::{Packets, draw_at};
@@ -24,13 +24,21 @@ pub(crate) struct Picture {
     pub(crate) counts: Counts,
 }
 
+/// A number between texts.
+#[tactic(auto, unfolding(crate::specs::Picture::between_texts))]
+fn put_between(out: &mut Vec<u8>, before: &str, number: u64, behind: &str) -> Result<(), AllocError>
+    ensures { OnOk result (out.new.items ≡ out.old.items ++ between_texts before.now number behind.now) }
+{
+    put_text(out, before)?;
+    put_decimal(out, number)?;
+    put_text(out, behind)
+}
+
 /// Tells of a wrong line, by its number.
 fn put_wrong(told: &mut Vec<u8>, number: u64) -> Result<(), AllocError>
     ensures { OnOk result (told.new.items ≡ told.old.items ++ wrong_line number) }
 {
-    put_text(told, "line ")?;
-    put_decimal(told, number)?;
-    put_text(told, ": not a log line\n")
+    put_between(told, "line ", number, ": not a log line\n")
 }
 
 fn draw_pair(out: &mut Vec<u8>, pair: Option<Pair>) -> Result<(), AllocError>
