@@ -10,8 +10,10 @@ use Rattle.port_relay.specs.Working.{receives_all, submits_all, relayed_to, IsFi
 -- was submitted are messages that the client may submit, so that nothing is submitted behind one that it may not
 pub record IsRelayed (to : Address) (limit : ℕ) (i j : InboxEnd) (c d : ClientEnd) (r : Relayed) : Type 0 where
   pub pushed : List Delivery
-  pub inbox : j ≡ receives_all i (pushed ++ r.left.items) j.spare
-  pub client : d ≡ submits_all c (map (relayed_to to) pushed) d.free
+  pub inbox : j ≡ receives_all i (pushed ++ r.left.items) j.gone j.spare
+  pub client : d ≡ submits_all c (map (relayed_to to) pushed) d.free d.gone
+  pub inbox_gone : i.gone ≤ j.gone
+  pub client_gone : c.gone ≤ d.gone
   pub count_pulled : r.pulled ≡ length (pushed ++ r.left.items)
   pub count_pushed : r.pushed ≡ length pushed
   pub within : r.pulled ≤ limit

@@ -12,5 +12,6 @@ returns-in-Ok-clause-pushed c start v h =
     let d = c.in-Some.delivery in
     subst (λ o. HasPushed c.args.to start new v record { count = c.args.worked.now.count + 1; hand = o }) (sym c.take.ensures.after)
     (submitted_one c.args.to start old new v d c.args.worked.now h (sym c.take.ensures.value ∙ c.in-Some.is)
-    (c.in-Ok.ensures.new ∙ ap (λ n. submits old c.args.to n d.bytes new.free) c.raw.ensures.value)
+    (c.in-Ok.ensures.new ∙ ap (λ n. submits old c.args.to n d.bytes new.free new.gone) c.raw.ensures.value)
+    c.submit.ensures.gone.0
     (ap (λ n. why_refused old.station c.args.to n (length d.bytes)) (sym c.raw.ensures.value) ∙ c.in-Ok.ensures.fit))
