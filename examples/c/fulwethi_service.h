@@ -25,8 +25,9 @@
  * are all owed, no message more is taken over. An inbox has 64 places. If it is full, a message from one node ends with the abort of its
  * connection (outcome ABORTED at the sender, reason 2), and a message to all is lost at this port. So inboxes are to be emptied.
  *
- * Memory: each message is kept three times for as long as the service lives (once as it was submitted, once in the record, once as it was
- * received), and so is each outcome. It comes from the three functions of examples/c/heap.c.
+ * Memory: each message is kept three times (once as it was submitted, once in the record, once as it was received), and so is each outcome,
+ * until a turn cuts the record at 900,000 calls. Then the service lets go of what is known to be read, and each client and inbox at its next
+ * call. It comes from the three functions of examples/c/heap.c.
  *
  * Units: as in fulwethi.h, of which this takes frames, counts, codes and outcomes. A program that calls nothing of fulwethi.h itself links
  * libfulwethi_service alone, static (.a) or shared (.so); both libraries can be linked into one program, each of them static or shared.

@@ -11,8 +11,8 @@ use Rattle.segment_rings.specs.Ends.{ClientEnd, InboxEnd}
 use Rattle.stored_calls.specs.declared.stored.Stored.{Stored}
 use Rattle.live_segment.specs.declared.report.ClientReport.{ClientReport}
 use Rattle.live_segment.specs.declared.report.InboxReport.{InboxReport}
-use Rattle.live_segment.specs.LiveView.{LiveView}
-use Rattle.live_segment.proofs.Uncut.{left_uncut}
+use Rattle.live_segment.specs.LiveView.{LiveView, Laws}
+use Rattle.live_segment.proofs.Uncut.{left_uncut, rest_uncut}
 use Rattle.live_segment.specs.Record.{accepted, given, notes_of, trail}
 use Rattle.live_segment.specs.Reports.{AreClientReports, AreInboxReports}
 use Rattle.live_segment.proofs.Prefixes.{prefix_length}
@@ -45,15 +45,15 @@ at_carried to limit i j c d e r left new_inbox new_client did same is_left =
 
 -- What is reported of the last inbox and the last client
 
-last_inbox : (v : LiveView) (is : List InboxEnd) (i : InboxEnd) (rs : List InboxReport) → AreInboxReports v (is ++ i ∷ []) rs → IsPrefix i.received (given i.port (trail v.addresses v.calls).events)
-last_inbox v [] i [] h = absurd h
-last_inbox v [] i (r ∷ rs) h = (r.rest.items, h.0.rest)
-last_inbox v (j ∷ is) i [] h = absurd h
-last_inbox v (j ∷ is) i (r ∷ rs) h = last_inbox v is i rs h.1
+last_inbox : (v : LiveView) (is : List InboxEnd) (i : InboxEnd) (rs : List InboxReport) → Laws v → v.pieces ≡ [] → AreInboxReports v (is ++ i ∷ []) rs → IsPrefix i.received (given i.port (trail v.addresses v.calls).events)
+last_inbox v [] i [] laws uncut h = absurd h
+last_inbox v [] i (r ∷ rs) laws uncut h = (r.rest.items, rest_uncut v i r.rest.items laws uncut h.0.rest)
+last_inbox v (j ∷ is) i [] laws uncut h = absurd h
+last_inbox v (j ∷ is) i (r ∷ rs) laws uncut h = last_inbox v is i rs laws uncut h.1
 
-pub at_inbox : (a : LiveView) (addresses : List Address) (calls : List Stored) (is js : List InboxEnd) (i : InboxEnd) (rs : List InboxReport) → addresses ≡ a.addresses → calls ≡ a.calls → AreInboxReports a js rs → js ≡ is ++ i ∷ [] → IsPrefix i.received (given i.port (trail addresses calls).events)
-at_inbox a addresses calls is js i rs at_addresses at_calls reports ends =
-    let first : IsPrefix i.received (given i.port (trail a.addresses a.calls).events) = last_inbox a is i rs (subst (λ (xs : List InboxEnd). AreInboxReports a xs rs) ends reports) in
+pub at_inbox : (a : LiveView) (addresses : List Address) (calls : List Stored) (is js : List InboxEnd) (i : InboxEnd) (rs : List InboxReport) → Laws a → a.pieces ≡ [] → addresses ≡ a.addresses → calls ≡ a.calls → AreInboxReports a js rs → js ≡ is ++ i ∷ [] → IsPrefix i.received (given i.port (trail addresses calls).events)
+at_inbox a addresses calls is js i rs laws uncut at_addresses at_calls reports ends =
+    let first : IsPrefix i.received (given i.port (trail a.addresses a.calls).events) = last_inbox a is i rs laws uncut (subst (λ (xs : List InboxEnd). AreInboxReports a xs rs) ends reports) in
     subst (λ (xs : List Address). IsPrefix i.received (given i.port (trail xs calls).events)) (sym at_addresses) (subst (λ (xs : List Stored). IsPrefix i.received (given i.port (trail a.addresses xs).events)) (sym at_calls) first)
 
 none_first : (r : ClientReport) (rs : List ClientReport) → none_left (r ∷ rs) ≡ true → r.left.items ≡ []

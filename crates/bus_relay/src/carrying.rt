@@ -73,6 +73,9 @@ impl Account {
 fn check_new(inbox: &Inbox, client: &Client) -> Result<(), Lost>
     ensures { OnOk result ((length inbox.now.received ≡ 0) × (length client.now.submitted ≡ 0)) }
 {
+    if inbox.gone() > 0 || client.submitted_gone() > 0 {
+        return Err(Lost::NotThisSegment);
+    }
     if inbox.received().len() > 0 {
         return Err(Lost::NotThisSegment);
     }

@@ -61,9 +61,15 @@ fn is_none_left(reports: &[ClientReport]) -> bool
 fn report_near(live: &mut Live, ends: Ends, inbox: Inbox) -> Result<(), Lost>
     ensures { OnOk result (IsPrefix inbox.received (given inbox.port (trail live.new.addresses live.new.calls).events)) }
 {
+    // A law, for the clause: the call does nothing.
+    live.laws();
     let Ends { clients, inboxes } = ends;
     let inboxes = with_last(inboxes, inbox)?;
     let told = report(live, clients, inboxes)?;
+    // Of a segment that was cut, nothing is told of what was given before and read.
+    if told.cuts > 0 {
+        return Err(Lost::NotThisSegment);
+    }
     drop(told);
     Ok(())
 }

@@ -1,4 +1,5 @@
 //! Threads on one segment, and what clients, ports and workers do on one thread.
+mod cuts;
 mod limits;
 mod pieces;
 mod steps;

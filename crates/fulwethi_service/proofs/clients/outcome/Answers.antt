@@ -9,5 +9,5 @@ returns c = λ x e.
     let s : c.in-Some.client ≡ x = same c.in-Some.client x (sym c.in-Some.is ∙ e) in (
       c.try_outcome.new.self,
       refl,
-      subst (λ (k : ClientEnd). IsNoteRead k c.try_outcome.new.self c.try_outcome.result) s (c.try_outcome.ensures.note, c.try_outcome.ensures.err),
+      subst (λ (k : ClientEnd). IsNoteRead k c.try_outcome.new.self c.try_outcome.result) s (c.try_outcome.ensures.note, c.try_outcome.ensures.gone.0, c.try_outcome.ensures.err),
     )
