@@ -2,8 +2,8 @@
 #![tactic(auto)]
 
 mod counts;
-mod packets;
 mod options;
+mod packets;
 mod picture;
 mod running;
 

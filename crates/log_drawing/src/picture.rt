@@ -3,8 +3,8 @@ ghost use Rattle.std.specs.Prelude.{◌≡◌, ◌++◌, OnOk};
 ghost use Rattle.log_drawing.specs.Picture.{between_texts, wrong_line, participants, beginning, first_picture, same_iface, is_elsewhere, is_ended, with_frame, frame_seen, shown_seen, form_with, seen_as, line_seen};
 
 use crate::counts::{Counts, more};
-use crate::packets::{Packets, draw_at};
 use crate::options::{Options, Pair};
+use crate::packets::{Packets, draw_at};
 use bus_frame::Frame;
 use frame_arrows::{draw_heading, draw_participants};
 use log_text::{Form, Iface, LogLine, form_of, read_line_as};

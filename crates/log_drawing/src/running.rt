@@ -7,8 +7,8 @@ ghost use Rattle.log_drawing.specs.Outcome.{log_limits, outcome, closed};
 ghost use Rattle.log_drawing.specs.Ending.{at_line, WrittenAs, Says, Stopped, Ended, status_of};
 
 use crate::counts::Counts;
-use crate::packets::draw_open;
 use crate::options::Options;
+use crate::packets::draw_open;
 use crate::picture::Picture;
 use line_runs::{Limits, next_line};
 use script_commands::{Cause, Fault, ScriptFault};
@@ -32,7 +32,13 @@ impl Drawn {
         ensures { result ≡ status_of self.now }
     {
         match self.fault {
-            None => { if self.counts.wrong == 0 && self.counts.drawn != 0 { 0 } else { 1 } }
+            None => {
+                if self.counts.wrong == 0 && self.counts.drawn != 0 {
+                    0
+                } else {
+                    1
+                }
+            }
             Some(_) => 1,
         }
     }

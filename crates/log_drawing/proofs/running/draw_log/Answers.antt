@@ -1,4 +1,4 @@
-use Rattle.std.proofs.Common.{refl, sym, ◌∙◌, true, false, Ok, Err}
+use Rattle.std.proofs.Common.{refl, sym, ◌∙◌, true, false, Err}
 use Rattle.log_drawing.specs.Picture.{line_seen}
 use Rattle.log_drawing.proofs.RunSteps.{ended_all, at_end, at_no_line, at_failure, at_write, at_next, at_wrong, reads, reads_as, was_seen}
 use Rattle.log_drawing.proofs.running.draw_log.Goals as goal
@@ -29,7 +29,7 @@ returns-in_default-tell_both g c =
     let rc = g.R.Read.remaining c.next_line.new.reader in
     let read = reads_as _ c.lines.number c.in-Ok-true.field-0 true line rb rc c.log_limits-limits.ensures c.in-Ok-true.field-0-test c.in-Ok-true.ensures.read in
     let seen = was_seen (line_seen c.args.options.now c.lines.picture c.lines.number line) c.take_line.new.self c.take_line.new.out.items c.take_line.new.told.items
-        (rw c.as_slice.ensures.value at c.in-Ok.ensures.left) (rw c.clear.ensures.items at (rw c.as_slice.ensures.value at c.in-Ok.ensures.text)) (rw c.clear-in-lines.ensures.items at (rw c.as_slice.ensures.value at c.in-Ok.ensures.errors)) in
+    (rw c.as_slice.ensures.value at c.in-Ok.ensures.left) (rw c.clear.ensures.items at (rw c.as_slice.ensures.value at c.in-Ok.ensures.text)) (rw c.clear-in-lines.ensures.items at (rw c.as_slice.ensures.value at c.in-Ok.ensures.errors)) in
     rw c.failed-in_default-tell_both.ensures (ended_all _ _ rb _ _ _ _ _ _ _ _ _ c.lines.invariant
     (at_write _ rb rc line _ _ _ _ _ _ _ _ read seen refl (rw c.as_slice-in-lines.ensures.value at c.in_default-tell_both.ensures.text) (rw c.as_slice-in-lines-2.ensures.value at c.in_default-tell_both.ensures.errors)))
 
@@ -40,7 +40,7 @@ returns-then-is_ended g c =
     let rc = g.R.Read.remaining c.next_line.new.reader in
     let read = reads_as _ c.lines.number c.in-Ok-true.field-0 true line rb rc c.log_limits-limits.ensures c.in-Ok-true.field-0-test c.in-Ok-true.ensures.read in
     let seen = was_seen (line_seen c.args.options.now c.lines.picture c.lines.number line) c.take_line.new.self c.take_line.new.out.items c.take_line.new.told.items
-        (rw c.as_slice.ensures.value at c.in-Ok.ensures.left) (rw c.clear.ensures.items at (rw c.as_slice.ensures.value at c.in-Ok.ensures.text)) (rw c.clear-in-lines.ensures.items at (rw c.as_slice.ensures.value at c.in-Ok.ensures.errors)) in
+    (rw c.as_slice.ensures.value at c.in-Ok.ensures.left) (rw c.clear.ensures.items at (rw c.as_slice.ensures.value at c.in-Ok.ensures.text)) (rw c.clear-in-lines.ensures.items at (rw c.as_slice.ensures.value at c.in-Ok.ensures.errors)) in
     ended_all _ _ rb _ _ _ _ _ _ _ _ _ c.lines.invariant
     (at_wrong _ rb rc line _ _ _ _ _ _ _ _ _ read seen (sym c.is_ended.ensures ∙ c.if-is_ended.true) (rw c.as_slice-in-lines.ensures.value at c.in-Ok-tell_both.ensures.text) (rw c.as_slice-in-lines-2.ensures.value at c.in-Ok-tell_both.ensures.errors)
     c.end_run-then-is_ended.ensures.text c.end_run-then-is_ended.ensures.told)
@@ -52,6 +52,6 @@ lines-preserved g c =
     let rc = g.R.Read.remaining c.next_line.new.reader in
     let read = reads_as _ c.lines.number c.in-Ok-true.field-0 true line rb rc c.log_limits-limits.ensures c.in-Ok-true.field-0-test c.in-Ok-true.ensures.read in
     let seen = was_seen (line_seen c.args.options.now c.lines.picture c.lines.number line) c.take_line.new.self c.take_line.new.out.items c.take_line.new.told.items
-        (rw c.as_slice.ensures.value at c.in-Ok.ensures.left) (rw c.clear.ensures.items at (rw c.as_slice.ensures.value at c.in-Ok.ensures.text)) (rw c.clear-in-lines.ensures.items at (rw c.as_slice.ensures.value at c.in-Ok.ensures.errors)) in
+    (rw c.as_slice.ensures.value at c.in-Ok.ensures.left) (rw c.clear.ensures.items at (rw c.as_slice.ensures.value at c.in-Ok.ensures.text)) (rw c.clear-in-lines.ensures.items at (rw c.as_slice.ensures.value at c.in-Ok.ensures.errors)) in
     at_next _ _ rb rc line _ _ _ _ _ _ _ _ _ c.lines.invariant read seen (sym c.is_ended.ensures ∙ c.if-is_ended.false)
     (rw c.as_slice-in-lines.ensures.value at c.in-Ok-tell_both.ensures.text) (rw c.as_slice-in-lines-2.ensures.value at c.in-Ok-tell_both.ensures.errors)
