@@ -12,7 +12,7 @@ use Rattle.line_runs.specs.Limits.{above, IsAbove, Read}
 use Rattle.line_runs.specs.declared.limits.Limits.{Limits}
 use Rattle.log_drawing.specs.Packets.{closing}
 use Rattle.log_drawing.specs.Picture.{Step, is_ended, line_seen}
-use Rattle.log_drawing.specs.Outcome.{Outcome, log_limits, closed, told, then_rest, by_limits, outcome_from, outcome}
+use Rattle.log_drawing.specs.Outcome.{Outcome, log_limits, closed, told, then_rest, outcome_from, outcome}
 use Rattle.log_drawing.specs.Ending.{is_of_log, WrittenBy, WrittenAs, SaysBy, Says, Stopped, Ended}
 use Rattle.log_drawing.specs.declared.options.Options.{Options}
 use Rattle.log_drawing.specs.declared.picture.Picture.{Picture}

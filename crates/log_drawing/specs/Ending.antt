@@ -8,7 +8,6 @@ use Rattle.script_commands.specs.declared.ending.ScriptFault.{ScriptFault}
 use Rattle.script_commands.specs.declared.fault.Fault.{Fault}
 use Rattle.log_drawing.specs.Packets.{closing}
 use Rattle.log_drawing.specs.Outcome.{Outcome, closed}
-use Rattle.log_drawing.specs.declared.counts.Counts.{Counts}
 use Rattle.log_drawing.specs.declared.picture.Picture.{Picture}
 use Rattle.log_drawing.specs.declared.running.Drawn.{Drawn}
 

@@ -1,6 +1,6 @@
 -- Arrows with times: packets from one source to one destination whose numbers follow on one another have one arrow, with the times of the first and
 -- of the last.
-use Rattle.std.specs.Prelude.{ℕ, List, [], ◌++◌, codes, Bool, ◌==◌, if◌then◌else◌, Option, Some, None, unwrap_or}
+use Rattle.std.specs.Prelude.{ℕ, List, [], ◌++◌, codes, ◌==◌, if◌then◌else◌, Option, Some, None, unwrap_or}
 use Rattle.bus_frame.specs.Frames.{CanFrame}
 use Rattle.pgn_ids.specs.Identifier.{meaning_of}
 use Rattle.frame_arrows.specs.Words.{packet_words, meaning_words, arrow_line}

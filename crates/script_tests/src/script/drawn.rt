@@ -40,7 +40,8 @@ const LOG: &str = "(1.000000) can0 1CECFF21#20090002FFCAFE00\n\
 (1.010000) can0 1CEBFF2\n\
 (1.050000) can0 1CEBFF21#0101020304050607\n";
 
-const ANNOUNCED: &str = "sequenceDiagram\n  21->>all: (0000000001.000000) BAM 9 bytes in 2 packets\n";
+const ANNOUNCED: &str =
+    "sequenceDiagram\n  21->>all: (0000000001.000000) BAM 9 bytes in 2 packets\n";
 
 /// A log, of which each frame is drawn.
 fn draw<R: BufRead, W: Write, E: Write>(
@@ -68,9 +69,7 @@ fn a_write_that_fails_ends_the_drawing_of_a_log(rt: HostRuntime) {
     let drawn = draw(alloc, &mut reader, &mut Full {}, &mut told);
     holds(
         &rt,
-        drawn
-            .fault
-            .is_some_and(|fault| fault.line == 1 && fault.cause == Cause::WriteFailed),
+        drawn.fault.is_some_and(|fault| fault.line == 1 && fault.cause == Cause::WriteFailed),
     );
     same(&rt, drawn.status(), 1);
     holds(&rt, told.is_empty());
@@ -84,9 +83,7 @@ fn a_wrong_line_that_cannot_be_told_ends_the_drawing_of_a_log(rt: HostRuntime) {
     let drawn = draw(alloc, &mut reader, &mut text, &mut Full {});
     holds(
         &rt,
-        drawn
-            .fault
-            .is_some_and(|fault| fault.line == 2 && fault.cause == Cause::WriteFailed),
+        drawn.fault.is_some_and(|fault| fault.line == 2 && fault.cause == Cause::WriteFailed),
     );
     holds(&rt, text.as_slice() == ANNOUNCED.as_bytes());
 }
@@ -102,10 +99,11 @@ fn a_read_that_fails_leaves_out_the_packets_before_it(rt: HostRuntime) {
     let drawn = draw(alloc, &mut reader, &mut text, &mut told);
     holds(
         &rt,
-        drawn
-            .fault
-            .is_some_and(|fault| fault.line == 4 && fault.cause == Cause::ReadFailed),
+        drawn.fault.is_some_and(|fault| fault.line == 4 && fault.cause == Cause::ReadFailed),
     );
     holds(&rt, text.as_slice() == ANNOUNCED.as_bytes());
-    holds(&rt, told.as_slice() == "line 2: not a log line\n".as_bytes());
+    holds(
+        &rt,
+        told.as_slice() == "line 2: not a log line\n".as_bytes(),
+    );
 }

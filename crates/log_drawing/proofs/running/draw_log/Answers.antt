@@ -1,4 +1,4 @@
-use Rattle.std.proofs.Common.{refl, sym, ◌∙◌, true, false, Ok, Err}
+use Rattle.std.proofs.Common.{refl, sym, ◌∙◌, true, false, Err}
 use Rattle.log_drawing.specs.Picture.{line_seen}
 use Rattle.log_drawing.proofs.RunSteps.{ended_all, at_end, at_no_line, at_failure, at_write, at_next, at_wrong, reads, reads_as, was_seen}
 use Rattle.log_drawing.proofs.running.draw_log.Goals as goal

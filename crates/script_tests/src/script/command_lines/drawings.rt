@@ -64,7 +64,15 @@ fn pairs_and_times_that_are_none_are_refused(rt: HostRuntime) {
     for word in ["21", "21-", "21-100", "+21-35", "21-35-90"] {
         refuses(&rt, alloc, "--pair", word);
     }
-    for word in ["", ".5", "1.", "1.0000001", "+1", "1.+1", "18446744073709.551616"] {
+    for word in [
+        "",
+        ".5",
+        "1.",
+        "1.0000001",
+        "+1",
+        "1.+1",
+        "18446744073709.551616",
+    ] {
         refuses(&rt, alloc, "--from", word);
     }
     let words = ["j1939bus", "draw", "--pair", "21-35"];
