@@ -10,7 +10,13 @@ fn cut(rt: &impl Abort, live: &mut Live) {
 }
 
 // How many of the first deliveries to a port, and of the first notes of the first client, the segment keeps no more, and how many it keeps.
-fn live_keeps(rt: &impl Abort, live: &Live, port: PortId, given: (u64, usize), notes: (u64, usize)) {
+fn live_keeps(
+    rt: &impl Abort,
+    live: &Live,
+    port: PortId,
+    given: (u64, usize),
+    notes: (u64, usize),
+) {
     same(rt, live.given_gone(port), Some(given.0));
     same(rt, live.given_to(port).map(<[_]>::len), Some(given.1));
     same(rt, live.notes_gone(0), Some(notes.0));
