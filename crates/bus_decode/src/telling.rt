@@ -5,7 +5,7 @@ ghost use Rattle.log_lines.specs.Text.{told_line};
 ghost use Rattle.summary_lines.specs.Json.{row_objects};
 ghost use Rattle.summary_lines.specs.Table.{table_text};
 ghost use Rattle.bus_decode.specs.Followed.{after_each, left_followed, heard_followed};
-ghost use Rattle.bus_decode.specs.Telling.{in_words, words_told, message_text, shown_text, followed_text, plain_line, plain_text, told_text, summary_text, single_text, wrong_text};
+ghost use Rattle.bus_decode.specs.Telling.{in_words, words_told, message_text, shown_text, followed_text, plain_line, plain_text, told_text, summary_text, frame_text, single_text, wrong_text};
 
 use crate::followed::{Followed, sum_up};
 use crate::options::Options;
@@ -214,6 +214,40 @@ pub(crate) fn tell_summary(
     Ok(())
 }
 
+/// A frame that carries nothing of a message, with what its bytes mean in words.
+fn put_frame(
+    out: &mut Vec<u8>,
+    now: u64,
+    iface: &Iface,
+    options: &Options,
+    words: &[Line],
+    frame: &Frame,
+) -> Result<(), AllocError>
+    ensures { OnOk result (out.new.items ≡ out.old.items ++ frame_text now iface.now options.now frame.now words.now) }
+{
+    if options.json {
+        return put_single_object(out, now, *iface, words, frame);
+    }
+    put_single(out, now, iface, frame)?;
+    put_explained(out, words)
+}
+
+/// The same, with the words of a PGN.
+fn put_in_words(
+    alloc: Global,
+    out: &mut Vec<u8>,
+    now: u64,
+    iface: &Iface,
+    options: &Options,
+    pgn: Pgn,
+    frame: &Frame,
+) -> Result<(), AllocError>
+    ensures { OnOk result (out.new.items ≡ out.old.items ++ frame_text now iface.now options.now frame.now (in_words options.now pgn frame.now.bytes)) }
+{
+    let words = in_words(alloc, options, pgn, frame.bytes())?;
+    put_frame(out, now, iface, options, words.as_slice(), frame)
+}
+
 /// A frame that carries nothing of a message, where it is asked for.
 pub(crate) fn tell_single(
     alloc: Global,
@@ -226,17 +260,12 @@ pub(crate) fn tell_single(
     ensures { OnOk result (out.new.items ≡ out.old.items ++ single_text now iface.now options.now frame.now) }
 {
     let meaning = read_id(frame.id());
-    if !options.ask_for_single(meaning.pgn)
-        || !options.ask_for(meaning.from, meaning.to, meaning.pgn)
+    if options.ask_for_single(meaning.pgn)
+        && options.ask_for(meaning.from, meaning.to, meaning.pgn)
     {
-        return Ok(());
+        return put_in_words(alloc, out, now, iface, options, meaning.pgn, frame);
     }
-    let words = in_words(alloc, options, meaning.pgn, frame.bytes())?;
-    if options.json {
-        return put_single_object(out, now, *iface, words.as_slice(), frame);
-    }
-    put_single(out, now, iface, frame)?;
-    put_explained(out, words.as_slice())
+    Ok(())
 }
 
 /// A wrong line, by its number.
