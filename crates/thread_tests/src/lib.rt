@@ -1,5 +1,4 @@
-//! Tests of what threads share: the ends of rings, and a segment under its lock (`thread`), of the gateway between two segments (`relay`), and of
-//! scripts run by threads (`live`).
+//! Tests of the gateway between two segments (`relay`), and of scripts run by threads (`live`).
 #![tactic(auto)]
 
 #[cfg(test)]
@@ -10,5 +9,3 @@ mod live;
 mod messages;
 #[cfg(test)]
 mod relay;
-#[cfg(test)]
-mod thread;

@@ -1,7 +1,7 @@
 //! Workers that go by a clock, and sleep while nothing is to do.
 use super::{A, Open, R, told, two};
+use crate::calls::*;
 use crate::checks::{got, holds, same};
-use crate::thread::calls::*;
 use bus_frame::{CanId, Frame};
 use pgn_ids::Address;
 use segment_shared::{

@@ -1,8 +1,8 @@
 //! Both ends of each ring on one thread: each call on its happy path, full and empty rings, and places that are free again.
 ghost use Rattle.std.specs.Prelude.{◌≡◌};
 
+use crate::calls::*;
 use crate::checks::{got, holds, same};
-use crate::thread::calls::*;
 use message_events::Bytes;
 use pgn_ids::Address;
 use port_table::PortId;

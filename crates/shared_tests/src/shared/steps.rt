@@ -1,6 +1,6 @@
 //! Single steps of tests: each ends the test where memory is refused, or where it isn't answered as it is meant to be.
+pub(super) use crate::calls::*;
 pub(super) use crate::checks::{got, holds, same};
-pub(super) use crate::thread::calls::*;
 use pgn_ids::Address;
 use segment_shared::{
     Accepted, Client, Closed, Inbox, Live, NotMade, Note, PortKept, Refusal, Reply, Report,
