@@ -1,7 +1,6 @@
 //! Threads on one segment, and what clients, ports and workers do on one thread.
 mod cuts;
 mod limits;
-mod memory;
 mod pieces;
 mod steps;
 mod threads;
