@@ -1,4 +1,5 @@
-/* A station of J1939 behind a raw CAN socket.
+/* A station of J1939 behind a raw CAN socket, as the smallest program to copy. It waits for standard output, and ends with its interface: what
+ * is to run for long is examples/daemon.
  *
  *   socketcan INTERFACE ADDRESS PGN      (numbers in hexadecimal)
  *
@@ -313,9 +314,10 @@ static int is_between(const struct station *at, uint64_t now) {
  * be tried again, the node's next frame has to wait too, so only its timers count. */
 static int pause_for(struct station *at, uint64_t now) {
     uint64_t next;
-    int pause = has_failed(at) ? RETRY : -1;
-    uint32_t code = has_failed(at) || at->outstanding ? fulwethi_next_due_at(&at->node, &next) : fulwethi_next_at(&at->node, &next);
-    if (code == FULWETHI_DONE) pause = until(pause, now, next);
+    int waits = has_failed(at) || at->outstanding, pause = has_failed(at) ? RETRY : -1;
+    uint32_t code = waits ? fulwethi_next_due_at(&at->node, &next) : fulwethi_next_at(&at->node, &next);
+    /* A timer that is due and didn't fire wants a place in the node's queue. */
+    if (code == FULWETHI_DONE) pause = until(pause, now, waits && next <= now ? now + RETRY : next);
     if (is_between(at, now)) return until(pause, now, at->put_at + GAP);
     if (at->is_lost) return until(pause, now, at->lost_at + ECHO_WAIT);
     return at->outstanding ? until(pause, now, at->put_at + ECHO_LOST) : pause;

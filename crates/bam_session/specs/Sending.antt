@@ -1,10 +1,11 @@
 -- How a broadcast message is sent (SAE J1939-21, broadcast announce message), row by row.
-use Rattle.std.specs.Prelude.{ℕ, Bool, not, ◌&&◌, ◌==◌, if◌then◌else◌, List}
+use Rattle.std.specs.Prelude.{ℕ, not, ◌==◌, if◌then◌else◌, List, Option, Some, None}
 use Rattle.bus_frame.specs.Frames.{CanFrame}
 use Rattle.seg_cut.specs.Packets.{packet_count}
 use Rattle.tick_timers.specs.Timers.{is_due, missing as missing_of_timer}
 use Rattle.bam_session.specs.States.{Outgoing, first, with_next}
 use Rattle.bam_session.specs.Frames.{announcement, next_packet}
+use Rattle.bam_session.specs.declared.outgoing.BamPacket.{BamPacket}
 use Rattle.bam_session.specs.declared.outgoing.BamPumped.{BamPumped}
 use Rattle.bam_session.specs.declared.outgoing.BamPumped.TheVariants.{On, Last, NotYet}
 
@@ -19,9 +20,10 @@ pumped s bytes now =
     else if s.next == packet_count s.len then Last (next_packet s bytes)
     else On (with_next s now) (next_packet s bytes)
 
--- a pump that goes on where the state stands: its packet is due, and not the last
-abbrev pub pumps_quietly : Outgoing → (now : ℕ) → Bool
-pumps_quietly s now = is_due s.gap now && not (s.next == packet_count s.len)
+-- where a packet leads that is queued, if one is
+abbrev pub led : Option BamPacket → Outgoing → BamPumped
+led None s = NotYet s
+led (Some packet) s = if packet.is_last then Last packet.frame else On s packet.frame
 
 -- how many ticks its gap still has to last
 abbrev pub missing : Outgoing → (now : ℕ) → ℕ

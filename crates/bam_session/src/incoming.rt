@@ -1,12 +1,13 @@
 //! Receiving from one that sends to all.
-ghost use Rattle.std.specs.Prelude.{◌≡◌, ◌<◌, ◌≤◌, true, false};
-ghost use Rattle.std.specs.Bool.{OnTrue, OnFalse};
+ghost use Rattle.std.specs.Prelude.{◌≡◌, ℕ, ◌<◌, ◌≤◌, true, length};
 ghost use Rattle.seg_cut.specs.Packets.{packet_count};
 ghost use Rattle.seg_cut.specs.Join.{IsJoin, joined, wants_last as wants_last_at};
 ghost use Rattle.tick_timers.specs.Timers.{is_due as is_due_at};
 ghost use Rattle.tp_wire.specs.Heard.{meant};
-ghost use Rattle.bam_session.specs.States.{is_size, announced, accepted};
-ghost use Rattle.bam_session.specs.Receiving.{Awaits, received, stepped, is_quiet, completes as completes_at};
+ghost use Rattle.tp_wire.specs.declared.wire.Kind.TheVariants.{Tp};
+ghost use Rattle.tp_wire.specs.declared.wire.Wire.TheVariants.{Packet};
+ghost use Rattle.bam_session.specs.States.{is_size, announced};
+ghost use Rattle.bam_session.specs.Receiving.{Completes, stepped, completes as completes_at, Leads};
 ghost use Rattle.bam_session.specs.Shown.{shown};
 
 mod image;
@@ -38,6 +39,17 @@ impl Model for BamIn {
     ghost invariant = { IsUnfinished };
 }
 
+/// What a frame leaves to do. With any answer but `Nothing` nothing has changed yet.
+#[derive(Clone, Copy, Debug, PartialEq, Eq)]
+pub enum BamLeft {
+    /// Further packets are awaited.
+    Nothing,
+    /// The frame completes the message: `complete` ends the receiver with it.
+    Message,
+    /// The packet is out of order: the message is to be dropped, by `close`.
+    Dropped,
+}
+
 /// Where a packet leads.
 pub enum BamStepped {
     /// Further packets are awaited.
@@ -67,9 +79,25 @@ impl BamIn {
         }
     }
 
-    /// Takes a frame of its source to all at tick `now` (SAE J1939-21, TP.DT): one that is no packet of this
-    /// transport, or a packet that has come already, changes nothing, and one out of order drops the message.
-    pub fn step(self, wire: &Wire, now: u64) -> BamStepped
+    /// Takes a frame of its source to all where it stands, at tick `now` (SAE J1939-21, TP.DT): one that is no packet of this
+    /// transport, or a packet that has come already, changes nothing, and one out of order is to drop the message.
+    #[inline(always)]
+    pub fn take(&mut self, heard: &Heard<'_>, now: u64) -> BamLeft
+        ensures { Leads self.old (meant heard.now) now result self.new }
+    {
+        let Heard::Packet {
+            kind: Kind::Tp,
+            sequence,
+            bytes,
+        } = heard
+        else {
+            return BamLeft::Nothing;
+        };
+        self.take_packet(*sequence, bytes, now)
+    }
+
+    /// The same by value: where the frame leads.
+    pub fn step(mut self, wire: &Wire, now: u64) -> BamStepped
         ensures { shown result ≡ stepped self wire.now now }
     {
         let Wire::Packet {
@@ -80,74 +108,42 @@ impl BamIn {
         else {
             return BamStepped::On(self);
         };
-        self.take(*sequence, *bytes, now)
+        match self.take_packet(*sequence, bytes, now) {
+            BamLeft::Nothing => BamStepped::On(self),
+            BamLeft::Message => BamStepped::Complete(self.complete(bytes)),
+            BamLeft::Dropped => {
+                self.end();
+                BamStepped::Dropped
+            }
+        }
     }
 
-    /// Takes the next packet where the state stands, at tick `now`, if it isn't the last of the message (SAE J1939-21,
-    /// TP.DT): a step that ends nothing. Any other frame is left to `step`, and changes nothing.
-    #[inline]
-    pub fn take_in_place(&mut self, heard: &Heard<'_>, now: u64) -> bool
-        ensures value { result ≡ is_quiet self.old (meant heard.now) }
-        ensures step { OnTrue result (stepped self.old (meant heard.now) now ≡ Awaits self.new) }
-        ensures other { OnFalse result (self.new ≡ self.old) }
+    // Takes a packet, by the first row of the table that fits.
+    #[inline(always)]
+    fn take_packet(&mut self, sequence: u8, packet: &[u8; 7], now: u64) -> BamLeft
+        ensures { Leads self.old (Packet Tp sequence packet.now) now result self.new }
     {
-        let Heard::Packet {
-            kind: Kind::Tp,
-            sequence,
-            bytes,
-        } = heard
-        else {
-            return false;
-        };
-        if u32::from(*sequence) != self.join.next() || self.join.wants_last() {
-            return false;
+        let (number, next) = (u32::from(sequence), self.join.next());
+        if number < next {
+            return BamLeft::Nothing;
         }
-        self.put(bytes, now);
-        true
-    }
-
-    /// Takes a packet, by the first row of the table that fits.
-    fn take(self, sequence: u8, packet: [u8; 7], now: u64) -> BamStepped
-        ensures { shown result ≡ received self sequence packet now }
-    {
-        let number = u32::from(sequence);
-        if number < self.join.next() {
-            return BamStepped::On(self);
+        if number > next {
+            return BamLeft::Dropped;
         }
-        if number > self.join.next() {
-            self.end();
-            return BamStepped::Dropped;
+        if self.join.wants_last() {
+            return BamLeft::Message;
         }
-        if !self.join.wants_last() {
-            return BamStepped::On(self.accept(packet, now));
-        }
-        BamStepped::Complete(self.complete(packet))
-    }
-
-    /// Goes on with its next packet, which is not the last.
-    #[inline]
-    fn accept(mut self, packet: [u8; 7], now: u64) -> BamIn
-        requires { wants_last_at self.join ≡ false }
-        ensures { result ≡ accepted self packet now }
-    {
-        self.put(&packet, now);
-        self
-    }
-
-    /// Puts its next packet, which is not the last.
-    #[inline]
-    fn put(&mut self, packet: &[u8; 7], now: u64)
-        requires { wants_last_at self.old.join ≡ false }
-        ensures { self.new ≡ accepted self.old packet.now now }
-    {
         self.join.put_inner(packet);
         self.timer = Timer::start(now, T1);
+        BamLeft::Nothing
     }
 
-    /// Ends with its last packet: the bytes of the message.
-    fn complete(self, packet: [u8; 7]) -> Vec<u8>
+    /// The last packet comes, which `take` left: the bytes of the message, as many as were announced.
+    pub fn complete(self, packet: &[u8; 7]) -> Vec<u8>
         requires { wants_last_at self.join ≡ true }
-        ensures { result.items ≡ (joined self.join packet).bytes }
+        ensures value { result.items ≡ (joined self.join packet.now).bytes }
+        ensures step { (sequence : ℕ) (now : ℕ) → completes_at self (Packet Tp sequence packet.now) ≡ true → stepped self (Packet Tp sequence packet.now) now ≡ Completes result.items }
+        ensures size { length result.items ≡ self.join.size }
     {
         let BamIn {
             from: _,
@@ -155,7 +151,7 @@ impl BamIn {
             mut join,
             timer: _,
         } = self;
-        join.put_last(&packet);
+        join.put_last(packet);
         match join.finish() {
             Ok(bytes) => bytes,
             Err(_) => unreachable!(),

@@ -10,6 +10,6 @@ mod outgoing;
 mod outgoing_image;
 mod spending;
 
-pub use incoming::{BamIn, BamInImage, BamStepped};
-pub use outgoing::{BamOut, BamPumped};
+pub use incoming::{BamIn, BamInImage, BamLeft, BamStepped};
+pub use outgoing::{BamOut, BamPacket, BamPumped};
 pub use outgoing_image::BamOutImage;

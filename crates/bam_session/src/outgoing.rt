@@ -1,15 +1,12 @@
 //! Sending to all.
-ghost use Rattle.std.specs.Prelude.{◌≡◌, ◌≢◌, ◌+◌, ◌<◌, ◌≤◌, length, true};
-ghost use Rattle.std.specs.Bool.{OnTrue, OnFalse};
+ghost use Rattle.std.specs.Prelude.{◌≡◌, ◌+◌, ◌≤◌, ◌==◌, length, true};
 ghost use Rattle.pgn_ids.specs.Address.{is_one};
 ghost use Rattle.seg_cut.specs.Packets.{packet_count};
 ghost use Rattle.tick_timers.specs.Due.{IsDueFrom};
 ghost use Rattle.tick_timers.specs.Timers.{is_due as is_due_at};
-ghost use Rattle.bam_session.specs.States.{is_size, with_next};
+ghost use Rattle.bam_session.specs.States.{is_size};
 ghost use Rattle.bam_session.specs.Frames.{announcement, next_packet};
-ghost use Rattle.tx_queue.specs.Queue.{queue_limit, queued};
-ghost use Rattle.bam_session.specs.Sending.{begun, pumped, pumps_quietly, missing as missing_of};
-ghost use Rattle.bam_session.specs.declared.outgoing.BamPumped.TheVariants.{On};
+ghost use Rattle.bam_session.specs.Sending.{begun, pumped, led, missing as missing_of};
 
 use bus_frame::Frame;
 use pgn_ids::{Address, Pgn};
@@ -17,7 +14,6 @@ use seg_cut::{packet, packets};
 use std::marker::Model;
 use tick_timers::{BROADCAST_GAP, Timer};
 use tp_wire::{CmFrame, Kind, Wire, write};
-use tx_queue::TxQueue;
 
 /// A message to all whose packets are being queued. It must be spent.
 pub struct BamOut {
@@ -37,6 +33,13 @@ impl Model for BamOut {
     ghost view = { outgoing_value };
 
     ghost invariant = { IsSending };
+}
+
+/// A packet of a message to all, which is to be queued, and whether it is the last.
+#[derive(Clone, Copy, Debug, PartialEq, Eq)]
+pub struct BamPacket {
+    pub frame: Frame,
+    pub is_last: bool,
 }
 
 /// Where a pump leads.
@@ -66,43 +69,40 @@ impl BamOut {
         (state, announce(from, pgn, len))
     }
 
-    /// Queues the next packet at tick `now`, where at least 50 ticks have passed since the last queued frame of the
-    /// message, whose bytes are handed in.
-    pub fn pump(self, bytes: &[u8], now: u64) -> BamPumped
+    /// Gives the next packet at tick `now`, which is to be queued, where at least 50 ticks have passed since the last queued
+    /// frame of the message, whose bytes are handed in. None where they have not, and then nothing changes. Behind the last
+    /// packet there is nothing left to do but `cancel`.
+    #[inline]
+    pub fn take_packet(&mut self, bytes: &[u8], now: u64) -> Option<BamPacket>
+        requires { length bytes.now ≡ self.old.len }
+        ensures step { pumped self.old bytes.now now ≡ led result self.new }
+        ensures len { self.new.len ≡ self.old.len }
+    {
+        if !self.is_due(now) {
+            return None;
+        }
+        let frame = self.packet_frame(bytes);
+        let is_last = u32::from(self.next) == packets(self.len);
+        if !is_last {
+            self.next += 1;
+            self.gap = Timer::start(now, BROADCAST_GAP);
+        }
+        Some(BamPacket { frame, is_last })
+    }
+
+    /// The same, by value.
+    pub fn pump(mut self, bytes: &[u8], now: u64) -> BamPumped
         requires { length bytes.now ≡ self.len }
         ensures { result ≡ pumped self bytes.now now }
     {
-        if !self.is_due(now) {
+        let Some(packet) = self.take_packet(bytes, now) else {
             return BamPumped::NotYet(self);
-        }
-        let frame = self.packet_frame(bytes);
-        if u32::from(self.next) == packets(self.len) {
+        };
+        if packet.is_last {
             self.cancel();
-            return BamPumped::Last(frame);
+            return BamPumped::Last(packet.frame);
         }
-        BamPumped::On(self.go_on(now), frame)
-    }
-
-    /// Queues the next packet behind the frames of a queue at tick `now`, where at least 50 ticks have passed since the last
-    /// queued frame of the message and the packet isn't the last: a pump that ends nothing. Any other is left to `pump`, and
-    /// changes nothing.
-    #[inline]
-    pub fn pump_in_place(&mut self, bytes: &[u8], now: u64, queue: &mut TxQueue) -> bool
-        requires message { length bytes.now ≡ self.old.len }
-        requires place { length queue.old < queue_limit }
-        ensures value { result ≡ pumps_quietly self.old now }
-        ensures step { OnTrue result (pumped self.old bytes.now now ≡ On self.new (next_packet self.old bytes.now)) }
-        ensures queued { OnTrue result (queue.new ≡ queued queue.old (next_packet self.old bytes.now)) }
-        ensures other { OnFalse result (self.new ≡ self.old) }
-        ensures kept { OnFalse result (queue.new ≡ queue.old) }
-    {
-        if !self.is_due(now) || u32::from(self.next) == packets(self.len) {
-            return false;
-        }
-        queue.push_free(self.packet_frame(bytes));
-        self.next += 1;
-        self.gap = Timer::start(now, BROADCAST_GAP);
-        true
+        BamPumped::On(self, packet.frame)
     }
 
     /// Whether the 50 ticks since its last queued frame have passed at tick `now`.
@@ -138,16 +138,6 @@ impl BamOut {
             bytes: packet(bytes, u32::from(self.next)),
         };
         write(wire, self.from, Address::GLOBAL)
-    }
-
-    /// Its next packet, which is not the last, is queued.
-    fn go_on(mut self, now: u64) -> BamOut
-        requires { self.next ≢ packet_count self.len }
-        ensures { result ≡ with_next self now }
-    {
-        self.next += 1;
-        self.gap = Timer::start(now, BROADCAST_GAP);
-        self
     }
 
     /// Ends it without a frame.

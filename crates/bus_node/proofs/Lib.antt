@@ -5,3 +5,4 @@ pub mod LinesTold
 pub mod EventsTold
 pub mod Stations
 pub mod Replies
+pub mod Ends

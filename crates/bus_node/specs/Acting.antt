@@ -1,7 +1,6 @@
 -- What a line does.
-use Rattle.std.specs.Prelude.{◌≡◌, ℕ, if◌then◌else◌, List, ◌++◌, Option, Some, None, Result, Ok, Err, codes}
+use Rattle.std.specs.Prelude.{◌≡◌, ℕ, if◌then◌else◌, List, [], ◌++◌, Option, Some, None, Result, Ok, Err, codes}
 use Rattle.std.specs.Fmt.{decimal}
-use Rattle.script_commands.specs.Values.{◌>>=◌}
 use Rattle.script_commands.specs.declared.fault.Fault.{Fault}
 use Rattle.script_commands.specs.declared.fault.LineError.{LineError}
 use Rattle.script_commands.specs.declared.fault.LineError.TheVariants as errors
@@ -17,7 +16,9 @@ use Rattle.node_lines.specs.declared.line.NodeLine.TheVariants.{Passed, Frame, N
 use Rattle.node_lines.specs.declared.command.NodeCommand.{NodeCommand}
 use Rattle.node_lines.specs.declared.command.NodeCommand.TheVariants.{Send, Open, Close, Pause, Resume, Cancel, Missed, Counts, State, Refused}
 use Rattle.bus_node.specs.Stations.{missed}
-use Rattle.bus_node.specs.Node.{Node, cleared, told, events_told, answered, asked}
+use Rattle.bus_node.specs.Node.{Node, told, events_told, answered, asked}
+use Rattle.bus_node.specs.LineCounts.{with_line}
+use Rattle.bus_node.specs.WrongLines.{wrong_seen}
 use Rattle.bus_node.specs.Interfaces.{shown_on, is_other, passed_over, joined}
 use Rattle.bus_node.specs.Putting.{heard}
 use Rattle.bus_node.specs.Due.{next_due}
@@ -25,6 +26,10 @@ use Rattle.bus_node.specs.LaneCounts.{lanes_in_doubt, lanes_pending, lane_counts
 use Rattle.bus_node.specs.Time.{settled, at_time}
 use Rattle.line_runs.specs.declared.running.Told.{Told}
 use Rattle.line_runs.specs.declared.running.Told.TheVariants.{Answered, NoMemory}
+
+-- a line is counted, and has told nothing yet
+abbrev pub begun : Node → Node
+begun n = record n { counts = with_line n.counts; text = [] }
 
 abbrev pub due_text : Option ℕ → List ℕ
 due_text None = codes "none"
@@ -81,10 +86,13 @@ obeyed_on n meant (Some iface) = if is_other n iface then passed_over n iface el
 unfoldable pub obeyed : Node → NodeLine → Node
 obeyed n meant = obeyed_on n meant (shown_on meant)
 
+-- it is wrong if it means nothing
+abbrev pub obeyed_or_wrong : Node → Result NodeLine Fault → Result Node Fault
+obeyed_or_wrong n (Ok meant) = Ok (obeyed n meant)
+obeyed_or_wrong n (Err fault) = wrong_seen n fault
+
 unfoldable pub obey_line : Node → List ℕ → Result Node Fault
-obey_line n text = do
-  meant ← node_line text
-  Ok (obeyed (cleared n) meant)
+obey_line n text = obeyed_or_wrong (begun n) (node_line text)
 
 -- How the code obeyed a line
 
@@ -94,3 +102,10 @@ Obeyed (Ok Answered) new step = step ≡ Ok new
 Obeyed (Ok NoMemory) new step = Unit {0}
 Obeyed (Err (errors.Fault f)) new step = step ≡ Err f
 Obeyed (Err errors.OutOfMemory) new step = Unit {0}
+
+-- it found no memory
+abbrev pub IsUnmet : Result Told LineError → Type 0
+IsUnmet (Ok Answered) = ⊥
+IsUnmet (Ok NoMemory) = Unit {0}
+IsUnmet (Err (errors.Fault f)) = ⊥
+IsUnmet (Err errors.OutOfMemory) = Unit {0}

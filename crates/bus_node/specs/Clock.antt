@@ -20,6 +20,11 @@ counted_from n time = record n { since = n.station.segment.now; start = Some tim
 abbrev pub went_back : Node → ℕ → Bool
 went_back n time = nat_lt 1000000 (time_of n - time)
 
+-- a time is more than ten minutes ahead of the clock's: by then all that goes on by itself has ended but for holds, so such a time is that of a
+-- clock that was set, or of a bus that rested
+abbrev pub has_jumped : Node → ℕ → Bool
+has_jumped n time = nat_lt 600000000 (time - time_of n)
+
 -- the first time that is seen is that of tick 0; if one went back, this is told, and the time counts from it on
 abbrev pub started : Node → ℕ → Node
 started n time = elim n.start [

@@ -1,5 +1,7 @@
 pub mod Rests
+pub mod LineCounts
 pub mod Node
+pub mod WrongLines
 pub mod Stations
 pub mod Answers
 pub mod NodeFields
@@ -12,3 +14,4 @@ pub mod Due
 pub mod LaneCounts
 pub mod Acting
 pub mod Outcome
+pub mod Ending

@@ -8,11 +8,14 @@ use Rattle.segment_law.specs.declared.call.Call.{Call}
 use Rattle.script_text.specs.Replies.{reply_line, event_lines}
 use Rattle.one_station.specs.Node.{Node as Station, new_node as new_station, makes}
 use Rattle.bus_node.specs.Rests.{plus, no_rests, rested}
+use Rattle.bus_node.specs.LineCounts.{no_lines}
+use Rattle.bus_node.specs.declared.line_counts.LineCounts.{LineCounts}
 
 -- the station, the interface that its frames are shown on, whether that was named or a frame of it was shown, whether a frame of another
 -- one was told, for how many ticks a destination rests after a connection to it failed, for each destination the tick until which it
 -- rests, the tick from which the time counts and the time of that tick in microseconds, the frames put that the bus hasn't shown since,
--- the tick before which no conflict is told, and what the line has told so far
+-- the one of them that it showed last, the tick before which no conflict is told, whether a wrong line ends the run, how many lines were
+-- read, and what the line has told so far
 pub record Node : Type 0 where
   pub station : Station
   pub iface : Iface
@@ -23,16 +26,15 @@ pub record Node : Type 0 where
   pub since : ℕ
   pub start : Option ℕ
   pub unseen : List CanFrame
+  pub last_echo : Option CanFrame
   pub silent_until : ℕ
+  pub strict : Bool
+  pub counts : LineCounts
   pub text : List ℕ
 
 -- nothing was done yet
 abbrev pub new_node : Address → Iface → (quiet : ℕ) → Node
-new_node address iface quiet = record { station = new_station address; iface = iface; knows_iface = true; knows_other = false; quiet = quiet; rests = no_rests; since = 0; start = None; unseen = []; silent_until = 0; text = [] }
-
--- a line has told nothing yet
-abbrev pub cleared : Node → Node
-cleared n = record n { text = [] }
+new_node address iface quiet = record { station = new_station address; iface = iface; knows_iface = true; knows_other = false; quiet = quiet; rests = no_rests; since = 0; start = None; unseen = []; last_echo = None; silent_until = 0; strict = false; counts = no_lines; text = [] }
 
 abbrev pub told : Node → List ℕ → Node
 told n text = record n { text = n.text ++ text }

@@ -3,6 +3,7 @@ use Rattle.std.specs.Prelude.{ℕ, ◌-◌, ◌^◌, List, [], Result, Ok, Err}
 use Rattle.script_commands.specs.declared.fault.Fault.{Fault}
 use Rattle.line_runs.specs.Outcome as lines
 use Rattle.line_runs.specs.declared.limits.Limits.{Limits}
+use Rattle.bus_node.specs.LineCounts.{no_lines}
 use Rattle.bus_node.specs.Node.{Node}
 use Rattle.bus_node.specs.Acting.{obey_line}
 
@@ -25,5 +26,13 @@ without_text (Err f) = Err f
 abbrev pub logged_by : lines.Steps Node
 logged_by n line = without_text (obey_line n line)
 
+-- no line was read
+abbrev pub at_first : Node → Node
+at_first n = record n { counts = no_lines }
+
 abbrev pub outcome : Node → List ℕ → lines.Outcome
-outcome n input = lines.outcome node_limits told_by n input
+outcome n input = lines.outcome node_limits told_by (at_first n) input
+
+-- the node that the lines of an input leave
+abbrev pub left : Node → List ℕ → Node
+left n input = lines.left node_limits told_by (at_first n) input

@@ -14,7 +14,7 @@ use Rattle.segment_core.specs.Answers.{refusal_of}
 use Rattle.segment_core.specs.Due.{any_due}
 use Rattle.bus_node.specs.Rests.{is_at_rest, wakes}
 use Rattle.bus_node.specs.Node.{Node, called}
-use Rattle.bus_node.specs.Clock.{tick_at, started}
+use Rattle.bus_node.specs.Clock.{tick_at, started, has_jumped}
 use Rattle.bus_node.specs.Putting.{putting}
 
 -- the tick at which the next timer is due, where it is one below the end
@@ -83,10 +83,18 @@ most_steps = 1000000
 unfoldable pub settled : Node → Node
 settled n = go_on most_steps n.station.segment.now n
 
--- where the line says a time, the clock goes on to its tick
+-- after a jump the clock is at the tick of the time at once, so that each timer that came due on the way fires once, there
+abbrev pub leapt : Node → ℕ → Node
+leapt n time = if has_jumped n time then at_tick (tick_at n time) n else n
+
+-- else it goes on to that tick, and each timer fires at its own
+abbrev pub come_to_time : Node → ℕ → Node
+come_to_time n time = go_on most_steps (tick_at n time) (leapt n time)
+
+-- where the line says a time, the clock goes on to it
 unfoldable pub at_time : Node → Option ℕ → Node
 at_time n None = n
-at_time n (Some time) = go_on most_steps (tick_at (started n time) time) (started n time)
+at_time n (Some time) = come_to_time (started n time) time
 
 -- How the code makes a step
 

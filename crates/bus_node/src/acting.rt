@@ -1,12 +1,13 @@
 //! What a line does.
-ghost use Rattle.std.specs.Prelude.{◌≡◌, OnOk};
-ghost use Rattle.bus_node.specs.Acting.{time_in, acted, come_to, followed, obeyed, obey_line, Obeyed};
+ghost use Rattle.std.specs.Prelude.{◌≡◌, Ok, OnOk};
+ghost use Rattle.bus_node.specs.Acting.{time_in, acted, come_to, followed, obeyed, obey_line, Obeyed, IsUnmet};
+ghost use Rattle.bus_node.specs.WrongLines.{wrong_seen};
 
 use crate::interfaces::shown_on;
 use crate::node::Node;
 use line_runs::Told;
 use node_lines::{NodeLine, read_node_line};
-use script_commands::LineError;
+use script_commands::{Fault, LineError};
 use script_text::print_text;
 use std::alloc::{AllocError, Global};
 
@@ -83,19 +84,47 @@ impl Node {
         self.follow(meant)
     }
 
+    // A line found no memory.
+    fn tell_no_memory(&mut self) -> Result<Told, LineError>
+        ensures { IsUnmet result }
+    {
+        print_text(&mut self.text, "no memory")?;
+        Ok(Told::NoMemory)
+    }
+
+    // A line means something.
+    fn obey_meant(&mut self, meant: NodeLine) -> Result<Told, LineError>
+        ensures { Obeyed result self.new (Ok (obeyed self.old meant)) }
+    {
+        match self.obey(meant) {
+            Ok(()) => Ok(Told::Answered),
+            Err(_) => self.tell_no_memory(),
+        }
+    }
+
+    // A line is wrong.
+    fn pass_wrong(&mut self, fault: Fault) -> Result<Told, LineError>
+        ensures { Obeyed result self.new (wrong_seen self.old fault) }
+    {
+        if self.strict {
+            return Err(LineError::Fault(fault));
+        }
+        match self.tell_wrong(fault) {
+            Ok(()) => Ok(Told::Answered),
+            Err(_) => self.tell_no_memory(),
+        }
+    }
+
     /// Obeys a line. What it tells is then the node's text.
     #[tactic(auto, unfolding(crate::specs::Acting::obey_line))]
     pub(crate) fn act_on(&mut self, alloc: Global, line: &[u8]) -> Result<Told, LineError>
         ensures { Obeyed result self.new (obey_line self.old line.now) }
     {
-        self.clear();
-        let meant = read_node_line(alloc, line)?;
-        match self.obey(meant) {
-            Ok(()) => Ok(Told::Answered),
-            Err(_) => {
-                print_text(&mut self.text, "no memory")?;
-                Ok(Told::NoMemory)
-            }
+        self.begin_line();
+        match read_node_line(alloc, line) {
+            Ok(meant) => self.obey_meant(meant),
+            Err(LineError::Fault(fault)) => self.pass_wrong(fault),
+            Err(LineError::OutOfMemory) => self.tell_no_memory(),
         }
     }
 }

@@ -1,6 +1,6 @@
 //! How the times that lines say and the ticks of the clock belong together.
 ghost use Rattle.std.specs.Prelude.{◌≡◌, OnOk};
-ghost use Rattle.bus_node.specs.Clock.{time_of, tick_at, counted_from, went_back, started};
+ghost use Rattle.bus_node.specs.Clock.{time_of, tick_at, counted_from, went_back, has_jumped, started};
 
 use crate::node::Node;
 use script_text::print_text;
@@ -11,6 +11,9 @@ const TICK: u64 = 1000;
 
 /// By how many microseconds at most a time that came late is before that of the clock. One that is more before it went back.
 const LATE: u64 = 1_000_000;
+
+/// By how many microseconds a time is ahead of that of the clock at most, unless it jumped.
+const JUMP: u64 = 600_000_000;
 
 impl Node {
     /// The time at which its clock stands, in microseconds.
@@ -44,6 +47,13 @@ impl Node {
         ensures { result ≡ went_back self.now time }
     {
         self.time().saturating_sub(time) > LATE
+    }
+
+    /// Whether a time is more than ten minutes ahead of that of the clock.
+    pub(crate) fn has_jumped(&self, time: u64) -> bool
+        ensures { result ≡ has_jumped self.now time }
+    {
+        time.saturating_sub(self.time()) > JUMP
     }
 
     /// A line says a time. The first is that of tick 0. If one went back, this is told, and the time counts from it on.

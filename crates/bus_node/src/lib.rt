@@ -9,13 +9,15 @@ mod commands;
 mod due;
 mod interfaces;
 mod lane_counts;
+mod line_counts;
 mod node;
 mod putting;
 mod rests;
 mod running;
 mod telling;
 mod time;
+mod wrong_lines;
 
-pub use line_runs::Ran;
+pub use line_counts::LineCounts;
 pub use node::Node;
-pub use running::run_node;
+pub use running::{Ran, run_node};

@@ -1,8 +1,11 @@
 //! A node, and the calls on its station.
 ghost use Rattle.std.specs.Prelude.{◌≡◌, ◌∷◌, ◌↔◌, [], false, IfOk, OnOk, IsErrOf};
 ghost use Rattle.segment_law.specs.Segment.{are_addresses};
-ghost use Rattle.bus_node.specs.Node.{new_node, cleared, events_told, HasToldFirst};
+ghost use Rattle.bus_node.specs.Node.{new_node, events_told, HasToldFirst};
+ghost use Rattle.bus_node.specs.Acting.{begun};
+ghost use Rattle.bus_node.specs.Outcome.{at_first};
 
+use crate::line_counts::LineCounts;
 use crate::rests::Rests;
 use bus_frame::Frame;
 use log_text::Iface;
@@ -11,6 +14,7 @@ use pgn_ids::Address;
 use script_text::print_events;
 use segment_core::NewRefused;
 use std::alloc::{AllocError, Global};
+use std::collections::VecDeque;
 use std::marker::Model;
 
 /// One station on a real bus, what it remembers of that bus, and what a line has told so far.
@@ -30,10 +34,15 @@ pub struct Node {
     pub(crate) since: u64,
     /// The time of that tick, in microseconds; none was seen yet where there is none.
     pub(crate) start: Option<u64>,
-    /// The frames that it put and that the bus hasn't shown since, at most 256, the oldest first.
-    pub(crate) unseen: Vec<Frame>,
+    /// The frames that it put and that the bus hasn't shown since, the oldest first.
+    pub(crate) unseen: VecDeque<Frame>,
+    /// The one of them that the bus showed last.
+    pub(crate) last_echo: Option<Frame>,
     /// The tick before which no conflict of addresses is told.
     pub(crate) silent_until: u64,
+    /// Whether a wrong line ends the run; else it is told and passed over.
+    pub(crate) strict: bool,
+    pub(crate) counts: LineCounts,
     pub(crate) text: Vec<u8>,
 }
 
@@ -62,7 +71,10 @@ impl Drop for Node {
             since: _,
             start: _,
             unseen: _,
+            last_echo: _,
             silent_until: _,
+            strict: _,
+            counts: _,
             text: _,
         } = self;
     }
@@ -70,7 +82,7 @@ impl Drop for Node {
 
 impl Node {
     /// A node with a station of this address, 0 to 253, on an interface: frames of no other come to it, and those that it puts are shown
-    /// there. Its clock stands at tick 0, no port is open, and nothing was done yet. After a connection to a destination failed, nothing of a
+    /// there. Its clock stands at tick 0, no port is open, and nothing was done yet. A wrong line is told and passed over. After a connection to a destination failed, nothing of a
     /// message is sent to it for `quiet` ticks.
     ///
     /// Refused as `BadAddresses` exactly where the address is 254 or 255, and else as `OutOfMemory` where memory is refused.
@@ -94,16 +106,27 @@ impl Node {
             rests: Rests::none(),
             since: 0,
             start: None,
-            unseen: Vec::new(alloc),
+            unseen: VecDeque::new(alloc),
+            last_echo: None,
             silent_until: 0,
+            strict: false,
+            counts: LineCounts::none(),
             text: Vec::new(alloc),
         })
     }
 
-    /// What the line before told was written.
-    pub(crate) fn clear(&mut self)
-        ensures { self.new ≡ cleared self.old }
+    /// An input begins.
+    pub(crate) fn begin_input(&mut self)
+        ensures { self.new ≡ at_first self.old }
     {
+        self.counts = LineCounts::none();
+    }
+
+    /// A line was read, and what the one before told was written.
+    pub(crate) fn begin_line(&mut self)
+        ensures { self.new ≡ begun self.old }
+    {
+        self.counts.add_line();
         self.text.clear();
     }
 

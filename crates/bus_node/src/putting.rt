@@ -1,9 +1,9 @@
 //! Frames that the node puts on the bus, and those that the bus shows.
-ghost use Rattle.std.specs.Prelude.{◌≡◌, ◌++◌, OnOk, position};
+ghost use Rattle.std.specs.Prelude.{◌≡◌, ◌++◌, OnOk, drop, position};
 ghost use Rattle.one_station.specs.Answers.{is_own};
 ghost use Rattle.bus_node.specs.Node.{with_station};
 ghost use Rattle.bus_node.specs.Stations.{ready, sent, fed};
-ghost use Rattle.bus_node.specs.Putting.{put_line, remembered, with_put, putting, same_frame, conflicting, own, heard};
+ghost use Rattle.bus_node.specs.Putting.{put_line, remembered, with_put, putting, same_frame, is_of, shown, conflicting, is_silent, sought, own, heard};
 
 use crate::node::Node;
 use bus_frame::Frame;
@@ -12,12 +12,15 @@ use one_station::{Fed, NodeError};
 use pgn_ids::read_id;
 use script_text::print_text;
 use std::alloc::AllocError;
+use std::collections::VecDeque;
 
 /// How many ticks pass at least from one conflict that is told to the next.
 const BETWEEN_CONFLICTS: u64 = 1000;
 
-/// How many of the frames that it put a node remembers.
-const MOST_REMEMBERED: usize = 256;
+/// How many of the frames that it put a node remembers: as many as can be put that the bus hasn't shown. These are for each of 256 destinations
+/// a window of 255 packets and the frame that tells where it begins, since what follows waits for an answer to the last of them, and the 64
+/// frames of a full queue.
+const MOST_UNSEEN: usize = 65_600;
 
 #[tactic(auto, unfolding(crate::specs::Putting::put_line))]
 fn print_put(text: &mut Vec<u8>, time: u64, iface: &Iface, frame: &Frame) -> Result<(), AllocError>
@@ -35,20 +38,39 @@ fn is_same(a: &Frame, b: &Frame) -> bool
     a.id().raw() == b.id().raw() && a.bytes() == b.bytes()
 }
 
+/// Whether a frame is the one that was put, if one was.
+fn is_of(put: Option<Frame>, frame: &Frame) -> bool
+    ensures { result ≡ is_of put frame.now }
+{
+    match put {
+        None => false,
+        Some(put) => is_same(&put, frame),
+    }
+}
+
 /// The place of the oldest frame that is the same.
-fn place_of(frames: &[Frame], frame: &Frame) -> Option<usize>
-    ensures { result ≡ position (λ put. same_frame put frame.now) frames.now }
+fn place_of(frames: &VecDeque<Frame>, frame: &Frame) -> Option<usize>
+    ensures { result ≡ position (λ put. same_frame put frame.now) frames.now.items }
 {
     frames.iter().position(|put| is_same(put, frame))
 }
 
-fn remember(frames: &mut Vec<Frame>, frame: Frame) -> Result<(), AllocError>
+/// So many of the oldest frames are waited for no more.
+fn drop_oldest(frames: &mut VecDeque<Frame>, count: usize)
+    ensures { frames.new.items ≡ drop count frames.old.items }
+{
+    for _ in 0..count {
+        let _dropped = frames.pop_front();
+    }
+}
+
+fn remember(frames: &mut VecDeque<Frame>, frame: Frame) -> Result<(), AllocError>
     ensures { OnOk result (frames.new.items ≡ remembered frames.old.items frame) }
 {
-    if frames.len() == MOST_REMEMBERED {
-        let _oldest = frames.remove(0);
+    if frames.len() == MOST_UNSEEN {
+        let _oldest = frames.pop_front();
     }
-    frames.push(frame)?;
+    frames.push_back(frame)?;
     Ok(())
 }
 
@@ -70,11 +92,12 @@ impl Node {
         self.tell_of(made)
     }
 
-    /// The first frame of the queue is put on the bus.
+    /// The first frame of the queue is put on the bus. If there is no memory to remember it, it stays in the queue.
     #[tactic(auto, unfolding(crate::specs::Putting::putting))]
     pub(crate) fn put(&mut self, frame: Frame) -> Result<(), AllocError>
         ensures { OnOk result (self.new ≡ putting self.old frame) }
     {
+        self.unseen.reserve(1)?;
         self.send_first()?;
         self.note_put(frame)
     }
@@ -83,26 +106,53 @@ impl Node {
     fn conflict(&mut self) -> Result<(), AllocError>
         ensures { OnOk result (self.new ≡ conflicting self.old) }
     {
-        let now = self.station.now();
-        if now < self.silent_until {
-            return Ok(());
-        }
-        self.silent_until = now.saturating_add(BETWEEN_CONFLICTS);
+        self.silent_until = self.station.now().saturating_add(BETWEEN_CONFLICTS);
         print_text(&mut self.text, "address conflict")
     }
 
-    // A frame with the node's own address was seen.
+    // Whether a conflict was told a short while ago.
+    fn is_silent(&self) -> bool
+        ensures { result ≡ is_silent self.now }
+    {
+        self.station.now() < self.silent_until
+    }
+
+    // The bus showed the frame at this place. It shows them in their order, so those before it aren't waited for any more.
+    fn show(&mut self, place: usize, frame: &Frame)
+        ensures { self.new ≡ shown self.old place frame.now }
+    {
+        drop_oldest(&mut self.unseen, place);
+        let _shown = self.unseen.pop_front();
+        self.last_echo = Some(*frame);
+    }
+
+    // A frame with the node's own address was seen that isn't the next one.
+    fn seek(&mut self, frame: &Frame) -> Result<(), AllocError>
+        ensures { OnOk result (self.new ≡ sought self.old frame.now) }
+    {
+        match place_of(&self.unseen, frame) {
+            None => self.conflict(),
+            Some(place) => {
+                self.show(place, frame);
+                Ok(())
+            }
+        }
+    }
+
+    // A frame with the node's own address was seen. What isn't the next one is looked for only where a conflict would be told: so a search finds
+    // a frame, and those before it are waited for no more, or is the only one of its second.
     #[tactic(auto, unfolding(crate::specs::Putting::own))]
     fn see_own(&mut self, frame: &Frame) -> Result<(), AllocError>
         ensures { OnOk result (self.new ≡ own self.old frame.now) }
     {
-        match place_of(self.unseen.as_slice(), frame) {
-            None => self.conflict(),
-            Some(place) => {
-                let _shown = self.unseen.remove(place);
-                Ok(())
-            }
+        if is_of(self.unseen.front().copied(), frame) {
+            self.show(0, frame);
+            return Ok(());
         }
+        if is_of(self.last_echo, frame) || self.is_silent() {
+            return Ok(());
+        }
+        self.seek(frame)
     }
 
     /// Whether a frame has the node's own address.

@@ -2,7 +2,7 @@
 ghost use Rattle.std.specs.Prelude.{◌≡◌, ◌+◌, ◌<◌, IfOk, OnOk};
 ghost use Rattle.segment_law.specs.declared.call.Call.TheVariants.{Pump};
 ghost use Rattle.bus_node.specs.Node.{called};
-ghost use Rattle.bus_node.specs.Time.{due_below, is_not_yet, is_pacing, horizon, may_pump, next_lane, at_tick, fired, waited, step, go_on, most_steps, settled, at_time, Stepped};
+ghost use Rattle.bus_node.specs.Time.{due_below, is_not_yet, is_pacing, horizon, may_pump, next_lane, at_tick, fired, waited, step, go_on, most_steps, settled, leapt, at_time, Stepped};
 
 use crate::node::Node;
 use one_station::Node as Station;
@@ -181,6 +181,17 @@ impl Node {
         self.go_on(now)
     }
 
+    // After a jump the clock is at the tick of the time at once, and timers that came due on the way fire there, once.
+    fn leap(&mut self, time: u64) -> Result<(), AllocError>
+        ensures { OnOk result (self.new ≡ leapt self.old time) }
+    {
+        if !self.has_jumped(time) {
+            return Ok(());
+        }
+        let tick = self.tick_at(time);
+        self.go_to(tick)
+    }
+
     /// Where a line says a time, the clock goes on to its tick, and what comes up to there is done.
     #[tactic(auto, unfolding(crate::specs::Time::at_time))]
     pub(crate) fn pass_time(&mut self, time: Option<u64>) -> Result<(), AllocError>
@@ -191,6 +202,7 @@ impl Node {
         };
         self.start_at(time)?;
         let target = self.tick_at(time);
+        self.leap(time)?;
         self.go_on(target)
     }
 }

@@ -1,6 +1,6 @@
 //! The words of `node`.
 use crate::decode::{MOST, PGN_MOST, hexadecimal};
-use crate::parts::{described, list, of_numbers, valued, within};
+use crate::parts::{described, flag, list, of_numbers, valued, within};
 use crate::refused::Refused;
 use clap::{Arg, ArgAction, ArgMatches, Command};
 use std::alloc::{AllocError, Global};
@@ -25,6 +25,8 @@ pub struct OfNode {
     pub ports: Vec<OfPort>,
     /// For how many milliseconds nothing is queued to a destination after a connection to it failed.
     pub quiet: u64,
+    /// Whether a wrong line ends the run; else it is told, and the input goes on.
+    pub strict: bool,
 }
 
 /// The highest address of a node.
@@ -40,18 +42,19 @@ lines of these commands:
   now SECONDS.MICROS   time goes on without a frame
   open PGN MAX         messages of this PGN, of at most MAX bytes, are taken
   send TO PGN HEX      a message is sent, also as send TO PGN fill N
-  close N, pause N, resume N, cancel TO N, counts, state
+  close N, pause N, resume N, cancel TO N, missed, counts, state
 What a line makes the station put on the bus is written as put and a line of a
 log, what it is given and how its messages end as in a script, before the next
 line is read. A port of --port is open before the first line. Frames of other
-interfaces are passed over.
+interfaces are passed over. A wrong line is told by its number, in its place,
+and passed over; if there were any, standard error tells at the end how many.
 
 Example:
   printf '%s\\n' 'open FECA 1785' 'send 21 FECA 010203040506070809' \\
     'now 2.000000' | j1939bus node 35
 
 Status:
-  0  the input was read to its end
+  0  the input was read to its end, and no line was wrong
   1  a line is wrong, or standard input or output failed
   2  the command line is refused, or asks for help
 
@@ -95,6 +98,10 @@ fn quiet_arg<'a>(alloc: Global) -> Arg<'a> {
     of_numbers(quiet, within(0, 10_000))
 }
 
+fn strict_arg<'a>(alloc: Global) -> Arg<'a> {
+    flag(alloc, "strict", "Ends at a wrong line")
+}
+
 /// Its arguments, in the order of the help.
 fn node_args<'a>(alloc: Global) -> Result<Vec<Arg<'a>>, AllocError> {
     list(
@@ -104,6 +111,7 @@ fn node_args<'a>(alloc: Global) -> Result<Vec<Arg<'a>>, AllocError> {
             interface_arg(alloc),
             port_arg(alloc),
             quiet_arg(alloc),
+            strict_arg(alloc),
         ],
     )
 }
@@ -170,6 +178,7 @@ pub(crate) fn read_node(alloc: Global, matches: &ArgMatches) -> Result<OfNode, R
         interface: interface(alloc, matches)?,
         ports: ports(alloc, matches)?,
         quiet: matches.get_one::<u64>("quiet").unwrap_or(QUIET),
+        strict: matches.get_flag("strict"),
     })
 }
 

@@ -12,4 +12,6 @@ mod opening;
 pub use laws::{memory_grows_by_the_window, rows_are_those_of_etp};
 pub use opening::{accept, begin};
 pub use originator::{AwaitCts, AwaitEnd, OutOver, OutState, Sending, Stepped};
-pub use responder::{AwaitPacket, Finished, Flow, Holding, InState, Peer, Received};
+pub use responder::{
+    AwaitPacket, Finished, Flow, Holding, InState, Left, Peer, Received, Receiver,
+};

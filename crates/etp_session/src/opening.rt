@@ -44,5 +44,6 @@ pub fn accept(peer: Peer, join: Join, flow: Flow, now: u64) -> (InState, Frame)
     ensures frame { result.1 ≡ asked (begun Etp peer ETP_MAX_WINDOW join) flow }
     ensures etp { IsEtp result.0 }
 {
-    responder::begin(Kind::Etp, peer, ETP_MAX_WINDOW, join, flow, now)
+    let (receiver, frame) = responder::begin(Kind::Etp, peer, ETP_MAX_WINDOW, join, flow, now);
+    (receiver.into_state(), frame)
 }

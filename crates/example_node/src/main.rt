@@ -15,8 +15,12 @@ const STATION: Address = Address(0x21);
 /// After a connection failed, nothing is sent to its destination for so many milliseconds.
 const QUIET: u64 = 700;
 
-/// Tells why the run ended before its end, where it did.
+/// Tells how many lines were wrong, if any were, and why the run ended before its end, where it did.
 fn tell(rt: &impl Eprint, ran: Ran) -> Result<ExitCode> {
+    let counts = ran.counts;
+    if counts.wrong != 0 {
+        eprintln!(rt; "{counts}")?;
+    }
     if let Some(fault) = ran.fault {
         eprintln!(rt; "{fault}")?;
     }

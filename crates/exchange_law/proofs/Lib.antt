@@ -1,3 +1,4 @@
+pub mod Lanes
 pub mod Nodes
 pub mod Pairs
 pub mod Puts

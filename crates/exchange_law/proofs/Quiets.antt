@@ -24,7 +24,7 @@ use Rattle.lane_core.specs.declared.probe.Token.{Token}
 use Rattle.port_table.specs.Ports.{is_any_paused}
 use Rattle.station_lanes.specs.LaneCalls.{lane_to}
 use Rattle.message_events.specs.declared.event.Event.TheVariants as event
-use Rattle.station_lanes.proofs.LaneLaws.{insert_same}
+use Rattle.exchange_law.proofs.Lanes.{insert_same}
 use Rattle.station_core.specs.Station.{Station, new_station}
 use Rattle.segment_law.specs.Segment.{Segment, place_of, has_station, station_at, lane_at, waiting_at}
 use Rattle.segment_law.specs.Record.{Record, StandsAt}

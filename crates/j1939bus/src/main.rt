@@ -3,7 +3,7 @@
 //! `j1939bus relay` runs two segments so, with a relay between them; `j1939bus decode` reads logs of a bus and prints their messages;
 //! `j1939bus node` is a station on the bus whose log it reads while it runs (SAE J1939-21, ISO 11783-3).
 //!
-//! It ends with status 0 if the script or log was read to its end, refused calls included, with 1 at a wrong line, a file that can't be
+//! It ends with status 0 if the script, log or bus was read to its end, refused calls included, with 1 if a line was wrong, at a file that can't be
 //! opened, a read or write fault, which standard error tells, with 2 if the command line is refused or asks for help, and with 3 if the
 //! turns of the threads ran out.
 #![tactic(auto)]
@@ -276,7 +276,14 @@ fn node<R: Print + Eprint + AllocGlobal, I: Read + Drop>(
     if asked.interface.is_none() {
         node.join_first_interface();
     }
+    if asked.strict {
+        node.end_at_wrong_line();
+    }
     let ran = run_opened(alloc, &mut node, lines.as_slice(), &mut reader, &mut writer);
+    let counts = ran.counts;
+    if counts.wrong != 0 {
+        eprintln!(rt; "{counts}")?;
+    }
     end(rt, ran.fault, ran.status())
 }
 

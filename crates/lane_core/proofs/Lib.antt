@@ -1,4 +1,4 @@
 pub mod Pushing
 pub mod Pumping
 pub mod Cancelling
-pub mod Quiet
+pub mod Keeping

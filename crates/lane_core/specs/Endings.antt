@@ -8,6 +8,10 @@ use Rattle.tp_wire.specs.declared.outcome.Outcome.{Outcome}
 use Rattle.originator.specs.declared.states.Stepped.TheVariants.{On, Over}
 use Rattle.originator.specs.declared.states.OutOver.{OutOver}
 use Rattle.originator.specs.declared.states.Stepped.{Stepped}
+use Rattle.originator.specs.declared.endings.Ending.{Ending}
+use Rattle.originator.specs.Endings.{ended as ended_link}
+use Rattle.originator.specs.Readers.{link_of}
+use Rattle.lane_core.specs.declared.place.UnderWay.{UnderWay}
 use Rattle.lane_core.specs.declared.place.UnderWay.TheVariants.{Connection, Nothing}
 use Rattle.lane_core.specs.declared.step.Ended.{Ended}
 use Rattle.lane_core.specs.declared.probe.Standing.TheVariants.{InDoubt}
@@ -43,6 +47,11 @@ still lane = (lane, nothing_to_do)
 -- the connection under way goes on in a state, or is over
 abbrev pub connection_over : Lane → OutOver → Lane × LaneStep
 connection_over lane over_by = over lane over_by.outcome over_by.frame
+
+-- a frame of the destination ends the connection under way
+abbrev pub ended_by : UnderWay → Lane → Ending → Lane × LaneStep
+ended_by (Connection s) lane ending = connection_over lane (ended_link (link_of s) ending)
+ended_by _ lane ending = still lane
 
 abbrev pub after_step : Lane → Stepped → Lane × LaneStep
 after_step lane (On state) = still (with_under_way lane (Connection state))

@@ -11,5 +11,5 @@ pub mod Overrun
 pub mod LaneFields
 pub mod ImageFields
 pub mod Refused
-pub mod Quiet
+pub mod Place
 pub mod Sight

@@ -1,8 +1,7 @@
 -- What a step of a lane leaves to do.
-use Rattle.std.specs.Prelude.{List, [], ◌∷◌, Option, None, option_to_list}
+use Rattle.std.specs.Prelude.{List, [], ◌∷◌, Option, None}
 use Rattle.bus_frame.specs.Frames.{CanFrame}
 use Rattle.lane_core.specs.declared.step.Ended.{Ended}
-use Rattle.lane_core.specs.declared.step.LaneStep.{LaneStep as StepFields}
 
 -- the frames that are queued in their order, and the message that ended
 pub record LaneStep : Type 0 where
@@ -16,7 +15,3 @@ nothing_to_do = record { frames = []; ended = None }
 -- one frame is queued
 abbrev pub says : CanFrame → LaneStep
 says frame = record { frames = frame ∷ []; ended = None }
-
--- what is left to do where that is one frame at most
-abbrev pub step_left : StepFields → LaneStep
-step_left step = record { frames = option_to_list step.frame; ended = step.ended }

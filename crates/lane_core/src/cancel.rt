@@ -1,15 +1,16 @@
 //! Messages that are cancelled.
-ghost use Rattle.std.specs.Prelude.{◌≡◌, ◌≤◌, ◌↔◌, length, IsSome, IsTrue, OnSome, IfSome, IfNone};
-ghost use Rattle.lane_core.specs.Step.{step_left};
+ghost use Rattle.std.specs.Prelude.{◌≡◌, ◌<◌, ◌≤◌, ◌↔◌, ◌++◌, true, length, Some, IsSome, IsTrue, OnSome, IfNone};
+ghost use Rattle.tx_queue.specs.Queue.{queue_limit};
 ghost use Rattle.lane_core.specs.Cancel.{numbered, is_front as is_front_of, cancelled as cancelled_lane, queues_abort as queues_abort_of, withdrawn, without_number, place_of};
 ghost use Rattle.lane_core.specs.declared.place.UnderWay.TheVariants.{Nothing};
 
 use crate::lane::Lane;
 use crate::message::Pending;
 use crate::place::UnderWay;
-use crate::step::{Ended, LaneStep};
+use crate::step::Ended;
 use std::collections::VecDeque;
 use tp_wire::Outcome;
+use tx_queue::TxQueue;
 
 impl Lane {
     /// Whether a message with this number has no outcome yet.
@@ -41,52 +42,55 @@ impl Lane {
 
     /// A message is taken out, wherever it stands, while nothing is under way.
     #[tactic(auto, using(crate::proofs::Cancelling::carried_withdraw))]
-    fn withdraw(&mut self, number: u64) -> LaneStep
+    fn withdraw(&mut self, number: u64) -> Ended
         requires { self.old.under_way ≡ Nothing }
         ensures lane { self.new ≡ (withdrawn self.old number).0 }
-        ensures step { step_left result ≡ (withdrawn self.old number).1 }
+        ensures ended { Some result ≡ (withdrawn self.old number).1.ended }
     {
         take_number(&mut self.pending, number);
-        LaneStep {
-            frame: None,
-            ended: Some(Ended {
-                number,
-                outcome: Outcome::Cancelled,
-            }),
+        Ended {
+            number,
+            outcome: Outcome::Cancelled,
         }
     }
 
-    /// Cancels the message with this number: a connection under way ends by an abort, a broadcast under way without a
-    /// frame, and one that has not begun leaves the lane otherwise as it was. None exactly where no message with this
-    /// number is pending, and then nothing changes.
-    pub fn cancel(&mut self, number: u64) -> Option<LaneStep>
+    /// Cancels the message with this number, and tells it: a connection under way ends by an abort, which is queued behind the
+    /// frames of a queue, a broadcast under way without a frame, and one that has not begun leaves the lane otherwise as it was.
+    /// None exactly where no message with this number is pending, and then nothing changes.
+    #[tactic(auto, using(crate::proofs::Cancelling::tells_one))]
+    pub fn cancel(&mut self, number: u64, queue: &mut TxQueue) -> Option<Ended>
+        requires place { queues_abort_of self.old number ≡ true → length queue.old < queue_limit }
         ensures pending { IsSome result ↔ IsTrue (numbered self.old.pending number) }
         ensures lane { OnSome result (self.new ≡ (cancelled_lane self.old number).0) }
-        ensures step { IfSome result (λ step. step_left step ≡ (cancelled_lane self.old number).1) }
+        ensures queued { OnSome result (queue.new ≡ queue.old ++ (cancelled_lane self.old number).1.frames) }
+        ensures ended { OnSome result (result ≡ (cancelled_lane self.old number).1.ended) }
         ensures none { IfNone result (self.new ≡ self.old) }
+        ensures kept { IfNone result (queue.new ≡ queue.old) }
     {
         if !self.is_pending(number) {
             return None;
         }
-        Some(self.end(number))
+        self.end(number, queue)
     }
 
     // The same of a message that is pending.
-    fn end(&mut self, number: u64) -> LaneStep
+    fn end(&mut self, number: u64, queue: &mut TxQueue) -> Option<Ended>
+        requires place { queues_abort_of self.old number ≡ true → length queue.old < queue_limit }
         ensures lane { self.new ≡ (cancelled_lane self.old number).0 }
-        ensures step { step_left result ≡ (cancelled_lane self.old number).1 }
+        ensures queued { queue.new ≡ queue.old ++ (cancelled_lane self.old number).1.frames }
+        ensures ended { result ≡ (cancelled_lane self.old number).1.ended }
     {
         let is_front = self.is_front(number);
         match self.take_under_way() {
             UnderWay::Broadcast(state) if is_front => {
                 state.cancel();
-                self.over(Outcome::Cancelled, None)
+                self.over(Outcome::Cancelled)
             }
-            UnderWay::Connection(state) if is_front => self.connection_over(state.cancel()),
+            UnderWay::Connection(state) if is_front => self.connection_over(state.cancel(), queue),
             other => {
-                let step = self.withdraw(number);
+                let ended = self.withdraw(number);
                 self.put_under_way(other);
-                step
+                Some(ended)
             }
         }
     }

@@ -1,15 +1,16 @@
 //! When the timer of a lane fires.
-ghost use Rattle.std.specs.Prelude.{◌≡◌};
+ghost use Rattle.std.specs.Prelude.{◌≡◌, ◌<◌, ◌++◌, length};
+ghost use Rattle.tx_queue.specs.Queue.{queue_limit};
 ghost use Rattle.tick_timers.specs.Due.{IsDueFrom};
-ghost use Rattle.lane_core.specs.Step.{step_left};
 ghost use Rattle.lane_core.specs.declared.place.UnderWay.TheVariants.{Nothing};
 ghost use Rattle.lane_core.specs.Fire.{is_lane_due, is_timed, is_probe_due as is_probe_due_at, probe_fired, fired as fired_lane};
 
 use crate::lane::Lane;
 use crate::place::UnderWay;
 use crate::probe::Standing;
-use crate::step::LaneStep;
+use crate::step::Ended;
 use tp_wire::Outcome;
+use tx_queue::TxQueue;
 
 /// How often a lane asks in one round.
 const MOST_REQUESTS: u8 = 3;
@@ -70,33 +71,39 @@ impl Lane {
     }
 
     /// Its timer fired at tick `now`, as `is_due` told: a connection under way timed out and is aborted; a Request is
-    /// repeated, and after the third one the front message is unreachable. It looks at no clock.
-    pub fn fire(&mut self, now: u64) -> LaneStep
+    /// repeated, and after the third one the front message is unreachable. It looks at no clock. The message that it ends is told,
+    /// and its frame queued behind those of a queue.
+    pub fn fire(&mut self, now: u64, queue: &mut TxQueue) -> Option<Ended>
+        requires { length queue.old < queue_limit }
         ensures lane { self.new ≡ (fired_lane self.old now).0 }
-        ensures step { step_left result ≡ (fired_lane self.old now).1 }
+        ensures queued { queue.new ≡ queue.old ++ (fired_lane self.old now).1.frames }
+        ensures ended { result ≡ (fired_lane self.old now).1.ended }
     {
         match self.take_under_way() {
-            UnderWay::Connection(state) => self.connection_over(state.expire()),
-            UnderWay::Nothing => self.fire_probe(now),
+            UnderWay::Connection(state) => self.connection_over(state.expire(), queue),
+            UnderWay::Nothing => self.fire_probe(now, queue),
             UnderWay::Broadcast(state) => {
                 self.put_under_way(UnderWay::Broadcast(state));
-                LaneStep::none()
+                None
             }
         }
     }
 
     /// The Request was not answered: it is repeated, and after the third the lane gives up, with the front message.
-    fn fire_probe(&mut self, now: u64) -> LaneStep
-        requires { self.old.under_way ≡ Nothing }
+    fn fire_probe(&mut self, now: u64, queue: &mut TxQueue) -> Option<Ended>
+        requires nothing { self.old.under_way ≡ Nothing }
+        requires place { length queue.old < queue_limit }
         ensures lane { self.new ≡ (probe_fired self.old.standing self.old now).0 }
-        ensures step { step_left result ≡ (probe_fired self.old.standing self.old now).1 }
+        ensures queued { queue.new ≡ queue.old ++ (probe_fired self.old.standing self.old now).1.frames }
+        ensures ended { result ≡ (probe_fired self.old.standing self.old now).1.ended }
     {
         match self.standing {
             Standing::Probing { count, timer: _ } if count < MOST_REQUESTS => {
-                self.probe(count + 1, now)
+                self.probe(count + 1, now, queue);
+                None
             }
-            Standing::Probing { .. } => self.over(Outcome::Unreachable, None),
-            _ => LaneStep::none(),
+            Standing::Probing { .. } => self.over(Outcome::Unreachable),
+            _ => None,
         }
     }
 }

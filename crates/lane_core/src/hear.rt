@@ -1,75 +1,59 @@
 //! Frames of the destination.
-ghost use Rattle.std.specs.Prelude.{◌≡◌};
-ghost use Rattle.std.specs.Bool.{OnTrue, OnFalse};
-ghost use Rattle.originator.specs.Readers.{link_of, KeepsLink};
-ghost use Rattle.lane_core.specs.Step.{step_left};
+ghost use Rattle.std.specs.Prelude.{◌≡◌, ◌<◌, ◌++◌, length, OnSome};
+ghost use Rattle.tx_queue.specs.Queue.{queue_limit};
 ghost use Rattle.tp_wire.specs.Heard.{meant};
-ghost use Rattle.lane_core.specs.Quiet.{hears_quietly};
-ghost use Rattle.lane_core.specs.Endings.{still};
+ghost use Rattle.originator.specs.Readers.{link_of};
+ghost use Rattle.originator.specs.Cts.{led};
 ghost use Rattle.lane_core.specs.Hear.{heard as heard_lane, connection_heard, abort_heard};
 
 use crate::lane::Lane;
-use crate::place::UnderWay;
-use crate::step::LaneStep;
-use originator::{OutState, Stepped};
+use crate::step::Ended;
+use originator::{Ending, OutState};
 use pgn_ids::WirePgn;
-use tp_wire::{CmFrame, Heard, Kind, Wire};
+use tp_wire::{CmFrame, Heard, Kind};
+use tx_queue::TxQueue;
 
-/// An abort of this transport and PGN.
-fn hear_abort(state: OutState, kind: Kind, reason: u8, pgn: WirePgn) -> Stepped
-    ensures value { result ≡ abort_heard state kind reason pgn }
-    ensures link { KeepsLink (link_of state) result }
+// An abort of this transport and PGN.
+fn hear_abort(state: &OutState, kind: Kind, reason: u8, pgn: WirePgn) -> Option<Ending>
+    ensures { abort_heard state.now kind reason pgn ≡ led result state.now }
 {
     if state.is_of(kind, pgn) {
-        Stepped::Over(state.abort(reason))
-    } else {
-        Stepped::On(state)
+        return Some(Ending::Aborted(reason));
     }
+    None
 }
 
-/// An abort, else what the sender's own step does.
-fn hear_frame(state: OutState, wire: &Wire, now: u64) -> Stepped
-    ensures value { result ≡ connection_heard state wire.now now }
-    ensures link { KeepsLink (link_of state) result }
+/// A connection takes an abort, or else what the sender's own step takes. If the frame ends the message, nothing changes.
+#[inline]
+pub(crate) fn hear_frame(state: &mut OutState, heard: &Heard<'_>, now: u64) -> Option<Ending>
+    ensures step { connection_heard state.old (meant heard.now) now ≡ led result state.new }
+    ensures link { link_of state.new ≡ link_of state.old }
+    ensures kept { OnSome result (state.new ≡ state.old) }
 {
-    match *wire {
-        Wire::Cm(CmFrame::Abort { reason, pgn }) => hear_abort(state, Kind::Tp, reason, pgn),
-        Wire::Cm(CmFrame::EtpAbort { reason, pgn }) => hear_abort(state, Kind::Etp, reason, pgn),
-        _ => state.step(wire, now),
+    match heard {
+        Heard::Cm(CmFrame::Abort { reason, pgn }) => hear_abort(state, Kind::Tp, *reason, *pgn),
+        Heard::Cm(CmFrame::EtpAbort { reason, pgn }) => {
+            hear_abort(state, Kind::Etp, *reason, *pgn)
+        }
+        _ => state.take(heard, now),
     }
 }
 
 impl Lane {
-    /// Takes a frame of the destination at tick `now`: a CTS, an end of message acknowledgement or an abort of the
-    /// connection under way. Every other frame changes nothing.
-    pub fn hear(&mut self, wire: &Wire, now: u64) -> LaneStep
-        ensures lane { self.new ≡ (heard_lane self.old wire.now now).0 }
-        ensures step { step_left result ≡ (heard_lane self.old wire.now now).1 }
-    {
-        match self.take_under_way() {
-            UnderWay::Connection(state) => match hear_frame(state, wire, now) {
-                Stepped::On(state) => {
-                    self.put_under_way(UnderWay::Connection(state));
-                    LaneStep::none()
-                }
-                Stepped::Over(over) => self.connection_over(over),
-            },
-            other => {
-                self.put_under_way(other);
-                LaneStep::none()
-            }
-        }
-    }
-
-    /// Takes a frame of the destination where the lane stands, at tick `now`, if it is the CTS that the connection under way
-    /// awaits: a step that ends nothing. Any other frame is left to `hear`, and changes nothing.
+    /// Takes a frame of the destination at tick `now`: a CTS, an end of message acknowledgement or an abort of the connection
+    /// under way. The message that it ends is told, and its abort queued behind the frames of a queue, if the sender aborts it.
+    /// Every other frame changes nothing.
     #[inline]
-    #[tactic(auto, using(crate::proofs::Quiet::heard_so, crate::proofs::Quiet::carries_on, crate::proofs::Quiet::calm_on))]
-    pub fn take_in_place(&mut self, heard: &Heard<'_>, now: u64) -> bool
-        ensures value { result ≡ hears_quietly self.old.under_way (meant heard.now) }
-        ensures step { OnTrue result (heard_lane self.old (meant heard.now) now ≡ still self.new) }
-        ensures other { OnFalse result (self.new ≡ self.old) }
+    #[tactic(auto, using(crate::proofs::Keeping::carries_on, crate::proofs::Keeping::calm_on))]
+    pub fn hear(&mut self, heard: &Heard<'_>, now: u64, queue: &mut TxQueue) -> Option<Ended>
+        requires { length queue.old < queue_limit }
+        ensures lane { self.new ≡ (heard_lane self.old (meant heard.now) now).0 }
+        ensures queued { queue.new ≡ queue.old ++ (heard_lane self.old (meant heard.now) now).1.frames }
+        ensures ended { result ≡ (heard_lane self.old (meant heard.now) now).1.ended }
     {
-        self.place.take_in_place(heard, now)
+        match self.place.hear(heard, now) {
+            None => None,
+            Some(ending) => self.end_connection(ending, queue),
+        }
     }
 }

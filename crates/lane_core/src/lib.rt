@@ -27,4 +27,4 @@ pub use place::UnderWay;
 pub use probe::{Standing, Token};
 pub use refused::{PumpRefused, PushRefused};
 pub use sight::LaneSight;
-pub use step::{Ended, LaneStep};
+pub use step::Ended;

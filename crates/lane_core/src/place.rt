@@ -1,15 +1,19 @@
 //! What is under way in a lane.
-ghost use Rattle.std.specs.Prelude.{◌≡◌, ◌+◌, ◌≤◌, ◌++◌, length};
-ghost use Rattle.std.specs.Bool.{OnTrue, OnFalse};
+ghost use Rattle.std.specs.Prelude.{◌≡◌, ◌+◌, ◌<◌, ◌≤◌, ◌++◌, length, true};
 ghost use Rattle.tx_queue.specs.Queue.{queue_limit};
 ghost use Rattle.tp_wire.specs.Heard.{meant};
 ghost use Rattle.originator.specs.Pump.{most_frames};
-ghost use Rattle.lane_core.specs.Quiet.{IsOfLength, KeepsMessage, goes_on, pumped_on, hears_quietly, HearsOn};
-ghost use Rattle.lane_core.specs.declared.place.UnderWay.{UnderWay};
-ghost use Rattle.lane_core.specs.declared.place.UnderWay.TheVariants.{Nothing};
+ghost use Rattle.bam_session.specs.Sending as bam;
+ghost use Rattle.lane_core.specs.Lane.{Lane};
+ghost use Rattle.lane_core.specs.LaneFields.{is_under_way};
+ghost use Rattle.lane_core.specs.Pump.{front_bytes, after_packet, pumped};
+ghost use Rattle.lane_core.specs.Hear.{heard as heard_lane};
+ghost use Rattle.lane_core.specs.Place.{IsOfLength, KeepsMessage, packet_of, frames_pumped, after_pump, after_frame};
+ghost use Rattle.lane_core.specs.declared.place.UnderWay.TheVariants.{Broadcast};
 
+use crate::hear::hear_frame;
 use bam_session::BamOut;
-use originator::OutState;
+use originator::{Ending, OutState};
 use std::marker::Model;
 use tp_wire::Heard;
 use tx_queue::TxQueue;
@@ -69,40 +73,55 @@ impl Place {
         &self.content
     }
 
-    /// Queues what comes next of what is under way behind the frames of a queue at tick `now`, if that ends nothing: the part of
-    /// a connection's window, and a packet of a broadcast that is due and not the last. `bytes` are those of the message.
-    #[inline]
-    pub(crate) fn pump_in_place(&mut self, bytes: &[u8], now: u64, queue: &mut TxQueue) -> bool
+    /// Queues what comes next of what is under way behind the frames of a queue at tick `now`: the part of a connection's window,
+    /// or a packet of a broadcast that is due. `bytes` are those of the message. Whether the message ends with it: a broadcast
+    /// does with its last packet.
+    #[inline(always)]
+    pub(crate) fn pump(&mut self, bytes: &[u8], now: u64, queue: &mut TxQueue) -> bool
+        requires under_way { is_under_way self.old ≡ true }
         requires message { IsOfLength self.old (length bytes.now) }
         requires places { length queue.old + most_frames ≤ queue_limit }
-        ensures value { result ≡ goes_on self.old now }
-        ensures state { OnTrue result (self.new ≡ (pumped_on self.old bytes.now now).0) }
-        ensures queued { OnTrue result (queue.new ≡ queue.old ++ (pumped_on self.old bytes.now now).1) }
+        ensures queued { queue.new ≡ queue.old ++ frames_pumped self.old bytes.now now }
+        ensures step { (lane : Lane) → lane.under_way ≡ self.old → front_bytes lane.pending ≡ bytes.now
+            → pumped lane now ≡ after_pump lane self.new (frames_pumped self.old bytes.now now) result }
         ensures same { KeepsMessage self.old self.new }
-        ensures other { OnFalse result (self.new ≡ self.old) }
-        ensures kept { OnFalse result (queue.new ≡ queue.old) }
     {
         match &mut self.content {
             UnderWay::Nothing => false,
-            UnderWay::Broadcast(state) => state.pump_in_place(bytes, now, queue),
+            UnderWay::Broadcast(state) => pump_broadcast(state, bytes, now, queue),
             UnderWay::Connection(state) => {
                 state.pump(bytes, now, queue);
-                true
+                false
             }
         }
     }
 
-    /// Takes a frame of the destination at tick `now` in place, if it is the CTS that a connection under way awaits.
+    /// A connection under way takes a frame of its destination at tick `now`: how that ends the message, if it does, and then
+    /// nothing has changed.
     #[inline]
-    pub(crate) fn take_in_place(&mut self, heard: &Heard<'_>, now: u64) -> bool
-        ensures value { result ≡ hears_quietly self.old (meant heard.now) }
-        ensures step { OnTrue result (HearsOn self.old (meant heard.now) now self.new) }
+    pub(crate) fn hear(&mut self, heard: &Heard<'_>, now: u64) -> Option<Ending>
+        ensures step { (lane : Lane) → lane.under_way ≡ self.old → heard_lane lane (meant heard.now) now ≡ after_frame lane self.new result }
         ensures same { KeepsMessage self.old self.new }
-        ensures other { OnFalse result (self.new ≡ self.old) }
     {
         match &mut self.content {
-            UnderWay::Connection(state) => state.take_in_place(heard, now),
-            _ => false,
+            UnderWay::Connection(state) => hear_frame(state, heard, now),
+            _ => None,
         }
     }
+}
+
+/// Queues the next packet of a broadcast, if it is due: whether it was the last.
+#[inline(never)]
+fn pump_broadcast(state: &mut BamOut, bytes: &[u8], now: u64, queue: &mut TxQueue) -> bool
+    requires message { length bytes.now ≡ state.old.len }
+    requires place { length queue.old < queue_limit }
+    ensures queued { queue.new ≡ queue.old ++ packet_of (bam.pumped state.old bytes.now now) }
+    ensures step { (lane : Lane) → after_packet lane (bam.pumped state.old bytes.now now) ≡ after_pump lane (Broadcast state.new) (packet_of (bam.pumped state.old bytes.now now)) result }
+    ensures len { state.new.len ≡ state.old.len }
+{
+    let Some(packet) = state.take_packet(bytes, now) else {
+        return false;
+    };
+    queue.push_free(packet.frame);
+    packet.is_last
 }

@@ -1,17 +1,17 @@
 //! How a lane settles after a doubtful end.
-ghost use Rattle.std.specs.Prelude.{◌≡◌, ◌≢◌, ◌<◌, ◌≤◌, ◌^◌};
-ghost use Rattle.lane_core.specs.Step.{step_left};
+ghost use Rattle.std.specs.Prelude.{◌≡◌, ◌≢◌, ◌<◌, ◌≤◌, ◌^◌, ◌++◌, length};
+ghost use Rattle.tx_queue.specs.Queue.{queue_limit};
 ghost use Rattle.lane_core.specs.declared.place.UnderWay.TheVariants.{Nothing};
 ghost use Rattle.lane_core.specs.declared.probe.Standing.TheVariants.{Settled};
 ghost use Rattle.lane_core.specs.Probe.{token_pgn, other_token, is_token, most_requests, request_frame as request_frame_of, probes};
 
 use crate::lane::Lane;
-use crate::step::LaneStep;
 use bus_frame::Frame;
 use pgn_ids::WirePgn;
 use tick_timers::{PROBE, Timer};
 use tp_wire::constants::{TP_CM, TP_DT};
 use tp_wire::{Wire, write};
+use tx_queue::TxQueue;
 
 /// Whether a connection may begin.
 #[derive(Clone, Copy, Debug, PartialEq, Eq)]
@@ -65,19 +65,20 @@ impl Token {
 
 impl Lane {
     /// The lane asks for its token, for the `count`-th time.
-    pub(crate) fn probe(&mut self, count: u8, now: u64) -> LaneStep
+    pub(crate) fn probe(&mut self, count: u8, now: u64, queue: &mut TxQueue)
+        requires place { length queue.old < queue_limit }
         requires nothing { self.old.under_way ≡ Nothing }
         requires unsettled { self.old.standing ≢ Settled }
         requires from_one { 1 ≤ count }
         requires to_most { count ≤ most_requests }
         ensures lane { self.new ≡ (probes self.old count now).0 }
-        ensures step { step_left result ≡ (probes self.old count now).1 }
+        ensures queued { queue.new ≡ queue.old ++ (probes self.old count now).1.frames }
     {
         self.standing = Standing::Probing {
             count,
             timer: Timer::start(now, PROBE),
         };
-        LaneStep::one(self.request_frame())
+        queue.push_free(self.request_frame());
     }
 
     /// The Request for its token.

@@ -1,27 +1,25 @@
 //! What a lane queues when it is pumped.
-ghost use Rattle.std.specs.Prelude.{◌≡◌, ◌+◌, ◌<◌, ◌≤◌, ◌++◌, false, length, Some, None, is_none};
-ghost use Rattle.std.specs.Bool.{OnTrue, OnFalse};
+ghost use Rattle.std.specs.Prelude.{◌≡◌, ◌+◌, ◌<◌, ◌≤◌, ◌++◌, length, Some, None, is_none};
 ghost use Rattle.tick_timers.specs.Due.{IsDueFrom};
 ghost use Rattle.tx_queue.specs.Queue.{queue_limit};
 ghost use Rattle.originator.specs.Pump.{most_frames};
-ghost use Rattle.lane_core.specs.Quiet.{pumps_quietly};
-ghost use Rattle.lane_core.specs.Step.{step_left};
-ghost use Rattle.lane_core.specs.declared.place.UnderWay.TheVariants.{Nothing, Broadcast};
+ghost use Rattle.lane_core.specs.declared.place.UnderWay.TheVariants.{Nothing};
 ghost use Rattle.lane_core.specs.declared.probe.Standing.TheVariants.{Settled};
 ghost use Rattle.lane_core.specs.Lane.{kind_for as kind_for_len};
 ghost use Rattle.lane_core.specs.declared.refused.PumpRefused.{PumpRefused};
-ghost use Rattle.lane_core.specs.LaneFields.{CarriesFront};
 ghost use Rattle.lane_core.specs.Endings.{still};
-ghost use Rattle.lane_core.specs.Pump.{idle_refusal, is_ready, pump_refusal as refusal_of, missing as missing_of, front_bytes as bytes_of_front, idle_pumped, pumped as pumped_lane, pumped_by};
+ghost use Rattle.lane_core.specs.Pump.{idle_refusal, is_ready, pump_refusal as refusal_of, missing as missing_of, front_bytes as bytes_of_front, idle_pumped, pumped as pumped_lane};
 
 use crate::lane::Lane;
+use crate::message::Pending;
 use crate::place::UnderWay;
 use crate::probe::Standing;
 use crate::refused::PumpRefused;
-use crate::step::{Ended, LaneStep};
-use bam_session::{BamOut, BamPumped};
+use crate::step::Ended;
+use bam_session::BamOut;
 use originator::OutState;
 use pgn_ids::Address;
+use std::collections::VecDeque;
 use tick_timers::always;
 use tp_wire::constants::TP_MAX_SIZE;
 use tp_wire::{Kind, Outcome};
@@ -98,7 +96,8 @@ impl Lane {
     /// Queues what comes next at tick `now` behind the frames of a queue: the first frame of the front message, or of a round
     /// of Requests where the lane is in doubt; the next packet of a broadcast; the next part of a connection's window. The
     /// message that it ends is told. Where `pump_refusal` gives a cause, nothing is queued and the lane stays as it was.
-    #[tactic(auto, using(crate::proofs::Pumping::refused_pump))]
+    #[inline(always)]
+    #[tactic(auto, using(crate::proofs::Pumping::refused_pump, crate::proofs::Keeping::of_length, crate::proofs::Keeping::carries_on, crate::proofs::Keeping::calm_on))]
     pub fn pump(&mut self, now: u64, queue: &mut TxQueue) -> Option<Ended>
         requires { length queue.old + most_frames ≤ queue_limit }
         ensures lane { self.new ≡ (pumped_lane self.old now).0 }
@@ -106,55 +105,14 @@ impl Lane {
         ensures ended { result ≡ (pumped_lane self.old now).1.ended }
         ensures refused { (cause : PumpRefused) → refusal_of self.old now ≡ Some cause → pumped_lane self.old now ≡ still self.old }
     {
-        if self.pump_in_place(now, queue) {
-            return None;
-        }
-        let LaneStep { frame, ended } = self.pump_telling(now);
-        if let Some(frame) = frame {
-            queue.push_free(frame);
-        }
-        ended
-    }
-
-    /// The same, faster, of a pump that ends no message. The last packet of a broadcast, and one that waits for its gap, are left to
-    /// `pump`, and change nothing.
-    #[inline]
-    #[tactic(auto, using(crate::proofs::Quiet::pumped_so, crate::proofs::Quiet::none_quiet, crate::proofs::Quiet::of_length, crate::proofs::Quiet::carries_on, crate::proofs::Quiet::calm_on))]
-    pub fn pump_in_place(&mut self, now: u64, queue: &mut TxQueue) -> bool
-        requires { length queue.old + most_frames ≤ queue_limit }
-        ensures value { result ≡ pumps_quietly self.old.under_way now }
-        ensures lane { OnTrue result (self.new ≡ (pumped_lane self.old now).0) }
-        ensures queued { OnTrue result (queue.new ≡ queue.old ++ (pumped_lane self.old now).1.frames) }
-        ensures ended { OnTrue result ((pumped_lane self.old now).1.ended ≡ None) }
-        ensures other { OnFalse result (self.new ≡ self.old) }
-        ensures kept { OnFalse result (queue.new ≡ queue.old) }
-    {
         if let UnderWay::Nothing = self.place.content() {
             self.pump_idle(now, queue);
-            return true;
+            return None;
         }
-        let bytes = match self.pending.front() {
-            None => return false,
-            Some(message) => message.bytes.as_slice(),
-        };
-        self.place.pump_in_place(bytes, now, queue)
-    }
-
-    /// Any other pump.
-    #[inline(never)]
-    fn pump_telling(&mut self, now: u64) -> LaneStep
-        requires { pumps_quietly self.old.under_way now ≡ false }
-        ensures lane { self.new ≡ (pumped_lane self.old now).0 }
-        ensures step { step_left result ≡ (pumped_lane self.old now).1 }
-    {
-        match self.take_under_way() {
-            UnderWay::Nothing => unreachable!(),
-            UnderWay::Broadcast(state) => self.pump_broadcast(state, now),
-            UnderWay::Connection(state) => {
-                let _over = state.overrun();
-                unreachable!()
-            }
+        if self.place.pump(front_bytes(&self.pending), now, queue) {
+            return self.over(Outcome::Broadcast);
         }
+        None
     }
 
     /// Nothing is under way: the front message begins, or the lane asks first. That ends nothing.
@@ -169,65 +127,45 @@ impl Lane {
         if self.pending.is_empty() {
             return;
         }
-        let step = match self.standing {
-            Standing::Settled => self.begin(now),
-            Standing::InDoubt => self.probe(1, now),
-            Standing::Probing { .. } => LaneStep::none(),
-        };
-        if let Some(frame) = step.frame {
-            queue.push_free(frame);
+        match self.standing {
+            Standing::Settled => self.begin(now, queue),
+            Standing::InDoubt => self.probe(1, now, queue),
+            Standing::Probing { .. } => {}
         }
     }
 
     /// The front message begins: BAM to all, else an RTS.
-    fn begin(&mut self, now: u64) -> LaneStep
+    fn begin(&mut self, now: u64, queue: &mut TxQueue)
         requires nothing { self.old.under_way ≡ Nothing }
         requires settled { self.old.standing ≡ Settled }
+        requires place { length queue.old < queue_limit }
         ensures lane { self.new ≡ (idle_pumped Settled self.old.pending self.old now).0 }
-        ensures step { step_left result ≡ (idle_pumped Settled self.old.pending self.old now).1 }
+        ensures queued { queue.new ≡ queue.old ++ (idle_pumped Settled self.old.pending self.old now).1.frames }
     {
         let Some(message) = self.pending.front() else {
-            return LaneStep::none();
+            return;
         };
         let (pgn, len) = (message.pgn, message.bytes.len() as u32);
         if self.to == Address::GLOBAL {
             let (state, frame) = BamOut::begin(self.from, pgn, len, now);
             self.put_under_way(UnderWay::Broadcast(state));
-            return LaneStep::one(frame);
+            queue.push_free(frame);
+            return;
         }
         let (state, frame) = originator::begin(kind_for(len), self.from, self.to, pgn, len, now);
         self.put_under_way(UnderWay::Connection(OutState::AwaitCts(state)));
-        LaneStep::one(frame)
+        queue.push_free(frame);
     }
+}
 
-    /// The bytes of the front message, in place.
-    fn front_bytes(&self) -> &[u8]
-        ensures { result.now ≡ bytes_of_front self.now.pending }
-    {
-        match self.pending.front() {
-            None => &[],
-            Some(message) => message.bytes.as_slice(),
-        }
-    }
-
-    /// A broadcast goes on with its next packet, and with the last one it has its outcome.
-    fn pump_broadcast(&mut self, state: BamOut, now: u64) -> LaneStep
-        requires front { CarriesFront self.old.from self.old.to (Broadcast state) self.old.pending }
-        requires settled { self.old.standing ≡ Settled }
-        ensures lane { self.new ≡ (pumped_by (Broadcast state) self.old now).0 }
-        ensures step { step_left result ≡ (pumped_by (Broadcast state) self.old now).1 }
-    {
-        match state.pump(self.front_bytes(), now) {
-            BamPumped::On(state, frame) => {
-                self.put_under_way(UnderWay::Broadcast(state));
-                LaneStep::one(frame)
-            }
-            BamPumped::Last(frame) => self.over(Outcome::Broadcast, Some(frame)),
-            BamPumped::NotYet(state) => {
-                self.put_under_way(UnderWay::Broadcast(state));
-                LaneStep::none()
-            }
-        }
+/// The bytes of the front message, in place.
+#[inline]
+fn front_bytes(messages: &VecDeque<Pending>) -> &[u8]
+    ensures { result.now ≡ bytes_of_front messages.now.items }
+{
+    match messages.front() {
+        None => &[],
+        Some(message) => message.bytes.as_slice(),
     }
 }
 

@@ -12,8 +12,8 @@ use Rattle.script_commands.specs.declared.fault.LineError.{LineError}
 use Rattle.script_commands.specs.declared.fault.LineError.TheVariants as errors
 use Rattle.script_commands.specs.declared.fault.Fault.{Fault}
 use Rattle.line_runs.specs.Limits.{above, unless_above, IsAbove, Read}
-use Rattle.line_runs.specs.Outcome.{Steps, numbered_line, Outcome, then_rest, outcome_from, outcome, or_refused, Obeyed}
-use Rattle.line_runs.specs.Ending.{Ended}
+use Rattle.line_runs.specs.Outcome.{Steps, numbered_line, Outcome, then_rest, outcome_from, outcome, state_after, left_from, left, or_refused, Obeyed}
+use Rattle.line_runs.specs.Ending.{Ended, Left}
 use Rattle.line_runs.specs.declared.limits.Limits.{Limits}
 use Rattle.line_runs.specs.declared.running.Told.{Told}
 use Rattle.line_runs.specs.declared.running.Told.TheVariants.{Answered, NoMemory}
@@ -156,3 +156,36 @@ module _ (S : Type 0) (m : Limits) (step : Steps S) where
       → Obeyed (Err error) t p (step s line) → IfSome ra (λ input. Ended record { fault = Some record { line = n; cause = cause_of error }; memory_refused = refused } a b (outcome m step first input))
   at_error first ra rb rc line refused a b s t n p errors.OutOfMemory inv reads o = at_front first ra rb refused a b s n inv
   at_error first ra rb rc line refused a b s t n p (errors.Fault f) inv reads o = at_fault first ra rb refused a b s n f inv (faulty_line rb rc line s n f reads o)
+
+  -- the loop's invariant of the state: the lines that are left lead where all lead
+  abbrev pub InvLeft : (first : S) → Option (List ℕ) → Option (List ℕ) → Bool → S → ℕ → Type 0
+  InvLeft first ra rb refused s n = Known ra rb (λ all rest. refused ≡ false → left_from m step s n (lines_of rest) ≡ left m step first all)
+
+  pub left_at_start : (ra : Option (List ℕ)) (refused : Bool) (s : S) → InvLeft s ra ra refused s 1
+  left_at_start None refused s = tt
+  left_at_start (Some all) refused s = λ r. refl
+
+  left_stepped : (s t : S) (n : ℕ) (p line : List ℕ) (lines : List (List ℕ)) → numbered_line m step s n line ≡ Ok (t, p) → left_from m step s n (line ∷ lines) ≡ left_from m step t (n + 1) lines
+  unfolding left_from
+  left_stepped s t n p line lines e = ap (λ (r : Result (S × List ℕ) Fault). state_after r s (λ (u : S). left_from m step u (n + 1) lines)) e
+
+  left_none : (s : S) (n : ℕ) → left_from m step s n [] ≡ s
+  unfolding left_from
+  left_none s n = refl
+
+  pub left_at_line : (first : S) (ra rb rc : Option (List ℕ)) (line : List ℕ) (refused after : Bool) (s t : S) (n : ℕ) (p : List ℕ) → InvLeft first ra rb refused s n → Read m n (Ok true) line rb rc
+      → (after ≡ false → Done s line t p refused) → InvLeft first ra rc after t (n + 1)
+  left_at_line first None rb rc line refused after s t n p inv reads done = tt
+  left_at_line first (Some all) None rc line refused after s t n p inv reads done = absurd inv
+  left_at_line first (Some all) (Some rest) None line refused after s t n p inv reads done = absurd reads.1
+  left_at_line first (Some all) (Some rest) (Some behind) line refused after s t n p inv reads done = λ r.
+      let d = done r in
+      sym (left_stepped s t n p line (lines_of behind) (numbered s n line (Ok (t, p)) reads.0 d.1)) ∙ (ap (left_from m step s n) (sym reads.1) ∙ inv d.0)
+
+  pub left_at_end : (first : S) (ra rb rc : Option (List ℕ)) (line : List ℕ) (refused : Bool) (s : S) (n : ℕ) → InvLeft first ra rb refused s n → Read m n (Ok false) line rb rc
+      → IfSome ra (λ input. Left record { fault = None; memory_refused = refused } s (left m step first input))
+  left_at_end first None rb rc line refused s n inv reads = tt
+  left_at_end first (Some all) None rc line refused s n inv reads = absurd inv
+  left_at_end first (Some all) (Some rest) None line refused s n inv reads = absurd reads
+  left_at_end first (Some all) (Some rest) (Some behind) line refused s n inv reads = λ r e.
+      sym (left_none s n) ∙ (ap (left_from m step s n) (sym reads) ∙ inv r)

@@ -2,8 +2,8 @@
 ghost use Rattle.std.specs.Prelude.{◌≡◌, ◌<◌, ◌-◌, ◌^◌, Some, List, ℕ, IfSome, MatchResult};
 ghost use Rattle.std.specs.Io.KnownBytes.{Appends};
 ghost use Rattle.text_lines.specs.Known.{IsFront};
-ghost use Rattle.line_runs.specs.Outcome.{Steps, Obeyed, or_refused, outcome};
-ghost use Rattle.line_runs.specs.Ending.{Ended, status_of};
+ghost use Rattle.line_runs.specs.Outcome.{Steps, Obeyed, or_refused, outcome, left};
+ghost use Rattle.line_runs.specs.Ending.{Ended, Left, status_of};
 
 use crate::limits::{Limits, next_line};
 use script_commands::{Cause, LineError, ScriptFault, cause_of};
@@ -112,7 +112,8 @@ fn tell_both<T: Write, L: Write, O: Obeyer>(text: &mut T, log: &mut L, obeyer: &
 ///
 /// Unless it reports a failed read or write or refused memory, exactly the text and the log of the input were written, and the fault is the
 /// input's. Where it reports a failed read or write, or memory that was refused outside a line and in none, fronts of both were written.
-/// Behind a line that found no memory the run goes on, and then nothing is promised of them.
+/// Behind a line that found no memory the run goes on, and then nothing is promised of them. A run to the end of the input leaves what obeys
+/// its lines as they do.
 pub fn run_lines<R: BufRead, T: Write, L: Write, O: Obeyer>(
     alloc: Global,
     limits: &Limits,
@@ -126,6 +127,8 @@ pub fn run_lines<R: BufRead, T: Write, L: Write, O: Obeyer>(
         Ended result (T.contents text.old) (T.contents text.new) (outcome limits.now O.in_text (O.state obeyer.old) input)) }
     ensures in_log { IfSome (R.remaining reader.old) (λ input.
         Ended result (L.contents log.old) (L.contents log.new) (outcome limits.now O.in_log (O.state obeyer.old) input)) }
+    ensures left { IfSome (R.remaining reader.old) (λ input.
+        Left result (O.state obeyer.new) (left limits.now O.in_text (O.state obeyer.old) input)) }
 {
     let mut memory_refused = false;
     let mut line = Vec::new(alloc);

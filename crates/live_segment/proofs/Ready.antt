@@ -12,6 +12,7 @@ use Rattle.segment_rings.specs.declared.words.Delivery.{Delivery}
 use Rattle.segment_rings.specs.Views.{DoorView}
 use Rattle.live_segment.specs.declared.call.WorkerCall.{WorkerCall}
 use Rattle.live_segment.specs.declared.call.WorkerCall.TheVariants.{Pump, Transmit, Take, TakeAgain, Overrun, Tick, Fire, Cancel, Inject, Pause, Resume}
+use Rattle.live_segment.specs.declared.wanted.Wanted.{Wanted}
 use Rattle.live_segment.specs.Words.{call_of, wanted_by}
 use Rattle.live_segment.specs.Record.{given}
 use Rattle.live_segment.specs.LiveView.{port_of, SparesClosed}
@@ -62,12 +63,16 @@ at_least_0 : (bs : List ℕ) → AtLeast 0 bs
 at_least_0 [] = tt
 at_least_0 (b ∷ bs) = (omega arith, at_least_0 bs)
 
+-- a call that gives nothing needs no place
+pub found_nothing : (w : Wanted) (ds : List DoorView) → w.ports ≡ [] → IsFound w ds true []
+found_nothing w ds none = (subst (λ (ns : List ℕ). HavePlaces w.station ns ds) (sym none) (have_none w.station ds), ((let l : length w.ports ≡ 0 = ap length none in omega (arith, l)), tt))
+
 each_short : (a : Address) (n : ℕ) (es : List Event) → EachAt a n es → EachShort n es
 each_short a n [] h = tt
 each_short a n (event.Given p f t g b ∷ es) h = (h.0.1, each_short a n es h.1)
 each_short a n (event.Outcome f t k o ∷ es) h = (tt, each_short a n es h.1)
 
-no_items : {T : Type 0} (xs : List T) → length xs ≤ 0 → xs ≡ []
+pub no_items : {T : Type 0} (xs : List T) → length xs ≤ 0 → xs ≡ []
 no_items [] l = refl
 no_items (x ∷ xs) l = absurd (omega (arith, l))
 

@@ -112,15 +112,8 @@ impl Calls {
         &self.image
     }
 
-    /// Whether one more call has its place in memory.
-    pub(crate) fn has_room(&self) -> bool
-        ensures room { IsTrue result ↔ (0 < self.now.spare) }
-        ensures few { count_since self.now.pieces self.now.items < 1000000 → length self.now.items + 1 < 2 ^ 64 }
-    {
-        self.stored.has_room()
-    }
-
     /// Makes room for one call more.
+    #[inline(always)]
     pub(crate) fn reserve(&mut self) -> Result<(), AllocError>
         ensures items { self.new.items ≡ self.old.items }
         ensures pieces { self.new.pieces ≡ self.old.pieces }
@@ -128,6 +121,10 @@ impl Calls {
         ensures room { OnOk result (0 < self.new.spare) }
         ensures few { count_since self.old.pieces self.old.items < 1000000 → length self.old.items + 1 < 2 ^ 64 }
     {
+        // As a rule there is room.
+        if self.stored.has_room() {
+            return Ok(());
+        }
         self.stored.reserve()
     }
 

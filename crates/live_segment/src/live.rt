@@ -5,13 +5,12 @@ ghost use Rattle.live_segment.specs.LiveView.{is_station_of, clients_at, client_
 use crate::call::{Owed, WorkerCall};
 use crate::calls::Calls;
 use crate::offer::{Ready, make_ready, store};
-use crate::places::{Found, find_places};
+use crate::places::{Found, find_room};
 use crate::refused::{Accepted, NotMade};
-use crate::step::{make, make_in_place, refusal_for};
+use crate::step::{make, refusal_for};
 use crate::tell::tell;
-use crate::wanted::wanted_of;
 use pgn_ids::{Address, Pgn};
-use segment_core::{Call, Events, NewRefused, Refusal, Reply, Segment, the_headline_holds};
+use segment_core::{Call, NewRefused, Refusal, Reply, Segment, the_headline_holds};
 use segment_law::Counts;
 use segment_rings::{Client, Door, Doorway, Inbox, Seat};
 use std::alloc::{AllocError, Global};
@@ -68,11 +67,10 @@ impl Drop for Live {
 }
 
 impl Live {
-    ghost use Rattle.std.specs.Prelude.{◌≡◌, ◌≤◌, ◌<◌, [], Bool, true, false, IfOk, OnErr, IfErr, Ok};
+    ghost use Rattle.std.specs.Prelude.{◌≡◌, ◌≤◌, ◌<◌, [], Bool, false, IfOk, OnErr, IfErr, Ok};
     ghost use Rattle.segment_law.specs.Headline.{Headline};
     ghost use Rattle.segment_law.specs.Record.{StandsAt};
-    ghost use Rattle.std.specs.Bool.{OnTrue, OnFalse};
-    ghost use Rattle.segment_law.specs.declared.reply.Reply.TheVariants.{Refused, Done};
+    ghost use Rattle.segment_law.specs.declared.reply.Reply.TheVariants.{Refused};
     ghost use Rattle.segment_law.specs.declared.refusal.Refusal.TheVariants.{TraceFull};
     ghost use Rattle.live_segment.specs.Record.{trail};
     ghost use Rattle.live_segment.specs.LiveView.{live_view, keep, stored_calls, since_cut, halted, SameLive, Applied, LacksMemory, Attached, Laws, OpenedFor, IsOpenCause};
@@ -164,23 +162,9 @@ impl Live {
     ///
     /// Refused where no more calls can be stored, and then where the segment refuses the call. Want of memory is answered
     /// only for a call that isn't refused. A refused call and want of memory change nothing.
-    // As a rule its caller says which call it is: what that does in place is then done at once.
+    // As a rule its caller says which call it is.
     #[inline(always)]
     pub fn apply(&mut self, call: WorkerCall) -> Result<Reply, AllocError>
-        ensures full { 1000000 ≤ stored_calls self.old → (result ≡ Ok (Refused TraceFull)) × (self.new ≡ self.old) }
-        ensures applied { stored_calls self.old < 1000000 → IfOk result (λ r. (room : Bool) × Applied self.old self.new call r room) }
-        ensures err { OnErr result (SameLive self.old self.new) }
-        ensures not_refused { OnErr result (LacksMemory self.old call) }
-    {
-        if self.apply_in_place(&call) {
-            return Ok(Reply::Done(Events::none(self.alloc)));
-        }
-        self.apply_tried(call)
-    }
-
-    /// Makes a call as `apply` does, but doesn't try to make it in place first: for who has tried that by `apply_in_place`.
-    #[inline(always)]
-    pub(crate) fn apply_tried(&mut self, call: WorkerCall) -> Result<Reply, AllocError>
         ensures full { 1000000 ≤ stored_calls self.old → (result ≡ Ok (Refused TraceFull)) × (self.new ≡ self.old) }
         ensures applied { stored_calls self.old < 1000000 → IfOk result (λ r. (room : Bool) × Applied self.old self.new call r room) }
         ensures err { OnErr result (SameLive self.old self.new) }
@@ -189,51 +173,30 @@ impl Live {
         if self.calls.is_full() {
             return Ok(Reply::Refused(Refusal::TraceFull));
         }
-        self.apply_telling(call)
+        self.make(call)
     }
 
-    /// Makes and stores a call that tells nothing and ends nothing, where the list of calls has its place, and answers whether it did:
-    /// faster than `apply`, since no reply is made. Any other changes nothing.
+    // The same where one more call can be stored. Room for all that follows it is found first.
     #[inline(always)]
-    pub(crate) fn apply_in_place(&mut self, call: &WorkerCall) -> bool
-        ensures few { OnTrue result (stored_calls self.old < 1000000) }
-        ensures applied { OnTrue result (Applied self.old self.new call.now (Done []) true) }
-        ensures other { OnFalse result (self.new ≡ self.old) }
-    {
-        if self.calls.is_full() {
-            return false;
-        }
-        if !self.calls.has_room() {
-            return false;
-        }
-        let asked = call.with_room(true);
-        if !make_in_place(&mut self.segment, &asked) {
-            return false;
-        }
-        self.calls.push_reserved(Stored {
-            by: None,
-            call: asked,
-        });
-        true
-    }
-
-    // Any other call.
-    #[inline(never)]
-    fn apply_telling(&mut self, call: WorkerCall) -> Result<Reply, AllocError>
+    fn make(&mut self, call: WorkerCall) -> Result<Reply, AllocError>
         requires { stored_calls self.old < 1000000 }
         ensures applied { IfOk result (λ r. (room : Bool) × Applied self.old self.new call r room) }
         ensures err { OnErr result (SameLive self.old self.new) }
         ensures not_refused { OnErr result (LacksMemory self.old call) }
     {
-        if let Some(refusal) = refusal_for(&self.segment, &call) {
-            return Ok(Reply::Refused(refusal));
-        }
-        self.calls.reserve()?;
-        let Found { room, buffers } = find_places(
+        let Ok(found) = find_room(
             self.alloc,
+            &self.segment,
+            &mut self.calls,
             &mut self.doors,
-            &wanted_of(&self.segment, &call),
-        )?;
+            &call,
+        ) else {
+            if let Some(refusal) = refusal_for(&self.segment, &call) {
+                return Ok(Reply::Refused(refusal));
+            }
+            return Err(AllocError);
+        };
+        let Found { room, buffers } = found;
         match make(&mut self.segment, call.with_room(room))? {
             Reply::Done(events) => {
                 let told = tell(

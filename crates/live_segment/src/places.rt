@@ -1,11 +1,15 @@
 //! Places in the rings of ports, and memory for what goes there, found before a call is made.
-ghost use Rattle.std.specs.Prelude.{◌≡◌, ◌<◌, ◌*◌, length, IfOk, IsTrue, IsFalse, MatchOption, true, false};
+ghost use Rattle.std.specs.Prelude.{◌≡◌, ◌<◌, ◌+◌, ◌*◌, ◌^◌, length, IfOk, OnOk, IsTrue, IsFalse, MatchOption, true, false};
+ghost use Rattle.live_segment.specs.Past.{count_since};
+ghost use Rattle.live_segment.specs.Words.{wanted_by};
 ghost use Rattle.live_segment.specs.Facts.{NoneAt, PortsApart, SameDoors};
 ghost use Rattle.live_segment.specs.Places.{times, IsPlaceIn, RoomAt, LacksRoom, HavePlaces, LacksPlace, AtLeast, IsFound};
 
-use crate::wanted::Wanted;
+use crate::call::WorkerCall;
+use crate::calls::Calls;
+use crate::wanted::{Wanted, gives, wanted_of};
 use pgn_ids::Address;
-use segment_core::PortId;
+use segment_core::{PortId, Segment};
 use segment_rings::{Buffer, Door};
 use std::alloc::{AllocError, Global};
 
@@ -86,12 +90,9 @@ pub(crate) struct Found {
     pub(crate) buffers: Vec<Buffer>,
 }
 
-/// A place for each delivery that is wanted, and memory for it.
-pub(crate) fn find_places(
-    alloc: Global,
-    doors: &mut Vec<Door>,
-    wanted: &Wanted,
-) -> Result<Found, AllocError>
+// A place for each delivery that is wanted, and memory for it.
+#[inline(never)]
+fn find_places(alloc: Global, doors: &mut Vec<Door>, wanted: &Wanted) -> Result<Found, AllocError>
     requires { PortsApart doors.old.items }
     ensures same { SameDoors doors.old.items doors.new.items }
     ensures found { IfOk result (λ r. IsFound wanted.now doors.new.items r.room r.buffers.items) }
@@ -107,5 +108,33 @@ pub(crate) fn find_places(
     Ok(Found {
         room: true,
         buffers,
+    })
+}
+
+/// A place where a call is stored, and for each delivery that it makes, with memory for it.
+#[inline(always)]
+pub(crate) fn find_room(
+    alloc: Global,
+    segment: &Segment,
+    calls: &mut Calls,
+    doors: &mut Vec<Door>,
+    call: &WorkerCall,
+) -> Result<Found, AllocError>
+    requires { PortsApart doors.old.items }
+    ensures items { calls.new.items ≡ calls.old.items }
+    ensures pieces { calls.new.pieces ≡ calls.old.pieces }
+    ensures image { calls.new.image ≡ calls.old.image }
+    ensures same { SameDoors doors.old.items doors.new.items }
+    ensures place { OnOk result (0 < calls.new.spare) }
+    ensures few { count_since calls.old.pieces calls.old.items < 1000000 → length calls.old.items + 1 < 2 ^ 64 }
+    ensures found { IfOk result (λ r. IsFound (wanted_by segment.now call.now) doors.new.items r.room r.buffers.items) }
+{
+    calls.reserve()?;
+    if gives(segment, call) {
+        return find_places(alloc, doors, &wanted_of(segment, call));
+    }
+    Ok(Found {
+        room: true,
+        buffers: Vec::new(alloc),
     })
 }

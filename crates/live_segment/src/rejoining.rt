@@ -7,7 +7,7 @@ ghost use Rattle.live_segment.specs.Rejoining.{IsJoined, IsJoinCause, StandsAfte
 
 use crate::calls::Piece;
 use crate::live::Live;
-use crate::step::{make, make_in_place};
+use crate::step::make;
 use pgn_ids::Address;
 use segment_core::{Call, NewRefused, Refusal, Segment, the_headline_holds};
 use std::alloc::{AllocError, Global};
@@ -93,9 +93,6 @@ fn make_all(alloc: Global, segment: &mut Segment, calls: &StoredCalls) -> Result
 {
     for at in 0..calls.len() {
         let Stored { by: _, call } = calls.copy(alloc, at)?;
-        if make_in_place(segment, &call) {
-            continue;
-        }
         make(segment, call)?;
     }
     Ok(())

@@ -35,6 +35,37 @@ pub(crate) fn tell(
     ensures room { HaveRoom owed.new.items seats.new.items }
     ensures within { OwedWithin (length seats.new.items) owed.new.items }
 {
+    // Most calls tell nothing.
+    if events.is_empty() {
+        return events;
+    }
+    tell_some(alloc, doors, owed, seats, buffers, events)
+}
+
+// The same of a call that tells something.
+#[inline(never)]
+fn tell_some(
+    alloc: Global,
+    doors: &mut Vec<Door>,
+    owed: &mut Vec<Owed>,
+    seats: &mut Vec<Seat>,
+    buffers: Vec<Buffer>,
+    events: Events,
+) -> Events
+    requires apart { PortsApart doors.old.items }
+    requires takes { TakesAll events doors.old.items }
+    requires enough { (n : ℕ) × EnoughFor n events buffers.items }
+    requires ids { IdsFrom 0 seats.old.items }
+    requires room { HaveRoom owed.old.items seats.old.items }
+    requires within { OwedWithin (length seats.old.items) owed.old.items }
+    ensures events { result ≡ events }
+    ensures doors { doors.new.items ≡ give_all events doors.old.items }
+    ensures owed { owed.new.items ≡ settle_owed owed.old.items events }
+    ensures seats { seats.new.items ≡ note_all (settle_notes owed.old.items events) seats.old.items }
+    ensures ids { IdsFrom 0 seats.new.items }
+    ensures room { HaveRoom owed.new.items seats.new.items }
+    ensures within { OwedWithin (length seats.new.items) owed.new.items }
+{
     let mut buffers = buffers;
     let (first, rest) = events.into_parts();
     let Some(first) = first else {

@@ -55,6 +55,7 @@ impl Turn {
         }
     }
 
+    #[inline(always)]
     fn answered(&mut self, reply: &Reply)
         ensures { self.new ≡ after_reply self.old reply.now }
     {
@@ -82,11 +83,7 @@ impl Turn {
     fn make(&mut self, live: &mut Live, call: WorkerCall)
         ensures { Makes call (point live.old self.old) (point live.new self.new) }
     {
-        if live.apply_in_place(&call) {
-            self.add();
-            return;
-        }
-        match live.apply_tried(call) {
+        match live.apply(call) {
             Ok(reply) => self.answered(&reply),
             Err(_) => {}
         }

@@ -1,5 +1,6 @@
 //! What a call gives where there is room.
-ghost use Rattle.std.specs.Prelude.{◌≡◌};
+ghost use Rattle.std.specs.Prelude.{◌≡◌, []};
+ghost use Rattle.std.specs.Bool.{OnFalse};
 ghost use Rattle.live_segment.specs.Words.{wanted_by};
 
 use crate::call::WorkerCall;
@@ -41,5 +42,17 @@ pub(crate) fn wanted_of(segment: &Segment, call: &WorkerCall) -> Wanted
             ports: PortSet::empty(),
             len: 0,
         },
+    }
+}
+
+/// Whether a call gives anything, if there is room for it.
+#[inline(always)]
+pub(crate) fn gives(segment: &Segment, call: &WorkerCall) -> bool
+    ensures { OnFalse result ((wanted_by segment.now call.now).ports ≡ []) }
+{
+    match call {
+        WorkerCall::Take { station } => !segment.wants(*station, false).0.is_empty(),
+        WorkerCall::TakeAgain { station } => !segment.wants(*station, true).0.is_empty(),
+        _ => false,
     }
 }

@@ -17,5 +17,5 @@ mod writing;
 pub use iface::{BadName, Iface};
 pub use laws::written_lines_are_read_back;
 pub use line::{LogLine, NotLogLine, read_log_line, read_time};
-pub use reading::{Form, form_of, read_line_as};
+pub use reading::{Form, before_return, form_of, read_line_as};
 pub use writing::{put_log_line, put_time};

@@ -21,7 +21,7 @@ pub enum Form {
 }
 
 /// The line without a carriage return at its end.
-fn before_return(line: &[u8]) -> &[u8]
+pub fn before_return(line: &[u8]) -> &[u8]
     ensures { result.now ≡ before_return line.now }
 {
     let Some((last, _)) = line.split_last() else {

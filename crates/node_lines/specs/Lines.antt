@@ -2,6 +2,7 @@
 use Rattle.std.specs.Prelude.{ℕ, List, [], ◌∷◌, Bool, false, Option, Some, None, Result, Ok, Err, ◌==◌, if◌then◌else◌, codes}
 use Rattle.std.specs.Str.{bytes_eq}
 use Rattle.log_text.specs.Line.{time_word, log_line}
+use Rattle.log_text.specs.Reading.{before_return}
 use Rattle.log_text.specs.declared.line.LogLine.{LogLine}
 use Rattle.log_text.specs.declared.line.LogLine.TheVariants as logged
 use Rattle.script_commands.specs.Words.{is_ascii, words_of}
@@ -40,5 +41,9 @@ by_log line None = Err UnknownCommand
 by_log line (Some (logged.Frame time iface frame)) = Ok (Frame time iface frame)
 by_log line (Some logged.Passed) = if has_bracket line then Ok Passed else words_meaning (words_of line)
 
+abbrev pub bare_meaning : List ℕ → Meaning
+bare_meaning line = if is_ascii line then by_log line (log_line line) else Err NotAscii
+
+-- a carriage return at its end says nothing
 unfoldable pub node_line : List ℕ → Meaning
-node_line line = if is_ascii line then by_log line (log_line line) else Err NotAscii
+node_line line = bare_meaning (before_return line)

@@ -6,7 +6,7 @@ ghost use Rattle.node_lines.specs.Lines.{now_of, words_meaning, has_bracket, nod
 
 use crate::command::{NodeCommand, read_node_command};
 use bus_frame::Frame;
-use log_text::{Iface, LogLine, read_log_line, read_time};
+use log_text::{Iface, LogLine, before_return, read_log_line, read_time};
 use script_commands::values::{WRONG_NUMBER, is};
 use script_commands::{Fault, LineError, is_ascii, split_words};
 use std::alloc::Global;
@@ -65,7 +65,7 @@ fn has_bracket(line: &[u8]) -> bool
     }
 }
 
-/// What a line means, without its line feed.
+/// What a line means, without its line feed. A carriage return at its end says nothing.
 ///
 /// A line that begins with a bracket is one of the bus's log, as `candump -L` writes it, and so is one that shows a frame in the form that
 /// candump shows on a screen. Any other line is `now SECONDS.MICROS`, with six digits behind the point, or a command of a script
@@ -78,6 +78,7 @@ fn has_bracket(line: &[u8]) -> bool
 pub fn read_node_line(alloc: Global, line: &[u8]) -> Result<NodeLine, LineError>
     ensures { Gives (λ l. l) result (node_line line.now) }
 {
+    let line = before_return(line);
     if !is_ascii(line) {
         return Err(LineError::Fault(Fault::NotAscii));
     }

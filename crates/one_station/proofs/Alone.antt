@@ -31,7 +31,7 @@ use Rattle.one_station.specs.Looks.{comes_on_bus}
 use Rattle.one_station.specs.NodeFields.{IsAlone, HasLookedAtAll}
 
 -- how many frames wait after a call that isn't refused
-abbrev waits_after : Call → ℕ → ℕ
+abbrev pub waits_after : Call → ℕ → ℕ
 waits_after (Transmit a) n = n + 1
 waits_after (Inject f) n = n + 1
 waits_after (Take a room) n = n - 1

@@ -1,14 +1,13 @@
 -- A node between its calls: its station has looked at every frame of its bus.
-use Rattle.std.proofs.Common.{◌≡◌, ◌+◌, ◌-◌, Bool, true, false, cond, List, [], ◌∷◌, ◌++◌, Option, Some, None, Ok, Err, IsOk, refl, sym, ap, ◌∙◌, subst}
+use Rattle.std.proofs.Common.{◌≡◌, ◌-◌, Bool, true, false, cond, List, [], ◌∷◌, ◌++◌, Option, Some, None, Ok, Err, IsOk, refl, sym, ap, ◌∙◌, subst}
 use Rattle.std.specs.Prelude.{nat_le, nat_lt}
-use Rattle.std.proofs.lemmas.Option.{same_Some}
 use Rattle.bus_frame.specs.Frames.{CanFrame}
 use Rattle.pgn_ids.specs.declared.address.Address.{Address}
 use Rattle.tx_queue.specs.Queue.{queue_limit}
 use Rattle.bus_order.specs.Bus.{waiting}
 use Rattle.message_events.specs.declared.event.Event.{Event}
-use Rattle.station_core.specs.Station.{Station, new_station}
-use Rattle.segment_law.specs.Segment.{Segment, place_of, station_of, new_segment}
+use Rattle.station_core.specs.Station.{new_station}
+use Rattle.segment_law.specs.Segment.{Segment, new_segment}
 use Rattle.segment_law.specs.Calls.{Answer, called, replied, applied, no_place}
 use Rattle.segment_law.specs.Record.{Record, StandsAt}
 use Rattle.segment_law.specs.Reached.{IsReached}
@@ -21,19 +20,18 @@ use Rattle.segment_law.specs.declared.reply.Reply.TheVariants as replies
 use Rattle.segment_law.specs.declared.reply.Reply.TheVariants.{Done}
 use Rattle.segment_law.proofs.Records.{stands_reached}
 use Rattle.record_law.proofs.EachCall.{Holds, Accepted, each_called}
+use Rattle.record_law.proofs.Replies.{IsReplyTo, fits}
 use Rattle.segment_core.specs.Answers.{refusal_of}
-use Rattle.station_core.specs.Quiet.{takes_quietly}
-use Rattle.segment_core.specs.InPlace.{take_quiet, next_at}
 use Rattle.segment_core.specs.Memory.{MayAskMemory}
 use Rattle.one_station.specs.Node.{Node}
-use Rattle.one_station.specs.Looks.{comes_on_bus, Tells, Puts, PassesInPlace, HasLooked}
+use Rattle.one_station.specs.Looks.{comes_on_bus, Tells, Puts, PassesBy, HasLooked}
 use Rattle.one_station.specs.NodeFields.{IsStood, IsAlone, HasLookedAtAll}
 use Rattle.one_station.specs.Answers.{IsUndone, IsTakenIn, first_cause, feed_refusal, has_frame, overruns, is_own, is_queue_full, as_error}
 use Rattle.one_station.specs.declared.error.NodeError.{NodeError}
 use Rattle.one_station.specs.declared.error.NodeError.TheVariants.{Refused}
 use Rattle.one_station.specs.declared.error.Fed.{Fed}
 use Rattle.one_station.specs.declared.error.Fed.TheVariants.{Taken, WithoutRoom, PassedBy}
-use Rattle.one_station.proofs.Alone.{place_is, station_is, leaves_by, rests, waits_is, keeps_one, overrun_passes, take_passes, has_place, comes_next}
+use Rattle.one_station.proofs.Alone.{waits_after, leaves_by, rests, waits_is, keeps_one, overrun_passes, take_passes, has_place, comes_next}
 use Rattle.one_station.proofs.Made.{node_of, tells_quietly}
 
 reached : (address : Address) (segment : Segment) → IsStood address segment → IsReached segment
@@ -56,25 +54,43 @@ pub may_miss : (now : Node) (segment : Segment) (address : Address) (events : Li
 may_miss now segment address events missed view stood looked =
     subst (λ (n : Node). IsOk (called n.segment (overruns n))) view (overrun_passes address segment (reached address segment stood) looked.0)
 
+-- what holds of the two calls by which a frame comes on the bus holds of each such call
+on_bus : (P : Call → Type 0) → ((a : Address) → P (Transmit a)) → ((f : CanFrame) → P (Inject f)) → (call : Call) → comes_on_bus call ≡ true → P call
+on_bus P own foreign (Transmit a) e = own a
+on_bus P own foreign (Inject f) e = foreign f
+on_bus P own foreign (Open a pgn max_len) e = absurd cc
+on_bus P own foreign (Close port) e = absurd cc
+on_bus P own foreign (Send from to pgn bytes) e = absurd cc
+on_bus P own foreign (Pump a to) e = absurd cc
+on_bus P own foreign (Take a room) e = absurd cc
+on_bus P own foreign (TakeAgain a room) e = absurd cc
+on_bus P own foreign (Overrun a n) e = absurd cc
+on_bus P own foreign (Tick n) e = absurd cc
+on_bus P own foreign (Fire a) e = absurd cc
+on_bus P own foreign (Cancel from to number) e = absurd cc
+on_bus P own foreign (Pause port) e = absurd cc
+on_bus P own foreign (Resume port) e = absurd cc
+
 -- there is room on the bus
 pub room_on_bus : (address : Address) (segment : Segment) (call : Call) → comes_on_bus call ≡ true → IsStood address segment → HasLookedAtAll address segment → MayAskMemory segment call → ⊥
-room_on_bus address segment call comes stood looked = by call comes
+room_on_bus address segment call comes stood looked =
+    let none = keeps_one address segment (reached address segment stood) looked.0 looked.1 in
+    on_bus (λ c. MayAskMemory segment c → ⊥) (λ a. none) (λ f. none) call comes
+
+-- it is answered by what it tells, if it isn't refused
+abbrev pub IsOfBus : Reply → Type 0
+IsOfBus (replies.Opened port) = ⊥
+IsOfBus (replies.Sent number) = ⊥
+IsOfBus reply = Unit {0}
+
+pub fits_bus : (seg new : Segment) (call : Call) (reply : Reply) → comes_on_bus call ≡ true → applied seg call ≡ (new, reply) → IsOfBus reply
+fits_bus seg new call reply comes says = by reply says
   where
-    by : (call : Call) → comes_on_bus call ≡ true → MayAskMemory segment call → ⊥
-    by (Transmit a) e = keeps_one address segment (reached address segment stood) looked.0 looked.1
-    by (Inject f) e = keeps_one address segment (reached address segment stood) looked.0 looked.1
-    by (Open a pgn max_len) e = absurd cc
-    by (Close port) e = absurd cc
-    by (Send from to pgn bytes) e = absurd cc
-    by (Pump a to) e = absurd cc
-    by (Take a room) e = absurd cc
-    by (TakeAgain a room) e = absurd cc
-    by (Overrun a n) e = absurd cc
-    by (Tick n) e = absurd cc
-    by (Fire a) e = absurd cc
-    by (Cancel from to number) e = absurd cc
-    by (Pause port) e = absurd cc
-    by (Resume port) e = absurd cc
+    by : (r : Reply) → applied seg call ≡ (new, r) → IsOfBus r
+    by (replies.Opened port) e = on_bus (λ c. IsReplyTo (replies.Opened port) c → ⊥) (λ a h. h) (λ f h. h) call comes (fits seg call new (replies.Opened port) e tt)
+    by (replies.Sent number) e = on_bus (λ c. IsReplyTo (replies.Sent number) c → ⊥) (λ a h. h) (λ f h. h) call comes (fits seg call new (replies.Sent number) e tt)
+    by (replies.Refused cause) e = tt
+    by (replies.Done events) e = tt
 
 -- what isn't refused
 pub none_of : (x : Answer) → IsOk x → refusal_of x ≡ None
@@ -134,20 +150,9 @@ comes_to_take address segment mid frame stood looked (few, ok) puts room =
 
 -- and then none waits
 one_waits : (call : Call) → comes_on_bus call ≡ true → (address : Address) (segment mid : Segment) (r : IsReached segment) (h : HasLookedAtAll address segment) → IsOk (called segment call) → (applied segment call).0 ≡ mid → IsAlone address mid × (waiting mid.bus 0 ≡ 1)
-one_waits (Transmit a) comes address segment mid r h ok made = let k = leaves_by address segment r h.0 (Transmit a) mid ok made in (k.0, k.1 ∙ ap (λ n. n + 1) h.1)
-one_waits (Inject f) comes address segment mid r h ok made = let k = leaves_by address segment r h.0 (Inject f) mid ok made in (k.0, k.1 ∙ ap (λ n. n + 1) h.1)
-one_waits (Open a pgn max_len) comes address segment mid r h ok made = absurd cc
-one_waits (Close port) comes address segment mid r h ok made = absurd cc
-one_waits (Send from to pgn bytes) comes address segment mid r h ok made = absurd cc
-one_waits (Pump a to) comes address segment mid r h ok made = absurd cc
-one_waits (Take a room) comes address segment mid r h ok made = absurd cc
-one_waits (TakeAgain a room) comes address segment mid r h ok made = absurd cc
-one_waits (Overrun a n) comes address segment mid r h ok made = absurd cc
-one_waits (Tick n) comes address segment mid r h ok made = absurd cc
-one_waits (Fire a) comes address segment mid r h ok made = absurd cc
-one_waits (Cancel from to number) comes address segment mid r h ok made = absurd cc
-one_waits (Pause port) comes address segment mid r h ok made = absurd cc
-one_waits (Resume port) comes address segment mid r h ok made = absurd cc
+one_waits call comes address segment mid r h ok made =
+    let k = leaves_by address segment r h.0 call mid ok made in
+    (k.0, k.1 ∙ ap (λ n. waits_after call n) h.1 ∙ on_bus (λ c. waits_after c 0 ≡ 1) (λ a. refl) (λ f. refl) call comes)
 
 -- where it was taken
 pub looked_again : (address : Address) (segment mid after : Segment) (call : Call) (room : Bool) (waits left : List Event) → comes_on_bus call ≡ true → IsStood address segment → HasLookedAtAll address segment → IsOk (called segment call) → Puts segment call mid
@@ -194,21 +199,8 @@ each_silent seg = record {
 silent : (seg : Segment) (call : Call) → comes_on_bus call ≡ true → IsOk (called seg call) → (applied seg call).1 ≡ Done []
 silent seg call comes ok = by (called seg call) (each_called seg IsSilent (each_silent seg) call) ok
   where
-    of_call : (call : Call) → comes_on_bus call ≡ true → (step : Segment × Reply) → IsSilent call step → step.1 ≡ Done []
-    of_call (Transmit a) e step h = h
-    of_call (Inject f) e step h = h
-    of_call (Open a pgn max_len) e step h = absurd cc
-    of_call (Close port) e step h = absurd cc
-    of_call (Send from to pgn bytes) e step h = absurd cc
-    of_call (Pump a to) e step h = absurd cc
-    of_call (Take a room) e step h = absurd cc
-    of_call (TakeAgain a room) e step h = absurd cc
-    of_call (Overrun a n) e step h = absurd cc
-    of_call (Tick n) e step h = absurd cc
-    of_call (Fire a) e step h = absurd cc
-    of_call (Cancel from to number) e step h = absurd cc
-    of_call (Pause port) e step h = absurd cc
-    of_call (Resume port) e step h = absurd cc
+    of_call : (c : Call) → comes_on_bus c ≡ true → (step : Segment × Reply) → IsSilent c step → step.1 ≡ Done []
+    of_call = on_bus (λ c. (step : Segment × Reply) → IsSilent c step → step.1 ≡ Done []) (λ a step h. h) (λ f step h. h)
 
     by : (x : Answer) → Holds seg IsSilent call x → IsOk x → (replied seg x).1 ≡ Done []
     by (Err cause) h ok = absurd (cc)
@@ -223,28 +215,8 @@ put_silently seg new call reply comes ok says stands =
     let quiet : reply ≡ Done [] = silent_says seg new call reply comes ok says in
     tells_quietly seg new call (says ∙ ap (λ (r : Reply). (new, r)) quiet) (subst (λ (r : Reply). (addresses : List Address) (steps : Record) → StandsAt addresses steps seg → StandsAt addresses (steps ++ (call, r) ∷ []) new) quiet stands)
 
--- what is made in place isn't refused
-take_ok : (st : Option Station) (frame : Option CanFrame) (room : Bool) → take_quiet st frame room ≡ true → (s : Station) × (f : CanFrame) × (st ≡ Some s) × (frame ≡ Some f) × (no_place s ≡ false)
-take_ok (Some st) (Some frame) room e = (st, frame, refl, refl, by (no_place st) refl e)
-  where
-    by : (b : Bool) → no_place st ≡ b → cond b false (takes_quietly st frame room) ≡ true → no_place st ≡ false
-    by true is e = absurd (cc)
-    by false is e = is
-take_ok (Some st) None room e = absurd (cc)
-take_ok None (Some frame) room e = absurd (cc)
-take_ok None None room e = absurd (cc)
-
-passes_ok : (address : Address) (mid : Segment) (r : IsReached mid) (k : IsAlone address mid) → PassesInPlace mid address → IsOk (called mid (Take address true))
-passes_ok address mid r k passes =
-    let t = take_ok (station_of mid address) (next_at mid (place_of mid address)) true passes.0 in
-    let its : t.0 ≡ k.station = same_Some t.0 k.station (sym t.2 ∙ station_is address mid r k) in
-    take_passes address mid r k t.1 (sym (ap (next_at mid) (place_is address mid r k)) ∙ t.3) (ap no_place (sym its) ∙ t.4) true
-
 -- its own frame, which it passed by
-pub looked_own : (address : Address) (segment mid after : Segment) → IsStood address segment → HasLookedAtAll address segment → IsOk (called segment (Transmit address)) → Puts segment (Transmit address) mid → PassesInPlace mid address → Puts mid (Take address true) after
+pub looked_own : (address : Address) (segment mid after : Segment) → IsStood address segment → HasLookedAtAll address segment → IsOk (called segment (Transmit address)) → Puts segment (Transmit address) mid → PassesBy mid address → Puts mid (Take address true) after
     → IsStood address after × HasLookedAtAll address after
 looked_own address segment mid after stood looked ok puts passes took =
-    let t = puts [] in
-    let s : IsStood address mid = stood_by address segment mid [] [] (Transmit address) t stood in
-    let k = one_waits (Transmit address) refl address segment mid (reached address segment stood) looked ok t.made in
-    looked_again address segment mid after (Transmit address) true [] [] refl stood looked ok puts (passes_ok address mid (reached address mid s) k.0 passes) (took [])
+    looked_again address segment mid after (Transmit address) true [] [] refl stood looked ok puts (subst (λ (x : Answer). IsOk x) (sym (passes.1 true)) refl) (took [])

@@ -3,12 +3,11 @@ use Rattle.std.specs.Prelude.{◌≡◌, Bool, true, false, List, [], ◌∷◌,
 use Rattle.pgn_ids.specs.declared.address.Address.{Address}
 use Rattle.message_events.specs.declared.event.Event.{Event}
 use Rattle.segment_law.specs.Segment.{Segment}
-use Rattle.segment_law.specs.Calls.{called, applied, events_of}
+use Rattle.segment_law.specs.Calls.{called, done, applied, events_of}
 use Rattle.segment_law.specs.Record.{Record, StandsAt}
 use Rattle.segment_law.specs.declared.call.Call.{Call}
 use Rattle.segment_law.specs.declared.call.Call.TheVariants.{Transmit, Take, Inject}
 use Rattle.segment_law.specs.declared.refusal.Refusal.{Refusal}
-use Rattle.segment_core.specs.InPlace.{is_quiet, MayLackMemory}
 use Rattle.one_station.specs.declared.error.Fed.{Fed}
 use Rattle.one_station.specs.declared.error.Fed.TheVariants.{Taken, WithoutRoom, PassedBy}
 
@@ -33,9 +32,9 @@ abbrev pub IsPut : (before : Segment) → Call → (after : Segment) → Result 
 IsPut before call after (Ok done) = IsOk (called before call) × Puts before call after
 IsPut before call after (Err cause) = (called before call ≡ Err cause) × (after ≡ before)
 
--- to take the next frame isn't refused, tells nothing, and asks for no memory
-abbrev pub PassesInPlace : Segment → Address → Type 0
-PassesInPlace segment station = (is_quiet segment (Take station true) ≡ true) × (MayLackMemory segment (Take station true) → ⊥)
+-- to take the next frame is one with room and without: it isn't refused, and tells nothing
+abbrev pub PassesBy : Segment → Address → Type 0
+PassesBy segment station = (next : Segment) × ((room : Bool) → called segment (Take station room) ≡ done next)
 
 -- the station takes the next frame, with room or without
 abbrev pub HasLooked : Segment → List Event → Address → Segment → List Event → Fed → Type 0

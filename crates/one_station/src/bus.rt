@@ -7,7 +7,7 @@ ghost use Rattle.one_station.specs.Node.{Did};
 ghost use Rattle.one_station.specs.Answers.{IsAnswered, IsFed, IsTakenIn, IsSent, IsPassedBy, first_cause, front_calls};
 
 use crate::error::{Fed, NodeError};
-use crate::look::{look, pass, put_foreign, put_own};
+use crate::look::{look, pass, put};
 use crate::node::{Node, make_one};
 use broadcast_law::stations_queue_their_own;
 use bus_frame::Frame;
@@ -61,7 +61,7 @@ impl Node {
             Ok(()) => {}
             Err(error) => return Err(error),
         }
-        if let Err(cause) = put_foreign(&mut self.segment, frame) {
+        if let Err(cause) = put(&mut self.segment, Call::Inject { frame }) {
             return Err(NodeError::Refused(cause));
         }
         let station = self.address;
@@ -93,12 +93,7 @@ impl Node {
         ensures { IsAnswered self.old (Pump self.old.address to) self.new result }
     {
         let station = self.address;
-        let pump = Call::Pump { station, to };
-        // As a rule it tells nothing, and needs no place for that.
-        if self.segment.apply_in_place(&pump) {
-            return Ok(());
-        }
-        self.make(pump)
+        self.make(Call::Pump { station, to })
     }
 
     /// The frame that is next for the bus, or none where there is nothing to put now. It stays the next until `sent` says that it
@@ -147,7 +142,7 @@ impl Node {
         stations_queue_their_own();
         let station = self.address;
         let _at_most_full = self.segment.queue_len(station);
-        if let Err(cause) = put_own(&mut self.segment, station) {
+        if let Err(cause) = put(&mut self.segment, Call::Transmit { station }) {
             return Err(NodeError::Refused(cause));
         }
         pass(&mut self.segment, station);

@@ -3,25 +3,27 @@ ghost use Rattle.std.specs.Prelude.{◌≡◌, ◌<◌, Bool, true, IsOk, OnOk, 
 ghost use Rattle.std.specs.Bool.{OnTrue, OnFalse};
 ghost use Rattle.std.specs.VecDeque.{deque_len, deque_capacity};
 ghost use Rattle.segment_law.specs.Calls.{called};
-ghost use Rattle.segment_law.specs.declared.call.Call.TheVariants.{Inject, Take, Transmit};
+ghost use Rattle.segment_law.specs.declared.call.Call.TheVariants.{Take};
 ghost use Rattle.segment_core.specs.Memory.{MayAskMemory};
 ghost use Rattle.one_station.specs.Told.{told_events, IsFrontFirst};
-ghost use Rattle.one_station.specs.Looks.{Tells, Puts, IsPut, PassesInPlace, HasLooked};
+ghost use Rattle.one_station.specs.Looks.{comes_on_bus, Tells, Puts, IsPut, PassesBy, HasLooked};
 
 use crate::error::Fed;
 use crate::node::{ended, make_room};
 use crate::told::Told;
-use bus_frame::Frame;
 use pgn_ids::Address;
 use segment_core::{Call, Refusal, Reply, Segment};
 use std::alloc::AllocError;
 
-/// The frame of another node comes on the bus, which has room for it; or it is refused, and nothing changes.
-pub(crate) fn put_foreign(segment: &mut Segment, frame: Frame) -> Result<(), Refusal>
-    requires room { MayAskMemory segment.old (Inject frame) → ⊥ }
-    ensures { IsPut segment.old (Inject frame) segment.new result }
+/// A frame comes on the bus, which has room for it: that of another node, or the first of the station's queue. Or it is refused, and
+/// nothing changes.
+#[inline(always)]
+pub(crate) fn put(segment: &mut Segment, call: Call) -> Result<(), Refusal>
+    requires comes { comes_on_bus call ≡ true }
+    requires room { MayAskMemory segment.old call → ⊥ }
+    ensures { IsPut segment.old call segment.new result }
 {
-    match segment.apply(Call::Inject { frame }) {
+    match segment.apply(call) {
         Ok(Reply::Done(_)) => Ok(()),
         Ok(Reply::Refused(cause)) => Err(cause),
         Ok(Reply::Opened(_)) => unreachable!(),
@@ -30,35 +32,24 @@ pub(crate) fn put_foreign(segment: &mut Segment, frame: Frame) -> Result<(), Ref
     }
 }
 
-/// The first frame of the station's queue does.
-pub(crate) fn put_own(segment: &mut Segment, station: Address) -> Result<(), Refusal>
-    requires room { MayAskMemory segment.old (Transmit station) → ⊥ }
-    ensures { IsPut segment.old (Transmit station) segment.new result }
-{
-    let transmit = Call::Transmit { station };
-    if segment.apply_in_place(&transmit) {
-        return Ok(());
-    }
-    match segment.refusal(&transmit) {
-        Some(cause) => Err(cause),
-        None => unreachable!(),
-    }
-}
-
-/// The station passes the next frame by, since it doesn't look at it.
+/// The station passes the next frame by, since it doesn't look at it. With room or without is one then, and without room no memory is
+/// asked for.
+#[inline(always)]
 pub(crate) fn pass(segment: &mut Segment, station: Address)
-    requires { PassesInPlace segment.old station }
+    requires { PassesBy segment.old station }
     ensures { Puts segment.old (Take station true) segment.new }
 {
-    if !segment.apply_in_place(&Call::Take {
+    match segment.apply(Call::Take {
         station,
-        room: true,
+        room: false,
     }) {
-        unreachable!();
+        Ok(_) => {}
+        Err(_) => unreachable!(),
     }
 }
 
 /// The station takes the next frame, with room or, if that finds no memory, without.
+#[inline(always)]
 pub(crate) fn look(
     segment: &mut Segment,
     told: &mut Told,
@@ -71,35 +62,14 @@ pub(crate) fn look(
     ensures looked { HasLooked segment.old (told_events told.old) station segment.new (told_events told.new) result }
     ensures sound { IsFrontFirst told.new }
 {
-    let take = Call::Take {
-        station,
-        room: true,
-    };
-    if segment.apply_in_place(&take) {
-        return Fed::Taken;
-    }
-    look_telling(segment, told, owed, station)
-}
-
-// The same of a frame that isn't taken in place.
-#[inline(never)]
-fn look_telling(segment: &mut Segment, told: &mut Told, owed: &mut usize, station: Address) -> Fed
-    requires passes { (room : Bool) → IsOk (called segment.old (Take station room)) }
-    requires sound { IsFrontFirst told.old }
-    requires place { deque_len told.old.parts < deque_capacity told.old.parts }
-    ensures looked { HasLooked segment.old (told_events told.old) station segment.new (told_events told.new) result }
-    ensures sound { IsFrontFirst told.new }
-{
     if look_with_room(segment, told, owed, station) {
         return Fed::Taken;
     }
-    match tell(segment, told, owed, station, false) {
-        Ok(()) => Fed::WithoutRoom,
-        Err(_) => unreachable!(),
-    }
+    look_without_room(segment, told, owed, station)
 }
 
 // It takes it with room, if there is memory for it.
+#[inline(always)]
 fn look_with_room(
     segment: &mut Segment,
     told: &mut Told,
@@ -129,7 +99,28 @@ fn look_with_room(
     }
 }
 
-// It takes it with room or without, which isn't refused and wasn't done in place. There is a place for what that tells.
+// It takes it without.
+#[inline(never)]
+fn look_without_room(
+    segment: &mut Segment,
+    told: &mut Told,
+    owed: &mut usize,
+    station: Address,
+) -> Fed
+    requires passes { (room : Bool) → IsOk (called segment.old (Take station room)) }
+    requires sound { IsFrontFirst told.old }
+    requires place { deque_len told.old.parts < deque_capacity told.old.parts }
+    ensures looked { HasLooked segment.old (told_events told.old) station segment.new (told_events told.new) result }
+    ensures sound { IsFrontFirst told.new }
+{
+    match tell(segment, told, owed, station, false) {
+        Ok(()) => Fed::WithoutRoom,
+        Err(_) => unreachable!(),
+    }
+}
+
+// It takes it with room or without, which isn't refused. There is a place for what that tells.
+#[inline(always)]
 fn tell(
     segment: &mut Segment,
     told: &mut Told,
@@ -146,7 +137,7 @@ fn tell(
     ensures untold { OnErr result (told.new ≡ told.old) }
     ensures sound { IsFrontFirst told.new }
 {
-    match segment.apply_tried(Call::Take { station, room }) {
+    match segment.apply(Call::Take { station, room }) {
         Ok(Reply::Done(events)) => {
             *owed = owed.saturating_sub(ended(&events));
             told.keep(events);

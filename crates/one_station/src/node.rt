@@ -121,6 +121,7 @@ pub(crate) fn make_place(told: &mut Told, owed: usize) -> Result<(), AllocError>
 }
 
 /// How many messages have ended by what a call told. No call gives a message and ends one.
+#[inline(always)]
 pub(crate) fn ended(events: &Events) -> usize {
     match events.get(0) {
         Some(Event::Outcome { .. }) => events.len(),
@@ -140,6 +141,7 @@ fn gives(segment: &Segment, call: &Call) -> bool {
 }
 
 /// Makes a place for what a call tells, unless the call is refused.
+#[inline(always)]
 pub(crate) fn make_room(
     segment: &Segment,
     told: &mut Told,
@@ -153,7 +155,24 @@ pub(crate) fn make_room(
     ensures kept { deque_len told.old.parts < deque_capacity told.old.parts → deque_len told.new.parts < deque_capacity told.new.parts }
     ensures err { IfErr result (λ error. IsStopped (called segment.now call.now) error) }
 {
-    if told.has_room() && (told.has_place_to_give(owed) || !gives(segment, call)) {
+    // As a rule there is one, whatever it tells.
+    if told.has_place_to_give(owed) {
+        return Ok(());
+    }
+    find_room(segment, told, owed, call)
+}
+
+// The same if no place is free for a message that is given.
+#[inline(never)]
+fn find_room(segment: &Segment, told: &mut Told, owed: usize, call: &Call) -> Result<(), NodeError>
+    requires { IsFrontFirst told.old }
+    ensures events { told_events told.new ≡ told_events told.old }
+    ensures sound { IsFrontFirst told.new }
+    ensures room { OnOk result (deque_len told.new.parts < deque_capacity told.new.parts) }
+    ensures kept { deque_len told.old.parts < deque_capacity told.old.parts → deque_len told.new.parts < deque_capacity told.new.parts }
+    ensures err { IfErr result (λ error. IsStopped (called segment.now call.now) error) }
+{
+    if told.has_room() && !gives(segment, call) {
         return Ok(());
     }
     if let Some(cause) = segment.refusal(call) {

@@ -2,7 +2,7 @@
 ghost use Rattle.std.specs.Prelude.{◌≡◌, ◌<◌, ◌++◌, [], drop, slice_get, option_copied, IfOk, OnOk};
 ghost use Rattle.std.specs.Bool.{OnTrue};
 ghost use Rattle.std.specs.VecDeque.{deque_len, deque_capacity};
-ghost use Rattle.one_station.specs.Told.{told_events, IsFrontFirst};
+ghost use Rattle.one_station.specs.Told.{part_events, told_events, IsFrontFirst};
 
 use segment_core::{Event, Events};
 use std::alloc::{AllocError, Global};
@@ -48,7 +48,10 @@ impl Told {
     }
 
     /// Whether a message that is given finds a place, where so many messages have no outcome yet.
-    pub(crate) fn has_place_to_give(&self, owed: usize) -> bool {
+    #[inline(always)]
+    pub(crate) fn has_place_to_give(&self, owed: usize) -> bool
+        ensures { OnTrue result (deque_len self.now.parts < deque_capacity self.now.parts) }
+    {
         let free = self.parts.capacity().saturating_sub(self.parts.len());
         free > owed.saturating_add(SPARE)
     }
@@ -67,7 +70,7 @@ impl Told {
     }
 
     /// Keeps what a call told, for which there is a place, behind all that waits.
-    #[tactic(auto, using(crate::proofs::Joining::joined_push))]
+    #[inline(always)]
     pub(crate) fn keep(&mut self, events: Events)
         requires sound { IsFrontFirst self.old }
         requires room { deque_len self.old.parts < deque_capacity self.old.parts }
@@ -78,7 +81,18 @@ impl Told {
         let Some(first) = first else {
             return;
         };
-        let part = Part { first, rest };
+        self.keep_part(Part { first, rest });
+    }
+
+    // Keeps an event, and those behind it.
+    #[inline(never)]
+    #[tactic(auto, using(crate::proofs::Joining::joined_push))]
+    fn keep_part(&mut self, part: Part)
+        requires sound { IsFrontFirst self.old }
+        requires room { deque_len self.old.parts < deque_capacity self.old.parts }
+        ensures events { told_events self.new ≡ told_events self.old ++ part_events part }
+        ensures sound { IsFrontFirst self.new }
+    {
         if self.front.is_none() {
             self.front = Some(part);
         } else {

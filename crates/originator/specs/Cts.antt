@@ -1,15 +1,21 @@
 -- A sender takes a CTS (SAE J1939-21, TP.CM_CTS; ISO 11783-3, ETP.CM_CTS): of each table the first row that fits.
-use Rattle.std.specs.Prelude.{ℕ, ◌+◌, ◌-◌, min, Bool, false, ◌&&◌, ◌||◌, nat_lt, nat_le, ◌==◌, if◌then◌else◌}
+use Rattle.std.specs.Prelude.{ℕ, ◌+◌, ◌-◌, min, Bool, false, ◌&&◌, ◌||◌, nat_lt, nat_le, ◌==◌, if◌then◌else◌, Option, Some, None}
 use Rattle.tick_timers.specs.declared.durations.TheConstants.{T4}
 use Rattle.tp_wire.specs.declared.reason.AbortReason.TheVariants.{CtsDuringTransfer, RetransmitLimit, Other}
 use Rattle.originator.specs.Link.{Link, packets_of}
 use Rattle.originator.specs.States.{Sending as Window, most_resends}
-use Rattle.originator.specs.Readers.{started, without_window}
-use Rattle.originator.specs.Endings.{aborts}
+use Rattle.originator.specs.Readers.{link_of, started, without_window}
+use Rattle.originator.specs.Endings.{aborts, ended}
+use Rattle.originator.specs.declared.endings.Ending.{Ending}
 use Rattle.originator.specs.declared.states.OutState.{OutState}
 use Rattle.originator.specs.declared.states.OutState.TheVariants.{AwaitCts, Sending, AwaitEnd}
 use Rattle.originator.specs.declared.states.Stepped.{Stepped}
 use Rattle.originator.specs.declared.states.Stepped.TheVariants.{On, Over}
+
+-- where a frame leads: to this state, or it ends the message in this way
+abbrev pub led : Option Ending → OutState → Stepped
+led None state = On state
+led (Some ending) state = Over (ended (link_of state) ending)
 
 -- the window's last packet: as many as granted, at most to the last one of the message
 abbrev pub window_end : Link → (granted next : ℕ) → ℕ
@@ -58,8 +64,3 @@ abbrev pub on_cts : OutState → (granted next now : ℕ) → Stepped
 on_cts (Sending s) granted next now = cts_in_window s granted next now
 on_cts (AwaitCts s) granted next now = cts_without_window s.link s.unsent s.resends granted next now
 on_cts (AwaitEnd s) granted next now = cts_without_window s.link (packets_of s.link + 1) s.resends granted next now
-
--- a CTS is awaited, and this is a hold, or grants the first packet that was never queued
-abbrev pub awaits_cts : OutState → (granted next : ℕ) → Bool
-awaits_cts (AwaitCts s) granted next = granted == 0 || next == s.unsent
-awaits_cts _ granted next = false

@@ -7,6 +7,8 @@ use Rattle.tp_wire.specs.declared.reason.AbortReason.{AbortReason}
 use Rattle.tp_wire.specs.declared.reason.AbortReason.TheVariants.{Timeout, Other}
 use Rattle.originator.specs.Link.{Link, abort_frame}
 use Rattle.originator.specs.declared.states.OutOver.{OutOver}
+use Rattle.originator.specs.declared.endings.Ending.{Ending}
+use Rattle.originator.specs.declared.endings.Ending.TheVariants as ending
 
 -- it ends without a frame
 abbrev pub ends : Outcome → OutOver
@@ -39,3 +41,9 @@ overrun = ends Overrun
 -- the end acknowledgement of the whole message was taken
 abbrev pub acknowledged : OutOver
 acknowledged = ends Acknowledged
+
+-- a frame ends it
+abbrev pub ended : Link → Ending → OutOver
+ended link ending.Acknowledged = acknowledged
+ended link (ending.Aborted reason) = aborted reason
+ended link (ending.Abort reason) = aborts link reason

@@ -20,6 +20,12 @@ unsent_of (AwaitCts s) = s.unsent
 unsent_of (Sending s) = s.unsent
 unsent_of (AwaitEnd s) = packets_of s.link + 1
 
+-- how many CTS have named a packet below it
+abbrev pub resends_of : OutState → ℕ
+resends_of (AwaitCts s) = s.resends
+resends_of (Sending s) = s.resends
+resends_of (AwaitEnd s) = s.resends
+
 -- each packet was queued
 abbrev pub is_all_queued : OutState → Bool
 is_all_queued state = unsent_of state == packets_of (link_of state) + 1

@@ -1,5 +1,5 @@
 -- A sender takes a frame: a CTS or an end acknowledgement of its transport and PGN. Every other frame leaves it as it is.
-use Rattle.std.specs.Prelude.{ℕ, Bool, false, ◌&&◌, ◌==◌, if◌then◌else◌}
+use Rattle.std.specs.Prelude.{ℕ, ◌&&◌, ◌==◌, if◌then◌else◌}
 use Rattle.tp_wire.specs.declared.wire.Kind.TheVariants.{Tp, Etp}
 use Rattle.tp_wire.specs.declared.wire.CmFrame.{CmFrame}
 use Rattle.tp_wire.specs.declared.wire.CmFrame.TheVariants.{Cts, EndOfMsgAck, EtpCts, EtpEoma}
@@ -8,7 +8,7 @@ use Rattle.tp_wire.specs.declared.wire.Wire.TheVariants.{Cm}
 use Rattle.originator.specs.Link.{packets_of}
 use Rattle.originator.specs.Readers.{link_of, is_all_queued, is_of}
 use Rattle.originator.specs.Endings.{acknowledged}
-use Rattle.originator.specs.Cts.{on_cts, awaits_cts}
+use Rattle.originator.specs.Cts.{on_cts}
 use Rattle.originator.specs.declared.states.OutState.{OutState}
 use Rattle.originator.specs.declared.states.Stepped.{Stepped}
 use Rattle.originator.specs.declared.states.Stepped.TheVariants.{On, Over}
@@ -35,9 +35,3 @@ on_cm state _ now = On state
 abbrev pub stepped : OutState → Wire → ℕ → Stepped
 stepped state (Cm frame) now = on_cm state frame now
 stepped state _ now = On state
-
--- a step that is taken where the state stands: the CTS of the message that is awaited
-abbrev pub is_quiet : OutState → Wire → Bool
-is_quiet state (Cm (Cts granted next pgn)) = is_of state Tp pgn && awaits_cts state granted next
-is_quiet state (Cm (EtpCts granted next pgn)) = is_of state Etp pgn && awaits_cts state granted next
-is_quiet state _ = false

@@ -1,11 +1,22 @@
 //! How a message ends for its sender.
 ghost use Rattle.std.specs.Prelude.{◌≡◌};
 ghost use Rattle.originator.specs.Readers.{link_of};
-ghost use Rattle.originator.specs.Endings.{gives_up, aborts, expired, cancelled, aborted, overrun as overrun_over, acknowledged};
+ghost use Rattle.originator.specs.Endings.{ends, gives_up, aborts, expired, cancelled, aborted, overrun as overrun_over, ended};
 
 use crate::link::Link;
 use crate::states::{OutOver, OutState};
 use tp_wire::{AbortReason, Outcome};
+
+/// How a frame of the destination ends a message.
+#[derive(Clone, Copy, Debug, PartialEq, Eq)]
+pub enum Ending {
+    /// It acknowledges the whole message.
+    Acknowledged,
+    /// It is an abort of the message, with this reason.
+    Aborted(u8),
+    /// It breaks the rules: the sender aborts the message for this reason.
+    Abort(AbortReason),
+}
 
 impl Link {
     /// The sender gives the message up: the outcome, and an abort with this reason.
@@ -19,7 +30,7 @@ impl Link {
     }
 
     /// The sender aborts the message for this reason.
-    pub(crate) fn abort(self, reason: AbortReason) -> OutOver
+    fn abort(self, reason: AbortReason) -> OutOver
         ensures { result ≡ aborts self reason }
     {
         self.give_up(reason, Outcome::Aborted(reason.byte()))
@@ -52,7 +63,7 @@ impl OutState {
     pub fn abort(self, reason: u8) -> OutOver
         ensures { result ≡ aborted reason }
     {
-        self.end(Outcome::Aborted(reason))
+        self.conclude(Outcome::Aborted(reason))
     }
 
     /// The message is cancelled: it ended, and an abort is queued.
@@ -66,18 +77,23 @@ impl OutState {
     pub fn overrun(self) -> OutOver
         ensures { result ≡ overrun_over }
     {
-        self.end(Outcome::Overrun)
+        self.conclude(Outcome::Overrun)
     }
 
-    /// The whole message was acknowledged.
-    pub(crate) fn acknowledge(self) -> OutOver
-        ensures { result ≡ acknowledged }
+    /// A frame ends the message in this way.
+    pub fn end(self, ending: Ending) -> OutOver
+        ensures { result ≡ ended (link_of self) ending }
     {
-        self.end(Outcome::Acknowledged)
+        match ending {
+            Ending::Acknowledged => self.conclude(Outcome::Acknowledged),
+            Ending::Aborted(reason) => self.abort(reason),
+            Ending::Abort(reason) => self.into_link().abort(reason),
+        }
     }
 
-    fn end(self, outcome: Outcome) -> OutOver
-        ensures { result ≡ record { outcome = outcome; frame = None } }
+    // It ends without a frame.
+    fn conclude(self, outcome: Outcome) -> OutOver
+        ensures { result ≡ ends outcome }
     {
         let _link = self.into_link();
         OutOver {

@@ -8,7 +8,6 @@ ghost use Rattle.originator.specs.declared.states.OutState.TheVariants as OutSta
 use crate::cts::without_window;
 use crate::sending::Sending;
 use crate::states::OutState;
-use std::mem;
 use tick_timers::{T3, Timer};
 use tp_wire::Kind;
 use tx_queue::TxQueue;
@@ -69,7 +68,7 @@ impl Sending {
 
     /// The packets before `at` are queued, and the window has more.
     #[inline]
-    fn go_to(&mut self, at: u32)
+    fn queued_before(&mut self, at: u32)
         requires from { self.old.at ≤ at }
         requires to { at ≤ self.old.until }
         ensures state { (now : ℕ) → OutState.Sending self.new ≡ queued_to self.old at now }
@@ -85,7 +84,7 @@ impl OutState {
     /// Queues the next frames of the window behind those of a queue at tick `now`, one to eight, or none where there is no
     /// window: in ETP its data packet offset (DPO) first, then its packets. `bytes` is the message. After the last packet of
     /// the window a CTS or the end acknowledgement is awaited for T3.
-    #[inline]
+    #[inline(never)]
     pub fn pump(&mut self, bytes: &[u8], now: u64, queue: &mut TxQueue)
         requires message { length bytes.now ≡ (link_of self.old).len }
         requires places { length queue.old + most_frames ≤ queue_limit }
@@ -98,12 +97,12 @@ impl OutState {
         };
         let end = state.queue_part(bytes, queue);
         if end <= state.until {
-            state.go_to(end);
+            state.queued_before(end);
             return;
         }
         let timer = Timer::start(now, T3);
         let unsent = state.unsent.max(end);
         let awaits = without_window(state.link, unsent, state.resends, timer);
-        let _link = mem::replace(self, awaits).into_link();
+        self.go_to(awaits);
     }
 }

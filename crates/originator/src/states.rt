@@ -7,6 +7,7 @@ use crate::link::Link;
 use crate::sending::Sending;
 use bus_frame::Frame;
 use pgn_ids::WirePgn;
+use std::mem;
 use tp_wire::{Kind, Outcome};
 
 /// A message under way. It must be spent.
@@ -35,7 +36,10 @@ pub enum Stepped {
 }
 
 impl OutState {
-    ghost use Rattle.originator.specs.Readers.{link_of, is_all_queued as is_all_queued_state, is_of as is_of_state, is_state_due, has_timer};
+    ghost use Rattle.std.specs.Prelude.{◌≤◌, ◌+◌};
+    ghost use Rattle.originator.specs.Link.{packets_of};
+    ghost use Rattle.originator.specs.States.{most_resends};
+    ghost use Rattle.originator.specs.Readers.{link_of, unsent_of, resends_of, is_all_queued as is_all_queued_state, is_of as is_of_state, is_state_due, has_timer};
 
     /// The message under way.
     pub(crate) fn link(&self) -> Link
@@ -55,15 +59,36 @@ impl OutState {
         self.link().len()
     }
 
+    /// The first packet that was never queued, one more than there are if each was.
+    pub(crate) fn unsent(&self) -> u32
+        ensures value { result ≡ unsent_of self.now }
+        ensures from_first { 1 ≤ result }
+        ensures to_end { result ≤ packets_of (link_of self.now) + 1 }
+    {
+        match self {
+            OutState::AwaitCts(state) => state.unsent,
+            OutState::Sending(state) => state.unsent,
+            OutState::AwaitEnd(state) => state.link.packets() + 1,
+        }
+    }
+
+    /// How many CTS have named a packet below it.
+    pub(crate) fn resends(&self) -> u8
+        ensures value { result ≡ resends_of self.now }
+        ensures few { result ≤ most_resends }
+    {
+        match self {
+            OutState::AwaitCts(state) => state.resends,
+            OutState::Sending(state) => state.resends,
+            OutState::AwaitEnd(state) => state.resends,
+        }
+    }
+
     /// Whether each packet was queued.
     pub(crate) fn is_all_queued(&self) -> bool
         ensures { result ≡ is_all_queued_state self.now }
     {
-        match self {
-            OutState::AwaitCts(state) => state.unsent == state.link.packets() + 1,
-            OutState::Sending(state) => state.unsent == state.link.packets() + 1,
-            OutState::AwaitEnd(_) => true,
-        }
+        self.unsent() == self.link().packets() + 1
     }
 
     /// Whether a frame of this transport with this PGN field belongs to the message.
@@ -83,6 +108,13 @@ impl OutState {
             OutState::Sending(_) => false,
             OutState::AwaitEnd(state) => state.is_due(now),
         }
+    }
+
+    /// It goes on in another state of the message, and the one that it leaves is spent.
+    pub(crate) fn go_to(&mut self, next: OutState)
+        ensures { self.new ≡ next }
+    {
+        let _link = mem::replace(self, next).into_link();
     }
 
     /// The message, whose state is spent.

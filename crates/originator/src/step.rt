@@ -1,71 +1,91 @@
 //! A frame is taken.
-ghost use Rattle.std.specs.Prelude.{◌≡◌};
+ghost use Rattle.std.specs.Prelude.{◌≡◌, OnSome};
+ghost use Rattle.tp_wire.specs.Heard.{meant};
 ghost use Rattle.originator.specs.Readers.{link_of, KeepsLink};
+ghost use Rattle.originator.specs.Cts.{led};
 ghost use Rattle.originator.specs.Step.{on_end, on_cm, stepped};
 
+use crate::endings::Ending;
 use crate::states::{OutState, Stepped};
-use tp_wire::{CmFrame, Kind, Wire};
+use tp_wire::{CmFrame, Heard, Kind, Wire};
 
 impl OutState {
     /// An end acknowledgement of so many bytes is taken.
-    fn take_end(self, size: u32) -> Stepped
-        ensures value { result ≡ on_end self size }
-        ensures link { KeepsLink (link_of self) result }
+    fn take_end(&self, size: u32) -> Option<Ending>
+        ensures { on_end self.now size ≡ led result self.now }
     {
         if size == self.link().len() && self.is_all_queued() {
-            Stepped::Over(self.acknowledge())
-        } else {
-            Stepped::On(self)
+            return Some(Ending::Acknowledged);
         }
+        None
     }
 
     /// A connection management frame is taken.
-    fn take_cm(self, frame: CmFrame, now: u64) -> Stepped
-        ensures value { result ≡ on_cm self frame now }
-        ensures link { KeepsLink (link_of self) result }
+    #[inline]
+    fn take_cm(&mut self, frame: &CmFrame, now: u64) -> Option<Ending>
+        ensures step { on_cm self.old frame.now now ≡ led result self.new }
+        ensures link { link_of self.new ≡ link_of self.old }
+        ensures kept { OnSome result (self.new ≡ self.old) }
     {
         match frame {
             CmFrame::Cts { granted, next, pgn } => {
-                if self.is_of(Kind::Tp, pgn) {
-                    self.take_cts(granted, u32::from(next), now)
+                if self.is_of(Kind::Tp, *pgn) {
+                    self.take_cts(*granted, u32::from(*next), now)
                 } else {
-                    Stepped::On(self)
+                    None
                 }
             }
             CmFrame::EtpCts { granted, next, pgn } => {
-                if self.is_of(Kind::Etp, pgn) {
-                    self.take_cts(granted, next, now)
+                if self.is_of(Kind::Etp, *pgn) {
+                    self.take_cts(*granted, *next, now)
                 } else {
-                    Stepped::On(self)
+                    None
                 }
             }
             CmFrame::EndOfMsgAck { size, packets, pgn } => {
-                if self.is_of(Kind::Tp, pgn) && u32::from(packets) == self.link().packets() {
-                    self.take_end(u32::from(size))
+                if self.is_of(Kind::Tp, *pgn) && u32::from(*packets) == self.link().packets() {
+                    self.take_end(u32::from(*size))
                 } else {
-                    Stepped::On(self)
+                    None
                 }
             }
             CmFrame::EtpEoma { size, pgn } => {
-                if self.is_of(Kind::Etp, pgn) {
-                    self.take_end(size)
+                if self.is_of(Kind::Etp, *pgn) {
+                    self.take_end(*size)
                 } else {
-                    Stepped::On(self)
+                    None
                 }
             }
-            _ => Stepped::On(self),
+            _ => None,
         }
     }
 
-    /// Takes a frame of the destination at tick `now`: a CTS or an end acknowledgement of its transport and PGN. Every
-    /// other frame leaves the message as it is.
-    pub fn step(self, wire: &Wire, now: u64) -> Stepped
+    /// Takes a frame of the destination where the state stands, at tick `now`: a CTS or an end acknowledgement of its transport
+    /// and PGN. Every other frame leaves the message as it is. If the frame ends the message, it says how and changes nothing:
+    /// `end` is left to do.
+    #[inline]
+    pub fn take(&mut self, heard: &Heard<'_>, now: u64) -> Option<Ending>
+        ensures step { stepped self.old (meant heard.now) now ≡ led result self.new }
+        ensures link { link_of self.new ≡ link_of self.old }
+        ensures kept { OnSome result (self.new ≡ self.old) }
+    {
+        match heard {
+            Heard::Cm(frame) => self.take_cm(frame, now),
+            _ => None,
+        }
+    }
+
+    /// The same, by value.
+    pub fn step(mut self, wire: &Wire, now: u64) -> Stepped
         ensures value { result ≡ stepped self wire.now now }
         ensures link { KeepsLink (link_of self) result }
     {
-        match *wire {
-            Wire::Cm(frame) => self.take_cm(frame, now),
-            _ => Stepped::On(self),
+        let Wire::Cm(frame) = wire else {
+            return Stepped::On(self);
+        };
+        match self.take_cm(frame, now) {
+            None => Stepped::On(self),
+            Some(ending) => Stepped::Over(self.end(ending)),
         }
     }
 }

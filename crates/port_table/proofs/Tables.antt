@@ -1,9 +1,10 @@
 -- What holds of every table holds after a close, a pause and a resume.
-use Rattle.std.proofs.Common.{◌≡◌, ℕ, suc, ◌+◌, ◌<◌, ◌≤◌, ◌≢◌, Bool, true, false, cond, not, ◌==◌, List, [], ◌∷◌, ◌++◌, length, map, take, drop, set, get_or, Option, Some, None, is_some, refl, sym, ap, ◌∙◌, subst, arith}
+use Rattle.std.proofs.Common.{◌≡◌, ℕ, suc, ◌+◌, ◌<◌, ◌≤◌, ◌≢◌, Bool, true, false, cond, not, ◌&&◌, ◌||◌, ◌==◌, List, [], ◌∷◌, ◌++◌, length, map, take, drop, set, get_or, Option, Some, None, is_some, refl, sym, ap, ◌∙◌, subst, arith}
 use Rattle.std.specs.Prelude.{find}
+use Rattle.std.specs.Bool.{OnFalse}
 use Rattle.std.specs.Vec.{vec_len}
 use Rattle.std.specs.declared.vec.Vec.{Vec}
-use Rattle.std.specs.List.{All, AllPairs, filter}
+use Rattle.std.specs.List.{All, AllPairs, filter, list_any}
 use Rattle.std.proofs.lemmas.Bool.{eq-eqb, ne_eqb}
 use Rattle.std.proofs.lemmas.List.{length-map, get_or-map, get_or_default}
 use Rattle.std.proofs.lemmas.List.Edits.{map_over_more}
@@ -12,6 +13,7 @@ use Rattle.std.proofs.lemmas.List.Filters.{length-filter_both}
 use Rattle.std.proofs.lemmas.List.Kept.{AllPairs-filter}
 use Rattle.port_table.specs.declared.port.Port.{Port}
 use Rattle.port_table.specs.Ports.{Ports, ArePorts, marked, less_port, numbers_of}
+use Rattle.port_table.specs.Ports.{has_paused}
 
 marked-number : (number : ℕ) (paused : Bool) (p : Port) → (marked number paused p).number ≡ p.number
 marked-number number paused p =
@@ -139,3 +141,16 @@ numbers_rise test ports rising i j d below within =
     let at_i : get_or (numbers_of test ports) i d ≡ (get_or passed i none).number = get_or-map (λ (p : Port). p.number) passed i none d (omega arith) in
     let at_j : get_or (numbers_of test ports) j d ≡ (get_or passed j none).number = get_or-map (λ (p : Port). p.number) passed j none d inside in
     rw (at_i, at_j) (AllPairs-filter (λ p q. p.number < q.number) test ports rising i j none below inside)
+
+-- while none is paused, none of a set is
+pub none_paused : (test : Port → Bool) (ports : List Port) → has_paused ports ≡ false → list_any (λ p. p.paused && test p) ports ≡ false
+none_paused test [] e = refl
+none_paused test (p ∷ ports) e = by p.paused (none_paused test ports) e
+  where
+    by : (b : Bool) → (has_paused ports ≡ false → list_any (λ p. p.paused && test p) ports ≡ false) → (b || has_paused ports) ≡ false → ((b && test p) || list_any (λ p. p.paused && test p) ports) ≡ false
+    by true others e = absurd (cc)
+    by false others e = others e
+
+pub on_false : {P : Type 0} (b : Bool) → (b ≡ false → P) → OnFalse b P
+on_false true h = tt
+on_false false h = h refl

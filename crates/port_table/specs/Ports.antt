@@ -49,6 +49,10 @@ is_open ports number = is_some (port_at ports number)
 abbrev pub is_paused : Ports → ℕ → Bool
 is_paused ports number = option_map_or (λ p. p.paused) (port_at ports number) false
 
+-- a port is paused
+abbrev pub has_paused : List Port → Bool
+has_paused ports = list_any (λ p. p.paused) ports
+
 -- a port of the set is open and paused
 abbrev pub is_any_paused : Ports → List ℕ → Bool
 is_any_paused ports set = list_any (λ p. p.paused && has_number set p.number) ports.open_ports

@@ -1,8 +1,9 @@
 //! The open ports of a station.
-ghost use Rattle.std.specs.Prelude.{◌≡◌, true, false, ◌+◌, ◌<◌, ◌==◌, map, length, OnOk, OnErr, IfOk, vec_capacity, AllPairs};
+ghost use Rattle.std.specs.Prelude.{◌≡◌, ℕ, List, true, false, ◌+◌, ◌<◌, ◌==◌, map, length, OnOk, OnErr, IfOk, vec_capacity, AllPairs};
+ghost use Rattle.std.specs.Bool.{OnFalse};
 ghost use Rattle.std.specs.Result.{result_err};
 ghost use Rattle.port_table.specs.Ports.{no_ports, next_id, with_port, without_port, with_paused, port_at, ports_for, less_port, marked, ArePorts};
-ghost use Rattle.port_table.specs.Ports.{is_open as is_open_at, is_paused as is_paused_at, is_any_paused};
+ghost use Rattle.port_table.specs.Ports.{is_open as is_open_at, is_paused as is_paused_at, has_paused, is_any_paused};
 ghost use Rattle.port_table.specs.Refusals.{opening_refusal, closing_refusal, pausing_refusal, resuming_refusal};
 
 use crate::MAX_PORTS;
@@ -19,6 +20,8 @@ pub struct PortTable {
     pub(crate) station: Address,
     pub(crate) opened: u64,
     pub(crate) ports: Vec<Port>,
+    // Whether a port is paused. Mostly none is, and each packet of a message asks.
+    some_paused: bool,
 }
 
 impl Model for PortTable {
@@ -42,6 +45,7 @@ impl PortTable {
             station,
             opened: 0,
             ports: Vec::with_capacity(alloc, MAX_PORTS)?,
+            some_paused: false,
         })
     }
 
@@ -128,6 +132,7 @@ impl PortTable {
         if self.ports.len() == open {
             return Err(Refused::NoSuchPort);
         }
+        self.some_paused = is_one_paused(&self.ports);
         Ok(())
     }
 
@@ -158,6 +163,7 @@ impl PortTable {
             return Err(cause);
         }
         mark(&mut self.ports, number, true);
+        self.some_paused = is_one_paused(&self.ports);
         Ok(())
     }
 
@@ -188,6 +194,7 @@ impl PortTable {
             return Err(cause);
         }
         mark(&mut self.ports, number, false);
+        self.some_paused = is_one_paused(&self.ports);
         Ok(())
     }
 
@@ -219,6 +226,15 @@ impl PortTable {
         }
     }
 
+    /// Whether a port is paused. No port is asked.
+    #[inline]
+    pub fn has_paused(&self) -> bool
+        ensures value { result ≡ has_paused self.now.open_ports }
+        ensures none { OnFalse result ((set : List ℕ) → is_any_paused self.now set ≡ false) }
+    {
+        self.some_paused
+    }
+
     /// Whether a port of the set is open and paused: a session that gives to the set is held then.
     pub fn any_paused(&self, set: &PortSet) -> bool
         ensures { result ≡ is_any_paused self.now set.now }
@@ -241,6 +257,13 @@ impl PortTable {
         }
         set
     }
+}
+
+/// Whether a port is paused.
+fn is_one_paused(ports: &[Port]) -> bool
+    ensures { result ≡ has_paused ports.now }
+{
+    ports.iter().any(|port| port.paused)
 }
 
 /// Takes the port with this number out.

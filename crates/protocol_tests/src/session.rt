@@ -3,7 +3,7 @@ mod broadcasts;
 mod connections;
 mod extended_connections;
 mod finished;
-mod frames;
+pub(crate) mod frames;
 mod received;
 mod senders;
 mod sent_images;

@@ -14,5 +14,5 @@ pub mod AwaitPacket
 pub mod Holding
 pub mod Steps
 pub mod Room
-pub mod Quiet
+pub mod Receiver
 pub mod Image

@@ -1,27 +1,28 @@
 //! The receiving side of a connection, for TP (SAE J1939-21, connection mode data transfer) and ETP (ISO 11783-3) alike: TP is
 //! ETP with offset 0, where what is granted needs no DPO, and where the room for the whole message is made as it begins.
 //!
-//! Values in, values out: there is no clock and no thread here. Each state must be spent, exactly once: a step takes it and
-//! gives what follows. A step takes no memory; what it needs is made ahead of it by `prepare`.
+//! Values in, values out: there is no clock and no thread here. A `Receiver` changes where it stands, and says what a frame
+//! leaves to do. `InState` is the same receiver as typed states, by value: a step takes one and gives what follows. Either
+//! must be spent, exactly once.
 #![tactic(auto)]
 
-mod await_packet;
 mod finished;
 mod flow;
-mod holding;
 mod in_state;
 mod peer;
-mod quiet;
 mod received;
+mod receiver;
 mod spending;
+mod stage;
+mod states;
 mod unfinished;
 mod window;
 
-pub use await_packet::AwaitPacket;
 pub use finished::Finished;
 pub use flow::Flow;
-pub use holding::Holding;
-pub use in_state::{InState, InStateImage, begin};
+pub use in_state::InState;
 pub use peer::Peer;
 pub use received::Received;
+pub use receiver::{Left, Receiver, ReceiverImage, begin};
+pub use states::{AwaitPacket, Holding};
 pub use window::most_packets;

@@ -1,6 +1,6 @@
 //! The ways in which the pieces of a case are run, and how what they write is shown.
-use bus_node::{Node, run_node};
-use bus_script::{Cause, Ran, run_logged, run_script};
+use bus_node::{LineCounts, Node, run_node};
+use bus_script::{Cause, Ran, ScriptFault, run_logged, run_script};
 use log_text::Iface;
 use pgn_ids::Address;
 use script_drawing::draw_script;
@@ -27,14 +27,46 @@ pub(crate) fn show_end(shown: &mut Vec<u8>, errors: &[u8], status: u8) -> io::Re
     Ok(())
 }
 
+/// How a run ended.
+#[derive(Clone, Copy)]
+struct End {
+    fault: Option<ScriptFault>,
+    memory_refused: bool,
+    status: u8,
+    /// What was counted of a node's input, if lines of it were wrong.
+    counts: Option<LineCounts>,
+}
+
+fn end_of(ran: &Ran) -> End {
+    End {
+        fault: ran.fault,
+        memory_refused: ran.memory_refused,
+        status: ran.status(),
+        counts: None,
+    }
+}
+
+fn end_of_node(ran: &bus_node::Ran) -> End {
+    End {
+        fault: ran.fault,
+        memory_refused: ran.memory_refused,
+        status: ran.status(),
+        counts: if ran.counts.wrong == 0 {
+            None
+        } else {
+            Some(ran.counts)
+        },
+    }
+}
+
 /// Whether a run came to an end without want of memory, for which alone a vector refuses a write. What was printed of a call that found none
 /// isn't shown.
-fn has_ended(ran: &Ran, before: usize, shown: &mut Vec<u8>) -> bool {
-    if ran.memory_refused {
+fn has_ended(end: &End, before: usize, shown: &mut Vec<u8>) -> bool {
+    if end.memory_refused {
         shown.truncate(before);
         return false;
     }
-    match ran.fault {
+    match end.fault {
         None => true,
         Some(fault) => { fault.cause != Cause::OutOfMemory && fault.cause != Cause::WriteFailed }
     }
@@ -45,14 +77,17 @@ pub(crate) fn no_memory() -> io::Error {
 }
 
 /// Puts what a run told behind what it wrote.
-fn show_ran(ran: &Ran, before: usize, errors: &mut Vec<u8>, shown: &mut Vec<u8>) -> io::Result<()> {
-    if !has_ended(ran, before, shown) {
+fn show_ran(end: &End, before: usize, errors: &mut Vec<u8>, shown: &mut Vec<u8>) -> io::Result<()> {
+    if !has_ended(end, before, shown) {
         return Err(no_memory());
     }
-    if let Some(fault) = ran.fault {
+    if let Some(counts) = end.counts {
+        writeln!(errors, "{counts}")?;
+    }
+    if let Some(fault) = end.fault {
         writeln!(errors, "{fault}")?;
     }
-    show_end(shown, errors.as_slice(), ran.status())
+    show_end(shown, errors.as_slice(), end.status)
 }
 
 /// Each piece is a script.
@@ -64,7 +99,7 @@ impl Runs for Scripted {
         let before = shown.len();
         let mut reader = piece;
         let ran = run_script(alloc, &mut reader, shown);
-        show_ran(&ran, before, &mut Vec::new(alloc), shown)
+        show_ran(&end_of(&ran), before, &mut Vec::new(alloc), shown)
     }
 }
 
@@ -78,7 +113,7 @@ impl Runs for Logged {
         let mut errors = Vec::new(alloc);
         let mut reader = piece;
         let ran = run_logged(alloc, &mut reader, shown, &mut errors);
-        show_ran(&ran, before, &mut errors, shown)
+        show_ran(&end_of(&ran), before, &mut errors, shown)
     }
 }
 
@@ -91,7 +126,7 @@ impl Runs for Drawn {
         let before = shown.len();
         let mut reader = piece;
         let ran = draw_script(alloc, &mut reader, shown);
-        show_ran(&ran, before, &mut Vec::new(alloc), shown)
+        show_ran(&end_of(&ran), before, &mut Vec::new(alloc), shown)
     }
 }
 
@@ -116,6 +151,13 @@ impl Dialogue {
         }
     }
 
+    /// A node that ends at a wrong line.
+    pub(crate) fn strict(alloc: Global) -> io::Result<Dialogue> {
+        let mut dialogue = Dialogue::new(alloc)?;
+        dialogue.node.end_at_wrong_line();
+        Ok(dialogue)
+    }
+
     /// A node that joins the interface of the first frame.
     pub(crate) fn joining(alloc: Global) -> io::Result<Dialogue> {
         let mut dialogue = Dialogue::new(alloc)?;
@@ -129,6 +171,6 @@ impl Runs for Dialogue {
         let before = shown.len();
         let mut reader = piece;
         let ran = run_node(alloc, &mut self.node, &mut reader, shown);
-        show_ran(&ran, before, &mut Vec::new(alloc), shown)
+        show_ran(&end_of_node(&ran), before, &mut Vec::new(alloc), shown)
     }
 }

@@ -1,9 +1,8 @@
 -- What the calls of a station come to, where it is known which one has the address.
 use Rattle.std.proofs.Common.{◌≡◌, ℕ, ◌<◌, ◌≤◌, Bool, true, false, cond, List, [], length, get_or, set, Option, Some, None, Result, Ok, Err, refl, sym, ap, ◌∙◌, subst, arith}
-use Rattle.std.specs.Prelude.{slice_get, unwrap_or, ◌↔◌, IsTrue, IsErrOf, IsOk, OnOk, OnErr, is_ok, is_err}
-use Rattle.std.specs.Bool.{OnTrue, OnFalse}
+use Rattle.std.specs.Prelude.{slice_get, unwrap_or, ◌↔◌, IsTrue, IsErrOf, is_err}
 use Rattle.std.specs.Vec.{with_item, vec_len}
-use Rattle.std.proofs.lemmas.Bool.{both_ways, lt-ltb, le-ltb}
+use Rattle.std.proofs.lemmas.Bool.{lt-ltb, le-ltb}
 use Rattle.std.proofs.lemmas.Option.{slice_get_read, slice_get-get_or}
 use Rattle.bus_frame.specs.Frames.{CanFrame}
 use Rattle.bus_order.specs.Bus as bus
@@ -12,27 +11,25 @@ use Rattle.bus_order.specs.declared.log.PutError.TheVariants.{BusFull, OutOfMemo
 use Rattle.message_events.specs.declared.event.Event.{Event}
 use Rattle.pgn_ids.specs.declared.address.Address.{Address}
 use Rattle.tx_queue.specs.Queue.{front, behind}
-use Rattle.station_core.specs.Station.{Station, StationStep, new_station, quietly}
-use Rattle.station_core.specs.Sending.{pumped}
+use Rattle.station_core.specs.Station.{Station, StationStep, new_station}
 use Rattle.station_core.specs.Overruns.{overrun}
-use Rattle.station_core.specs.Quiet.{takes_quietly, LacksRoom}
-use Rattle.station_core.specs.Refusals.{IsAnswered, taking_refusal, pumping_refusal}
+use Rattle.station_core.specs.Memory.{MayLackMemory}
+use Rattle.station_core.specs.Refusals.{IsAnswered, taking_refusal}
 use Rattle.station_core.specs.declared.refused.Refused.{Refused as Cause}
 use Rattle.station_core.specs.declared.refused.Refused.TheVariants as cause
 use Rattle.segment_law.specs.Segment.{Segment, place_of, station_of, station_at, with_station, counted}
-use Rattle.segment_law.specs.Calls.{Answer, at_address, done, stepped, no_place, pumps, with_frame, transmits_by, transmits, overruns}
+use Rattle.segment_law.specs.Calls.{Answer, at_address, done, stepped, with_frame, transmits_by, transmits, overruns}
 use Rattle.segment_law.specs.declared.refusal.Refusal.TheVariants as refusal
+use Rattle.segment_law.specs.declared.call.Call.TheVariants.{Take}
 use Rattle.segment_law.specs.declared.reply.Reply.{Reply}
 use Rattle.segment_law.specs.declared.reply.Reply.TheVariants.{Done}
 use Rattle.segment_core.specs.Answers.{refusal_of, stop_of}
 use Rattle.segment_core.specs.declared.stop.Stop.TheVariants as stop
-use Rattle.segment_core.specs.InPlace.{take_quiet, next_at, TakeLacksRoom}
-use Rattle.segment_core.specs.Memory.{KeepsTwo}
+use Rattle.segment_core.specs.Memory.{next_at, TakeMayLackMemory, MayAskMemory}
 use Rattle.segment_core.specs.SegmentFields.{segment_value, IsSegmentInside}
 use Rattle.segment_core.specs.declared.segment.Segment.TheInside.{Inside}
 use Rattle.segment_core.proofs.Stations.{at_is, at_none}
-use Rattle.segment_core.proofs.Kept.{at_here, said, stepped_view, told_view, same_item}
-use Rattle.segment_core.proofs.Refusals.{pumps_are, goes_on}
+use Rattle.segment_core.proofs.Kept.{at_here, said, stepped_view, same_item}
 
 -- Its place
 
@@ -71,31 +68,7 @@ pub at_any : (seg : Segment) (a : Address) (i : ℕ) (call : ℕ → Station →
 at_any seg a i call answer here within each =
     at_is seg a i (get_or seg.stations i (new_station a)) call (sym here) (slice_get-get_or seg.stations i (new_station a) within) ∙ each (get_or seg.stations i (new_station a))
 
--- A pump in place
-
-pub pumps_here : (s : Inside) (seg : Segment) (a to : Address) (i now : ℕ) (st new : Station) → segment_value s ≡ seg → Some i ≡ place_of seg a → i < length seg.stations → st ≡ get_or s.stations.items i st → now ≡ seg.now → pumping_refusal st to now ≡ None → pumped st to now ≡ quietly new
-    → at_address seg a (pumps seg to) ≡ done (segment_value (record s { stations = with_item s.stations i new }))
-pumps_here s seg a to i now st new view here within is time free step =
-    at_here s seg a i st (pumps seg to) view here within is
-    ∙ goes_on _ _ _ (pumps_are seg i st to) (ap (pumping_refusal st to) (sym time) ∙ free)
-    ∙ ap (stepped seg i) (ap (pumped st to) (sym time) ∙ step)
-    ∙ told_view s seg i new [] _ (Done []) view refl refl
-
--- and the station keeps its address where it does, and where it doesn't
-pub pump_keeps : (b : Bool) (st new : Station) (to : Address) (now : ℕ) → OnTrue b (pumped st to now ≡ quietly new) → OnFalse b (new ≡ st) → new.address ≡ st.address
-pump_keeps true st new to now step other = sym (ap (λ (s : StationStep). s.station.address) step)
-pump_keeps false st new to now step other = ap (λ (s : Station). s.address) other
-
 -- A frame that is put
-
--- what a call on the bus leaves where it fails and where it doesn't
-pub left_by_failure : (r : Result (Unit {0}) PutError) (P : Type 0) → is_err r ≡ true → OnErr r P → P
-left_by_failure (Ok u) P e p = absurd cc
-left_by_failure (Err x) P e p = p
-
-pub left_by_success : (r : Result (Unit {0}) PutError) (P : Type 0) → is_err r ≡ false → OnOk r P → P
-left_by_success (Ok u) P e p = p
-left_by_success (Err x) P e p = absurd cc
 
 -- a frame that is put finds the bus not full
 pub had_room : (r : Result (Unit {0}) PutError) (full : Bool) → is_err r ≡ false → IsErrOf r BusFull ↔ IsTrue full → full ≡ false
@@ -117,99 +90,35 @@ transmits_here s t seg a i st old new frame view here within is next free put th
     ∙ transmits_is seg i st frame next free
     ∙ stepped_view t (with_frame seg frame) i (record st { queue = behind st.queue }) new (Done []) (Done []) put (left ∙ ap (λ (x : Station). record x { queue = behind x.queue }) same) refl
 
--- A frame that isn't put, though the call isn't refused
+-- A frame that finds no memory is refused for nothing else
 
-pub none_sends : (seg : Segment) (a : Address) → place_of seg a ≡ None → IsOk (at_address seg a (transmits seg)) → KeepsTwo seg
-none_sends seg a none e = absurd (both_ways (is_ok (at_address seg a (transmits seg))) (ap (λ (x : Answer). is_ok x) (at_none seg a (transmits seg) none)) e)
+free_for_memory : (st : Station) (c : Cause) → IsAnswered (taking_refusal st) (Some c) → stop_of c ≡ stop.OutOfMemory → taking_refusal st ≡ None
+free_for_memory st cause.OutOfMemory none e = none
+free_for_memory st cause.NoSuchStation none e = absurd cc
+free_for_memory st cause.SameStation none e = absurd cc
+free_for_memory st cause.TooShort none e = absurd cc
+free_for_memory st cause.TooLong none e = absurd cc
+free_for_memory st cause.LaneFull none e = absurd cc
+free_for_memory st cause.PortsFull none e = absurd cc
+free_for_memory st cause.NoSuchPort none e = absurd cc
+free_for_memory st cause.PortPaused none e = absurd cc
+free_for_memory st cause.PortNotPaused none e = absurd cc
+free_for_memory st cause.NothingToSend none e = absurd cc
+free_for_memory st cause.NotYet none e = absurd cc
+free_for_memory st cause.NothingDue none e = absurd cc
+free_for_memory st cause.TxFull none e = absurd cc
 
-module _ (s : Inside) (seg : Segment) (a : Address) (i : ℕ) (st : Station) where
-  isnt_made : (answer : Answer) → is_ok answer ≡ false → at_address seg a (transmits seg) ≡ answer → IsOk (at_address seg a (transmits seg)) → KeepsTwo seg
-  isnt_made answer not_ok is e = absurd (both_ways (is_ok (at_address seg a (transmits seg))) (ap (λ (x : Answer). is_ok x) is ∙ not_ok) e)
+-- The same of a Take of the segment
 
-  pub none_sent : segment_value s ≡ seg → Some i ≡ place_of seg a → i < length seg.stations → st ≡ get_or s.stations.items i st → front st.queue ≡ None → IsOk (at_address seg a (transmits seg)) → KeepsTwo seg
-  none_sent view here within is none e = isnt_made (Err refusal.NothingToSend) refl (at_here s seg a i st (transmits seg) view here within is ∙ ap (transmits_by seg i st) none) e
-
-  pub put_wants : (frame : CanFrame) → segment_value s ≡ seg → Some i ≡ place_of seg a → i < length seg.stations → st ≡ get_or s.stations.items i st → Some frame ≡ front st.queue
-      → (r : Result (Unit {0}) PutError) → is_err r ≡ true → IsErrOf r BusFull ↔ IsTrue (bus.is_full seg.bus) → (IsErrOf r OutOfMemory → KeepsTwo seg) → IsOk (at_address seg a (transmits seg)) → KeepsTwo seg
-  put_wants frame view here within is next (Ok u) failed full memory e = absurd (cc)
-  put_wants frame view here within is next (Err OutOfMemory) failed full memory e = memory refl
-  put_wants frame view here within is next (Err BusFull) failed full memory e =
-      isnt_made (Err refusal.BusFull) refl
-      (at_here s seg a i st (transmits seg) view here within is ∙ ap (transmits_by seg i st) (sym next) ∙ ap (λ (b : Bool). cond {A = Answer} b (Err refusal.BusFull) (done (with_frame (with_station seg i (record st { queue = behind st.queue })) frame))) (full.0 refl)) e
-
--- A frame that finds no memory is one that is taken with room
-
-pub takes_with_room : (st : Station) (c : Cause) (room : Bool) → IsAnswered (taking_refusal st) (Some c) → (taking_refusal st ≡ None → room ≡ true) → stop_of c ≡ stop.OutOfMemory → room ≡ true
-takes_with_room st cause.OutOfMemory room none wants e = wants none
-takes_with_room st cause.NoSuchStation room none wants e = absurd cc
-takes_with_room st cause.SameStation room none wants e = absurd cc
-takes_with_room st cause.TooShort room none wants e = absurd cc
-takes_with_room st cause.TooLong room none wants e = absurd cc
-takes_with_room st cause.LaneFull room none wants e = absurd cc
-takes_with_room st cause.PortsFull room none wants e = absurd cc
-takes_with_room st cause.NoSuchPort room none wants e = absurd cc
-takes_with_room st cause.PortPaused room none wants e = absurd cc
-takes_with_room st cause.PortNotPaused room none wants e = absurd cc
-takes_with_room st cause.NothingToSend room none wants e = absurd cc
-takes_with_room st cause.NotYet room none wants e = absurd cc
-takes_with_room st cause.NothingDue room none wants e = absurd cc
-takes_with_room st cause.TxFull room none wants e = absurd cc
-
--- A frame that is taken in place
-
-free_place : (st : Station) → taking_refusal st ≡ None → no_place st ≡ false
-free_place st free = by (no_place st) free
-  where
-    by : (b : Bool) → cond {A = Option Cause} b (Some cause.TxFull) None ≡ None → b ≡ false
-    by true e = absurd cc
-    by false e = refl
-
-no_free_place : (st : Station) (c : Cause) → taking_refusal st ≡ Some c → no_place st ≡ true
-no_free_place st c full = by (no_place st) full
-  where
-    by : (b : Bool) → cond {A = Option Cause} b (Some cause.TxFull) None ≡ Some c → b ≡ true
-    by true e = refl
-    by false e = absurd cc
-
-abbrev Quietly : Segment → Address → Bool → Bool
-Quietly seg a room = take_quiet (station_of seg a) (next_at seg (place_of seg a)) room
-
-abbrev LacksRoomFor : Segment → Address → Bool → Type 0
-LacksRoomFor seg a room = TakeLacksRoom (station_of seg a) (next_at seg (place_of seg a)) room
-
-module _ (seg : Segment) (a : Address) (room : Bool) where
-  -- no station, no frame, and no place for an answer
-  pub unheard : place_of seg a ≡ None → Quietly seg a room ≡ true → LacksRoomFor seg a room
-  unheard none e = absurd (both_ways (Quietly seg a room) ((λ k. take_quiet (of_none seg a none k) (next_at seg (none k)) room)) e)
-
-  module _ (i : ℕ) (here : Some i ≡ place_of seg a) where
-    pub untaken : bus.next_frame seg.bus i ≡ None → Quietly seg a room ≡ true → LacksRoomFor seg a room
-    untaken none e = absurd (both_ways (Quietly seg a room) (ap (λ (n : Option CanFrame). take_quiet (station_of seg a) n room) (ap (next_at seg) (sym here) ∙ none) ∙ by (station_of seg a)) e)
-      where
-        by : (o : Option Station) → take_quiet o None room ≡ false
-        by None = refl
-        by (Some st) = refl
-
-    module _ (st : Station) (frame : CanFrame) (is : station_of seg a ≡ Some st) (next : Some frame ≡ bus.next_frame seg.bus i) where
-      frame_is : next_at seg (place_of seg a) ≡ Some frame
-      frame_is = ap (next_at seg) (sym here) ∙ sym next
-
-      taken_as : Quietly seg a room ≡ cond (no_place st) false (takes_quietly st frame room)
-      taken_as = λ k. take_quiet (is k) (frame_is k) room
-
-      pub unanswered : (c : Cause) → taking_refusal st ≡ Some c → Quietly seg a room ≡ true → LacksRoomFor seg a room
-      unanswered c full e = absurd (both_ways (Quietly seg a room) (taken_as ∙ ap (λ (b : Bool). cond b false (takes_quietly st frame room)) (no_free_place st c full)) e)
-
-      quiet_is : taking_refusal st ≡ None → Quietly seg a room ≡ takes_quietly st frame room
-      quiet_is free = taken_as ∙ ap (λ (b : Bool). cond b false (takes_quietly st frame room)) (free_place st free)
-
-      pub taken_quietly : taking_refusal st ≡ None → takes_quietly st frame room ≡ true → Quietly seg a room ≡ true
-      taken_quietly free e = quiet_is free ∙ e
-
-      pub wanted_room : taking_refusal st ≡ None → (takes_quietly st frame room ≡ true → LacksRoom st frame room) → Quietly seg a room ≡ true → LacksRoomFor seg a room
-      wanted_room free lacks e =
-          let there : TakeLacksRoom (Some st) (Some frame) room = lacks (sym (quiet_is free) ∙ e) in
-          subst (λ (o : Option Station). TakeLacksRoom o (next_at seg (place_of seg a)) room) (sym is) (subst (λ (n : Option CanFrame). TakeLacksRoom (Some st) n room) (sym frame_is) there)
+pub may_ask : (seg : Segment) (a : Address) (i : ℕ) (room : Bool) (st : Station) (frame : CanFrame) (c : Cause) → Some i ≡ place_of seg a → station_of seg a ≡ Some st → Some frame ≡ bus.next_frame seg.bus i
+    → IsAnswered (taking_refusal st) (Some c) → (taking_refusal st ≡ None → room ≡ true) → (taking_refusal st ≡ None → MayLackMemory st frame room) → stop_of c ≡ stop.OutOfMemory → MayAskMemory seg (Take a room)
+may_ask seg a i room st frame c here is next answered with_room lacks e =
+    let none : taking_refusal st ≡ None = free_for_memory st c answered e in
+    let frame_is : next_at seg (place_of seg a) ≡ Some frame = ap (next_at seg) (sym here) ∙ sym next in
+    let there : TakeMayLackMemory (Some st) (Some frame) room = lacks none in (
+      with_room none,
+      subst (λ (o : Option Station). TakeMayLackMemory o (next_at seg (place_of seg a)) room) (sym is) (subst (λ (n : Option CanFrame). TakeMayLackMemory (Some st) n room) (sym frame_is) there),
+    )
 
 -- Frames that are missed
 

@@ -1,16 +1,19 @@
 -- How a record goes on with a call that the code makes.
-use Rattle.std.proofs.Common.{◌≡◌, ℕ, zero, suc, ◌<◌, true, ◌&&◌, List, [], ◌∷◌, ◌++◌, Ok, refl, ap, ◌∙◌, subst}
+use Rattle.std.proofs.Common.{◌≡◌, ℕ, zero, suc, ◌<◌, true, ◌&&◌, List, [], ◌∷◌, ◌++◌, Ok, Err, refl, sym, ap, ◌∙◌, subst}
 use Rattle.std.specs.Prelude.{slice_index}
 use Rattle.std.proofs.lemmas.Bool.{lt-ltb}
-use Rattle.bus_frame.specs.Frames.{CanFrame}
 use Rattle.pgn_ids.specs.declared.address.Address.{Address}
-use Rattle.port_table.specs.declared.port.PortId.{PortId}
 use Rattle.segment_law.specs.Segment.{Segment}
-use Rattle.segment_law.specs.Calls.{are_bytes, is_call, at_address, opens, closes, injects, pauses, resumes, called, replied, applied}
+use Rattle.segment_law.specs.Calls.{are_bytes, is_call, at_address, opens, called, replied, applied}
 use Rattle.segment_law.specs.Record.{Record, StandsAt}
 use Rattle.segment_law.specs.declared.call.Call.{Call}
-use Rattle.segment_law.specs.declared.call.Call.TheVariants.{Open, Close, Inject, Pause, Resume}
+use Rattle.segment_law.specs.declared.call.Call.TheVariants.{Open}
+use Rattle.segment_law.specs.declared.refusal.Refusal.{Refusal}
 use Rattle.segment_law.specs.declared.reply.Reply.{Reply}
+use Rattle.segment_law.specs.declared.reply.Reply.TheVariants as of_reply
+use Rattle.segment_core.specs.Answers.{IsAnswer}
+use Rattle.segment_core.specs.declared.stop.Stop.{Stop}
+use Rattle.segment_core.specs.declared.stop.Stop.TheVariants as of_stop
 use Rattle.segment_law.proofs.Records.{call_goes_on}
 
 -- bytes that are below 256 one by one
@@ -29,24 +32,12 @@ answered_stands before after call reply fit says addresses steps h =
 pub done_stands : (before after : Segment) (call : Call) (reply : Reply) → is_call call ≡ true → called before call ≡ Ok (after, reply) → (addresses : List Address) (steps : Record) → StandsAt addresses steps before → StandsAt addresses (steps ++ (call, reply) ∷ []) after
 done_stands before after call reply fit says = answered_stands before after call reply fit (ap (replied before) says)
 
--- What is called of a station or of the bus
+pub refused_stands : (before after : Segment) (call : Call) (cause : Refusal) (ended : Stop) → is_call call ≡ true → ended ≡ of_stop.Refused cause → IsAnswer (called before call) before after (Err ended) → (addresses : List Address) (steps : Record) → StandsAt addresses steps before → StandsAt addresses (steps ++ (call, of_reply.Refused cause) ∷ []) after
+refused_stands before after call cause ended fit is says =
+    let refused : (called before call ≡ Err cause) × (after ≡ before) = subst (λ (s : Stop). IsAnswer (called before call) before after (Err s)) is says in
+    answered_stands before after call (of_reply.Refused cause) fit (ap (replied before) refused.0 ∙ ap (λ (seg : Segment). (seg, of_reply.Refused cause)) (sym refused.1))
 
+-- what is called of a station
 pub opens_called : (seg : Segment) (a : Address) (pgn max_len : ℕ) → called seg (Open a pgn max_len) ≡ at_address seg a (opens seg pgn max_len)
 unfolding called
 opens_called seg a pgn max_len = refl
-
-pub closes_called : (seg : Segment) (port : PortId) → called seg (Close port) ≡ at_address seg port.station (closes seg port.number)
-unfolding called
-closes_called seg port = refl
-
-pub pauses_called : (seg : Segment) (port : PortId) → called seg (Pause port) ≡ at_address seg port.station (pauses seg port.number)
-unfolding called
-pauses_called seg port = refl
-
-pub resumes_called : (seg : Segment) (port : PortId) → called seg (Resume port) ≡ at_address seg port.station (resumes seg port.number)
-unfolding called
-resumes_called seg port = refl
-
-pub injects_called : (seg : Segment) (frame : CanFrame) → called seg (Inject frame) ≡ injects seg frame
-unfolding called
-injects_called seg frame = refl

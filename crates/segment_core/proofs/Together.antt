@@ -19,7 +19,7 @@ use Rattle.segment_law.specs.Calls.{at_address, done, takes, transmits, with_fra
 use Rattle.segment_law.specs.Drive.{Driven, takes_all, turn}
 use Rattle.segment_law.specs.declared.reply.Reply.TheVariants.{Done}
 use Rattle.segment_law.specs.declared.counts.Counts.{Counts}
-use Rattle.segment_core.specs.Abreast.{Takes, Tells, Notes, FirstTake, FirstTell, FirstPass, PutAbreast}
+use Rattle.segment_core.specs.Abreast.{Takes, Notes, FirstTake, FirstTell, FirstPass, PutAbreast}
 use Rattle.segment_core.specs.declared.course.Course.{Course}
 use Rattle.segment_core.specs.Drives.{IsShown, IsFollowed, HasTaken, addresses_of}
 use Rattle.segment_core.specs.Joined.{joined}
@@ -84,18 +84,21 @@ pub counted_more : (counts : Counts) (earlier own : List Event) → counted (cou
 counted_more counts [] own = refl
 counted_more counts (e ∷ earlier) own = counted_more (counted_event counts e) earlier own
 
-pub first_tell_more : (n : ℕ) (frame : CanFrame) (now : ℕ) (before others : List Station) (was course next : Course) (counts sum left : Counts) (station after : Station) → FirstTell n frame now before others was course counts sum → n < length before → station ≡ get_or others n station → Tells station frame now after course next sum left
-    → FirstTell (n + 1) frame now before (set others n after) was next counts left
-first_tell_more n frame now before others was course next counts sum left station after f within here t = record {
-  told = f.told ++ t.told;
-  steps = first_more n frame now before others f.told station after t.told f.steps within here t.takes;
-  notes = notes_more was course next f.told t.told f.notes t.notes;
-  sums = t.sums ∙ ap (λ (c : Counts). counted c t.told) f.sums ∙ counted_more counts f.told t.told;
+pub first_tell_more : (n : ℕ) (frame : CanFrame) (now : ℕ) (before others : List Station) (was course next : Course) (counts sum left : Counts) (station after : Station) (own : List Event) → FirstTell n frame now before others was course counts sum → n < length before → station ≡ get_or others n station → Takes station frame now after own
+    → Notes course next own → left ≡ counted sum own → FirstTell (n + 1) frame now before (set others n after) was next counts left
+first_tell_more n frame now before others was course next counts sum left station after own f within here takes notes sums = record {
+  told = f.told ++ own;
+  steps = first_more n frame now before others f.told station after own f.steps within here takes;
+  notes = notes_more was course next f.told own f.notes notes;
+  sums = sums ∙ ap (λ (c : Counts). counted c own) f.sums ∙ counted_more counts f.told own;
 }
 
--- a station that tells nothing
-pub tells_nothing : (station : Station) (frame : CanFrame) (now : ℕ) (after : Station) (course : Course) (counts : Counts) → Takes station frame now after [] → Tells station frame now after course course counts counts
-tells_nothing station frame now after course counts t = record { told = []; takes = t; notes = (refl, sym (append-nil (joined course.parts.items))); sums = refl }
+-- nothing that is told
+pub nothing_noted : (course : Course) (told : List Event) → told ≡ [] → Notes course course told
+nothing_noted course told none = subst (λ (es : List Event). Notes course course es) (sym none) (refl, sym (append-nil (joined course.parts.items)))
+
+pub nothing_counted : (counts : Counts) (told : List Event) → told ≡ [] → counts ≡ counted counts told
+nothing_counted counts told none = ap (λ (es : List Event). counted counts es) (sym none)
 
 -- One more of them
 

@@ -46,14 +46,7 @@ FirstTake (suc n) frame now before after told = OneMore (FirstTake n frame now b
 abbrev pub Notes : (was course : Course) → (told : List Event) → Type 0
 Notes was course told = (course.frames.items ≡ was.frames.items) × (joined course.parts.items ≡ joined was.parts.items ++ told)
 
--- what a station tells is noted and counted
-pub record Tells (before : Station) (frame : CanFrame) (now : ℕ) (after : Station) (was course : Course) (counts left : Counts) : Type 0 where
-  pub told : List Event
-  pub takes : Takes before frame now after told
-  pub notes : Notes was course told
-  pub sums : left ≡ counted counts told
-
--- and what the first n of the stations tell
+-- what the first n of the stations tell is noted and counted
 pub record FirstTell (n : ℕ) (frame : CanFrame) (now : ℕ) (before after : List Station) (was course : Course) (counts left : Counts) : Type 0 where
   pub told : List Event
   pub steps : FirstTake n frame now before after told

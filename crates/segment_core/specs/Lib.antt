@@ -1,10 +1,10 @@
 pub mod Places
 pub mod Answers
-pub mod InPlace
 pub mod Memory
 pub mod SegmentCode
 pub mod SegmentFields
 pub mod DriveFields
+pub mod SeenFields
 pub mod Joined
 pub mod Runs
 pub mod Transmits

@@ -1,14 +1,8 @@
 //! The newest frame, taken by the stations that are abreast before it: it is read once for all of them.
-ghost use Rattle.std.specs.Prelude.{◌≡◌, ◌≤◌, ◌<◌, List, [], length, true, IfSome, IfNone, vec_len, vec_capacity};
-ghost use Rattle.station_core.specs.Station.{Station as StationValue};
+ghost use Rattle.std.specs.Prelude.{◌≡◌, ◌≤◌, ◌<◌, [], length, IfSome, IfNone, vec_len, vec_capacity};
 ghost use Rattle.std.specs.Bool.{OnTrue, OnFalse};
-ghost use Rattle.std.specs.Option.{option_map};
-ghost use Rattle.pgn_ids.specs.Identifier.{meaning_of};
-ghost use Rattle.tp_wire.specs.Reading.{reading};
-ghost use Rattle.tp_wire.specs.Heard.{meant, meant_between};
-ghost use Rattle.tp_wire.specs.Rows.{comes_from};
-ghost use Rattle.segment_core.specs.Drives.{SameTold};
-ghost use Rattle.segment_core.specs.Abreast.{Takes, Tells, FirstTake, FirstTell, FirstPass, PutAbreast};
+ghost use Rattle.segment_law.specs.Segment.{counted};
+ghost use Rattle.segment_core.specs.Abreast.{Takes, Notes, FirstTell, FirstPass, PutAbreast};
 
 use crate::counting::{count_events, count_frame};
 use crate::course::Course;
@@ -18,219 +12,110 @@ use pgn_ids::{Address, IdMeaning, read_id};
 use segment_law::Counts;
 use station_core::{Events, Station};
 use std::alloc::Global;
+use std::marker::Model;
+use std::mem;
 use tp_wire::{Heard, is_transport, read_in_place};
 
-// A station takes a frame with room where that tells nothing; else nothing changes.
-#[inline(always)]
-fn take_one(
-    station: &mut Station,
-    frame: &Frame,
-    meaning: &IdMeaning,
-    heard: &Option<(Heard<'_>, Address, Address)>,
-    now: u64,
-) -> bool
-    requires meaning { meaning.now ≡ meaning_of frame.now.id }
-    requires heard { option_map meant_between heard.now ≡ reading frame.now }
-    requires source { IfSome heard.now (λ h. comes_from (meant h.0) h.1.0 ≡ true) }
-    ensures step { OnTrue result (Takes station.old frame.now now station.new []) }
-    ensures other { OnFalse result (station.new ≡ station.old) }
-{
-    if let Some(_cause) = station.take_refusal() {
-        return false;
-    }
-    if !station.is_meant(meaning) {
-        return true;
-    }
-    match heard {
-        Some((heard, from, to)) => station.hear_in_place(heard, *from, *to, true, now),
-        None => !is_transport(frame),
-    }
+/// A frame that was read once for all stations: what its identifier says, and what it means, if it is a row of the frame table.
+#[derive(Drop)]
+struct Seen<'a> {
+    frame: &'a Frame,
+    meaning: IdMeaning,
+    heard: Option<(Heard<'a>, Address, Address)>,
 }
 
-// Any other station takes it where there is room to note what it tells, which is counted; else, and where it is refused or finds no
-// memory, nothing changes.
-fn tell_one(
-    station: &mut Station,
-    frame: &Frame,
-    meaning: &IdMeaning,
-    heard: &Option<(Heard<'_>, Address, Address)>,
-    now: u64,
-    alloc: Global,
-    course: &mut Course,
-    counts: &mut Counts,
-) -> bool
-    requires meaning { meaning.now ≡ meaning_of frame.now.id }
-    requires heard { option_map meant_between heard.now ≡ reading frame.now }
-    requires source { IfSome heard.now (λ h. comes_from (meant h.0) h.1.0 ≡ true) }
-    ensures step { OnTrue result (Tells station.old frame.now now station.new course.old course.new counts.old counts.new) }
-    ensures other { OnFalse result (station.new ≡ station.old) }
-    ensures same { OnFalse result (SameTold course.old course.new × (counts.new ≡ counts.old)) }
-{
-    let Some((heard, from, to)) = heard else {
-        return false;
-    };
-    if !course.has_part() || !station.is_meant(meaning) {
-        return false;
-    }
-    if let Some(_cause) = station.take_refusal() {
-        return false;
-    }
-    let mut told = Events::none(alloc);
-    if station
-        .hear_telling(heard, *from, *to, true, now, &mut told)
-        .is_err()
+impl<'a> Model for Seen<'a> {
+    ghost use Rattle.bus_frame.specs.Frames.{CanFrame};
+    ghost use Rattle.segment_core.specs.SeenFields.{seen_value, IsSeen};
+
+    ghost Value = { CanFrame };
+
+    ghost view = { seen_value };
+
+    ghost invariant = { IsSeen };
+}
+
+impl<'a> Seen<'a> {
+    // A station takes it with room, and what that tells is put down where nothing was told yet. Where it is refused, malformed, or finds no
+    // memory, nothing changes.
+    #[inline(always)]
+    fn taken_by(&self, station: &mut Station, now: u64, told: &mut Events) -> bool
+        requires { told.old ≡ [] }
+        ensures step { OnTrue result (Takes station.old self.now now station.new told.new) }
+        ensures other { OnFalse result (station.new ≡ station.old) }
+        ensures silent { OnFalse result (told.new ≡ []) }
     {
-        return false;
-    }
-    count_events(counts, &told);
-    course.note(told);
-    true
-}
-
-// The first of the stations take it in place, up to one that doesn't: how many.
-#[inline(always)]
-fn take_each(
-    stations: &mut [Station],
-    frame: &Frame,
-    meaning: &IdMeaning,
-    heard: &Option<(Heard<'_>, Address, Address)>,
-    now: u64,
-) -> usize
-    requires meaning { meaning.now ≡ meaning_of frame.now.id }
-    requires heard { option_map meant_between heard.now ≡ reading frame.now }
-    requires source { IfSome heard.now (λ h. comes_from (meant h.0) h.1.0 ≡ true) }
-    ensures few { result ≤ length stations.old }
-    ensures steps { FirstTake result frame.now now stations.old stations.new [] }
-{
-    let count = stations.len();
-    for place in 0..count {
-        if !take_one(&mut stations[place], frame, meaning, heard, now) {
-            return place;
+        if let Some(_cause) = station.take_refusal() {
+            return false;
+        }
+        if !station.is_meant(&self.meaning) {
+            return true;
+        }
+        match &self.heard {
+            Some((heard, from, to)) => station
+                .hear_telling(heard, *from, *to, true, now, told)
+                .is_ok(),
+            None => !is_transport(self.frame),
         }
     }
-    count
+
+    // The first of the stations take it, up to one that doesn't or that finds no room to note what it tells: how many. What they tell
+    // is counted.
+    #[inline(always)]
+    fn taken_by_first(
+        &self,
+        stations: &mut [Station],
+        now: u64,
+        alloc: Global,
+        course: &mut Course,
+        counts: &mut Counts,
+    ) -> usize
+        ensures few { result ≤ length stations.old }
+        ensures steps { FirstTell result self.now now stations.old stations.new course.old course.new counts.old counts.new }
+    {
+        if !course.has_part() {
+            return 0;
+        }
+        let count = stations.len();
+        let mut told = Events::none(alloc);
+        for place in 0..count {
+            if !self.taken_by(&mut stations[place], now, &mut told) {
+                return place;
+            }
+            if !note(&mut told, alloc, course, counts) {
+                return place + 1;
+            }
+        }
+        count
+    }
 }
 
-// A station takes it in place, unless that was tried, or telling.
-#[tactic(auto, using(crate::proofs::Together::tells_nothing))]
-fn take_or_tell(
-    station: &mut Station,
-    is_tried: bool,
-    frame: &Frame,
-    meaning: &IdMeaning,
-    heard: &Option<(Heard<'_>, Address, Address)>,
-    now: u64,
-    alloc: Global,
-    course: &mut Course,
-    counts: &mut Counts,
-) -> bool
-    requires meaning { meaning.now ≡ meaning_of frame.now.id }
-    requires heard { option_map meant_between heard.now ≡ reading frame.now }
-    requires source { IfSome heard.now (λ h. comes_from (meant h.0) h.1.0 ≡ true) }
-    ensures step { OnTrue result (Tells station.old frame.now now station.new course.old course.new counts.old counts.new) }
-    ensures other { OnFalse result (station.new ≡ station.old) }
-    ensures same { OnFalse result (SameTold course.old course.new × (counts.new ≡ counts.old)) }
+// What a station told is counted and noted, and nothing is told any more: whether there is room to note what one more tells.
+#[inline(always)]
+fn note(told: &mut Events, alloc: Global, course: &mut Course, counts: &mut Counts) -> bool
+    requires room { vec_len course.old.parts < vec_capacity course.old.parts }
+    ensures notes { Notes course.old course.new told.old }
+    ensures sums { counts.new ≡ counted counts.old told.old }
+    ensures told { told.new ≡ [] }
+    ensures room { OnTrue result (vec_len course.new.parts < vec_capacity course.new.parts) }
 {
-    if !is_tried && take_one(station, frame, meaning, heard, now) {
+    if told.is_empty() {
         return true;
     }
-    tell_one(station, frame, meaning, heard, now, alloc, course, counts)
+    note_events(told, alloc, course, counts);
+    course.has_part()
 }
 
-// After the first of them, and one that doesn't take it in place, the others do, in place or telling, up to one that does neither: how many
-// in all.
+// The same where something was told, as few frames do.
 #[inline(never)]
-fn take_rest(
-    stations: &mut [Station],
-    first: usize,
-    frame: &Frame,
-    meaning: &IdMeaning,
-    heard: &Option<(Heard<'_>, Address, Address)>,
-    now: u64,
-    alloc: Global,
-    course: &mut Course,
-    counts: &mut Counts,
-) -> usize
-    requires first { first ≤ length stations.old }
-    requires meaning { meaning.now ≡ meaning_of frame.now.id }
-    requires heard { option_map meant_between heard.now ≡ reading frame.now }
-    requires source { IfSome heard.now (λ h. comes_from (meant h.0) h.1.0 ≡ true) }
-    ensures few { result ≤ length stations.old }
-    ensures steps { (before : List StationValue) → FirstTake first frame.now now before stations.old [] → FirstTell result frame.now now before stations.new course.old course.new counts.old counts.new }
+fn note_events(told: &mut Events, alloc: Global, course: &mut Course, counts: &mut Counts)
+    requires room { vec_len course.old.parts < vec_capacity course.old.parts }
+    ensures notes { Notes course.old course.new told.old }
+    ensures sums { counts.new ≡ counted counts.old told.old }
+    ensures told { told.new ≡ [] }
 {
-    let count = stations.len();
-    for place in first..count {
-        let is_tried = place == first;
-        let station = &mut stations[place];
-        if !take_or_tell(
-            station, is_tried, frame, meaning, heard, now, alloc, course, counts,
-        ) {
-            return place;
-        }
-    }
-    count
-}
-
-// The same once more.
-#[inline(always)]
-fn copied<'a>(heard: &'a Heard<'_>) -> Heard<'a>
-    ensures { meant result ≡ meant heard.now }
-{
-    match heard {
-        Heard::Cm(frame) => Heard::Cm(*frame),
-        Heard::Packet {
-            kind,
-            sequence,
-            bytes,
-        } => Heard::Packet {
-            kind: *kind,
-            sequence: *sequence,
-            bytes,
-        },
-        Heard::Request { pgn } => Heard::Request { pgn: *pgn },
-        Heard::Ack {
-            control,
-            address,
-            pgn,
-        } => Heard::Ack {
-            control: *control,
-            address: *address,
-            pgn: *pgn,
-        },
-    }
-}
-
-// The first of them do, up to one that neither takes it in place nor has room to note what it tells.
-#[inline(always)]
-fn take_heard(
-    stations: &mut [Station],
-    frame: &Frame,
-    meaning: &IdMeaning,
-    heard: &Option<(Heard<'_>, Address, Address)>,
-    now: u64,
-    alloc: Global,
-    course: &mut Course,
-    counts: &mut Counts,
-) -> usize
-    requires meaning { meaning.now ≡ meaning_of frame.now.id }
-    requires heard { option_map meant_between heard.now ≡ reading frame.now }
-    requires source { IfSome heard.now (λ h. comes_from (meant h.0) h.1.0 ≡ true) }
-    ensures few { result ≤ length stations.old }
-    ensures steps { FirstTell result frame.now now stations.old stations.new course.old course.new counts.old counts.new }
-{
-    let taken = take_each(stations, frame, meaning, heard, now);
-    if taken == stations.len() {
-        return taken;
-    }
-    // Copies: what a call reads behind a reference the compiler keeps in memory from where it is made, and of most frames no call is made.
-    let meaning = *meaning;
-    let heard = match heard {
-        Some((heard, from, to)) => Some((copied(heard), *from, *to)),
-        None => None,
-    };
-    take_rest(
-        stations, taken, frame, &meaning, &heard, now, alloc, course, counts,
-    )
+    count_events(counts, told);
+    course.note(mem::replace(told, Events::none(alloc)));
 }
 
 // The same of a frame that is read once for all of them. Most frames are packets: what a station does with one is made apart, so
@@ -248,8 +133,7 @@ fn take_first(
     ensures steps { FirstTell result frame.now now stations.old stations.new course.old course.new counts.old counts.new }
 {
     let meaning = read_id(frame.id());
-    let heard = read_in_place(frame, &meaning);
-    match heard {
+    match read_in_place(frame, &meaning) {
         Some(
             (
                 Heard::Packet {
@@ -266,20 +150,21 @@ fn take_first(
                 sequence,
                 bytes,
             };
-            take_heard(
-                stations,
+            let seen = Seen {
                 frame,
-                &meaning,
-                &Some((packet, from, to)),
-                now,
-                alloc,
-                course,
-                counts,
-            )
+                meaning,
+                heard: Some((packet, from, to)),
+            };
+            seen.taken_by_first(stations, now, alloc, course, counts)
         }
-        _ => take_heard(
-            stations, frame, &meaning, &heard, now, alloc, course, counts,
-        ),
+        heard => {
+            let seen = Seen {
+                frame,
+                meaning,
+                heard,
+            };
+            seen.taken_by_first(stations, now, alloc, course, counts)
+        }
     }
 }
 
@@ -310,7 +195,7 @@ impl Segment {
     }
 
     /// Where the stations are level, the first frame of a station's queue is put on the bus, and the first of the stations take
-    /// it, as by `transmit_front` and `take_abreast`: how many do. It is read and sorted before it comes to the bus, where it
+    /// it, as by `transmit` and `take_abreast`: how many do. It is read and sorted before it comes to the bus, where it
     /// takes the place of the newest if all of them take it. None where they aren't level or there is no such frame, and then
     /// nothing changes.
     #[inline(always)]

@@ -1,12 +1,11 @@
 //! What a drive did so far.
 ghost use Rattle.std.specs.Prelude.{◌≡◌, ◌<◌, ◌++◌, [], length, option_to_list, vec_len, vec_capacity};
 ghost use Rattle.std.specs.Bool.{OnTrue};
-ghost use Rattle.segment_law.specs.Calls.{events_of};
 ghost use Rattle.segment_core.specs.Joined.{joined};
 
 use crate::driven::{Driven, EventList, FrameList};
 use bus_frame::Frame;
-use segment_law::{DriveEnd, Reply};
+use segment_law::DriveEnd;
 use station_core::Events;
 use std::alloc::Global;
 
@@ -53,17 +52,6 @@ impl Course {
     {
         if let Some(frame) = frame {
             self.frames.push_reserved(frame);
-        }
-    }
-
-    /// What the reply to a call tells, for which there is room.
-    pub(crate) fn tell(&mut self, reply: Reply)
-        requires room { vec_len self.old.parts < vec_capacity self.old.parts }
-        ensures told { joined self.new.parts.items ≡ joined self.old.parts.items ++ events_of reply }
-        ensures frames { self.new.frames.items ≡ self.old.frames.items }
-    {
-        if let Reply::Done(events) = reply {
-            self.note(events);
         }
     }
 

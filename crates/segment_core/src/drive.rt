@@ -9,7 +9,7 @@ ghost use Rattle.segment_law.specs.Quiet.{quiet, IsQuiet};
 ghost use Rattle.segment_law.specs.Drive.{Driven as Drive, driven, makes, puts, pumps, turn_puts, takes_all, turn};
 ghost use Rattle.segment_law.specs.declared.call.Call.TheVariants.{Pump, Take, Tick};
 ghost use Rattle.segment_law.specs.declared.end.DriveEnd.TheVariants as end;
-ghost use Rattle.segment_law.specs.Calls.{at_address, takes, transmits};
+ghost use Rattle.segment_law.specs.Calls.{at_address, pumps as pumping, takes, transmits};
 ghost use Rattle.segment_core.specs.Answers.{IsAnswer};
 ghost use Rattle.segment_core.specs.Drives.{IsDriven, IsBegun, IsCourse, SameTold, PutsNext, Went, IsFollowed, HasTaken, addresses_of, stop_end, too_soon};
 ghost use Rattle.segment_core.specs.Abreast.{HasPut};
@@ -97,7 +97,7 @@ impl Segment {
         let count = self.station_count();
         for place in first..count {
             let station = self.address_at(place);
-            self.take_all(station, place == first, course)?;
+            self.take_all(station, course)?;
         }
         Ok(())
     }
@@ -139,14 +139,14 @@ impl Segment {
         Ok(taken)
     }
 
-    // Room in a course for the frame that a station transmits.
+    // Room in a course for the frame that a station transmits, and for what one that takes it tells.
     #[inline(always)]
     fn make_way(&self, station: Address, course: &mut Course) -> Result<(), Stop>
         ensures room { OnOk result (vec_len course.new.frames < vec_capacity course.new.frames) }
         ensures same { SameTold course.old course.new }
         ensures stopped { IfErr result (λ stop. IsAnswer (at_address self.now station (transmits self.now)) self.now self.now (Err stop)) }
     {
-        if course.has_room() {
+        if course.has_room() && course.has_part() {
             return Ok(());
         }
         self.grow_course(station, course)
@@ -209,65 +209,44 @@ impl Segment {
         ensures { (start : State) (d : Drive) → IsCourse None start d self.old course.old → Went start (makes d (Pump from to)) self.new course.new result }
     {
         one_byte(to);
-        if self.pump_in_place(from, to) {
-            return Ok(());
-        }
-        self.pump_telling(from, to, course)
+        self.make_pump_part(from, to, course)?;
+        let mut told = Events::none(self.alloc);
+        self.pump_telling(from, to, &mut told)?;
+        course.note(told);
+        Ok(())
     }
 
-    // Any other pump. Memory is taken only once it isn't refused.
-    #[inline(never)]
-    fn pump_telling(&mut self, from: Address, to: Address, course: &mut Course) -> Result<(), Stop>
-        ensures { (start : State) (d : Drive) → IsCourse None start d self.old course.old → Went start (makes d (Pump from to)) self.new course.new result }
+    // Room in a course for what a pump tells. Memory is taken only once that isn't refused.
+    #[inline(always)]
+    fn make_pump_part(&self, from: Address, to: Address, course: &mut Course) -> Result<(), Stop>
+        ensures room { OnOk result (vec_len course.new.parts < vec_capacity course.new.parts) }
+        ensures same { SameTold course.old course.new }
+        ensures stopped { IfErr result (λ stop. IsAnswer (at_address self.now from (pumping self.now to)) self.now self.now (Err stop)) }
     {
-        one_byte(to);
+        if course.has_part() {
+            return Ok(());
+        }
         if let Some(cause) = self.pump_refusal(from, to) {
             return Err(Stop::Refused(cause));
         }
         course.parts.reserve(1)?;
-        let reply = self.pump(from, to)?;
-        course.tell(reply);
         Ok(())
     }
 
-    // A station takes until no frame waits for it. The first frame may have been tried in place before.
-    fn take_all(
-        &mut self,
-        station: Address,
-        is_tried: bool,
-        course: &mut Course,
-    ) -> Result<(), Stop>
+    // A station takes until no frame waits for it.
+    fn take_all(&mut self, station: Address, course: &mut Course) -> Result<(), Stop>
         ensures took { (start : State) (d : Drive) → IsCourse None start d self.old course.old → Went start (takes_all station d) self.new course.new result }
         ensures addresses { OnOk result (addresses_of self.new ≡ addresses_of self.old) }
     {
         let left = self.left(station);
-        let mut is_tried = is_tried;
         for _ in 0..left {
-            self.take_next(station, is_tried, course)?;
-            is_tried = false;
+            self.take_next(station, course)?;
         }
         Ok(())
     }
 
-    // A station takes the next frame, with room: where it can, in place, unless that was tried.
-    fn take_next(
-        &mut self,
-        station: Address,
-        is_tried: bool,
-        course: &mut Course,
-    ) -> Result<(), Stop>
-        requires { IsFollowed self.old }
-        ensures took { (start : State) (d : Drive) → IsCourse None start d self.old course.old → Went start (makes d (Take station true)) self.new course.new result }
-        ensures taken { OnOk result (HasTaken station self.old self.new) }
-    {
-        if !is_tried && self.take_in_place(station, true) {
-            return Ok(());
-        }
-        self.take_one(station, course)
-    }
-
     // A station takes the next frame, with room, and what it tells is told.
-    fn take_one(&mut self, station: Address, course: &mut Course) -> Result<(), Stop>
+    fn take_next(&mut self, station: Address, course: &mut Course) -> Result<(), Stop>
         requires { IsFollowed self.old }
         ensures took { (start : State) (d : Drive) → IsCourse None start d self.old course.old → Went start (makes d (Take station true)) self.new course.new result }
         ensures taken { OnOk result (HasTaken station self.old self.new) }

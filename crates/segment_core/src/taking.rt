@@ -1,11 +1,11 @@
 //! Frames that are taken, taken again and missed.
-ghost use Rattle.segment_law.specs.Calls.{at_address, done, takes, repeats, overruns};
-ghost use Rattle.segment_law.specs.Segment.{place_of, station_of, counted, counted_look};
+ghost use Rattle.segment_law.specs.Calls.{at_address, takes, repeats, overruns};
+ghost use Rattle.segment_law.specs.Segment.{counted, counted_look};
+ghost use Rattle.segment_law.specs.declared.call.Call.TheVariants.{Take};
 ghost use Rattle.segment_law.specs.declared.reply.Reply.TheVariants.{Done};
-ghost use Rattle.segment_core.specs.InPlace.{take_quiet, next_at, TakeLacksRoom};
 ghost use Rattle.segment_core.specs.Answers.{IsAnswer, IsAnswerBy};
-ghost use Rattle.std.specs.Prelude.{◌≡◌, ◌<◌, [], length, true, IsErrOf};
-ghost use Rattle.std.specs.Bool.{OnTrue, OnFalse};
+ghost use Rattle.segment_core.specs.Memory.{MayAskMemory};
+ghost use Rattle.std.specs.Prelude.{◌≡◌, ◌<◌, [], length, IsErrOf};
 ghost use Rattle.bus_order.specs.Bus.{next_frame};
 
 use crate::counting::{count_look, count_repeat};
@@ -17,10 +17,11 @@ use segment_law::{Refusal, Reply};
 use station_core::Events;
 
 impl Segment {
-    /// A station takes the next frame of the bus. Without room that asks for no memory.
+    /// A station takes the next frame of the bus.
+    #[inline(always)]
     pub(crate) fn take(&mut self, station: Address, room: bool) -> Result<Reply, Stop>
         ensures answer { IsAnswer (at_address self.old station (takes self.old room)) self.old self.new result }
-        ensures room { IsErrOf result Stop.OutOfMemory → room ≡ true }
+        ensures memory { IsErrOf result Stop.OutOfMemory → MayAskMemory self.old (Take station room) }
     {
         let mut told = Events::none(self.alloc);
         match self.take_telling(station, room, &mut told) {
@@ -30,6 +31,7 @@ impl Segment {
     }
 
     /// The same, where what it tells is put down in a place in which nothing was told yet.
+    #[inline(always)]
     pub(crate) fn take_telling(
         &mut self,
         station: Address,
@@ -38,7 +40,7 @@ impl Segment {
     ) -> Result<(), Stop>
         requires { told.old ≡ [] }
         ensures answer { IsAnswerBy (λ _. Done told.new) (at_address self.old station (takes self.old room)) self.old self.new result }
-        ensures room { IsErrOf result Stop.OutOfMemory → room ≡ true }
+        ensures memory { IsErrOf result Stop.OutOfMemory → MayAskMemory self.old (Take station room) }
     {
         let Some(at) = self.place_of(station) else {
             return Err(Stop::Refused(Refusal::NoSuchStation));
@@ -54,33 +56,6 @@ impl Segment {
         self.bus.pass(at);
         self.looked(is_malformed, told);
         Ok(())
-    }
-
-    /// A station takes the next frame of the bus where that tells nothing. Any other frame is left to `take`,
-    /// and changes nothing; so is one that `take` refuses.
-    #[inline]
-    pub(crate) fn take_in_place(&mut self, station: Address, room: bool) -> bool
-        ensures quiet { OnTrue result (take_quiet (station_of self.old station) (next_at self.old (place_of self.old station)) room ≡ true) }
-        ensures wanting { OnFalse result (take_quiet (station_of self.old station) (next_at self.old (place_of self.old station)) room ≡ true → TakeLacksRoom (station_of self.old station) (next_at self.old (place_of self.old station)) room) }
-        ensures step { OnTrue result (at_address self.old station (takes self.old room) ≡ done self.new) }
-        ensures other { OnFalse result (self.new ≡ self.old) }
-    {
-        let Some(place) = self.place_of(station) else {
-            return false;
-        };
-        let Some(frame) = self.bus.peek(place) else {
-            return false;
-        };
-        let now = self.clock.now();
-        let station = &mut self.stations[place];
-        if let Some(_cause) = station.take_refusal() {
-            return false;
-        }
-        if !station.take_in_place(frame, room, now) {
-            return false;
-        }
-        self.bus.pass(place);
-        true
     }
 
     /// A station takes the frame that it took last once more.

@@ -2,68 +2,100 @@
 ghost use Rattle.std.specs.Prelude.{◌≡◌};
 ghost use Rattle.segment_law.specs.Refusals.{refusal_number, refusal_name};
 
-/// Why something is refused: one enum of all causes, in the order of their numbers, 1 to 30.
-#[derive(Clone, Copy, Debug, PartialEq, Eq)]
+use thiserror::Error;
+
+/// Why something is refused: one enum of all causes, in the order of their numbers, 1 to 30. Each is an error with a text of its own.
+#[derive(Clone, Copy, Debug, PartialEq, Eq, Error)]
 pub enum Refusal {
     /// The identifier is above 29 bits.
+    #[error("an identifier has 29 bits")]
     IdTooLarge,
     /// More than 8 data bytes.
+    #[error("a frame has at most 8 data bytes")]
     DataTooLong,
     /// The PGN is above 18 bits, or PDU1 with a nonzero low byte.
+    #[error("a PGN has 18 bits, and in the PDU1 format a low byte of 0")]
     BadPgn,
     /// Not the next packet of a join, or the join is complete.
+    #[error("not the next packet of the message")]
     WrongPacket,
     /// The clock would pass the end of `u64`.
+    #[error("the clock would pass its last tick")]
     ClockEnd,
     /// Too few free places in the transmit queue.
+    #[error("too few places of the queue are free")]
     TxFull,
     /// 4,096 frames are kept on the bus, or no place of it is left in `u64`.
+    #[error("the bus is full")]
     BusFull,
     /// 32 incoming sessions.
+    #[error("32 messages come in already")]
     TableFull,
     /// 32 messages without an outcome, or no number is left.
+    #[error("32 messages to the destination have no outcome, or no number is left")]
     LaneFull,
     /// Never answered: a station may have several ports on one PGN.
+    #[error("the PGN has a port")]
     PgnTaken,
     /// 16 open ports, or no number is left.
+    #[error("16 ports are open, or no number is left")]
     PortsFull,
     /// The port was never opened, or is closed.
+    #[error("no open port has this number")]
     NoSuchPort,
     /// No address, a repeated one, one above 253, or more than 32.
+    #[error("the addresses are not 1 to 32 distinct ones of 0 to 253")]
     BadAddresses,
     /// Not a station of the segment; as a destination, the null address 254.
+    #[error("the address is no station of the segment")]
     NoSuchStation,
     /// Fewer than 9 bytes.
+    #[error("a message has 9 bytes or more")]
     TooShort,
     /// More than 1,785 bytes to all, or more than 117,440,505.
+    #[error("a message has up to 1785 bytes to all, and up to 117440505 to one node")]
     TooLong,
     /// The destination is the sender.
+    #[error("the destination is the station itself")]
     SameStation,
     /// No frame waits, or fewer than are passed over.
+    #[error("fewer frames wait for the station")]
     NothingToTake,
     /// No frame was taken yet, or none since frames were missed last.
+    #[error("the station has taken no frame since frames were missed last")]
     NothingToRepeat,
     /// No timer of the station is due.
+    #[error("no timer is due")]
     NothingDue,
     /// The queue is empty, the lane has nothing to queue, or there is no such message.
+    #[error("nothing is to be sent, or no such message is without an outcome")]
     NothingToSend,
     /// The lane waits only for the 50 ticks between the frames of a broadcast message.
+    #[error("the next frame of the broadcast message comes too soon")]
     NotYet,
     /// An injected frame has a station's source address.
+    #[error("the source address of the frame is a station of the segment")]
     StationAddress,
     /// 64 submissions wait, or no ticket is left.
+    #[error("64 submissions wait, or no ticket is left")]
     RingFull,
     /// 1,000,000 calls are stored since the last cut, or a count would pass the end of `u64`.
+    #[error("1000000 calls are stored since the last cut, or no count is left")]
     TraceFull,
     /// 16 clients at the station, or no number is left.
+    #[error("the station has 16 clients, or no number is left")]
     ClientsFull,
     /// The port is paused already.
+    #[error("the port is paused")]
     PortPaused,
     /// The port isn't paused.
+    #[error("the port is not paused")]
     PortNotPaused,
     /// The pieces aren't those of this record, all and in order.
+    #[error("the pieces are not those of this record, all and in order")]
     PiecesDontJoin,
     /// The lists of a client or inbox don't agree with this segment.
+    #[error("the lists of a client or an inbox do not agree with this segment")]
     NotThisSegment,
 }
 

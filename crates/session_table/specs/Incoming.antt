@@ -1,5 +1,9 @@
 -- What is asked of an incoming session, whatever its kind.
-use Rattle.std.specs.Prelude.{ℕ}
+use Rattle.std.specs.Prelude.{ℕ, Option, Some, None}
+use Rattle.bus_frame.specs.Frames.{CanFrame}
+use Rattle.tp_wire.specs.Reason.{reason_byte}
+use Rattle.tp_wire.specs.declared.reason.AbortReason.{AbortReason}
+use Rattle.responder.specs.Answers.{abort_frame}
 use Rattle.tick_timers.specs.Timers.{Timer}
 use Rattle.responder.specs.Readers as responder
 use Rattle.session_table.specs.Key.{session_for}
@@ -21,3 +25,8 @@ pgn_of (Connection s) = (responder.unfinished_of s).peer.pgn
 abbrev pub timer_of : Incoming → Timer
 timer_of (Broadcast s) = s.timer
 timer_of (Connection s) = responder.timer_of s
+
+-- what goes out where it ends before its message is whole: the abort of a connection
+abbrev pub ending_frame : Incoming → AbortReason → Option CanFrame
+ending_frame (Broadcast s) reason = None
+ending_frame (Connection s) reason = Some (abort_frame (responder.unfinished_of s).kind (responder.unfinished_of s).peer (reason_byte reason))

@@ -2,7 +2,7 @@ pub mod Key
 pub mod Incoming
 pub mod Sessions
 pub mod DueOrder
-pub mod Quiet
+pub mod Leading
 pub mod Refusal
 pub mod Shape
 pub mod Index

@@ -1,23 +1,21 @@
 //! The state of an incoming session, whatever its kind.
-ghost use Rattle.std.specs.Prelude.{◌≡◌, ◌<◌, Bool, length, true, false};
-ghost use Rattle.std.specs.Bool.{OnTrue, OnFalse};
+ghost use Rattle.std.specs.Prelude.{◌≡◌, ◌<◌, length};
 ghost use Rattle.tick_timers.specs.Timers.{is_due as is_due_at};
 ghost use Rattle.tp_wire.specs.Heard.{meant};
 ghost use Rattle.tx_queue.specs.Queue.{queue_limit};
-ghost use Rattle.responder.specs.declared.flow.Flow.{Flow};
-ghost use Rattle.responder.specs.declared.flow.Flow.TheVariants.{Held};
-ghost use Rattle.session_table.specs.Quiet.{leaves as leaves_at, is_quiet, LacksRoom, GoesOn};
-ghost use Rattle.session_table.specs.Incoming.{kind_of, pgn_of, timer_of};
+ghost use Rattle.session_table.specs.Incoming.{kind_of, pgn_of, timer_of, ending_frame};
+ghost use Rattle.session_table.specs.Leading.{BroadcastLeads, by_frame, by_timer};
 
 mod image;
 
 use crate::key::SessionKind;
-use bam_session::BamIn;
+use bam_session::{BamIn, BamLeft};
+use bus_frame::Frame;
 pub use image::IncomingImage;
 use pgn_ids::WirePgn;
-use responder::{Flow, InState};
+use responder::{Flow, Left, Receiver};
 use tick_timers::Timer;
-use tp_wire::Heard;
+use tp_wire::{AbortReason, Heard};
 use tx_queue::TxQueue;
 
 /// The state of an incoming session, whatever its kind. It must be spent.
@@ -25,7 +23,7 @@ pub enum Incoming {
     /// A broadcast message.
     Broadcast(BamIn),
     /// A connection of either transport.
-    Connection(InState),
+    Connection(Receiver),
 }
 
 impl Incoming {
@@ -69,45 +67,52 @@ impl Incoming {
         }
     }
 
-    /// Takes a frame of its source where the state stands, at tick `now` (SAE J1939-21, TP.DT; ISO 11783-3, ETP.DT,
-    /// ETP.CM_DPO), as the state of its kind says: a step that ends nothing. What it answers is queued behind the frames of a
-    /// queue. Any other frame changes nothing.
-    #[inline]
-    pub fn take_in_place(
+    /// Takes a frame of its source where it stands, at tick `now`, by the first row that fits (SAE J1939-21, TP.DT; ISO 11783-3,
+    /// ETP.DT, ETP.CM_DPO). What the step answers is queued behind the frames of a queue. With any answer but `Nothing` nothing
+    /// has changed yet: its message is complete, it is to be ended, or memory for a window is wanting. `room` and `flow` are asked
+    /// of a connection alone.
+    #[inline(always)]
+    pub fn take(
         &mut self,
         heard: &Heard<'_>,
         room: bool,
         flow: Flow,
         now: u64,
         queue: &mut TxQueue,
-    ) -> bool
+    ) -> Left
         requires { length queue.old < queue_limit }
-        ensures quiet { OnTrue result (is_quiet self.old (meant heard.now) room flow ≡ true) }
-        ensures step { OnTrue result (GoesOn self.old (meant heard.now) room flow now self.new queue.old queue.new) }
-        ensures held { OnTrue result (flow ≡ Held → (any : Flow) → GoesOn self.old (meant heard.now) room any now self.new queue.old queue.new) }
-        ensures wanting { OnFalse result (is_quiet self.old (meant heard.now) room flow ≡ true → LacksRoom self.old (meant heard.now) room flow) }
-        ensures other { OnFalse result (self.new ≡ self.old) }
-        ensures kept { OnFalse result (queue.new ≡ queue.old) }
+        ensures { by_frame (meant heard.now) room flow now self.old result self.new queue.old queue.new }
     {
         match self {
-            Incoming::Broadcast(state) => state.take_in_place(heard, now),
-            Incoming::Connection(state) => state.take_in_place(heard, room, flow, now, queue),
+            Incoming::Broadcast(state) => take_broadcast(state, heard, now),
+            Incoming::Connection(state) => state.take(heard, room, flow, now, queue),
         }
     }
 
-    /// Whether a frame is a packet of a connection of which `take_in_place` leaves each, whatever the flow, as where the last one is
-    /// awaited.
-    #[inline]
-    pub fn leaves(&self, heard: &Heard<'_>) -> bool
-        ensures value { result ≡ leaves_at self.now (meant heard.now) }
-        ensures quiet { OnTrue result ((room : Bool) (flow : Flow) → is_quiet self.now (meant heard.now) room flow ≡ false) }
+    /// Its timer fires at tick `now` (SAE J1939-21, timers T1, T2 and Th): a connection on hold asks again or goes on, and what it
+    /// asks is queued behind the frames of a queue; any other session is to be ended. With any answer but `Nothing` nothing has
+    /// changed yet.
+    pub fn fire(&mut self, flow: Flow, now: u64, queue: &mut TxQueue) -> Left
+        requires { length queue.old < queue_limit }
+        ensures { by_timer flow now self.old result self.new queue.old queue.new }
     {
         match self {
-            Incoming::Broadcast(_) => false,
-            Incoming::Connection(state) => match heard {
-                Heard::Packet { .. } => state.leaves_packets(),
-                _ => false,
-            },
+            Incoming::Broadcast(_) => Left::Abort(AbortReason::Timeout),
+            Incoming::Connection(state) => state.fire(flow, now, queue),
+        }
+    }
+
+    /// It ends before its message is whole: a connection by the abort for a reason, which is to be queued, a broadcast without a
+    /// frame.
+    pub fn end(self, reason: AbortReason) -> Option<Frame>
+        ensures { result ≡ ending_frame self reason }
+    {
+        match self {
+            Incoming::Broadcast(state) => {
+                state.close();
+                None
+            }
+            Incoming::Connection(state) => Some(state.end(reason)),
         }
     }
 
@@ -117,5 +122,17 @@ impl Incoming {
             Incoming::Broadcast(state) => state.overrun(),
             Incoming::Connection(state) => state.overrun(),
         }
+    }
+}
+
+// A broadcast takes a frame of its source: one whose packets are out of order is to be ended.
+#[inline(always)]
+fn take_broadcast(state: &mut BamIn, heard: &Heard<'_>, now: u64) -> Left
+    ensures { BroadcastLeads state.old (meant heard.now) now result state.new }
+{
+    match state.take(heard, now) {
+        BamLeft::Nothing => Left::Nothing,
+        BamLeft::Message => Left::Message,
+        BamLeft::Dropped => Left::Abort(AbortReason::Other),
     }
 }

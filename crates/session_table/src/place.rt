@@ -1,18 +1,15 @@
 //! A place of the table.
-ghost use Rattle.std.specs.Prelude.{◌≡◌, ◌<◌, length, true};
-ghost use Rattle.std.specs.Bool.{OnTrue, OnFalse};
+ghost use Rattle.std.specs.Prelude.{◌≡◌, ◌<◌, length};
 ghost use Rattle.std.specs.Option.{option_map};
 ghost use Rattle.std.specs.Map.Iter.{deref_pair};
 ghost use Rattle.session_table.specs.Shape.{content_at, content_of};
 ghost use Rattle.tp_wire.specs.Heard.{meant};
 ghost use Rattle.tx_queue.specs.Queue.{queue_limit};
-ghost use Rattle.responder.specs.declared.flow.Flow.{Flow};
-ghost use Rattle.responder.specs.declared.flow.Flow.TheVariants.{Held};
-ghost use Rattle.session_table.specs.Quiet.{is_quiet_at, LacksRoomAt, GoesOnIn};
+ghost use Rattle.session_table.specs.Leading.{LeadsIn, by_frame, by_timer};
 
 use crate::incoming::Incoming;
 use crate::key::Key;
-use responder::Flow;
+use responder::{Flow, Left};
 use slab::Slab;
 use tp_wire::Heard;
 use tx_queue::TxQueue;
@@ -42,27 +39,33 @@ impl<T> Slot<T> {
         }
     }
 
-    /// Its state takes a frame at tick `now` in place; where there is none, nothing is done.
-    #[inline]
-    pub(crate) fn take_in_place(
+    /// Its state takes a frame at tick `now` where it stands; without one nothing is done.
+    #[inline(always)]
+    pub(crate) fn take(
         &mut self,
         heard: &Heard<'_>,
         room: bool,
         flow: Flow,
         now: u64,
         queue: &mut TxQueue,
-    ) -> bool
+    ) -> Left
         requires { length queue.old < queue_limit }
-        ensures quiet { OnTrue result (is_quiet_at (content_of self.old) (meant heard.now) room flow ≡ true) }
-        ensures step { OnTrue result (GoesOnIn (content_of self.old) (meant heard.now) room flow now (content_of self.new) queue.old queue.new) }
-        ensures held { OnTrue result (flow ≡ Held → (any : Flow) → GoesOnIn (content_of self.old) (meant heard.now) room any now (content_of self.new) queue.old queue.new) }
-        ensures wanting { OnFalse result (is_quiet_at (content_of self.old) (meant heard.now) room flow ≡ true → LacksRoomAt (content_of self.old) (meant heard.now) room flow) }
-        ensures other { OnFalse result (content_of self.new ≡ content_of self.old) }
-        ensures kept { OnFalse result (queue.new ≡ queue.old) }
+        ensures { LeadsIn (by_frame (meant heard.now) room flow now) (content_of self.old) result (content_of self.new) queue.old queue.new }
     {
         match self {
-            Slot::Empty => true,
-            Slot::Full(_bound, state) => state.take_in_place(heard, room, flow, now, queue),
+            Slot::Empty => Left::Nothing,
+            Slot::Full(_bound, state) => state.take(heard, room, flow, now, queue),
+        }
+    }
+
+    /// The timer of its state fires at tick `now`; without one nothing is done.
+    pub(crate) fn fire(&mut self, flow: Flow, now: u64, queue: &mut TxQueue) -> Left
+        requires { length queue.old < queue_limit }
+        ensures { LeadsIn (by_timer flow now) (content_of self.old) result (content_of self.new) queue.old queue.new }
+    {
+        match self {
+            Slot::Empty => Left::Nothing,
+            Slot::Full(_bound, state) => state.fire(flow, now, queue),
         }
     }
 }

@@ -1,6 +1,5 @@
 //! The table.
-ghost use Rattle.std.specs.Prelude.{◌≡◌, ◌<◌, ◌≤◌, ◌==◌, length, true, Some, None, IfErr, OnOk, OnErr, OnSome, IfNone, IfSome};
-ghost use Rattle.std.specs.Bool.{OnTrue, OnFalse};
+ghost use Rattle.std.specs.Prelude.{◌≡◌, ◌<◌, ◌≤◌, ◌==◌, length, Some, None, IfErr, OnOk, OnErr, OnSome, IfNone, IfSome};
 ghost use Rattle.std.specs.Option.{option_map};
 ghost use Rattle.std.specs.FinMap as map;
 ghost use Rattle.std.specs.List.{IsDistinct};
@@ -10,9 +9,7 @@ ghost use Rattle.slab.specs.Slab.{HasRoomFor};
 ghost use Rattle.session_table.specs.Key.{key_eq};
 ghost use Rattle.session_table.specs.Sessions.{IsHeld, state_at};
 ghost use Rattle.session_table.specs.DueOrder.{IsLeastPicked, first_above, first_due, is_above_low, is_due_now};
-ghost use Rattle.responder.specs.declared.flow.Flow.{Flow};
-ghost use Rattle.responder.specs.declared.flow.Flow.TheVariants.{Held as OnHold};
-ghost use Rattle.session_table.specs.Quiet.{is_quiet_at, LacksRoomAt, GoesOnAt};
+ghost use Rattle.session_table.specs.Leading.{LeadsAt, by_frame, by_timer};
 ghost use Rattle.tp_wire.specs.Heard.{meant};
 ghost use Rattle.tx_queue.specs.Queue.{queue_limit};
 ghost use Rattle.session_table.specs.Refusal.{refusal};
@@ -28,7 +25,7 @@ use crate::key::Key;
 use crate::place::{Place, Slot, content};
 use crate::walk::{is_above_at, is_due_at, lesser};
 pub use image::TableImage;
-use responder::Flow;
+use responder::{Flow, Left};
 use slab::Slab;
 use std::alloc::{AllocError, Global};
 use std::marker::Model;
@@ -129,11 +126,13 @@ impl<T> SessionTable<T> {
         Ok(())
     }
 
-    /// The state of a key takes a frame at tick `now` where it stands (SAE J1939-21, TP.DT; ISO 11783-3, ETP.DT, ETP.CM_DPO):
-    /// a step that ends nothing. What it answers is queued behind the frames of a queue. Where the key isn't there or is held,
-    /// nothing is to be done. Any other frame changes nothing. What is taken on hold is taken so whatever the flow.
+    /// The state of a key takes a frame of its source at tick `now` where it stands (SAE J1939-21, TP.DT; ISO 11783-3, ETP.DT,
+    /// ETP.CM_DPO). What its step answers is queued behind the frames of a queue. With any answer but `Nothing` neither has changed
+    /// yet: the message is complete, the session is to be ended, or memory for a window is wanting. Where the key isn't there or
+    /// is held, nothing is to be done.
+    // Always inlined: so a packet in the middle of a message passes without a call.
     #[inline(always)]
-    pub fn take_in_place(
+    pub fn take(
         &mut self,
         key: Key,
         heard: &Heard<'_>,
@@ -141,22 +140,33 @@ impl<T> SessionTable<T> {
         flow: Flow,
         now: u64,
         queue: &mut TxQueue,
-    ) -> bool
+    ) -> Left
         requires { length queue.old < queue_limit }
-        ensures quiet { OnTrue result (is_quiet_at (state_at self.old key) (meant heard.now) room flow ≡ true) }
-        ensures step { OnTrue result (GoesOnAt (state_at self.old key) self.old key (meant heard.now) room flow now self.new queue.old queue.new) }
-        ensures held { OnTrue result (flow ≡ OnHold → (any : Flow) → GoesOnAt (state_at self.old key) self.old key (meant heard.now) room any now self.new queue.old queue.new) }
-        ensures wanting { OnFalse result (is_quiet_at (state_at self.old key) (meant heard.now) room flow ≡ true → LacksRoomAt (state_at self.old key) (meant heard.now) room flow) }
-        ensures other { OnFalse result (self.new ≡ self.old) }
-        ensures kept { OnFalse result (queue.new ≡ queue.old) }
+        ensures { LeadsAt (by_frame (meant heard.now) room flow now) (state_at self.old key) result self.old key self.new queue.old queue.new }
     {
         let Some(at) = find(&self.index, key) else {
-            return true;
+            return Left::Nothing;
         };
         let Some(found) = self.places.get_mut(at) else {
-            return true;
+            return Left::Nothing;
         };
-        found.slot.take_in_place(heard, room, flow, now, queue)
+        found.slot.take(heard, room, flow, now, queue)
+    }
+
+    /// The timer of the state of a key fires at tick `now` (SAE J1939-21, timers T1, T2 and Th): a connection on hold asks again or
+    /// goes on, and what it asks is queued behind the frames of a queue; any other session is to be ended. With any answer but
+    /// `Nothing` neither has changed yet. Where the key isn't there or is held, nothing is to be done.
+    pub fn fire(&mut self, key: Key, flow: Flow, now: u64, queue: &mut TxQueue) -> Left
+        requires { length queue.old < queue_limit }
+        ensures { LeadsAt (by_timer flow now) (state_at self.old key) result self.old key self.new queue.old queue.new }
+    {
+        let Some(at) = find(&self.index, key) else {
+            return Left::Nothing;
+        };
+        let Some(found) = self.places.get_mut(at) else {
+            return Left::Nothing;
+        };
+        found.slot.fire(flow, now, queue)
     }
 
     /// Takes the state of a key out, and leaves the key, which is held from now on. None where the key isn't there or
@@ -210,6 +220,17 @@ impl<T> SessionTable<T> {
             None => {}
             Some(_) => unreachable!(),
         }
+    }
+
+    /// Removes a key with its state. It takes no memory. None where the key isn't there or is held; then nothing changes.
+    pub fn remove(&mut self, key: Key) -> Option<(T, Incoming)>
+        ensures value { result ≡ state_at self.old key }
+        ensures removed { OnSome result (self.new ≡ map.remove self.old key) }
+        ensures absent { IfNone result (self.new ≡ self.old) }
+    {
+        let (held, bound, state) = self.take_out(key)?;
+        self.end(held);
+        Some((bound, state))
     }
 
     /// Whether the key is in the table, held or not.

@@ -1,6 +1,8 @@
 //! Threads on one segment, and what clients, ports and workers do on one thread.
+mod again;
 mod cuts;
 mod limits;
+mod memory;
 mod pieces;
 mod steps;
 mod threads;

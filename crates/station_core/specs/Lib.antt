@@ -2,7 +2,7 @@ pub mod Station
 pub mod StationFields
 pub mod StationCode
 pub mod Taking
-pub mod Quiet
+pub mod Memory
 pub mod Sending
 pub mod Timers
 pub mod Closing

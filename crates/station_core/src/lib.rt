@@ -5,7 +5,6 @@
 mod closing;
 mod due;
 mod image;
-mod in_place;
 mod next;
 mod overruns;
 mod refused;

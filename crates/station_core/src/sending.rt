@@ -1,5 +1,5 @@
 //! Messages that are sent, pumped and cancelled.
-ghost use Rattle.std.specs.Prelude.{◌≡◌, ◌≤◌, ◌+◌, ◌||◌, ◌==◌, true, length, None, IfOk, OnOk, OnErr, IfErr};
+ghost use Rattle.std.specs.Prelude.{◌≡◌, ◌≤◌, ◌+◌, ◌||◌, ◌==◌, [], true, length, None, IfOk, OnOk, OnErr, IfErr};
 ghost use Rattle.std.specs.Result.{result_err};
 ghost use Rattle.std.specs.Option.{option_map};
 ghost use Rattle.std.specs.FinMap as map;
@@ -7,14 +7,11 @@ ghost use Rattle.pgn_ids.specs.Address.{is_one, global_address, null_address};
 ghost use Rattle.tp_wire.specs.declared.constants.TheConstants.{MIN_SIZE};
 ghost use Rattle.lane_core.specs.Lane.{longest_to as longest_to_of};
 ghost use Rattle.station_lanes.specs.LaneReaders.{missing_at, is_pending_at};
-ghost use Rattle.std.specs.Bool.{OnTrue, OnFalse};
-ghost use Rattle.station_core.specs.Station.{quietly};
-ghost use Rattle.station_core.specs.Quiet.{pumps_in_place};
 ghost use Rattle.station_core.specs.Sending.{lane_of, lane_seen, sent, next_pump, pumped, cancelled};
 ghost use Rattle.station_core.specs.Refusals.{IsAnswered, message_refusal as message_refusal_of, sending_refusal, pumping_refusal, cancelling_refusal};
 
 use crate::refused::{Refused, SendingRefused, by_lane};
-use crate::station::{Station, enqueue};
+use crate::station::Station;
 use lane_core::{LaneSight, PushRefused, longest_to};
 use message_events::{Bytes, Events};
 use pgn_ids::{Address, Pgn};
@@ -146,25 +143,39 @@ impl Station {
         ensures refused { result_err result ≡ pumping_refusal self.old to now }
         ensures err { OnErr result (self.new ≡ self.old) }
     {
+        let mut events = Events::none(self.alloc);
+        self.pump_telling(to, now, &mut events)?;
+        Ok(events)
+    }
+
+    /// The same where what it tells, the outcome of a broadcast whose last packet is queued, is put down in a place that the caller
+    /// keeps, in which nothing was told yet.
+    #[inline(always)]
+    pub fn pump_telling(&mut self, to: Address, now: u64, told: &mut Events) -> Result<(), Refused>
+        requires { told.old ≡ [] }
+        ensures ok { OnOk result (pumped self.old to now ≡ record { station = self.new; events = told.new }) }
+        ensures refused { result_err result ≡ pumping_refusal self.old to now }
+        ensures err { OnErr result (self.new ≡ self.old) }
+        ensures silent { OnErr result (told.new ≡ []) }
+    {
         if let Some(cause) = self.pump_refusal(to, now) {
             return Err(cause);
         }
-        let ended = self.lanes.pump(to, now, &mut self.queue);
-        Ok(Events::of(self.alloc, outcome(self.address, to, ended)))
+        self.pump_lane(to, now, told);
+        Ok(())
     }
 
-    /// The same, faster, of a pump that ends no message, as all do but that of a broadcast's last packet. It answers false, and has
-    /// changed nothing, where the pump is left to `pump`, one that is refused among them.
-    pub fn pump_in_place(&mut self, to: Address, now: u64) -> bool
-        ensures value { result ≡ pumps_in_place self.old to now }
-        ensures free { OnTrue result (pumping_refusal self.old to now ≡ None) }
-        ensures step { OnTrue result (pumped self.old to now ≡ quietly self.new) }
-        ensures other { OnFalse result (self.new ≡ self.old) }
+    // The lane to a destination makes its step.
+    #[inline(always)]
+    fn pump_lane(&mut self, to: Address, now: u64, told: &mut Events)
+        requires free { pumping_refusal self.old to now ≡ None }
+        requires before { told.old ≡ [] }
+        ensures { pumped self.old to now ≡ record { station = self.new; events = told.new } }
     {
-        if self.pump_refusal(to, now).is_some() {
-            return false;
+        let ended = self.lanes.pump(to, now, &mut self.queue);
+        if ended.is_some() {
+            told.tell(outcome(self.address, to, ended));
         }
-        self.lanes.pump_in_place(to, now, &mut self.queue)
     }
 
     /// Whether a message to a destination with this number has no outcome yet.
@@ -204,13 +215,10 @@ impl Station {
         if let Some(cause) = self.cancel_refusal(to, number) {
             return Err(cause);
         }
-        let Some(step) = self.lanes.cancel(to, number) else {
+        let ended = self.lanes.cancel(to, number, &mut self.queue);
+        if ended.is_none() {
             unreachable!()
-        };
-        if let Some(frame) = step.frame {
-            enqueue(&mut self.queue, frame);
         }
-        let event = outcome(self.address, to, step.ended);
-        Ok(Events::of(self.alloc, event))
+        Ok(Events::of(self.alloc, outcome(self.address, to, ended)))
     }
 }

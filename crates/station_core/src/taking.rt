@@ -1,35 +1,33 @@
 //! Frames that are taken, row by row (SAE J1939-21; ISO 11783-3).
-ghost use Rattle.std.specs.Prelude.{◌≡◌, ◌<◌, ◌+◌, ◌++◌, [], true, false, None, length, IfOk, OnOk, OnErr, option_to_list};
+ghost use Rattle.std.specs.Prelude.{◌≡◌, ◌<◌, ◌+◌, ◌++◌, [], true, false, None, length, IfOk, OnOk, OnErr};
 ghost use Rattle.std.specs.Result.{result_err};
 ghost use Rattle.pgn_ids.specs.Address.{is_one};
 ghost use Rattle.tp_wire.specs.Heard.{meant};
 ghost use Rattle.tp_wire.specs.Rows.{comes_from};
 ghost use Rattle.tp_wire.specs.declared.wire.Wire.TheVariants.{Cm};
 ghost use Rattle.tx_queue.specs.Queue.{queue_limit};
-ghost use Rattle.station_lanes.specs.LaneCalls.{outcome_of};
 ghost use Rattle.station_sessions.specs.Opening.{key_of};
 ghost use Rattle.station_core.specs.Station.{quietly};
 ghost use Rattle.station_core.specs.Refusals.{IsAnswered, taking_refusal};
-ghost use Rattle.station_core.specs.Taking.{packet_kind as packet_kind_of, in_opening, in_session, in_lane, abort_taken, cm_taken, answer, request_taken, ack_taken, wire_taken, is_meant_for, looks_at as looks_at_frame, is_malformed_for, wanted, wire_wanted, taken};
+ghost use Rattle.station_core.specs.Memory.{MayLackMemory, WireMayLackMemory, CmMayLackMemory, SessionMayLackMemory};
+ghost use Rattle.station_core.specs.Taking.{packet_kind as packet_kind_of, in_opening, in_session as session_taken, in_lane as lane_taken, abort_taken, cm_taken, answer, request_taken, ack_taken, wire_taken, is_meant_for, looks_at as looks_at_frame, is_malformed_for, wanted, wire_wanted, taken};
 
 use crate::refused::Refused;
 use crate::station::{Station, enqueue};
 use bus_frame::Frame;
-use lane_core::LaneStep;
 use message_events::Events;
 use pgn_ids::{Address, IdMeaning, WirePgn, read_id};
 use port_table::PortSet;
 use session_table::{Key, SessionKind};
 use station_lanes::outcome;
-use station_sessions::enqueue_option;
 use std::alloc::AllocError;
-use tp_wire::{CmFrame, Heard, Kind, Wire, is_transport, read, write};
+use tp_wire::{CmFrame, Heard, Kind, Wire, is_transport, read, read_in_place, write};
 
 /// The control byte of the Acknowledgement that a station sends: positive.
 const POSITIVE: u8 = 1;
 
 /// The kind of the session that a data packet belongs to.
-pub(crate) fn packet_kind(kind: Kind, to: Address) -> SessionKind
+fn packet_kind(kind: Kind, to: Address) -> SessionKind
     ensures { result ≡ packet_kind_of kind to }
 {
     match kind {
@@ -142,13 +140,15 @@ impl Station {
     /// a message that the frame completes, and whether there is room to go on with one.
     ///
     /// Refused as `TxFull` exactly where its queue has no free place, and else as `OutOfMemory` where memory is refused. A
-    /// refusal changes nothing. Without room no memory is asked for.
+    /// refusal changes nothing. Memory is asked for only with room, and only by a frame that opens a session, completes a message
+    /// or grants a window of ETP.
     pub fn take(&mut self, frame: &Frame, room: bool, now: u64) -> Result<Taken, Refused>
         ensures ok { IfOk result (λ step. taken self.old frame.now room now ≡ record { station = self.new; events = step.events }) }
         ensures malformed { IfOk result (λ step. step.is_malformed ≡ is_malformed_for self.old frame.now) }
         ensures refused { IsAnswered (taking_refusal self.old) (result_err result) }
         ensures err { OnErr result (self.new ≡ self.old) }
         ensures room { taking_refusal self.old ≡ None → OnErr result (room ≡ true) }
+        ensures memory { taking_refusal self.old ≡ None → OnErr result (MayLackMemory self.old frame.now room) }
     {
         let mut events = Events::none(self.alloc);
         let is_malformed = self.take_telling(frame, room, now, &mut events)?;
@@ -160,6 +160,8 @@ impl Station {
 
     /// The same where what it tells is put down in a place that the caller keeps, in which nothing was told yet: whether the frame is
     /// malformed. A value that is handed up instead is copied at each step of the way.
+    #[inline(always)]
+    #[tactic(auto, using(crate::proofs::Traffic::other_traffic))]
     pub fn take_telling(
         &mut self,
         frame: &Frame,
@@ -174,23 +176,26 @@ impl Station {
         ensures err { OnErr result (self.new ≡ self.old) }
         ensures silent { OnErr result (told.new ≡ []) }
         ensures room { taking_refusal self.old ≡ None → OnErr result (room ≡ true) }
+        ensures memory { taking_refusal self.old ≡ None → OnErr result (MayLackMemory self.old frame.now room) }
     {
         if let Some(cause) = self.take_refusal() {
             return Err(cause);
         }
-        if !self.looks_at(frame) {
+        let meaning = read_id(frame.id());
+        // Most of a bus's frames are other traffic: they are passed over without a call.
+        if !self.is_meant(&meaning) || !is_transport(frame) {
             return Ok(false);
         }
-        match read(frame) {
-            None => Ok(is_transport(frame)),
-            Some((wire, from, to)) => {
-                self.take_wire(&wire, from, to, room, now, told)?;
-                Ok(false)
-            }
-        }
+        let Some((heard, from, to)) = read_in_place(frame, &meaning) else {
+            return Ok(true);
+        };
+        self.hear_telling(&heard, from, to, room, now, told)?;
+        Ok(false)
     }
 
-    /// The same of a frame that it looks at and of which it was read what it means, as one is for many stations.
+    /// The same of a frame that it looks at and of which it was read what it means, as one is for many stations. Its queue has a free
+    /// place, as `take_refusal` tells.
+    #[inline(always)]
     pub fn hear_telling(
         &mut self,
         heard: &Heard<'_>,
@@ -207,39 +212,33 @@ impl Station {
         ensures err { OnErr result (self.new ≡ self.old) }
         ensures silent { OnErr result (told.new ≡ []) }
         ensures room { OnErr result (room ≡ true) }
+        ensures memory { OnErr result (WireMayLackMemory self.old (meant heard.now) from to room) }
     {
-        self.take_wire(&wire_of(heard), from, to, room, now, told)
-    }
-
-    /// Takes a frame with this meaning.
-    #[inline(always)]
-    fn take_wire(
-        &mut self,
-        wire: &Wire,
-        from: Address,
-        to: Address,
-        room: bool,
-        now: u64,
-        told: &mut Events,
-    ) -> Result<(), AllocError>
-        requires place { length self.old.queue < queue_limit }
-        requires source { comes_from wire.now from.0 ≡ true }
-        requires before { told.old ≡ [] }
-        ensures ok { OnOk result (wire_taken self.old wire.now from to room now ≡ record { station = self.new; events = told.new }) }
-        ensures err { OnErr result (self.new ≡ self.old) }
-        ensures silent { OnErr result (told.new ≡ []) }
-        ensures room { OnErr result (room ≡ true) }
-    {
-        match wire {
-            Wire::Cm(frame) => self.take_cm(*frame, from, room, now, told),
-            Wire::Packet { kind, .. } => {
-                self.take_in_session(packet_kind(*kind, to), from, wire, room, now, told)
+        match heard {
+            Heard::Packet {
+                kind,
+                sequence,
+                bytes,
+            } => {
+                // A copy of what was read: of a value of its own the compiler keeps the parts in registers, where behind a reference it
+                // would read them from memory at each step. So it is with a management frame.
+                let packet = Heard::Packet {
+                    kind: *kind,
+                    sequence: *sequence,
+                    bytes,
+                };
+                let kind = packet_kind(*kind, to);
+                self.in_session(kind, from, &packet, room, now, told)
             }
-            Wire::Request { pgn } => {
+            Heard::Cm(frame) => {
+                let frame = *frame;
+                self.take_cm(&frame, from, room, now, told)
+            }
+            Heard::Request { pgn } => {
                 self.take_request(from, to, *pgn);
                 Ok(())
             }
-            Wire::Ack { address, pgn, .. } => {
+            Heard::Ack { address, pgn, .. } => {
                 self.take_ack(from, to, *address, *pgn);
                 Ok(())
             }
@@ -247,44 +246,45 @@ impl Station {
     }
 
     /// Takes a connection management frame.
-    #[inline(always)]
+    #[inline(never)]
     fn take_cm(
         &mut self,
-        frame: CmFrame,
+        frame: &CmFrame,
         from: Address,
         room: bool,
         now: u64,
         told: &mut Events,
     ) -> Result<(), AllocError>
         requires place { length self.old.queue < queue_limit }
-        requires source { comes_from (Cm frame) from.0 ≡ true }
+        requires source { comes_from (Cm frame.now) from.0 ≡ true }
         requires before { told.old ≡ [] }
-        ensures ok { OnOk result (cm_taken self.old frame from room now ≡ record { station = self.new; events = told.new }) }
+        ensures ok { OnOk result (cm_taken self.old frame.now from room now ≡ record { station = self.new; events = told.new }) }
         ensures err { OnErr result (self.new ≡ self.old) }
         ensures silent { OnErr result (told.new ≡ []) }
         ensures room { OnErr result (room ≡ true) }
+        ensures memory { OnErr result (CmMayLackMemory self.old frame.now from room) }
     {
-        let wire = Wire::Cm(frame);
-        match &frame {
+        let heard = Heard::Cm(*frame);
+        match frame {
             CmFrame::Rts { .. } | CmFrame::Bam { .. } | CmFrame::EtpRts { .. } => {
-                self.take_opening(&frame, from, room, now)
+                self.take_opening(frame, from, room, now)
             }
             CmFrame::EtpDpo { .. } => {
-                self.take_in_session(SessionKind::Etp, from, &wire, room, now, told)
+                self.in_session(SessionKind::Etp, from, &heard, room, now, told)
             }
             CmFrame::Cts { .. }
             | CmFrame::EndOfMsgAck { .. }
             | CmFrame::EtpCts { .. }
             | CmFrame::EtpEoma { .. } => {
-                self.take_in_lane(from, &wire, now, told);
+                self.in_lane(from, &heard, now, told);
                 Ok(())
             }
             CmFrame::Abort { pgn, .. } => {
-                self.take_abort(SessionKind::Tp, from, *pgn, &wire, now, told);
+                self.take_abort(SessionKind::Tp, from, *pgn, &heard, now, told);
                 Ok(())
             }
             CmFrame::EtpAbort { pgn, .. } => {
-                self.take_abort(SessionKind::Etp, from, *pgn, &wire, now, told);
+                self.take_abort(SessionKind::Etp, from, *pgn, &heard, now, told);
                 Ok(())
             }
         }
@@ -292,7 +292,7 @@ impl Station {
 
     /// A frame that opens a session, an RTS or a BAM. It tells nothing.
     #[inline(never)]
-    pub(crate) fn take_opening(
+    fn take_opening(
         &mut self,
         frame: &CmFrame,
         from: Address,
@@ -316,47 +316,41 @@ impl Station {
         )
     }
 
-    /// The incoming session of this kind from the source makes its step.
-    fn take_in_session(
+    // The incoming session of this kind from the source makes its step.
+    #[inline(always)]
+    fn in_session(
         &mut self,
         kind: SessionKind,
         from: Address,
-        wire: &Wire,
+        heard: &Heard<'_>,
         room: bool,
         now: u64,
         told: &mut Events,
     ) -> Result<(), AllocError>
         requires place { length self.old.queue < queue_limit }
         requires before { told.old ≡ [] }
-        ensures ok { OnOk result (in_session self.old (key_of from kind) wire.now room now ≡ record { station = self.new; events = told.new }) }
+        ensures ok { OnOk result (session_taken self.old (key_of from kind) (meant heard.now) room now ≡ record { station = self.new; events = told.new }) }
         ensures err { OnErr result (self.new ≡ self.old) }
         ensures silent { OnErr result (told.new ≡ []) }
         ensures room { OnErr result (room ≡ true) }
+        ensures memory { OnErr result (SessionMayLackMemory self.old (key_of from kind) (meant heard.now) room) }
     {
         let key = Key { source: from, kind };
         self.sessions
-            .receive(&self.ports, key, wire, room, now, &mut self.queue, told)
+            .receive(&self.ports, key, heard, room, now, &mut self.queue, told)
     }
 
-    /// The lane to the source makes its step.
-    fn take_in_lane(&mut self, from: Address, wire: &Wire, now: u64, told: &mut Events)
+    // The lane to the source makes its step.
+    #[inline(always)]
+    fn in_lane(&mut self, from: Address, heard: &Heard<'_>, now: u64, told: &mut Events)
         requires place { length self.old.queue < queue_limit }
         requires before { told.old ≡ [] }
-        ensures { in_lane self.old from wire.now now ≡ record { station = self.new; events = told.new } }
+        ensures { lane_taken self.old from (meant heard.now) now ≡ record { station = self.new; events = told.new } }
     {
-        let step = self.lanes.hear(from, wire, now);
-        self.finish_lane_step(from, step, told);
-    }
-
-    /// What a step of the lane to a destination left to do.
-    pub(crate) fn finish_lane_step(&mut self, to: Address, step: LaneStep, told: &mut Events)
-        requires place { length self.old.queue < queue_limit }
-        requires before { told.old ≡ [] }
-        ensures queue { self.new ≡ record self.old { queue = self.old.queue ++ option_to_list step.frame } }
-        ensures told { told.new ≡ outcome_of self.old.address to step.ended }
-    {
-        enqueue_option(&mut self.queue, step.frame);
-        told.tell(outcome(self.address, to, step.ended));
+        let ended = self.lanes.hear(from, heard, now, &mut self.queue);
+        if ended.is_some() {
+            told.tell(outcome(self.address, from, ended));
+        }
     }
 
     /// An abort ends the incoming session and the message under way of its kind and PGN.
@@ -365,21 +359,21 @@ impl Station {
         kind: SessionKind,
         from: Address,
         pgn: WirePgn,
-        wire: &Wire,
+        heard: &Heard<'_>,
         now: u64,
         told: &mut Events,
     )
         requires place { length self.old.queue < queue_limit }
         requires before { told.old ≡ [] }
-        ensures { abort_taken self.old from kind pgn wire.now now ≡ record { station = self.new; events = told.new } }
+        ensures { abort_taken self.old from kind pgn (meant heard.now) now ≡ record { station = self.new; events = told.new } }
     {
         self.sessions.abort(Key { source: from, kind }, pgn);
-        self.take_in_lane(from, wire, now, told);
+        self.in_lane(from, heard, now, told);
     }
 
     /// A Request to the own address is answered.
     #[inline(never)]
-    pub(crate) fn take_request(&mut self, from: Address, to: Address, pgn: WirePgn)
+    fn take_request(&mut self, from: Address, to: Address, pgn: WirePgn)
         requires { length self.old.queue < queue_limit }
         ensures { self.new ≡ request_taken self.old from to pgn }
     {
@@ -403,7 +397,7 @@ impl Station {
 
     /// An Acknowledgement to the own address, or of an own Request, is for the lane to its source.
     #[inline(never)]
-    pub(crate) fn take_ack(&mut self, from: Address, to: Address, address: Address, pgn: WirePgn)
+    fn take_ack(&mut self, from: Address, to: Address, address: Address, pgn: WirePgn)
         ensures { self.new ≡ ack_taken self.old from to address pgn }
     {
         if address == self.address || to == self.address {

@@ -7,6 +7,7 @@ ghost use Rattle.station_core.specs.Timers.{is_due as is_due_station, fired};
 use crate::refused::Refused;
 use crate::station::Station;
 use message_events::Events;
+use station_lanes::outcome;
 
 impl Station {
     /// Whether one of its timers is due at tick `now`.
@@ -43,10 +44,8 @@ impl Station {
             if self.queue.free() == 0 {
                 return Err(Refused::TxFull);
             }
-            let mut events = Events::none(self.alloc);
-            self.sessions
-                .fire(&self.ports, key, now, &mut self.queue, &mut events)?;
-            return Ok(events);
+            self.sessions.fire(&self.ports, key, now, &mut self.queue)?;
+            return Ok(Events::none(self.alloc));
         }
         let Some(to) = self.lanes.next_due(now) else {
             return Err(Refused::NothingDue);
@@ -54,9 +53,7 @@ impl Station {
         if self.queue.free() == 0 {
             return Err(Refused::TxFull);
         }
-        let step = self.lanes.fire(to, now);
-        let mut events = Events::none(self.alloc);
-        self.finish_lane_step(to, step, &mut events);
-        Ok(events)
+        let ended = self.lanes.fire(to, now, &mut self.queue);
+        Ok(Events::of(self.alloc, outcome(self.address, to, ended)))
     }
 }

@@ -1,22 +1,21 @@
 -- A lane that is stepped where it stands.
-use Rattle.std.proofs.Common.{◌≡◌, ℕ, ◌<◌, ◌||◌, ◌==◌, Bool, true, false, List, length, Option, Some, None, arith, subst, sym, ap, ◌∙◌, slice_index_or, get_or-set_same, Result, Ok, Err, OnOk, OnErr}
+use Rattle.std.proofs.Common.{◌≡◌, ℕ, ◌<◌, ◌||◌, ◌==◌, true, false, List, length, Option, Some, None, arith, subst, sym, ap, ◌∙◌, slice_index_or, get_or-set_same, Result, Ok, Err, OnOk, OnErr, OnSome, IfNone}
 use Rattle.std.proofs.Math.ListN.{set}
 use Rattle.std.proofs.lemmas.List.{length-set, set-get_or}
-use Rattle.std.specs.Bool.{OnTrue}
 use Rattle.std.specs.FinMap as map
 use Rattle.pgn_ids.specs.Address.{is_one, global_address}
 use Rattle.pgn_ids.specs.declared.address.Address.{Address}
 use Rattle.address_set.specs.Sets.{AddressSet, has}
-use Rattle.tp_wire.specs.declared.wire.Wire.{Wire}
 use Rattle.lane_core.specs.Lane.{Lane, new_lane, pushed}
 use Rattle.lane_core.specs.declared.refused.PushRefused.{PushRefused}
 use Rattle.lane_core.specs.Pump.{is_ready}
 use Rattle.lane_core.specs.Fire.{is_timed}
-use Rattle.lane_core.specs.Quiet.{hears_quietly, pumps_quietly}
+use Rattle.lane_core.specs.Cancel.{numbered, queues_abort}
+use Rattle.lane_core.specs.declared.step.Ended.{Ended}
 use Rattle.lane_core.specs.Step.{LaneStep, nothing_to_do}
 use Rattle.station_lanes.specs.Lanes.{Lanes}
 use Rattle.station_lanes.specs.LaneCalls.{stepped_lanes, step_at, lane_to}
-use Rattle.station_lanes.specs.LaneReaders.{hears_quietly_at, pumps_quietly_at}
+use Rattle.station_lanes.specs.LaneReaders.{is_pending_at, queues_abort_at}
 use Rattle.station_lanes.specs.LaneSlots.{slot_at, lanes_below, AreSlots, IsMarked}
 use Rattle.station_lanes.specs.declared.lanes.Lanes.TheInside.{Inside}
 use Rattle.station_lanes.proofs.SlotLaws.{get_lanes, put_is, in_place_after}
@@ -46,9 +45,13 @@ in_order l new old is ready timed = record {
 }
 
 -- what follows of a case that is so follows too
-pub on_true : {A B : Type 0} (b : Bool) → (A → B) → OnTrue b A → OnTrue b B
-on_true true f x = f x
-on_true false f x = tt
+pub on_some : {A B : Type 0} (o : Option Ended) → (A → B) → OnSome o A → OnSome o B
+on_some (Some e) f x = f x
+on_some None f x = tt
+
+pub if_none : {A B : Type 0} (o : Option Ended) → (A → B) → IfNone o A → IfNone o B
+if_none (Some e) f x = tt
+if_none None f x = f x
 
 pub on_ok : {A B : Type 0} (r : Result ℕ PushRefused) → (A → B) → OnOk r A → OnOk r B
 on_ok (Ok n) f x = f x
@@ -80,6 +83,10 @@ module _ (slots : List (Option Lane)) {lanes : Lanes} {i to : ℕ} {o found : Op
   pub stepped_there : (last lane : Lane) → last ≡ lane → lanes_below (set slots i (Some last)) (length (set slots i (Some last))) ≡ map.insert lanes to lane
   stepped_there last lane e = put_is slots to here (set slots i (Some last)) lanes last (ap (λ n. set slots n (Some last)) same) view ∙ ap (map.insert lanes to) e
 
+  -- left as it was, it leaves the lanes as they were
+  pub kept_there : (last : Lane) → Some last ≡ found → lanes_below (set slots i (Some last)) (length (set slots i (Some last))) ≡ lanes
+  kept_there last e = ap (λ (x : Option Lane). lanes_below (set slots i x) (length (set slots i x))) (e ∙ as_found) ∙ as_before
+
   -- what is said of the lane to the destination is said of what was found
   pub of_found : {A : Type 0} (f : Option Lane → A) → f (map.get lanes to) ≡ f found
   of_found f = ap f got
@@ -91,11 +98,11 @@ module _ (slots : List (Option Lane)) {lanes : Lanes} {i to : ℕ} {o found : Op
   pub left_at : (step : Lane → Lane × LaneStep) → step_at lanes to step ≡ elim found [ None ↦ nothing_to_do | Some lane ↦ (step lane).1 ]
   left_at step = of_found (λ o. elim o [ None ↦ nothing_to_do | Some lane ↦ (step lane).1 ])
 
-  pub hears_at : (wire : Wire) → hears_quietly_at lanes to wire ≡ elim found [ None ↦ false | Some lane ↦ hears_quietly lane.under_way wire ]
-  hears_at wire = of_found (λ o. elim o [ None ↦ false | Some lane ↦ hears_quietly lane.under_way wire ])
+  pub pending_at : (number : ℕ) → is_pending_at lanes to number ≡ elim found [ None ↦ false | Some lane ↦ numbered lane.pending number ]
+  pending_at number = of_found (λ o. elim o [ None ↦ false | Some lane ↦ numbered lane.pending number ])
 
-  pub pumps_at : (now : ℕ) → pumps_quietly_at lanes to now ≡ elim found [ None ↦ false | Some lane ↦ pumps_quietly lane.under_way now ]
-  pumps_at now = of_found (λ o. elim o [ None ↦ false | Some lane ↦ pumps_quietly lane.under_way now ])
+  pub aborts_at : (number : ℕ) → queues_abort_at lanes to number ≡ elim found [ None ↦ false | Some lane ↦ queues_abort lane number ]
+  aborts_at number = of_found (λ o. elim o [ None ↦ false | Some lane ↦ queues_abort lane number ])
 
   pub lane_at : (from : Address) → lane_to from lanes to ≡ elim found [ None ↦ new_lane from.0 to | Some lane ↦ lane ]
   lane_at from = of_found (λ o. elim o [ None ↦ new_lane from.0 to | Some lane ↦ lane ])

@@ -39,14 +39,6 @@ inside slots q lane is = by (nat_lt q (length slots)) refl
     by true e = ltb-true q (length slots) e
     by false e = absurd (none-some lane (sym (get_or_past slots q None (ltb-false q (length slots) e)) ∙ is))
 
--- a lane that still stands where another was taken out stood there before
-pub still_there : (slots : List (Option Lane)) (to : ℕ) → to < length slots → (q : ℕ) (lane : Lane) → slot_at (set slots to None) q ≡ Some lane → slot_at slots q ≡ Some lane
-still_there slots to here q lane is = by (q == to) refl
-  where
-    by : (b : Bool) → (q == to) ≡ b → slot_at slots q ≡ Some lane
-    by true e = absurd (none-some lane (sym (get_or-set_same slots to None None here) ∙ ap (slot_at (set slots to None)) (sym (eqb-true q to e)) ∙ is))
-    by false e = sym (get_or-set_other slots to q None None (eqb-false q to e)) ∙ is
-
 -- a lane is put at a node, or at all
 pub nodes_put : (slots : List (Option Lane)) (to : ℕ) (lane : Lane) → (is_one to || to == global_address) ≡ true → ((q : ℕ) (other : Lane) → slot_at slots q ≡ Some other → (is_one q || q == global_address) ≡ true) → (q : ℕ) (other : Lane) → slot_at (set slots to (Some lane)) q ≡ Some other → (is_one q || q == global_address) ≡ true
 nodes_put slots to lane here old q other is = by (q == to) refl

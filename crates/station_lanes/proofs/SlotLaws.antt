@@ -8,7 +8,7 @@ use Rattle.std.proofs.lemmas.Grind.{common_steps}
 use Rattle.std.specs.Ordering.{nat_cmp, eq_by_cmp}
 use Rattle.std.specs.Cmp.{nat_cmp_total, unsigned_tied}
 use Rattle.std.specs.FinMap as map
-use Rattle.std.specs.FinMap.{get-empty, get-insert, get-remove, same_map, nat_cmp-IsAntisymmetric}
+use Rattle.std.specs.FinMap.{get-empty, get-insert, same_map, nat_cmp-IsAntisymmetric}
 use Rattle.lane_core.specs.Lane.{Lane}
 use Rattle.station_lanes.specs.Lanes.{Lanes}
 use Rattle.station_lanes.specs.LaneSlots.{slot_at, with_slot, lanes_below}
@@ -65,9 +65,6 @@ module _ (slots : List (Option Lane)) (to : ℕ) (here : to < length slots) wher
       ∙ ap (λ b. cond b o (slot_at slots q)) (sym (unsigned_tied q to))
       ∙ ap (cond (eq_by_cmp nat_cmp q to) o) (sym (get_lanes slots q))
 
-  pub lanes_left : lanes_below (set slots to None) (length (set slots to None)) ≡ map.remove (lanes_below slots (length slots)) to
-  lanes_left = same_map nat_cmp_total nat_cmp-IsAntisymmetric _ _ (λ q. after None q ∙ sym (get-remove nat_cmp_total _ to q))
-
   pub lanes_put : (lane : Lane) → lanes_below (set slots to (Some lane)) (length (set slots to (Some lane))) ≡ map.insert (lanes_below slots (length slots)) to lane
   lanes_put lane = same_map nat_cmp_total nat_cmp-IsAntisymmetric _ _ (λ q. after (Some lane) q ∙ sym (get-insert nat_cmp_total _ to lane q))
 
@@ -78,9 +75,6 @@ module _ (slots : List (Option Lane)) (to : ℕ) (here : to < length slots) wher
       by : (b : Bool) → (q == to) ≡ b → cond b o (slot_at slots q) ≡ Some lane → lane.to ≡ q
       by true e h = new lane h ∙ sym (eqb-true q to e)
       by false e h = old q lane h
-
-  pub left_is : (after_slots : List (Option Lane)) (lanes : Lanes) → after_slots ≡ set slots to None → lanes_below slots (length slots) ≡ lanes → lanes_below after_slots (length after_slots) ≡ map.remove lanes to
-  left_is after_slots lanes e view = ap (λ (s : List (Option Lane)). lanes_below s (length s)) e ∙ lanes_left ∙ ap (λ m. map.remove m to) view
 
   pub put_is : (after_slots : List (Option Lane)) (lanes : Lanes) (lane : Lane) → after_slots ≡ set slots to (Some lane) → lanes_below slots (length slots) ≡ lanes → lanes_below after_slots (length after_slots) ≡ map.insert lanes to lane
   put_is after_slots lanes lane e view = ap (λ (s : List (Option Lane)). lanes_below s (length s)) e ∙ lanes_put lane ∙ ap (λ m. map.insert m to lane) view

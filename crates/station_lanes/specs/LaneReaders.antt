@@ -3,8 +3,6 @@ use Rattle.std.specs.Prelude.{◌≡◌, ℕ, zero, suc, Bool, true, false, if�
 use Rattle.std.specs.FinMap as map
 use Rattle.pgn_ids.specs.declared.address.Address.{Address}
 use Rattle.lane_core.specs.Fire.{is_lane_due, is_timed}
-use Rattle.tp_wire.specs.declared.wire.Wire.{Wire}
-use Rattle.lane_core.specs.Quiet.{hears_quietly, pumps_quietly}
 use Rattle.lane_core.specs.Pump.{missing, pump_refusal, is_ready}
 use Rattle.lane_core.specs.Overrun.{overrun}
 use Rattle.lane_core.specs.Cancel.{numbered, queues_abort}
@@ -25,14 +23,6 @@ refusal_at lanes to now = elim (map.get lanes to) [ None ↦ Some NothingToSend 
 -- a message to a destination has this number and no outcome
 abbrev pub is_pending_at : Lanes → (to number : ℕ) → Bool
 is_pending_at lanes to number = elim (map.get lanes to) [ None ↦ false | Some lane ↦ numbered lane.pending number ]
-
--- the lane to a destination takes this frame where it stands
-abbrev pub hears_quietly_at : Lanes → (to : ℕ) → Wire → Bool
-hears_quietly_at lanes to wire = elim (map.get lanes to) [ None ↦ false | Some lane ↦ hears_quietly lane.under_way wire ]
-
--- there is a lane to a destination, and its pump ends nothing
-abbrev pub pumps_quietly_at : Lanes → (to now : ℕ) → Bool
-pumps_quietly_at lanes to now = elim (map.get lanes to) [ None ↦ false | Some lane ↦ pumps_quietly lane.under_way now ]
 
 -- what is under way is a connection
 abbrev pub is_connection : UnderWay → Bool

@@ -1,5 +1,5 @@
 //! The calls of a lane, by its destination.
-ghost use Rattle.std.specs.Prelude.{◌≡◌, ◌≤◌, ◌||◌, ◌==◌, ◌+◌, ◌++◌, true, false, length, IfOk, IfSome, IfNone, OnSome, OnOk, OnErr, IfErr, IsErr, IsSome, IsTrue, Some, None, ◌↔◌};
+ghost use Rattle.std.specs.Prelude.{◌≡◌, ◌<◌, ◌≤◌, ◌||◌, ◌==◌, ◌+◌, ◌++◌, true, length, IfOk, IfSome, IfNone, OnSome, OnOk, OnErr, IfErr, IsErr, IsSome, [], IsTrue, Some, None, ◌↔◌};
 ghost use Rattle.std.specs.FinMap as map;
 ghost use Rattle.pgn_ids.specs.Address.{is_one, global_address};
 ghost use Rattle.lane_core.specs.Hear.{heard as heard_lane};
@@ -10,53 +10,51 @@ ghost use Rattle.lane_core.specs.Pump.{pumped as pumped_lane};
 ghost use Rattle.lane_core.specs.Fire.{fired as fired_lane};
 ghost use Rattle.lane_core.specs.Lane.{is_full as is_full_lane, longest_to, pushed};
 ghost use Rattle.lane_core.specs.Refused.{IsHandedBack};
-ghost use Rattle.lane_core.specs.Step.{nothing_to_do, step_left};
+ghost use Rattle.lane_core.specs.Step.{nothing_to_do};
 ghost use Rattle.tx_queue.specs.Queue.{queue_limit};
 ghost use Rattle.tp_wire.specs.Heard.{meant};
 ghost use Rattle.originator.specs.Pump.{most_frames};
-ghost use Rattle.std.specs.Bool.{OnTrue, OnFalse};
 ghost use Rattle.station_lanes.specs.LaneCalls.{stepped_lanes, step_at, lane_to};
-ghost use Rattle.station_lanes.specs.LaneReaders.{refusal_at, pumping_lane, missing_at, is_pending_at, queues_abort_at, is_due_at, hears_quietly_at, pumps_quietly_at, due_lane, overrun_lanes, overrun_events, is_waiting_at, count_below, sight_at, HasNoConnection};
+ghost use Rattle.station_lanes.specs.LaneReaders.{refusal_at, pumping_lane, missing_at, is_pending_at, queues_abort_at, is_due_at, due_lane, overrun_lanes, overrun_events, is_waiting_at, count_below, sight_at, HasNoConnection};
 ghost use Rattle.std.specs.Option.{option_map};
 
-use crate::lanes::{Lanes, PLACES, mark};
+use crate::lanes::{Lanes, PLACES, mark, mark_after};
 use crate::outcomes::{append, outcome};
-use lane_core::{Ended, Lane, LaneSight, LaneStep, PumpRefused, PushRefused};
+use lane_core::{Ended, Lane, LaneSight, PumpRefused, PushRefused};
 use message_events::{Bytes, Events};
 use pgn_ids::{Address, Pgn, WirePgn};
 use std::alloc::{AllocError, Global};
-use tp_wire::{Heard, Wire};
+use tp_wire::Heard;
 use tx_queue::TxQueue;
 
 impl Lanes {
-    /// A frame of its destination is taken at tick `now`.
-    pub fn hear(&mut self, to: Address, wire: &Wire, now: u64) -> LaneStep
-        ensures lanes { self.new ≡ stepped_lanes self.old to.0 (λ lane. heard_lane lane wire.now now) }
-        ensures step { step_left result ≡ step_at self.old to.0 (λ lane. heard_lane lane wire.now now) }
+    /// A frame of its destination is taken at tick `now`: the message that it ends is told, and its abort queued behind the frames
+    /// of a queue, if the sender aborts it.
+    #[inline]
+    pub fn hear(
+        &mut self,
+        to: Address,
+        heard: &Heard<'_>,
+        now: u64,
+        queue: &mut TxQueue,
+    ) -> Option<Ended>
+        requires { length queue.old < queue_limit }
+        ensures lanes { self.new ≡ stepped_lanes self.old to.0 (λ lane. heard_lane lane (meant heard.now) now) }
+        ensures queued { queue.new ≡ queue.old ++ (step_at self.old to.0 (λ lane. heard_lane lane (meant heard.now) now)).frames }
+        ensures ended { result ≡ (step_at self.old to.0 (λ lane. heard_lane lane (meant heard.now) now)).ended }
     {
         let Some(lane) = self.slots[usize::from(to.0)].get_mut() else {
-            return LaneStep::none();
+            return None;
         };
-        let step = lane.hear(wire, now);
-        mark(lane, &mut self.ready, &mut self.timed, to.0);
-        step
-    }
-
-    /// A frame of its destination is taken where its lane stands, at tick `now`, if it is the CTS that the lane awaits: a step
-    /// that ends nothing. Any other frame is left to `hear`, and changes nothing.
-    #[tactic(auto, using(crate::proofs::LaneLaws::quiet_laws))]
-    pub fn take_in_place(&mut self, to: Address, heard: &Heard<'_>, now: u64) -> bool
-        ensures value { result ≡ hears_quietly_at self.old to.0 (meant heard.now) }
-        ensures lanes { OnTrue result (self.new ≡ stepped_lanes self.old to.0 (λ lane. heard_lane lane (meant heard.now) now)) }
-        ensures step { OnTrue result (step_at self.old to.0 (λ lane. heard_lane lane (meant heard.now) now) ≡ nothing_to_do) }
-        ensures other { OnFalse result (self.new ≡ self.old) }
-    {
-        let Some(lane) = self.slots[usize::from(to.0)].get_mut() else {
-            return false;
-        };
-        let is_taken = lane.take_in_place(heard, now);
-        mark(lane, &mut self.ready, &mut self.timed, to.0);
-        is_taken
+        let ended = lane.hear(heard, now, queue);
+        mark_after(
+            ended.is_some(),
+            lane,
+            &mut self.ready,
+            &mut self.timed,
+            to.0,
+        );
+        ended
     }
 
     /// An Acknowledgement of its destination is taken.
@@ -70,23 +68,22 @@ impl Lanes {
         mark(lane, &mut self.ready, &mut self.timed, to.0);
     }
 
-    /// The station missed frames.
-    #[tactic(auto, using(crate::proofs::LaneLaws::overrun_laws))]
-    pub fn overrun(&mut self, to: Address) -> LaneStep
+    /// The station missed frames: nothing is queued, and the message that this ends is told.
+    pub fn overrun(&mut self, to: Address) -> Option<Ended>
         ensures lanes { self.new ≡ stepped_lanes self.old to.0 overrun_lane }
-        ensures step { step_left result ≡ step_at self.old to.0 overrun_lane }
-        ensures none { result.frame ≡ None }
+        ensures ended { result ≡ (step_at self.old to.0 overrun_lane).ended }
+        ensures none { (step_at self.old to.0 overrun_lane).frames ≡ [] }
     {
         let Some(lane) = self.slots[usize::from(to.0)].get_mut() else {
-            return LaneStep::none();
+            return None;
         };
-        let step = lane.overrun();
+        let ended = lane.overrun();
         mark(lane, &mut self.ready, &mut self.timed, to.0);
-        step
+        ended
     }
 
     /// A message is sent, whose number is given. A refusal hands its bytes back and changes nothing.
-    #[tactic(auto, using(crate::proofs::LaneLaws::pushed_laws))]
+
     pub fn push(
         &mut self,
         alloc: Global,
@@ -114,7 +111,7 @@ impl Lanes {
     }
 
     /// The first message to a destination is sent: its lane is made.
-    #[tactic(auto, using(crate::proofs::LaneLaws::pushed_laws))]
+
     fn push_first(
         &mut self,
         alloc: Global,
@@ -193,6 +190,7 @@ impl Lanes {
 
     /// Queues what comes next to a destination at tick `now` behind the frames of a queue, where `pump_refusal` gives no cause;
     /// the message that it ends is told.
+    #[inline(always)]
     pub fn pump(&mut self, to: Address, now: u64, queue: &mut TxQueue) -> Option<Ended>
         requires { length queue.old + most_frames ≤ queue_limit }
         ensures lanes { self.new ≡ stepped_lanes self.old to.0 (λ lane. pumped_lane lane now) }
@@ -203,27 +201,14 @@ impl Lanes {
             return None;
         };
         let ended = lane.pump(now, queue);
-        mark(lane, &mut self.ready, &mut self.timed, to.0);
+        mark_after(
+            ended.is_some(),
+            lane,
+            &mut self.ready,
+            &mut self.timed,
+            to.0,
+        );
         ended
-    }
-
-    /// The same where that ends no message. Any other pump is left to `pump`, and changes nothing.
-    #[tactic(auto, using(crate::proofs::LaneLaws::pumped_quiet_laws))]
-    pub fn pump_in_place(&mut self, to: Address, now: u64, queue: &mut TxQueue) -> bool
-        requires { length queue.old + most_frames ≤ queue_limit }
-        ensures value { result ≡ pumps_quietly_at self.old to.0 now }
-        ensures lanes { OnTrue result (self.new ≡ stepped_lanes self.old to.0 (λ lane. pumped_lane lane now)) }
-        ensures queued { OnTrue result (queue.new ≡ queue.old ++ (step_at self.old to.0 (λ lane. pumped_lane lane now)).frames) }
-        ensures ended { OnTrue result ((step_at self.old to.0 (λ lane. pumped_lane lane now)).ended ≡ None) }
-        ensures other { OnFalse result (self.new ≡ self.old) }
-        ensures kept { OnFalse result (queue.new ≡ queue.old) }
-    {
-        let Some(lane) = self.slots[usize::from(to.0)].get_mut() else {
-            return false;
-        };
-        let is_pumped = lane.pump_in_place(now, queue);
-        mark(lane, &mut self.ready, &mut self.timed, to.0);
-        is_pumped
     }
 
     /// Whether the timer of the lane to a destination is due at tick `now`.
@@ -255,17 +240,20 @@ impl Lanes {
         None
     }
 
-    /// The timer of the lane to a destination fired at tick `now`, as `is_due` told.
-    pub fn fire(&mut self, to: Address, now: u64) -> LaneStep
+    /// The timer of the lane to a destination fired at tick `now`, as `is_due` told: its frame is queued behind the frames of a
+    /// queue, and the message that it ends is told.
+    pub fn fire(&mut self, to: Address, now: u64, queue: &mut TxQueue) -> Option<Ended>
+        requires { length queue.old < queue_limit }
         ensures lanes { self.new ≡ stepped_lanes self.old to.0 (λ lane. fired_lane lane now) }
-        ensures step { step_left result ≡ step_at self.old to.0 (λ lane. fired_lane lane now) }
+        ensures queued { queue.new ≡ queue.old ++ (step_at self.old to.0 (λ lane. fired_lane lane now)).frames }
+        ensures ended { result ≡ (step_at self.old to.0 (λ lane. fired_lane lane now)).ended }
     {
         let Some(lane) = self.slots[usize::from(to.0)].get_mut() else {
-            return LaneStep::none();
+            return None;
         };
-        let step = lane.fire(now);
+        let ended = lane.fire(now, queue);
         mark(lane, &mut self.ready, &mut self.timed, to.0);
-        step
+        ended
     }
 
     /// How many destinations have a message without an outcome.
@@ -306,8 +294,8 @@ impl Lanes {
         let mut rest = Vec::with_capacity(alloc, self.waiting().saturating_sub(1))?;
         for place in 0..PLACES {
             let to = Address(place as u8);
-            let step = self.overrun(to);
-            append(&mut first, &mut rest, outcome(from, to, step.ended));
+            let ended = self.overrun(to);
+            append(&mut first, &mut rest, outcome(from, to, ended));
         }
         Ok(match first {
             None => Events::none(alloc),
@@ -335,19 +323,22 @@ impl Lanes {
         }
     }
 
-    /// Cancels the message to a destination with this number. None exactly where no such message is without an outcome, and
-    /// then nothing changes.
-    #[tactic(auto, using(crate::proofs::LaneLaws::cancelled_laws))]
-    pub fn cancel(&mut self, to: Address, number: u64) -> Option<LaneStep>
+    /// Cancels the message to a destination with this number, and tells it; its abort is queued behind the frames of a queue, if
+    /// `queues_abort` told that there is one. None exactly where no such message is without an outcome, and then nothing changes.
+    pub fn cancel(&mut self, to: Address, number: u64, queue: &mut TxQueue) -> Option<Ended>
+        requires { queues_abort_at self.old to.0 number ≡ true → length queue.old < queue_limit }
         ensures pending { IsSome result ↔ IsTrue (is_pending_at self.old to.0 number) }
         ensures lanes { OnSome result (self.new ≡ stepped_lanes self.old to.0 (λ lane. cancelled_lane lane number)) }
-        ensures step { IfSome result (λ step. step_left step ≡ step_at self.old to.0 (λ lane. cancelled_lane lane number)) }
-        ensures none { IfSome result (λ step. queues_abort_at self.old to.0 number ≡ false → step.frame ≡ None) }
+        ensures queued { OnSome result (queue.new ≡ queue.old ++ (step_at self.old to.0 (λ lane. cancelled_lane lane number)).frames) }
+        ensures ended { OnSome result (result ≡ (step_at self.old to.0 (λ lane. cancelled_lane lane number)).ended) }
         ensures absent { IfNone result (self.new ≡ self.old) }
+        ensures kept { IfNone result (queue.new ≡ queue.old) }
     {
-        let mut lane = self.take_out(to)?;
-        let step = lane.cancel(number);
-        self.put(to, lane);
-        step
+        let Some(lane) = self.slots[usize::from(to.0)].get_mut() else {
+            return None;
+        };
+        let ended = lane.cancel(number, queue);
+        mark(lane, &mut self.ready, &mut self.timed, to.0);
+        ended
     }
 }

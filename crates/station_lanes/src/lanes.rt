@@ -65,14 +65,6 @@ impl Slot {
         }
     }
 
-    /// Takes the lane out.
-    fn take(&mut self) -> Option<Box<Lane>>
-        ensures value { option_map (λ b. b.value) result ≡ self.old }
-        ensures left { self.new ≡ None }
-    {
-        self.lane.take()
-    }
-
     /// Puts a lane in the place of what was there.
     fn put(&mut self, lane: Box<Lane>)
         ensures { self.new ≡ Some lane.value }
@@ -138,17 +130,8 @@ impl Lanes {
         lane_at(&self.slots, to.0)
     }
 
-    /// Takes the lane to a destination out.
-    pub fn take_out(&mut self, to: Address) -> Option<Box<Lane>>
-        ensures value { option_map (λ b. b.value) result ≡ map.get self.old to.0 }
-        ensures left { self.new ≡ map.remove self.old to.0 }
-        ensures in_place { IfSome result (λ lane. lane.value.to ≡ to.0) }
-    {
-        take_at(&mut self.slots, to.0)
-    }
-
     /// Puts the lane to a destination in.
-    pub fn put(&mut self, to: Address, lane: Box<Lane>)
+    pub(crate) fn put(&mut self, to: Address, lane: Box<Lane>)
         requires { lane.value.to ≡ to.0 }
         ensures { self.new ≡ map.insert self.old to.0 lane.value }
     {
@@ -201,21 +184,40 @@ pub(crate) fn mark(lane: &Lane, ready: &mut AddressSet, timed: &mut AddressSet, 
     timed.set(to, is_timed);
 }
 
+/// The same after a step that may have ended a message. After one that ended none, which most are, it stands apart from the
+/// others, so that no outcome is handed past it.
+#[inline(always)]
+pub(crate) fn mark_after(
+    has_ended: bool,
+    lane: &Lane,
+    ready: &mut AddressSet,
+    timed: &mut AddressSet,
+    to: u8,
+)
+    ensures ready { IsMarked ready.old ready.new to (is_ready lane.now) }
+    ensures timed { IsMarked timed.old timed.new to (is_timed lane.now) }
+{
+    if has_ended {
+        mark_ended(lane, ready, timed, to);
+    } else {
+        mark(lane, ready, timed, to);
+    }
+}
+
+#[inline(never)]
+fn mark_ended(lane: &Lane, ready: &mut AddressSet, timed: &mut AddressSet, to: u8)
+    ensures ready { IsMarked ready.old ready.new to (is_ready lane.now) }
+    ensures timed { IsMarked timed.old timed.new to (is_timed lane.now) }
+{
+    mark(lane, ready, timed, to);
+}
+
 // The lane in the place of a destination.
 fn lane_at(slots: &Vec<Slot>, to: u8) -> Option<&Lane>
     requires { to < vec_len slots.now }
     ensures { option_copied result ≡ slot_at slots.now.items to }
 {
     slots[usize::from(to)].get()
-}
-
-// Takes the lane out of the place of a destination.
-fn take_at(slots: &mut Vec<Slot>, to: u8) -> Option<Box<Lane>>
-    requires { to < vec_len slots.old }
-    ensures value { option_map (λ b. b.value) result ≡ slot_at slots.old.items to }
-    ensures left { slots.new.items ≡ slice_set slots.old.items to None }
-{
-    slots[usize::from(to)].take()
 }
 
 // Puts a lane in the place of a destination.

@@ -1,6 +1,5 @@
 pub mod SessionMaps
-pub mod Settling
-pub mod InPlace
-pub mod Whole
+pub mod Leading
+pub mod Unbinding
 pub mod Sources
 pub mod Images

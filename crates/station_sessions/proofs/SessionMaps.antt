@@ -12,6 +12,7 @@ use Rattle.session_table.specs.Refusal.{refusal}
 use Rattle.session_table.specs.declared.TheConstants.{MAX_SESSIONS}
 use Rattle.session_table.specs.declared.table.OpenRefused.TheVariants.{TableFull, OutOfMemory}
 use Rattle.session_table.proofs.Keys.{key_total, key_apart}
+use Rattle.session_table.proofs.Tables as tables
 use Rattle.session_table.proofs.Tables.{key_eq-same}
 use Rattle.station_sessions.specs.Receiving.{Inbound, NoneHeld}
 
@@ -27,13 +28,9 @@ module _ (m : Inbound) (k : Key) where
   pub insert_again : (a b : Kept) → map.insert (map.insert m k a) k b ≡ map.insert m k b
   insert_again a b = same_map key_total key_apart _ _ (λ q. get-insert key_total (map.insert m k a) k b q ∙ over a b q (key_eq q k) refl ∙ sym (get-insert key_total m k b q))
 
-  gone : (a : Kept) (q : Key) (t : Bool) → key_eq q k ≡ t → cond t None (map.get (map.insert m k a) q) ≡ cond t None (map.get m q)
-  gone a q true e = refl
-  gone a q false e = get-insert key_total m k a q ∙ ap (λ c. cond c (Some a) (map.get m q)) e
-
   -- what was taken out is ended
   pub remove_inserted : (a : Kept) → map.remove (map.insert m k a) k ≡ map.remove m k
-  remove_inserted a = same_map key_total key_apart _ _ (λ q. get-remove key_total (map.insert m k a) k q ∙ gone a q (key_eq q k) refl ∙ sym (get-remove key_total m k q))
+  remove_inserted a = tables.remove_inserted m k a
 
   same : (a : Option Kept) → map.get m k ≡ a → (q : Key) (t : Bool) → key_eq q k ≡ t → cond t a (map.get m q) ≡ map.get m q
   same a is q true e = sym is ∙ ap (map.get m) (sym (key_eq-same q k e))

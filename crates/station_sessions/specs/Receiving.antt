@@ -45,6 +45,12 @@ pub record Leaves (step : Reception) (left : Inbound) (before after : List CanFr
   pub queued : after ≡ before ++ option_to_list step.frame
   pub says : told ≡ step.events
 
+-- the same of a step that tells nothing
+pub record LeavesQuietly (step : Reception) (left : Inbound) (before after : List CanFrame) : Type 0 where
+  pub sessions_left : left ≡ step.sessions
+  pub untold : step.events ≡ []
+  pub queued : after ≡ before ++ option_to_list step.frame
+
 -- nothing is done
 abbrev pub unheard : Inbound → Reception
 unheard sessions = record { sessions = sessions; frame = None; events = [] }

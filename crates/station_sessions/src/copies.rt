@@ -1,5 +1,6 @@
 //! The memory for a message that is given at several ports, made before the step that completes the message.
-ghost use Rattle.std.specs.Prelude.{◌≡◌, ◌≤◌, ◌-◌, [], length, All, IfOk, OnOk, vec_capacity};
+ghost use Rattle.std.specs.Prelude.{◌≡◌, ◌<◌, ◌≤◌, ◌-◌, [], true, length, All, IfOk, OnOk, OnErr, vec_capacity};
+ghost use Rattle.station_sessions.specs.CopyRoom.{IsRoomFor};
 ghost use Rattle.station_sessions.specs.Given.{given_at, given_to};
 
 use message_events::{Bytes, Event, Events};
@@ -183,4 +184,23 @@ pub(crate) fn give(
             told.tell_all(message.last_at(station, *first), rest);
         }
     }
+}
+
+/// Makes the room for the copies of a message of so many bytes that is given at the ports of a set, if it is given. At one port
+/// it takes no memory.
+pub(crate) fn make_copies(
+    alloc: Global,
+    set: &PortSet,
+    is_given: bool,
+    size: u32,
+) -> Result<Copies, AllocError>
+    ensures ok { IfOk result (λ copies. IsRoomFor size is_given set.now copies) }
+    ensures given { OnErr result (is_given ≡ true) }
+    ensures several { OnErr result (1 < length set.now) }
+{
+    let mut copies = Copies::none(alloc);
+    if is_given && set.len() > 1 {
+        copies.make(alloc, set.len() - 1, size as usize)?;
+    }
+    Ok(copies)
 }

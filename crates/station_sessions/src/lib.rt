@@ -2,9 +2,9 @@
 //! given at the ports of its set (SAE J1939-21; ISO 11783-3).
 #![tactic(auto)]
 
+mod concluding;
 mod copies;
 mod receivers;
-mod steps;
 
+pub use concluding::enqueue_option;
 pub use receivers::{Receivers, ReceiversImage, flow};
-pub use steps::enqueue_option;

@@ -1,34 +1,40 @@
 //! The incoming sessions of a station.
-ghost use Rattle.std.specs.Prelude.{◌≡◌, ◌<◌, ◌-◌, ◌==◌, Some, None, [], IfErr, OnOk, OnErr, length, true};
-ghost use Rattle.std.specs.Bool.{OnTrue, OnFalse};
+ghost use Rattle.std.specs.Prelude.{◌≡◌, ℕ, ◌<◌, ◌-◌, ◌++◌, ◌==◌, Some, None, [], IfErr, OnOk, OnErr, length, true, option_to_list};
+ghost use Rattle.std.specs.Bool.{OnTrue};
 ghost use Rattle.std.specs.FinMap as map;
 ghost use Rattle.session_table.specs.Sessions.{state_at};
 ghost use Rattle.session_table.specs.DueOrder.{first_due};
 ghost use Rattle.session_table.specs.declared.TheConstants.{MAX_SESSIONS};
-ghost use Rattle.station_sessions.specs.Steps.{completes as completes_at, size_of, closing_frame};
+ghost use Rattle.station_sessions.specs.Steps.{completes as completes_at, size_of};
 ghost use Rattle.tp_wire.specs.Heard.{meant};
+ghost use Rattle.tp_wire.specs.declared.wire.Kind.{Kind};
+ghost use Rattle.tp_wire.specs.declared.wire.Wire.TheVariants.{Packet};
 ghost use Rattle.tx_queue.specs.Queue.{queue_limit};
-ghost use Rattle.station_sessions.specs.Quiet.{LeavesQuietly, receives_quietly, ReceivesLackingRoom};
+ghost use Rattle.station_sessions.specs.Memory.{wants_memory, fires_wanting};
 ghost use Rattle.station_sessions.specs.Sources.{HasNoneBetween};
-ghost use Rattle.station_sessions.specs.Receiving.{Leaves, flow_at, received, fired_at, aborted_at, unbound_at, wanted_by};
+ghost use Rattle.station_sessions.specs.Receiving.{Leaves, LeavesQuietly, flow_at, received, fired_at, aborted_at, unbound_at, wanted_by};
+ghost use Rattle.station_sessions.specs.Ends.{IsFlowOf, IsGivenAtSeveral, IsLastAt, completes_by, ended_by};
 
 mod due;
 mod image;
 mod opening;
 mod sources;
 
-use crate::steps::{self, Table};
+use crate::concluding::{conclude, enqueue_option};
+use crate::copies::make_copies;
 use bus_frame::Frame;
 pub use image::ReceiversImage;
 use message_events::Events;
 use pgn_ids::WirePgn;
 use port_table::{PortSet, PortTable};
-use responder::Flow;
+use responder::{Flow, Left};
 use session_table::{Incoming, Key, OpenRefused, SessionTable};
 use std::alloc::{AllocError, Global};
 use std::marker::Model;
-use tp_wire::{Heard, Wire};
+use tp_wire::{AbortReason, Heard, Wire};
 use tx_queue::TxQueue;
+
+pub(crate) type Table = SessionTable<PortSet>;
 
 /// The incoming sessions of a station by source and kind, at most 32, each with the ports that it gives to: those that its
 /// opening found, less those that were closed since.
@@ -62,6 +68,7 @@ impl Drop for Receivers {
 }
 
 /// Whether a session that gives to a set of ports may grant packets: it is held while one of them is paused.
+#[inline]
 pub fn flow(ports: &PortTable, set: &PortSet) -> Flow
     ensures { result ≡ flow_at ports.now set.now }
 {
@@ -140,9 +147,8 @@ impl Receivers {
     pub fn end(&mut self, key: Key)
         ensures { self.new ≡ map.remove self.old key }
     {
-        if let Some((held, _set, state)) = self.table.take_out(key) {
+        if let Some((_set, state)) = self.table.remove(key) {
             state.overrun();
-            self.table.end(held);
         }
     }
 
@@ -193,14 +199,15 @@ impl Receivers {
     /// rising number, with the end of message acknowledgement of a connection. `room` says whether each of them has room for
     /// the message, and whether there is room for the next window; without room a connection ends by an abort.
     ///
-    /// What it answers is queued behind the frames of a queue. All memory is taken first: want of it changes nothing. Without room
-    /// none is asked for.
-    #[tactic(auto, using(crate::proofs::SessionMaps::session_maps))]
+    /// What it answers is queued behind the frames of a queue. All memory is taken first: want of it changes nothing. It is asked
+    /// for only with room, for a message that is given at two ports or more and for a window of ETP.
+    // Always inlined, and what ends a session out of line: so a packet in the middle of a message passes without a call.
+    #[inline(always)]
     pub fn receive(
         &mut self,
         ports: &PortTable,
         key: Key,
-        wire: &Wire,
+        heard: &Heard<'_>,
         room: bool,
         now: u64,
         queue: &mut TxQueue,
@@ -208,119 +215,138 @@ impl Receivers {
     ) -> Result<(), AllocError>
         requires place { length queue.old < queue_limit }
         requires silent { told.old ≡ [] }
-        ensures ok { OnOk result (Leaves (received ports.now key wire.now room now self.old) self.new queue.old queue.new told.new) }
+        ensures ok { OnOk result (Leaves (received ports.now key (meant heard.now) room now self.old) self.new queue.old queue.new told.new) }
         ensures err { OnErr result (self.new ≡ self.old) }
         ensures kept { OnErr result (queue.new ≡ queue.old) }
         ensures silent { OnErr result (told.new ≡ []) }
         ensures room { OnErr result (room ≡ true) }
+        ensures memory { OnErr result (wants_memory ports.now key (meant heard.now) room self.old ≡ true) }
     {
-        let Some((held, set, state)) = self.table.take_out(key) else {
-            return Ok(());
-        };
-        steps::step(
-            self.alloc,
-            &mut self.table,
-            queue,
-            ports,
-            held,
-            set,
-            state,
-            wire,
-            room,
-            now,
-            told,
-        )
+        let flow = self.flow_of(ports, key);
+        match self.table.take(key, heard, room, flow, now, queue) {
+            Left::Nothing => Ok(()),
+            Left::Message => match heard {
+                Heard::Packet {
+                    kind: _,
+                    sequence: _,
+                    bytes,
+                } => self.complete(ports, key, bytes, room, queue, told),
+                _ => unreachable!(),
+            },
+            Left::Abort(reason) => {
+                self.end_by(key, reason, queue);
+                Ok(())
+            }
+            Left::NoMemory => Err(AllocError),
+        }
     }
 
-    /// Takes a frame of its source where the session of a key stands, at tick `now` (SAE J1939-21, TP.DT; ISO 11783-3, ETP.DT,
-    /// ETP.CM_DPO): a step that ends nothing. What it answers is queued behind the frames of a queue; without a session
-    /// nothing is done. Any other frame is left to `receive`, and changes nothing.
+    // Whether the session of a key may grant packets. Mostly no port is paused, and then it isn't looked up.
     #[inline(always)]
-    pub fn take_in_place(
-        &mut self,
-        ports: &PortTable,
-        key: Key,
-        heard: &Heard<'_>,
-        room: bool,
-        now: u64,
-        queue: &mut TxQueue,
-    ) -> bool
-        requires { length queue.old < queue_limit }
-        ensures quiet { OnTrue result (receives_quietly ports.now key (meant heard.now) room self.old ≡ true) }
-        ensures wanting { OnFalse result (receives_quietly ports.now key (meant heard.now) room self.old ≡ true → ReceivesLackingRoom ports.now key (meant heard.now) room self.old) }
-        ensures step { OnTrue result (LeavesQuietly (received ports.now key (meant heard.now) room now self.old) self.new queue.old queue.new) }
-        ensures other { OnFalse result (self.new ≡ self.old) }
-        ensures kept { OnFalse result (queue.new ≡ queue.old) }
+    fn flow_of(&self, ports: &PortTable, key: Key) -> Flow
+        ensures { IsFlowOf (state_at self.now key) ports.now result }
     {
-        // On hold no window is granted: whether a port is paused is asked only where one may be.
-        self.table
-            .take_in_place(key, heard, room, Flow::Held, now, queue)
-            || self.grant_in_place(ports, key, heard, room, now, queue)
+        if ports.has_paused() {
+            self.flow_by(ports, key)
+        } else {
+            Flow::Open
+        }
     }
 
-    // The same, asking whether a port of its set is paused, as the last packet of a window wants, and that of a message doesn't. It is
-    // kept out of line, since few frames come here.
+    // The same, by the ports that are paused.
     #[inline(never)]
-    fn grant_in_place(
+    fn flow_by(&self, ports: &PortTable, key: Key) -> Flow
+        ensures { IsFlowOf (state_at self.now key) ports.now result }
+    {
+        match self.table.get(key) {
+            Some((set, _state)) => flow(ports, set),
+            None => Flow::Open,
+        }
+    }
+
+    // The session of a key ends with its last packet: the message is given, or refused without room.
+    #[inline(never)]
+    fn complete(
         &mut self,
         ports: &PortTable,
         key: Key,
-        heard: &Heard<'_>,
+        packet: &[u8; 7],
         room: bool,
-        now: u64,
         queue: &mut TxQueue,
-    ) -> bool
-        requires { length queue.old < queue_limit }
-        ensures quiet { OnTrue result (receives_quietly ports.now key (meant heard.now) room self.old ≡ true) }
-        ensures wanting { OnFalse result (receives_quietly ports.now key (meant heard.now) room self.old ≡ true → ReceivesLackingRoom ports.now key (meant heard.now) room self.old) }
-        ensures step { OnTrue result (LeavesQuietly (received ports.now key (meant heard.now) room now self.old) self.new queue.old queue.new) }
-        ensures other { OnFalse result (self.new ≡ self.old) }
-        ensures kept { OnFalse result (queue.new ≡ queue.old) }
+        told: &mut Events,
+    ) -> Result<(), AllocError>
+        requires place { length queue.old < queue_limit }
+        requires silent { told.old ≡ [] }
+        requires last { IsLastAt (state_at self.old key) }
+        ensures ok { OnOk result ((kind : Kind) (sequence now : ℕ) → completes_by (state_at self.old key) (Packet kind sequence packet.now) ≡ true
+            → Leaves (received ports.now key (Packet kind sequence packet.now) room now self.old) self.new queue.old queue.new told.new) }
+        ensures err { OnErr result (self.new ≡ self.old) }
+        ensures kept { OnErr result (queue.new ≡ queue.old) }
+        ensures silent { OnErr result (told.new ≡ []) }
+        ensures room { OnErr result (room ≡ true) }
+        ensures memory { OnErr result (IsGivenAtSeveral (state_at self.old key)) }
     {
         let Some((set, state)) = self.table.get(key) else {
-            return true;
+            unreachable!()
         };
-        if state.leaves(heard) {
-            return false;
+        let copies = make_copies(self.alloc, set, room, size(state))?;
+        let Some((set, state)) = self.table.remove(key) else {
+            unreachable!()
+        };
+        conclude(
+            ports.station(),
+            &set,
+            room,
+            state,
+            packet,
+            copies,
+            queue,
+            told,
+        );
+        Ok(())
+    }
+
+    // The session of a key ends before its message is whole: the abort of a connection is queued.
+    #[inline(never)]
+    #[tactic(auto, using(crate::proofs::SessionMaps::session_maps))]
+    fn end_by(&mut self, key: Key, reason: AbortReason, queue: &mut TxQueue)
+        requires { length queue.old < queue_limit }
+        ensures sessions { self.new ≡ map.remove self.old key }
+        ensures queued { queue.new ≡ queue.old ++ option_to_list (ended_by (state_at self.old key) reason) }
+    {
+        if let Some((_set, state)) = self.table.remove(key) {
+            enqueue_option(queue, state.end(reason));
         }
-        let flow = flow(ports, set);
-        self.table.take_in_place(key, heard, room, flow, now, queue)
     }
 
     /// The timer of the session of a key fires at tick `now`; without one nothing is done. A session on hold asks again or
-    /// goes on, any other ends, a connection by an abort (SAE J1939-21, timers T1, T2 and Th).
+    /// goes on, any other ends, a connection by an abort (SAE J1939-21, timers T1, T2 and Th). Nothing is told.
     ///
-    /// What it asks or ends with is queued behind the frames of a queue. All memory is taken first: want of it changes nothing.
-    #[tactic(auto, using(crate::proofs::SessionMaps::session_maps))]
+    /// What it asks or ends with is queued behind the frames of a queue. All memory is taken first: want of it changes nothing. It is
+    /// asked for only where a hold of ETP ends.
     pub fn fire(
         &mut self,
         ports: &PortTable,
         key: Key,
         now: u64,
         queue: &mut TxQueue,
-        told: &mut Events,
     ) -> Result<(), AllocError>
-        requires place { length queue.old < queue_limit }
-        requires silent { told.old ≡ [] }
-        ensures ok { OnOk result (Leaves (fired_at ports.now key now self.old) self.new queue.old queue.new told.new) }
+        requires { length queue.old < queue_limit }
+        ensures ok { OnOk result (LeavesQuietly (fired_at ports.now key now self.old) self.new queue.old queue.new) }
         ensures err { OnErr result (self.new ≡ self.old) }
         ensures kept { OnErr result (queue.new ≡ queue.old) }
-        ensures silent { OnErr result (told.new ≡ []) }
+        ensures memory { OnErr result (fires_wanting ports.now key self.old ≡ true) }
     {
-        let Some((held, set, state)) = self.table.take_out(key) else {
-            return Ok(());
-        };
-        steps::fire(
-            self.alloc,
-            &mut self.table,
-            queue,
-            ports,
-            held,
-            set,
-            state,
-            now,
-            told,
-        )
+        let flow = self.flow_of(ports, key);
+        match self.table.fire(key, flow, now, queue) {
+            Left::Nothing => Ok(()),
+            Left::Message => unreachable!(),
+            Left::Abort(reason) => {
+                self.end_by(key, reason, queue);
+                Ok(())
+            }
+            Left::NoMemory => Err(AllocError),
+        }
     }
 
     /// Takes a port out of the set of the session of a key. A session whose set is then empty ends: the abort of a
@@ -333,7 +359,7 @@ impl Receivers {
         let rest = set.without(number);
         if rest.is_empty() {
             self.table.end(held);
-            close(state)
+            state.end(AbortReason::Resources)
         } else {
             self.table.put_back(held, rest, state);
             None
@@ -358,18 +384,5 @@ fn size(state: &Incoming) -> u32
     match state {
         Incoming::Broadcast(state) => state.size(),
         Incoming::Connection(state) => state.size(),
-    }
-}
-
-// Nobody takes the message of a session any more: it ends, a connection by an abort.
-fn close(state: Incoming) -> Option<Frame>
-    ensures { result ≡ closing_frame state }
-{
-    match state {
-        Incoming::Broadcast(state) => {
-            state.close();
-            None
-        }
-        Incoming::Connection(state) => Some(state.close()),
     }
 }

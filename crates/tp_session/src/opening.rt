@@ -43,5 +43,6 @@ pub fn accept(peer: Peer, allowed: u8, join: Join, flow: Flow, now: u64) -> (InS
     ensures tp { IsTp result.0 }
 {
     let most = most_packets(Kind::Tp, allowed);
-    responder::begin(Kind::Tp, peer, most, join, flow, now)
+    let (receiver, frame) = responder::begin(Kind::Tp, peer, most, join, flow, now);
+    (receiver.into_state(), frame)
 }

@@ -26,7 +26,7 @@ use Rattle.lane_core.specs.declared.place.UnderWay.TheVariants.{Nothing}
 use Rattle.lane_core.specs.declared.probe.Standing.TheVariants.{Settled}
 use Rattle.lane_core.specs.declared.probe.Token.{Token}
 use Rattle.station_lanes.specs.LaneCalls.{lane_to}
-use Rattle.station_lanes.proofs.LaneLaws.{insert_same}
+use Rattle.exchange_law.proofs.Lanes.{insert_same}
 use Rattle.station_core.specs.Station.{Station, new_station}
 use Rattle.segment_law.specs.Segment.{Segment, place_of, station_at, lane_at, waiting_at}
 use Rattle.segment_law.specs.Reached.{IsFitMessage, IsFitLane, IsFitStation, IsReached}

@@ -11,7 +11,6 @@ use std::alloc::Global;
 use std::process::Abort;
 use tick_timers::T1;
 use tp_wire::{Kind, Wire};
-use tx_queue::TxQueue;
 
 const SOURCE: Address = Address(0x21);
 
@@ -23,10 +22,12 @@ const FIRST: Wire = Wire::Packet {
     bytes: [1, 2, 3, 4, 5, 6, 7],
 };
 
+const LAST_BYTES: [u8; 7] = [8, 9, 0xFF, 0xFF, 0xFF, 0xFF, 0xFF];
+
 const LAST: Wire = Wire::Packet {
     kind: Kind::Tp,
     sequence: 2,
-    bytes: [8, 9, 0xFF, 0xFF, 0xFF, 0xFF, 0xFF],
+    bytes: LAST_BYTES,
 };
 
 // A packet past the last one.
@@ -127,18 +128,21 @@ fn nine_bytes_are_sent(rt: HostRuntime) {
 }
 
 #[test]
-fn a_packet_is_queued_in_place(rt: HostRuntime) {
-    let mut queue = got(&rt, TxQueue::new(rt.alloc()));
+fn packets_are_sent_where_the_state_stands(rt: HostRuntime) {
     let (mut out, _announcement) = BamOut::begin(SOURCE, pgn(&rt, 0xFECA), 9, 0);
-    let early = out.pump_in_place(&M9, 49, &mut queue);
-    let went_on = out.pump_in_place(&M9, 50, &mut queue);
-    let last = out.pump_in_place(&M9, 100, &mut queue);
-    same(&rt, [early, went_on, last], [false, true, false]);
+    same(&rt, out.take_packet(&M9, 49), None);
+    let first = BamPacket {
+        frame: frame(&rt, 0x1CEB_FF21, [1, 1, 2, 3, 4, 5, 6, 7]),
+        is_last: false,
+    };
+    same(&rt, out.take_packet(&M9, 50), Some(first));
     same(&rt, out.missing(60), 40);
+    let last = BamPacket {
+        frame: frame(&rt, 0x1CEB_FF21, [2, 8, 9, 0xFF, 0xFF, 0xFF, 0xFF, 0xFF]),
+        is_last: true,
+    };
+    same(&rt, out.take_packet(&M9, 100), Some(last));
     out.cancel();
-    let first = frame(&rt, 0x1CEB_FF21, [1, 1, 2, 3, 4, 5, 6, 7]);
-    same(&rt, queue.pop(), Some(first));
-    holds(&rt, queue.is_empty());
 }
 
 #[test]
@@ -175,21 +179,26 @@ fn nine_bytes_are_received(rt: HostRuntime) {
     is_complete(&rt, state.step(&LAST, 849));
 }
 
+// The last packet completes the message.
+fn completes(rt: &impl Abort, mut state: BamIn, now: u64) {
+    match state.take(&heard(&LAST), now) {
+        BamLeft::Message => same(rt, state.complete(&LAST_BYTES).as_slice(), M9.as_slice()),
+        _ => panic!(rt; "not complete"),
+    }
+}
+
 #[test]
-fn a_packet_in_the_middle_is_taken_in_place(rt: HostRuntime) {
+fn nine_bytes_are_taken(rt: HostRuntime) {
     let mut state = receiver(&rt, rt.alloc());
-    let went_on = state.take_in_place(&heard(&FIRST), 100);
-    // A packet that has come, the last one and one that is skipped change nothing.
-    let again = state.take_in_place(&heard(&FIRST), 700);
-    let last = state.take_in_place(&heard(&LAST), 700);
-    let skipped = state.take_in_place(&heard(&PAST), 700);
-    same(
-        &rt,
-        [went_on, again, last, skipped],
-        [true, false, false, false],
-    );
+    let went_on = state.take(&heard(&FIRST), 100);
+    // A packet that has come changes nothing, nor do one that is skipped and the last one.
+    let again = state.take(&heard(&FIRST), 700);
+    let skipped = state.take(&heard(&PAST), 700);
+    let last = state.take(&heard(&LAST), 700);
+    same(&rt, [went_on, again], [BamLeft::Nothing; 2]);
+    same(&rt, [skipped, last], [BamLeft::Dropped, BamLeft::Message]);
     falls_due(&rt, &state, 850);
-    is_complete(&rt, state.step(&LAST, 800));
+    completes(&rt, state, 800);
 }
 
 #[test]

@@ -1,15 +1,15 @@
 //! Exchanges of node 35 with node 21, frame by frame.
 use crate::checks::{got, holds, same};
-use crate::session::frames::{frame, heard, pgn, shows, wire_pgn};
-use crate::session::received::{aborted, answers, complete, goes_on, on};
+use crate::session::frames::{frame, pgn, shows, wire_pgn};
+use crate::session::received::{aborted, answers, complete, completed, goes_on, on, taken};
 use bus_frame::Frame;
 use pgn_ids::Address;
-use responder::{Finished, Flow, Peer};
+use responder::{Finished, Flow, Left, Peer, Receiver};
 use seg_cut::{Join, packets};
 use std::alloc::Global;
 use std::process::Abort;
 use tp_session::{InState, OutState, Received, accept, begin};
-use tp_wire::{Kind, Outcome, Wire};
+use tp_wire::{AbortReason, Kind, Outcome, Wire};
 use tx_queue::TxQueue;
 
 // What 35 sends to 21 in TP.CM.
@@ -92,43 +92,59 @@ fn packet(k: u8) -> Wire {
     }
 }
 
-// The nine bytes, whole, where there is room for them as the last packet comes, or none.
-fn nine_bytes(rt: &impl Abort, alloc: Global, room: bool) -> Finished {
+// A packet inside a window is taken: nothing is queued, and nothing left to do.
+fn takes(rt: &impl Abort, state: &mut Receiver, queue: &mut TxQueue, k: u8, room: bool, now: u64) {
+    let taken = taken(rt, state, queue, &packet(k), room, Flow::Open, now);
+    same(rt, taken, (Left::Nothing, None));
+}
+
+// The nine bytes, whole.
+fn nine_bytes(rt: &impl Abort, alloc: Global) -> Finished {
+    let mut queue = got(rt, TxQueue::new(alloc));
     let (state, cts) = begun(rt, alloc, diagnostics(rt), 255, 9, Flow::Open);
     shows(rt, cts, CM_TO_21, [0x11, 2, 1, 0xFF, 0xFF, 0xCA, 0xFE, 0]);
-    let state = goes_on(rt, step(rt, state, &packet(1), true, Flow::Open, 1));
-    let state = goes_on(rt, step(rt, state, &packet(1), false, Flow::Open, 2));
+    let mut state = state.into_receiver();
+    takes(rt, &mut state, &mut queue, 1, true, 1);
+    takes(rt, &mut state, &mut queue, 1, false, 2);
     same(rt, state.size(), 9);
     same(
         rt,
         (state.completes(&LAST), state.completes(&packet(1))),
         (true, false),
     );
-    complete(rt, step(rt, state, &LAST, room, Flow::Held, 3))
+    completed(rt, state, &mut queue, &LAST, Flow::Held, 3)
 }
 
 #[test]
 fn nine_bytes_are_given_or_refused(rt: HostRuntime) {
-    let (bytes, end) = nine_bytes(&rt, rt.alloc(), true).given();
+    let (bytes, end) = nine_bytes(&rt, rt.alloc()).given();
     same(
         &rt,
         bytes.as_slice(),
         [1, 2, 3, 4, 5, 6, 7, 8, 9].as_slice(),
     );
     shows(&rt, end, CM_TO_21, [0x13, 9, 0, 2, 0xFF, 0xCA, 0xFE, 0]);
-    let refused = nine_bytes(&rt, rt.alloc(), false).refused();
+    let refused = nine_bytes(&rt, rt.alloc()).refused();
     shows(&rt, refused, CM_TO_21, abort(2));
 }
 
 // All packets but the last are taken: a CTS answers the last of each window. The last CTS.
-fn take_to_254(rt: &impl Abort, mut state: InState, mut cts: Frame) -> (InState, Frame) {
+fn take_to_254(
+    rt: &impl Abort,
+    state: &mut Receiver,
+    queue: &mut TxQueue,
+    mut cts: Frame,
+) -> Frame {
     for k in 1..255 {
-        let (next, frame) = on(rt, step(rt, state, &packet(k), true, Flow::Open, 0));
-        state = next;
-        same(rt, (k, frame.is_some()), (k, k % 16 == 0));
-        cts = frame.unwrap_or(cts);
+        let (left, answer) = taken(rt, state, queue, &packet(k), true, Flow::Open, 0);
+        same(
+            rt,
+            (k, left, answer.is_some()),
+            (k, Left::Nothing, k % 16 == 0),
+        );
+        cts = answer.unwrap_or(cts);
     }
-    (state, cts)
+    cts
 }
 
 fn are_places(rt: &impl Abort, bytes: &[u8]) {
@@ -139,15 +155,17 @@ fn are_places(rt: &impl Abort, bytes: &[u8]) {
 
 #[test]
 fn the_longest_message_has_sixteen_windows(rt: HostRuntime) {
+    let mut queue = got(&rt, TxQueue::new(rt.alloc()));
     let (state, cts) = begun(&rt, rt.alloc(), diagnostics(&rt), 255, 1785, Flow::Open);
-    let (state, cts) = take_to_254(&rt, state, cts);
+    let mut state = state.into_receiver();
+    let cts = take_to_254(&rt, &mut state, &mut queue, cts);
     shows(
         &rt,
         cts,
         CM_TO_21,
         [0x11, 0x0F, 0xF1, 0xFF, 0xFF, 0xCA, 0xFE, 0],
     );
-    let (bytes, end) = complete(&rt, step(&rt, state, &packet(255), true, Flow::Open, 0)).given();
+    let (bytes, end) = completed(&rt, state, &mut queue, &packet(255), Flow::Open, 0).given();
     shows(
         &rt,
         end,
@@ -162,7 +180,6 @@ fn the_longest_message_has_sixteen_windows(rt: HostRuntime) {
 fn a_window_is_what_the_rts_allows(rt: HostRuntime) {
     let peer = Peer::new(Address(0x80), Address(0x35), wire_pgn(&rt, 0xEF35));
     let (state, cts) = begun(&rt, rt.alloc(), peer, 1, 9, Flow::Open);
-    holds(&rt, state.peer() == peer);
     shows(
         &rt,
         cts,
@@ -216,59 +233,95 @@ fn a_hold_is_repeated_until_the_session_is_open(rt: HostRuntime) {
     window_on_hold(&rt, state);
 }
 
-// Packet k comes while there is room or none, at a tick, and is taken in place, or not. A frame that is queued is the only one.
-fn takes(
-    rt: &impl Abort,
-    state: &mut InState,
-    queue: &mut TxQueue,
-    (k, room, flow, now, is_taken): (u8, bool, Flow, u64, bool),
-) {
-    holds(rt, queue.is_empty());
-    let taken = state.take_in_place(&heard(&packet(k)), room, flow, now, queue);
-    same(rt, (k, taken), (k, is_taken));
-}
-
-fn take_window(rt: &impl Abort, state: &mut InState, queue: &mut TxQueue) {
-    for arrival in [
-        (1, true, Flow::Open, 100, true),
-        (2, false, Flow::Held, 200, true),
-        // A packet that has come and one that is skipped change nothing, nor does the last of the window without room or on hold.
-        (2, true, Flow::Open, 300, false),
-        (4, true, Flow::Open, 300, false),
-        (3, false, Flow::Open, 300, false),
-        (3, true, Flow::Held, 300, false),
+fn take_window(rt: &impl Abort, state: &mut Receiver, queue: &mut TxQueue) {
+    for (k, room, flow, now, left) in [
+        (1, true, Flow::Open, 100, Left::Nothing),
+        (2, false, Flow::Held, 200, Left::Nothing),
+        // A packet that has come and one that is skipped change nothing, nor does the last of the window without room.
+        (2, true, Flow::Open, 300, Left::Nothing),
+        (4, true, Flow::Open, 300, Left::Abort(AbortReason::Other)),
+        (
+            3,
+            false,
+            Flow::Open,
+            300,
+            Left::Abort(AbortReason::Resources),
+        ),
+        (
+            3,
+            false,
+            Flow::Held,
+            300,
+            Left::Abort(AbortReason::Resources),
+        ),
     ] {
-        takes(rt, state, queue, arrival);
+        let taken = taken(rt, state, queue, &packet(k), room, flow, now);
+        same(rt, (k, taken), (k, (left, None)));
     }
-    falls_due(rt, state, 950);
-    takes(rt, state, queue, (3, true, Flow::Open, 400, true));
-    falls_due(rt, state, 1650);
+    same(rt, (state.is_due(949), state.is_due(950)), (false, true));
 }
 
-// Whether each packet is left where packets are taken in place.
-fn leaves_packets(rt: &impl Abort, state: &InState, leaves: bool) {
-    same(rt, state.leaves_packets(), leaves);
+// The last packet of a window of three is taken, of a message of four, where the session is open or held.
+fn end_of_window(rt: &impl Abort, alloc: Global, queue: &mut TxQueue, flow: Flow) -> Receiver {
+    let (state, _) = begun(rt, alloc, diagnostics(rt), 3, 28, Flow::Open);
+    let mut state = state.into_receiver();
+    same(rt, state.kind(), Kind::Tp);
+    holds(rt, state.peer() == diagnostics(rt));
+    take_window(rt, &mut state, queue);
+    let (left, answer) = taken(rt, &mut state, queue, &packet(3), true, flow, 400);
+    same(rt, left, Left::Nothing);
+    let granted = if flow == Flow::Held { 0 } else { 1 };
+    let cts = frame(rt, CM_TO_21, [0x11, granted, 4, 0xFF, 0xFF, 0xCA, 0xFE, 0]);
+    same(rt, answer, Some(cts));
+    state
 }
 
 #[test]
-fn a_packet_in_a_window_is_taken_in_place(rt: HostRuntime) {
-    // Four packets, in windows of three and one.
+fn a_window_is_followed_by_the_next(rt: HostRuntime) {
     let mut queue = got(&rt, TxQueue::new(rt.alloc()));
-    let (mut state, _) = begun(&rt, rt.alloc(), diagnostics(&rt), 3, 28, Flow::Open);
-    leaves_packets(&rt, &state, false);
-    take_window(&rt, &mut state, &mut queue);
-    leaves_packets(&rt, &state, true);
-    let cts = frame(&rt, CM_TO_21, [0x11, 1, 4, 0xFF, 0xFF, 0xCA, 0xFE, 0]);
-    same(&rt, queue.pop(), Some(cts));
-    takes(
-        &rt,
-        &mut state,
-        &mut queue,
-        (4, true, Flow::Open, 500, false),
-    );
-    let (bytes, _) = complete(&rt, step(&rt, state, &packet(4), true, Flow::Open, 500)).given();
+    let state = end_of_window(&rt, rt.alloc(), &mut queue, Flow::Open);
+    same(&rt, (state.is_due(1649), state.is_due(1650)), (false, true));
+    let (bytes, _) = completed(&rt, state, &mut queue, &packet(4), Flow::Open, 500).given();
     same(&rt, bytes.len(), 28);
     same(&rt, bytes.last(), Some(&28));
+}
+
+// Its timer fires, and this is queued.
+fn fires(
+    rt: &impl Abort,
+    state: &mut Receiver,
+    queue: &mut TxQueue,
+    flow: Flow,
+    now: u64,
+) -> (Left, Option<Frame>) {
+    holds(rt, queue.is_empty());
+    (state.fire(flow, now, queue), queue.pop())
+}
+
+#[test]
+fn a_hold_ends_where_the_receiver_stands(rt: HostRuntime) {
+    let mut queue = got(&rt, TxQueue::new(rt.alloc()));
+    let mut state = end_of_window(&rt, rt.alloc(), &mut queue, Flow::Held);
+    same(&rt, (state.is_due(899), state.is_due(900)), (false, true));
+    let hold = frame(&rt, CM_TO_21, [0x11, 0, 4, 0xFF, 0xFF, 0xCA, 0xFE, 0]);
+    let cts = frame(&rt, CM_TO_21, [0x11, 1, 4, 0xFF, 0xFF, 0xCA, 0xFE, 0]);
+    same(
+        &rt,
+        fires(&rt, &mut state, &mut queue, Flow::Held, 900),
+        (Left::Nothing, Some(hold)),
+    );
+    same(
+        &rt,
+        fires(&rt, &mut state, &mut queue, Flow::Open, 1400),
+        (Left::Nothing, Some(cts)),
+    );
+    let timeout = Left::Abort(AbortReason::Timeout);
+    same(
+        &rt,
+        fires(&rt, &mut state, &mut queue, Flow::Open, 2650),
+        (timeout, None),
+    );
+    shows(&rt, state.end(AbortReason::Timeout), CM_TO_21, abort(3));
 }
 
 // What packet `last` leads to at tick 200, after packet 1 of three at tick 100, in windows of two.
@@ -309,6 +362,8 @@ fn a_session_is_closed_aborted_or_overrun(rt: HostRuntime) {
         shows(&rt, closed, CM_TO_21, abort(2));
         new_session(&rt, rt.alloc(), flow).abort();
         new_session(&rt, rt.alloc(), flow).overrun();
+        new_session(&rt, rt.alloc(), flow).into_receiver().abort();
+        new_session(&rt, rt.alloc(), flow).into_receiver().overrun();
     }
 }
 

@@ -1,16 +1,16 @@
 //! Exact frames of extended exchanges, that calls succeed, and that nothing but a call lets a state go.
 use crate::checks::{got, holds, same};
-use crate::session::frames::{frame, heard, pgn, wire_pgn};
-use crate::session::received::{aborted, answers, complete, goes_on, on};
+use crate::session::frames::{frame, pgn, wire_pgn};
+use crate::session::received::{aborted, answers, completed, goes_on, taken};
 use bus_frame::Frame;
 use etp_session::{InState, OutState, Received, accept, begin};
 use pgn_ids::Address;
-use responder::{Flow, Peer};
+use responder::{Flow, Left, Peer, Receiver};
 use seg_cut::{Join, packet, packets};
 use std::alloc::{AllocError, Global};
 use std::process::Abort;
 use tp_wire::constants::{CONN_ABORT, ETP_CTS, ETP_EOMA, ETP_MAX_SIZE, ETP_MAX_WINDOW, ETP_RTS};
-use tp_wire::{CmFrame, Kind, Wire};
+use tp_wire::{AbortReason, CmFrame, Kind, Wire};
 use tx_queue::TxQueue;
 
 const FECA: u32 = 0xFECA;
@@ -60,26 +60,30 @@ fn begun_open(rt: &impl Abort, alloc: Global) -> InState {
     state
 }
 
-// Prepares and takes. Where memory is refused nothing has changed, and the same call succeeds when it is made again.
+// Prepares and takes. Where memory is refused the same call succeeds when it is made again.
 fn take(rt: &impl Abort, mut state: InState, wire: &Wire, flow: Flow) -> Received {
-    let memory = state.memory();
     if state.prepare(wire, true, flow).is_err() {
-        same(rt, state.memory(), memory);
         got(rt, state.prepare(wire, true, flow));
     }
     state.step(wire, true, flow, 0)
 }
 
-// Takes a frame in place, with room. A frame that is queued is the only one.
-fn take_in_place(
+// Takes a frame where the receiver stands, with room. Where memory is refused nothing has changed, and the same call succeeds when it is
+// made again.
+fn takes(
     rt: &impl Abort,
-    state: &mut InState,
+    state: &mut Receiver,
+    queue: &mut TxQueue,
     wire: &Wire,
     now: u64,
-    queue: &mut TxQueue,
-) -> bool {
-    holds(rt, queue.is_empty());
-    state.take_in_place(&heard(wire), true, Flow::Open, now, queue)
+) -> (Left, Option<Frame>) {
+    let memory = state.memory();
+    let (left, answer) = taken(rt, state, queue, wire, true, Flow::Open, now);
+    if left != Left::NoMemory {
+        return (left, answer);
+    }
+    same(rt, (state.memory(), answer), (memory, None));
+    taken(rt, state, queue, wire, true, Flow::Open, now)
 }
 
 // It is due at this tick, and not at the one before.
@@ -91,7 +95,7 @@ fn falls_due(rt: &impl Abort, state: &InState, now: u64) {
     );
 }
 
-fn has_memory(rt: &impl Abort, state: &InState, memory: usize) {
+fn has_memory(rt: &impl Abort, state: &Receiver, memory: usize) {
     same(rt, state.memory(), memory);
 }
 
@@ -109,7 +113,7 @@ fn dpo_at(rt: &impl Abort, count: u32, k: u32) -> Wire {
 }
 
 // A packet is that which makes the message whole, or isn't.
-fn completes(rt: &impl Abort, state: &InState, message: &[u8], packet: &Wire, is_last: bool) {
+fn completes(rt: &impl Abort, state: &Receiver, message: &[u8], packet: &Wire, is_last: bool) {
     same(rt, state.size() as usize, message.len());
     same(rt, state.completes(packet), is_last);
 }
@@ -118,24 +122,25 @@ fn completes(rt: &impl Abort, state: &InState, message: &[u8], packet: &Wire, is
 fn take_to_last(
     rt: &impl Abort,
     message: &[u8],
-    mut state: InState,
+    state: &mut Receiver,
+    queue: &mut TxQueue,
     mut cts: Frame,
-) -> (InState, Frame, Wire) {
+) -> (Frame, Wire) {
     holds(rt, message.len() <= ETP_MAX_SIZE as usize);
     let count = packets(message.len() as u32);
     let mut dpo = dpo_at(rt, count, 1);
     for k in 1..count {
         if k % 64 == 1 {
             dpo = dpo_at(rt, count, k);
-            state = goes_on(rt, take(rt, state, &dpo, Flow::Open));
+            same(rt, takes(rt, state, queue, &dpo, 0), (Left::Nothing, None));
         }
         let packet = data_at(rt, message, k);
-        completes(rt, &state, message, &packet, false);
-        let (next, out) = on(rt, take(rt, state, &packet, Flow::Open));
-        state = next;
-        cts = out.unwrap_or(cts);
+        completes(rt, state, message, &packet, false);
+        let (left, answer) = takes(rt, state, queue, &packet, 0);
+        same(rt, (k, left), (k, Left::Nothing));
+        cts = answer.unwrap_or(cts);
     }
-    (state, cts, dpo)
+    (cts, dpo)
 }
 
 // The whole exchange of the message whose bytes are their places, from 1, with this last DPO and packet. The last CTS, and the end of message
@@ -148,13 +153,15 @@ fn exchange(
     last_packet: &Wire,
 ) -> (Frame, Frame) {
     let message = got(rt, places(alloc, size));
+    let mut queue = got(rt, TxQueue::new(alloc));
     let (state, cts) = begun(rt, alloc, size, Flow::Open);
-    let (state, cts, dpo) = take_to_last(rt, message.as_slice(), state, cts);
+    let mut state = state.into_receiver();
+    let (cts, dpo) = take_to_last(rt, message.as_slice(), &mut state, &mut queue, cts);
     same(rt, &dpo, last_dpo);
     let packet = data_at(rt, message.as_slice(), packets(size));
     same(rt, &packet, last_packet);
     completes(rt, &state, message.as_slice(), &packet, true);
-    let (given, end) = complete(rt, take(rt, state, &packet, Flow::Open)).given();
+    let (given, end) = completed(rt, state, &mut queue, &packet, Flow::Open, 0).given();
     same(rt, given.as_slice(), message.as_slice());
     (cts, end)
 }
@@ -214,37 +221,34 @@ fn first_window(rt: &impl Abort, state: InState, flow: Flow) -> Received {
     take(rt, state, &data(64, [0; 7]), flow)
 }
 
-fn take_three(rt: &impl Abort, state: &mut InState, queue: &mut TxQueue) {
-    for (wire, now, is_taken) in [
+fn take_three(rt: &impl Abort, state: &mut Receiver, queue: &mut TxQueue) {
+    let wrong = Left::Abort(AbortReason::Other);
+    for (wire, now, left) in [
         // Packets that no DPO has announced, and a DPO past what was granted.
-        (data(1, [0; 7]), 50, false),
-        (dpo(rt, 3, 1), 50, false),
-        (dpo(rt, 3, 0), 60, true),
-        (data(1, [0; 7]), 100, true),
-        (data(2, [0; 7]), 200, true),
+        (data(1, [0; 7]), 50, wrong),
+        (dpo(rt, 3, 1), 50, wrong),
+        (dpo(rt, 3, 0), 60, Left::Nothing),
+        (data(1, [0; 7]), 100, Left::Nothing),
+        (data(2, [0; 7]), 200, Left::Nothing),
         // A packet that has come and one that is skipped change nothing.
-        (data(2, [0; 7]), 300, false),
-        (data(4, [0; 7]), 300, false),
+        (data(2, [0; 7]), 300, Left::Nothing),
+        (data(4, [0; 7]), 300, wrong),
     ] {
-        same(rt, take_in_place(rt, state, &wire, now, queue), is_taken);
+        same(rt, takes(rt, state, queue, &wire, now), (left, None));
     }
 }
 
 #[test]
-fn packets_in_a_window_are_taken_in_place(rt: HostRuntime) {
+fn packets_in_a_window_are_taken(rt: HostRuntime) {
     let mut queue = got(&rt, TxQueue::new(rt.alloc()));
-    let mut state = begun_open(&rt, rt.alloc());
+    let mut state = begun_open(&rt, rt.alloc()).into_receiver();
     take_three(&rt, &mut state, &mut queue);
-    falls_due(&rt, &state, 950);
-    // Where its memory is refused, nothing changes, and the next try finds it.
-    let third = data(3, [0; 7]);
-    let granted = take_in_place(&rt, &mut state, &third, 400, &mut queue)
-        || take_in_place(&rt, &mut state, &third, 400, &mut queue);
-    holds(&rt, granted);
+    same(&rt, (state.is_due(949), state.is_due(950)), (false, true));
+    let cts = from_35(&rt, ETP_CTS, [0x40, 4, 0, 0]);
+    let third = takes(&rt, &mut state, &mut queue, &data(3, [0; 7]), 400);
+    same(&rt, third, (Left::Nothing, Some(cts)));
     has_memory(&rt, &state, 67 * 7);
     state.overrun();
-    let cts = from_35(&rt, ETP_CTS, [0x40, 4, 0, 0]);
-    same(&rt, queue.pop(), Some(cts));
 }
 
 #[test]
@@ -252,17 +256,15 @@ fn old_offset(rt: HostRuntime) {
     let state = begun_open(&rt, rt.alloc());
     let (state, cts) = answers(&rt, first_window(&rt, state, Flow::Open));
     same(&rt, cts, from_35(&rt, ETP_CTS, [0x40, 0x41, 0, 0]));
-    let state = goes_on(&rt, take(&rt, state, &data(64, [0; 7]), Flow::Open));
+    let state = goes_on(&rt, take(&rt, state, &data(64, [0; 7]), Flow::Open)).into_receiver();
     has_memory(&rt, &state, 2 * 64 * 7);
-    let ended = aborted(&rt, take(&rt, state, &data(65, [0; 7]), Flow::Open));
-    is_abort(&rt, ended, 250);
+    let ended = take(&rt, state.into_state(), &data(65, [0; 7]), Flow::Open);
+    is_abort(&rt, aborted(&rt, ended), 250);
 }
 
 // What a timer leads to, where its step needs no more memory than there is at the second try.
 fn fire(rt: &impl Abort, mut state: InState, flow: Flow, now: u64) -> Received {
-    let memory = state.memory();
     if state.prepare_expire(flow).is_err() {
-        same(rt, state.memory(), memory);
         got(rt, state.prepare_expire(flow));
     }
     state.expire(flow, now)
@@ -276,11 +278,32 @@ fn hold(rt: HostRuntime) {
     let (state, second) = answers(&rt, fire(&rt, state, Flow::Held, 500));
     same(&rt, second, first);
     falls_due(&rt, &state, 1000);
-    has_memory(&rt, &state, 64 * 7);
     let (state, cts) = answers(&rt, fire(&rt, state, Flow::Open, 1000));
     same(&rt, cts, from_35(&rt, ETP_CTS, [0x40, 0x41, 0, 0]));
-    same(&rt, state.peer().from(), Address(0x21));
     is_abort(&rt, state.close(), 2);
+}
+
+// Where memory is refused nothing has changed, and the hold ends once it is there.
+#[test]
+fn hold_ends_where_the_receiver_stands(rt: HostRuntime) {
+    let mut queue = got(&rt, TxQueue::new(rt.alloc()));
+    let state = begun_open(&rt, rt.alloc());
+    let (state, hold) = answers(&rt, first_window(&rt, state, Flow::Held));
+    same(&rt, hold, from_35(&rt, ETP_CTS, [0, 0x41, 0, 0]));
+    let mut state = state.into_receiver();
+    has_memory(&rt, &state, 64 * 7);
+    let mut left = state.fire(Flow::Open, 500, &mut queue);
+    if left == Left::NoMemory {
+        has_memory(&rt, &state, 64 * 7);
+        holds(&rt, queue.is_empty());
+        left = state.fire(Flow::Open, 500, &mut queue);
+    }
+    same(&rt, left, Left::Nothing);
+    let cts = from_35(&rt, ETP_CTS, [0x40, 0x41, 0, 0]);
+    same(&rt, queue.pop(), Some(cts));
+    has_memory(&rt, &state, 2 * 64 * 7);
+    same(&rt, state.peer().from(), Address(0x21));
+    state.abort();
 }
 
 #[test]

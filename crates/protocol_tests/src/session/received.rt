@@ -1,7 +1,53 @@
-//! Where a step of a receiver leads. A test ends where it leads elsewhere.
+//! Where a frame leads a receiver, where it stands or by value. A test ends where it leads elsewhere.
+use crate::checks::holds;
+use crate::session::frames::heard;
 use bus_frame::Frame;
-use responder::{Finished, InState, Received};
+use responder::{Finished, Flow, InState, Left, Received, Receiver};
 use std::process::Abort;
+use tp_wire::Wire;
+use tx_queue::TxQueue;
+
+/// What a frame leaves to do where a receiver stands, and what is queued, which is all that is.
+pub(crate) fn taken(
+    rt: &impl Abort,
+    state: &mut Receiver,
+    queue: &mut TxQueue,
+    wire: &Wire,
+    room: bool,
+    flow: Flow,
+    now: u64,
+) -> (Left, Option<Frame>) {
+    holds(rt, queue.is_empty());
+    let left = state.take(&heard(wire), room, flow, now, queue);
+    let answer = queue.pop();
+    holds(rt, queue.is_empty());
+    (left, answer)
+}
+
+/// The message that a packet completes, and nothing is queued.
+pub(crate) fn completed(
+    rt: &impl Abort,
+    mut state: Receiver,
+    queue: &mut TxQueue,
+    wire: &Wire,
+    flow: Flow,
+    now: u64,
+) -> Finished {
+    holds(rt, queue.is_empty());
+    let left = state.take(&heard(wire), true, flow, now, queue);
+    holds(rt, queue.is_empty());
+    match (left, wire) {
+        (
+            Left::Message,
+            Wire::Packet {
+                kind: _,
+                sequence: _,
+                bytes,
+            },
+        ) => state.complete(bytes),
+        _ => panic!(rt; "the message is not whole"),
+    }
+}
 
 /// The session goes on, whether a frame is queued or none.
 pub(crate) fn on(rt: &impl Abort, received: Received) -> (InState, Option<Frame>) {

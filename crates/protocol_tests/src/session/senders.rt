@@ -1,11 +1,11 @@
 //! The sending side of a connection: the frames of whole exchanges, byte by byte, and that each call can succeed.
 use crate::checks::{got, holds, same};
 use bus_frame::Frame;
-use originator::{OutOver, OutState, Stepped, begin};
+use originator::{Ending, OutOver, OutState, Stepped, begin};
 use pgn_ids::{Address, Pgn};
 use std::alloc::{AllocError, Global};
 use std::process::Abort;
-use tp_wire::{CmFrame, Heard, Kind, Outcome, Wire};
+use tp_wire::{AbortReason, CmFrame, Heard, Kind, Outcome, Wire};
 use tx_queue::TxQueue;
 
 const OWN: Address = Address(0x21);
@@ -174,7 +174,7 @@ fn cts_during_a_transfer(rt: HostRuntime) {
 }
 
 #[test]
-fn cts_in_place(rt: HostRuntime) {
+fn frames_are_taken_where_the_state_stands(rt: HostRuntime) {
     let (pgn, other) = (
         got(&rt, Pgn::new(0xFECA)).field(),
         got(&rt, Pgn::new(0xFECB)).field(),
@@ -182,17 +182,38 @@ fn cts_in_place(rt: HostRuntime) {
     let mut queue = got(&rt, TxQueue::new(rt.alloc()));
     let mut state = nine_bytes_to(&rt, FOREIGN, got(&rt, Pgn::new(0xFECA)));
     let of = |granted, next, pgn| Heard::Cm(CmFrame::Cts { granted, next, pgn });
-    let others = state.take_in_place(&of(2, 1, other), 3)
-        || state.take_in_place(&of(1, 2, pgn), 3)
-        || state.take_in_place(&Heard::Request { pgn }, 3);
-    holds(&rt, !others && state.is_due(1250));
-    let held = state.take_in_place(&of(0, 1, pgn), 300);
-    holds(&rt, held && !state.is_due(1349) && state.is_due(1350));
-    let opened = state.take_in_place(&of(2, 1, pgn), 400);
-    holds(&rt, opened && !state.take_in_place(&of(2, 1, pgn), 400));
+    let all = Heard::Cm(CmFrame::EndOfMsgAck {
+        size: 9,
+        packets: 2,
+        pgn,
+    });
+    let foreign = [
+        state.take(&of(2, 1, other), 3),
+        state.take(&Heard::Request { pgn }, 3),
+        state.take(&all, 3),
+    ];
+    same(&rt, foreign, [None, None, None]);
+    let skipped = state.take(&of(1, 2, pgn), 3);
+    same(&rt, skipped, Some(Ending::Abort(AbortReason::Other)));
+    holds(&rt, !state.is_due(1249) && state.is_due(1250));
+    same(&rt, state.take(&of(0, 1, pgn), 300), None);
+    holds(&rt, !state.is_due(1349) && state.is_due(1350));
+    let granted = [
+        state.take(&of(2, 1, pgn), 400),
+        state.take(&of(2, 1, pgn), 400),
+    ];
+    same(&rt, granted, [None, None]);
+    let during = state.take(&of(1, 1, pgn), 400);
+    same(
+        &rt,
+        during,
+        Some(Ending::Abort(AbortReason::CtsDuringTransfer)),
+    );
     pump(&rt, &mut state, &NINE, 400, &mut queue);
     holds(&rt, are_both_packets(&mut queue, 0x1CEB_8021));
-    let _over = state.overrun();
+    same(&rt, state.take(&all, 500), Some(Ending::Acknowledged));
+    let over = state.end(Ending::Aborted(2));
+    same(&rt, (over.outcome, over.frame), (Outcome::Aborted(2), None));
 }
 
 #[test]

@@ -14,13 +14,12 @@ const SOURCE: Address = Address(0x21);
 
 #[test]
 fn a_broadcast_and_its_image(rt: HostRuntime) {
-    let mut queue = got(&rt, TxQueue::new(rt.alloc()));
     let (mut out, _announcement) = BamOut::begin(SOURCE, pgn(&rt, 0xFECA), 9, 0);
     let begun = out.image();
-    let went_early = out.pump_in_place(&M9, 49, &mut queue);
-    same(&rt, (went_early, begun.is_of(&out)), (false, true));
-    let went_on = out.pump_in_place(&M9, 50, &mut queue);
-    same(&rt, (went_on, begun.is_of(&out)), (true, false));
+    let early = out.take_packet(&M9, 49);
+    same(&rt, (early.is_some(), begun.is_of(&out)), (false, true));
+    let next = out.take_packet(&M9, 50);
+    same(&rt, (next.is_some(), begun.is_of(&out)), (true, false));
     same(&rt, out.image().is_of(&out), true);
     out.cancel();
 }
@@ -37,7 +36,7 @@ fn a_connection_and_its_image(rt: HostRuntime) {
     };
     let awaits_cts = state.image();
     same(&rt, awaits_cts.is_of(&state), true);
-    same(&rt, state.take_in_place(&Heard::Cm(cts), 1), true);
+    same(&rt, state.take(&Heard::Cm(cts), 1), None);
     let sends = state.image();
     same(
         &rt,

@@ -8,13 +8,13 @@ use crate::checks::{got, holds, same};
 use crate::session::frames::{heard, wire_pgn};
 use bam_session::BamIn;
 use pgn_ids::{Address, WirePgn};
-use responder::{Flow, Peer};
+use responder::{Flow, Left, Peer};
 use seg_cut::Join;
 use session_table::*;
 use std::alloc::{AllocError, Global};
 use std::process::Abort;
 use tp_wire::constants::ETP_MAX_WINDOW;
-use tp_wire::{Kind, Wire};
+use tp_wire::{AbortReason, Kind, Wire};
 use tx_queue::TxQueue;
 
 const FECA: u32 = 0xFECA;
@@ -71,14 +71,14 @@ fn connection(rt: &impl Abort, alloc: Global, pgn: WirePgn) -> Incoming {
     let mut join = Join::new(alloc, 9);
     make_room(rt, &mut join, 2);
     let (state, _cts) = tp_session::accept(Peer::new(FROM, TO, pgn), 0, join, Flow::Open, 0);
-    Incoming::Connection(state)
+    Incoming::Connection(state.into_receiver())
 }
 
 fn extended_connection(rt: &impl Abort, alloc: Global, pgn: WirePgn) -> Incoming {
     let mut join = Join::new(alloc, 1786);
     make_room(rt, &mut join, u32::from(ETP_MAX_WINDOW));
     let (state, _cts) = etp_session::accept(Peer::new(FROM, TO, pgn), join, Flow::Open, 0);
-    Incoming::Connection(state)
+    Incoming::Connection(state.into_receiver())
 }
 
 // Opens a session. Where memory is refused nothing has changed, and the same call succeeds when it is made again.
@@ -116,18 +116,29 @@ fn next_due(table: &SessionTable<u8>, now: u64) -> Option<Key> {
     table.next_due(now)
 }
 
-fn take_in_place(
+fn take(
     rt: &impl Abort,
     table: &mut SessionTable<u8>,
     key: Key,
     wire: &Wire,
     now: u64,
     queue: &mut TxQueue,
-) -> bool
+) -> Left
     ensures idle { state_at table.old key ≡ None → table.new ≡ table.old }
 {
     holds(rt, queue.is_empty());
-    table.take_in_place(key, &heard(wire), true, Flow::Open, now, queue)
+    table.take(key, &heard(wire), true, Flow::Open, now, queue)
+}
+
+fn fire(
+    rt: &impl Abort,
+    table: &mut SessionTable<u8>,
+    key: Key,
+    now: u64,
+    queue: &mut TxQueue,
+) -> Left {
+    holds(rt, queue.is_empty());
+    table.fire(key, Flow::Open, now, queue)
 }
 
 // Takes the session of a key out; it ends, and its place is still held.
@@ -144,19 +155,19 @@ fn take_out(rt: &impl Abort, table: &mut SessionTable<u8>, key: Key) -> Held
     }
 }
 
-// What a packet leads to while the session of its key is taken out; the session ends.
-fn goes_on_without(
+// What a packet leaves to do while the session of its key is taken out; the session ends.
+fn left_without(
     rt: &impl Abort,
     table: &mut SessionTable<u8>,
     key: Key,
     wire: &Wire,
     now: u64,
     queue: &mut TxQueue,
-) -> bool {
+) -> Left {
     let held = take_out(rt, table, key);
-    let out = take_in_place(rt, table, held.key(), wire, now, queue);
+    let left = take(rt, table, held.key(), wire, now, queue);
     table.end(held);
-    out
+    left
 }
 
 fn end_next(rt: &impl Abort, table: &mut SessionTable<u8>, now: u64, key: Key) {
@@ -241,59 +252,60 @@ fn new_queue(rt: &impl Abort, alloc: Global) -> TxQueue {
 }
 
 #[test]
-fn a_packet_is_taken_in_place(rt: HostRuntime) {
+fn a_packet_is_taken_where_its_session_stands(rt: HostRuntime) {
     let mut table = new_table(rt.alloc());
     let mut queue = new_queue(&rt, rt.alloc());
     let key = key(0x80, SessionKind::Broadcast);
-    same(
-        &rt,
-        take_in_place(&rt, &mut table, key, &FIRST, 100, &mut queue),
-        true,
-    );
+    let absent = take(&rt, &mut table, key, &FIRST, 100, &mut queue);
     open(&rt, rt.alloc(), &mut table, key);
+    let first = take(&rt, &mut table, key, &FIRST, 100, &mut queue);
+    let last = take(&rt, &mut table, key, &LAST, 200, &mut queue);
     same(
         &rt,
-        take_in_place(&rt, &mut table, key, &FIRST, 100, &mut queue),
-        true,
-    );
-    same(
-        &rt,
-        take_in_place(&rt, &mut table, key, &LAST, 200, &mut queue),
-        false,
+        (absent, first, last),
+        (Left::Nothing, Left::Nothing, Left::Message),
     );
     same(
         &rt,
         (next_due(&table, 849), next_due(&table, 850)),
         (None, Some(key)),
     );
-    same(
-        &rt,
-        goes_on_without(&rt, &mut table, key, &LAST, 300, &mut queue),
-        true,
-    );
+    let out = left_without(&rt, &mut table, key, &LAST, 300, &mut queue);
+    same(&rt, out, Left::Nothing);
     holds(&rt, queue.is_empty());
 }
 
-// Whether the session of a key leaves this packet, as a connection that awaits its last one does.
-fn leaves(table: &SessionTable<u8>, key: Key, wire: &Wire) -> Option<bool> {
-    let (_bound, state) = table.get(key)?;
-    Some(state.leaves(&heard(wire)))
+// The session of a key is removed, and ends by an abort or without a frame.
+fn ends(rt: &impl Abort, table: &mut SessionTable<u8>, key: Key, is_aborted: bool) {
+    match table.remove(key) {
+        Some((bound, state)) => {
+            let frame = state.end(AbortReason::Timeout);
+            same(
+                rt,
+                (bound, frame.is_some(), table.contains(key)),
+                (key.source.0, is_aborted, false),
+            );
+        }
+        None => panic!(rt; "nothing at the key"),
+    }
 }
 
 #[test]
-fn the_last_packet_is_left(rt: HostRuntime) {
-    let mut table = new_table(rt.alloc());
-    let mut queue = new_queue(&rt, rt.alloc());
-    let key = key(0x80, SessionKind::Tp);
-    same(&rt, leaves(&table, key, &LAST), None);
-    open(&rt, rt.alloc(), &mut table, key);
-    same(&rt, leaves(&table, key, &FIRST), Some(false));
-    same(
-        &rt,
-        take_in_place(&rt, &mut table, key, &FIRST, 100, &mut queue),
-        true,
-    );
-    same(&rt, leaves(&table, key, &LAST), Some(true));
+fn a_silent_session_is_to_be_ended(rt: HostRuntime) {
+    for kind in [SessionKind::Broadcast, SessionKind::Tp, SessionKind::Etp] {
+        let mut table = new_table(rt.alloc());
+        let mut queue = new_queue(&rt, rt.alloc());
+        let key = key(0x80, kind);
+        let absent = fire(&rt, &mut table, key, 1250, &mut queue);
+        open(&rt, rt.alloc(), &mut table, key);
+        let fired = fire(&rt, &mut table, key, 1250, &mut queue);
+        same(
+            &rt,
+            (absent, fired),
+            (Left::Nothing, Left::Abort(AbortReason::Timeout)),
+        );
+        ends(&rt, &mut table, key, kind != SessionKind::Broadcast);
+    }
 }
 
 #[test]
@@ -342,7 +354,7 @@ fn is_kept_until_a_packet(
     queue: &mut TxQueue,
 ) {
     same(rt, is_at(image, table, key), true);
-    same(rt, take_in_place(rt, table, key, &FIRST, 100, queue), true);
+    same(rt, take(rt, table, key, &FIRST, 100, queue), Left::Nothing);
     same(rt, is_at(image, table, key), false);
 }
 

@@ -10,7 +10,7 @@ use lane_core::*;
 use pgn_ids::Address;
 use std::alloc::Global;
 use std::process::Abort;
-use tp_wire::{CmFrame, Heard, Outcome, Wire};
+use tp_wire::{CmFrame, Heard, Outcome};
 use tx_queue::TxQueue;
 
 const FROM: Address = Address(0x21);
@@ -89,7 +89,7 @@ fn pushes(rt: &impl Abort, alloc: Global, lane: &mut Lane, last: u64) {
 }
 
 // Calls of which a test only looks at the answer: their contracts are not carried through it.
-fn overrun(lane: &mut Lane) -> LaneStep {
+fn overrun(lane: &mut Lane) -> Option<Ended> {
     lane.overrun()
 }
 
@@ -142,55 +142,66 @@ fn pump(
     ended
 }
 
-fn fire(rt: &impl Abort, lane: &mut Lane, now: u64) -> LaneStep {
+// What each other call queues, and the message that it ends, if any.
+fn fire(rt: &impl Abort, alloc: Global, lane: &mut Lane, now: u64) -> (TxQueue, Option<Ended>) {
     holds(rt, lane.is_due(now));
-    lane.fire(now)
+    let mut queue = got(rt, TxQueue::new(alloc));
+    let ended = lane.fire(now, &mut queue);
+    (queue, ended)
 }
 
-fn hear(lane: &mut Lane, frame: CmFrame, now: u64) -> LaneStep {
-    lane.hear(&Wire::Cm(frame), now)
+fn hear(
+    rt: &impl Abort,
+    alloc: Global,
+    lane: &mut Lane,
+    frame: CmFrame,
+    now: u64,
+) -> (TxQueue, Option<Ended>) {
+    let mut queue = got(rt, TxQueue::new(alloc));
+    let ended = lane.hear(&Heard::Cm(frame), now, &mut queue);
+    (queue, ended)
 }
 
-fn take_in_place(lane: &mut Lane, frame: CmFrame, now: u64) -> bool {
-    lane.take_in_place(&Heard::Cm(frame), now)
+fn cancel(
+    rt: &impl Abort,
+    alloc: Global,
+    lane: &mut Lane,
+    number: u64,
+) -> (TxQueue, Option<Ended>) {
+    let mut queue = got(rt, TxQueue::new(alloc));
+    let ended = lane.cancel(number, &mut queue);
+    (queue, ended)
 }
 
-fn cancel(rt: &impl Abort, lane: &mut Lane, number: u64) -> LaneStep {
-    lane.cancel(number).expect(rt, "such a message")
+// A call queues nothing and ends nothing.
+fn is_still(rt: &impl Abort, left: (TxQueue, Option<Ended>)) {
+    let (mut queue, ended) = left;
+    same(rt, (queue.pop(), ended), (None, None));
 }
 
-// A step queues nothing and ends nothing.
-fn is_still(rt: &impl Abort, step: LaneStep) {
-    let still = LaneStep {
-        frame: None,
-        ended: None,
-    };
-    same(rt, step, still);
+// A call ends a message, and queues nothing.
+fn ends(rt: &impl Abort, left: (TxQueue, Option<Ended>), number: u64, outcome: Outcome) {
+    let (mut queue, ended) = left;
+    same(
+        rt,
+        (queue.pop(), ended),
+        (None, Some(Ended { number, outcome })),
+    );
 }
 
-// A step ends a message, and queues nothing.
-fn ends(rt: &impl Abort, step: LaneStep, number: u64, outcome: Outcome) {
-    let end = LaneStep {
-        frame: None,
-        ended: Some(Ended { number, outcome }),
-    };
-    same(rt, step, end);
-}
-
-// A step ends a message, and queues its abort.
+// A call ends a message, and queues only its abort.
 fn ends_by_abort(
     rt: &impl Abort,
-    step: LaneStep,
+    left: (TxQueue, Option<Ended>),
     id: u32,
     reason: u8,
     number: u64,
     outcome: Outcome,
 ) {
-    let end = LaneStep {
-        frame: Some(frame(rt, id, &abort(reason))),
-        ended: Some(Ended { number, outcome }),
-    };
-    same(rt, step, end);
+    let (mut queue, ended) = left;
+    let abort = frame(rt, id, &abort(reason));
+    same(rt, (queue.pop(), queue.pop()), (Some(abort), None));
+    same(rt, ended, Some(Ended { number, outcome }));
 }
 
 // A pump only queues this frame.
@@ -205,12 +216,10 @@ fn requests(rt: &impl Abort, alloc: Global, lane: &mut Lane, now: u64) {
 }
 
 // What is due only queues this frame.
-fn fires(rt: &impl Abort, lane: &mut Lane, now: u64, id: u32, bytes: &[u8]) {
-    let queued = LaneStep {
-        frame: Some(frame(rt, id, bytes)),
-        ended: None,
-    };
-    same(rt, fire(rt, lane, now), queued);
+fn fires(rt: &impl Abort, alloc: Global, lane: &mut Lane, now: u64, id: u32, bytes: &[u8]) {
+    let (mut queue, ended) = fire(rt, alloc, lane, now);
+    let queued = Some(frame(rt, id, bytes));
+    same(rt, (queue.pop(), queue.pop(), ended), (queued, None, None));
 }
 
 fn fill(rt: &impl Abort, alloc: Global, lane: &mut Lane) {
@@ -274,7 +283,7 @@ fn an_image_is_that_of_its_lane(rt: HostRuntime) {
     pumps(&rt, rt.alloc(), &mut lane, 0, CM_TO_35, &RTS);
     let begun = image(&rt, rt.alloc(), &lane);
     is_image(&rt, &lane, &begun, &pushed);
-    let step = cancel(&rt, &mut lane, 1);
-    ends_by_abort(&rt, step, CM_TO_35, 250, 1, Outcome::Cancelled);
+    let left = cancel(&rt, rt.alloc(), &mut lane, 1);
+    ends_by_abort(&rt, left, CM_TO_35, 250, 1, Outcome::Cancelled);
     same(&rt, (begun.is_of(&lane), new.is_of(&lane)), (false, false));
 }

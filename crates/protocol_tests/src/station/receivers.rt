@@ -1,5 +1,6 @@
 //! Messages to all from 21, received at the ports 35.1 and 35.2. Where memory is refused, a test ends by it.
 use crate::checks::{got, holds, same};
+use crate::session::frames::heard;
 use crate::station::frames::{pgn, wire_pgn};
 use bam_session::BamIn;
 use bus_frame::Frame;
@@ -11,7 +12,7 @@ use session_table::{Incoming, Key, MAX_SESSIONS, SessionKind};
 use station_sessions::*;
 use std::alloc::Global;
 use std::process::Abort;
-use tp_wire::{Heard, Kind, Wire};
+use tp_wire::{Kind, Wire};
 use tx_queue::TxQueue;
 
 const FECA: u32 = 0xFECA;
@@ -72,23 +73,9 @@ fn receive(
     let mut told = Events::none(alloc);
     got(
         rt,
-        sessions.receive(ports, KEY, wire, true, 0, &mut queue, &mut told),
+        sessions.receive(ports, KEY, &heard(wire), true, 0, &mut queue, &mut told),
     );
     (queue.pop(), told)
-}
-
-// A frame is taken in place, or not.
-fn takes_in_place(
-    rt: &impl Abort,
-    sessions: &mut Receivers,
-    ports: &PortTable,
-    heard: &Heard<'_>,
-    queue: &mut TxQueue,
-    is_taken: bool,
-) {
-    holds(rt, queue.is_empty());
-    let taken = sessions.take_in_place(ports, KEY, heard, true, 0, queue);
-    same(rt, taken, is_taken);
 }
 
 fn fire(
@@ -99,9 +86,7 @@ fn fire(
     now: u64,
 ) -> Option<Frame> {
     let mut queue = got(rt, TxQueue::new(alloc));
-    let mut told = Events::none(alloc);
-    got(rt, sessions.fire(ports, KEY, now, &mut queue, &mut told));
-    holds(rt, told.is_empty());
+    got(rt, sessions.fire(ports, KEY, now, &mut queue));
     queue.pop()
 }
 
@@ -189,27 +174,12 @@ fn is_source(rt: &impl Abort, sessions: &Receivers, from: u8, source: Option<Add
     same(rt, sessions.next_source(from), source);
 }
 
-// The first packet is taken in place, the last one is left: with it the message is given.
 #[test]
-fn packets_are_taken_in_place(rt: HostRuntime) {
+fn sources_are_found(rt: HostRuntime) {
     let ports = two_ports(&rt, rt.alloc());
-    let mut sessions = announce(&rt, rt.alloc(), &ports);
-    let mut queue = got(&rt, TxQueue::new(rt.alloc()));
-    let first = Heard::Packet {
-        kind: Kind::Tp,
-        sequence: 1,
-        bytes: &[1, 2, 3, 4, 5, 6, 7],
-    };
-    let last = Heard::Packet {
-        kind: Kind::Tp,
-        sequence: 2,
-        bytes: &[8, 9, 255, 255, 255, 255, 255],
-    };
+    let sessions = announce(&rt, rt.alloc(), &ports);
     is_source(&rt, &sessions, 0x21, Some(KEY.source));
     is_source(&rt, &sessions, 0x22, None);
-    takes_in_place(&rt, &mut sessions, &ports, &first, &mut queue, true);
-    takes_in_place(&rt, &mut sessions, &ports, &last, &mut queue, false);
-    gives(&rt, rt.alloc(), &mut sessions, &ports, &LAST, &[1, 2]);
 }
 
 #[test]

@@ -1,10 +1,10 @@
-//! Readers and writers that fail, and wrong lines.
+//! Readers and writers that fail, and a wrong line where memory is refused.
 use crate::checks::{got, same};
 use crate::readers::Breaking;
-use bus_node::{Node, run_node};
+use bus_node::{LineCounts, Node, run_node};
 use log_text::Iface;
 use pgn_ids::Address;
-use script_commands::{Cause, Fault};
+use script_commands::Cause;
 use std::alloc::Global;
 use std::io;
 use std::io::{BufReader, Error, ErrorKind, Write};
@@ -61,14 +61,18 @@ fn a_failed_write_ends_the_run(rt: HostRuntime) {
 }
 
 #[test]
-fn a_wrong_line_ends_the_run(rt: HostRuntime) {
+fn a_wrong_line_is_passed_over(rt: HostRuntime) {
     let alloc = rt.alloc();
     let mut node = node(&rt, alloc);
-    let mut out = Vec::new(alloc);
-    let ran = run_node(alloc, &mut node, &mut b"\nstop".as_slice(), &mut out);
-    let fault = ran.fault.expect(&rt, "a fault");
-    if fault.cause != Cause::OutOfMemory {
-        same(&rt, fault.cause, Cause::Fault(Fault::UnknownCommand));
-        same(&rt, fault.line, 2);
+    let mut out = got(&rt, Vec::with_capacity(alloc, 64));
+    let ran = run_node(alloc, &mut node, &mut b"\nstop\n".as_slice(), &mut out);
+    if let Some(fault) = ran.fault {
+        same(&rt, fault.cause, Cause::OutOfMemory);
+        return;
+    }
+    same(&rt, ran.counts, LineCounts { lines: 2, wrong: 1 });
+    same(&rt, ran.status(), 1);
+    if !ran.memory_refused {
+        same(&rt, out.as_slice(), b"line 2: unknown command\n".as_slice());
     }
 }

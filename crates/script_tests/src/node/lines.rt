@@ -87,6 +87,12 @@ fn lines_without_a_frame_are_passed(rt: HostRuntime) {
 fn the_time_goes_on(rt: HostRuntime) {
     let alloc = rt.alloc();
     means(&rt, alloc, "now 12.000345", &Ok(NodeLine::Now(12_000_345)));
+    means(
+        &rt,
+        alloc,
+        "now 12.000345\r",
+        &Ok(NodeLine::Now(12_000_345)),
+    );
     is_fault(&rt, alloc, "now 12.345", Fault::BadWord);
     is_fault(&rt, alloc, "now", Fault::WrongNumberOfWords)
 }

@@ -94,6 +94,7 @@ fn a_node_is_asked_for_by_its_address(rt: HostRuntime) {
         interface: None,
         ports: Vec::new(alloc),
         quiet: 700,
+        strict: false,
     });
     asks(&rt, alloc, &["j1939bus", "node", "2a"], &node)
 }
@@ -121,6 +122,7 @@ fn a_node_is_asked_for_with_its_ports_and_its_quiet(rt: HostRuntime) {
         interface: Some(got(&rt, format!(in alloc; "vcan0"))),
         ports,
         quiet: 0,
+        strict: true,
     });
     let words = [
         "j1939bus",
@@ -132,6 +134,7 @@ fn a_node_is_asked_for_with_its_ports_and_its_quiet(rt: HostRuntime) {
         "--quiet",
         "0",
         "2A",
+        "--strict",
         "--interface",
         "vcan0",
     ];

@@ -4,7 +4,7 @@ ghost use Rattle.session_table.specs.declared.incoming.Incoming.TheVariants.{Bro
 
 use super::Incoming;
 use bam_session::BamInImage;
-use responder::InStateImage;
+use responder::ReceiverImage;
 use std::alloc::{AllocError, Global};
 use std::marker::Model;
 
@@ -18,7 +18,7 @@ pub struct IncomingImage {
 #[derive(Debug, Drop)]
 enum StateImage {
     Broadcast(BamInImage),
-    Connection(InStateImage),
+    Connection(ReceiverImage),
 }
 
 impl Model for IncomingImage {
@@ -67,7 +67,7 @@ fn is_broadcast(image: &BamInImage, state: &Incoming) -> bool
 }
 
 // Whether a state is that of a connection with this image.
-fn is_connection(image: &InStateImage, state: &Incoming) -> bool
+fn is_connection(image: &ReceiverImage, state: &Incoming) -> bool
     ensures { IsTrue result ↔ (Connection image.now ≡ state.now) }
 {
     match state {

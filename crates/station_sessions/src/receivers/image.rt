@@ -3,8 +3,7 @@ ghost use Rattle.std.specs.Prelude.{◌≡◌, ◌↔◌, Some, IsTrue, IfOk};
 ghost use Rattle.std.specs.FinMap as map;
 ghost use Rattle.station_sessions.specs.Receiving.{NoneHeld};
 
-use super::Receivers;
-use crate::steps::Table;
+use super::{Receivers, Table};
 use port_table::PortSet;
 use session_table::{Incoming, IncomingImage, Key, TableImage};
 use std::alloc::AllocError;

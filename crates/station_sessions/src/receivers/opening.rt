@@ -9,7 +9,7 @@ ghost use Rattle.responder.specs.Room.{first_join as first_join_of};
 ghost use Rattle.responder.specs.declared.flow.Flow.TheVariants.{Open, Held};
 ghost use Rattle.tp_wire.specs.declared.constants.TheConstants.{ETP_MAX_WINDOW};
 ghost use Rattle.tp_wire.specs.Sizes.{IsSizeOf};
-ghost use Rattle.station_sessions.specs.Quiet.{LeavesQuietly};
+ghost use Rattle.station_sessions.specs.Receiving.{LeavesQuietly};
 ghost use Rattle.tx_queue.specs.Queue.{queue_limit};
 ghost use Rattle.tp_wire.specs.declared.wire.Kind.TheVariants.{Tp, Etp};
 

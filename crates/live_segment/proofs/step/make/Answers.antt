@@ -11,7 +11,7 @@ use Rattle.live_segment.proofs.step.make.Goals as goal
 pub returns-clause-follows : goal.returns-clause-follows
 returns-clause-follows c addresses steps h =
     let old = c.args.segment.now in
-    let new = c.apply_tried.new.self in
+    let new = c.apply.new.self in
     let call = c.args.call in
-    on_ok (λ (r : Reply). applied old call ≡ (new, r)) (λ (r : Reply). Follows old call new r) c.apply_tried.result
-    (λ r e. subst (λ (x : Segment × Reply). Follows old call x.0 x.1) e (follows addresses steps old (stands_drifts addresses steps old h) call)) c.apply_tried.ensures.ok
+    on_ok (λ (r : Reply). applied old call ≡ (new, r)) (λ (r : Reply). Follows old call new r) c.apply.result
+    (λ r e. subst (λ (x : Segment × Reply). Follows old call x.0 x.1) e (follows addresses steps old (stands_drifts addresses steps old h) call)) c.apply.ensures.ok

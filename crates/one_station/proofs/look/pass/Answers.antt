@@ -1,7 +1,5 @@
-use Rattle.segment_law.specs.declared.call.Call.TheVariants.{Take}
-use Rattle.std.proofs.Common.{true}
-use Rattle.one_station.proofs.Made.{tells_quietly}
+use Rattle.one_station.proofs.Own.{passed_own}
 use Rattle.one_station.proofs.look.pass.Goals as goal
 
 pub returns : goal.returns
-returns c = tells_quietly c.args.segment.now c.apply_in_place.new.self (Take c.args.station true) c.if-not-apply_in_place.ensures.applied c.if-not-apply_in_place.ensures.stands
+returns c = passed_own c.args.segment.now c.apply.new.self c.args.station c.in-Ok.field-0 c.requires c.in-Ok.ensures.ok

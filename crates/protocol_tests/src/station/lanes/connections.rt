@@ -13,14 +13,14 @@ use std::process::Abort;
 use tp_wire::{CmFrame, Outcome};
 
 // A CTS ends a message by an abort to 80.
-fn cts_ends(rt: &impl Abort, lane: &mut Lane, granted: u8, next: u8, reason: u8) {
-    let step = hear(lane, cts(rt, granted, next), 0);
-    ends_by_abort(rt, step, CM_TO_80, reason, 1, Outcome::Aborted(reason));
+fn cts_ends(rt: &impl Abort, alloc: Global, lane: &mut Lane, granted: u8, next: u8, reason: u8) {
+    let left = hear(rt, alloc, lane, cts(rt, granted, next), 0);
+    ends_by_abort(rt, left, CM_TO_80, reason, 1, Outcome::Aborted(reason));
 }
 
 // A CTS for both packets is followed by them.
 fn sends_both(rt: &impl Abort, alloc: Global, lane: &mut Lane, packets: &[Frame]) {
-    is_still(rt, hear(lane, cts(rt, 2, 1), 0));
+    is_still(rt, hear(rt, alloc, lane, cts(rt, 2, 1), 0));
     same(rt, pump(rt, alloc, lane, 0, packets), None);
 }
 
@@ -36,7 +36,7 @@ fn packets_are_sent_again_twice(rt: HostRuntime) {
     for _ in 0..3 {
         sends_both(&rt, rt.alloc(), &mut lane, &packets);
     }
-    cts_ends(&rt, &mut lane, 2, 1, 5);
+    cts_ends(&rt, rt.alloc(), &mut lane, 2, 1, 5);
     requests(&rt, rt.alloc(), &mut lane, 0);
 }
 
@@ -45,7 +45,7 @@ fn a_packet_cannot_be_skipped(rt: HostRuntime) {
     let mut lane = lane_to(&rt, rt.alloc(), Address(0x80));
     push(&rt, rt.alloc(), &mut lane, 1);
     pumps(&rt, rt.alloc(), &mut lane, 0, CM_TO_80, &RTS);
-    cts_ends(&rt, &mut lane, 1, 2, 250);
+    cts_ends(&rt, rt.alloc(), &mut lane, 1, 2, 250);
 }
 
 fn places(alloc: Global, len: u32) -> Result<Vec<u8>, AllocError> {
@@ -67,8 +67,8 @@ fn begins_window(rt: &impl Abort, alloc: Global, lane: &mut Lane, dpo: Frame) {
     same(rt, ended, None);
 }
 
-fn changes_nothing(rt: &impl Abort, lane: &mut Lane, frame: CmFrame) {
-    is_still(rt, hear(lane, frame, 0));
+fn changes_nothing(rt: &impl Abort, alloc: Global, lane: &mut Lane, frame: CmFrame) {
+    is_still(rt, hear(rt, alloc, lane, frame, 0));
 }
 
 // An abort of another message, or of another protocol, is none of this one.
@@ -83,10 +83,12 @@ fn an_abort_is_that_of_its_message(rt: HostRuntime) {
     same(&rt, (lane.from(), lane.to()), (FROM, Address(0x35)));
     push(&rt, rt.alloc(), &mut lane, 1);
     pumps(&rt, rt.alloc(), &mut lane, 0, CM_TO_35, &RTS);
-    changes_nothing(&rt, &mut lane, other);
-    changes_nothing(&rt, &mut lane, CmFrame::EtpAbort { reason: 2, pgn });
-    let step = hear(&mut lane, CmFrame::Abort { reason: 2, pgn }, 0);
-    ends(&rt, step, 1, Outcome::Aborted(2));
+    changes_nothing(&rt, rt.alloc(), &mut lane, other);
+    let of_etp = CmFrame::EtpAbort { reason: 2, pgn };
+    changes_nothing(&rt, rt.alloc(), &mut lane, of_etp);
+    let own = CmFrame::Abort { reason: 2, pgn };
+    let left = hear(&rt, rt.alloc(), &mut lane, own, 0);
+    ends(&rt, left, 1, Outcome::Aborted(2));
 }
 
 #[test]
@@ -101,9 +103,13 @@ fn an_overrun_leaves_doubt(rt: HostRuntime) {
         next: 1,
         pgn: wire_pgn(&rt, FECA),
     };
-    changes_nothing(&rt, &mut lane, cts);
+    changes_nothing(&rt, rt.alloc(), &mut lane, cts);
     let dpo = frame(&rt, 0x1CC8_3521, &[0x16, 0x40, 0, 0, 0, 0xCA, 0xFE, 0]);
     begins_window(&rt, rt.alloc(), &mut lane, dpo);
-    ends(&rt, overrun(&mut lane), 1, Outcome::Overrun);
+    let end = Ended {
+        number: 1,
+        outcome: Outcome::Overrun,
+    };
+    same(&rt, overrun(&mut lane), Some(end));
     pumps(&rt, rt.alloc(), &mut lane, 0, REQUEST_TO_35, &[0, 0xEC, 0]);
 }

@@ -51,15 +51,6 @@ fn pops(rt: &impl Abort, station: &mut Station, shown: &Shown) {
     same(rt, station.pop(), Some(frame));
 }
 
-// A frame is taken in place, or not. One that finds no memory is left, and is tried again.
-fn takes_in_place(rt: &impl Abort, station: &mut Station, shown: &Shown, is_taken: bool) {
-    let frame = frame_of(rt, shown);
-    holds(rt, station.take_refusal().is_none());
-    let taken = station.take_in_place(&frame, true, 0);
-    let again = is_taken && !taken && station.take_in_place(&frame, true, 0);
-    same(rt, taken || again, is_taken);
-}
-
 // A last packet is said to be one of nine bytes for port 1.
 fn wants_nine(rt: &impl Abort, station: &Station, shown: &Shown) {
     let (ports, size) = station.wants(&frame_of(rt, shown));
@@ -199,12 +190,10 @@ const ABORT: Shown = (
 
 // A test's steps are a function of their own, which owns nothing: what a test owns takes its part of the proof at each of them.
 fn give_a_message(rt: &impl Abort, station: &mut Station) {
-    takes_in_place(rt, station, &OTHER_TRAFFIC, true);
-    takes_in_place(rt, station, &NO_PACKET, false);
-    takes_in_place(rt, station, &RTS, true);
-    pops(rt, station, &CTS);
-    takes_in_place(rt, station, &FIRST, true);
-    takes_in_place(rt, station, &LAST, false);
+    is_silent(rt, station, &OTHER_TRAFFIC);
+    is_malformed(rt, station, &NO_PACKET);
+    answers(rt, station, &RTS, &CTS);
+    is_silent(rt, station, &FIRST);
     wants_nine(rt, station, &LAST);
     gives_nine(rt, station, &LAST);
     pops(rt, station, &END);

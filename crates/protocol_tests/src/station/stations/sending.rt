@@ -37,9 +37,12 @@ fn is_unsent(
     }
 }
 
-// What comes next to all is queued where the station stands, or not: so many frames are then queued.
-fn pumps_in_place(rt: &impl Abort, station: &mut Station, now: u64, is_pumped: bool, len: usize) {
-    same(rt, station.pump_in_place(Address::GLOBAL, now), is_pumped);
+// What comes next to all is queued, or not yet: so many outcomes are told, and so many frames are then queued.
+fn pumps_to_all(rt: &impl Abort, station: &mut Station, now: u64, told: Option<usize>, len: usize) {
+    match station.pump(Address::GLOBAL, now) {
+        Ok(events) => same(rt, Some(events.len()), told),
+        Err(cause) => same(rt, (cause, None), (Refused::NotYet, told)),
+    }
     same(rt, station.queue_len(), len);
 }
 
@@ -108,16 +111,16 @@ fn only_nodes_have_stations(rt: HostRuntime) {
     }
 }
 
-// The announcement of a message to all and its first packet are queued where the station stands; its last packet isn't.
+// The announcement of a message to all and its packets are queued; the last one ends it.
 fn pump_to_all(rt: &impl Abort, station: &mut Station) {
-    pumps_in_place(rt, station, 0, true, 1);
-    pumps_in_place(rt, station, 49, false, 1);
-    pumps_in_place(rt, station, 50, true, 2);
-    pumps_in_place(rt, station, 100, false, 2);
+    pumps_to_all(rt, station, 0, Some(0), 1);
+    pumps_to_all(rt, station, 49, None, 1);
+    pumps_to_all(rt, station, 50, Some(0), 2);
+    pumps_to_all(rt, station, 100, Some(1), 3);
 }
 
 #[test]
-fn packets_are_pumped_where_their_station_stands(rt: HostRuntime) {
+fn a_message_to_all_is_pumped(rt: HostRuntime) {
     let mut station = new_station(&rt, rt.alloc(), A);
     sends(&rt, rt.alloc(), &mut station, Address::GLOBAL);
     pump_to_all(&rt, &mut station);

@@ -1,6 +1,7 @@
 use Rattle.std.proofs.Common.{◌≡◌, not, cond, length, Option, Some, None, is_some, sym, ap, ◌∙◌, arith}
 use Rattle.port_table.specs.Ports.{Ports, less_port}
 use Rattle.port_table.specs.Refusals.{closing_refusal}
+use Rattle.port_table.specs.Ports.{has_paused}
 use Rattle.port_table.specs.declared.port.Port.{Port}
 use Rattle.port_table.specs.declared.refused.Refused.{Refused}
 use Rattle.port_table.specs.declared.refused.Refused.TheVariants.{NoSuchPort}
@@ -12,6 +13,9 @@ invariant_of-self c = record {
   valid = less_port_valid _ c.args.number _ c.remove.ensures.items c.self.invariant.valid;
   room = omega (arith, c.remove.ensures.capacity, c.self.invariant.room);
   above = less_port_above c.args.number c.self.inside.ports.items _ c.remove.ensures.items c.self.invariant.above;
+  paused =
+      let same = all_stay c.self.inside.ports c.remove.new.ports c.args.number c.remove.ensures.items (sym c.len.ensures ∙ c.if-len-open.true ∙ c.len-open.ensures) in
+      c.self.invariant.paused ∙ ap has_paused (sym (c.remove.ensures.items ∙ (kept_all c.args.number c.self.inside.ports.items same).0));
 }
 
 pub returns-then-len-open-clause-refused : goal.returns-then-len-open-clause-refused
@@ -37,6 +41,7 @@ invariant_of-self-2 c = record {
   valid = less_port_valid _ c.args.number _ c.remove.ensures.items c.self.invariant.valid;
   room = omega (arith, c.remove.ensures.capacity, c.self.invariant.room);
   above = less_port_above c.args.number c.self.inside.ports.items _ c.remove.ensures.items c.self.invariant.above;
+  paused = c.is_one_paused-self-inside.ensures ∙ ap has_paused c.deref.ensures.value;
 }
 
 pub returns-clause-refused : goal.returns-clause-refused

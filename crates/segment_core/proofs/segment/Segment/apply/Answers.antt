@@ -1,21 +1,21 @@
-use Rattle.std.proofs.Common.{sym, ap, ◌∙◌, subst}
-use Rattle.std.proofs.lemmas.Result.{IfOk-weaker}
-use Rattle.segment_law.specs.Record.{StandsAt}
-use Rattle.segment_core.proofs.Kept.{said}
-use Rattle.segment_core.proofs.Records.{answered_stands, done_stands}
+use Rattle.std.proofs.Common.{◌≡◌, rules}
+use Rattle.segment_core.specs.declared.stop.Stop.TheVariants.{Refused}
+use Rattle.segment_core.proofs.Records.{done_stands, refused_stands}
 use Rattle.segment_core.proofs.segment.Segment.apply.Goals as goal
 
-pub returns-then-call_at_once-clause-stands : goal.returns-then-call_at_once-clause-stands
-returns-then-call_at_once-clause-stands c =
-    done_stands c.args.self.now c.call_at_once.new.self c.args.call c.done.result c.fits.ensures
-    (c.if-call_at_once.ensures.step ∙ ap (said c.call_at_once.new.self) (sym c.done.ensures))
+pub returns-in-Ok-clause-stands : goal.returns-in-Ok-clause-stands
+returns-in-Ok-clause-stands c = done_stands c.args.self.now c.call.new.self c.args.call c.in-Ok.reply c.fits.ensures c.in-Ok.ensures.answer
 
-pub returns-then-call_at_once-clause-headline : goal.returns-then-call_at_once-clause-headline
-returns-then-call_at_once-clause-headline c = λ addresses steps. c.the_headline_holds.ensures addresses steps _
+pub returns-in-Err-Refused-clause-stands : goal.returns-in-Err-Refused-clause-stands
+returns-in-Err-Refused-clause-stands c =
+    let is : c.in-Err-Refused.field-0 ≡ Refused c.in-Err-Refused.cause = search rules in
+    refused_stands c.args.self.now c.call.new.self c.args.call c.in-Err-Refused.cause c.in-Err-Refused.field-0 c.fits.ensures is c.in-Err-Refused.ensures.answer
 
-pub returns-clause-stands : goal.returns-clause-stands
-returns-clause-stands c = λ addresses steps h. IfOk-weaker c.apply_opening.result _ _ (λ reply is.
-    answered_stands _ _ c.args.call reply c.fits.ensures is addresses steps (subst (StandsAt addresses steps) (sym c.if-call_at_once.ensures.other) h)) c.apply_opening.ensures.ok
+pub returns-in-Ok-clause-headline : goal.returns-in-Ok-clause-headline
+returns-in-Ok-clause-headline c = λ addresses steps. c.the_headline_holds.ensures addresses steps _
 
-pub returns-clause-headline : goal.returns-clause-headline
-returns-clause-headline c = λ addresses steps. c.the_headline_holds.ensures addresses steps _
+pub returns-in-Err-Refused-clause-headline : goal.returns-in-Err-Refused-clause-headline
+returns-in-Err-Refused-clause-headline c = λ addresses steps. c.the_headline_holds.ensures addresses steps _
+
+pub returns-in-Err-OutOfMemory-clause-headline : goal.returns-in-Err-OutOfMemory-clause-headline
+returns-in-Err-OutOfMemory-clause-headline c = λ addresses steps. c.the_headline_holds.ensures addresses steps _

@@ -1,42 +1,39 @@
-use Rattle.std.proofs.Common.{◌≡◌, None, Err, refl, sym, ap, ◌∙◌, rules}
-use Rattle.segment_core.specs.Joined.{joined}
-use Rattle.segment_law.specs.Drive.{makes}
-use Rattle.segment_law.specs.declared.call.Call.TheVariants.{Pump}
-use Rattle.segment_core.specs.declared.stop.Stop.TheVariants.{Refused, OutOfMemory}
-use Rattle.segment_core.proofs.Causes.{cause_refused, no_cause_passes}
-use Rattle.segment_core.proofs.Drives.{relisted}
-use Rattle.segment_core.proofs.Steps.{pump_made, pump_stopped, gone_by}
+use Rattle.std.proofs.Common.{◌≡◌, refl, sym, ap, ◌∙◌}
+use Rattle.station_core.specs.Sending.{pumped}
+use Rattle.station_core.specs.Refusals.{pumping_refusal}
+use Rattle.segment_law.specs.Calls.{stepped, pumps}
+use Rattle.segment_core.proofs.Refusals.{pumps_are, goes_on, refuses}
+use Rattle.segment_core.proofs.Stations.{at_none}
+use Rattle.segment_core.proofs.Kept.{inside_kept, at_here, told_view, unchanged_view}
+use Rattle.segment_core.proofs.Calling.{within_here}
 use Rattle.segment_core.proofs.segment.Segment.pump_telling.Goals as goal
 
-pub returns-in-Some : goal.returns-in-Some
-returns-in-Some c = λ start d h.
-    let put = c.args.course.now.frames.items in
-    let told = joined c.args.course.now.parts.items in
-    pump_stopped start d c.args.self.now c.args.self.now put told c.args.from c.args.to (Refused c.in-Some.cause) h c.one_byte.ensures (cause_refused _ c.in-Some.cause c.in-Some.ensures, refl)
+pub returns-in_default : goal.returns-in_default
+returns-in_default c = (at_none c.args.self.now c.args.station (pumps c.args.self.now c.args.to) (sym c.place_of.ensures.value ∙ c.in_default.is), refl)
 
-pub returns-in_err-reserve : goal.returns-in_err-reserve
-returns-in_err-reserve c = λ start d h.
-    let e : c.from_residual.result ≡ Err OutOfMemory = search rules in
-    let put = c.args.course.now.frames.items in
-    let told = joined c.reserve.new.self.items in
-    gone_by start (makes d (Pump c.args.from c.args.to)) c.args.self.now put told c.from_residual.result OutOfMemory e
-    (pump_stopped start d c.args.self.now c.args.self.now put told c.args.from c.args.to OutOfMemory
-    (relisted None start d c.args.self.now put put (joined c.args.course.now.parts.items) told refl (ap joined c.reserve.ensures.items) h) c.one_byte.ensures
-    (no_cause_passes _ (sym c.in_default.is ∙ c.pump_refusal.ensures), refl))
+pub index_mut-requires : goal.index_mut-requires
+index_mut-requires c = within_here c.self.inside c.args.self.now c.in-Some.place c.self.view_is c.in-Some.ensures.within
 
-pub returns-in_err-reply : goal.returns-in_err-reply
-returns-in_err-reply c = λ start d h.
-    let e : c.from_residual-in_err-reply.result ≡ Err c.in_err-reply.field-0.0 = search rules in
-    let put = c.args.course.now.frames.items in
-    let told = joined c.reserve.new.self.items in
-    gone_by start (makes d (Pump c.args.from c.args.to)) c.pump.new.self put told c.from_residual-in_err-reply.result c.in_err-reply.field-0.0 e
-    (pump_stopped start d c.args.self.now c.pump.new.self put told c.args.from c.args.to c.in_err-reply.field-0.0
-    (relisted None start d c.args.self.now put put (joined c.args.course.now.parts.items) told refl (ap joined c.reserve.ensures.items) h) c.one_byte.ensures c.in_err-reply.ensures)
+pub invariant_of-self : goal.invariant_of-self
+invariant_of-self c =
+    inside_kept c.self.inside c.in-Some.place c.pump_telling.new.self c.index_mut.result.now c.self.invariant c.index_mut.ensures.value (ap (λ s. s.station.address) (sym c.in-Ok.ensures.ok))
 
-pub returns : goal.returns
-returns c = λ start d h.
-    let put = c.tell.new.self.frames.items in
-    let told = joined c.reserve.new.self.items in
-    pump_made start d c.args.self.now c.pump.new.self put told (joined c.tell.new.self.parts.items) c.args.from c.args.to c.in_ok-reply.reply
-    (relisted None start d c.args.self.now c.args.course.now.frames.items put (joined c.args.course.now.parts.items) told c.tell.ensures.frames (ap joined c.reserve.ensures.items) h)
-    c.one_byte.ensures c.in_ok-reply.ensures c.tell.ensures.told
+pub invariant_of-self-in-Err : goal.invariant_of-self-in-Err
+invariant_of-self-in-Err c =
+    inside_kept c.self.inside c.in-Some.place c.pump_telling.new.self c.index_mut.result.now c.self.invariant c.index_mut.ensures.value (ap (λ st. st.address) c.in-Err.ensures.err)
+
+pub returns-in-Ok : goal.returns-in-Ok
+returns-in-Ok c =
+    let now_is : c.now-now.result ≡ c.args.self.now.now = c.now-now.ensures.value ∙ ap (λ x. x.now) c.self.view_is in
+    at_here c.self.inside _ _ c.in-Some.place c.index_mut.result.now _ c.self.view_is c.in-Some.ensures.value c.in-Some.ensures.within c.index_mut.ensures.value
+    ∙ goes_on _ _ _ (pumps_are c.args.self.now c.in-Some.place c.index_mut.result.now c.args.to) (ap (pumping_refusal c.index_mut.result.now c.args.to) (sym now_is) ∙ sym c.in-Ok.ensures.refused)
+    ∙ ap (stepped c.args.self.now c.in-Some.place) (ap (pumped c.index_mut.result.now c.args.to) (sym now_is) ∙ c.in-Ok.ensures.ok)
+    ∙ told_view c.self.inside _ c.in-Some.place c.pump_telling.new.self c.pump_telling.new.told _ _ c.self.view_is c.count_told.ensures refl
+
+pub returns-in-Err : goal.returns-in-Err
+returns-in-Err c =
+    let now_is : c.now-now.result ≡ c.args.self.now.now = c.now-now.ensures.value ∙ ap (λ x. x.now) c.self.view_is in
+    refuses _ _ _ (at_here c.self.inside _ _ c.in-Some.place c.index_mut.result.now _ c.self.view_is c.in-Some.ensures.value c.in-Some.ensures.within c.index_mut.ensures.value
+    ∙ pumps_are c.args.self.now c.in-Some.place c.index_mut.result.now c.args.to) _ _ c.in-Err.cause _ c.stop_of.ensures refl
+    (unchanged_view c.self.inside _ c.in-Some.place _ c.index_mut.result.now c.self.view_is c.in-Err.ensures.err c.index_mut.ensures.value)
+    (c.in-Err.ensures.refused ∙ ap (pumping_refusal c.index_mut.result.now c.args.to) now_is)

@@ -7,7 +7,7 @@ use Rattle.segment_core.proofs.Addresses.{taken_keeps}
 use Rattle.segment_core.proofs.Refusals.{takes_are, stops}
 use Rattle.segment_core.proofs.Stations.{at_none}
 use Rattle.segment_core.proofs.Kept.{inside_kept, inside_moved, at_here, takes_is, taken_view, unchanged_view}
-use Rattle.segment_core.proofs.Calling.{within_here, cursor_here, at_any, takes_with_room}
+use Rattle.segment_core.proofs.Calling.{within_here, cursor_here, at_any, of_here, may_ask}
 use Rattle.segment_core.specs.declared.stop.Stop.TheVariants.{OutOfMemory}
 use Rattle.segment_core.proofs.segment.Segment.take_telling.Goals as goal
 
@@ -58,7 +58,10 @@ returns-in-Err-clause-answer c =
     (unchanged_view c.self.inside _ c.in-Some.at _ c.index_mut.result.now c.self.view_is c.in-Err.ensures.err c.index_mut.ensures.value)
     c.in-Err.ensures.refused
 
-pub returns-in-Err-clause-room : goal.returns-in-Err-clause-room
-returns-in-Err-clause-room c = λ e.
+pub returns-in-Err-clause-memory : goal.returns-in-Err-clause-memory
+returns-in-Err-clause-memory c = λ e.
     let stops : c.stop_of.result ≡ OutOfMemory = cc in
-    takes_with_room c.index_mut.result.now c.in-Err.cause c.args.room c.in-Err.ensures.refused c.in-Err.ensures.room (sym c.stop_of.ensures ∙ stops)
+    may_ask c.args.self.now c.args.station c.in-Some.at c.args.room c.index_mut.result.now c.in-Some-peek.frame.now c.in-Err.cause c.in-Some.ensures.value
+    (of_here c.self.inside c.args.self.now c.args.station c.in-Some.at c.index_mut.result.now c.self.view_is c.in-Some.ensures.value c.in-Some.ensures.within c.index_mut.ensures.value)
+    (c.in-Some-peek.ensures.frame ∙ ap (λ x. next_frame x.bus c.in-Some.at) c.self.view_is)
+    c.in-Err.ensures.refused c.in-Err.ensures.room c.in-Err.ensures.memory (sym c.stop_of.ensures ∙ stops)

@@ -4,7 +4,7 @@ use Rattle.station_core.specs.Refusals.{cancelling_refusal}
 use Rattle.station_core.proofs.Cancelling.{abort_has_place}
 use Rattle.station_core.proofs.station.Station.cancel.Goals as goal
 
-pub enqueue-requires : goal.enqueue-requires
-enqueue-requires c =
-    abort_has_place (station_value c.self.inside) c.args.to c.args.number c.in-Some-cancel.step.frame c.in-Some-frame.frame
-    (ap (λ st. cancelling_refusal st c.args.to c.args.number) c.self.view_is ∙ sym c.cancel_refusal.ensures ∙ c.in_default.is) c.in-Some-cancel.ensures.none c.in-Some-frame.is
+pub cancel-ended-requires : goal.cancel-ended-requires
+cancel-ended-requires c aborts =
+    abort_has_place (station_value c.self.inside) c.args.to c.args.number
+    (ap (λ st. cancelling_refusal st c.args.to c.args.number) c.self.view_is ∙ sym c.cancel_refusal.ensures ∙ c.in_default.is) aborts

@@ -1,4 +1,4 @@
-use Rattle.std.proofs.Common.{Some, arith, sym, ap, ◌∙◌}
+use Rattle.std.proofs.Common.{◌++◌, Some, arith, rules, sym, ap, ◌∙◌}
 use Rattle.std.proofs.Math.ListN.{set}
 use Rattle.lane_core.specs.Fire.{fired}
 use Rattle.station_lanes.proofs.LaneLaws.{fired_to}
@@ -8,16 +8,22 @@ use Rattle.station_lanes.proofs.lanes.Lanes.fire.Goals as goal
 pub returns-in_default-clause-lanes : goal.returns-in_default-clause-lanes
 returns-in_default-clause-lanes c = as_before c.self.inside.slots.items c.self.view_is c.from.ensures c.index_mut.ensures.value c.in_default.ensures.value (omega arith) ∙ sym (stepped_at c.self.inside.slots.items c.self.view_is c.from.ensures c.index_mut.ensures.value c.in_default.ensures.value (omega arith) (λ lane. fired lane c.args.now))
 
-pub returns-in_default-clause-step : goal.returns-in_default-clause-step
-returns-in_default-clause-step c = c.none.ensures ∙ sym (left_at c.self.inside.slots.items c.self.view_is c.from.ensures c.index_mut.ensures.value c.in_default.ensures.value (omega arith) (λ lane. fired lane c.args.now))
+pub returns-in_default-clause-queued : goal.returns-in_default-clause-queued
+returns-in_default-clause-queued c = search rules ∙ ap (λ s. c.args.queue.now ++ s.frames) (sym (left_at c.self.inside.slots.items c.self.view_is c.from.ensures c.index_mut.ensures.value c.in_default.ensures.value (omega arith) (λ lane. fired lane c.args.now)))
+
+pub returns-in_default-clause-ended : goal.returns-in_default-clause-ended
+returns-in_default-clause-ended c = ap (λ s. s.ended) (sym (left_at c.self.inside.slots.items c.self.view_is c.from.ensures c.index_mut.ensures.value c.in_default.ensures.value (omega arith) (λ lane. fired lane c.args.now)))
 
 pub invariant_of-self-2 : goal.invariant_of-self-2
 invariant_of-self-2 c =
-    marked_again c.self.inside _ c.args.to.0 c.in-Some.lane.now c.fire-step.new.self (omega arith) c.self.invariant (there c.self.inside.slots.items c.self.view_is c.from.ensures c.index_mut.ensures.value c.in-Some.ensures.value (omega arith)) (ap (λ n. set c.self.inside.slots.items n (Some c.fire-step.new.self)) c.from.ensures)
-    (ap (λ l. l.to) c.fire-step.ensures.lane ∙ fired_to c.in-Some.lane.now c.args.now) c.mark.ensures.ready c.mark.ensures.timed
+    marked_again c.self.inside _ c.args.to.0 c.in-Some.lane.now c.fire-ended.new.self (omega arith) c.self.invariant (there c.self.inside.slots.items c.self.view_is c.from.ensures c.index_mut.ensures.value c.in-Some.ensures.value (omega arith)) (ap (λ n. set c.self.inside.slots.items n (Some c.fire-ended.new.self)) c.from.ensures)
+    (ap (λ l. l.to) c.fire-ended.ensures.lane ∙ fired_to c.in-Some.lane.now c.args.now) c.mark.ensures.ready c.mark.ensures.timed
 
 pub returns-clause-lanes : goal.returns-clause-lanes
-returns-clause-lanes c = stepped_there c.self.inside.slots.items c.self.view_is c.from.ensures c.index_mut.ensures.value c.in-Some.ensures.value (omega arith) c.fire-step.new.self _ c.fire-step.ensures.lane ∙ sym (stepped_at c.self.inside.slots.items c.self.view_is c.from.ensures c.index_mut.ensures.value c.in-Some.ensures.value (omega arith) (λ lane. fired lane c.args.now))
+returns-clause-lanes c = stepped_there c.self.inside.slots.items c.self.view_is c.from.ensures c.index_mut.ensures.value c.in-Some.ensures.value (omega arith) c.fire-ended.new.self _ c.fire-ended.ensures.lane ∙ sym (stepped_at c.self.inside.slots.items c.self.view_is c.from.ensures c.index_mut.ensures.value c.in-Some.ensures.value (omega arith) (λ lane. fired lane c.args.now))
 
-pub returns-clause-step : goal.returns-clause-step
-returns-clause-step c = c.fire-step.ensures.step ∙ sym (left_at c.self.inside.slots.items c.self.view_is c.from.ensures c.index_mut.ensures.value c.in-Some.ensures.value (omega arith) (λ lane. fired lane c.args.now))
+pub returns-clause-queued : goal.returns-clause-queued
+returns-clause-queued c = c.fire-ended.ensures.queued ∙ ap (λ s. c.args.queue.now ++ s.frames) (sym (left_at c.self.inside.slots.items c.self.view_is c.from.ensures c.index_mut.ensures.value c.in-Some.ensures.value (omega arith) (λ lane. fired lane c.args.now)))
+
+pub returns-clause-ended : goal.returns-clause-ended
+returns-clause-ended c = c.fire-ended.ensures.ended ∙ ap (λ s. s.ended) (sym (left_at c.self.inside.slots.items c.self.view_is c.from.ensures c.index_mut.ensures.value c.in-Some.ensures.value (omega arith) (λ lane. fired lane c.args.now)))

@@ -17,7 +17,7 @@ returns-in_default-clause-ended c = ap (λ s. s.ended) (sym (left_at c.self.insi
 pub invariant_of-self-2 : goal.invariant_of-self-2
 invariant_of-self-2 c =
     marked_again c.self.inside _ c.args.to.0 c.in-Some.lane.now c.pump-ended.new.self (omega arith) c.self.invariant (there c.self.inside.slots.items c.self.view_is c.from.ensures c.index_mut.ensures.value c.in-Some.ensures.value (omega arith)) (ap (λ n. set c.self.inside.slots.items n (Some c.pump-ended.new.self)) c.from.ensures)
-    (ap (λ l. l.to) c.pump-ended.ensures.lane ∙ pumped_to c.in-Some.lane.now c.args.now) c.mark.ensures.ready c.mark.ensures.timed
+    (ap (λ l. l.to) c.pump-ended.ensures.lane ∙ pumped_to c.in-Some.lane.now c.args.now) c.mark_after.ensures.ready c.mark_after.ensures.timed
 
 pub returns-clause-lanes : goal.returns-clause-lanes
 returns-clause-lanes c = stepped_there c.self.inside.slots.items c.self.view_is c.from.ensures c.index_mut.ensures.value c.in-Some.ensures.value (omega arith) c.pump-ended.new.self _ c.pump-ended.ensures.lane ∙ sym (stepped_at c.self.inside.slots.items c.self.view_is c.from.ensures c.index_mut.ensures.value c.in-Some.ensures.value (omega arith) (λ lane. pumped lane c.args.now))

@@ -1,12 +1,10 @@
-use Rattle.std.proofs.Common.{◌∙◌, ap, sym, subst, refl}
-use Rattle.std.specs.Result.{OnOk}
-use Rattle.station_sessions.specs.Receiving.{Reception, Leaves, received}
-use Rattle.station_sessions.proofs.Settling.{received_is}
+use Rattle.tp_wire.specs.Heard.{meant}
+use Rattle.session_table.specs.Leading.{by_frame}
+use Rattle.session_table.specs.Sessions.{state_at}
+use Rattle.station_sessions.proofs.Leading.{none_held_after}
 use Rattle.station_sessions.proofs.receivers.Receivers.receive.Goals as goal
 
-pub returns-clause-ok : goal.returns-clause-ok
-returns-clause-ok c =
-    let same =
-    ap (λ m. received c.args.ports.now c.args.key c.args.wire.now c.args.room c.args.now m) (sym c.self.view_is)
-    ∙ received_is c.args.ports.now c.args.key c.in-Some.held c.in-Some.set c.in-Some.state c.args.now _ _ _ c.in-Some.ensures.value c.in-Some.ensures.held c.args.wire.now c.args.room refl in
-    subst (λ (r : Reception). OnOk c.step.result (Leaves r c.step.new.table c.args.queue.now c.step.new.queue c.step.new.told)) (sym same) c.step.ensures.ok
+pub invariant_of-self : goal.invariant_of-self
+invariant_of-self c =
+    none_held_after (by_frame (meant c.args.heard.now) c.args.room c.flow_of-flow.result c.args.now) c.args.key c.self.inside.table c.take.new.self c.args.queue.now c.take.new.queue c.self.invariant
+    (state_at c.self.inside.table c.args.key) c.take.result c.take.ensures
