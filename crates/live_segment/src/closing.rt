@@ -94,13 +94,12 @@ impl Live {
         self.calls.reserve()?;
         match make(&mut self.segment, Call::Close { port })? {
             Reply::Done(events) => {
-                let _told = tell(
-                    self.alloc,
+                tell(
                     &mut self.doors,
                     &mut self.owed,
                     &mut self.seats,
                     Vec::new(self.alloc),
-                    events,
+                    &events,
                 );
                 self.calls.push_reserved(Stored {
                     by: None,

@@ -7,10 +7,10 @@ use crate::calls::Calls;
 use crate::offer::{Ready, make_ready, store};
 use crate::places::{Found, find_room};
 use crate::refused::{Accepted, NotMade};
-use crate::step::{make, refusal_for};
+use crate::step::{make, make_telling, refusal_for};
 use crate::tell::tell;
 use pgn_ids::{Address, Pgn};
-use segment_core::{Call, NewRefused, Refusal, Reply, Segment, the_headline_holds};
+use segment_core::{Call, Events, Made, NewRefused, Refusal, Reply, Segment, the_headline_holds};
 use segment_law::Counts;
 use segment_rings::{Client, Door, Doorway, Inbox, Seat};
 use std::alloc::{AllocError, Global};
@@ -68,6 +68,8 @@ impl Drop for Live {
 
 impl Live {
     ghost use Rattle.std.specs.Prelude.{◌≡◌, ◌≤◌, ◌<◌, [], Bool, false, IfOk, OnErr, IfErr, Ok};
+    ghost use Rattle.segment_core.specs.Answers.{replied};
+    ghost use Rattle.segment_core.specs.declared.made.Made.TheVariants as made;
     ghost use Rattle.segment_law.specs.Headline.{Headline};
     ghost use Rattle.segment_law.specs.Record.{StandsAt};
     ghost use Rattle.segment_law.specs.declared.reply.Reply.TheVariants.{Refused};
@@ -162,25 +164,47 @@ impl Live {
     ///
     /// Refused where no more calls can be stored, and then where the segment refuses the call. Want of memory is answered
     /// only for a call that isn't refused. A refused call and want of memory change nothing.
-    // As a rule its caller says which call it is.
-    #[inline(always)]
     pub fn apply(&mut self, call: WorkerCall) -> Result<Reply, AllocError>
         ensures full { 1000000 ≤ stored_calls self.old → (result ≡ Ok (Refused TraceFull)) × (self.new ≡ self.old) }
         ensures applied { stored_calls self.old < 1000000 → IfOk result (λ r. (room : Bool) × Applied self.old self.new call r room) }
         ensures err { OnErr result (SameLive self.old self.new) }
         ensures not_refused { OnErr result (LacksMemory self.old call) }
     {
-        if self.calls.is_full() {
-            return Ok(Reply::Refused(Refusal::TraceFull));
+        let mut told = Events::none(self.alloc);
+        match self.apply_telling(call, &mut told) {
+            Ok(Made::Done) => Ok(Reply::Done(told)),
+            Ok(Made::Refused(refusal)) => Ok(Reply::Refused(refusal)),
+            Ok(Made::Opened(port)) => Ok(Reply::Opened(port)),
+            Ok(Made::Sent(number)) => Ok(Reply::Sent(number)),
+            Err(error) => Err(error),
         }
-        self.make(call)
+    }
+
+    // The same where what it tells is put down in a place in which nothing was told yet.
+    #[inline(always)]
+    pub(crate) fn apply_telling(
+        &mut self,
+        call: WorkerCall,
+        told: &mut Events,
+    ) -> Result<Made, AllocError>
+        requires { told.old ≡ [] }
+        ensures full { 1000000 ≤ stored_calls self.old → (result ≡ Ok (made.Refused TraceFull)) × (self.new ≡ self.old) }
+        ensures applied { stored_calls self.old < 1000000 → IfOk result (λ m. (room : Bool) × Applied self.old self.new call (replied m told.new) room) }
+        ensures err { OnErr result (SameLive self.old self.new) }
+        ensures not_refused { OnErr result (LacksMemory self.old call) }
+    {
+        if self.calls.is_full() {
+            return Ok(Made::Refused(Refusal::TraceFull));
+        }
+        self.make(call, told)
     }
 
     // The same where one more call can be stored. Room for all that follows it is found first.
-    #[inline(always)]
-    fn make(&mut self, call: WorkerCall) -> Result<Reply, AllocError>
-        requires { stored_calls self.old < 1000000 }
-        ensures applied { IfOk result (λ r. (room : Bool) × Applied self.old self.new call r room) }
+    #[inline(never)]
+    fn make(&mut self, call: WorkerCall, told: &mut Events) -> Result<Made, AllocError>
+        requires few { stored_calls self.old < 1000000 }
+        requires silent { told.old ≡ [] }
+        ensures applied { IfOk result (λ m. (room : Bool) × Applied self.old self.new call (replied m told.new) room) }
         ensures err { OnErr result (SameLive self.old self.new) }
         ensures not_refused { OnErr result (LacksMemory self.old call) }
     {
@@ -192,30 +216,29 @@ impl Live {
             &call,
         ) else {
             if let Some(refusal) = refusal_for(&self.segment, &call) {
-                return Ok(Reply::Refused(refusal));
+                return Ok(Made::Refused(refusal));
             }
             return Err(AllocError);
         };
         let Found { room, buffers } = found;
-        match make(&mut self.segment, call.with_room(room))? {
-            Reply::Done(events) => {
-                let told = tell(
-                    self.alloc,
+        match make_telling(&mut self.segment, call.with_room(room), told)? {
+            Made::Done => {
+                tell(
                     &mut self.doors,
                     &mut self.owed,
                     &mut self.seats,
                     buffers,
-                    events,
+                    told,
                 );
                 self.calls.push_reserved(Stored {
                     by: None,
                     call: call.with_room(room),
                 });
-                Ok(Reply::Done(told))
+                Ok(Made::Done)
             }
-            Reply::Refused(refusal) => Ok(Reply::Refused(refusal)),
-            Reply::Opened(_) => unreachable!(),
-            Reply::Sent(_) => unreachable!(),
+            Made::Refused(refusal) => Ok(Made::Refused(refusal)),
+            Made::Opened(_) => unreachable!(),
+            Made::Sent(_) => unreachable!(),
         }
     }
 

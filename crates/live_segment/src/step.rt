@@ -3,12 +3,12 @@ ghost use Rattle.std.specs.Prelude.{◌≡◌, ◌++◌, ◌∷◌, [], Bool, Li
 ghost use Rattle.pgn_ids.specs.declared.address.Address.{Address};
 ghost use Rattle.segment_law.specs.Calls.{called};
 ghost use Rattle.segment_law.specs.Record.{Record, StandsAt};
-ghost use Rattle.segment_core.specs.Answers.{refusal_of};
+ghost use Rattle.segment_core.specs.Answers.{refusal_of, replied};
 ghost use Rattle.live_segment.specs.Words.{call_of};
 ghost use Rattle.reply_law.specs.Replies.{reply_of, left_by, Follows};
 
 use crate::call::WorkerCall;
-use segment_core::{Call, Refusal, Reply, Segment};
+use segment_core::{Call, Events, Made, Refusal, Reply, Segment};
 use std::alloc::AllocError;
 
 /// Makes one call. Want of memory changes nothing.
@@ -22,6 +22,24 @@ pub(crate) fn make(segment: &mut Segment, call: Call) -> Result<Reply, AllocErro
     ensures follows { (addresses : List Address) (steps : Record) → StandsAt addresses steps segment.old → IfOk result (λ r. Follows segment.old call segment.new r) }
 {
     segment.apply(call)
+}
+
+/// The same where what it tells is put down in a place in which nothing was told yet.
+#[inline(always)]
+pub(crate) fn make_telling(
+    segment: &mut Segment,
+    call: Call,
+    told: &mut Events,
+) -> Result<Made, AllocError>
+    requires { told.old ≡ [] }
+    ensures reply { IfOk result (λ m. replied m told.new ≡ reply_of segment.old call) }
+    ensures after { IfOk result (λ m. segment.new ≡ left_by segment.old call) }
+    ensures err { OnErr result (segment.new ≡ segment.old) }
+    ensures not_refused { OnErr result (IsOk (called segment.old call)) }
+    ensures stands { (addresses : List Address) (steps : Record) → StandsAt addresses steps segment.old → IfOk result (λ m. StandsAt addresses (steps ++ (call, replied m told.new) ∷ []) segment.new) }
+    ensures follows { (addresses : List Address) (steps : Record) → StandsAt addresses steps segment.old → IfOk result (λ m. Follows segment.old call segment.new (replied m told.new)) }
+{
+    segment.apply_telling(call, told)
 }
 
 /// Why the segment would refuse a call, whether there is room for what it gives or not. It takes no memory.

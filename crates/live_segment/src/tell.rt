@@ -9,71 +9,64 @@ use crate::hand::{hand_all, hand_one};
 use crate::settle::{settle, settle_event};
 use segment_core::Events;
 use segment_rings::{Buffer, Door, Seat};
-use std::alloc::Global;
 
-/// Gives and notes what events tell, and hands the events back. It takes no memory.
+/// Gives and notes what events tell. It takes no memory.
 #[inline(always)]
 pub(crate) fn tell(
-    alloc: Global,
     doors: &mut Vec<Door>,
     owed: &mut Vec<Owed>,
     seats: &mut Vec<Seat>,
     buffers: Vec<Buffer>,
-    events: Events,
-) -> Events
+    events: &Events,
+)
     requires apart { PortsApart doors.old.items }
-    requires takes { TakesAll events doors.old.items }
-    requires enough { (n : ℕ) × EnoughFor n events buffers.items }
+    requires takes { TakesAll events.now doors.old.items }
+    requires enough { (n : ℕ) × EnoughFor n events.now buffers.items }
     requires ids { IdsFrom 0 seats.old.items }
     requires room { HaveRoom owed.old.items seats.old.items }
     requires within { OwedWithin (length seats.old.items) owed.old.items }
-    ensures events { result ≡ events }
-    ensures doors { doors.new.items ≡ give_all events doors.old.items }
-    ensures owed { owed.new.items ≡ settle_owed owed.old.items events }
-    ensures seats { seats.new.items ≡ note_all (settle_notes owed.old.items events) seats.old.items }
+    ensures doors { doors.new.items ≡ give_all events.now doors.old.items }
+    ensures owed { owed.new.items ≡ settle_owed owed.old.items events.now }
+    ensures seats { seats.new.items ≡ note_all (settle_notes owed.old.items events.now) seats.old.items }
     ensures ids { IdsFrom 0 seats.new.items }
     ensures room { HaveRoom owed.new.items seats.new.items }
     ensures within { OwedWithin (length seats.new.items) owed.new.items }
 {
     // Most calls tell nothing.
     if events.is_empty() {
-        return events;
+        return;
     }
-    tell_some(alloc, doors, owed, seats, buffers, events)
+    tell_some(doors, owed, seats, buffers, events);
 }
 
 // The same of a call that tells something.
 #[inline(never)]
 fn tell_some(
-    alloc: Global,
     doors: &mut Vec<Door>,
     owed: &mut Vec<Owed>,
     seats: &mut Vec<Seat>,
     buffers: Vec<Buffer>,
-    events: Events,
-) -> Events
+    events: &Events,
+)
     requires apart { PortsApart doors.old.items }
-    requires takes { TakesAll events doors.old.items }
-    requires enough { (n : ℕ) × EnoughFor n events buffers.items }
+    requires takes { TakesAll events.now doors.old.items }
+    requires enough { (n : ℕ) × EnoughFor n events.now buffers.items }
     requires ids { IdsFrom 0 seats.old.items }
     requires room { HaveRoom owed.old.items seats.old.items }
     requires within { OwedWithin (length seats.old.items) owed.old.items }
-    ensures events { result ≡ events }
-    ensures doors { doors.new.items ≡ give_all events doors.old.items }
-    ensures owed { owed.new.items ≡ settle_owed owed.old.items events }
-    ensures seats { seats.new.items ≡ note_all (settle_notes owed.old.items events) seats.old.items }
+    ensures doors { doors.new.items ≡ give_all events.now doors.old.items }
+    ensures owed { owed.new.items ≡ settle_owed owed.old.items events.now }
+    ensures seats { seats.new.items ≡ note_all (settle_notes owed.old.items events.now) seats.old.items }
     ensures ids { IdsFrom 0 seats.new.items }
     ensures room { HaveRoom owed.new.items seats.new.items }
     ensures within { OwedWithin (length seats.new.items) owed.new.items }
 {
     let mut buffers = buffers;
-    let (first, rest) = events.into_parts();
-    let Some(first) = first else {
-        return Events::none(alloc);
+    let Some(first) = events.get(0) else {
+        return;
     };
-    hand_one(doors, &mut buffers, &first);
-    hand_all(doors, &mut buffers, rest.as_slice());
-    settle_event(owed, seats, &first);
-    settle(owed, seats, rest.as_slice());
-    Events::all(first, rest)
+    hand_one(doors, &mut buffers, first);
+    hand_all(doors, &mut buffers, events.rest());
+    settle_event(owed, seats, first);
+    settle(owed, seats, events.rest());
 }

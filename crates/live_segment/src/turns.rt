@@ -1,5 +1,7 @@
 //! The turns of workers, each within one hold of the lock.
-ghost use Rattle.std.specs.Prelude.{◌≡◌, ◌<◌, length};
+ghost use Rattle.std.specs.Prelude.{◌≡◌, ◌<◌, List, length};
+ghost use Rattle.message_events.specs.declared.event.Event.{Event};
+ghost use Rattle.segment_core.specs.Answers.{replied};
 ghost use Rattle.segment_law.specs.Segment.{waiting_at};
 ghost use Rattle.segment_law.specs.Readers.{next_pump};
 ghost use Rattle.live_segment.specs.declared.call.WorkerCall.TheVariants.{Overrun as OverrunCall};
@@ -9,7 +11,7 @@ use crate::call::WorkerCall;
 use crate::live::Live;
 use crate::refused::Accepted;
 use pgn_ids::Address;
-use segment_core::{Refusal, Reply, Segment};
+use segment_core::{Events, Made, Refusal, Segment};
 
 /// What one turn did: how many calls were applied, up to the last value, and whether the worker ends since no more calls can
 /// be stored.
@@ -55,15 +57,14 @@ impl Turn {
         }
     }
 
-    #[inline(always)]
-    fn answered(&mut self, reply: &Reply)
-        ensures { self.new ≡ after_reply self.old reply.now }
+    fn answered(&mut self, made: Made)
+        ensures { (told : List Event) → self.new ≡ after_reply self.old (replied made told) }
     {
-        match reply {
-            Reply::Opened(_) => self.add(),
-            Reply::Sent(_) => self.add(),
-            Reply::Refused(refusal) => self.refused(*refusal),
-            Reply::Done(_) => self.add(),
+        match made {
+            Made::Opened(_) => self.add(),
+            Made::Sent(_) => self.add(),
+            Made::Refused(refusal) => self.refused(refusal),
+            Made::Done => self.add(),
         }
     }
 
@@ -78,13 +79,13 @@ impl Turn {
         }
     }
 
-    // Makes a call, of which each caller says which it is.
-    #[inline(always)]
+    // Makes a call.
     fn make(&mut self, live: &mut Live, call: WorkerCall)
         ensures { Makes call (point live.old self.old) (point live.new self.new) }
     {
-        match live.apply(call) {
-            Ok(reply) => self.answered(&reply),
+        let mut told = Events::none(live.alloc);
+        match live.apply_telling(call, &mut told) {
+            Ok(made) => self.answered(made),
             Err(_) => {}
         }
     }

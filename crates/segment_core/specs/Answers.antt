@@ -1,5 +1,5 @@
 -- How the code answers a call.
-use Rattle.std.specs.Prelude.{◌≡◌, Option, Some, None, Result, Ok, Err, IsOk}
+use Rattle.std.specs.Prelude.{◌≡◌, ⊤, [], List, Option, Some, None, Result, Ok, Err, IsOk}
 use Rattle.std.specs.Option.{option_and_then}
 use Rattle.station_core.specs.declared.refused.Refused.{Refused as Cause}
 use Rattle.station_core.specs.declared.refused.Refused.TheVariants as cause
@@ -8,6 +8,11 @@ use Rattle.segment_law.specs.declared.refusal.Refusal.{Refusal}
 use Rattle.segment_law.specs.declared.refusal.Refusal.TheVariants as refusal
 use Rattle.segment_law.specs.Calls.{Answer}
 use Rattle.segment_law.specs.declared.reply.Reply.{Reply}
+use Rattle.segment_law.specs.declared.reply.Reply.TheVariants as reply
+use Rattle.segment_law.specs.declared.reply.Reply.TheVariants.{Opened, Sent, Done}
+use Rattle.message_events.specs.declared.event.Event.{Event}
+use Rattle.segment_core.specs.declared.made.Made.{Made}
+use Rattle.segment_core.specs.declared.made.Made.TheVariants as made
 use Rattle.segment_core.specs.declared.stop.Stop.{Stop}
 use Rattle.segment_core.specs.declared.stop.Stop.TheVariants.{Refused, OutOfMemory}
 
@@ -21,6 +26,31 @@ IsAnswer answer before after (Err OutOfMemory) = IsOk answer × (after ≡ befor
 abbrev pub IsAnswerBy : {T : Type 0} → (reply : T → Reply) → Answer → (before after : Segment) → Result T Stop → Type 0
 IsAnswerBy reply answer before after (Ok given) = answer ≡ Ok (after, reply given)
 IsAnswerBy reply answer before after (Err stop) = IsAnswer answer before after (Err stop)
+
+-- the reply of a call that is answered so and tells these events
+abbrev pub replied : Made → List Event → Reply
+replied (made.Opened port) events = Opened port
+replied (made.Sent number) events = Sent number
+replied made.Done events = Done events
+replied (made.Refused cause) events = reply.Refused cause
+
+-- as the law says, with what it tells put down apart
+abbrev pub IsMade : Answer → (before after : Segment) → (told : List Event) → Result Made Stop → Type 0
+IsMade answer before after told result = IsAnswerBy (λ made. replied made told) answer before after result
+
+-- only a call that is done tells anything
+abbrev pub IsSilentBut : Made → List Event → Type 0
+IsSilentBut made.Done told = ⊤
+IsSilentBut _ told = told ≡ []
+
+abbrev pub IsSilent : {E : Type 0} → (told : List Event) → Result Made E → Type 0
+IsSilent told (Ok made) = IsSilentBut made told
+IsSilent told (Err stop) = told ≡ []
+
+-- a call that tells events is done unless it is stopped
+abbrev pub done_unless : {E : Type 0} → {T : Type 0} → Result T E → Result Made E
+done_unless (Ok given) = Ok made.Done
+done_unless (Err stop) = Err stop
 
 -- why a call is refused; none where it isn't
 abbrev pub refusal_of : Answer → Option Refusal

@@ -3,15 +3,17 @@ ghost use Rattle.std.specs.Prelude.{◌≡◌, ℕ, ◌<◌, ◌∷◌, ◌++◌
 ghost use Rattle.segment_law.specs.Calls.{are_bytes, is_address, is_call, called, applied};
 ghost use Rattle.segment_law.specs.Record.{Record, StandsAt};
 ghost use Rattle.pgn_ids.specs.declared.address.Address.{Address as AddressValue};
-ghost use Rattle.segment_core.specs.Answers.{IsAnswer};
+ghost use Rattle.segment_core.specs.Answers.{IsMade, IsSilent, done_unless, replied};
 ghost use Rattle.segment_core.specs.Memory.{MayAskMemory};
 ghost use Rattle.segment_core.specs.Promise.{KeepsPromise};
 
+use crate::made::Made;
 use crate::segment::Segment;
 use crate::stop::Stop;
 use connection_law::the_headline_holds;
 use pgn_ids::Address;
 use segment_law::{Call, Reply};
+use station_core::Events;
 use std::alloc::AllocError;
 
 // Bytes are below 256.
@@ -56,13 +58,23 @@ fn fits(call: &Call)
     }
 }
 
+// A call that tells events is done unless it is stopped.
+#[inline(always)]
+fn done(made: Result<(), Stop>) -> Result<Made, Stop>
+    ensures { result ≡ done_unless made }
+{
+    match made {
+        Ok(()) => Ok(Made::Done),
+        Err(stop) => Err(stop),
+    }
+}
+
 impl Segment {
     /// Makes one call: one atomic step. A refused call is answered by the first of its causes, and changes nothing.
     ///
     /// Want of memory changes nothing either, and then the call is no step: it is answered only for a call that isn't
     /// refused. A Take without room asks for no memory, and a Transmit or an Inject only if two frames or more are kept on the bus.
     /// The call is spent in each case: who wants to make it again keeps a copy.
-    // As a rule its caller says which call it is: what that does is then done at once, without a choice among the calls.
     #[inline(always)]
     pub fn apply(&mut self, call: Call) -> Result<Reply, AllocError>
         ensures ok { IfOk result (λ reply. applied self.old call ≡ (self.new, reply)) }
@@ -72,21 +84,46 @@ impl Segment {
         ensures stands { (addresses : List AddressValue) (steps : Record) → StandsAt addresses steps self.old → IfOk result (λ reply. StandsAt addresses (steps ++ (call, reply) ∷ []) self.new) }
         ensures headline { KeepsPromise self.new }
     {
+        let mut told = Events::none(self.alloc);
+        match self.apply_telling(call, &mut told) {
+            Ok(Made::Opened(port)) => Ok(Reply::Opened(port)),
+            Ok(Made::Sent(number)) => Ok(Reply::Sent(number)),
+            Ok(Made::Done) => Ok(Reply::Done(told)),
+            Ok(Made::Refused(cause)) => Ok(Reply::Refused(cause)),
+            Err(error) => Err(error),
+        }
+    }
+
+    /// The same for a caller that keeps a place for what calls tell, in which nothing was told yet: a reply that is handed up is
+    /// copied on each level. Only a call that is done tells anything.
+    #[inline(always)]
+    pub fn apply_telling(&mut self, call: Call, told: &mut Events) -> Result<Made, AllocError>
+        requires { told.old ≡ [] }
+        ensures ok { IfOk result (λ made. applied self.old call ≡ (self.new, replied made told.new)) }
+        ensures err { OnErr result (self.new ≡ self.old) }
+        ensures silent { IsSilent told.new result }
+        ensures not_refused { OnErr result (IsOk (called self.old call)) }
+        ensures memory { OnErr result (MayAskMemory self.old call) }
+        ensures stands { (addresses : List AddressValue) (steps : Record) → StandsAt addresses steps self.old → IfOk result (λ made. StandsAt addresses (steps ++ (call, replied made told.new) ∷ []) self.new) }
+        ensures headline { KeepsPromise self.new }
+    {
         // A law, for the last clause: the call does nothing.
         the_headline_holds();
         fits(&call);
-        match self.call(call) {
-            Ok(reply) => Ok(reply),
-            Err(Stop::Refused(cause)) => Ok(Reply::Refused(cause)),
+        match self.call(call, told) {
+            Ok(made) => Ok(made),
+            Err(Stop::Refused(cause)) => Ok(Made::Refused(cause)),
             Err(Stop::OutOfMemory) => Err(AllocError),
         }
     }
 
-    // The call, or why it isn't done.
+    // The call, or why it isn't done. What a call does is made apart, so that the room for its values is taken by that call alone.
     #[inline(always)]
     #[tactic(auto, unfolding(segment_law::specs::Calls::called))]
-    fn call(&mut self, call: Call) -> Result<Reply, Stop>
-        ensures answer { IsAnswer (called self.old call) self.old self.new result }
+    fn call(&mut self, call: Call, told: &mut Events) -> Result<Made, Stop>
+        requires { told.old ≡ [] }
+        ensures answer { IsMade (called self.old call) self.old self.new told.new result }
+        ensures silent { IsSilent told.new result }
         ensures memory { IsErrOf result Stop.OutOfMemory → MayAskMemory self.old call }
     {
         match call {
@@ -102,14 +139,14 @@ impl Segment {
                 pgn,
                 bytes,
             } => self.send(from, to, pgn, bytes),
-            Call::Pump { station, to } => self.pump(station, to),
+            Call::Pump { station, to } => done(self.pump(station, to, told)),
             Call::Transmit { station } => self.transmit(station),
-            Call::Take { station, room } => self.take(station, room),
-            Call::TakeAgain { station, room } => self.take_again(station, room),
-            Call::Overrun { station, n } => self.overrun(station, n),
+            Call::Take { station, room } => done(self.take(station, room, told)),
+            Call::TakeAgain { station, room } => done(self.take_again(station, room, told)),
+            Call::Overrun { station, n } => done(self.overrun(station, n, told)),
             Call::Tick { n } => self.tick(n),
-            Call::Fire { station } => self.fire(station),
-            Call::Cancel { from, to, number } => self.cancel(from, to, number),
+            Call::Fire { station } => done(self.fire(station, told)),
+            Call::Cancel { from, to, number } => done(self.cancel(from, to, number, told)),
             Call::Inject { frame } => self.inject(frame),
             Call::Pause { port } => self.pause(port),
             Call::Resume { port } => self.resume(port),

@@ -1,10 +1,9 @@
 //! Counting what calls tell.
 ghost use Rattle.std.specs.Prelude.{◌≡◌, []};
 ghost use Rattle.segment_law.specs.Segment.{plus, counted_outcome, counted_event, counted, counted_frame, counted_look, counted_repeat};
-ghost use Rattle.segment_law.specs.declared.reply.Reply.TheVariants.{Done};
 
 use crate::segment::Segment;
-use segment_law::{Counts, Reply};
+use segment_law::Counts;
 use station_core::{Event, Events};
 use tp_wire::Outcome;
 
@@ -85,21 +84,15 @@ pub(crate) fn count_events(counts: &mut Counts, events: &Events)
 }
 
 impl Segment {
-    /// The reply to a call that told nothing.
-    pub(crate) fn done(&self) -> Reply
-        ensures { result ≡ Done [] }
-    {
-        Reply::Done(Events::none(self.alloc))
-    }
-
-    /// The reply to a call that told events, which are counted. Always inlined, since it takes them and gives a reply by value.
+    /// Counts events that a call told, and puts them down where nothing was told yet.
     #[inline(always)]
-    pub(crate) fn told(&mut self, events: Events) -> Reply
-        ensures reply { result ≡ Done events }
+    pub(crate) fn tell(&mut self, events: Events, told: &mut Events)
+        requires { told.old ≡ [] }
+        ensures events { told.new ≡ events }
         ensures counts { self.new ≡ record self.old { counts = counted self.old.counts events } }
     {
         self.count_told(&events);
-        Reply::Done(events)
+        *told = events;
     }
 
     /// Counts events that a call told.

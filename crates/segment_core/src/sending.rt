@@ -1,14 +1,15 @@
 //! Messages that are sent, pumped and cancelled.
-ghost use Rattle.std.specs.Prelude.{◌≡◌, []};
+ghost use Rattle.std.specs.Prelude.{◌≡◌, [], OnErr};
 ghost use Rattle.segment_law.specs.Calls.{at_address, sends, pumps, cancels};
-ghost use Rattle.segment_core.specs.Answers.{IsAnswer, IsAnswerBy};
+ghost use Rattle.segment_core.specs.Answers.{IsAnswerBy, IsMade};
 ghost use Rattle.segment_law.specs.declared.reply.Reply.TheVariants.{Done};
 
+use crate::made::Made;
 use crate::segment::Segment;
 use crate::stop::{Stop, stop_of};
 use message_events::Bytes;
 use pgn_ids::{Address, Pgn};
-use segment_law::{Refusal, Reply};
+use segment_law::Refusal;
 use station_core::Events;
 
 impl Segment {
@@ -20,31 +21,34 @@ impl Segment {
         to: Address,
         pgn: Pgn,
         bytes: Bytes,
-    ) -> Result<Reply, Stop>
-        ensures { IsAnswer (at_address self.old from (sends self.old to pgn bytes)) self.old self.new result }
+    ) -> Result<Made, Stop>
+        ensures { IsMade (at_address self.old from (sends self.old to pgn bytes)) self.old self.new [] result }
     {
         let Some(place) = self.place_of(from) else {
             return Err(Stop::Refused(Refusal::NoSuchStation));
         };
         match self.stations[place].send(to, pgn, bytes) {
-            Ok(number) => Ok(Reply::Sent(number)),
+            Ok(number) => Ok(Made::Sent(number)),
             Err(refused) => Err(stop_of(refused.cause)),
         }
     }
 
-    /// Queues what comes next in a lane.
-    #[inline(always)]
-    pub(crate) fn pump(&mut self, station: Address, to: Address) -> Result<Reply, Stop>
-        ensures { IsAnswer (at_address self.old station (pumps self.old to)) self.old self.new result }
+    /// Queues what comes next in a lane. What that tells is put down where nothing was told yet.
+    #[inline(never)]
+    pub(crate) fn pump(
+        &mut self,
+        station: Address,
+        to: Address,
+        told: &mut Events,
+    ) -> Result<(), Stop>
+        requires { told.old ≡ [] }
+        ensures answer { IsAnswerBy (λ _. Done told.new) (at_address self.old station (pumps self.old to)) self.old self.new result }
+        ensures silent { OnErr result (told.new ≡ []) }
     {
-        let mut told = Events::none(self.alloc);
-        match self.pump_telling(station, to, &mut told) {
-            Ok(()) => Ok(Reply::Done(told)),
-            Err(stop) => Err(stop),
-        }
+        self.pump_telling(station, to, told)
     }
 
-    /// The same, where what it tells is put down in a place in which nothing was told yet.
+    /// The same for a caller that knows which call it makes.
     #[inline(always)]
     pub(crate) fn pump_telling(
         &mut self,
@@ -53,7 +57,8 @@ impl Segment {
         told: &mut Events,
     ) -> Result<(), Stop>
         requires { told.old ≡ [] }
-        ensures { IsAnswerBy (λ _. Done told.new) (at_address self.old station (pumps self.old to)) self.old self.new result }
+        ensures answer { IsAnswerBy (λ _. Done told.new) (at_address self.old station (pumps self.old to)) self.old self.new result }
+        ensures silent { OnErr result (told.new ≡ []) }
     {
         let Some(place) = self.place_of(station) else {
             return Err(Stop::Refused(Refusal::NoSuchStation));
@@ -68,16 +73,27 @@ impl Segment {
         }
     }
 
-    /// Cancels a message that has no outcome yet.
+    /// Cancels a message that has no outcome yet. What that tells is put down where nothing was told yet.
     #[inline(never)]
-    pub(crate) fn cancel(&mut self, from: Address, to: Address, number: u64) -> Result<Reply, Stop>
-        ensures { IsAnswer (at_address self.old from (cancels self.old to number)) self.old self.new result }
+    pub(crate) fn cancel(
+        &mut self,
+        from: Address,
+        to: Address,
+        number: u64,
+        told: &mut Events,
+    ) -> Result<(), Stop>
+        requires { told.old ≡ [] }
+        ensures answer { IsAnswerBy (λ _. Done told.new) (at_address self.old from (cancels self.old to number)) self.old self.new result }
+        ensures silent { OnErr result (told.new ≡ []) }
     {
         let Some(place) = self.place_of(from) else {
             return Err(Stop::Refused(Refusal::NoSuchStation));
         };
         match self.stations[place].cancel(to, number) {
-            Ok(events) => Ok(self.told(events)),
+            Ok(events) => {
+                self.tell(events, told);
+                Ok(())
+            }
             Err(cause) => Err(stop_of(cause)),
         }
     }

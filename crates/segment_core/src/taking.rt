@@ -3,9 +3,9 @@ ghost use Rattle.segment_law.specs.Calls.{at_address, takes, repeats, overruns};
 ghost use Rattle.segment_law.specs.Segment.{counted, counted_look};
 ghost use Rattle.segment_law.specs.declared.call.Call.TheVariants.{Take};
 ghost use Rattle.segment_law.specs.declared.reply.Reply.TheVariants.{Done};
-ghost use Rattle.segment_core.specs.Answers.{IsAnswer, IsAnswerBy};
+ghost use Rattle.segment_core.specs.Answers.{IsAnswerBy};
 ghost use Rattle.segment_core.specs.Memory.{MayAskMemory};
-ghost use Rattle.std.specs.Prelude.{◌≡◌, ◌<◌, [], length, IsErrOf};
+ghost use Rattle.std.specs.Prelude.{◌≡◌, ◌<◌, [], length, OnErr, IsErrOf};
 ghost use Rattle.bus_order.specs.Bus.{next_frame};
 
 use crate::counting::{count_look, count_repeat};
@@ -13,24 +13,27 @@ use crate::segment::Segment;
 use crate::stop::{Stop, stop_of};
 use bus_frame::Frame;
 use pgn_ids::Address;
-use segment_law::{Refusal, Reply};
+use segment_law::Refusal;
 use station_core::Events;
 
 impl Segment {
-    /// A station takes the next frame of the bus.
-    #[inline(always)]
-    pub(crate) fn take(&mut self, station: Address, room: bool) -> Result<Reply, Stop>
-        ensures answer { IsAnswer (at_address self.old station (takes self.old room)) self.old self.new result }
+    /// A station takes the next frame of the bus. What that tells is put down where nothing was told yet.
+    #[inline(never)]
+    pub(crate) fn take(
+        &mut self,
+        station: Address,
+        room: bool,
+        told: &mut Events,
+    ) -> Result<(), Stop>
+        requires { told.old ≡ [] }
+        ensures answer { IsAnswerBy (λ _. Done told.new) (at_address self.old station (takes self.old room)) self.old self.new result }
+        ensures silent { OnErr result (told.new ≡ []) }
         ensures memory { IsErrOf result Stop.OutOfMemory → MayAskMemory self.old (Take station room) }
     {
-        let mut told = Events::none(self.alloc);
-        match self.take_telling(station, room, &mut told) {
-            Ok(()) => Ok(Reply::Done(told)),
-            Err(stop) => Err(stop),
-        }
+        self.take_telling(station, room, told)
     }
 
-    /// The same, where what it tells is put down in a place in which nothing was told yet.
+    /// The same for a caller that knows which call it makes.
     #[inline(always)]
     pub(crate) fn take_telling(
         &mut self,
@@ -40,6 +43,7 @@ impl Segment {
     ) -> Result<(), Stop>
         requires { told.old ≡ [] }
         ensures answer { IsAnswerBy (λ _. Done told.new) (at_address self.old station (takes self.old room)) self.old self.new result }
+        ensures silent { OnErr result (told.new ≡ []) }
         ensures memory { IsErrOf result Stop.OutOfMemory → MayAskMemory self.old (Take station room) }
     {
         let Some(at) = self.place_of(station) else {
@@ -58,10 +62,17 @@ impl Segment {
         Ok(())
     }
 
-    /// A station takes the frame that it took last once more.
+    /// A station takes the frame that it took last once more. What that tells is put down where nothing was told yet.
     #[inline(never)]
-    pub(crate) fn take_again(&mut self, station: Address, room: bool) -> Result<Reply, Stop>
-        ensures { IsAnswer (at_address self.old station (repeats self.old room)) self.old self.new result }
+    pub(crate) fn take_again(
+        &mut self,
+        station: Address,
+        room: bool,
+        told: &mut Events,
+    ) -> Result<(), Stop>
+        requires { told.old ≡ [] }
+        ensures answer { IsAnswerBy (λ _. Done told.new) (at_address self.old station (repeats self.old room)) self.old self.new result }
+        ensures silent { OnErr result (told.new ≡ []) }
     {
         let Some(place) = self.place_of(station) else {
             return Err(Stop::Refused(Refusal::NoSuchStation));
@@ -70,20 +81,26 @@ impl Segment {
             return Err(Stop::Refused(Refusal::NothingToRepeat));
         };
         let now = self.clock.now();
-        let mut told = Events::none(self.alloc);
-        let is_malformed = match self.stations[place].take_telling(&frame, room, now, &mut told) {
+        let is_malformed = match self.stations[place].take_telling(&frame, room, now, told) {
             Ok(is_malformed) => is_malformed,
             Err(cause) => return Err(stop_of(cause)),
         };
         count_repeat(&mut self.counts);
-        self.looked(is_malformed, &told);
-        Ok(Reply::Done(told))
+        self.looked(is_malformed, told);
+        Ok(())
     }
 
-    /// A station missed the next n frames.
+    /// A station missed the next n frames. What that tells is put down where nothing was told yet.
     #[inline(never)]
-    pub(crate) fn overrun(&mut self, station: Address, n: u64) -> Result<Reply, Stop>
-        ensures { IsAnswer (at_address self.old station (overruns self.old n)) self.old self.new result }
+    pub(crate) fn overrun(
+        &mut self,
+        station: Address,
+        n: u64,
+        told: &mut Events,
+    ) -> Result<(), Stop>
+        requires { told.old ≡ [] }
+        ensures answer { IsAnswerBy (λ _. Done told.new) (at_address self.old station (overruns self.old n)) self.old self.new result }
+        ensures silent { OnErr result (told.new ≡ []) }
     {
         let Some(place) = self.place_of(station) else {
             return Err(Stop::Refused(Refusal::NoSuchStation));
@@ -94,7 +111,8 @@ impl Segment {
         let events = self.stations[place].overrun()?;
         let _passed = self.bus.skip(place, n);
         self.bus.release();
-        Ok(self.told(events))
+        self.tell(events, told);
+        Ok(())
     }
 
     /// The frame that the station at a place takes next.
