@@ -68,7 +68,7 @@ impl Drop for Live {
 
 impl Live {
     ghost use Rattle.std.specs.Prelude.{◌≡◌, ◌≤◌, ◌<◌, [], Bool, false, IfOk, OnErr, IfErr, Ok};
-    ghost use Rattle.segment_core.specs.Answers.{replied};
+    ghost use Rattle.segment_core.specs.Answers.{reply_with};
     ghost use Rattle.segment_core.specs.declared.made.Made.TheVariants as made;
     ghost use Rattle.segment_law.specs.Headline.{Headline};
     ghost use Rattle.segment_law.specs.Record.{StandsAt};
@@ -189,7 +189,7 @@ impl Live {
     ) -> Result<Made, AllocError>
         requires { told.old ≡ [] }
         ensures full { 1000000 ≤ stored_calls self.old → (result ≡ Ok (made.Refused TraceFull)) × (self.new ≡ self.old) }
-        ensures applied { stored_calls self.old < 1000000 → IfOk result (λ m. (room : Bool) × Applied self.old self.new call (replied m told.new) room) }
+        ensures applied { stored_calls self.old < 1000000 → IfOk result (λ m. (room : Bool) × Applied self.old self.new call (reply_with m told.new) room) }
         ensures err { OnErr result (SameLive self.old self.new) }
         ensures not_refused { OnErr result (LacksMemory self.old call) }
     {
@@ -204,7 +204,7 @@ impl Live {
     fn make(&mut self, call: WorkerCall, told: &mut Events) -> Result<Made, AllocError>
         requires few { stored_calls self.old < 1000000 }
         requires silent { told.old ≡ [] }
-        ensures applied { IfOk result (λ m. (room : Bool) × Applied self.old self.new call (replied m told.new) room) }
+        ensures applied { IfOk result (λ m. (room : Bool) × Applied self.old self.new call (reply_with m told.new) room) }
         ensures err { OnErr result (SameLive self.old self.new) }
         ensures not_refused { OnErr result (LacksMemory self.old call) }
     {

@@ -3,7 +3,7 @@ ghost use Rattle.std.specs.Prelude.{◌≡◌, ◌++◌, ◌∷◌, [], Bool, Li
 ghost use Rattle.pgn_ids.specs.declared.address.Address.{Address};
 ghost use Rattle.segment_law.specs.Calls.{called};
 ghost use Rattle.segment_law.specs.Record.{Record, StandsAt};
-ghost use Rattle.segment_core.specs.Answers.{refusal_of, replied};
+ghost use Rattle.segment_core.specs.Answers.{refusal_of, reply_with};
 ghost use Rattle.live_segment.specs.Words.{call_of};
 ghost use Rattle.reply_law.specs.Replies.{reply_of, left_by, Follows};
 
@@ -32,12 +32,12 @@ pub(crate) fn make_telling(
     told: &mut Events,
 ) -> Result<Made, AllocError>
     requires { told.old ≡ [] }
-    ensures reply { IfOk result (λ m. replied m told.new ≡ reply_of segment.old call) }
+    ensures reply { IfOk result (λ m. reply_with m told.new ≡ reply_of segment.old call) }
     ensures after { IfOk result (λ m. segment.new ≡ left_by segment.old call) }
     ensures err { OnErr result (segment.new ≡ segment.old) }
     ensures not_refused { OnErr result (IsOk (called segment.old call)) }
-    ensures stands { (addresses : List Address) (steps : Record) → StandsAt addresses steps segment.old → IfOk result (λ m. StandsAt addresses (steps ++ (call, replied m told.new) ∷ []) segment.new) }
-    ensures follows { (addresses : List Address) (steps : Record) → StandsAt addresses steps segment.old → IfOk result (λ m. Follows segment.old call segment.new (replied m told.new)) }
+    ensures stands { (addresses : List Address) (steps : Record) → StandsAt addresses steps segment.old → IfOk result (λ m. StandsAt addresses (steps ++ (call, reply_with m told.new) ∷ []) segment.new) }
+    ensures follows { (addresses : List Address) (steps : Record) → StandsAt addresses steps segment.old → IfOk result (λ m. Follows segment.old call segment.new (reply_with m told.new)) }
 {
     segment.apply_telling(call, told)
 }

@@ -1,7 +1,7 @@
 //! The turns of workers, each within one hold of the lock.
 ghost use Rattle.std.specs.Prelude.{◌≡◌, ◌<◌, List, length};
 ghost use Rattle.message_events.specs.declared.event.Event.{Event};
-ghost use Rattle.segment_core.specs.Answers.{replied};
+ghost use Rattle.segment_core.specs.Answers.{reply_with};
 ghost use Rattle.segment_law.specs.Segment.{waiting_at};
 ghost use Rattle.segment_law.specs.Readers.{next_pump};
 ghost use Rattle.live_segment.specs.declared.call.WorkerCall.TheVariants.{Overrun as OverrunCall};
@@ -58,7 +58,7 @@ impl Turn {
     }
 
     fn answered(&mut self, made: Made)
-        ensures { (told : List Event) → self.new ≡ after_reply self.old (replied made told) }
+        ensures { (told : List Event) → self.new ≡ after_reply self.old (reply_with made told) }
     {
         match made {
             Made::Opened(_) => self.add(),

@@ -17,7 +17,7 @@ use Rattle.station_core.specs.Overruns.{overrun}
 use Rattle.station_core.specs.Refusals.{taking_refusal}
 use Rattle.station_core.specs.Taking as taking
 use Rattle.segment_law.specs.Readers.{frame_for, wanted_with}
-use Rattle.segment_core.specs.Answers.{IsAnswer}
+use Rattle.segment_core.specs.Answers.{IsAnswer, IsAnswerBy}
 use Rattle.segment_core.specs.declared.stop.Stop.{Stop}
 use Rattle.segment_core.specs.declared.stop.Stop.TheVariants.{OutOfMemory}
 use Rattle.segment_law.specs.Segment.{Segment, place_of, with_station, counted, counted_look, counted_repeat}
@@ -62,8 +62,8 @@ pub passes_here : (s : Inside) (seg : Segment) (a : Address) (i : ℕ) (old : St
 passes_here s seg a i old call view here within is passes = subst (λ (x : Answer). IsOk x) (sym (at_here s seg a i old call view here within is)) passes
 
 -- a call that found no memory, though it isn't refused
-pub no_memory : (answer : Answer) (before after : Segment) (r : Result Reply Stop) → r ≡ Err OutOfMemory → IsOk answer × (after ≡ before) → IsAnswer answer before after r
-no_memory answer before after r e h = subst (λ (x : Result Reply Stop). IsAnswer answer before after x) (sym e) h
+pub no_memory : {T : Type 0} → (reply : T → Reply) (answer : Answer) (before after : Segment) (r : Result T Stop) → r ≡ Err OutOfMemory → IsOk answer × (after ≡ before) → IsAnswerBy reply answer before after r
+no_memory {T} reply answer before after r e h = subst (λ (x : Result T Stop). IsAnswerBy reply answer before after x) (sym e) h
 
 abbrev pub said : Segment → Reply → Answer
 said seg reply = Ok (seg, reply)

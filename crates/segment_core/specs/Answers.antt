@@ -28,15 +28,15 @@ IsAnswerBy reply answer before after (Ok given) = answer ≡ Ok (after, reply gi
 IsAnswerBy reply answer before after (Err stop) = IsAnswer answer before after (Err stop)
 
 -- the reply of a call that is answered so and tells these events
-abbrev pub replied : Made → List Event → Reply
-replied (made.Opened port) events = Opened port
-replied (made.Sent number) events = Sent number
-replied made.Done events = Done events
-replied (made.Refused cause) events = reply.Refused cause
+abbrev pub reply_with : Made → List Event → Reply
+reply_with (made.Opened port) events = Opened port
+reply_with (made.Sent number) events = Sent number
+reply_with made.Done events = Done events
+reply_with (made.Refused cause) events = reply.Refused cause
 
 -- as the law says, with what it tells put down apart
 abbrev pub IsMade : Answer → (before after : Segment) → (told : List Event) → Result Made Stop → Type 0
-IsMade answer before after told result = IsAnswerBy (λ made. replied made told) answer before after result
+IsMade answer before after told result = IsAnswerBy (λ made. reply_with made told) answer before after result
 
 -- only a call that is done tells anything
 abbrev pub IsSilentBut : Made → List Event → Type 0

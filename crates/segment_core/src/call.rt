@@ -3,7 +3,7 @@ ghost use Rattle.std.specs.Prelude.{◌≡◌, ℕ, ◌<◌, ◌∷◌, ◌++◌
 ghost use Rattle.segment_law.specs.Calls.{are_bytes, is_address, is_call, called, applied};
 ghost use Rattle.segment_law.specs.Record.{Record, StandsAt};
 ghost use Rattle.pgn_ids.specs.declared.address.Address.{Address as AddressValue};
-ghost use Rattle.segment_core.specs.Answers.{IsMade, IsSilent, done_unless, replied};
+ghost use Rattle.segment_core.specs.Answers.{IsMade, IsSilent, done_unless, reply_with};
 ghost use Rattle.segment_core.specs.Memory.{MayAskMemory};
 ghost use Rattle.segment_core.specs.Promise.{KeepsPromise};
 
@@ -99,12 +99,12 @@ impl Segment {
     #[inline(always)]
     pub fn apply_telling(&mut self, call: Call, told: &mut Events) -> Result<Made, AllocError>
         requires { told.old ≡ [] }
-        ensures ok { IfOk result (λ made. applied self.old call ≡ (self.new, replied made told.new)) }
+        ensures ok { IfOk result (λ made. applied self.old call ≡ (self.new, reply_with made told.new)) }
         ensures err { OnErr result (self.new ≡ self.old) }
         ensures silent { IsSilent told.new result }
         ensures not_refused { OnErr result (IsOk (called self.old call)) }
         ensures memory { OnErr result (MayAskMemory self.old call) }
-        ensures stands { (addresses : List AddressValue) (steps : Record) → StandsAt addresses steps self.old → IfOk result (λ made. StandsAt addresses (steps ++ (call, replied made told.new) ∷ []) self.new) }
+        ensures stands { (addresses : List AddressValue) (steps : Record) → StandsAt addresses steps self.old → IfOk result (λ made. StandsAt addresses (steps ++ (call, reply_with made told.new) ∷ []) self.new) }
         ensures headline { KeepsPromise self.new }
     {
         // A law, for the last clause: the call does nothing.

@@ -6,6 +6,7 @@ use Rattle.segment_core.proofs.Stations.{at_none}
 use Rattle.segment_core.proofs.Kept.{inside_kept, at_here, stepped_view, unchanged_view}
 use Rattle.segment_core.proofs.Calling.{within_here}
 use Rattle.segment_core.proofs.segment.Segment.close.Goals as goal
+use Rattle.segment_core.proofs.segment.Segment.close.Goals.{in-Ok, in-Err}
 
 pub returns-in_default : goal.returns-in_default
 returns-in_default c = (at_none c.args.self.now c.args.port.station (closes c.args.self.now c.args.port.number) (sym c.place_of.ensures.value ∙ c.in_default.is), refl)
@@ -14,22 +15,20 @@ pub index_mut-requires : goal.index_mut-requires
 index_mut-requires c = within_here c.self.inside c.args.self.now c.in-Some.place c.self.view_is c.in-Some.ensures.within
 
 pub invariant_of-self : goal.invariant_of-self
-invariant_of-self c =
-    inside_kept c.self.inside c.in-Some.place c.close.new.self c.index_mut.result.now c.self.invariant c.index_mut.ensures.value (ap (λ st. st.address) c.in-Ok.ensures.ok ∙ closed_keeps c.index_mut.result.now c.args.port.number)
+invariant_of-self c = elim c.match-close.branch [
+  | in-Ok w ↦ inside_kept c.self.inside c.in-Some.place c.close.new.self c.index_mut.result.now c.self.invariant c.index_mut.ensures.value (ap (λ st. st.address) w.in-Ok.ensures.ok ∙ closed_keeps c.index_mut.result.now c.args.port.number)
+  | in-Err w ↦ inside_kept c.self.inside c.in-Some.place c.close.new.self c.index_mut.result.now c.self.invariant c.index_mut.ensures.value (ap (λ st. st.address) w.in-Err.ensures.err)
+]
 
-pub invariant_of-self-in-Err : goal.invariant_of-self-in-Err
-invariant_of-self-in-Err c =
-    inside_kept c.self.inside c.in-Some.place c.close.new.self c.index_mut.result.now c.self.invariant c.index_mut.ensures.value (ap (λ st. st.address) c.in-Err.ensures.err)
-
-pub returns-in-Ok : goal.returns-in-Ok
-returns-in-Ok c =
-    at_here c.self.inside _ _ c.in-Some.place c.index_mut.result.now _ c.self.view_is c.in-Some.ensures.value c.in-Some.ensures.within c.index_mut.ensures.value
-    ∙ goes_on _ _ _ (closes_by c.args.self.now c.in-Some.place c.index_mut.result.now c.args.port.number) (sym c.in-Ok.ensures.refused)
-    ∙ stepped_view c.self.inside _ c.in-Some.place _ _ _ _ c.self.view_is c.in-Ok.ensures.ok c.done.ensures
-
-pub returns-in-Err : goal.returns-in-Err
-returns-in-Err c =
-    refuses _ _ _ (at_here c.self.inside _ _ c.in-Some.place c.index_mut.result.now _ c.self.view_is c.in-Some.ensures.value c.in-Some.ensures.within c.index_mut.ensures.value
-    ∙ closes_by c.args.self.now c.in-Some.place c.index_mut.result.now c.args.port.number) _ _ c.in-Err.cause _ c.stop_of.ensures refl
-    (unchanged_view c.self.inside _ c.in-Some.place _ c.index_mut.result.now c.self.view_is c.in-Err.ensures.err c.index_mut.ensures.value)
-    c.in-Err.ensures.refused
+pub returns : goal.returns
+returns c = elim c.match-close.branch [
+  | in-Ok w ↦ rw w.result-is
+      (at_here c.self.inside _ _ c.in-Some.place c.index_mut.result.now _ c.self.view_is c.in-Some.ensures.value c.in-Some.ensures.within c.index_mut.ensures.value
+      ∙ goes_on _ _ _ (closes_by c.args.self.now c.in-Some.place c.index_mut.result.now c.args.port.number) (sym w.in-Ok.ensures.refused)
+      ∙ stepped_view c.self.inside _ c.in-Some.place _ _ _ _ c.self.view_is w.in-Ok.ensures.ok refl)
+  | in-Err w ↦ rw w.result-is
+      (refuses _ _ _ (at_here c.self.inside _ _ c.in-Some.place c.index_mut.result.now _ c.self.view_is c.in-Some.ensures.value c.in-Some.ensures.within c.index_mut.ensures.value
+      ∙ closes_by c.args.self.now c.in-Some.place c.index_mut.result.now c.args.port.number) _ _ w.in-Err.cause _ w.stop_of.ensures refl
+      (unchanged_view c.self.inside _ c.in-Some.place _ c.index_mut.result.now c.self.view_is w.in-Err.ensures.err c.index_mut.ensures.value)
+      w.in-Err.ensures.refused)
+]

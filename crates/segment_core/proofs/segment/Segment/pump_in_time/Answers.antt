@@ -1,4 +1,5 @@
-use Rattle.std.proofs.Common.{◌≡◌, ℕ, Err, subst, rules}
+use Rattle.segment_core.specs.Answers.{reply_with}
+use Rattle.std.proofs.Common.{◌≡◌, ℕ, [], Err, subst, rules}
 use Rattle.segment_core.specs.Joined.{joined}
 use Rattle.segment_law.specs.Drive.{makes}
 use Rattle.segment_law.specs.declared.call.Call.TheVariants.{Pump, Tick}
@@ -19,6 +20,6 @@ pub returns : goal.returns
 returns c = λ start d h.
     let put = c.args.course.now.frames.items in
     let told = joined c.args.course.now.parts.items in
-    let ticked = tick_made start d c.args.self.now c.tick.new.self put told c.missing-missing.result c.in_ok-_done._done h c.in_ok-_done.ensures in
+    let ticked = tick_made start d c.args.self.now c.tick.new.self put told c.missing-missing.result (reply_with c.in_ok-_done._done []) h c.in_ok-_done.ensures in
     let gone = c.pump_once.ensures start (makes d (Tick c.missing-missing.result)) ticked in
     subst (λ (n : ℕ). HasGone start (makes (makes d (Tick n)) (Pump c.args.from c.args.to)) c.pump_once.new.self c.pump_once.new.course.frames.items (joined c.pump_once.new.course.parts.items) c.pump_once.result) c.missing-missing.ensures gone

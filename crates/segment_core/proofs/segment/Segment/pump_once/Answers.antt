@@ -25,7 +25,7 @@ returns-in_err-pump_telling c = λ start d h.
     gone_by start (makes d (Pump c.args.from c.args.to)) c.pump_telling.new.self put told c.from_residual-in_err-pump_telling.result c.in_err-pump_telling.field-0.0 e
     (pump_stopped start d c.args.self.now c.pump_telling.new.self put told c.args.from c.args.to c.in_err-pump_telling.field-0.0
     (relisted None start d c.args.self.now c.args.course.now.frames.items put (joined c.args.course.now.parts.items) told c.make_pump_part.ensures.same.0 (ap joined c.make_pump_part.ensures.same.1) h)
-    c.one_byte.ensures c.in_err-pump_telling.ensures)
+    c.one_byte.ensures c.in_err-pump_telling.ensures.answer)
 
 pub returns : goal.returns
 returns c = λ start d h.
@@ -33,4 +33,4 @@ returns c = λ start d h.
     let told = joined c.make_pump_part.new.course.parts.items in
     pump_made start d c.args.self.now c.pump_telling.new.self put told (joined c.note.new.self.parts.items) c.args.from c.args.to (Done c.pump_telling.new.told)
     (relisted None start d c.args.self.now c.args.course.now.frames.items put (joined c.args.course.now.parts.items) told (c.note.ensures.frames ∙ c.make_pump_part.ensures.same.0) (ap joined c.make_pump_part.ensures.same.1) h)
-    c.one_byte.ensures c.in_ok-pump_telling.ensures c.note.ensures.told
+    c.one_byte.ensures c.in_ok-pump_telling.ensures.answer c.note.ensures.told

@@ -1,4 +1,5 @@
-use Rattle.std.proofs.Common.{◌≡◌, ◌++◌, None, Err, refl, ap, ◌∙◌, rules}
+use Rattle.segment_core.specs.Answers.{reply_with}
+use Rattle.std.proofs.Common.{◌≡◌, [], ◌++◌, None, Err, refl, ap, ◌∙◌, rules}
 use Rattle.std.specs.Prelude.{option_to_list}
 use Rattle.segment_core.specs.Joined.{joined}
 use Rattle.segment_core.proofs.Drives.{relisted}
@@ -20,7 +21,7 @@ returns-clause-put c =
       between = c.transmit.new.self;
       shown = c.put.new.self;
       put = λ start d h.
-          puts_made start d c.args.self.now c.transmit.new.self put c.put.new.self.frames.items told c.args.station c.in_ok-_done._done
+          puts_made start d c.args.self.now c.transmit.new.self put c.put.new.self.frames.items told c.args.station (reply_with c.in_ok-_done._done [])
           (relisted None start d c.args.self.now put put (joined c.args.course.now.parts.items) told refl (ap joined c.put.ensures.parts) h)
           c.in_ok-_done.ensures.answer (c.put.ensures.frames ∙ ap (λ o. put ++ option_to_list o) c.front-front.ensures);
       passed = c.take_abreast.ensures;

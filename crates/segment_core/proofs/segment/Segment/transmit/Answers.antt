@@ -14,4 +14,3 @@ returns-clause-answer c =
     let free : is_full c.args.self.now.bus ≡ false = had_room c.put.result (is_full c.args.self.now.bus) (ap is_err c.in-Ok.is) c.put.ensures.full in
     transmits_here c.self.inside c.self-2.inside c.args.self.now c.args.station c.in-Some.place c.index.result.now c.index_mut.result.now c.pop-transmitted.new.self c.in-Some-front.frame
     c.self.view_is c.in-Some.ensures.value c.in-Some.ensures.within c.index.ensures c.in-Some-front.ensures free (c.self-2.view_is ∙ c.in-Ok.ensures.ok) c.index_mut.ensures.value c.pop-transmitted.ensures.left
-    ∙ ap (said _) (sym c.done.ensures)

@@ -1,10 +1,11 @@
 use Rattle.std.proofs.Common.{◌≡◌, rules}
 use Rattle.segment_core.specs.declared.stop.Stop.TheVariants.{Refused}
+use Rattle.segment_core.specs.Answers.{reply_with}
 use Rattle.segment_core.proofs.Records.{done_stands, refused_stands}
-use Rattle.segment_core.proofs.segment.Segment.apply.Goals as goal
+use Rattle.segment_core.proofs.segment.Segment.apply_telling.Goals as goal
 
 pub returns-in-Ok-clause-stands : goal.returns-in-Ok-clause-stands
-returns-in-Ok-clause-stands c = done_stands c.args.self.now c.call.new.self c.args.call c.in-Ok.reply c.fits.ensures c.in-Ok.ensures.answer
+returns-in-Ok-clause-stands c = done_stands c.args.self.now c.call.new.self c.args.call (reply_with c.in-Ok.made c.call.new.told) c.fits.ensures c.in-Ok.ensures.answer
 
 pub returns-in-Err-Refused-clause-stands : goal.returns-in-Err-Refused-clause-stands
 returns-in-Err-Refused-clause-stands c =

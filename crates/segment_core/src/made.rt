@@ -1,0 +1,16 @@
+//! What a call is answered, apart from what it tells.
+use port_table::PortId;
+use segment_law::Refusal;
+
+/// What a call is answered, apart from what it tells: a reply without its events.
+#[derive(Clone, Copy, Debug, PartialEq, Eq)]
+pub enum Made {
+    /// The port that was opened.
+    Opened(PortId),
+    /// The number of the message that was sent, from 1 in its lane.
+    Sent(u64),
+    /// It was made.
+    Done,
+    /// It is refused, and nothing has changed.
+    Refused(Refusal),
+}
