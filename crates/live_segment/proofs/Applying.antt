@@ -70,11 +70,6 @@ applied_as keeps addresses st xs ys ss ts ds es gs call r room bs at re ca fo sa
   room = λ none. subst (λ (u : List DoorView). NoPlace (live_view keeps addresses xs ss ds) (live_view keeps addresses ys ts u) call) (sym (same none)) (found_false keeps addresses st xs ys ss ts ds es call room bs at fo none);
 }
 
--- the events come back as they were told
-pub answered : (keeps : Kept) (addresses : List Address) (xs ys : List Stored) (ss ts : List SeatView) (ds gs : List DoorView) (call : WorkerCall) (es fs : List Event) (room : Bool) → fs ≡ es
-    → Applied (live_view keeps addresses xs ss ds) (live_view keeps addresses ys ts gs) call (Done es) room → Applied (live_view keeps addresses xs ss ds) (live_view keeps addresses ys ts gs) call (Done fs) room
-answered keeps addresses xs ys ss ts ds gs call es fs room is h = subst (λ (u : List Event). Applied (live_view keeps addresses xs ss ds) (live_view keeps addresses ys ts gs) call (Done u) room) (sym is) h
-
 -- nothing is given to anyone
 pub spares_none : (ps : List PortView) → SparesClosed [] ps
 spares_none [] = tt

@@ -1,5 +1,6 @@
 -- What a call tells goes to the clients and ports as they are shown: their lists grow, and nothing else of them changes.
-use Rattle.std.proofs.Common.{◌≡◌, ℕ, zero, suc, ◌+◌, ◌<◌, true, false, List, [], ◌∷◌, ◌++◌, length, map, set, get_or, refl, ap, ◌∙◌, subst, arith, append-nil}
+use Rattle.std.proofs.Common.{◌≡◌, ℕ, zero, suc, ◌+◌, ◌<◌, true, false, List, [], ◌∷◌, ◌++◌, length, map, set, get_or, drop, None, Some, refl, sym, ap, ◌∙◌, subst, arith, append-nil}
+use Rattle.std.specs.Prelude.{slice_get}
 use Rattle.port_table.specs.declared.port.PortId.{PortId}
 use Rattle.message_events.specs.declared.event.Event.{Event}
 use Rattle.segment_law.specs.Told.{same_port}
@@ -77,3 +78,13 @@ gone_clients-more (d ∷ cs) c vs = gone_clients-more cs c (gone vs d.id)
 pub gone_ports-more : (is : List InboxEnd) (i : InboxEnd) (ps : List PortView) → gone_ports (is ++ i ∷ []) ps ≡ map (closing i.port) (gone_ports is ps)
 gone_ports-more [] i ps = refl
 gone_ports-more (j ∷ is) i ps = gone_ports-more is i (map (closing j.port) ps)
+
+-- the events of a call by the first of them
+
+pub untold : (es : List Event) → slice_get es 0 ≡ None → es ≡ []
+untold [] none = refl
+untold (e ∷ es) none = absurd cc
+
+pub first_of : (es : List Event) (e : Event) → slice_get es 0 ≡ Some e → es ≡ e ∷ drop 1 es
+first_of [] e is = absurd cc
+first_of (x ∷ es) e is = let same : x ≡ e = cc in ap (λ (y : Event). y ∷ es) same

@@ -9,12 +9,12 @@ use Rattle.live_segment.proofs.tell.tell.Goals as goal
 
 pub returns-then-is_empty-clause-doors : goal.returns-then-is_empty-clause-doors
 returns-then-is_empty-clause-doors c =
-    let count : length c.args.events ≡ 0 = eqb-true (length c.args.events) 0 (sym c.is_empty.ensures ∙ c.if-is_empty.true) in
-    let none : c.args.events ≡ [] = no_items c.args.events (omega (arith, count)) in
+    let count : length c.args.events.now ≡ 0 = eqb-true (length c.args.events.now) 0 (sym c.is_empty.ensures ∙ c.if-is_empty.true) in
+    let none : c.args.events.now ≡ [] = no_items c.args.events.now (omega (arith, count)) in
     sym (ap (λ (es : List Event). give_all es c.args.doors.now.items) none ∙ give_all_none [] c.args.doors.now.items (λ q. refl))
 
 pub returns-then-is_empty-clause-seats : goal.returns-then-is_empty-clause-seats
 returns-then-is_empty-clause-seats c =
-    let count : length c.args.events ≡ 0 = eqb-true (length c.args.events) 0 (sym c.is_empty.ensures ∙ c.if-is_empty.true) in
-    let none : c.args.events ≡ [] = no_items c.args.events (omega (arith, count)) in
+    let count : length c.args.events.now ≡ 0 = eqb-true (length c.args.events.now) 0 (sym c.is_empty.ensures ∙ c.if-is_empty.true) in
+    let none : c.args.events.now ≡ [] = no_items c.args.events.now (omega (arith, count)) in
     sym (ap (λ (es : List Event). note_all (settle_notes c.args.owed.now.items es) c.args.seats.now.items) none ∙ note_all_none c.args.seats.now.items)
