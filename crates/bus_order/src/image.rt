@@ -58,7 +58,7 @@ impl BusImage {
     }
 }
 
-// The frames once more.
+// A copy of the frames.
 fn copied(alloc: Global, frames: &VecDeque<Frame>) -> Result<Vec<Frame>, AllocError>
     ensures { IfOk result (λ copies. copies.items ≡ frames.now.items) }
 {

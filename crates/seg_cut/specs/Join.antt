@@ -1,19 +1,19 @@
--- Joining the packets of a message that comes in their order (SAE J1939-21, TP.DT).
+-- Joining the packets of a message that arrive in order (SAE J1939-21, TP.DT).
 use Rattle.std.specs.Prelude.{ℕ, zero, suc, ◌+◌, ◌-◌, ◌*◌, ◌^◌, ◌≡◌, ◌<◌, ◌≤◌, Bool, ◌==◌, ◌&&◌, nat_le, List, [], ◌++◌, length, take, min, max}
 use Rattle.seg_cut.specs.Packets.{packet_count, packet}
 
--- a message of this size: the number of the next packet, the bytes that have come, and for how many more there is room
+-- a message of this size: the number of the next packet, the bytes received, and how many more packets there is room for
 pub record Join : Type 0 where
   pub size : ℕ
   pub next : ℕ
   pub bytes : List ℕ
   pub room : ℕ
 
--- nothing of the message has come
+-- no packet has arrived
 abbrev pub empty_join : ℕ → Join
 empty_join size = record { size = size; next = 1; bytes = []; room = 0 }
 
--- each packet has come
+-- each packet has arrived
 abbrev pub is_complete : Join → Bool
 is_complete j = j.next == packet_count j.size + 1
 
@@ -50,7 +50,7 @@ pub record IsJoin (j : Join) : Type 0 where
   pub to_end : j.next ≤ packet_count j.size + 1
   pub so_far : length j.bytes ≡ min j.size (7 * (j.next - 1))
 
--- the packets of this message before the next one have come
+-- the bytes received are those of the message's packets before the next one
 pub record IsFrontOf (message : List ℕ) (j : Join) : Type 0 where
   pub same_size : j.size ≡ length message
   pub from_packet : 1 ≤ j.next

@@ -1,4 +1,4 @@
--- What is heard, with a packet's bytes where they stand.
+-- The meaning of a frame, with a packet's bytes left in the frame.
 use Rattle.pgn_ids.specs.declared.address.Address.{Address}
 use Rattle.tp_wire.specs.declared.heard.Heard.{Heard}
 use Rattle.tp_wire.specs.declared.heard.Heard.TheVariants as heard

@@ -83,7 +83,7 @@ body_of pgn bytes =
     else if pgn == acknowledgement then ack_of bytes
     else None
 
--- what bytes mean from one address to another, where the table has it between them
+-- the meaning from one address to another, if the table allows it between them
 abbrev pub between : (from to : Address) → Option Wire → Option (Wire × Address × Address)
 between from to body = do
   wire ← body

@@ -27,7 +27,7 @@ pub fn frames_have_one_meaning()
     ensures { (f : CanFrame) (wire other : Wire) (from to source destination : Address) → Reads f wire from.0 to.0 → Reads f other source.0 destination.0 → (wire ≡ other) × (from ≡ source) × (to ≡ destination) }
 {}
 
-/// A law: a frame is malformed exactly where its PGN is one of the six and it has no meaning.
+/// A law: a frame is malformed exactly if its PGN is one of the six and it has no meaning.
 pub fn malformed_frames_have_no_meaning()
     ensures { (f : CanFrame) → ((i : ℕ) → slice_index f.bytes i < 256) → (is_malformed f ≡ true) ↔ ((is_transport f ≡ true) × ((wire : Wire) (from to : Address) → ¬ (Reads f wire from.0 to.0))) }
 {}
