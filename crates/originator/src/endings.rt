@@ -52,7 +52,7 @@ impl Link {
 }
 
 impl OutState {
-    /// Its timer fired: the message ended as timed out, and an abort is queued. `is_due` says where it has a timer.
+    /// Its timer fired: the message ends as timed out, and an abort is queued. `is_due` says when it has a timer.
     pub fn expire(self) -> OutOver
         ensures { result ≡ expired (link_of self) }
     {

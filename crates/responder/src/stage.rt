@@ -19,8 +19,8 @@ pub(crate) enum Stage {
     OnHold,
 }
 
-/// Asks for the window from the next packet on, or tells the peer to hold: the stage that this leads to, the timer that starts,
-/// and the frame.
+/// Asks for the window from the next packet on, or asks the peer to hold: the stage that follows, the timer that starts, and
+/// the frame.
 #[inline(always)]
 pub(crate) fn ask(message: &Unfinished, flow: Flow, now: u64) -> (Stage, Timer, Frame)
     requires room { HasRoom flow message.now }

@@ -26,7 +26,7 @@ abbrev pub timer_of : Incoming → Timer
 timer_of (Broadcast s) = s.timer
 timer_of (Connection s) = responder.timer_of s
 
--- what goes out where it ends before its message is whole: the abort of a connection
+-- the frame that is sent if it ends before its message is whole: the abort of a connection
 abbrev pub ending_frame : Incoming → AbortReason → Option CanFrame
 ending_frame (Broadcast s) reason = None
 ending_frame (Connection s) reason = Some (abort_frame (responder.unfinished_of s).kind (responder.unfinished_of s).peer (reason_byte reason))

@@ -13,7 +13,7 @@ use Rattle.session_table.specs.Key.{key_cmp}
 abbrev pub Sessions : Type 0 → Type 0
 Sessions T = map.FinMap key_cmp (Option (T × Incoming))
 
--- its values are told apart by their entries
+-- two values are equal if their entries are
 abbrev pub sessions_code : {T : Type 0} → Coded T → Coded (Sessions T)
 sessions_code code = map.code ((key.the_row).coded) (coded_option (coded× code ((incoming.the_row).coded)))
 
@@ -22,6 +22,6 @@ module _ {T : Type 0} where
   abbrev pub IsHeld : Sessions T → Key → Type 0
   IsHeld m k = map.get m k ≡ Some None
 
-  -- what stands at the key, if it is there and isn't held
+  -- the state at the key, if the key is there and isn't held
   abbrev pub state_at : Sessions T → Key → Option (T × Incoming)
   state_at m k = option_flatten (map.get m k)

@@ -13,7 +13,7 @@ use Rattle.session_table.specs.declared.incoming.Incoming.{Incoming}
 use Rattle.session_table.specs.Key.{key_eq}
 use Rattle.session_table.specs.Sessions.{Sessions}
 
--- the index leads this key there now, or nowhere, and every other key where it led
+-- the index leads this key to that place now, or nowhere, and every other key to its old place
 abbrev pub TurnsOnly : (old new : List (Key × ℕ)) → Key → Option ℕ → Type 0
 TurnsOnly old new k at =
     (q : Key) → lookup (key_eq q) new ≡ (if key_eq q k then at else lookup (key_eq q) old)

@@ -39,7 +39,7 @@ impl<T> Slot<T> {
         }
     }
 
-    /// Its state takes a frame at tick `now` where it stands; without one nothing is done.
+    /// Its state takes a frame at tick `now` and changes in place; without a state nothing is done.
     #[inline(always)]
     pub(crate) fn take(
         &mut self,
