@@ -14,6 +14,6 @@ is_doubtful _ = true
 abbrev pub sight_of : Lane → LaneSight
 sight_of lane = record { pending = length lane.pending; in_doubt = is_doubtful lane.standing }
 
--- where no message was sent
+-- the sight of a lane that sent no message
 abbrev pub nothing_seen : LaneSight
 nothing_seen = record { pending = 0; in_doubt = false }

@@ -88,7 +88,7 @@ impl LaneImage {
     }
 }
 
-// The messages once more.
+// A copy of the messages.
 fn copied(alloc: Global, messages: &VecDeque<Pending>) -> Result<Vec<Pending>, AllocError>
     ensures { IfOk result (λ copies. copies.items ≡ messages.now.items) }
 {

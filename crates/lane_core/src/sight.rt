@@ -16,7 +16,7 @@ pub struct LaneSight {
 }
 
 impl LaneSight {
-    /// What is seen where no message was sent.
+    /// The sight of a lane that sent no message.
     pub fn nothing() -> LaneSight
         ensures { result ≡ nothing_seen }
     {

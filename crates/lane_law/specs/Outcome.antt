@@ -1,4 +1,4 @@
--- What a sender is told of its messages, held against what was given.
+-- The outcomes that a sender is told, compared with what was given.
 use Rattle.std.specs.Prelude.{ℕ, ◌<◌, ◌≤◌, ◌≢◌, List, All, AllPairs}
 use Rattle.lane_law.specs.Session.{Given}
 use Rattle.lane_law.specs.Choice.{IsGiven}

@@ -11,7 +11,7 @@ pub record Stream : Type 0 where
   pub sent : List Message
   pub queued : Place  -- behind the newest frame
   pub forward : List Frame  -- ahead of the destination: on the bus past its cursor, then in the sender's queue
-  pub again : List Frame  -- the frame that the destination would take if it took one again, where it is one of these; else empty
+  pub again : List Frame  -- the frame that the destination would take if it took one again, if it is one of these; else empty
   pub reached : Place  -- behind the frames that the destination took or passed over
   pub session : Option Session
   pub given : List Given
@@ -90,7 +90,7 @@ IsReached stream = Leads MayHappen after empty_stream stream
 abbrev pub OnEachStream : (Stream → Type 0) → Type 0
 OnEachStream P = (stream : Stream) → IsReached stream → P stream
 
--- a session is of the message of the last RTS, which was sent and was not given, and has its first packets
+-- a session is that of the message of the last RTS, which was sent and not given, and has its first packets
 pub record IsOfReached (stream : Stream) (session : Session) : Type 0 where
   pub number : session.number ≡ stream.reached.number
   pub pgn : session.pgn ≡ stream.reached.message.pgn

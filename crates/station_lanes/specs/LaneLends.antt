@@ -1,4 +1,4 @@
--- What a place ends as whose lane is stepped where it stands.
+-- The content of a place after its lane was stepped in place.
 use Rattle.std.specs.Prelude.{Option, Some}
 use Rattle.std.specs.Borrow.{LendsIf, Fml, MutBor}
 use Rattle.lane_core.specs.Lane.{Lane}

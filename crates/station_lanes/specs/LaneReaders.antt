@@ -57,7 +57,7 @@ is_timed_at lanes to = elim (map.get lanes to) [ None ↦ false | Some lane ↦ 
 abbrev pub NonePasses : (ℕ → Bool) → (from to : ℕ) → Type 0
 NonePasses test from to = (n : ℕ) → from ≤ n → n < to → test n ≡ false
 
--- the one that was found, or else this one where it passes
+-- the one that was found, or else this one if it passes
 abbrev pub found_or : Option ℕ → (passes : Bool) → ℕ → Option ℕ
 found_or (Some k) passes n = Some k
 found_or None passes n = if passes then Some n else None
@@ -101,7 +101,7 @@ unfoldable pub overrun_lanes : Lanes → ℕ → Lanes
 overrun_lanes lanes zero = lanes
 overrun_lanes lanes (suc to) = stepped_lanes (overrun_lanes lanes to) to overrun
 
--- the outcomes that it told, by rising destination
+-- the outcomes of an overrun, by rising destination
 unfoldable pub overrun_events : Address → Lanes → ℕ → List Event
 overrun_events from lanes zero = []
 overrun_events from lanes (suc to) = overrun_events from lanes to ++ outcome_of from (record { 0 = to }) (step_at (overrun_lanes lanes to) to overrun).ended

@@ -1,4 +1,4 @@
-//! The outcomes that the lanes tell.
+//! The outcomes of the lanes.
 ghost use Rattle.std.specs.Prelude.{◌≡◌, ◌+◌, ◌≤◌, ◌++◌, [], length, None, option_to_list, vec_capacity};
 ghost use Rattle.station_lanes.specs.LaneCalls.{outcome_of};
 
