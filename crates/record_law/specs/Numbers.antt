@@ -13,7 +13,7 @@ use Rattle.segment_law.specs.declared.reply.Reply.TheVariants.{Sent}
 abbrev pub Answered : Type 0
 Answered = ℕ × Message
 
--- of a Send from s to d
+-- the number and the message of a Send from s to d
 abbrev pub answered_by : (s d : Address) → Call → Reply → List Answered
 answered_by s d (Send from to pgn bytes) (Sent number) = if is_lane s d from to then (number, (pgn, bytes)) ∷ [] else []
 answered_by s d _ _ = []

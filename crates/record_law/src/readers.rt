@@ -12,14 +12,14 @@ ghost use Rattle.segment_law.specs.Record.{Record, StandsAt};
 ghost use Rattle.record_law.specs.Counting.{counts_over};
 ghost use Rattle.record_law.specs.Missed.{HasMissed};
 
-/// A law: the ports that a station's next Take, or its TakeAgain, is said to want room of are those that this call with room
-/// gives a message at, in this order; none where it gives none.
+/// A law: the ports that a station's next Take, or its TakeAgain, is said to want room for are those that this call with room
+/// gives a message at, in this order; none if it gives none.
 pub fn wants_are_what_is_given()
     ensures { (seg : Segment) (a : Address) (again : Bool) → (wanted seg a again).0 ≡ (given_by_take seg a again).0 }
 {}
 
-/// A law: at each record, what a station's next Take, or its TakeAgain, is said to want is what this call with room gives: at
-/// which ports, and the length of the message; none and 0 where it gives none.
+/// A law: at each record, the ports and the length that a station's next Take, or its TakeAgain, is said to want are those of
+/// the message that this call with room gives; none and 0 if it gives none.
 pub fn wants_are_what_is_given_whole()
     ensures { (addresses : List Address) (steps : Record) (seg : Segment) → StandsAt addresses steps seg
         → (a : Address) (again : Bool) → wanted seg a again ≡ given_by_take seg a again }
@@ -33,8 +33,8 @@ pub fn counts_are_those_of_the_record()
         → seg.counts ≡ counts_over addresses steps }
 {}
 
-/// A law: at each record, after an Overrun that was done the station has no incoming session and no connection under way, and
-/// its TakeAgain is refused, whatever calls come between, until it has taken a frame.
+/// A law: at each record, after an Overrun that was done the station has no incoming session and no connection under way. Its
+/// TakeAgain is refused after any calls, until it has taken a frame.
 pub fn overruns_leave_nothing_to_take_again()
     ensures { (addresses : List Address) (steps : Record) (seg next : Segment) (a : Address) (n : ℕ) (events : List Event)
         → StandsAt addresses steps seg → applied seg (Overrun a n) ≡ (next, Done events) → HasMissed next a }

@@ -32,7 +32,7 @@ abbrev pub opens : Call → Bool
 opens (Open station pgn max_len) = true
 opens _ = false
 
--- an opening is answered by a port, a Send by a number, and every other call by events, where they aren't refused
+-- if it isn't refused, an opening is answered by a port, a Send by a number, and every other call by events
 abbrev pub IsAnsweredBy : Call → Reply → Type 0
 IsAnsweredBy call (Opened p) = opens call ≡ true
 IsAnsweredBy call (Sent n) = is_send call ≡ true

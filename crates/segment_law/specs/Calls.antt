@@ -38,7 +38,7 @@ is_send _ = false
 abbrev pub Answer : Type 0
 Answer = Result (Segment × Reply) Refusal
 
--- a call that tells nothing
+-- a call that is done without an event
 abbrev pub done : Segment → Answer
 done seg = Ok (seg, Done [])
 
@@ -109,7 +109,7 @@ cancels seg to number i st =
 
 -- Frames
 
--- a frame comes on the bus
+-- a frame is put on the bus
 abbrev pub with_frame : Segment → CanFrame → Segment
 with_frame seg frame = record seg { bus = bus.put seg.bus frame; counts = counted_frame seg.counts }
 
@@ -123,7 +123,7 @@ transmits_by seg i st (Some frame) =
 abbrev pub transmits : Segment → ℕ → Station → Answer
 transmits seg i st = transmits_by seg i st (front st.queue)
 
--- a station takes a frame; where it looks at it and finds it malformed, that is counted
+-- a station takes a frame; if it looks at the frame and finds it malformed, that is counted
 abbrev pub looks : Segment → (room : Bool) → ℕ → Station → CanFrame → Answer
 looks seg room i st frame = stepped (record seg { counts = counted_look seg.counts (is_malformed_for st frame) }) i (taken st frame room seg.now)
 
@@ -173,12 +173,12 @@ fires seg i st =
 
 -- Each call
 
--- of a station, where there is one at the place
+-- the answer of a station, if there is one at the place
 abbrev pub at_station : Option Station → (Station → Answer) → Answer
 at_station None call = Err refusal.NoSuchStation
 at_station (Some st) call = call st
 
--- of the station with an address, where there is one
+-- the answer of the station with an address, if there is one
 abbrev pub at_place : Segment → Option ℕ → (ℕ → Station → Answer) → Answer
 at_place seg None call = Err refusal.NoSuchStation
 at_place seg (Some i) call = at_station (slice_get seg.stations i) (call i)

@@ -44,7 +44,7 @@ abbrev pub stops_at : Driven → Reply → Driven
 stops_at d (Refused cause) = record d { ended = Some (end_by cause) }
 stops_at d _ = d
 
--- what comes next, unless the drive has ended
+-- the next call is made, unless the drive has ended
 abbrev pub goes_on : Driven → (Driven → Driven) → Driven
 goes_on d next = elim d.ended [ None ↦ next d | Some cause ↦ d ]
 
@@ -63,7 +63,7 @@ pumps_again from to reply d = stops_at d reply
 abbrev pub pumps : (from to : Address) → Driven → Driven
 pumps from to d = pumps_again from to (applied d.segment (Pump from to)).1 (with_call d (Pump from to) (applied d.segment (Pump from to)))
 
--- the first frame of a station's queue has come on the bus: the turn counts
+-- the first frame of a station's queue was put on the bus: the turn counts
 abbrev pub with_put : Option CanFrame → Driven → Driven
 with_put None d = d
 with_put (Some frame) d = record d { turns = d.turns + 1; frames = d.frames ++ frame ∷ [] }
