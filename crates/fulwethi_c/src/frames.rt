@@ -12,7 +12,7 @@ use crate::shown::write_frame;
 use c_parts::{CFrame, Parts, read_frame};
 use one_station::{Fed, Node, NodeError};
 
-/// A frame of another node comes from the bus.
+/// Feeds a frame of another node, read from the bus.
 #[unsafe(no_mangle)]
 pub extern "C" fn fulwethi_raw_feed(of: Handle, id: u32, bytes: &[u8], out: &mut Handle) -> u32
     requires { IsSome of.node }

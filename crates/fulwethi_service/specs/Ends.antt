@@ -31,8 +31,8 @@ abbrev pub IsOpened : (station : Address) → (pgn : Result ℕ Refusal) → (ma
 IsOpened station (Err cause) max_len port port' old new before after answer = (answer ≡ Err (Refused cause)) × (after ≡ before) × (new ≡ old) × (port' ≡ port)
 IsOpened station (Ok pgn) max_len port port' old new before after answer = IsOpenedAt station pgn max_len port port' old new before after answer
 
--- the port of an inbox was closed, and what the inbox didn't receive comes next after what is held; else it is as it was, but for room
--- that is kept
+-- the port of an inbox was closed, and what the inbox didn't receive follows what is held; else the inbox is unchanged, but for the
+-- room that it keeps
 abbrev pub IsClosedAt : (old new : Post) → (before after : LiveView) → InboxEnd → Result (Unit {0}) NotMade → Type 0
 IsClosedAt old new before after i (Ok _) = (j : InboxEnd) × (r : Closed) × ClosedFor before after i j r × (new.inbox ≡ Some j) × (new.held ≡ old.held) × (new.rest.items ≡ r.rest.items)
 IsClosedAt old new before after i (Err e) = (spare : ℕ) × IsCloseCause before i e × SameLive before after × (new.inbox ≡ Some (with_room_kept i spare)) × (new.held ≡ old.held) × (new.rest ≡ old.rest)
