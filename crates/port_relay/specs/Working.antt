@@ -9,7 +9,7 @@ use Rattle.port_relay.specs.declared.line.Log.{Log}
 use Rattle.port_relay.specs.declared.working.Worked.{Worked}
 use Rattle.port_relay.specs.Line.{log, in_hand}
 
--- the same inbox, which received these
+-- the inbox after it received these
 abbrev pub receives_all : InboxEnd → List Delivery → (gone spare : ℕ) → InboxEnd
 receives_all i ds gone spare = record i { popped = i.popped ++ ds; received = i.received ++ ds; gone = gone; spare = spare }
 
@@ -17,7 +17,7 @@ receives_all i ds gone spare = record i { popped = i.popped ++ ds; received = i.
 abbrev pub relayed_to : Address → Delivery → Submission
 relayed_to to d = submission to d.pgn d.bytes
 
--- the same client, which submitted these
+-- the client after it submitted these
 abbrev pub submits_all : ClientEnd → List Submission → (free gone : ℕ) → ClientEnd
 submits_all c ss free gone = record c { submitted = c.submitted ++ ss; free = free; gone = gone }
 

@@ -99,7 +99,7 @@ pub(crate) fn open(alloc: Global) -> Result<(Sender, Receiver, Way, Way), AllocE
     Ok((sender, receiver, writer, reader))
 }
 
-/// Puts a message at the back, or hands it back where the line is full.
+/// Puts a message at the back, or hands it back if the line is full.
 pub(crate) fn put<R: Wait>(
     rt: &R,
     sender: &Sender,

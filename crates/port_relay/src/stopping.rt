@@ -34,7 +34,7 @@ impl Stop {
 pub enum Ended {
     /// It has made all its turns.
     Turns,
-    /// As many messages were received as were to be.
+    /// The limit of messages was received.
     Limit,
     /// The client refused a message, for this cause, which isn't `RingFull`.
     Refused(Refusal),

@@ -31,7 +31,7 @@ fn is_due(calls: usize, at: usize) -> bool
     calls > 0 && (calls >= at || calls >= MOST_CALLS)
 }
 
-/// Cuts the record where it has so many calls. That a cut is refused, or finds no memory, changes nothing.
+/// Cuts the record if it has so many calls. A cut that is refused, or finds no memory, changes nothing.
 pub(crate) fn cut_at(live: &mut Live, at: usize) -> Result<Option<Piece>, NotMade>
     ensures done { IfOk result (λ r. MatchOption r (live.new ≡ live.old) (λ p. CutAs live.old live.new p)) }
     ensures refused { IfErr result (λ e. IsCutCause live.old e) }

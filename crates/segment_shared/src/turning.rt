@@ -25,7 +25,7 @@ impl Whose {
     }
 }
 
-/// A worker: whose turns it makes, the gate that it passes, and, where it cuts the record or goes by a clock, these.
+/// A worker: whose turns it makes, the gate that it passes, and, if it cuts the record or follows a clock, the keeper and the clock.
 pub(crate) struct Worker<'a, G, K, C> {
     pub(crate) whose: Whose,
     pub(crate) gate: &'a G,
@@ -58,8 +58,8 @@ impl Clock for Nobody {
     }
 }
 
-// What came of a turn: its calls, and those among them by which the clock went by another; how often in a row the station found no memory for what
-// it takes; whether the worker waits for others; why it ends, if it does; and what was cut.
+// The result of a turn: its calls, and those among them by which the clock followed another; how often in a row the station found no memory for
+// what it takes; whether the worker waits for others; why it ends, if it does; and what was cut.
 #[derive(Drop)]
 struct Turned {
     calls: u64,
@@ -141,7 +141,7 @@ impl<G: Gate, K: PieceKeeper, C: Clock> Worker<'_, G, K, C> {
         turned
     }
 
-    // Cuts the record where that is due; and whether a count would pass its last value. Without memory it is tried again at the next turn.
+    // Cuts the record if that is due, and returns whether a count would pass its last value. If memory is refused, the next turn tries again.
     fn cut(&self, live: &mut Live) -> (Option<Piece>, bool) {
         let Some(cutting) = self.cutting else {
             return (None, false);
@@ -153,7 +153,7 @@ impl<G: Gate, K: PieceKeeper, C: Clock> Worker<'_, G, K, C> {
         }
     }
 
-    // Why a worker ends that finds the record full: who cuts doesn't, unless no cut can come.
+    // Why a worker ends that finds the record full: a worker that cuts doesn't, unless no cut is possible.
     fn end_if(&self, is_past: bool) -> Option<WorkerEnd> {
         if self.cutting.is_none() || is_past {
             return Some(WorkerEnd::RecordFull);
@@ -196,7 +196,7 @@ impl<G: Gate, K: PieceKeeper, C: Clock> Worker<'_, G, K, C> {
         }
     }
 
-    // Where the clock goes by another, it doesn't go on by itself.
+    // A clock that follows another doesn't advance by itself.
     fn turn_of_bus(&self, live: &mut Live, is_timed: bool) -> Turn {
         if is_timed && live.lowest().is_none() {
             return Turn {

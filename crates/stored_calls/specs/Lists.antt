@@ -15,7 +15,7 @@ pub record CallsView : Type 0 where
 abbrev pub nobodys : Call → Stored
 nobodys c = record { by = None; call = c }
 
--- the call of a short form, where these are kept whole
+-- the call of a short form, looked up among the calls that are kept whole
 abbrev pub made_of : List Stored → Short → Stored
 made_of ws (Pump station to) = nobodys (call.Pump station to)
 made_of ws (Transmit station) = nobodys (call.Transmit station)
