@@ -6,7 +6,7 @@ ghost use Rattle.json.specs.Print.{escape_letter, escape_byte, escape, quoted};
 use std::alloc::AllocError;
 use text_digits::put_text;
 
-/// The letter of a byte's short escape, 0 where it has none.
+/// The letter of a byte's short escape, 0 if it has none.
 fn escape_letter(byte: u8) -> u8
     ensures { result ≡ escape_letter byte }
 {

@@ -13,7 +13,7 @@ cut_at wanted text = do
   at ← place_of wanted text
   Some (take at text, drop (at + 1) text)
 
--- how many spaces stand at the front
+-- how many spaces are at the front
 abbrev pub spaces_in : List ℕ → ℕ
 spaces_in [] = 0
 spaces_in (b ∷ bs) = if b == 32 then spaces_in bs + 1 else 0
@@ -22,7 +22,7 @@ spaces_in (b ∷ bs) = if b == 32 then spaces_in bs + 1 else 0
 abbrev pub word_len : List ℕ → ℕ
 word_len text = unwrap_or (place_of 32 text) (length text)
 
--- the first word, which is empty where there is none, and what stands behind it
+-- the first word, which is empty if there is none, and the text behind it
 abbrev pub next_word : List ℕ → List ℕ × List ℕ
 next_word text =
     let trimmed = drop (spaces_in text) text in

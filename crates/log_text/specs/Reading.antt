@@ -1,5 +1,5 @@
--- What a line shows in a log whose lines have a form: that of candump -L, (SECONDS.MICROS) IFACE ID#HEX, or that of a screen, IFACE ID [N] B0 B1 ..,
--- with a time in front of it or not. None begins as a frame of the log's form, and goes on otherwise.
+-- The meaning of a line in a log whose lines have a form: that of candump -L, (SECONDS.MICROS) IFACE ID#HEX, or that of a screen, IFACE ID [N] B0 B1
+-- .., with a time in front of it or not. None if it begins as a frame of the log's form, but continues differently.
 use Rattle.std.specs.Prelude.{ℕ, ◌+◌, ◌*◌, ◌/◌, ◌^◌, List, [], ◌∷◌, length, drop, Bool, false, ◌&&◌, ◌||◌, Option, Some, None, ◌==◌, nat_lt, nat_le, if◌then◌else◌, is_some}
 use Rattle.text_digits.specs.Numerals.{◌>>=◌, is_between, numeral_from}
 use Rattle.log_text.specs.Fields.{cut_at, spaces_in, next_word}
@@ -42,7 +42,7 @@ begins_shown text =
     let digits = next_word name.1 in
     is_some (iface_of name.0) && is_id digits.0 && is_bracket (next_word digits.1).0
 
--- the form of a line, where it has one
+-- the form of a line, if it has one
 abbrev pub form_of : List ℕ → Option Form
 form_of line = if begins_timed (trimmed line) then Some Timed else if begins_shown (trimmed line) then Some Untimed else None
 
@@ -109,7 +109,7 @@ timed_as (b ∷ text) = if b == 40 then stamped_line text else Some Passed
 abbrev pub untimed_as : List ℕ → Option LogLine
 untimed_as text = if begins_shown text then shown_line None text else Some Passed
 
--- any other line is passed over, and so is each where the log has no form yet
+-- any other line is passed over, and so is each line while the log has no form yet
 unfoldable pub line_as : Option Form → List ℕ → Option LogLine
 line_as None line = Some Passed
 line_as (Some Timed) line = timed_as (trimmed line)

@@ -23,7 +23,7 @@ pub(crate) fn cut_at(wanted: u8, text: &[u8]) -> Option<(&[u8], &[u8])>
     Some((&text[..at], &text[at + 1..]))
 }
 
-/// How many spaces stand at the front.
+/// How many spaces are at the front.
 pub(crate) fn spaces_in(text: &[u8]) -> usize
     ensures value { result ≡ spaces_in text.now }
     ensures within { result ≤ length text.now }
@@ -36,7 +36,7 @@ pub(crate) fn spaces_in(text: &[u8]) -> usize
     text.len()
 }
 
-/// The first word, which is empty where there is none, and what stands behind it.
+/// The first word, which is empty if there is none, and the text behind it.
 pub(crate) fn next_word(text: &[u8]) -> (&[u8], &[u8])
     ensures { (result.0.now, result.1.now) ≡ next_word text.now }
 {

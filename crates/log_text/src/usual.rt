@@ -1,4 +1,5 @@
-//! The parts of a line as `candump -L` writes them, so that most lines are read in one pass. Where a part isn't so, nothing is said of it.
+//! The parts of a line as `candump -L` writes them, so that most lines are read in one pass. If a part is different,
+//! the readers here return none and decide nothing.
 ghost use Rattle.std.specs.Prelude.{◌≡◌, ◌∷◌, IfSome, Some, true, false, if◌then◌else◌};
 ghost use Rattle.log_text.specs.Fields.{next_word};
 ghost use Rattle.log_text.specs.Line.{is_ended, frame_line, behind_time};

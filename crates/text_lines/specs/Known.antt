@@ -1,4 +1,4 @@
--- What is known of a reader's bytes before and after a call, where they are known.
+-- What is known of a reader's bytes before and after a call, if they are known.
 use Rattle.std.specs.Prelude.{◌≡◌, ℕ, ◌<◌, List, [], ◌∷◌, ◌++◌, length, ⊤, None, Some, Option}
 use Rattle.std.specs.Io.KnownBytes.{Consumes, Keeps, IsAtEnd, Appends, append_known}
 use Rattle.text_lines.specs.Lines.{NoFeed}
@@ -12,7 +12,7 @@ TakesPart most Feed old new before line = (part : List ℕ) × (line ≡ before 
 TakesPart most End old new before line = (line ≡ before) × IsAtEnd old × Keeps old new
 TakesPart most TooLong old new before line = (part : List ℕ) × (most < length (before ++ part)) × NoFeed part × Consumes old new part
 
--- where the bytes were known they still are, and P relates them
+-- if the bytes were known they still are, and P relates them
 abbrev pub Known : Option (List ℕ) → Option (List ℕ) → (List ℕ → List ℕ → Type 0) → Type 0
 Known None new P = ⊤
 Known (Some all) None P = ⊥

@@ -17,7 +17,7 @@ abbrev pub before_feed : List ℕ → ℕ
 before_feed [] = 0
 before_feed (b ∷ bs) = if b == 10 then 0 else before_feed bs + 1
 
--- the length of the first line of these bytes, where its line feed is among them and it has no more bytes than most
+-- the length of the first line of these bytes, if its line feed is among them and it has no more bytes than most
 abbrev pub held_line : ℕ → List ℕ → Option ℕ
 held_line most held = if nat_lt (before_feed held) (length held) && nat_le (before_feed held) most then Some (before_feed held) else None
 
