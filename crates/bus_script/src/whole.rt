@@ -1,4 +1,4 @@
-//! All that a line tells, in one text.
+//! The whole telling of a line, in one text.
 ghost use Rattle.std.specs.Prelude.{◌≡◌, ◌++◌, OnOk, option_to_list};
 ghost use Rattle.segment_law.specs.Calls.{events_of};
 ghost use Rattle.script_text.specs.Replies.{put_lines, event_lines};

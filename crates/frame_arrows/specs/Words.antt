@@ -68,7 +68,7 @@ length_words bytes = codes ", " ++ decimal bytes ++ codes " bytes"
 unfoldable pub other_words : (pgn bytes : ℕ) → List ℕ
 other_words pgn bytes = codes "frame " ++ digits 16 5 pgn ++ length_words bytes
 
--- of a frame that was read so
+-- the words for a frame with this meaning
 abbrev pub words_by : CanFrame → Option (Wire × Address × Address) → List ℕ
 words_by frame (Some (wire, from, to)) = words_of wire
 words_by frame None = other_words (meaning_of frame.id).pgn (length frame.bytes)

@@ -46,7 +46,7 @@ same_iface a b = bytes_eq (name_of a) (name_of b)
 abbrev pub is_elsewhere : Picture → Iface → Bool
 is_elsewhere s iface = elim s.iface [ None ↦ false | Some known ↦ not (same_iface iface known) ]
 
--- a wrong line ends the drawing where that is asked for
+-- a wrong line ends the drawing if the options say so
 abbrev pub is_ended : Options → Picture → Bool
 is_ended options s = options.strict && not (s.counts.wrong == 0)
 
@@ -71,7 +71,7 @@ abbrev pub form_with : Option Form → List ℕ → Option Form
 form_with None line = form_of line
 form_with (Some form) line = Some form
 
--- what a line leaves, what it draws, and what is told of it on standard error
+-- the state after a line, what it draws, and its line on standard error
 pub record Step : Type 0 where
   pub left : Picture
   pub text : List ℕ
