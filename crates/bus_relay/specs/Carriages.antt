@@ -53,7 +53,7 @@ pub record IsCarried (p : Passage) (stations : List Address) (c : Carriage) (nea
   pub received : c.pulled ≤ length (port_given p near)
   pub sent : IsPrefix (client_sent p stations far) (map (relayed_to p.to) (take c.pushed (port_given p near)))
 
--- all that was to come came, was sent on, and has its outcome
+-- all that was to be relayed was received, was sent on, and has its outcome
 pub record IsCarriedWhole (p : Passage) (stations : List Address) (c : Carriage) (near far : LiveView) : Type 0 where
   pub left : c.left ≡ 0
   pub pulled : c.pulled ≡ p.limit

@@ -27,7 +27,7 @@ pub enum Routing {
 }
 
 impl Routing {
-    /// Where the route leads, where it leads somewhere.
+    /// The passage of the route, if there is one.
     pub fn passage(self) -> Option<Passage>
         ensures { result ≡ passage_in self }
     {

@@ -20,7 +20,7 @@ pub record Grammar (P : Type 0) : Type 0 where
 abbrev pub numbered_line : {P : Type 0} → Grammar P → P → ℕ → List ℕ → Result P Fault
 numbered_line g p n text = unless_above (above script_limits n text) (g.step p text)
 
--- what is set up, and the fault with its line, where there is one
+-- what is set up, and the fault with its line, if there is one
 pub record Planned (P : Type 0) : Type 0 where
   pub plan : P
   pub fault : Option (ℕ × Fault)
@@ -43,7 +43,7 @@ planned_by g p script = planned_from g p 1 (lines_of script)
 
 -- What holds of each line
 
--- after a line that was obeyed there is room from the next line on, and where there is room from a line on there is from a later one
+-- after a line that was obeyed there is room from the next line on; and room from a line on is room from a later one on
 abbrev pub RoomAfter : (P : Type 0) → Grammar P → (P → ℕ → Type 0) → Type 0
 RoomAfter P g HasRoom = (p q : P) (line : List ℕ) (n : ℕ) → HasRoom p n → g.step p line ≡ Ok q → HasRoom q (n + 1)
 

@@ -26,7 +26,7 @@ pub trait Planner {
         requires { has_room (state self.old) 1000000 }
         ensures { Done lines.text result (state self.old) (state self.new) (lines.step (state self.old) line.now) };
 
-    /// What is wrong where the script ends here.
+    /// What is wrong if the script ends here.
     fn wrong_end(&self) -> Option<Fault>
         ensures { result ≡ lines.ends (state self.now) };
 

@@ -70,7 +70,7 @@ made_by p addresses =
       | Some m ↦ Err StationsTwice
     ]
 
--- as the segment answers
+-- the plan after the segment's reply
 abbrev pub answered : Plan → List Address × List Stored → Call → Reply → Step
 answered p m call (Opened port) = Ok (record p { made = Some (m.0, m.1 ++ stored None call ∷ []); ports = p.ports ++ port ∷ [] })
 answered p m call (Refused cause) = refused_by p cause
@@ -83,7 +83,7 @@ opened_by p station pgn max_len = elim p.made [
   | Some m ↦ answered p m (calls.Open station pgn max_len) (reply_of (trail m.0 m.1).state (calls.Open station pgn max_len))
 ]
 
--- why a message isn't submitted, where its PGN is one: no client can be of its sender, or else the client refuses it
+-- why a message whose PGN is one isn't submitted: its sender can have no client, or else the client refuses it
 abbrev pub message_refusal : List Address → Message → Option Refusal
 message_refusal addresses m = if is_station_of addresses m.from then submit_refusal m.from m.to (length m.bytes) else Some NoSuchStation
 

@@ -5,7 +5,7 @@ use Rattle.port_table.specs.declared.port.PortId.{PortId}
 use Rattle.live_segment.specs.LiveView.{LiveView, ClientView, PortView}
 use Rattle.live_segment.specs.Reports.{HasPort}
 
--- those of these ports that are of one station are ports of the segment
+-- those of these ports that one station has are ports of the segment
 abbrev pub ArePortsAt : (station : ℕ) → List PortView → List PortId → Type 0
 ArePortsAt station opened ports = All (λ p. p.station.0 ≡ station → HasPort opened p) ports
 

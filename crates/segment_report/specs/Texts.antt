@@ -13,7 +13,7 @@ unfoldable pub below : ℕ → (ℕ → List ℕ) → List ℕ
 below zero text = []
 below (suc n) text = below n text ++ text n
 
--- those of the deliveries that are of this sender and destination, in the order in which they were given
+-- the lines of the deliveries with this sender and destination, in the order in which they were given
 abbrev pub given_lines : PortId → (from to : ℕ) → List Delivery → List ℕ
 given_lines port from to deliveries = flat_map (λ d. cond ((d.from.0 == from) && (d.to.0 == to)) (line (codes "  given " ++ given_text port d.from d.to d.pgn d.bytes)) []) deliveries
 
