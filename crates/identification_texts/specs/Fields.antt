@@ -15,7 +15,7 @@ is_filled (b ∷ bs) = b == 255 && is_filled bs
 abbrev pub last_field : List ℕ → List (List ℕ)
 last_field field = if is_filled field then [] else field ∷ []
 
--- the fields of a text that goes on by these bytes, of whose next field these stand before them
+-- the fields of a text that continues with these bytes, after the front of a field
 abbrev pub fields_from : List ℕ → List ℕ → List (List ℕ)
 fields_from field [] = last_field field
 fields_from field (b ∷ bs) = if b == 42 then field ∷ fields_from [] bs else fields_from (field ++ b ∷ []) bs

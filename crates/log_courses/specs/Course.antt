@@ -43,7 +43,7 @@ with_grant granted next c = record c { again = counted (c.again + asked_again c.
 abbrev pub with_mark : Place → Step → List Mark → List Mark
 with_mark place step marks = if nat_lt (length marks) MOST_MARKS then marks ++ (record { place = place; step = step }) ∷ [] else marks
 
--- what a frame does is listed, where frames are
+-- the effect of a frame is listed, if frames are listed
 abbrev pub noted : Detail → Place → Step → Course → Course
 noted Ends place step c = c
 noted Frames place step c = record c { marks = with_mark place step c.marks }

@@ -9,7 +9,7 @@ use std::marker::Model;
 /// What a frame is in the course of a message.
 #[derive(Clone, Copy, Debug, PartialEq, Eq)]
 pub enum Step {
-    /// It announces the message, for the first time or once more.
+    /// It announces the message, or announces it again.
     Announcement,
     /// It opens a window: its receiver asks for these packets, or its sender is to send them.
     Window { first: u64, last: u64 },

@@ -49,15 +49,15 @@ cause_text EndOfLog = codes "end of log\n"
 abbrev pub abort_text : ℕ → Address → List ℕ
 abort_text reason who = decimal reason ++ codes " " ++ address_text who ++ codes "\n"
 
--- how many bytes came, of how many, and why the others didn't
+-- how many bytes were received, of how many, and why the others weren't
 abbrev pub loss_text : (have size : ℕ) → Cause → List ℕ
 loss_text have size cause = decimal have ++ codes " " ++ decimal size ++ codes " " ++ cause_text cause
 
--- where and when a message was told, what came of it, between which addresses it went, and of which PGN
+-- where and when a message was reported, how it ended, between which addresses it went, and its PGN
 abbrev pub head_text : ℕ → Key → (what : List ℕ) → (pgn : ℕ) → List ℕ
 head_text now key what pgn = place_text now key.iface what ++ way_text key.from key.to pgn
 
--- all of it came
+-- all of it was received
 abbrev pub given_line : ℕ → Key → (pgn : ℕ) → List ℕ → List ℕ
 given_line now key pgn bytes = head_text now key (codes " given ") pgn ++ message_text bytes
 
@@ -65,11 +65,11 @@ given_line now key pgn bytes = head_text now key (codes " given ") pgn ++ messag
 abbrev pub aborted_line : ℕ → Key → (pgn reason : ℕ) → Address → List ℕ
 aborted_line now key pgn reason who = head_text now key (codes " aborted ") pgn ++ abort_text reason who
 
--- it is lost: so many of its bytes came
+-- it is lost: so many of its bytes were received
 abbrev pub lost_line : ℕ → Key → (pgn have size : ℕ) → Cause → List ℕ
 lost_line now key pgn have size cause = head_text now key (codes " lost ") pgn ++ loss_text have size cause
 
--- what was told at a time
+-- the line of a report at a time
 abbrev pub told_line : ℕ → Told → List ℕ
 told_line now (Given key pgn bytes) = given_line now key pgn bytes
 told_line now (Aborted key pgn reason who) = aborted_line now key pgn reason who

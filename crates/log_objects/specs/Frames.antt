@@ -35,7 +35,7 @@ mark_object m = object_of (step_members m.place m.step)
 abbrev pub frames_array : List Mark → Data
 frames_array marks = array_of (map mark_object marks)
 
--- behind this member stand these, where frames are listed
+-- with these members behind that one, if frames are listed
 abbrev pub with_frames : Detail → List Mark → List Named → List Named
 with_frames Ends marks rest = rest
 with_frames Frames marks rest = (codes "frames", frames_array marks) ∷ rest
