@@ -27,7 +27,7 @@ use Rattle.bus_node.specs.Time.{settled, at_time}
 use Rattle.line_runs.specs.declared.running.Told.{Told}
 use Rattle.line_runs.specs.declared.running.Told.TheVariants.{Answered, NoMemory}
 
--- a line is counted, and has told nothing yet
+-- a line is counted, and has printed nothing yet
 abbrev pub begun : Node → Node
 begun n = record n { counts = with_line n.counts; text = [] }
 
@@ -70,7 +70,7 @@ acted n (Now time) = n
 acted n (Frame time iface frame) = heard n frame
 acted n (Command command) = commanded n command
 
--- what a line before found no memory to tell is told, and the time goes on to that of a line
+-- the events that a line before found no memory to print are printed, and the clock advances to the time of a line
 abbrev pub come_to : Node → Option ℕ → Node
 come_to n time = at_time (events_told n) time
 

@@ -26,7 +26,7 @@ is_other n iface = n.knows_iface && not (same_iface iface n.iface)
 unfoldable pub other_line : Iface → List ℕ
 other_line iface = line (codes "other interface " ++ name_of iface)
 
--- a frame of another interface is passed over; the first such is told
+-- a frame of another interface is passed over, and the first such is reported
 abbrev pub passed_over : Node → Iface → Node
 passed_over n iface = if n.knows_other then n else told (record n { knows_other = true }) (other_line iface)
 

@@ -17,7 +17,7 @@ HasAll rests = length rests ≡ 256
 abbrev pub no_rests : List ℕ
 no_rests = replicate 256 0
 
--- the tick has not come until which a destination rests
+-- a destination rests until a later tick
 abbrev pub is_at_rest : List ℕ → (now to : ℕ) → Bool
 is_at_rest rests now to = nat_lt now (slice_index_or rests to 0)
 
@@ -42,6 +42,6 @@ rest_by until rests (events.Outcome from to number outcome) = if is_failure outc
 abbrev pub rested : (until : ℕ) → List ℕ → List Event → List ℕ
 rested until rests told = fold (rest_by until) rests told
 
--- the first tick above one at which a destination no longer rests, where that is below the end, else the end
+-- the first tick above one at which a destination no longer rests, if that is below the end, else the end
 abbrev pub wakes : (now end : ℕ) → List ℕ → ℕ
 wakes now end rests = fold (λ first until. if nat_lt now until then min first until else first) end rests
