@@ -19,7 +19,7 @@ pub struct OfDrawing {
     pub interface: Option<String>,
     /// Whether frames are drawn too that carry nothing of a message.
     pub others: bool,
-    /// Whether a wrong line ends the drawing; else it is told, and the log goes on.
+    /// Whether a wrong line ends the drawing; else it is reported, and the next line is read.
     pub strict: bool,
 }
 
@@ -163,7 +163,7 @@ fn pair_of(alloc: Global, matches: &ArgMatches) -> Result<Option<(u8, u8)>, Refu
     }
 }
 
-/// What its words ask for, where logs are drawn.
+/// What its words ask for, if logs are drawn.
 fn read_log(alloc: Global, matches: &ArgMatches) -> Result<OfDrawing, Refused> {
     Ok(OfDrawing {
         pair: pair_of(alloc, matches)?,

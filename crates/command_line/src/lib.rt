@@ -48,10 +48,10 @@ pub struct Line {
     pub files: Vec<String>,
 }
 
-/// The turns of a worker where the command line names none.
+/// The turns of a worker if the command line names none.
 const TURNS: u64 = 1_000_000;
 
-/// What is read and written, an example, and the statuses, which stand at the end of the program's help.
+/// What is read and written, an example, and the statuses: the end of the program's help.
 const PROGRAM_HELP: &str =
     "The reply to each line is written to standard output before the next line is
 read. What ends the run before the script's end, such as a wrong line or a file
@@ -74,7 +74,7 @@ Status:
 
 docs/SCRIPTS.md describes the language, docs/LOGS.md what decode reads.";
 
-/// The same at the end of the help of `live`.
+/// The end of the help of `live`.
 const LIVE_HELP: &str = "The script is read to its end: one line of 1 to 8 stations, lines that open
 ports, and at most 64 lines that send. A thread for each station submits its
 messages, one for each port receives, and a worker for each station and one for
@@ -94,7 +94,7 @@ Status:
 
 docs/SCRIPTS.md describes the language, and this in its last part.";
 
-/// The same at the end of the help of `relay`.
+/// The end of the help of `relay`.
 const RELAY_HELP: &str =
     "The script is read to its end: lines of a first segment as live reads them, a
 second line of stations, lines that open ports on the second segment, and one
@@ -166,7 +166,7 @@ fn commands<'a>(alloc: Global) -> Result<Vec<Command<'a>>, AllocError> {
     add(commands, node_command(alloc))
 }
 
-/// The program with what it takes where none of its commands is named.
+/// The program with its own arguments, for a command line that names none of its commands.
 fn without_commands<'a>(alloc: Global) -> Result<Command<'a>, AllocError> {
     let log = flag(
         alloc,
@@ -191,7 +191,7 @@ fn program<'a>(alloc: Global) -> Result<Command<'a>, AllocError> {
         .subcommands(commands)
 }
 
-/// The turns that a command is given, where it is the one that is named.
+/// The turns that a command is given, if it is the one that is named.
 fn turns_of(matches: &ArgMatches, name: &str) -> Option<u64> {
     let threads = matches.subcommand_matches(name)?;
     Some(threads.get_one::<u64>("turns").unwrap_or(TURNS))

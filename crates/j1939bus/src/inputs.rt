@@ -71,7 +71,7 @@ fn open_file<R: Files>(rt: &R, name: &str) -> io::Result<R::File> {
     Ok(file)
 }
 
-/// Opens what is read. If a file can't be opened, that is told on standard error, and there is nothing.
+/// Opens what is read. If a file can't be opened, that is reported on standard error, and there is nothing.
 pub(crate) fn open_inputs<R: Files + Input + Eprint + AllocGlobal>(
     rt: &R,
     names: &[String],

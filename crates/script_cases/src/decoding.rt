@@ -74,7 +74,7 @@ fn has_ended(decoded: &Decoded) -> bool {
     }
 }
 
-/// Puts what is told on standard error behind what was told there.
+/// Puts the lines for standard error behind those that are there.
 fn tell(errors: &mut Vec<u8>, decoded: &Decoded) -> io::Result<()> {
     if let Some(fault) = decoded.fault {
         writeln!(errors, "{fault}")?;
