@@ -31,13 +31,13 @@ with_frame frame is_earlier c = record c {
 abbrev pub with_strays : Option Stray → Counts → Counts
 with_strays stray c = record c { strays = with_stray stray c.strays }
 
--- something was told
+-- a report is counted
 abbrev pub with_told : Told → Counts → Counts
 with_told (Given key pgn bytes) c = record c { messages = more c.messages }
 with_told (Aborted key pgn reason who) c = record c { aborted = more c.aborted }
 with_told (Lost key pgn have size cause) c = record c { lost = more c.lost }
 
--- it is counted where it was asked for
+-- a report is counted if it was asked for
 abbrev pub with_asked : Options → Counts → Told → Counts
 with_asked options c t = if is_told_asked options t then with_told t c else c
 

@@ -1,4 +1,4 @@
--- What tells messages under way apart: interface, sender, destination and transport.
+-- The key of a message under way: interface, sender, destination and transport.
 use Rattle.std.specs.Prelude.{Bool}
 use Rattle.tp_wire.specs.declared.wire.Kind.{Kind}
 use Rattle.tp_wire.specs.declared.wire.Kind.TheVariants as kinds
@@ -22,10 +22,10 @@ key_of way kind = record { iface = way.iface; from = way.from; to = way.to; tran
 abbrev pub key_back : Way → Kind → Key
 key_back way kind = record { iface = way.iface; from = way.to; to = way.from; transport = transport_of kind }
 
--- keys are the same where each of their parts is
+-- keys are equal if each of their parts is
 abbrev pub same_key : Key → Key → Bool
 same_key = (derived.eq-value).it
 
--- interfaces are the same where their names are
+-- interfaces are equal if their names are
 abbrev pub same_iface : Iface → Iface → Bool
 same_iface = (names.eq-value).it

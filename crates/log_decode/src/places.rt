@@ -1,4 +1,4 @@
-//! Where a key stands in a map.
+//! The place of a key in a map.
 ghost use Rattle.std.specs.Prelude.{◌≡◌, ◌<◌, IfSome, is_some};
 ghost use Rattle.indexmap.specs.IndexMap.{index_of, index_map_len, get};
 
