@@ -54,7 +54,7 @@ fn puts_inner(rt: &impl Abort, join: &mut Join, bytes: &[u8; 7]) {
     join.put_inner(bytes);
 }
 
-// It isn't the packet that comes next.
+// It isn't the next packet.
 fn is_wrong(rt: &impl Abort, join: &mut Join, number: u32, bytes: [u8; 7]) {
     same(rt, join.put(number, bytes), Err(PutError::WrongPacket));
 }

@@ -72,8 +72,8 @@ fn resumes(rt: &impl Abort, table: &mut PortTable, number: u64, answer: Result<(
     holds(rt, resume(table, number) == answer);
 }
 
-// A test's steps are a function of their own, which owns nothing: where a step can end a test, what the test owns is dropped there, and each
-// such place takes its part of the proof.
+// The steps of a test are a function of their own, which owns nothing. A step that can end a test drops what the test owns, and each such
+// place takes its part of the proof.
 fn find_several(rt: &impl Abort, table: &mut PortTable, pgn: Pgn) {
     opens(rt, table, pgn, 4000, Ok(1));
     opens(rt, table, pgn, 8, Ok(2));

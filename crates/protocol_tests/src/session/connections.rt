@@ -237,7 +237,7 @@ fn take_window(rt: &impl Abort, state: &mut Receiver, queue: &mut TxQueue) {
     for (k, room, flow, now, left) in [
         (1, true, Flow::Open, 100, Left::Nothing),
         (2, false, Flow::Held, 200, Left::Nothing),
-        // A packet that has come and one that is skipped change nothing, nor does the last of the window without room.
+        // A repeated packet and one that is skipped change nothing, nor does the last of the window without room.
         (2, true, Flow::Open, 300, Left::Nothing),
         (4, true, Flow::Open, 300, Left::Abort(AbortReason::Other)),
         (
@@ -261,7 +261,7 @@ fn take_window(rt: &impl Abort, state: &mut Receiver, queue: &mut TxQueue) {
     same(rt, (state.is_due(949), state.is_due(950)), (false, true));
 }
 
-// The last packet of a window of three is taken, of a message of four, where the session is open or held.
+// Takes the last packet of a window of three of a message of four, while the session is open or held.
 fn end_of_window(rt: &impl Abort, alloc: Global, queue: &mut TxQueue, flow: Flow) -> Receiver {
     let (state, _) = begun(rt, alloc, diagnostics(rt), 3, 28, Flow::Open);
     let mut state = state.into_receiver();

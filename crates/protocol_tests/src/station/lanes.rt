@@ -1,4 +1,4 @@
-//! Lanes of node 21, frame by frame. Where memory is refused, a test ends by it.
+//! Lanes of node 21, frame by frame. A test ends if memory is refused.
 mod broadcasts;
 mod connections;
 mod doubts;

@@ -21,7 +21,7 @@ pub(crate) fn all(alloc: Global) -> Options {
     }
 }
 
-/// Reads a log; once more where memory was refused, of which the text printed until then is a front of the whole.
+/// Reads a log, and again if memory was refused: the text printed until then is a front of the whole.
 fn decoded(
     rt: &impl Abort,
     alloc: Global,

@@ -12,7 +12,7 @@ fn done(rt: &impl Abort, segment: &mut Segment, call: Call) {
     let _events = is_done(rt, apply(rt, segment, call));
 }
 
-// Queues what comes next where no queue has a frame, and puts a frame; false where nothing is left to put.
+// Queues the next frames if no queue has one, and puts a frame; false if nothing is left to put.
 fn puts(rt: &impl Abort, segment: &mut Segment) -> bool {
     if queue_len(segment, A) > 0 {
         done(rt, segment, TRANSMIT_A);

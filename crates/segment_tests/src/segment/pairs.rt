@@ -115,7 +115,7 @@ fn is_same_reply(one: &Reply, other: &Reply) -> bool {
     }
 }
 
-// The same call once more.
+// A copy of the call.
 fn copied(rt: &impl Abort, alloc: Global, call: &Call) -> Call {
     match call.copy(alloc) {
         Ok(copy) => copy,
@@ -123,7 +123,7 @@ fn copied(rt: &impl Abort, alloc: Global, call: &Call) -> Call {
     }
 }
 
-// A call is made, and again where it finds no memory, which changes nothing.
+// A call is made, and again if it finds no memory, which changes nothing.
 fn made(rt: &impl Abort, alloc: Global, segment: &mut Segment, call: &Call) -> Reply {
     let before = read(segment);
     match tried(segment, copied(rt, alloc, call)) {

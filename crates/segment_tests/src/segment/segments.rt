@@ -1,4 +1,4 @@
-//! Exchanges between stations 21 and 35. A test ends where a call finds no memory.
+//! Exchanges between stations 21 and 35. A test ends if a call finds no memory.
 use crate::checks::{got, holds, same};
 use crate::segment::calls::*;
 use crate::segment::replies::{
@@ -29,12 +29,12 @@ const PUMP: Call = Call::Pump {
     to: Address::GLOBAL,
 };
 
-// The call is done; what it tells.
+// The events of a call that is done.
 fn told(rt: &impl Abort, segment: &mut Segment, call: Call) -> Events {
     is_done(rt, apply(rt, segment, call))
 }
 
-// The call is done, and tells nothing.
+// The call is done, and has no event.
 pub(crate) fn is_quiet(rt: &impl Abort, segment: &mut Segment, call: Call) {
     same(rt, told(rt, segment, call).len(), 0);
 }
@@ -47,7 +47,7 @@ fn one_frame(rt: &impl Abort, segment: &mut Segment) {
     is_quiet(rt, segment, Call::Tick { n: 50 });
 }
 
-// The same of the last one: with it the message has its outcome and is given.
+// Moves the last frame: with it the message has its outcome and is given.
 fn last_frame(rt: &impl Abort, segment: &mut Segment) {
     tells_outcome(
         rt,
@@ -104,7 +104,7 @@ fn are_frames(rt: &impl Abort, driven: &Driven, expected: &[(u32, [u8; 8])]) {
     }
 }
 
-// What the calls of a drive told, each of the two that told something.
+// The events of the two calls of a drive that had some.
 fn two_parts<'a>(rt: &impl Abort, driven: &'a Driven) -> (&'a Events, &'a Events) {
     match driven.events.parts() {
         [first, second] => (first, second),

@@ -34,7 +34,7 @@ fn begins(rt: &impl Abort, a: &mut Node, b: &mut Node, to: Address) {
     same(rt, send(a, to, pgn(rt), &NINE), Ok(1));
 }
 
-// Nothing more is told by either.
+// Neither has a further event.
 fn are_quiet(rt: &impl Abort, a: &mut Node, b: &mut Node) {
     is_quiet(rt, a);
     is_quiet(rt, b);
@@ -65,7 +65,7 @@ fn broadcast(rt: HostRuntime) {
     broadcasts(&rt, &mut a, &mut b);
 }
 
-// The first packet comes once more: the message is given once.
+// The first packet is repeated: the message is given once.
 fn connects(rt: &impl Abort, a: &mut Node, b: &mut Node) {
     begins(rt, a, b, B);
     carries(rt, a, b, RTS);
@@ -87,7 +87,7 @@ fn connection(rt: HostRuntime) {
     connects(&rt, &mut a, &mut b);
 }
 
-// No CTS comes within T3.
+// No CTS arrives within T3.
 fn times_out(rt: &impl Abort, a: &mut Node) {
     same(rt, due(a), Some(1250));
     same(rt, next(a), Some(1250));

@@ -83,7 +83,7 @@ fn end_at_a_full_record(rt: &(impl Abort + Wait), shared: &SharedSegment) {
     same(rt, gate.passed(), passed.saturating_add(1));
 }
 
-// A worker that cuts hands all calls out, and goes on.
+// A worker that cuts hands all calls out, and continues.
 fn cut_a_full_record(rt: &(impl Abort + Wait), shared: &SharedSegment) {
     let gate = Open::new();
     let keeper = Counter::new(rt, shared);

@@ -23,7 +23,7 @@ fn live_keeps(
     same(rt, live.notes_of(0).map(<[_]>::len), Some(notes.1));
 }
 
-// The same of a client's submissions and notes.
+// What a client keeps of its submissions and notes.
 fn client_keeps(rt: &impl Abort, client: &Client, submitted: (u64, usize), read: (u64, usize)) {
     same(rt, client.submitted_gone(), submitted.0);
     same(rt, client.submitted().len(), submitted.1);
@@ -31,7 +31,7 @@ fn client_keeps(rt: &impl Abort, client: &Client, submitted: (u64, usize), read:
     same(rt, client.read().len(), read.1);
 }
 
-// The same of an inbox.
+// What an inbox keeps of its deliveries.
 fn inbox_keeps(rt: &impl Abort, inbox: &Inbox, gone: u64, kept: usize) {
     same(rt, inbox.gone(), gone);
     same(rt, inbox.received().len(), kept);
@@ -97,7 +97,7 @@ fn what_was_read_is_let_go_after_a_cut(rt: HostRuntime) {
     drop(live);
 }
 
-// Of three deliveries one is received before the cut.
+// One of three deliveries is received before the cut.
 fn close_after(
     rt: &impl Abort,
     alloc: Global,

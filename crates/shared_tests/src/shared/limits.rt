@@ -214,7 +214,8 @@ fn no_more_calls_are_stored(rt: HostRuntime) {
     drop(live);
 }
 
-// Node 80, which is no station, asks to send 35 the nine bytes of a message in two packets: where no port takes it, 35 answers with an abort.
+// Node 80, which is no station, asks to send 35 the nine bytes of a message in two packets: if no port takes it, 35
+// answers with an abort.
 fn rts_of_80(rt: &impl Abort) -> WorkerCall {
     let id = got(rt, CanId::new(0x1CEC_3580));
     let frame = got(rt, Frame::new(id, &[16, 9, 0, 2, 0xFF, 0xCA, 0xFE, 0]));

@@ -1,4 +1,4 @@
-//! Exchanges by single calls on a shared segment, whichever one allocation is refused: they come to the same end.
+//! Exchanges by single calls on a shared segment, which have the same end whichever one allocation is refused.
 use super::EXCHANGE;
 use super::again::*;
 use super::steps::*;
@@ -8,7 +8,7 @@ use std::alloc::Global;
 use std::process::Abort;
 use tp_wire::Outcome;
 
-// The first message is given, and its outcome told.
+// The first message is given, and its outcome read.
 fn exchange_again(rt: &impl Abort, live: &mut Live) {
     let mut events = 0usize;
     for call in &EXCHANGE {
@@ -55,7 +55,8 @@ fn fill_ring(rt: &impl Abort, alloc: Global, sender: &mut Client) {
     submits(rt, alloc, sender, Err(Refusal::RingFull));
 }
 
-// As many messages are accepted as the lane holds: the Send of the one behind them is refused each time, and it stays in front.
+// As many messages are accepted as the lane holds: the Send of the one behind them is refused each time, and it stays
+// in front.
 fn fill_lane(rt: &impl Abort, live: &mut Live, sender: &Client) {
     for number in 1..33u64 {
         accepts(rt, live, sender, Accepted::Sent(number));

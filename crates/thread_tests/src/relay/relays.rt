@@ -233,7 +233,7 @@ fn submit_all(rt: &impl Abort, client: &mut Client, left: Vec<Delivery>) {
     }
 }
 
-// Where memory is refused, the next relay goes on.
+// If memory is refused, the next relay continues.
 fn carry_in_parts<R: Threads + Wait + Abort + Sync>(rt: &R, alloc: Global, ends: &mut Ends) {
     give_nines(rt, alloc, ends, 3);
     for _ in 0..3 {

@@ -1,4 +1,4 @@
-//! What comes to station 35.
+//! What station 35 receives.
 use super::{B, new_station, open};
 use crate::checks::{got, holds, same};
 use crate::station::frames::frame;
@@ -23,7 +23,7 @@ fn station_35(rt: &impl Abort, alloc: Global) -> Station {
     station
 }
 
-// Takes a frame. Where memory is refused once, it is taken again.
+// Takes a frame. If memory is refused once, it is taken again.
 fn take(rt: &impl Abort, station: &mut Station, shown: &Shown) -> Events {
     let frame = frame_of(rt, shown);
     match station.take(&frame, true, 0) {
@@ -32,13 +32,13 @@ fn take(rt: &impl Abort, station: &mut Station, shown: &Shown) -> Events {
     }
 }
 
-// It answers a frame with this one, and tells nothing.
+// It answers a frame with this one, and has no event.
 fn answers(rt: &impl Abort, station: &mut Station, shown: &Shown, answer: &Shown) {
     same(rt, take(rt, station, shown).len(), 0);
     same(rt, station.pop(), Some(frame_of(rt, answer)));
 }
 
-// It doesn't answer a frame, and tells nothing.
+// It doesn't answer a frame, and has no event.
 fn is_silent(rt: &impl Abort, station: &mut Station, shown: &Shown) {
     same(rt, take(rt, station, shown).len(), 0);
     same(rt, station.pop(), None);
@@ -68,7 +68,7 @@ fn gives_nine(rt: &impl Abort, station: &mut Station, shown: &Shown) {
     }
 }
 
-// So it does where the packet was read before.
+// The station does so too if the packet was read before.
 fn hears_nine(rt: &impl Abort, alloc: Global, station: &mut Station, shown: &Shown) {
     let frame = frame_of(rt, shown);
     let mut told = Events::none(alloc);
@@ -106,7 +106,7 @@ fn is_resumed(station: &mut Station, number: u64) -> bool {
     station.resume(number).is_ok()
 }
 
-// It is due at this tick, and not at the one before, when it refuses to fire. It tells nothing.
+// It is due at this tick, and not at the one before, when it refuses to fire. It has no event.
 fn fires(rt: &impl Abort, station: &mut Station, now: u64) {
     let before = now.saturating_sub(1);
     same(

@@ -66,7 +66,7 @@ fn a_failed_write_ends_the_script(rt: HostRuntime) {
     }
 }
 
-/// Gives a line only where all replies to the lines before were flushed.
+/// Gives a line only if all replies to the lines before were flushed.
 #[derive(Drop)]
 struct Asking<'a> {
     text: &'a [u8],
