@@ -5,7 +5,7 @@ use Rattle.std.proofs.lemmas.List.{take-append-drop}
 use Rattle.bus_frame.specs.Frames.{CanFrame}
 use Rattle.bus_frame.specs.declared.frame.Frame.TheInside.{Inside}
 
--- the frame that the kept bytes stand for
+-- the frame that the kept bytes represent
 abbrev pub frame_value : Inside → CanFrame
 frame_value f = record { id = f.id; bytes = take f.len f.kept }
 

@@ -2,8 +2,7 @@
 use Rattle.std.specs.Prelude.{ℕ, zero, suc, ◌+◌, Bool, not, ◌&&◌, ◌==◌, length, count_by}
 use Rattle.bus_order.specs.Bus.{Bus, bus_len, lowest, is_full, taken, released}
 
--- the cursor furthest behind is right before the newest frame, and all others stand there too: that frame alone waits for each
--- station
+-- the cursor furthest behind is right before the newest frame, and so are all others: that frame alone waits for each station
 abbrev pub are_abreast : Bus → Bool
 are_abreast bus = lowest bus.cursors + 1 == bus_len bus && count_by (λ c. c.place == lowest bus.cursors) bus.cursors == length bus.cursors
 

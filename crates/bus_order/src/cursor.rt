@@ -58,7 +58,7 @@ impl Cursor {
     }
 }
 
-/// The cursors furthest behind: their place, and how many stand there.
+/// The cursors furthest behind: their place, and how many are there.
 #[derive(Clone, Copy, Debug)]
 pub(crate) struct Rear {
     pub(crate) place: u64,

@@ -345,7 +345,7 @@ impl BusLog {
         self.release()
     }
 
-    // Moves all cursors, of which there are some, on to one place, at most to that of the newest frame.
+    // Moves all cursors, of which there are some, to one place, at most that of the newest frame.
     #[inline]
     fn bring_to(&mut self, to: Cursor)
         requires some { 0 < length self.old.cursors }
@@ -408,7 +408,7 @@ fn grow(kept: &mut VecDeque<Frame>) -> Result<(), AllocError>
     kept.reserve(ROOM)
 }
 
-// Frame by frame, so that what it costs is in proportion to what it drops.
+// Frame by frame, so that its cost is in proportion to the frames that it drops.
 fn drop_front(kept: &mut VecDeque<Frame>, n: usize)
     ensures items { kept.new.items ≡ drop n kept.old.items }
     ensures capacity { deque_capacity kept.new ≡ deque_capacity kept.old }

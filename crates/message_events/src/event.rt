@@ -31,7 +31,7 @@ pub enum Event {
     },
 }
 
-/// The events of one call, in their order. The first stands in place, so that one event takes no memory.
+/// The events of one call, in their order. The first is held in place, so that one event takes no memory.
 #[derive(Debug)]
 pub struct Events {
     first: Option<Event>,

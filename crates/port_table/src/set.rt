@@ -33,7 +33,7 @@ impl Model for PortSet {
     ghost inverse_ok = { set_fields_back };
 }
 
-// How many of these numbers stand before the first 0.
+// How many of these numbers precede the first 0.
 #[inline(always)]
 fn count(kept: &[u64]) -> usize
     ensures { result ≡ ports_in kept.now }

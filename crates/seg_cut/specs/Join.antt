@@ -25,7 +25,7 @@ wants_last j = j.next == packet_count j.size
 abbrev pub wants : Join → ℕ → Bool
 wants j k = (k == j.next) && nat_le k (packet_count j.size)
 
--- with the next packet: what the message still lacks of it, without the filling
+-- a join with the next packet: the bytes of it that the message still lacks, without the filling
 abbrev pub joined : Join → List ℕ → Join
 joined j packet = record {
   size = j.size;
@@ -34,7 +34,7 @@ joined j packet = record {
   room = j.room - 1;
 }
 
--- with room for so many further packets
+-- a join with room for so many further packets
 abbrev pub with_room : Join → ℕ → Join
 with_room j packets = record j { room = max j.room packets }
 

@@ -12,6 +12,6 @@ meant (heard.Packet kind sequence bytes) = Packet kind sequence bytes.now
 meant (heard.Request pgn) = Request pgn
 meant (heard.Ack control address pgn) = Ack control address pgn
 
--- and from whom and to whom
+-- the meaning of a frame, with its source and destination
 abbrev pub meant_between : Heard × Address × Address → Wire × Address × Address
 meant_between h = (meant h.0, h.1, h.2)
