@@ -32,7 +32,7 @@ abbrev pub completes : Incoming → Wire → Bool
 completes s (Packet Tp k bytes) = wants_last s.join && k == s.join.next
 completes s _ = false
 
--- a frame leads there: the step is made, or the receiver stands as it did and this is left to do
+-- what follows from a frame: the step is made, or the receiver is unchanged and this is left to do
 abbrev pub Leads : (before : Incoming) → Wire → (now : ℕ) → BamLeft → (after : Incoming) → Type 0
 Leads before wire now Nothing after = stepped before wire now ≡ Awaits after
 Leads before wire now Message after = (completes before wire ≡ true) × (wants_last before.join ≡ true) × (after ≡ before)

@@ -39,7 +39,7 @@ impl Model for BamIn {
     ghost invariant = { IsUnfinished };
 }
 
-/// What a frame leaves to do. With any answer but `Nothing` nothing has changed yet.
+/// What is left to do after a frame. If it is anything but `Nothing`, nothing has changed yet.
 #[derive(Clone, Copy, Debug, PartialEq, Eq)]
 pub enum BamLeft {
     /// Further packets are awaited.
@@ -181,7 +181,7 @@ impl BamIn {
         self.from
     }
 
-    /// The PGN field of its BAM, as it was received.
+    /// The PGN field of its BAM, as received.
     pub fn pgn(&self) -> WirePgn
         ensures { result ≡ self.now.pgn }
     {

@@ -22,7 +22,7 @@ pub record HasSpareRoom (m : Unfinished) : Type 0 where
   pub from_first : 1 ≤ m.join.next
   pub within_window : m.join.room ≤ window m.most m.join.size m.join.next
 
--- and while packets are awaited, for just those that are granted
+-- while packets are awaited, there is room for just those that are granted
 pub record HasGrantedRoom (s : AwaitPacket) : Type 0 where
   pub spare : HasSpareRoom s.message
   pub announced : s.until ≤ s.granted
@@ -33,7 +33,7 @@ abbrev pub HasLeastRoom : InState → Type 0
 HasLeastRoom (InState.AwaitPacket s) = HasGrantedRoom s
 HasLeastRoom (InState.Holding s) = HasSpareRoom s.message
 
--- and so does the state that follows
+-- the state that follows has no more room than that
 abbrev pub GoesOnWithLeastRoom : Received → Type 0
 GoesOnWithLeastRoom (On s frame) = HasLeastRoom s
 GoesOnWithLeastRoom (Complete message) = ⊤

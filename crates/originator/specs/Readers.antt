@@ -36,11 +36,11 @@ timer_of (AwaitCts s) = Some s.timer
 timer_of (Sending s) = None
 timer_of (AwaitEnd s) = Some s.timer
 
--- it awaits a CTS or the end acknowledgement
+-- the message awaits a CTS or the end acknowledgement
 abbrev pub has_timer : OutState → Bool
 has_timer state = is_some (timer_of state)
 
--- its timer is due
+-- the message's timer is due
 abbrev pub is_state_due : OutState → ℕ → Bool
 is_state_due (AwaitCts s) now = is_due s.timer now
 is_state_due (Sending s) now = false

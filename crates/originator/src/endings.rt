@@ -10,11 +10,11 @@ use tp_wire::{AbortReason, Outcome};
 /// How a frame of the destination ends a message.
 #[derive(Clone, Copy, Debug, PartialEq, Eq)]
 pub enum Ending {
-    /// It acknowledges the whole message.
+    /// The frame acknowledges the whole message.
     Acknowledged,
-    /// It is an abort of the message, with this reason.
+    /// The frame aborts the message, with this reason.
     Aborted(u8),
-    /// It breaks the rules: the sender aborts the message for this reason.
+    /// The frame breaks the rules: the sender aborts the message for this reason.
     Abort(AbortReason),
 }
 

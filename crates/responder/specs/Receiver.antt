@@ -74,7 +74,7 @@ Fires before flow now (Abort reason) after queued left =
     (reason ≡ Timeout) × (prepared_expiry before flow now ≡ aborted (unfinished_of before) Timeout) × IsUnchanged before after queued left
 Fires before flow now NoMemory after queued left = Lacks before (prepared_to_expire before flow) flow × IsUnchanged before after queued left
 
--- a step as it is made before its answer is queued: what it answers
+-- a step before its answer is queued, with that answer
 abbrev pub Answers : (before : InState) → Wire → (room : Bool) → Flow → (now : ℕ) → Left → (after : InState) → (answer : Option CanFrame) → Type 0
 Answers before wire room flow now Nothing after answer = prepared_step before wire room flow now ≡ On after answer
 Answers before wire room flow now Message after answer =

@@ -22,9 +22,9 @@ use tp_wire::{AbortReason, CmFrame, Kind, Wire};
 
 /// The receiver of a connection, in whichever state it is. It must be spent.
 pub enum InState {
-    /// It awaits the packets that it granted.
+    /// The receiver awaits the packets that it granted.
     AwaitPacket(AwaitPacket),
-    /// It is on hold, and has granted none.
+    /// The receiver is on hold, and has granted none.
     Holding(Holding),
 }
 

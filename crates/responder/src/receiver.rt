@@ -61,10 +61,10 @@ impl Model for Receiver {
     ghost invariant = { IsReceiver };
 }
 
-/// What a frame, or a timer that fired, leaves to do. With any answer but `Nothing` nothing has changed yet.
+/// What is left to do after a frame, or a timer that fired. If it is anything but `Nothing`, nothing has changed yet.
 #[derive(Clone, Copy, Debug, PartialEq, Eq)]
 pub enum Left {
-    /// The step is made, and what it answers is queued.
+    /// The step is made, and its answer is queued.
     Nothing,
     /// The frame completes the message: `complete` ends the receiver with it.
     Message,

@@ -13,9 +13,9 @@ use tick_timers::{T2, TH, Timer};
 /// Whether a receiver awaits packets.
 #[derive(Clone, Copy, Debug, PartialEq, Eq)]
 pub(crate) enum Stage {
-    /// It does: the last one granted, and the last one announced.
+    /// The receiver awaits packets: the last one granted, and the last one announced.
     Awaiting { granted: u32, until: u32 },
-    /// It is on hold.
+    /// The receiver is on hold.
     OnHold,
 }
 

@@ -11,7 +11,7 @@ use Rattle.session_table.specs.Incoming.{timer_of}
 use Rattle.session_table.specs.Sessions.{Sessions}
 
 module _ {T : Type 0} where
-  -- its timer is due at tick `now`
+  -- the timer of the state is due at tick `now`
   abbrev pub is_due_now : (now : ℕ) → Key → T × Incoming → Bool
   is_due_now now k v = is_due (timer_of v.1) now
 

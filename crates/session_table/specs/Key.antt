@@ -19,19 +19,19 @@ kind_number Broadcast = 0
 kind_number Tp = 1
 kind_number Etp = 2
 
--- its number: three to a source
+-- the number of a key: three to a source
 abbrev pub key_number : Key → ℕ
 key_number k = 3 * k.source.0 + kind_number k.kind
 
--- by source
+-- keys are ordered by source
 abbrev pub by_source : Key → Key → Ordering
 by_source a b = nat_cmp a.source.0 b.source.0
 
--- by kind
+-- keys are ordered by kind
 abbrev pub by_kind : Key → Key → Ordering
 by_kind a b = nat_cmp (kind_number a.kind) (kind_number b.kind)
 
--- by source, then by kind
+-- keys are ordered by source, then by kind
 abbrev pub key_cmp : Key → Key → Ordering
 key_cmp = then_cmp by_source by_kind
 

@@ -28,13 +28,13 @@ BroadcastLeads before wire now NoMemory after = ⊥
 abbrev pub Step : Type 1
 Step = (before : Incoming) → Left → (after : Incoming) → (queued left : List CanFrame) → Type 0
 
--- its step with a frame
+-- the step of a session with a frame
 abbrev pub by_frame : Wire → (room : Bool) → Flow → (now : ℕ) → Step
 by_frame wire room flow now (Broadcast s) answer (Broadcast t) queued left = BroadcastLeads s wire now answer t × (left ≡ queued)
 by_frame wire room flow now (Connection s) answer (Connection t) queued left = responder.Leads s wire room flow now answer t queued left
 by_frame wire room flow now _ answer _ queued left = ⊥
 
--- its timer that fires, by which a broadcast is to be ended
+-- the step of a session whose timer fires: a broadcast must be ended
 abbrev pub by_timer : Flow → (now : ℕ) → Step
 by_timer flow now (Broadcast s) answer (Broadcast t) queued left = (answer ≡ Abort Timeout) × (t ≡ s) × (left ≡ queued)
 by_timer flow now (Connection s) answer (Connection t) queued left = responder.Fires s flow now answer t queued left

@@ -1,4 +1,4 @@
--- A table of sessions: each of its keys with what stands there, which is nothing while the key is held.
+-- A table of sessions: its keys, each with its state, or with nothing while the key is held.
 use Rattle.std.specs.Prelude.{◌≡◌, Option, Some, None}
 use Rattle.std.specs.Option.{option_flatten}
 use Rattle.std.specs.FinMap as map
@@ -9,7 +9,7 @@ use Rattle.session_table.specs.contracts.key.Key as key
 use Rattle.session_table.specs.contracts.incoming.Incoming as incoming
 use Rattle.session_table.specs.Key.{key_cmp}
 
--- from keys to a state and what it is bound to
+-- a map from keys to a state and what it is bound to
 abbrev pub Sessions : Type 0 → Type 0
 Sessions T = map.FinMap key_cmp (Option (T × Incoming))
 

@@ -1,4 +1,4 @@
--- How a table is kept: its places and the index that leads to them.
+-- The places of a table, and the index that leads to them.
 use Rattle.std.specs.Prelude.{ℕ, ◌≡◌, ◌≤◌, if◌then◌else◌, List, Option, Some, None, length, map as map_list}
 use Rattle.std.specs.Option.{option_and_then}
 use Rattle.std.specs.FinMap as map

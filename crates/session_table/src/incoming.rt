@@ -37,7 +37,7 @@ impl Incoming {
         }
     }
 
-    /// The PGN field that its BAM or RTS named, as it was received.
+    /// The PGN field of its BAM or RTS, as received.
     pub fn pgn(&self) -> WirePgn
         ensures { result ≡ pgn_of self.now }
     {
