@@ -40,7 +40,7 @@ refusal_by (Connection _) lane now = Some NothingToSend
 abbrev pub pump_refusal : Lane → (now : ℕ) → Option PumpRefused
 pump_refusal lane now = refusal_by lane.under_way lane now
 
--- it has a frame to queue, now or once the gap of its broadcast has passed
+-- a lane has a frame to queue, now or once the gap of its broadcast has passed
 abbrev pub ready_by : UnderWay → Lane → Bool
 ready_by Nothing lane = is_none (idle_refusal lane.standing lane.pending)
 ready_by (Broadcast s) lane = true

@@ -5,7 +5,7 @@ use Rattle.lane_core.specs.declared.probe.Standing.{Standing}
 use Rattle.lane_core.specs.declared.probe.Standing.TheVariants.{Settled}
 use Rattle.lane_core.specs.declared.sight.LaneSight.{LaneSight}
 
--- it has still to settle, whether it asks already or not
+-- a lane has still to settle, whether it asks already or not
 abbrev pub is_doubtful : Standing → Bool
 is_doubtful Settled = false
 is_doubtful _ = true

@@ -40,7 +40,7 @@ impl Lane {
         }
     }
 
-    /// A message is taken out, wherever it stands, while nothing is under way.
+    /// Takes a message out, wherever it is in the lane, while nothing is under way.
     #[tactic(auto, using(crate::proofs::Cancelling::carried_withdraw))]
     fn withdraw(&mut self, number: u64) -> Ended
         requires { self.old.under_way ≡ Nothing }

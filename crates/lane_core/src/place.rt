@@ -20,11 +20,11 @@ use tx_queue::TxQueue;
 
 /// How the front message of a lane is under way. It must be spent.
 pub enum UnderWay {
-    /// It has not begun, or there is none.
+    /// Nothing is under way.
     Nothing,
-    /// It is being broadcast.
+    /// A message is being broadcast.
     Broadcast(BamOut),
-    /// Its connection is open.
+    /// A connection is open.
     Connection(OutState),
 }
 

@@ -12,7 +12,7 @@ pub data Answer : Type 0 where
   EndAcknowledgement : (number : ℕ) → Answer  -- EndOfMsgAck or EOMA: the wire doesn't have the number
   Acknowledgement : (token : Bool) → Answer  -- answers a Request
 
--- how the sender stands with the lane
+-- the lane in the sender's books
 pub data Phase : Type 0 where
   Idle : Phase  -- settled, with nothing under way
   Begun : (number : ℕ) → Phase  -- this message is under way, and no CTS was taken since its RTS

@@ -4,7 +4,7 @@ use Rattle.std.specs.Prelude.{ℕ, ◌+◌, ◌≡◌, List, [], ◌∷◌, ◌+
 use Rattle.lane_law.specs.Outcome.{Fate, Outcome, outcome}
 use Rattle.lane_law.specs.Runs.{Leads}
 
--- how many messages were sent, and how each of them stands
+-- how many messages were sent, and the state of each
 pub record Sender : Type 0 where
   pub sent : ℕ  -- so many messages: their numbers count from 1
   pub under_way : Option ℕ

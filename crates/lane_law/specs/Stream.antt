@@ -74,7 +74,7 @@ after (Accept session sequence bytes) stream = record stream { session = Some (w
 after (Give session sequence bytes) stream = record stream { session = None; given = stream.given ++ given_of session bytes ∷ [] }
 after EndSession stream = record stream { session = None }
 
--- before the first RTS
+-- the place of a reader before the first RTS
 abbrev pub nowhere : Place
 nowhere = record { number = 0; message = record { pgn = 0; bytes = [] }; offset = 0 }
 

@@ -143,8 +143,8 @@ pub fn broadcasts_go_on()
         → Sender.IsReached (Sender.after event sender) }
 {}
 
-/// The laws speak of something: a broadcast can be given, a message can be given and acknowledged, and a lane can go through
-/// frames taken again, late answers, two rounds of doubt, an overrun on either side and each kind of outcome.
+/// The laws aren't vacuous: a broadcast can be given, a message can be given and acknowledged, and a lane can go through frames
+/// taken again, late answers, two rounds of doubt, an overrun on either side and each kind of outcome.
 pub fn a_message_comes()
     ensures broadcast { (message : Message) × (stream : Stream.Stream) × GivesBroadcast message stream }
     ensures acknowledged { (message : Message) × (lane : Lane) × GivesAcknowledged message lane }

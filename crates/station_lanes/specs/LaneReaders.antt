@@ -96,7 +96,7 @@ missing_at lanes to now = elim (map.get lanes to) [ None ↦ 0 | Some lane ↦ m
 abbrev pub due_lane : Lanes → (now : ℕ) → Option ℕ
 due_lane lanes now = least_below (is_due_at lanes now) 256
 
--- after an overrun of the lanes to the destinations below n
+-- the lanes after an overrun of those to the destinations below n
 unfoldable pub overrun_lanes : Lanes → ℕ → Lanes
 overrun_lanes lanes zero = lanes
 overrun_lanes lanes (suc to) = stepped_lanes (overrun_lanes lanes to) to overrun
