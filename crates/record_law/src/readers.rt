@@ -1,5 +1,5 @@
-//! What a segment says that a Take would give, what it says it counted, and what it answers after frames were missed. The laws
-//! speak of the definitions alone, and a call of one does nothing.
+//! What a segment's readers say of a Take and of its counts, and what it answers after frames were missed. The laws use the
+//! definitions alone, and a call of one does nothing.
 ghost use Rattle.std.specs.Prelude.{◌≡◌, ℕ, Bool, List};
 ghost use Rattle.pgn_ids.specs.declared.address.Address.{Address};
 ghost use Rattle.message_events.specs.declared.event.Event.{Event};
@@ -25,9 +25,9 @@ pub fn wants_are_what_is_given_whole()
         → (a : Address) (again : Bool) → wanted seg a again ≡ given_by_take seg a again }
 {}
 
-/// A law: what a segment counted is what its record holds, each number up to the last value of `u64`: the frames put, the
-/// takes, repeated ones too, at which a station looked at a malformed frame, the frames taken again, the messages given, and
-/// the outcomes by their kind.
+/// A law: the counts of a segment are those of its record, each up to the last value of `u64`: the frames put; the takes,
+/// repeated ones too, at which a station looked at a malformed frame; the frames taken again; the messages given; and the
+/// outcomes by their kind.
 pub fn counts_are_those_of_the_record()
     ensures { (addresses : List Address) (steps : Record) (seg : Segment) → StandsAt addresses steps seg
         → seg.counts ≡ counts_over addresses steps }

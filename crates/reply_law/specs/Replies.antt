@@ -83,7 +83,7 @@ pub record Follows (seg : Segment) (call : Call) (next : Segment) (reply : Reply
   -- what is given is given at the ports that were wanted, in this order, and is no longer than was said
   pub ports : ports_given (events_of reply) ≡ (expected seg call).1.0
   pub fits : EachAt (expected seg call).0 (expected seg call).1.1 (events_of reply)
-  -- and at ports that were opened
+  -- all are given at ports that were opened
   pub known : EachKnown next (events_of reply)
   pub stays : (p : PortId) → IsKnown p seg → IsKnown p next
   -- a port that is opened is none of those before

@@ -1,4 +1,4 @@
--- The calls on a segment, each with its refusals in their order and with what it leaves and answers.
+-- The calls on a segment, each with its refusals in their order, the segment after it, and its answer.
 use Rattle.std.specs.Prelude.{ℕ, ◌+◌, ◌^◌, Bool, true, false, ◌&&◌, not, nat_lt, nat_le, ◌==◌, if◌then◌else◌, List, [], length, Option, Some, None, Result, Ok, Err, slice_get}
 use Rattle.std.specs.List.{list_all}
 use Rattle.bus_frame.specs.Frames.{CanFrame}
@@ -34,7 +34,7 @@ abbrev pub is_send : Call → Bool
 is_send (Send from to pgn bytes) = true
 is_send _ = false
 
--- what a call leaves and answers, or why it is refused
+-- the segment after a call and its events, or why it is refused
 abbrev pub Answer : Type 0
 Answer = Result (Segment × Reply) Refusal
 
@@ -127,7 +127,7 @@ transmits seg i st = transmits_by seg i st (front st.queue)
 abbrev pub looks : Segment → (room : Bool) → ℕ → Station → CanFrame → Answer
 looks seg room i st frame = stepped (record seg { counts = counted_look seg.counts (is_malformed_for st frame) }) i (taken st frame room seg.now)
 
--- the next frame of the bus: what no station needs any more is dropped
+-- a station takes the next frame of the bus, and frames that no station needs any more are dropped
 abbrev pub takes_by : Segment → (room : Bool) → ℕ → Station → Option CanFrame → Answer
 takes_by seg room i st None = Err refusal.NothingToTake
 takes_by seg room i st (Some frame) =

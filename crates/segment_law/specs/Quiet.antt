@@ -94,7 +94,7 @@ quiet m s d = if is_to_all d then quiet_broadcast m s d else quiet_connection (k
 abbrev pub takers : Station → Pending → List ℕ
 takers st m = ports_for st.ports m.pgn (length m.bytes)
 
--- an open port takes it, and fewer than 32 sessions stand beside one of its kind from its source, which it replaces
+-- an open port takes it, and there are fewer than 32 sessions beside one of its kind from its source, which it replaces
 abbrev pub has_place : Station → Pending → (s : Address) → SessionKind → Bool
 has_place st m s kind = nat_lt 0 (length (takers st m)) && nat_lt (others_than st.sessions (key_of s kind)) MAX_SESSIONS
 
@@ -134,7 +134,7 @@ pub record IsQuiet (seg : Segment) (s d : Address) (m : Pending) : Type 0 where
 abbrev pub given_by : Station → Pending → (s d : Address) → List Event
 given_by st m s d = map (λ number. event.Given (record { station = st.address; number = number }) s d m.pgn m.bytes) (takers st m)
 
--- at each other station that takes the broadcast, in rising order
+-- each other station that takes the broadcast gives it at its ports, in rising order
 abbrev pub broadcast_given : List Station → Pending → (s d : Address) → List Event
 broadcast_given stations m s d = flat_map (λ st. if not (st.address.0 == s.0) && has_place st m s session.Broadcast then given_by st m s d else []) stations
 

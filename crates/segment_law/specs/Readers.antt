@@ -1,4 +1,4 @@
--- What a segment answers without a step. Of an address that is no station's: nothing.
+-- The readers of a segment. They find nothing at an address that is no station's.
 use Rattle.std.specs.Prelude.{ℕ, Bool, true, false, ◌&&◌, ◌==◌, if◌then◌else◌, List, [], ◌∷◌, length, Option, Some, None, is_none, is_ok}
 use Rattle.std.specs.List.{list_all}
 use Rattle.std.specs.Option.{option_map}
@@ -75,7 +75,7 @@ given_by_take seg a again =
     let events = events_of (applied seg (if again then TakeAgain a true else Take a true)).1 in
     (ports_given events, length_given events)
 
--- its queue is empty, no frame waits for it, and no lane of it would queue
+-- the station's queue is empty, no frame waits for it, and no lane of it would queue
 abbrev pub rests : Segment → Station → Bool
 rests seg st = length st.queue == 0 && waiting_at seg st.address == 0 && is_none (pumping_lane st.lanes seg.now)
 

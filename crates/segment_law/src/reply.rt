@@ -1,4 +1,4 @@
-//! What a segment answers.
+//! The answer to a call.
 
 use crate::refusal::Refusal;
 use port_table::PortId;
