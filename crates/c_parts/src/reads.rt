@@ -1,4 +1,4 @@
-//! What numbers from C stand for.
+//! The meaning of numbers from C.
 ghost use Rattle.std.specs.Prelude.{◌≡◌};
 ghost use Rattle.c_parts.specs.Reads.{read_pgn, read_frame};
 

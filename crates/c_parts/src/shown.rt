@@ -96,7 +96,7 @@ pub fn outcome_reason(outcome: &Outcome) -> u32
     }
 }
 
-/// Writes a tick, if there is one, and answers `DONE` or `NOTHING`.
+/// Writes a tick, if there is one, and returns `DONE` or `NOTHING`.
 pub fn write_tick(answer: Option<u64>, tick: &mut u64) -> u32
     ensures code { result ≡ found_code answer }
     ensures written { IsTickWritten tick.old tick.new answer }

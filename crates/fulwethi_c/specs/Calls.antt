@@ -32,7 +32,7 @@ use Rattle.fulwethi_c.specs.Shown.{shown_event}
 
 -- A new node
 
--- the handle has a new node; or it is as it was, for the address, or else for want of memory
+-- the handle has a new node; or it is unchanged, because of the address, or else for want of memory
 abbrev pub IsNew : Address → (old new : Option Node) → Result (Unit {0}) NewRefused → Type 0
 IsNew address old new (Ok _) = (new ≡ Some (new_node address)) × StandsAt (address ∷ []) [] (new_node address).segment
 IsNew address old new (Err made.BadAddresses) = (new ≡ old) × (are_addresses (address ∷ []) ≡ false)

@@ -57,7 +57,7 @@ pub extern "C" fn fulwethi_raw_front(of: Handle, frame: &mut CFrame, out: &mut H
     code
 }
 
-/// That frame was put on the bus.
+/// The frame of `front` was put on the bus.
 #[unsafe(no_mangle)]
 pub extern "C" fn fulwethi_raw_sent(of: Handle, out: &mut Handle) -> u32
     requires { IsSome of.node }

@@ -12,7 +12,7 @@ use Rattle.live_segment.specs.declared.refused.NotMade.TheVariants.{Refused, Out
 use Rattle.fulwethi_service.specs.declared.desk.Desk.{Desk}
 use Rattle.fulwethi_service.specs.declared.post.Post.{Post}
 
--- the handle has a new client of the station; or it is as it was, since the station has none more, or else for want of memory
+-- the handle has a new client of the station; or it is unchanged, since the station can have no more, or else for want of memory
 abbrev pub IsAttached : (station : Address) → (old new : Option Desk) → (before after : LiveView) → Result (Unit {0}) NotMade → Type 0
 IsAttached station old new before after (Ok _) =
     (c : ClientEnd) × Attached before after station c × ((desk : Desk) × (new ≡ Some desk) × (desk.client ≡ Some c))

@@ -51,7 +51,7 @@ IsMissed station before after answer = IsAsked (Overrun station (waiting_at (sta
 abbrev pub IsFront : (before after : LiveView) → Option Address → Type 0
 IsFront before after next = (after ≡ before) × IsNext (state_of before) before.addresses next
 
--- its address and its frame, if there is one; else the places are as they were
+-- the station's address and its frame are written, if there is one; else the places are unchanged
 abbrev pub IsFrontWritten : LiveView → (station station' : ℕ) → (frame frame' : CFrame) → Option Address → Type 0
 IsFrontWritten v station station' frame frame' None = (station' ≡ station) × (frame' ≡ frame)
 IsFrontWritten v station station' frame frame' (Some next) = (station' ≡ next.0) × MatchOption (front_at (state_of v) next) ⊥ (λ f. frame' ≡ shown_frame f)

@@ -19,7 +19,7 @@ pub enum Received {
     Taken,
     /// There is none.
     Nothing,
-    /// It has more bytes than there is room for, and stays.
+    /// The message has more bytes than there is room for, and stays.
     TooLittleRoom,
     /// There was no memory, and it stays.
     OutOfMemory,
