@@ -25,14 +25,14 @@ submits_all c ss free gone = record c { submitted = c.submitted ++ ss; free = fr
 abbrev pub IsFit : (from to : Address) → Delivery → Type 0
 IsFit from to d = why_refused from to d.pgn (length d.bytes) ≡ None
 
--- the inbox received what was put into the line and what is in hand, and never keeps more again of what it kept no more
+-- the inbox received the messages put into the line and the one in hand, and a delivery that it no longer keeps never returns
 pub record HasPulled (start now : InboxEnd) (v : Log) (w : Worked) : Type 0 where
   pub view : v ≡ log true false v.put []
   pub inbox : now ≡ receives_all start (v.put ++ in_hand w.hand) now.gone now.spare
   pub gone : start.gone ≤ now.gone
   pub count : w.count ≡ length (v.put ++ in_hand w.hand)
 
--- what was taken out of the line was submitted, but for what is in hand
+-- the client submitted the messages taken out of the line, except the one in hand
 pub record HasPushed (to : Address) (start now : ClientEnd) (v : Log) (w : Worked) : Type 0 where
   pub pushed : List Delivery
   pub view : v ≡ log false true [] (pushed ++ in_hand w.hand)

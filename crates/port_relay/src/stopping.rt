@@ -11,7 +11,7 @@ pub struct Stop {
 }
 
 impl Stop {
-    /// One that isn't set.
+    /// A signal that isn't set.
     pub fn new() -> Stop {
         Stop {
             is_set: AtomicBool::new(false),
@@ -32,13 +32,13 @@ impl Stop {
 /// Why a side of a relay ended.
 #[derive(Clone, Copy, Debug, PartialEq, Eq)]
 pub enum Ended {
-    /// It has made all its turns.
+    /// The side has made all its turns.
     Turns,
     /// The limit of messages was received.
     Limit,
     /// The client refused a message, for this cause, which isn't `RingFull`.
     Refused(Refusal),
-    /// It found no memory.
+    /// The side found no memory.
     OutOfMemory,
     /// The relay was stopped.
     Stopped,

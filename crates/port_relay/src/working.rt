@@ -104,7 +104,7 @@ pub(crate) struct Side {
 }
 
 impl Side {
-    /// One that has done nothing yet.
+    /// A side that has done nothing yet.
     pub(crate) fn new(pass: Way) -> Side
         ensures pass { result.pass ≡ pass }
         ensures worked { (result.worked.count ≡ 0) × (result.worked.hand ≡ None) }

@@ -11,16 +11,16 @@ pub const CUT_AT: usize = 900_000;
 
 /// Who takes the pieces of a record: to keep them, to write them to a file, or to drop them.
 pub trait PieceKeeper {
-    /// Takes a piece. The segment's lock is free meanwhile, so that another worker may hand in a later piece at the same time: each has its number.
-    /// The worker makes no turn until this returns.
+    /// Takes a piece. The segment's lock is free at that time, so another worker may hand in a later piece: each has its number. The worker makes
+    /// no turn until this returns.
     fn keep(&self, piece: Piece);
 }
 
-/// When a record is cut, and who takes its pieces.
+/// When a record is cut, and the keeper of its pieces.
 #[derive(Drop)]
 pub struct Cutting<'a, K> {
     pub keeper: &'a K,
-    /// How many calls the record has at least when it is cut: 1 to 1,000,000; what is less is taken as 1, what is more as 1,000,000.
+    /// How many calls the record has at least when it is cut: 1 to 1,000,000; a value below is taken as 1, one above as 1,000,000.
     pub at: usize,
 }
 

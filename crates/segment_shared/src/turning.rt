@@ -9,7 +9,7 @@ use pgn_ids::Address;
 use std::sync::Wait;
 use std::thread;
 
-/// Whose turns a worker makes.
+/// The turns that a worker makes: those of a station or of the bus.
 #[derive(Clone, Copy)]
 pub(crate) enum Whose {
     Station(Address),
@@ -44,7 +44,7 @@ impl<G, K, C> Drop for Worker<'_, G, K, C> {
     }
 }
 
-/// Keeps no pieces and says no time: of workers that neither cut nor go by a clock.
+/// A keeper and a clock for workers without one: it keeps no pieces and has no time.
 #[derive(Drop)]
 pub(crate) struct Nobody {}
 
@@ -85,7 +85,7 @@ impl Turned {
 }
 
 impl<G: Gate, K: PieceKeeper, C: Clock> Worker<'_, G, K, C> {
-    /// Makes so many turns at most. A worker with nothing to do lets other threads run: what it waits for is theirs to do.
+    /// Makes so many turns at most. A worker with nothing to do lets other threads run, since it waits for their work.
     pub(crate) fn work<R: Wait>(&self, rt: &R, shared: &SharedSegment, turns: u64) -> Tally {
         let mut calls = 0u64;
         let mut tried = 0u64;
@@ -117,7 +117,7 @@ impl<G: Gate, K: PieceKeeper, C: Clock> Worker<'_, G, K, C> {
         }
     }
 
-    // Hands a piece to who keeps it. The lock is free.
+    // Hands a piece to the keeper. The lock is free.
     fn hand_over(&self, piece: Option<Piece>) {
         if let Some(piece) = piece
             && let Some(cutting) = self.cutting

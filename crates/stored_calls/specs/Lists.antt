@@ -35,7 +35,7 @@ is_brief (call.Tick n) = true
 is_brief (call.Fire station) = true
 is_brief _ = false
 
--- such a call of nobody
+-- such a call without an owner
 pub record IsOfNobody (s : Stored) : Type 0 where
   pub by : s.by ≡ None
   pub brief : is_brief s.call ≡ true

@@ -1,4 +1,4 @@
-//! A call, and who made it.
+//! A call, and its owner.
 ghost use Rattle.std.specs.Prelude.{◌≡◌, IfOk};
 
 use segment_law::Call;
