@@ -33,12 +33,12 @@ outcome_from m step s n (line ∷ lines) = then_rest n (numbered_line m step s n
 abbrev pub outcome : {S : Type 0} → Limits → Steps S → S → List ℕ → Outcome
 outcome m step s input = outcome_from m step s 1 (lines_of input)
 
--- the state that a line leads to; a line with a fault leads nowhere
+-- the state after a line; after a line with a fault there is none
 abbrev pub state_after : {S : Type 0} → Result (S × List ℕ) Fault → S → (S → S) → S
 state_after (Ok done) s rest = rest done.0
 state_after (Err f) s rest = s
 
--- the state that the lines before the first fault lead to
+-- the state after the lines before the first fault
 unfoldable pub left_from : {S : Type 0} → Limits → Steps S → S → ℕ → List (List ℕ) → S
 left_from m step s n [] = s
 left_from m step s n (line ∷ lines) = state_after (numbered_line m step s n line) s (λ t. left_from m step t (n + 1) lines)

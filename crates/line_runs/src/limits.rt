@@ -14,7 +14,7 @@ pub struct Limits {
 }
 
 impl Limits {
-    /// Those of a script: 1,000,000 lines of 8,192 bytes.
+    /// The limits of a script: 1,000,000 lines of 8,192 bytes.
     pub fn of_script() -> Limits
         ensures { result ≡ script_limits }
     {

@@ -119,7 +119,7 @@ pub(crate) fn stamp(seconds: &[u8], fraction: &[u8]) -> Option<u64>
     seconds.checked_mul(SECOND)?.checked_add(micros)
 }
 
-/// The text without the same bytes as text, which stand in quotes behind them.
+/// The data without its bytes as text, which follow in quotes.
 fn before_quote(text: &[u8]) -> &[u8]
     ensures { result.now ≡ before_quote text.now }
 {
@@ -156,7 +156,7 @@ fn is_remote(word: &[u8]) -> bool
     }
 }
 
-/// What stands behind an identifier of eight digits. The bit above the identifier marks an error frame.
+/// The text behind an identifier of eight digits. The bit above the identifier marks an error frame.
 #[tactic(auto, unfolding(crate::specs::Reading::long_shown))]
 fn long_shown(time: Option<u64>, iface: Iface, id: u64, text: &[u8]) -> Option<LogLine>
     ensures { result ≡ long_shown time iface id text.now }
@@ -190,7 +190,7 @@ fn shown_line(time: Option<u64>, text: &[u8]) -> Option<LogLine>
     long_shown(time, iface, id, text)
 }
 
-/// What stands behind a time: a frame in either form. A word that isn't an identifier alone is none of a screen.
+/// The text behind a time: a frame in either form. A word that isn't an identifier alone is none of a screen.
 #[tactic(auto, unfolding(crate::specs::Line::behind_time))]
 fn behind_stamp(time: u64, text: &[u8]) -> Option<LogLine>
     ensures { result ≡ (if begins_shown text.now then shown_line (Some time) text.now else behind_time time text.now) }
@@ -210,7 +210,7 @@ fn behind_stamp(time: u64, text: &[u8]) -> Option<LogLine>
     frame_line(time, iface, word)
 }
 
-/// What stands behind the bracket of a time: the time, and a frame in either form.
+/// The text behind the bracket of a time: the time, and a frame in either form.
 #[tactic(auto, unfolding(crate::specs::Reading::stamped_line))]
 fn stamped_line(text: &[u8]) -> Option<LogLine>
     ensures { result ≡ stamped_line text.now }

@@ -22,7 +22,7 @@ const MICROS: usize = 6;
 /// How many digits an identifier has.
 const DIGITS: usize = 8;
 
-/// What stands behind a byte of this value.
+/// The text behind a byte of this value.
 #[inline(always)]
 fn behind(wanted: u8, text: &[u8]) -> Option<&[u8]>
     ensures { IfSome result (λ rest. text.now ≡ wanted ∷ rest.now) }
@@ -31,7 +31,7 @@ fn behind(wanted: u8, text: &[u8]) -> Option<&[u8]>
     if *first == wanted { Some(rest) } else { None }
 }
 
-/// The time in front of a bracket, and what stands behind it.
+/// The time in front of a bracket, and the text behind it.
 #[inline(always)]
 pub(crate) fn usual_stamp(text: &[u8]) -> Option<(u64, &[u8])>
     ensures { IfSome result (λ p. stamped_line text.now ≡ (if begins_shown p.1.now then shown_line (Some p.0) p.1.now else behind_time p.0 p.1.now)) }

@@ -22,7 +22,7 @@ abbrev pub words_from : List ℕ → List ℕ → List (List ℕ)
 words_from word [] = some_word word
 words_from word (b ∷ bs) = if b == 32 then some_word word ++ words_from [] bs else words_from (word ++ b ∷ []) bs
 
--- what stands between spaces
+-- the words between spaces
 abbrev pub words_of : List ℕ → List (List ℕ)
 words_of line = words_from [] line
 

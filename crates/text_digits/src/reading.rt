@@ -2,7 +2,7 @@
 ghost use Rattle.std.specs.Prelude.{◌≡◌, ◌≤◌, length, nat_lt, if◌then◌else◌, Some, None};
 ghost use Rattle.text_digits.specs.Numerals.{digit_of, put_digit, numeral_from, pair_of};
 
-/// What stands for no digit.
+/// The value of a byte that is no digit.
 const NONE: u8 = 16;
 
 // For each byte its value as a digit, or 16: a number is read without a branch, which digits at random would

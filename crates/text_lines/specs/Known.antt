@@ -5,7 +5,7 @@ use Rattle.text_lines.specs.Lines.{NoFeed}
 use Rattle.text_lines.specs.declared.lines.Part.{Part}
 use Rattle.text_lines.specs.declared.lines.Part.TheVariants.{More, Feed, End, TooLong}
 
--- what stood behind before was taken, up to a line feed and no further; it stands in the line, unless there would be more than most bytes in it
+-- a front of the bytes was taken, up to a line feed and no further; it is in the line, unless the line would have more than most bytes
 abbrev pub TakesPart : ℕ → Part → (old new : Option (List ℕ)) → (before line : List ℕ) → Type 0
 TakesPart most More old new before line = (part : List ℕ) × (line ≡ before ++ part) × NoFeed part × Consumes old new part
 TakesPart most Feed old new before line = (part : List ℕ) × (line ≡ before ++ part) × NoFeed part × Consumes old new (part ++ 10 ∷ [])

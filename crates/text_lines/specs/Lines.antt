@@ -12,7 +12,7 @@ abbrev pub lines_of : List ℕ → List (List ℕ)
 lines_of [] = []
 lines_of (b ∷ bs) = if b == 10 then [] ∷ lines_of bs else before_lines b (lines_of bs)
 
--- how many bytes stand before the first line feed
+-- how many bytes precede the first line feed
 abbrev pub before_feed : List ℕ → ℕ
 before_feed [] = 0
 before_feed (b ∷ bs) = if b == 10 then 0 else before_feed bs + 1

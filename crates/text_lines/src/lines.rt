@@ -49,7 +49,7 @@ pub(crate) enum Part {
     TooLong,
 }
 
-/// How many bytes stand before the first line feed.
+/// How many bytes precede the first line feed.
 #[inline]
 fn before_feed(bytes: &[u8]) -> usize
     ensures value { result ≡ before_feed bytes.now }
