@@ -29,7 +29,7 @@ pub(crate) fn told_at(ended: DriveEnd) -> Told
     }
 }
 
-/// One turn. Its frame stands in the log, its events stand below, and nothing is added to the text.
+/// One turn. Its frame is put into the log, its events below, and nothing is added to the text.
 fn log_turn(
     segment: &mut Segment,
     from: Address,

@@ -23,7 +23,7 @@ pub(crate) struct Parted {
     pub(crate) text: Vec<u8>,
     /// The frames that are put.
     pub(crate) log: Vec<u8>,
-    /// The events of a drive while its line, which stands above them, isn't known.
+    /// The events of a drive while its line, which goes above them, isn't known.
     pub(crate) below: Vec<u8>,
 }
 

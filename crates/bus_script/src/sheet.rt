@@ -17,7 +17,7 @@ pub trait Sheet {
 
     ghost in_log: { Telling → List ℕ };
 
-    // What stands there.
+    // The text and the log so far.
     ghost text_shown: { Self → List ℕ };
 
     ghost log_shown: { Self → List ℕ };
@@ -28,7 +28,7 @@ pub trait Sheet {
     fn log(&self) -> &[u8]
         ensures { result.now ≡ log_shown self.now };
 
-    /// Nothing stands there.
+    /// Empties the text and the log.
     fn clear(&mut self)
         ensures text { text_shown self.new ≡ [] }
         ensures log { log_shown self.new ≡ [] };

@@ -11,7 +11,7 @@ use Rattle.log_drawing.specs.Outcome.{Outcome, closed}
 use Rattle.log_drawing.specs.declared.picture.Picture.{Picture}
 use Rattle.log_drawing.specs.declared.running.Drawn.{Drawn}
 
--- at its end, or at a fault of a line
+-- whether a log ended at its end, or at a fault of a line
 abbrev pub is_of_cause : Cause → Bool
 is_of_cause (causes.Fault fault) = true
 is_of_cause causes.ReadFailed = false

@@ -7,7 +7,7 @@ use Rattle.tp_wire.specs.Reading.{is_transport}
 use Rattle.log_drawing.specs.declared.options.Options.{Options}
 use Rattle.log_drawing.specs.declared.options.Pair.{Pair}
 
--- from one of the two to the other, or to all
+-- whether a frame goes from one of the pair to the other, or to all
 abbrev pub is_between : Pair → (from to : Address) → Bool
 is_between pair from to =
     if from.0 == pair.first.0 then to.0 == pair.second.0 || to.0 == 255

@@ -30,7 +30,7 @@ abbrev pub participants : Option Pair → List ℕ
 participants None = []
 participants (Some pair) = flat_map participant_line (pair.first ∷ pair.second ∷ [])
 
--- in front of the first frame that is drawn: the kind of the drawing, and the pair
+-- the text in front of the first frame that is drawn: the kind of the drawing, and the pair
 abbrev pub beginning : Options → (drawn : ℕ) → List ℕ
 beginning options drawn = if drawn == 0 then heading ++ participants options.pair else []
 
@@ -42,7 +42,7 @@ first_picture options = record { form = None; iface = options.iface; packets = N
 abbrev pub same_iface : Iface → Iface → Bool
 same_iface a b = bytes_eq (name_of a) (name_of b)
 
--- it isn't the one whose frames are drawn, which is known
+-- whether an interface is another than the one whose frames are drawn, which is known
 abbrev pub is_elsewhere : Picture → Iface → Bool
 is_elsewhere s iface = elim s.iface [ None ↦ false | Some known ↦ not (same_iface iface known) ]
 

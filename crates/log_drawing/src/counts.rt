@@ -22,7 +22,7 @@ pub struct Counts {
     pub elsewhere: u64,
 }
 
-/// One more.
+/// One more, up to the last value.
 pub(crate) fn more(n: u64) -> u64
     ensures { result ≡ more n }
 {

@@ -72,7 +72,7 @@ fn form_with(form: Option<Form>, line: &[u8]) -> Option<Form>
 }
 
 impl Picture {
-    /// One that is empty.
+    /// A picture without a frame.
     pub(crate) fn new(options: &Options) -> Picture
         ensures { result ≡ first_picture options.now }
     {
