@@ -145,7 +145,7 @@ pub(crate) fn carry<R: Threads + Wait + Sync, G: Gate + Sync>(
     })
 }
 
-/// That it was carried by this passage, with the client of this number: else it is `NotThisSegment`.
+/// Fails with `NotThisSegment` unless it was carried by this passage, with the client of this number.
 pub(crate) fn check_passage(carried: &Carried, passage: Passage, client: u64) -> Result<(), Lost>
     ensures { OnOk result (IsBy carried.now passage client) }
 {

@@ -1,4 +1,4 @@
-//! Who submits and who receives on two segments.
+//! The crews of two segments: those who submit and those who receive.
 
 use crate::carrying::Carrying;
 use crate::known::Known;

@@ -57,7 +57,7 @@ fn is_none_left(reports: &[ClientReport]) -> bool
     true
 }
 
-// Reports on the first segment with the relay's inbox: what that received begins what its port was given.
+// Reports on the first segment with the relay's inbox: the messages that it received are the first that its port was given.
 fn report_near(live: &mut Live, ends: Ends, inbox: Inbox) -> Result<(), Lost>
     ensures { OnOk result (IsPrefix inbox.received (given inbox.port (trail live.new.addresses live.new.calls).events)) }
 {
@@ -74,7 +74,8 @@ fn report_near(live: &mut Live, ends: Ends, inbox: Inbox) -> Result<(), Lost>
     Ok(())
 }
 
-// Reports on the second segment with the relay's client: what was accepted of it begins what it submitted. True only if all was accepted.
+// Reports on the second segment with the relay's client: the messages accepted of it are the first that it submitted. True only if all
+// were accepted.
 fn report_far(live: &mut Live, ends: Ends, client: Client) -> Result<bool, Lost>
     ensures begins { OnOk result (IsPrefix (accepted client.id live.new.calls) client.submitted) }
     ensures all { IfOk result (λ b. b ≡ true → accepted client.id live.new.calls ≡ client.submitted) }
@@ -104,7 +105,8 @@ fn place_of(station: Address, stations: &[Address]) -> u64
     place
 }
 
-// Whether a relay did all that it was to do: what it submitted was accepted and has its outcomes, it left nothing, and it received so many.
+// Whether a relay completed its work: all that it submitted was accepted and has its outcomes, it left nothing, and it received so
+// many.
 fn is_done(far: &Live, client: u64, is_accepted: bool, carriage: Carriage, limit: u64) -> bool
     ensures accepted { result ≡ true → is_accepted ≡ true }
     ensures left { result ≡ true → carriage.left ≡ 0 }

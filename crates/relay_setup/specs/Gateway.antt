@@ -127,7 +127,7 @@ placed_by p name words =
 abbrev pub named_by : Plans → (name : List ℕ) → (rest : List (List ℕ)) → Step
 named_by p name rest = if bytes_eq name (codes "route") then routed_by p rest else placed_by p name (name ∷ rest)
 
--- nothing stands behind the route
+-- nothing may follow the route
 abbrev pub ordered_by : Plans → Routing → List ℕ → List (List ℕ) → Step
 ordered_by p routings.NotYet name words = named_by p name words
 ordered_by p routings.Refused name words = Err UnknownCommand
@@ -166,6 +166,6 @@ Done result p q step = script.Done text_of result p q step
 abbrev pub HasRoom : Plans → ℕ → Type 0
 HasRoom p n = CallsBelow p.now.made n
 
--- so few that one more can be
+-- there are so few calls that one more can be made
 abbrev pub FewCalls : Plans → Type 0
 FewCalls p = HasRoom p 1000000

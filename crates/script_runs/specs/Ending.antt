@@ -24,7 +24,7 @@ lost_fault losts.NotThisSegment = faults.NotThisSegment
 abbrev pub ended_by : LiveFault → LiveRan
 ended_by f = record { fault = Some f; ran_out = false }
 
--- at this line
+-- a run that failed at this line
 abbrev pub failed_at : ℕ → Cause → LiveRan
 failed_at n cause = ended_by (faults.Script record { line = n; cause = cause })
 
@@ -43,7 +43,7 @@ IsRunTold (Err lost) a b ran = (ran ≡ ended_by (lost_fault lost)) × (b ≡ a)
 abbrev pub WholeText : {P : Type 0} → (P → List ℕ) → (P → Bool → List ℕ → Type 0) → Planned P → (ran_out : Bool) → List ℕ → Type 0
 WholeText text CameTo planned ran_out whole = (planned.fault ≡ None) × ((end : List ℕ) × CameTo planned.plan ran_out end × (whole ≡ text planned.plan ++ end))
 
--- at a fault of the script the text of the refused lines was written, and else a front of what is to be written
+-- at a fault of the script the text of the refused lines was written, and otherwise a front of all that is to be written
 abbrev pub EndedByCause : {P : Type 0} → (P → List ℕ) → (P → Bool → List ℕ → Type 0) → ℕ → Cause → Option (List ℕ) → Option (List ℕ) → Planned P → Type 0
 EndedByCause text CameTo n (causes.Fault f) a b planned = Appends a b (text planned.plan) × (planned.fault ≡ Some (n, f))
 EndedByCause text CameTo n causes.ReadFailed a b planned = IsFront a b (text planned.plan)

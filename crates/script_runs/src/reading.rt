@@ -17,7 +17,7 @@ pub trait Planner {
     // What a line leaves of it, and what is wrong with a script that ends at it.
     ghost lines: { Grammar Self.State };
 
-    // It has room for the lines from one of this number on.
+    // There is room for the lines from one of this number on.
     ghost has_room: { Self.State → ℕ → Type 0 };
 
     /// Does what a line asks for. The first fault is answered. Want of memory is the only other error. A line that isn't obeyed prints

@@ -61,7 +61,7 @@ Step = Result Plan Fault
 abbrev pub refused_by : Plan → Refusal → Step
 refused_by p cause = Ok (record p { text = p.text ++ line (refusal_text cause) })
 
--- at most eight stations, once
+-- the stations are made: at most eight, once
 abbrev pub made_by : Plan → List Address → Step
 made_by p addresses =
     if nat_lt 8 (length addresses) then Err BadWord
@@ -157,6 +157,6 @@ CallsBelow (Some m) n = length m.1 < n
 abbrev pub HasRoom : Plan → ℕ → Type 0
 HasRoom p n = CallsBelow p.made n
 
--- so few that one more can be
+-- there are so few calls that one more can be made
 abbrev pub FewCalls : Plan → Type 0
 FewCalls p = HasRoom p 1000000

@@ -148,7 +148,7 @@ fn perform_send(alloc: Global, setup: &mut Setup, command: Command) -> Result<()
     perform(alloc, setup, command)
 }
 
-// Whether a line of this name may stand in the script.
+// Whether the script may have a line of this name.
 fn is_known(name: &[u8]) -> bool
     ensures { result ≡ is_known name.now }
 {

@@ -37,7 +37,7 @@ highest (n ∷ ns) = max n.number (highest ns)
 unfoldable pub outcome_lines : (from : Address) → List Note → List ℕ
 outcome_lines from notes = below 256 (λ to. below (suc (highest notes)) (λ number. numbered_lines from to number notes))
 
--- those of the messages of one station, whose client has the number of its place among the addresses
+-- the lines of the messages of one station, whose client has the number of its place among the addresses
 abbrev pub clients_at : (station client : ℕ) → List Address → Trail → List ℕ
 clients_at station client [] t = []
 clients_at station client (a ∷ more) t = cond (a.0 == station) (outcome_lines a (notes_of client t.noted)) [] ++ clients_at station (client + 1) more t
