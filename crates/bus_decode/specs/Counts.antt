@@ -27,7 +27,7 @@ with_frame frame is_earlier c = record c {
   malformed = more_if (is_malformed frame) c.malformed;
 }
 
--- and of no message or of one
+-- a frame that belongs to no message counts by its kind
 abbrev pub with_strays : Option Stray → Counts → Counts
 with_strays stray c = record c { strays = with_stray stray c.strays }
 
@@ -53,7 +53,7 @@ frames_text c = codes " earlier " ++ decimal c.earlier ++ codes " transport " ++
 abbrev pub messages_text : Counts → List ℕ
 messages_text c = codes " messages " ++ decimal c.messages ++ codes " aborted " ++ decimal c.aborted ++ codes " lost " ++ decimal c.lost
 
--- what is said of a log of which lines were wrong, or none shows a frame
+-- the words for a log in which lines were wrong, or none shows a frame
 abbrev pub rest_text : Counts → List ℕ
 rest_text c =
     if not (c.wrong == 0) then codes " wrong " ++ decimal c.wrong

@@ -99,7 +99,7 @@ seen_as options form s n line = elim (line_as form line) [ None ↦ wrong_seen o
 abbrev pub line_seen : Options → Listening → ℕ → List ℕ → Result Step Fault
 line_seen options s n line = seen_as options (form_with s.0.1 line) (s.0.0, with_line s.1) n line
 
--- at the end each message that is still under way is lost, and then the summary is printed
+-- at the end of the log each message that is still under way is lost, and then the summary is printed
 abbrev pub ended_counts : Options → Hearing → Counts
 ended_counts options s = with_each options s.1 (ended s.0.decoder.buses)
 

@@ -24,7 +24,7 @@ is_asked_for options from to pgn = takes options.pgns pgn && takes options.from 
 abbrev pub is_told_asked : Options → Told → Bool
 is_told_asked options t = is_asked_for options (key_told t).from (key_told t).to (pgn_told t)
 
--- it is printed, unless messages are left out
+-- whether a report is printed: not if messages are left out
 abbrev pub shows : Options → Told → Bool
 shows options t = not options.quiet && is_told_asked options t
 

@@ -17,7 +17,7 @@ fault_text NotLogLine = codes "not a log line"
 abbrev pub lines_end : ℕ
 lines_end = 2 ^ 64 - 1
 
--- that of a line n that is too long
+-- the fault of a line n that is too long
 abbrev pub limit_fault : ℕ → Fault
 limit_fault n = if nat_le lines_end n then TooManyLines else LineTooLong
 

@@ -45,7 +45,7 @@ Takes (Ok End) options old new ra rb a b = IfSome ra (λ all. lines_of all ≡ [
 Takes (Ok Open) options old new ra rb a b = Keeps ra rb × Keeps a b × IsAsBefore old new
 Takes (Err cause) options old new ra rb a b = IfSome ra (λ all. EndedByCause new.number cause new.counts a b (further options old (lines_of all)))
 
--- and whether there was one
+-- the next line of a reader was taken, or there was none
 abbrev pub TakesNext : Result Bool Cause → Options → (old new : Run) → (ra rb a b : Option (List ℕ)) → Type 0
 TakesNext (Ok true) options old new ra rb a b = Takes (Ok Line) options old new ra rb a b
 TakesNext (Ok false) options old new ra rb a b = Takes (Ok End) options old new ra rb a b

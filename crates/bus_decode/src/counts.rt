@@ -166,7 +166,7 @@ fn put_messages<W: fmt::Write>(counts: &Counts, f: &mut fmt::Formatter<W>) -> fm
     write!(f, " messages {messages} aborted {aborted} lost {lost}")
 }
 
-/// What is said of a log of which lines were wrong, or none shows a frame.
+/// Puts the words for a log in which lines were wrong, or none shows a frame.
 fn put_rest<W: fmt::Write>(counts: &Counts, f: &mut fmt::Formatter<W>) -> fmt::Result
     ensures { DisplaysOnOk W.write_str_gives f.old result (Some (rest_text counts.now)) f.new }
 {

@@ -33,7 +33,7 @@ impl Strays {
         }
     }
 
-    /// One was seen, or none.
+    /// Counts a stray frame, if one was seen.
     pub(crate) fn add(&mut self, stray: Option<Stray>)
         ensures { self.new ≡ with_stray stray self.old }
     {

@@ -56,7 +56,7 @@ pub(crate) enum Turn {
     Line,
     /// There is none.
     End,
-    /// It doesn't lie whole in what the reader holds, and wasn't taken.
+    /// A part of it isn't in the reader's buffer, and it wasn't taken.
     Open,
 }
 

@@ -80,7 +80,7 @@ pub record IsLogOf (frames : List CanFrame) (l : State) (iface : Iface) (m : Pen
   pub times : ComeInTime (patience d) (bus_at iface l.buses).time log
   pub others : All (λ f. NoneSilent f.0 (bus_at iface l.buses).sessions) log
 
--- with an interface at this time
+-- a listener whose interface is at this time
 abbrev pub at_time : State → Iface → (time : ℕ) → State
 at_time l iface time = record { most = l.most; time = time; buses = put_bus iface (record { time = time; sessions = (bus_at iface l.buses).sessions }) l.buses }
 
@@ -89,11 +89,11 @@ abbrev pub AreHeardAs : List CanFrame → Pending → (s d : Address) → Type 0
 AreHeardAs frames m s d = (l : State) (iface : Iface) (log : Log) (told : List Told) → IsLogOf frames l iface m s d log
     → heard_all l iface log told ≡ (at_time l iface (end_of (bus_at iface l.buses).time log), told ++ Given (key_for iface m s d) (clean m.pgn) m.bytes ∷ [])
 
--- so are the frames of one undisturbed message
+-- the frames of one undisturbed message are heard so
 abbrev pub IsHeard : Pending → (s d : Address) → Type 0
 IsHeard m s d = AreHeardAs (quiet m s d) m s d
 
--- and those that a drive puts, from a segment at a record that is quiet for this message
+-- the frames that a drive puts from a segment at a record that is quiet for this message are heard so
 abbrev pub DrivesAreHeard : Type 0
 DrivesAreHeard = (addresses : List Address) (steps : Record) (seg : Segment) (s d : Address) (m : Pending)
     → StandsAt addresses steps seg → IsQuiet seg s d m → AreHeardAs (driven seg s d (length (quiet m s d))).frames m s d

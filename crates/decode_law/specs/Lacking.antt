@@ -16,7 +16,7 @@ use Rattle.log_decode.specs.declared.told.Told.{Told}
 use Rattle.log_decode.specs.declared.told.Told.TheVariants.{Given, Lost}
 use Rattle.decode_law.specs.Hearing.{key_for}
 
--- a part of a list: its elements stand in the list in the same order, and others of the list may be left out
+-- a part of a list: its elements are in the list in that order, and others of the list may be left out
 abbrev pub IsPartOf : {A : Type 0} → (part whole : List A) → Type 0
 IsPartOf [] whole = ⊤
 IsPartOf (p ∷ ps) [] = ⊥

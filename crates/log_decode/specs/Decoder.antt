@@ -26,7 +26,7 @@ use Rattle.log_decode.specs.declared.told.Told.TheVariants.{Aborted}
 abbrev pub tp_news : (pgn size packets : ℕ) → News
 tp_news pgn size packets = record { pgn = pgn; size = size; is_sound = is_size_of Tp size && packet_count size == packets }
 
--- one of the extended transport protocol
+-- a message of the extended transport protocol is announced
 abbrev pub etp_news : (pgn size : ℕ) → News
 etp_news pgn size = record { pgn = pgn; size = size; is_sound = is_size_of Etp size }
 
@@ -75,7 +75,7 @@ now_at before time = if goes_back before time then time else max before time
 abbrev pub passed : (before time : ℕ) → Heard → Heard
 passed before time h = if goes_back before time then broken_off h else silenced (max before time) h
 
--- then the frame is taken
+-- a frame of a bus is taken after its time has passed
 abbrev pub bus_taken : Bus → (most time : ℕ) → Iface → CanFrame → List Told → Bus × List Told
 bus_taken b most time iface frame told =
     let h = frame_taken iface frame most (now_at b.time time) (passed b.time time (b.sessions, told)) in
@@ -87,6 +87,6 @@ taken d time iface frame told =
     let b = bus_taken (bus_at iface d.buses) d.most time iface frame told in
     (record { most = d.most; time = b.0.time; buses = put_bus iface b.0 d.buses }, b.1)
 
--- at the end of the log what is still under way on each is lost
+-- at the end of the log each message that is still under way on a bus is lost
 abbrev pub ended : Buses → List Told
 ended buses = flat_map (λ b. losses (Lost EndOfLog) b.1.sessions) buses

@@ -14,11 +14,11 @@ abbrev pub transport_of : Kind → Transport
 transport_of kinds.Tp = Tp
 transport_of kinds.Etp = Etp
 
--- that of a message that goes as a frame does
+-- the key of a message that goes the way of a frame
 abbrev pub key_of : Way → Kind → Key
 key_of way kind = record { iface = way.iface; from = way.from; to = way.to; transport = transport_of kind }
 
--- that of one that goes the other way
+-- the key of a message that goes the other way
 abbrev pub key_back : Way → Kind → Key
 key_back way kind = record { iface = way.iface; from = way.to; to = way.from; transport = transport_of kind }
 

@@ -40,7 +40,7 @@ roomy j = if j.room == 0 then with_room j (max (j.next - 1) 64) else j
 abbrev pub renewed : Session → (now : ℕ) → Session
 renewed s now = record s { heard = now }
 
--- with its next packet
+-- a message with its next packet
 abbrev pub accepted : Session → List ℕ → (now : ℕ) → Session
 accepted s bytes now = record s { join = joined (roomy s.join) bytes; heard = now }
 
@@ -77,11 +77,11 @@ cm_heard s (frames.Abort reason pgn) now = (s, fates.GoesOn)
 cm_heard s (frames.EtpRts size pgn) now = (s, fates.GoesOn)
 cm_heard s (frames.EtpAbort reason pgn) now = (s, fates.GoesOn)
 
--- one of another PGN changes nothing
+-- a frame of another PGN changes nothing
 abbrev pub heard : Session → CmFrame → (now : ℕ) → Session × Fate
 heard s frame now = if clean (cm_pgn frame) == clean s.pgn then cm_heard s frame now else (s, fates.GoesOn)
 
--- one of its ends aborts a message of a PGN
+-- an end aborts a message of a PGN: this message, if that is its PGN
 abbrev pub abort_heard : Session → (who : Address) → (reason pgn : ℕ) → Fate
 abort_heard s who reason pgn = if clean pgn == clean s.pgn then fates.Aborted reason who else fates.GoesOn
 

@@ -32,7 +32,7 @@ session_at key sessions = lookup (same_key key) sessions
 abbrev pub put : Key → Session → Sessions → Sessions
 put key s sessions = insert_entry same_key sessions key s
 
--- without that of a key
+-- the messages under way without that of a key
 abbrev pub without : Key → Sessions → Sessions
 without key sessions = remove_entry (same_key key) sessions
 
@@ -40,7 +40,7 @@ without key sessions = remove_entry (same_key key) sessions
 abbrev pub ended_at : Key → Fate → Heard → Heard
 ended_at key fate h = elim (session_at key h.0) [ None ↦ h | Some s ↦ (without key h.0, h.1 ++ option_to_list (told_of key s fate)) ]
 
--- it continues, or ends
+-- a message continues, or ends
 abbrev pub settled : Key → Fate → Heard → Heard
 settled key fates.GoesOn h = h
 settled key fates.Given h = ended_at key fates.Given h
@@ -99,7 +99,7 @@ silent_entry now e = is_silent e.0.to e.1 now
 abbrev pub losses : Fate → Sessions → List Told
 losses fate sessions = flat_map (λ e. option_to_list (told_of e.0 e.1 fate)) sessions
 
--- those that are silent are lost
+-- the messages that are silent are lost
 abbrev pub silenced : (now : ℕ) → Heard → Heard
 silenced now h = (filter (λ e. not (silent_entry now e)) h.0, h.1 ++ losses (fates.Lost TimedOut) (filter (silent_entry now) h.0))
 

@@ -94,7 +94,7 @@ fn pass(
 }
 
 impl Bus {
-    /// One on which nothing was seen. It takes no memory.
+    /// A bus on which nothing was seen. It takes no memory.
     pub(crate) fn new(alloc: Global) -> Bus
         ensures { result ≡ new_bus }
     {

@@ -28,7 +28,7 @@ fn tp_news(pgn: WirePgn, size: u16, count: u8) -> News
     }
 }
 
-/// One of the extended transport protocol.
+/// The announcement of a message of the extended transport protocol.
 fn etp_news(pgn: WirePgn, size: u32) -> News
     ensures { result ≡ etp_news pgn size }
 {

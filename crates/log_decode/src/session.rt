@@ -226,7 +226,7 @@ impl Session {
         pgn.clean() == self.pgn.clean()
     }
 
-    /// One of its ends aborts a message of a PGN.
+    /// An end aborts a message of a PGN: this message, if that is its PGN.
     pub(crate) fn hear_abort(&self, who: Address, reason: u8, pgn: WirePgn) -> Fate
         ensures { result ≡ abort_heard self.now who reason pgn }
     {
@@ -298,7 +298,7 @@ impl Session {
     }
 }
 
-/// A time so long after this one as no message of which a frame is seen at this one is silent.
+/// The earliest time at which a message can be silent whose last frame is seen at this one.
 pub(crate) fn soonest(now: u64) -> u64
     ensures { result ≤ now + T1 * 1000 }
 {

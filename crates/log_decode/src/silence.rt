@@ -36,7 +36,7 @@ fn tell_silent(sessions: &Sessions, now: u64, told: &mut Vec<Told>) -> Result<()
     Ok(())
 }
 
-/// Those that are silent are under way no longer.
+/// Drops the messages that are silent.
 fn drop_silent(sessions: &mut Sessions, now: u64)
     ensures { sessions.new.entries ≡ filter (λ e. not (silent_entry now e)) sessions.old.entries }
 {

@@ -81,7 +81,7 @@ lost_of l EndOfLog = l.end_of_log
 abbrev pub lost_for : Losses → Cause → List LossCount
 lost_for l cause = if lost_of l cause == 0 then [] else (record { cause = cause; count = lost_of l cause }) ∷ []
 
--- in the order of their words
+-- the causes for which messages are lost, in the order of their words
 abbrev pub losses_of : Row → List LossCount
 losses_of r = flat_map (lost_for r.losses) (Acknowledged ∷ EndOfLog ∷ Missing ∷ Replaced ∷ WentBack ∷ TimedOut ∷ TooLong ∷ Unsound ∷ [])
 
@@ -99,7 +99,7 @@ with_given bytes c r = record r { given = more r.given; bytes = counted (r.bytes
 abbrev pub with_course : Course → Row → Row
 with_course c r = record r { again = counted (r.again + c.again); frames = counted (r.frames + c.frames) }
 
--- with how the message ended
+-- a row with the end of a message
 abbrev pub with_end : Course → Told → Row → Row
 with_end c (Given key pgn bytes) r = with_given (length bytes) c r
 with_end c (Aborted key pgn reason who) r = r
@@ -108,11 +108,11 @@ with_end c (Lost key pgn have size cause) r = record r { losses = with_loss caus
 abbrev pub with_told : Course → Told → Row → Row
 with_told c t r = with_end c t (with_course c r)
 
--- on average, rounded down
+-- how long a message took on average, rounded down
 abbrev pub mean_of : Row → ℕ
 mean_of r = if r.given == 0 then 0 else r.time / r.given
 
--- in parts per thousand, rounded down
+-- the part of frames in all, in parts per thousand, rounded down
 abbrev pub share_of : (frames all : ℕ) → ℕ
 share_of frames all = if all == 0 then 0 else counted (frames * 1000) / all
 
@@ -172,11 +172,11 @@ rows_of s = values_of s.rows
 abbrev pub aborts_for : RowKey → List (AbortKey × ℕ) → (reason : ℕ) → List AbortCount
 aborts_for row aborts reason = if aborted row reason aborts == 0 then [] else (record { reason = reason; count = aborted row reason aborts }) ∷ []
 
--- those of the reasons below a number, in their order
+-- the counts of the reasons below a number, in their order
 unfoldable pub aborts_below : RowKey → List (AbortKey × ℕ) → ℕ → List AbortCount
 aborts_below row aborts zero = []
 aborts_below row aborts (suc n) = aborts_below row aborts n ++ aborts_for row aborts n
 
--- those of all its reasons
+-- the counts of all reasons of a row
 abbrev pub aborts_of : Row → Summary → List AbortCount
 aborts_of r s = aborts_below (row_key r.iface r.pgn r.from r.to) s.aborts 256

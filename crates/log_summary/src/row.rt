@@ -66,7 +66,7 @@ const CAUSES: [Cause; 8] = [
     Cause::Unsound,
 ];
 
-/// One more.
+/// One more, up to the last value.
 fn more(n: u64) -> u64
     ensures { result ≡ more n }
 {

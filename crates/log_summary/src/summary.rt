@@ -80,7 +80,7 @@ impl Summary {
         Ok(())
     }
 
-    /// A message counts in its row. The row is answered as it was, if it was there.
+    /// Counts a message in its row. Returns the row as it was before, if it was there.
     fn add_row(
         &mut self,
         key: RowKey,
