@@ -1,4 +1,4 @@
--- Lines of words, and how the text of a message stands in one.
+-- Lines of words, and the escaping of a message's text in them.
 use Rattle.std.specs.Prelude.{ℕ, List, [], ◌∷◌, ◌++◌, flat_map, codes, Bool, ◌&&◌, not, ◌==◌, nat_lt, if◌then◌else◌}
 use Rattle.std.specs.Fmt.{decimal}
 use Rattle.text_digits.specs.Digits.{digits}

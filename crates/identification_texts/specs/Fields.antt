@@ -11,7 +11,7 @@ abbrev pub is_filled : List ℕ → Bool
 is_filled [] = true
 is_filled (b ∷ bs) = b == 255 && is_filled bs
 
--- what stands behind the last asterisk is a field too, unless it is padding or nothing
+-- the text behind the last asterisk is a field too, unless it is padding or empty
 abbrev pub last_field : List ℕ → List (List ℕ)
 last_field field = if is_filled field then [] else field ∷ []
 

@@ -67,6 +67,6 @@ wire_met iface from to (Packet kind sequence bytes) awaited = (awaited, false)
 wire_met iface from to (Request pgn) awaited = (awaited, false)
 wire_met iface from to (Ack control address pgn) awaited = (awaited, false)
 
--- a frame on an interface: what is awaited then, and whether it was such an acknowledgement
+-- the messages awaited after a frame on an interface, and whether the frame was such an acknowledgement
 abbrev pub met : Iface → CanFrame → Awaited → Awaited × Bool
 met iface frame awaited = elim (reading frame) [ None ↦ (awaited, false) | Some r ↦ wire_met iface r.1 r.2 r.0 awaited ]

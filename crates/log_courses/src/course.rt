@@ -11,9 +11,9 @@ use tp_wire::CmFrame;
 /// The place of a frame in a log.
 #[derive(Clone, Copy, Debug, PartialEq, Eq)]
 pub struct Place {
-    /// Its number among the frames of the log, from 1.
+    /// The frame's number among the frames of the log, from 1.
     pub number: u64,
-    /// Its time, in microseconds.
+    /// The frame's time, in microseconds.
     pub time: u64,
 }
 
@@ -29,13 +29,13 @@ pub struct Course {
     pub frames: u64,
     /// The highest number of a packet that its receiver asked for; 0 if it asked for none.
     pub asked: u64,
-    /// How many packets its receiver asked for that it had asked for before, as often as it did.
+    /// How many packets its receiver asked for again, counted each time.
     pub again: u64,
     /// Its frames but for packets, if each is kept.
     pub marks: Marks,
 }
 
-/// One more.
+/// One more, up to the last value.
 fn more(n: u64) -> u64
     ensures { result ≡ more n }
 {
@@ -61,7 +61,7 @@ fn asked_to(asked: u64, granted: u8, next: u32) -> u64
 }
 
 impl Course {
-    /// One that has a frame.
+    /// A course of one frame.
     pub(crate) fn begun(alloc: Global, pgn: Pgn, place: Place) -> Course
         ensures { result ≡ begun pgn place }
     {
@@ -76,7 +76,7 @@ impl Course {
         }
     }
 
-    /// One more frame of it is seen.
+    /// Counts one more of its frames.
     pub(crate) fn go_on(&mut self, place: Place)
         ensures { self.new ≡ longer place self.old }
     {
@@ -117,7 +117,7 @@ impl Course {
         }
     }
 
-    /// So many packets, from one on, are asked for again.
+    /// Notes that so many packets, from one on, are asked for again.
     fn note_again(
         &mut self,
         detail: Detail,

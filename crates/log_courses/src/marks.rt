@@ -65,7 +65,7 @@ impl Marks {
         }
     }
 
-    /// One more.
+    /// Puts one more frame.
     pub(crate) fn put(&mut self, place: Place, step: Step) -> Result<(), AllocError>
         ensures { OnOk result (self.new ≡ self.old ++ record { place = place; step = step } ∷ []) }
     {
@@ -73,7 +73,7 @@ impl Marks {
         Ok(())
     }
 
-    /// One more, unless there are as many as are listed at most.
+    /// Puts one more frame, unless there are as many as are listed at most.
     pub(crate) fn add(&mut self, place: Place, step: Step) -> Result<(), AllocError>
         ensures { OnOk result (self.new ≡ with_mark place step self.old) }
     {
@@ -83,7 +83,7 @@ impl Marks {
         Ok(())
     }
 
-    /// They in their order.
+    /// The frames in their order.
     pub fn as_slice(&self) -> &[Mark]
         ensures { result.now ≡ self.now }
     {

@@ -27,7 +27,7 @@ pgn_text pgn = digits 16 5 pgn
 abbrev pub ends_text : (from to : Address) → List ℕ
 ends_text from to = address_text from ++ codes " " ++ address_text to ++ codes " "
 
--- between which addresses, and of which PGN
+-- the words for the addresses between which a message goes, and for its PGN
 abbrev pub way_text : (from to : Address) → ℕ → List ℕ
 way_text from to pgn = ends_text from to ++ pgn_text pgn ++ codes " "
 
@@ -61,7 +61,7 @@ head_text now key what pgn = place_text now key.iface what ++ way_text key.from 
 abbrev pub given_line : ℕ → Key → (pgn : ℕ) → List ℕ → List ℕ
 given_line now key pgn bytes = head_text now key (codes " given ") pgn ++ message_text bytes
 
--- one of its ends aborted it, for a reason
+-- one of the message's ends aborted it, for a reason
 abbrev pub aborted_line : ℕ → Key → (pgn reason : ℕ) → Address → List ℕ
 aborted_line now key pgn reason who = head_text now key (codes " aborted ") pgn ++ abort_text reason who
 

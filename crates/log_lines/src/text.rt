@@ -42,7 +42,7 @@ fn put_ends(out: &mut Vec<u8>, from: Address, to: Address) -> Result<(), AllocEr
     put_text(out, " ")
 }
 
-/// Between which addresses, and of which PGN.
+/// Puts the addresses between which a message goes, and its PGN.
 fn put_way(out: &mut Vec<u8>, from: Address, to: Address, pgn: Pgn) -> Result<(), AllocError>
     ensures { OnOk result (out.new.items ≡ out.old.items ++ way_text from to pgn) }
 {

@@ -13,7 +13,7 @@ use Rattle.log_courses.specs.declared.marks.Step.TheVariants.{Announcement, Wind
 abbrev pub plain_members : (kind : List ℕ) → Place → List Named
 plain_members kind p = (codes "kind", string kind) ∷ (codes "number", count_of p.number) ∷ (codes "time", count_of p.time) ∷ []
 
--- with the packets from one to another
+-- the members of a frame with the packets from one to another
 abbrev pub ranged_members : (kind : List ℕ) → Place → (first last : ℕ) → List Named
 ranged_members kind p first last =
     (codes "from", count_of first)

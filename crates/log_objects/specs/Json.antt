@@ -23,7 +23,7 @@ use Rattle.log_objects.specs.Frames.{with_frames}
 abbrev pub place_object : Place → Data
 place_object p = object_of ((codes "number", count_of p.number) ∷ (codes "time", count_of p.time) ∷ [])
 
--- in the words of the other lines
+-- the words of a cause, as in the lines of text
 abbrev pub cause_words : Cause → List ℕ
 cause_words Missing = codes "packet missing"
 cause_words Replaced = codes "replaced"
@@ -74,7 +74,7 @@ abort_members now c key pgn reason =
     ∷ (codes "time", count_of now)
     ∷ (codes "to", count_of key.to.0) ∷ []
 
--- one of its ends aborted it, for a reason
+-- one of the message's ends aborted it, for a reason
 unfoldable pub aborted_members : Detail → (now : ℕ) → Course → Key → (pgn reason : ℕ) → Address → List Named
 aborted_members detail now c key pgn reason who =
     (codes "again", count_of c.again)
