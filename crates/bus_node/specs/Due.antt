@@ -24,7 +24,7 @@ next_work seg = least_below (works_at seg) (2 ^ 64)
 abbrev pub paced_until : Node → ℕ
 paced_until n = if is_pacing n then elim (next_work n.station.segment) [ None ↦ last | Some tick ↦ max tick (plus n.station.segment.now 1) ] else last
 
--- the earlier of a tick, if there is one, and another, of which the last says none
+-- the earlier of a tick, if there is one, and another, of which the last tick means none
 abbrev pub first_of : Option ℕ → ℕ → Option ℕ
 first_of None wake = if nat_lt wake last then Some wake else None
 first_of (Some tick) wake = Some (min tick wake)

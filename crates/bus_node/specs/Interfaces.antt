@@ -19,7 +19,7 @@ shown_on (Now time) = None
 shown_on Passed = None
 shown_on (Command command) = None
 
--- it isn't the node's, which is known
+-- whether an interface is another than the node's, which is known
 abbrev pub is_other : Node → Iface → Bool
 is_other n iface = n.knows_iface && not (same_iface iface n.iface)
 

@@ -18,7 +18,7 @@ with_text (Err f) = Err f
 abbrev pub told_by : lines.Steps Node
 told_by n line = with_text (obey_line n line)
 
--- and there is no log
+-- the log of a line is empty
 abbrev pub without_text : Result Node Fault → Result (Node × List ℕ) Fault
 without_text (Ok t) = Ok (t, [])
 without_text (Err f) = Err f

@@ -5,7 +5,7 @@ use Rattle.tp_wire.specs.declared.outcome.Outcome.TheVariants.{Acknowledged, Bro
 use Rattle.message_events.specs.declared.event.Event.{Event}
 use Rattle.message_events.specs.declared.event.Event.TheVariants as events
 
--- within 64 bits
+-- a sum, within 64 bits
 abbrev pub plus : ℕ → ℕ → ℕ
 plus a b = min (a + b) (2 ^ 64 - 1)
 

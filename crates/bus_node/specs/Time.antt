@@ -71,7 +71,7 @@ fronted target n None = pumped target n (next_lane n)
 unfoldable pub step : ℕ → Node → Option Node
 step target n = fronted target n (front_at n.station.segment n.station.address)
 
--- so many steps at most
+-- so many steps are made at most
 unfoldable pub go_on : ℕ → ℕ → Node → Node
 go_on zero target n = n
 go_on (suc more) target n = elim (step target n) [ None ↦ n | Some m ↦ go_on more target m ]
@@ -88,7 +88,7 @@ settled n = go_on most_steps n.station.segment.now n
 abbrev pub leapt : Node → ℕ → Node
 leapt n time = if has_jumped n time then at_tick (tick_at n time) n else n
 
--- else it advances to that tick, and each timer fires at its own
+-- then it advances to that tick, and each timer fires at its own
 abbrev pub come_to_time : Node → ℕ → Node
 come_to_time n time = go_on most_steps (tick_at n time) (leapt n time)
 

@@ -11,7 +11,7 @@ use Rattle.bus_node.specs.Node.{Node, told}
 abbrev pub wrong_line : ℕ → Fault → List ℕ
 wrong_line number fault = line (fault_line (record { line = number; cause = causes.Fault fault }))
 
--- it is counted and passed over
+-- a wrong line is counted and passed over
 abbrev pub wrong_told : Node → Fault → Node
 wrong_told n fault = told (record n { counts = with_wrong n.counts }) (wrong_line n.counts.lines fault)
 

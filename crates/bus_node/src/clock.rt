@@ -16,7 +16,7 @@ const LATE: u64 = 1_000_000;
 const JUMP: u64 = 600_000_000;
 
 impl Node {
-    /// The time at which its clock stands, in microseconds.
+    /// The time of its clock, in microseconds.
     pub(crate) fn time(&self) -> u64
         ensures { result ≡ time_of self.now }
     {

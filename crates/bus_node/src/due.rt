@@ -14,7 +14,7 @@ fn next_work(station: &Station) -> Option<u64>
     station.next_at()
 }
 
-// The earlier of a tick, if there is one, and another, of which the last says none.
+// The earlier of a tick, if there is one, and another, of which the last tick means none.
 fn first_of(due: Option<u64>, wake: u64) -> Option<u64>
     ensures { result ≡ first_of due wake }
 {

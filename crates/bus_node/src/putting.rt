@@ -55,7 +55,7 @@ fn place_of(frames: &VecDeque<Frame>, frame: &Frame) -> Option<usize>
     frames.iter().position(|put| is_same(put, frame))
 }
 
-/// So many of the oldest frames are waited for no more.
+/// Drops the oldest frames, which are no longer waited for.
 fn drop_oldest(frames: &mut VecDeque<Frame>, count: usize)
     ensures { frames.new.items ≡ drop count frames.old.items }
 {
