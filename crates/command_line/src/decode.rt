@@ -141,7 +141,7 @@ fn strict_arg<'a>(alloc: Global) -> Arg<'a> {
     flag(alloc, "strict", "Ends at a wrong line")
 }
 
-/// Its arguments, in the order of the help.
+/// The arguments of `decode`, in the order of the help.
 fn decode_args<'a>(alloc: Global) -> Result<Vec<Arg<'a>>, AllocError> {
     let pgn = "Only messages of this PGN, hexadecimal";
     let from = "Only messages from this address, hexadecimal";

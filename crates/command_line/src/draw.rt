@@ -67,12 +67,12 @@ fn log_arg<'a>(
     valued(alloc, name, value, ArgAction::Set, help).requires_arg("log")
 }
 
-/// One without a value.
+/// A flag without a value.
 fn log_flag<'a>(alloc: Global, name: &'a str, help: &'a str) -> Result<Arg<'a>, AllocError> {
     flag(alloc, name, help).requires_arg("log")
 }
 
-/// Its arguments, in the order of the help.
+/// The arguments of `draw`, in the order of the help.
 fn draw_args<'a>(alloc: Global) -> Result<Vec<Arg<'a>>, AllocError> {
     let pair = "Only frames between these nodes, and from either to all, hexadecimal";
     let from = "No frame before this time";

@@ -23,17 +23,17 @@ use std::alloc::{AllocError, Global};
 pub enum Asked {
     /// The script is run line by line.
     Script,
-    /// It is run so, and the frames that it puts are printed as a log, without the replies.
+    /// The script is run, and the frames that it puts are printed as a log, without the replies.
     Logged,
-    /// It is run so, and drawn as a sequence diagram.
+    /// The script is run, and drawn as a sequence diagram.
     Drawn,
     /// Logs are drawn so.
     DrawnLog(OfDrawing),
-    /// It is run by threads, each worker with at most so many turns.
+    /// The script is run by threads, each worker with at most so many turns.
     Live { turns: u64 },
-    /// Its two segments are run by threads, with a relay between them.
+    /// The script's two segments are run by threads, with a relay between them.
     Relay { turns: u64 },
-    /// It is a station on the bus whose frames are read from standard input.
+    /// A station on the bus whose frames are read from standard input.
     Node(OfNode),
     /// The messages of logs are printed.
     Decode(OfLog),
@@ -255,12 +255,12 @@ fn read_words<'a>(
     or_error(command, line)
 }
 
-/// Reads the words of a command line, of which the first names the program. What it doesn't take is refused, and so is help, whose
-/// text is the error.
+/// Reads the words of a command line, of which the first names the program. Words that it doesn't take are refused, and so is a
+/// request for help, whose text is the error.
 pub fn read_command_line(alloc: Global, words: &[String]) -> Result<Line, Error> {
     let mut command = program(alloc)?;
     let asked = read_words(alloc, &mut command, words);
-    // By a call, since at the end of a function each of its fields is dropped, and proved to be, by itself.
+    // Dropped by a call: at the end of a function each of its fields is dropped, and proved to be, by itself.
     drop(command);
     asked
 }

@@ -17,7 +17,7 @@ pub struct OfPort {
 /// Which node is asked for.
 #[derive(Debug, PartialEq, Eq, Drop)]
 pub struct OfNode {
-    /// Its address, 0 to 253.
+    /// The node's address, 0 to 253.
     pub address: u8,
     /// The interface that it is on; none: that of the first frame that it is shown.
     pub interface: Option<String>,
@@ -102,7 +102,7 @@ fn strict_arg<'a>(alloc: Global) -> Arg<'a> {
     flag(alloc, "strict", "Ends at a wrong line")
 }
 
-/// Its arguments, in the order of the help.
+/// The arguments of `node`, in the order of the help.
 fn node_args<'a>(alloc: Global) -> Result<Vec<Arg<'a>>, AllocError> {
     list(
         alloc,

@@ -27,12 +27,12 @@ pub(crate) fn named<'a>(alloc: Global, name: &'a str, help: &'a str) -> Arg<'a> 
     Arg::new(alloc, name).long(name).help(help)
 }
 
-/// One that is there or isn't.
+/// A flag, which is there or isn't.
 pub(crate) fn flag<'a>(alloc: Global, name: &'a str, help: &'a str) -> Arg<'a> {
     named(alloc, name, help).action(ArgAction::SetTrue)
 }
 
-/// One with a value, which help calls `value`.
+/// An argument with a value, which the help calls `value`.
 pub(crate) fn valued<'a>(
     alloc: Global,
     name: &'a str,

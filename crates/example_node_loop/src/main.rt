@@ -46,7 +46,7 @@ const RECEIVED: [(u64, Received); 7] = [
 /// At most so many frames are put, timers fired and events taken in one turn, and so many turns are made here.
 const MOST: usize = 64;
 
-/// What stands for a CAN driver and a clock: what it has handed over so far, and the time.
+/// A stand-in for a CAN driver and a clock: what it has handed over so far, and the time.
 #[derive(Drop)]
 struct Driver {
     received: usize,

@@ -1,4 +1,4 @@
-//! Logs that are decoded: what of one is asked for, and how what was counted of it is shown.
+//! Logs that are decoded: the options of a case, and the text of its counts.
 use crate::runs::{Runs, no_memory, show_end};
 use bus_decode::{Cause, Decoded, Options, Strays, Wanted, run_decode};
 use std::alloc::Global;

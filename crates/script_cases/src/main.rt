@@ -20,7 +20,7 @@ use std::process::ExitCode;
 use std::rt::Files;
 use std::{fs, io};
 
-/// What stands between two pieces of an input, each of which is run by itself.
+/// The text between two pieces of an input, each of which is run by itself.
 const BETWEEN: &str = "\n==\n";
 
 /// Runs the pieces of an input, and shows what they write, with a line `==` between each two.
@@ -64,7 +64,7 @@ fn prints<R: Runs>(
     Ok(false)
 }
 
-/// Whether the files of this name, of which the input's ends so, are as they are to be.
+/// Whether the files of this name, whose input has this ending, are as they are to be.
 fn holds<R: Runs>(
     rt: &(impl Eprint + AllocGlobal + Files),
     mut runs: R,

@@ -1,4 +1,4 @@
-//! Logs that are drawn: what of one is asked for, and how what was counted of it is shown.
+//! Logs that are drawn: the options of a case, and the text of its counts.
 use crate::runs::{Runs, no_memory, show_end};
 use bus_script::Cause;
 use log_drawing::{Drawn, Options, Pair, draw_log};
