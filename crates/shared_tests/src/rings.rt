@@ -199,7 +199,7 @@ fn a_note_after_the_end_goes_into_no_ring(rt: HostRuntime) {
     drop(client);
 }
 
-// To whom how many bytes aren't to be sent on which PGN, and why.
+// Messages that aren't to be sent: the destination, the PGN, how many bytes, and why.
 const UNSENDABLE: [(Address, u32, u8, Refusal); 4] = [
     (Address::NULL, 0xEC21, 9, Refusal::BadPgn),
     (Address::NULL, FECA, 9, Refusal::NoSuchStation),

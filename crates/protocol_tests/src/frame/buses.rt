@@ -19,7 +19,7 @@ fn put(log: &mut BusLog, frame: Frame) -> Result<(), PutError> {
     }
 }
 
-// Calls of which a test only looks at the answer: their contracts are not carried through it.
+// Calls whose result alone a test looks at: their contracts are not carried through it.
 fn next(rt: &impl Abort, log: &mut BusLog, cursor: usize) -> Option<Frame> {
     holds(rt, cursor < log.stations());
     log.next(cursor)

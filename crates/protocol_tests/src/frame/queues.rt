@@ -12,7 +12,7 @@ fn new_queue(alloc: Global) -> Result<TxQueue, AllocError> {
     }
 }
 
-// Calls of which a test only looks at the answer: their contracts are not carried through it.
+// Calls whose result alone a test looks at: their contracts are not carried through it.
 fn push(queue: &mut TxQueue, frame: Frame) -> Result<(), TxFull> {
     queue.push(frame)
 }
@@ -88,7 +88,7 @@ fn show(rt: &impl Abort, alloc: Global, queue: &mut TxQueue) {
     holds(rt, push(queue, frame_of(rt, 2)).is_ok());
     holds(rt, !is_of(&one, queue));
     holds(rt, pop(queue) == Some(frame_of(rt, 1)));
-    // As many frames as then, but another one.
+    // As many frames as then, but one of them is different.
     holds(rt, !is_of(&one, queue));
 }
 

@@ -286,7 +286,7 @@ fn a_window_is_followed_by_the_next(rt: HostRuntime) {
     same(&rt, bytes.last(), Some(&28));
 }
 
-// Its timer fires, and this is queued.
+// The timer fires, and this frame is queued.
 fn fires(
     rt: &impl Abort,
     state: &mut Receiver,
@@ -324,7 +324,7 @@ fn a_hold_ends_where_the_receiver_stands(rt: HostRuntime) {
     shows(&rt, state.end(AbortReason::Timeout), CM_TO_21, abort(3));
 }
 
-// What packet `last` leads to at tick 200, after packet 1 of three at tick 100, in windows of two.
+// The step of packet `last` at tick 200, after packet 1 of three at tick 100, in windows of two.
 fn third_step(rt: &impl Abort, alloc: Global, last: u8, room: bool) -> Received {
     let (state, _) = begun(rt, alloc, diagnostics(rt), 2, 21, Flow::Open);
     let (state, _) = on(rt, step(rt, state, &packet(1), true, Flow::Open, 100));

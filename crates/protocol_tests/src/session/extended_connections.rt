@@ -211,7 +211,7 @@ fn begins(rt: HostRuntime) {
     goes_on_after(&rt, rt.alloc(), &Wire::Cm(other));
 }
 
-// What the last packet of the first window leads to.
+// The step of the last packet of the first window.
 fn first_window(rt: &impl Abort, state: InState, flow: Flow) -> Received {
     let mut state = goes_on(rt, take(rt, state, &dpo(rt, 64, 0), flow));
     for sequence in 1..64 {

@@ -103,7 +103,7 @@ fn is_open(rt: &impl Abort, opened: Result<(), OpenRefused<u8>>) {
     }
 }
 
-// Calls of which a test only looks at the answer: their contracts are not carried through it.
+// Calls whose result alone a test looks at: their contracts are not carried through it.
 fn new_table(alloc: Global) -> SessionTable<u8> {
     SessionTable::new(alloc)
 }

@@ -61,7 +61,7 @@ fn is_given(rt: &impl Abort, event: Option<&Event>, number: u64) {
     }
 }
 
-// Calls of which a test only looks at the answer: their contracts are not carried through it.
+// Calls whose result alone a test looks at: their contracts are not carried through it.
 fn receive(
     rt: &impl Abort,
     alloc: Global,

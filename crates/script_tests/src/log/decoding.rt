@@ -1,4 +1,4 @@
-//! A log, decoded: what is printed of it, with the exact text.
+//! A log, decoded, with the exact text that is printed.
 use crate::checks::{holds, same};
 use bus_decode::{Cause, Decoded, Options, Wanted, run_decode};
 use std::alloc::Global;

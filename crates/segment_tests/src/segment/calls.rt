@@ -1,4 +1,5 @@
-//! Calls on a segment of stations 21 and 35 of which a test only looks at the answer: their contracts are not carried through it.
+//! Calls on a segment of stations 21 and 35, whose result alone a test looks at: their contracts are not carried
+//! through it.
 use crate::checks::{got, same};
 use crate::segment::replies::{is_opened, is_sent};
 pub(crate) use crate::stations::{A, B, PORT, pgn};

@@ -34,7 +34,7 @@ fn puts(rt: &impl Abort, segment: &mut Segment) -> bool {
     }
 }
 
-// A message of 1,785 bytes, of which 35 misses one frame: that which it would have taken as its `missed`th.
+// A message of 1,785 bytes. 35 misses one frame: the one that would have been its `missed`th.
 fn miss_frame(rt: &impl Abort, alloc: Global, segment: &mut Segment, missed: u32) {
     open_and_send(rt, alloc, segment, B, 1785);
     for taken in 1..=274 {

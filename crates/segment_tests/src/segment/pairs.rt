@@ -1,4 +1,4 @@
-//! Two segments that are asked the same. A call that finds no memory must leave every reader as it was and is made again: whichever one
+//! Two segments that get the same calls. A call that finds no memory must leave every reader unchanged and is made again: whichever one
 //! allocation is refused, one segment meets that refusal, the other meets none, and both answer alike.
 use crate::checks::{got, holds, same};
 use crate::segment::calls::*;
@@ -142,7 +142,7 @@ pub(crate) struct Pair {
     pub(crate) other: Segment,
 }
 
-// Both make the call and answer alike; the answer.
+// Both make the call and answer alike; returns the answer.
 pub(crate) fn both(rt: &impl Abort, alloc: Global, pair: &mut Pair, call: Call) -> Reply {
     let reply = made(rt, alloc, &mut pair.one, &call);
     let other = made(rt, alloc, &mut pair.other, &call);

@@ -76,7 +76,7 @@ fn show_broadcast(rt: &impl Abort, segment: &Segment) {
     );
 }
 
-// The steps of a test are a function that owns nothing: what a test owns takes its part of the proof at each of them.
+// The steps of a test are a function that owns nothing: each step adds a part of the proof for all that a test owns.
 fn three_frames(rt: &impl Abort, segment: &mut Segment) {
     one_frame(rt, segment);
     one_frame(rt, segment);
@@ -311,7 +311,7 @@ fn is_left_behind(rt: &impl Abort, alloc: Global, segment: &mut Segment, other: 
     is_of(rt, segment, &new, false);
 }
 
-// It is that of another one on which the same calls were made.
+// The segment equals another one on which these calls were made.
 fn is_reached(rt: &impl Abort, alloc: Global, segment: &Segment, other: &mut Segment) {
     let midway = image(rt, segment);
     is_of(rt, segment, &midway, true);

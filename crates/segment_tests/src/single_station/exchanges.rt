@@ -40,7 +40,8 @@ fn are_quiet(rt: &impl Abort, a: &mut Node, b: &mut Node) {
     is_quiet(rt, b);
 }
 
-// A test's steps are a function of their own, which owns nothing: what a test owns takes its part of the proof at each of them.
+// The steps of a test are a function of their own, which owns nothing: each step adds a part of the proof for all that
+// a test owns.
 fn broadcasts(rt: &impl Abort, a: &mut Node, b: &mut Node) {
     begins(rt, a, b, Address::GLOBAL);
     same(rt, next(a), Some(0));

@@ -64,7 +64,7 @@ fn is_not_told(rt: &impl Abort, node: &mut Node) {
     gives_twenty(rt, node, &MIXED);
 }
 
-// One that is gives nothing of the two.
+// A node that learns of the loss gives neither message.
 fn is_told(rt: &impl Abort, node: &mut Node) {
     comes_before(rt, node);
     misses(rt, node);

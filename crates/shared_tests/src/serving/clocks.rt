@@ -59,7 +59,7 @@ fn go_by(rt: &impl Wait, shared: &SharedSegment, hand: &Hand, rounds: u64) {
     }
 }
 
-// The segment's clock stands there after some turns.
+// The segment's clock is at that tick after some turns.
 fn stands(rt: &(impl Abort + Wait), shared: &SharedSegment, hand: &Hand, at: u64) {
     go_by(rt, shared, hand, 3);
     same(rt, shared.lock(rt).segment().now(), at);

@@ -1,4 +1,4 @@
-//! What a segment and its ends keep after cuts: what was read is let go, and what wasn't is there still.
+//! What a segment and its ends keep after cuts: what was read is dropped, and what wasn't is still there.
 use super::steps::*;
 use super::{give_one, receive_one, refuse_client};
 use segment_shared::{Client, Inbox, Live, PortId, Refusal};
@@ -42,7 +42,7 @@ fn read_one(rt: &impl Abort, inbox: &mut Inbox, sender: &mut Client) {
     holds(rt, note(rt, sender).is_some());
 }
 
-// Two messages are given, of which one is read before the cut.
+// Two messages are given, one of which is read before the cut.
 fn cut_first(
     rt: &impl Abort,
     alloc: Global,

@@ -222,7 +222,7 @@ fn rts_of_80(rt: &impl Abort) -> WorkerCall {
     WorkerCall::Inject { frame }
 }
 
-// All three stations take as many requests as the queue of 35 holds frames, and 35 answers each.
+// All three stations take as many requests as 35's queue holds frames, and 35 answers each.
 fn fill_queue(rt: &impl Abort, live: &mut Live) {
     for _ in 0..64 {
         made(rt, live, rts_of_80(rt));

@@ -33,7 +33,7 @@ fn accepts(rt: &impl Abort, live: &mut Live, sender: &Client, expected: Accepted
     same(rt, accepted_again(rt, live, sender), expected);
 }
 
-// To whom how many bytes aren't to be sent, and why.
+// Messages that aren't to be sent: the destination, how many bytes, and why.
 const UNSENDABLE: [(Address, u8, Refusal); 3] = [
     (Address::NULL, 9, Refusal::NoSuchStation),
     (A, 9, Refusal::SameStation),

@@ -155,7 +155,7 @@ pub(crate) fn relayed<R: Threads + Wait + Abort + Sync>(
     relayed
 }
 
-// What stands behind so many.
+// The elements behind so many.
 fn behind<'a, T>(rt: &impl Abort, all: &'a [T], many: usize) -> &'a [T] {
     holds(rt, many <= all.len());
     &all[many..]

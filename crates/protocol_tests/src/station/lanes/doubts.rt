@@ -71,7 +71,7 @@ fn lane_settles_after_a_timeout(rt: HostRuntime) {
     times_out(&rt, rt.alloc(), &mut lane, CM_TO_35);
     first_round(&rt, rt.alloc(), &mut lane);
     second_round(&rt, rt.alloc(), &mut lane);
-    // It stays settled.
+    // The lane stays settled.
     push(&rt, rt.alloc(), &mut lane, 4);
     pumps(&rt, rt.alloc(), &mut lane, 2600, CM_TO_35, &RTS);
 }

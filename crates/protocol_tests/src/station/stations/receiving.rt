@@ -51,7 +51,7 @@ fn pops(rt: &impl Abort, station: &mut Station, shown: &Shown) {
     same(rt, station.pop(), Some(frame));
 }
 
-// A last packet is said to be one of nine bytes for port 1.
+// A last packet is reported as one of nine bytes for port 1.
 fn wants_nine(rt: &impl Abort, station: &Station, shown: &Shown) {
     let (ports, size) = station.wants(&frame_of(rt, shown));
     same(rt, ports.numbers(), [1].as_slice());
@@ -89,7 +89,7 @@ fn is_malformed(rt: &impl Abort, station: &mut Station, shown: &Shown) {
     same(rt, (taken.is_malformed, taken.events.len()), (true, 0));
 }
 
-// Calls of which a test only looks at the answer: their contracts are not carried through it.
+// Calls whose result alone a test looks at: their contracts are not carried through it.
 fn overruns(rt: &impl Abort, station: &mut Station) {
     same(rt, got(rt, station.overrun()).len(), 0);
 }
@@ -188,7 +188,8 @@ const ABORT: Shown = (
     [0xFF, 0xFA, 0xFF, 0xFF, 0xFF, 0xCA, 0xFE, 0x00],
 );
 
-// A test's steps are a function of their own, which owns nothing: what a test owns takes its part of the proof at each of them.
+// The steps of a test are a function of their own, which owns nothing: each step adds a part of the proof for all that
+// a test owns.
 fn give_a_message(rt: &impl Abort, station: &mut Station) {
     is_silent(rt, station, &OTHER_TRAFFIC);
     is_malformed(rt, station, &NO_PACKET);
