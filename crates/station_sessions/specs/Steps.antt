@@ -1,4 +1,4 @@
--- What is asked of an incoming session, whatever its kind, and what its message gives (SAE J1939-21, TP.DT; ISO 11783-3, ETP.DT).
+-- The readers of an incoming session, whatever its kind, and what its message gives (SAE J1939-21, TP.DT; ISO 11783-3, ETP.DT).
 use Rattle.std.specs.Prelude.{ℕ, Bool, if◌then◌else◌, List, Option, Some, None}
 use Rattle.bus_frame.specs.Frames.{CanFrame}
 use Rattle.pgn_ids.specs.Address.{global_address}
