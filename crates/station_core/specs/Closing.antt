@@ -10,7 +10,7 @@ use Rattle.station_sessions.specs.Opening.{key_of}
 use Rattle.station_sessions.specs.Receiving.{unbound_at}
 use Rattle.station_core.specs.Station.{Station}
 
--- a frame is queued where there is a place for it
+-- a frame is queued if there is a place for it
 abbrev pub if_free : List CanFrame → Option CanFrame → List CanFrame
 if_free queue None = queue
 if_free queue (Some frame) = if nat_lt (length queue) queue_limit then queue ++ frame ∷ [] else queue

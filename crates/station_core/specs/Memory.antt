@@ -1,4 +1,4 @@
--- When memory may be wanting for a frame that is taken: it opens a session, completes a message, or grants a window of ETP (SAE
+-- When memory may be missing for a frame that is taken: it opens a session, completes a message, or grants a window of ETP (SAE
 -- J1939-21, TP.CM_RTS, TP.CM_BAM, TP.DT; ISO 11783-3, ETP.CM_RTS, ETP.DT).
 use Rattle.std.specs.Prelude.{◌≡◌, ⊤, Bool, true, false, Option, Some, None}
 use Rattle.bus_frame.specs.Frames.{CanFrame}

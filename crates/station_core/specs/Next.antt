@@ -1,4 +1,4 @@
--- What a station has to do by itself: without a frame that comes, and without a call of the program that it works for.
+-- What a station has to do by itself: without a received frame, and without a call of its program.
 use Rattle.std.specs.Prelude.{ℕ, Bool, ◌||◌, nat_lt, length, is_some, is_none}
 use Rattle.station_core.specs.Station.{Station}
 use Rattle.station_core.specs.Sending.{next_pump}

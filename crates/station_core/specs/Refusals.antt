@@ -18,7 +18,7 @@ use Rattle.station_core.specs.Timers.{is_due}
 use Rattle.station_core.specs.declared.refused.Refused.{Refused}
 use Rattle.station_core.specs.declared.refused.Refused.TheVariants.{NoSuchStation, SameStation, TooShort, TooLong, LaneFull, PortsFull, NoSuchPort, PortPaused, PortNotPaused, NothingToSend, NotYet, NothingDue, TxFull, OutOfMemory}
 
--- the cause that a call answers which takes memory: the first of its own; and only where there is none, want of memory
+-- the cause that a call which takes memory returns: the first of its own; want of memory only if there is none
 abbrev pub IsAnswered : (refusal answered : Option Refused) → Type 0
 IsAnswered refusal None = refusal ≡ None
 IsAnswered refusal (Some OutOfMemory) = refusal ≡ None

@@ -47,7 +47,7 @@ pub enum Refused {
     /// No timer is due.
     #[error("no timer is due")]
     NothingDue,
-    /// Too few places of the queue are free.
+    /// The queue has too few free places.
     #[error("too few places of the queue are free")]
     TxFull,
     /// There is no memory.
