@@ -11,18 +11,18 @@ use Rattle.segment_law.specs.declared.reply.Reply.{Reply}
 use Rattle.segment_core.specs.declared.stop.Stop.{Stop}
 use Rattle.segment_core.specs.declared.stop.Stop.TheVariants.{Refused, OutOfMemory}
 
--- as the law says; or for want of memory as if it hadn't been made, where the law doesn't refuse it
+-- the law's answer; or, if the law doesn't refuse the call, want of memory, as if it hadn't been made
 abbrev pub IsAnswer : Answer → (before after : Segment) → Result Reply Stop → Type 0
 IsAnswer answer before after (Ok reply) = answer ≡ Ok (after, reply)
 IsAnswer answer before after (Err (Refused cause)) = (answer ≡ Err cause) × (after ≡ before)
 IsAnswer answer before after (Err OutOfMemory) = IsOk answer × (after ≡ before)
 
--- the same of a call whose reply is put together from what it gives
+-- the law's answer to a call whose reply is built from its result
 abbrev pub IsAnswerBy : {T : Type 0} → (reply : T → Reply) → Answer → (before after : Segment) → Result T Stop → Type 0
 IsAnswerBy reply answer before after (Ok given) = answer ≡ Ok (after, reply given)
 IsAnswerBy reply answer before after (Err stop) = IsAnswer answer before after (Err stop)
 
--- why a call is refused; none where it isn't
+-- why a call is refused; none if it isn't
 abbrev pub refusal_of : Answer → Option Refusal
 refusal_of (Ok step) = None
 refusal_of (Err cause) = Some cause

@@ -1,4 +1,4 @@
--- What a segment has to do by itself: without a frame from elsewhere, and without a call of the program that it works for.
+-- What a segment has to do by itself: without a frame from elsewhere, and without a call of its program.
 use Rattle.std.specs.Prelude.{ℕ, Bool, true, ◌||◌, is_some, is_ok}
 use Rattle.std.specs.List.{list_any}
 use Rattle.pgn_ids.specs.declared.address.Address.{Address}

@@ -22,7 +22,7 @@ fn octets(bytes: &[u8])
     are_octets(bytes);
 }
 
-// The same, byte by byte.
+// `octets`, byte by byte.
 fn are_octets(bytes: &[u8])
     ensures { (i : ℕ) → slice_index bytes.now i < 256 }
 {}
@@ -57,11 +57,11 @@ fn fits(call: &Call)
 }
 
 impl Segment {
-    /// Makes one call: one atomic step. A refused call is answered by the first of its causes, and changes nothing.
+    /// Makes one call: one atomic step. A refused call returns the first of its causes, and changes nothing.
     ///
-    /// Want of memory changes nothing either, and then the call is no step: it is answered only for a call that isn't
-    /// refused. A Take without room asks for no memory, and a Transmit or an Inject only if two frames or more are kept on the bus.
-    /// The call is spent in each case: who wants to make it again keeps a copy.
+    /// Want of memory changes nothing either, and then the call is no step: it is returned only for a call that isn't refused. A
+    /// Take without room asks for no memory, and a Transmit or an Inject only if two frames or more are kept on the bus. The call
+    /// is spent in each case: to make it again, keep a copy.
     // As a rule its caller says which call it is: what that does is then done at once, without a choice among the calls.
     #[inline(always)]
     pub fn apply(&mut self, call: Call) -> Result<Reply, AllocError>

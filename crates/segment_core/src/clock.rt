@@ -8,7 +8,7 @@ use pgn_ids::Address;
 use segment_law::{Refusal, Reply};
 
 impl Segment {
-    /// The clock goes on by n ticks.
+    /// The clock advances by n ticks.
     #[inline(always)]
     pub(crate) fn tick(&mut self, n: u64) -> Result<Reply, Stop>
         ensures { IsAnswer (ticks self.old n) self.old self.new result }

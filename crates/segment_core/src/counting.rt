@@ -1,4 +1,4 @@
-//! Counting what calls tell.
+//! Counting the events of calls.
 ghost use Rattle.std.specs.Prelude.{◌≡◌, []};
 ghost use Rattle.segment_law.specs.Segment.{plus, counted_outcome, counted_event, counted, counted_frame, counted_look, counted_repeat};
 ghost use Rattle.segment_law.specs.declared.reply.Reply.TheVariants.{Done};
@@ -29,7 +29,7 @@ pub(crate) fn count_repeat(counts: &mut Counts)
     counts.repeated = one_more(counts.repeated);
 }
 
-/// Counts a frame that a station took, where it looked at it and found it malformed.
+/// Counts a frame that a station took, if it looked at the frame and found it malformed.
 pub(crate) fn count_look(counts: &mut Counts, is_malformed: bool)
     ensures { counts.new ≡ counted_look counts.old is_malformed }
 {
@@ -72,7 +72,7 @@ fn count_all(counts: &mut Counts, events: &[Event])
     }
 }
 
-/// Counts events that a call told.
+/// Counts the events of a call.
 #[inline(always)]
 pub(crate) fn count_events(counts: &mut Counts, events: &Events)
     ensures { counts.new ≡ counted counts.old events.now }
@@ -85,14 +85,15 @@ pub(crate) fn count_events(counts: &mut Counts, events: &Events)
 }
 
 impl Segment {
-    /// The reply to a call that told nothing.
+    /// The reply to a call without an event.
     pub(crate) fn done(&self) -> Reply
         ensures { result ≡ Done [] }
     {
         Reply::Done(Events::none(self.alloc))
     }
 
-    /// The reply to a call that told events, which are counted. Always inlined, since it takes them and gives a reply by value.
+    /// The reply to a call with events, which are counted. Always inlined, since it takes them and gives a reply by
+    /// value.
     #[inline(always)]
     pub(crate) fn told(&mut self, events: Events) -> Reply
         ensures reply { result ≡ Done events }
@@ -102,7 +103,7 @@ impl Segment {
         Reply::Done(events)
     }
 
-    /// Counts events that a call told.
+    /// Counts the events of a call.
     #[inline(always)]
     pub(crate) fn count_told(&mut self, events: &Events)
         ensures { self.new ≡ record self.old { counts = counted self.old.counts events.now } }

@@ -32,7 +32,7 @@ impl Segment {
         }
     }
 
-    /// Queues what comes next in a lane.
+    /// Queues the next frames of a lane.
     #[inline(always)]
     pub(crate) fn pump(&mut self, station: Address, to: Address) -> Result<Reply, Stop>
         ensures { IsAnswer (at_address self.old station (pumps self.old to)) self.old self.new result }
@@ -44,7 +44,7 @@ impl Segment {
         }
     }
 
-    /// The same, where what it tells is put down in a place in which nothing was told yet.
+    /// `pump`, which puts its event into a place that has none yet.
     #[inline(always)]
     pub(crate) fn pump_telling(
         &mut self,

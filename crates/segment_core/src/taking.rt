@@ -30,7 +30,7 @@ impl Segment {
         }
     }
 
-    /// The same, where what it tells is put down in a place in which nothing was told yet.
+    /// `take`, which puts its events into a place that has none yet.
     #[inline(always)]
     pub(crate) fn take_telling(
         &mut self,
@@ -58,7 +58,7 @@ impl Segment {
         Ok(())
     }
 
-    /// A station takes the frame that it took last once more.
+    /// A station takes again the frame that it took last.
     #[inline(never)]
     pub(crate) fn take_again(&mut self, station: Address, room: bool) -> Result<Reply, Stop>
         ensures { IsAnswer (at_address self.old station (repeats self.old room)) self.old self.new result }
@@ -109,7 +109,7 @@ impl Segment {
         self.bus.frame(self.bus.len() - waiting + 1)
     }
 
-    // Counts what a station made of a frame.
+    // Counts the result of a station's look at a frame.
     #[inline(always)]
     fn looked(&mut self, is_malformed: bool, told: &Events)
         ensures { self.new ≡ record self.old { counts = counted (counted_look self.old.counts is_malformed) told.now } }
