@@ -85,7 +85,7 @@ impl Node {
         let _read = self.address;
     }
 
-    // It isn't refused that what is under way ends.
+    // Ending what is under way isn't refused.
     fn may_miss(&self)
         ensures { IsOk (called self.now.segment (overruns self.now)) }
     {
