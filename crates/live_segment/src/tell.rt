@@ -1,4 +1,4 @@
-//! What a call told goes to the ports and the clients.
+//! The events of a call, on their way to the ports and the clients.
 ghost use Rattle.std.specs.Prelude.{◌≡◌, ℕ, length};
 ghost use Rattle.live_segment.specs.Record.{settle_notes, settle_owed};
 ghost use Rattle.live_segment.specs.Facts.{IdsFrom, HaveRoom, OwedWithin, PortsApart, give_all, note_all};
@@ -11,7 +11,7 @@ use segment_core::Events;
 use segment_rings::{Buffer, Door, Seat};
 use std::alloc::Global;
 
-/// Gives and notes what events tell, and hands the events back. It takes no memory.
+/// Gives and notes events, and hands them back. It takes no memory.
 #[inline(always)]
 pub(crate) fn tell(
     alloc: Global,
@@ -35,14 +35,14 @@ pub(crate) fn tell(
     ensures room { HaveRoom owed.new.items seats.new.items }
     ensures within { OwedWithin (length seats.new.items) owed.new.items }
 {
-    // Most calls tell nothing.
+    // Most calls have no event.
     if events.is_empty() {
         return events;
     }
     tell_some(alloc, doors, owed, seats, buffers, events)
 }
 
-// The same of a call that tells something.
+// `tell`, for a call with events.
 #[inline(never)]
 fn tell_some(
     alloc: Global,
