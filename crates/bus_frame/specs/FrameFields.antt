@@ -1,4 +1,4 @@
--- A frame as it is kept: eight bytes, of which the first `len` are its data and the others 0.
+-- A frame as it is kept: eight bytes. The first `len` are its data, and the others are 0.
 use Rattle.std.specs.Prelude.{◌≡◌, ◌-◌, ◌≤◌, ◌++◌, length, take, drop, replicate}
 use Rattle.std.proofs.Common.{refl, arith, length-take-le}
 use Rattle.std.proofs.lemmas.List.{take-append-drop}

@@ -78,7 +78,7 @@ impl CanId {
         }
     }
 
-    /// The identifier with these parts, each of which is in its range.
+    /// The identifier with these parts, each in its range.
     pub fn from_parts(parts: IdParts) -> CanId
         requires priority { parts.priority < 8 }
         requires edp { parts.edp < 2 }

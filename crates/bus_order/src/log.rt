@@ -345,7 +345,7 @@ impl BusLog {
         self.release()
     }
 
-    // Moves all cursors, of which there are some, to one place, at most that of the newest frame.
+    // Moves all cursors, at least one, to one place, at most that of the newest frame.
     #[inline]
     fn bring_to(&mut self, to: Cursor)
         requires some { 0 < length self.old.cursors }

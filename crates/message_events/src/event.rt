@@ -114,7 +114,7 @@ impl Events {
         }
     }
 
-    /// Whether there is none.
+    /// Whether there is no event.
     pub fn is_empty(&self) -> bool
         ensures { result ≡ (length self.now == 0) }
     {

@@ -113,7 +113,7 @@ impl PortSet {
         self.numbers().contains(&number)
     }
 
-    /// The set less a port, in the same order.
+    /// The set without a port, in its order.
     pub fn without(&self, number: u64) -> PortSet
         ensures { result ≡ without_number self.now number }
     {

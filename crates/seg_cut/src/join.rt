@@ -179,7 +179,7 @@ impl Join {
         Ok(())
     }
 
-    /// Puts the next packet, which is not the last, and for which there is room. It takes no memory.
+    /// Puts the next packet, which is not the last. There is room for it. It takes no memory.
     #[inline]
     pub fn put_inner(&mut self, packet: &[u8; 7])
         requires inner { self.old.next < packet_count self.old.size }
@@ -193,7 +193,7 @@ impl Join {
         self.room -= 1;
     }
 
-    /// Puts the last packet, for which there is room. It takes no memory.
+    /// Puts the last packet. There is room for it. It takes no memory.
     pub fn put_last(&mut self, packet: &[u8; 7])
         requires last { wants_last_at self.old ≡ true }
         requires room { 0 < self.old.room }

@@ -252,8 +252,8 @@ fn read_row(frame: &Frame) -> Option<(Wire, Address, Address)>
 /// row's reserved bytes may have any value.
 ///
 /// None for other traffic and for malformed frames: another length, control byte, destination or source than the
-/// table's, sequence number 0, or a PGN field above 18 bits. A Request has 3 to 8 bytes, of which the first three are
-/// read; all others have 8.
+/// table's, sequence number 0, or a PGN field above 18 bits. A Request has 3 to 8 bytes, and the first three are read;
+/// all others have 8.
 #[inline(always)]
 pub fn read(frame: &Frame) -> Option<(Wire, Address, Address)>
     ensures meaning { result ≡ reading frame.now }
