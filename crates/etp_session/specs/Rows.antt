@@ -1,5 +1,5 @@
--- The receiver of ETP (ISO 11783-3): the rows of a DPO and of a packet, of which the first that fits holds. The number of a packet
--- is the offset of the last DPO plus its sequence number.
+-- The receiver of ETP (ISO 11783-3): the rows of a DPO and of a packet; the first that fits holds. The number of a packet is the
+-- offset of the last DPO plus its sequence number.
 use Rattle.std.specs.Prelude.{ℕ, ◌≡◌, Bool, None, ⊤}
 use Rattle.tp_wire.specs.declared.wire.Kind.TheVariants.{Etp}
 use Rattle.tp_wire.specs.declared.wire.CmFrame.TheVariants.{EtpDpo}

@@ -56,7 +56,7 @@ abbrev pub Lacks : (before with_room : InState) → Flow → Type 0
 Lacks before with_room flow =
     ((unfinished_of before).kind ≡ Etp) × (flow ≡ Open) × (held (unfinished_of before).join < held (unfinished_of with_room).join)
 
--- the step with this frame leads there: it is made, or nothing has changed and this is left to do
+-- what follows from the step with this frame: it is made, or nothing has changed and this is left to do
 abbrev pub Leads : (before : InState) → Wire → (room : Bool) → Flow → (now : ℕ) → Left → (after : InState) → (queued left : List CanFrame) → Type 0
 Leads before wire room flow now Nothing after queued left = GoesOn (prepared_step before wire room flow now) after queued left
 Leads before wire room flow now Message after queued left =

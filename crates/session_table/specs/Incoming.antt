@@ -1,4 +1,4 @@
--- What is asked of an incoming session, whatever its kind.
+-- The readers of an incoming session, whatever its kind.
 use Rattle.std.specs.Prelude.{ℕ, Option, Some, None}
 use Rattle.bus_frame.specs.Frames.{CanFrame}
 use Rattle.tp_wire.specs.Reason.{reason_byte}

@@ -1,5 +1,5 @@
--- The receiver of TP (SAE J1939-21, connection mode data transfer): its states, and the rows of a packet, of which the first that
--- fits holds.
+-- The receiver of TP (SAE J1939-21, connection mode data transfer): its states, and the rows of a packet; the first that fits
+-- holds.
 use Rattle.std.specs.Prelude.{ℕ, ◌≡◌, ◌≤◌, Bool, ◌&&◌, not, nat_lt, if◌then◌else◌, List, None, ⊤}
 use Rattle.tp_wire.specs.declared.reason.AbortReason.TheVariants.{Resources, Other}
 use Rattle.tp_wire.specs.declared.wire.Kind.TheVariants.{Tp}
