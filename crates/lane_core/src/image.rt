@@ -105,7 +105,7 @@ fn copied(alloc: Global, messages: &VecDeque<Pending>) -> Result<Vec<Pending>, A
     Ok(copies)
 }
 
-// Whether two messages are the same.
+// Whether two messages are equal.
 fn is_same(a: &Pending, b: &Pending) -> bool
     ensures { IsTrue result ↔ (a.now ≡ b.now) }
 {
@@ -158,14 +158,14 @@ fn is_under_way(image: &UnderWayImage, under_way: &UnderWay) -> bool
     }
 }
 
-// Whether two standings are the same.
+// Whether two standings are equal.
 fn is_same_standing(a: &Standing, b: &Standing) -> bool
     ensures { IsTrue result ↔ (a.now ≡ b.now) }
 {
     *a == *b
 }
 
-// Whether two tokens are the same.
+// Whether two tokens are equal.
 fn is_same_token(a: &Token, b: &Token) -> bool
     ensures { IsTrue result ↔ (a.now ≡ b.now) }
 {

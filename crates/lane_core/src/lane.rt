@@ -20,8 +20,8 @@ use std::mem;
 /// How many messages a lane has without an outcome at most.
 const LANE_LIMIT: usize = 32;
 
-/// The messages of one station to one destination, of which one is under way at a time. What is under way when a lane is
-/// dropped ends without a frame or an outcome.
+/// The messages of one station to one destination, one of which is under way at a time. If a lane is dropped, what is
+/// under way ends without a frame or an outcome.
 pub struct Lane {
     pub(crate) from: Address,
     pub(crate) to: Address,

@@ -116,11 +116,11 @@ after Settles lane = record lane { phase = Idle; token = not lane.token }
 abbrev pub start : Bool → Lane
 start token = record { stream = Stream.empty_stream; answers = []; heard = []; phase = Idle; token = token; pending = []; outcomes = [] }
 
--- some events lead to this lane
+-- this lane is reached by some events
 abbrev pub IsReached : Bool → Lane → Type 0
 IsReached token lane = Leads MayHappen after (start token) lane
 
--- a fact holds of each lane that events lead to, whichever token is first
+-- a fact holds of each lane that events reach, whichever token is first
 abbrev pub OnEachLane : (Lane → Type 0) → Type 0
 OnEachLane P = (token : Bool) (lane : Lane) → IsReached token lane → P lane
 

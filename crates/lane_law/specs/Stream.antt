@@ -25,7 +25,7 @@ pub data StreamEvent : Type 0 where
   QueueRequest : (token : Bool) → StreamEvent
   Take : (frame : Frame) (rest : List Frame) → StreamEvent  -- the destination takes the next frame
   PassOver : (frame : Frame) (rest : List Frame) → StreamEvent  -- unseen: one of the frames of an overrun
-  Forget : StreamEvent  -- a frame of somebody else is taken or passed over, or an overrun of none: no repeat
+  Forget : StreamEvent  -- a frame of another sender is taken or passed over, or an overrun of no frame: no repeat
   Reopen : (number : ℕ) (message : Message) → StreamEvent  -- the RTS is taken again
   Accept : (session : Session) (sequence : ℕ) (bytes : List ℕ) → StreamEvent  -- the packet that was taken is kept
   Give : (session : Session) (sequence : ℕ) (bytes : List ℕ) → StreamEvent  -- with the last packet the message is given
@@ -82,11 +82,11 @@ nowhere = record { number = 0; message = record { pgn = 0; bytes = [] }; offset 
 abbrev pub empty_stream : Stream
 empty_stream = record { sent = []; queued = nowhere; forward = []; again = []; reached = nowhere; session = None; given = [] }
 
--- some events lead to this stream
+-- this stream is reached by some events
 abbrev pub IsReached : Stream → Type 0
 IsReached stream = Leads MayHappen after empty_stream stream
 
--- a fact holds of each stream that events lead to
+-- a fact holds of each stream that events reach
 abbrev pub OnEachStream : (Stream → Type 0) → Type 0
 OnEachStream P = (stream : Stream) → IsReached stream → P stream
 

@@ -1,4 +1,4 @@
--- What is asked of the lanes, their timers, and what an overrun makes of them.
+-- The readers of the lanes, their timers, and the lanes after an overrun.
 use Rattle.std.specs.Prelude.{◌≡◌, ℕ, zero, suc, Bool, true, false, if◌then◌else◌, ◌+◌, ◌^◌, ◌<◌, ◌≤◌, nat_lt, length, List, [], ◌++◌, Option, Some, None, is_none}
 use Rattle.std.specs.FinMap as map
 use Rattle.pgn_ids.specs.declared.address.Address.{Address}
