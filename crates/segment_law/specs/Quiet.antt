@@ -88,7 +88,7 @@ is_to_all d = d.0 == global_address
 unfoldable pub quiet : Pending → (s d : Address) → List CanFrame
 quiet m s d = if is_to_all d then quiet_broadcast m s d else quiet_connection (kind_for (length m.bytes)) m s d
 
--- Who receives it
+-- The receivers
 
 -- the open ports that take the message
 abbrev pub takers : Station → Pending → List ℕ

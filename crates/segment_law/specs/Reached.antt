@@ -1,4 +1,4 @@
--- The facts of every segment that calls lead to.
+-- The facts of every segment that calls reach.
 use Rattle.std.specs.Prelude.{◌≡◌, ℕ, ◌≤◌, true, length, max, All, Some, slice_get}
 use Rattle.std.specs.FinMap as map
 use Rattle.pgn_ids.specs.Address.{is_one}

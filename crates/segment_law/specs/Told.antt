@@ -86,7 +86,7 @@ station_givens steps r s d = told (λ step. filter_map (given_to_station r s d) 
 abbrev pub given_at : Record → (r s d : Address) → List Message
 given_at steps r s d = map (λ g. g.1.1) (station_givens steps r s d)
 
--- the message of a Given of port p, from whomever
+-- the message of a Given of port p, from any sender
 abbrev pub any_given_to : PortId → Event → Option Message
 any_given_to p (event.Given port from to pgn bytes) = if same_port port p then Some (pgn, bytes) else None
 any_given_to p (event.Outcome from to number outcome) = None
