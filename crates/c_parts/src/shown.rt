@@ -9,7 +9,7 @@ use bus_frame::Frame;
 use segment_law::Counts;
 use tp_wire::Outcome;
 
-/// A frame: its identifier of 29 bits, and `len` bytes, 0 to 8. The other bytes of one that is shown are 0.
+/// A frame: its identifier of 29 bits, and `len` bytes, 0 to 8. If the frame is shown, its other bytes are 0.
 #[repr(C)]
 #[derive(Drop)]
 pub struct CFrame {

@@ -22,9 +22,9 @@ abbrev pub cause_of_refusal : Option Refusal → NotMade
 cause_of_refusal (Some cause) = Refused cause
 cause_of_refusal None = OutOfMemory
 
--- the message was submitted, and the ticket is its place among all; or it is refused: for its PGN, destination or length exactly if that
--- holds, and else as the ring is full or memory is lacking; then nothing has changed but what is known of the
--- ring, and how many of the first submissions are kept no more
+-- the message was submitted, and the ticket is its place among all. Or it is refused: for its PGN, destination or length exactly if that
+-- holds, and else because the ring is full or memory is lacking; then nothing has changed but what is known of the ring, and how many of
+-- the first submissions are no longer kept
 abbrev pub IsSubmitted : (to : Address) → (pgn : ℕ) → (bytes : List ℕ) → (before after : ClientEnd) → Result ℕ NotMade → Type 0
 IsSubmitted to pgn bytes before after answer =
     IfOk answer (λ ticket. (after ≡ submits before to pgn bytes after.free after.gone) × (before.gone ≤ after.gone) × (ticket ≡ length after.submitted))

@@ -17,7 +17,7 @@ use live_segment::Delivery;
 pub enum Received {
     /// A message was copied out.
     Taken,
-    /// There is none.
+    /// There is no message.
     Nothing,
     /// The message has more bytes than there is room for, and stays.
     TooLittleRoom,
