@@ -119,7 +119,7 @@ pub(crate) fn put<R: Wait>(
     }
 }
 
-/// Takes the message at the front. Who may put and take too learns from an empty line that all was taken.
+/// Takes the message at the front. A pass that may both put and take learns from an empty line that all was taken.
 pub(crate) fn take<R: Wait>(rt: &R, receiver: &Receiver, pass: &mut Way) -> Option<Delivery>
     requires seat { IsSeatAt (receives_on receiver.now) pass.old }
     requires may { (view pass.old).takes ≡ true }

@@ -2,7 +2,7 @@
 use segment_shared::Refusal;
 use std::sync::atomic::{AtomicBool, Ordering};
 
-/// A word by which a program ends the relays that it lends it to. Any thread may set it, and it stays set.
+/// A word with which a program ends the relays that it lends it to. Any thread may set it, and it stays set.
 ///
 /// No contract says what it holds, since another thread may set it at any moment.
 #[derive(Drop)]

@@ -1,4 +1,4 @@
-//! Clocks by which the clock of a segment goes.
+//! Clocks that the clock of a segment follows.
 use std::sync::atomic::{AtomicU64, Ordering};
 use std::time::Instant;
 

@@ -1,4 +1,4 @@
--- Calls, most of which are kept in a short form.
+-- Calls; most of them are kept in a short form.
 use Rattle.std.specs.Prelude.{◌≡◌, ℕ, ◌<◌, Bool, true, false, List, [], ◌∷◌, None, slice_index_or}
 use Rattle.segment_law.specs.declared.call.Call.{Call}
 use Rattle.segment_law.specs.declared.call.Call.TheVariants as call
@@ -11,7 +11,7 @@ pub record CallsView : Type 0 where
   pub items : List Stored
   pub spare : ℕ
 
--- a call of nobody
+-- a call without an owner
 abbrev pub nobodys : Call → Stored
 nobodys c = record { by = None; call = c }
 

@@ -4,8 +4,8 @@ use crate::stored::Stored;
 use std::alloc::{AllocError, Global};
 use std::marker::Model;
 
-/// Calls in the order in which they were made. One of nobody that pumps, transmits, takes, fires, or ticks at most 4,294,967,295
-/// times takes eight bytes; any other 48 more, and a message its bytes.
+/// Calls in the order in which they were made. A call without an owner that pumps, transmits, takes, fires, or ticks at most
+/// 4,294,967,295 times takes eight bytes; any other 48 more, and a message its bytes.
 #[derive(Debug)]
 pub struct StoredCalls {
     shorts: Vec<Short>,

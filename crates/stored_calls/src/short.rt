@@ -7,7 +7,7 @@ use crate::stored::Stored;
 use pgn_ids::Address;
 use segment_law::Call;
 
-/// A call of nobody that names little, or the place of any other among those that are kept whole.
+/// A call without an owner that names little, or the place of any other among those that are kept whole.
 #[derive(Clone, Copy, Debug)]
 pub(crate) enum Short {
     Pump { station: Address, to: Address },
