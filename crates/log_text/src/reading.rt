@@ -190,7 +190,7 @@ fn shown_line(time: Option<u64>, text: &[u8]) -> Option<LogLine>
     long_shown(time, iface, id, text)
 }
 
-/// The text behind a time: a frame in either form. A word that isn't an identifier alone is none of a screen.
+/// The text behind a time: a frame in either form. If a word isn't an identifier alone, the form isn't that of a screen.
 #[tactic(auto, unfolding(crate::specs::Line::behind_time))]
 fn behind_stamp(time: u64, text: &[u8]) -> Option<LogLine>
     ensures { result ≡ (if begins_shown text.now then shown_line (Some time) text.now else behind_time time text.now) }
