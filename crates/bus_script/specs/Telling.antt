@@ -24,7 +24,7 @@ pub record Telling : Type 0 where
 abbrev pub reply_alone : List ℕ → Telling
 reply_alone reply = record { reply = reply; stations = []; frames = []; times = []; events = [] }
 
--- the segment was made of these stations
+-- the telling of a segment that was made of these stations
 abbrev pub made_of : List Address → Telling
 made_of addresses = record (reply_alone (line (codes "done"))) { stations = addresses }
 

@@ -1,4 +1,4 @@
-//! What is printed of a drive.
+//! The printed text of a drive.
 ghost use Rattle.std.specs.Prelude.{◌≡◌, ◌++◌, OnOk};
 ghost use Rattle.script_text.specs.Replies.{event_lines, drive_lines};
 

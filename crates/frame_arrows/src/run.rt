@@ -83,7 +83,7 @@ pub fn longer(run: Option<Run>, packet: Run) -> Run
     }
 }
 
-/// What is drawn at a frame behind an open run, and the run that is open behind it.
+/// The text drawn at a frame behind an open run, and the run that is open behind the frame.
 #[tactic(auto, unfolding(crate::specs::Runs::drawn_at, crate::specs::Runs::open_after))]
 fn draw_at(out: &mut Vec<u8>, run: Option<Run>, frame: &Frame) -> Result<Option<Run>, AllocError>
     ensures drawn { OnOk result (out.new.items ≡ out.old.items ++ drawn_at run frame.now) }

@@ -1,4 +1,4 @@
--- What is counted of a log.
+-- The counts of a log.
 use Rattle.std.specs.Prelude.{ℕ, ◌+◌, ◌-◌, ◌^◌, min, List, ◌++◌, codes, ◌==◌, if◌then◌else◌}
 use Rattle.std.specs.Fmt.{decimal}
 use Rattle.log_drawing.specs.declared.counts.Counts.{Counts}

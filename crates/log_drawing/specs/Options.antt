@@ -13,7 +13,7 @@ is_between pair from to =
     if from.0 == pair.first.0 then to.0 == pair.second.0 || to.0 == 255
     else from.0 == pair.second.0 && (to.0 == pair.first.0 || to.0 == 255)
 
--- whether a frame is of the pair that is named; each is if none is named
+-- whether a frame belongs to the pair that is named; each does if none is named
 abbrev pub is_of_pair : Options → CanFrame → Bool
 is_of_pair options frame = elim options.pair [ None ↦ true | Some pair ↦ is_between pair (meaning_of frame.id).from (meaning_of frame.id).to ]
 

@@ -38,7 +38,7 @@ beginning options drawn = if drawn == 0 then heading ++ participants options.pai
 abbrev pub first_picture : Options → Picture
 first_picture options = record { form = None; iface = options.iface; packets = None; counts = no_counts }
 
--- interfaces are the same if their names are
+-- interfaces are equal if their names are
 abbrev pub same_iface : Iface → Iface → Bool
 same_iface a b = bytes_eq (name_of a) (name_of b)
 
@@ -50,7 +50,7 @@ is_elsewhere s iface = elim s.iface [ None ↦ false | Some known ↦ not (same_
 abbrev pub is_ended : Options → Picture → Bool
 is_ended options s = options.strict && not (s.counts.wrong == 0)
 
--- a frame that is asked for is drawn, unless it is of another interface
+-- a frame that is asked for is drawn, unless another interface shows it
 abbrev pub with_frame : Options → Picture → Option ℕ → Iface → CanFrame → Picture × List ℕ
 with_frame options s time iface frame =
     if is_elsewhere s iface then (record s { counts = record s.counts { elsewhere = more s.counts.elsewhere } }, [])

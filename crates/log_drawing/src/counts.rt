@@ -18,7 +18,7 @@ pub struct Counts {
     pub frames: u64,
     /// Frames of them that were drawn.
     pub drawn: u64,
-    /// Frames of them that were asked for, but are of another interface than the one drawn.
+    /// Frames of them that were asked for, but were seen on another interface than the one drawn.
     pub elsewhere: u64,
 }
 

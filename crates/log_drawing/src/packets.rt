@@ -111,7 +111,7 @@ fn with_packet(packets: Option<Packets>, time: Option<u64>, packet: Run) -> Opti
     })
 }
 
-/// What is drawn at a frame, and the packets that are open behind it.
+/// The text drawn at a frame, and the packets that are open behind it.
 #[tactic(auto, unfolding(crate::specs::Packets::drawn_at, crate::specs::Packets::open_after))]
 pub(crate) fn draw_at(
     out: &mut Vec<u8>,

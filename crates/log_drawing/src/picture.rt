@@ -101,7 +101,7 @@ impl Picture {
         options.strict && self.counts.wrong != 0
     }
 
-    /// Draws a frame that is asked for, unless it is of another interface.
+    /// Draws a frame that is asked for, unless it was seen on another interface.
     fn draw_frame(
         &mut self,
         options: &Options,

@@ -21,7 +21,7 @@ use text_lines::tell;
 pub struct Drawn {
     /// What was counted.
     pub counts: Counts,
-    /// Why it wasn't read to its end, if it wasn't. A wrong line that ends the drawing is none: it is counted.
+    /// Why it wasn't read to its end, if it wasn't. A wrong line that ends the drawing is no fault: it is counted.
     pub fault: Option<ScriptFault>,
 }
 
