@@ -1,4 +1,4 @@
--- What is known of two segments before their threads run.
+-- The facts known of two segments before their threads run.
 use Rattle.std.specs.Prelude.{◌≡◌, Option}
 use Rattle.script_runs.specs.declared.ending.Told.{Told}
 use Rattle.script_setup.specs.Plan.{Plan}

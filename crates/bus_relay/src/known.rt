@@ -1,4 +1,4 @@
-//! What is known of two segments before their threads run.
+//! The facts known of two segments before their threads run.
 use relay_setup::Passage;
 use segment_report::Names;
 

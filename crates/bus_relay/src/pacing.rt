@@ -6,7 +6,7 @@ use std::sync::atomic::Ordering;
 use std::thread;
 
 /// The gate of one segment's workers: they have numbers from `first` on, the stations in the order of their addresses, and then the
-/// bus, so that no two workers of two segments have the same.
+/// bus, so that workers of two segments have different numbers.
 #[derive(Drop)]
 pub(crate) struct Numbered<'g, 's, G> {
     pub(crate) gate: &'g G,

@@ -30,7 +30,7 @@ pub trait Planner {
     fn wrong_end(&self) -> Option<Fault>
         ensures { result ≡ lines.ends (state self.now) };
 
-    /// Each line only adds to what is printed, and takes the room of one line.
+    /// Each line only adds to the text of refused lines, and takes the room of one line.
     fn laws()
         ensures grows { EachGrows Self.State lines }
         ensures after { RoomAfter Self.State lines has_room }

@@ -32,7 +32,7 @@ use Rattle.script_setup.specs.declared.setup.Message.{Message}
 use Rattle.script_setup.specs.declared.setup.Setup.{Setup}
 
 -- the stations and the calls that opened ports, once there are stations; the ports opened; how many lines asked for a message; the
--- messages; and what is printed of refused lines
+-- messages; and the text of refused lines
 pub record Plan : Type 0 where
   pub made : Option (List Address × List Stored)
   pub ports : List PortId

@@ -1,4 +1,4 @@
--- What is printed of a segment once its threads have ended: a port with what it was given, and the outcomes.
+-- The printed text of a segment once its threads have ended: a port with what it was given, and the outcomes.
 use Rattle.std.specs.Prelude.{ℕ, zero, suc, ◌+◌, ◌==◌, ◌&&◌, max, cond, List, [], ◌∷◌, ◌++◌, flat_map, codes}
 use Rattle.pgn_ids.specs.declared.address.Address.{Address}
 use Rattle.port_table.specs.declared.port.PortId.{PortId}

@@ -261,7 +261,7 @@ pub fn print_clients(out: &mut Vec<u8>, live: &Live, stations: &[Address]) -> Re
     Ok(())
 }
 
-/// Whether two lists have the same addresses in the same order.
+/// Whether two lists have equal addresses in one order.
 pub fn are_same(stations: &[Address], others: &[Address]) -> bool
     ensures { IsTrue result ↔ (stations.now ≡ others.now) }
 {
