@@ -1,4 +1,4 @@
--- What is counted of a log.
+-- The counts of a log.
 use Rattle.std.specs.Prelude.{ℕ, List, [], ◌++◌, codes, fold, Bool, ◌&&◌, not, ◌==◌, if◌then◌else◌, Option}
 use Rattle.std.specs.Fmt.{decimal}
 use Rattle.bus_frame.specs.Frames.{CanFrame}

@@ -42,7 +42,7 @@ Hearing = Listener × Counts
 abbrev pub Listening : Type 0
 Listening = (Listener × Option Form) × Counts
 
--- these afterwards, and what is printed
+-- the listening afterwards, and the output
 abbrev pub Step : Type 0
 Step = Listening × List ℕ
 
@@ -54,7 +54,7 @@ is_asking frame = (meaning_of frame.id).pgn == request || (meaning_of frame.id).
 abbrev pub single : ℕ → Iface → Options → CanFrame → List ℕ
 single now iface options frame = if shows_singles options && (not (is_transport frame) || is_asking frame) then single_text now iface options frame else []
 
--- a listener to a frame that was counted, and what is printed: the frame's place in the log is its number and the time to which it brings the
+-- a listener to a frame that was counted, and the output. The frame's place in the log is its number and the time to which it brings the
 -- interface
 abbrev pub frame_told : Options → Iface → CanFrame → Followed → Awaited → State × List Told → Counts → Hearing × List ℕ
 frame_told options iface frame f awaited t counts =

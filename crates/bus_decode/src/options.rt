@@ -77,7 +77,7 @@ pub struct Options {
     pub strict: bool,
     /// Whether each line is a JSON object.
     pub json: bool,
-    /// Whether the frames of each message are listed, but for its packets.
+    /// Whether the frames of each message are listed, except its packets.
     pub frames: bool,
     /// Whether messages whose form is known are shown in words too, and single frames that have such a message.
     pub explain: bool,

@@ -54,7 +54,7 @@ impl Run {
 pub(crate) enum Turn {
     /// It was taken.
     Line,
-    /// There is none.
+    /// There is no next line.
     End,
     /// A part of it isn't in the reader's buffer, and it wasn't taken.
     Open,

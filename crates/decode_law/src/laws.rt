@@ -24,7 +24,7 @@ pub fn undisturbed_messages_are_heard()
     joined_packets_are_the_message();
 }
 
-/// A law: the same of the frames that a drive puts, from a segment at a record that is quiet for the message.
+/// A law: the frames that a drive puts are heard so, from a segment at a record that is quiet for the message.
 pub fn undisturbed_drives_are_heard()
     ensures { DrivesAreHeard }
 {

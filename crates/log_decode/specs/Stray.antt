@@ -49,7 +49,7 @@ wire_stray way (wires.Ack control address pgn) sessions = None
 abbrev pub frame_stray : Iface → CanFrame → Sessions → Option Stray
 frame_stray iface frame sessions = elim (reading frame) [ None ↦ None | Some r ↦ wire_stray (record { iface = iface; from = r.1; to = r.2 }) r.0 sessions ]
 
--- what is under way once time has gone on, or back
+-- the messages under way after time has advanced, or gone back
 abbrev pub left_at : (before time : ℕ) → Sessions → Sessions
 left_at before time sessions = if goes_back before time then [] else filter (λ e. not (silent_entry (max before time) e)) sessions
 
