@@ -14,6 +14,6 @@ shown_byte b = if is_plain b then b ∷ [] else codes "\\x" ++ digits 16 2 b
 abbrev pub escaped : List ℕ → List ℕ
 escaped text = flat_map shown_byte text
 
--- a message whose length is none of its form
+-- a message whose length isn't one of its form
 abbrev pub wrong_length : ℕ → List ℕ
 wrong_length n = codes "wrong length: " ++ decimal n

@@ -31,7 +31,7 @@ pub struct Course {
     pub asked: u64,
     /// How many packets its receiver asked for again, counted each time.
     pub again: u64,
-    /// Its frames but for packets, if each is kept.
+    /// Its frames except the packets, if each is kept.
     pub marks: Marks,
 }
 

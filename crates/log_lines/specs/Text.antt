@@ -1,4 +1,4 @@
--- What is printed of a log, as lines.
+-- The printed text of a log, as lines.
 use Rattle.std.specs.Prelude.{ℕ, List, ◌++◌, length, codes}
 use Rattle.std.specs.Fmt.{decimal}
 use Rattle.bus_frame.specs.Frames.{CanFrame}

@@ -1,4 +1,4 @@
-//! What is printed of a log.
+//! The printed text of a log.
 ghost use Rattle.std.specs.Prelude.{◌≡◌, ◌++◌, OnOk};
 ghost use Rattle.log_lines.specs.Text.{place_text, address_text, pgn_text, ends_text, way_text, head_text, message_text, cause_text, abort_text, loss_text, given_line, aborted_line, lost_line, told_line, between_texts, wrong_line, single_line};
 

@@ -1,4 +1,4 @@
--- What is printed of a log as JSON: an object a line, with its members in the order of their names. Times are in microseconds.
+-- The printed text of a log as JSON: an object a line, with its members in the order of their names. Times are in microseconds.
 use Rattle.std.specs.Prelude.{ℕ, List, [], ◌∷◌, length, codes}
 use Rattle.bus_frame.specs.Frames.{CanFrame}
 use Rattle.json_objects.specs.Objects.{Named, object_of, count_of, object_line}

@@ -1,4 +1,4 @@
-//! What is printed of a log as JSON.
+//! The printed text of a log as JSON.
 ghost use Rattle.std.specs.Prelude.{◌≡◌, ◌++◌, OnOk, true, length, codes};
 ghost use Rattle.json_objects.specs.Objects.{count_of, member_text, object_line, rest_text};
 ghost use Rattle.serde_json.specs.Data.{string};
