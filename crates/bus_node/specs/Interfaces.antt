@@ -8,7 +8,7 @@ use Rattle.node_lines.specs.declared.line.NodeLine.{NodeLine}
 use Rattle.node_lines.specs.declared.line.NodeLine.TheVariants.{Passed, Frame, Now, Command}
 use Rattle.bus_node.specs.Node.{Node, told}
 
--- interfaces are the same if their names are
+-- interfaces are equal if their names are
 abbrev pub same_iface : Iface → Iface → Bool
 same_iface a b = bytes_eq (name_of a) (name_of b)
 

@@ -43,7 +43,7 @@ is_of (Some put) frame = same_frame put frame
 abbrev pub shown : Node → (place : ℕ) → CanFrame → Node
 shown n place frame = record n { unseen = drop 1 (drop place n.unseen); last_echo = Some frame }
 
--- another node has the same address: that is reported once in a thousand ticks at most
+-- another node has this node's address: that is reported once in a thousand ticks at most
 abbrev pub conflicting : Node → Node
 conflicting n = record n { silent_until = plus n.station.segment.now 1000; text = n.text ++ line (codes "address conflict") }
 

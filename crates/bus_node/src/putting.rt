@@ -48,7 +48,7 @@ fn is_of(put: Option<Frame>, frame: &Frame) -> bool
     }
 }
 
-/// The place of the oldest frame that is the same.
+/// The place of the oldest frame that equals this one.
 fn place_of(frames: &VecDeque<Frame>, frame: &Frame) -> Option<usize>
     ensures { result ≡ position (λ put. same_frame put frame.now) frames.now.items }
 {
@@ -102,7 +102,7 @@ impl Node {
         self.note_put(frame)
     }
 
-    // Another node has the same address.
+    // Another node has this node's address.
     fn conflict(&mut self) -> Result<(), AllocError>
         ensures { OnOk result (self.new ≡ conflicting self.old) }
     {

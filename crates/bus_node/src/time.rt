@@ -22,7 +22,7 @@ fn is_not_yet(cause: Option<Refusal>) -> bool
     }
 }
 
-/// The tick at which the next timer is due, if it is none above the last.
+/// The tick at which the next timer is due, if that isn't above the last.
 #[tactic(auto, using(crate::proofs::Dues::due_is_below, crate::proofs::Dues::due_is_above, crate::proofs::Dues::none_is_due))]
 pub(crate) fn due_up_to(station: &Station, last: u64) -> Option<u64>
     ensures { result ≡ due_below (last + 1) station.now.segment }
