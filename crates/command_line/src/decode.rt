@@ -21,7 +21,7 @@ pub struct OfLog {
     pub strict: bool,
     /// Whether each line is a JSON object.
     pub json: bool,
-    /// Whether the frames of each message are listed, but for its packets.
+    /// Whether the frames of each message are listed, except its packets.
     pub frames: bool,
     /// Whether fault lists and identifications are shown in words too.
     pub explain: bool,

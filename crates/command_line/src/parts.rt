@@ -1,5 +1,5 @@
-//! What the commands and their arguments are made of. These are small functions, some of them generic: at each step of a function
-//! the check weighs every value that the function holds, and those of `clap` are large.
+//! Parts of the commands and their arguments. These are small functions, some of them generic: at each step of a function the
+//! check weighs every value that the function holds, and those of `clap` are large.
 use clap::builder::ValueParser;
 use clap::{Arg, ArgAction, ArgMatches, Command, value_parser};
 use std::alloc::{AllocError, Global};

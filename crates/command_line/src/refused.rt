@@ -7,7 +7,7 @@ use std::alloc::{AllocError, AllocFailed};
 /// Why nothing was read.
 #[derive(Drop)]
 pub(crate) enum Refused {
-    /// A word is none that its argument takes, as this text says.
+    /// A word that its argument doesn't take, as this text says.
     Word(String),
     /// There was no memory.
     Memory,

@@ -1,4 +1,4 @@
-//! What is read: standard input if no file is named, else the files in their order, of which `-` is standard input.
+//! The input: standard input if no file is named, else the files in their order, with `-` for standard input.
 ghost use Rattle.std.specs.Io.{ReadsAtMost};
 
 use std::alloc::{AllocError, Global};

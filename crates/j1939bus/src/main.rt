@@ -3,9 +3,9 @@
 //! relay` runs two segments so, with a relay between them; `j1939bus decode` reads logs of a bus and prints their messages; `j1939bus node` is a
 //! station on the bus whose log it reads while it runs (SAE J1939-21, ISO 11783-3).
 //!
-//! It ends with status 0 if the script, log or bus was read to its end, refused calls included, with 1 if a line was wrong, at a file that can't be
-//! opened, a read or write fault, which is on standard error, with 2 if the command line is refused or asks for help, and with 3 if the turns of the
-//! threads ran out.
+//! Its status is 0 if the script, log or bus was read to its end, refused calls included. It is 1 if a line was wrong, if a file can't be opened, or
+//! at a read or write fault; standard error says which. It is 2 if the command line is refused or asks for help, and 3 if the turns of the threads
+//! ran out.
 #![tactic(auto)]
 
 mod inputs;

@@ -66,7 +66,7 @@ impl Recorded {
     }
 }
 
-/// Whether a log was decoded without want of memory, for which alone a vector refuses a write.
+/// Whether a log was decoded without want of memory, the only reason for which a vector refuses a write.
 fn has_ended(decoded: &Decoded) -> bool {
     match decoded.fault {
         None => true,
