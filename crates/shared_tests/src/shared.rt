@@ -109,7 +109,7 @@ fn what_is_left_is_reported(rt: HostRuntime) {
     drop(live);
 }
 
-// The calls by which 35 is given the message of 21 and 21 takes its end acknowledgement.
+// The calls that give 35 the message of 21, and let 21 take its end acknowledgement.
 const EXCHANGE: [WorkerCall; 16] = [
     WorkerCall::Pump { station: A, to: R },
     WorkerCall::Transmit { station: A },

@@ -53,7 +53,7 @@ fn begun(rt: &impl Abort, alloc: Global, size: u32, flow: Flow) -> (InState, Fra
     accept(peer, join, flow, 0)
 }
 
-// A message of 1,786 bytes, of which the first window is granted.
+// A message of 1,786 bytes whose first window is granted.
 fn begun_open(rt: &impl Abort, alloc: Global) -> InState {
     let (state, cts) = begun(rt, alloc, 1786, Flow::Open);
     same(rt, cts, from_35(rt, ETP_CTS, [0x40, 0x01, 0, 0]));
@@ -111,7 +111,7 @@ fn dpo_at(rt: &impl Abort, count: u32, k: u32) -> Wire {
     dpo(rt, count.saturating_sub(before).min(64) as u8, before)
 }
 
-// A packet is that which makes the message whole, or isn't.
+// A packet completes the message, or doesn't.
 fn completes(rt: &impl Abort, state: &Receiver, message: &[u8], packet: &Wire, is_last: bool) {
     same(rt, state.size() as usize, message.len());
     same(rt, state.completes(packet), is_last);

@@ -45,7 +45,7 @@ fn decoded(
     run_decode(alloc, options, &mut reader, out)
 }
 
-/// What is printed of a log, and what is counted.
+/// The printed text of a log, and its counts.
 pub(crate) fn prints(
     rt: &impl Abort,
     alloc: Global,

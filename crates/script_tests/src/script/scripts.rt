@@ -33,7 +33,7 @@ pub(crate) fn shows(rt: &impl Abort, alloc: Global, script: &[u8], text: &str, f
     let mut out = Vec::new(alloc);
     let ran = ran(rt, alloc, script, &mut out, text);
     same(rt, out.as_slice(), text.as_bytes());
-    // Who always reports refused memory promises nothing: this run was refused none.
+    // A run that always reports refused memory promises nothing: this run was refused none.
     holds(rt, !ran.memory_refused);
     match ran.fault {
         None => {
@@ -59,7 +59,7 @@ fn fault_line(alloc: Global, fault: ScriptFault) -> Result<String, AllocError> {
 /// The most bytes that a test puts behind those of `many`.
 const BEHIND: usize = 8193;
 
-/// So many bytes, each the same, with room for those that a test puts behind them.
+/// So many equal bytes, with room for those that a test puts behind them.
 fn many(alloc: Global, byte: u8, count: usize) -> Result<Vec<u8>, AllocError> {
     let mut bytes = Vec::new(alloc);
     let room = count.saturating_add(1 + BEHIND);

@@ -182,13 +182,13 @@ fn list(rt: &impl Abort, alloc: Global, from: usize) -> Vec<Call> {
     calls
 }
 
-// What is left of the list is run: how that ended, and how many calls were done.
+// Runs the rest of the list; returns how that ended, and how many calls were done.
 fn run_from(rt: &impl Abort, alloc: Global, segment: &mut Segment, from: usize) -> (RunEnd, usize) {
     let ran = run(segment, list(rt, alloc, from));
     (ran.end, ran.replies.len())
 }
 
-// What is left of the list is run until no memory is refused.
+// Runs the rest of the list until no memory is refused.
 fn run_all(rt: &impl Abort, alloc: Global, segment: &mut Segment) {
     let (end, done) = run_from(rt, alloc, segment, 0);
     if end == RunEnd::OutOfMemory {

@@ -135,7 +135,7 @@ fn made(rt: &impl Abort, alloc: Global, segment: &mut Segment, call: &Call) -> R
     }
 }
 
-// Two segments that are asked the same.
+// Two segments that get equal calls.
 #[derive(Drop)]
 pub(crate) struct Pair {
     pub(crate) one: Segment,

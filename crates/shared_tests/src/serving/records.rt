@@ -18,7 +18,8 @@ fn fill(rt: &impl Abort, live: &mut Live, calls: usize) {
     }
 }
 
-// Counts the pieces and their calls. It gets the lock as it is given one, for which it would wait for ever if a worker kept it.
+// Counts the pieces and their calls. It takes the lock when it is given one: if a worker kept the lock, it would wait
+// for ever.
 struct Counter<'a, T> {
     rt: &'a T,
     shared: &'a SharedSegment,

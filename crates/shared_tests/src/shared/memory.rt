@@ -104,7 +104,7 @@ fn first_piece(rt: &impl Abort, alloc: Global, live: &mut Live, sender: &mut Cli
     cut_again(rt, live)
 }
 
-// The calls by which it is given and noted are stored, and then cut off.
+// The calls that give and note it are stored, and then cut off.
 fn second_piece(rt: &impl Abort, live: &mut Live) -> Piece {
     exchange_again(rt, live);
     same(rt, live.calls().len(), 16);

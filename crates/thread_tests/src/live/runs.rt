@@ -41,7 +41,7 @@ const SCRIPT: &str =
 const TEXT: &str =
     "port 35.1\n  given 35.1 21 35 0FECA 9 010203040506070809\n  given 35.1 22 35 0FECA 10 1112131415161718191A\noutcome 21 35 1 Acknowledged\noutcome 22 35 1 Acknowledged\n";
 
-// A run, of which a test only looks at its end and its output.
+// A run, for tests that only look at its end and its output.
 fn run_from<T: Threads + Wait + Sync, R: BufRead, W: Write, G: Gate + Sync>(
     rt: &T,
     alloc: Global,

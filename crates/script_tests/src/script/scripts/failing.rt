@@ -26,7 +26,7 @@ fn a_failed_read_ends_the_script(rt: HostRuntime) {
     }
 }
 
-/// Takes so many writes, and fails then; it holds what it took, for which it has the room beforehand.
+/// Takes so many writes, and fails then; the room for what it takes is made beforehand.
 #[derive(Drop)]
 struct Failing {
     writes: u64,
