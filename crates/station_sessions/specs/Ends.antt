@@ -13,7 +13,7 @@ use Rattle.session_table.specs.declared.incoming.Incoming.TheVariants.{Broadcast
 use Rattle.station_sessions.specs.Steps.{completes}
 use Rattle.station_sessions.specs.Receiving.{flow_at}
 
--- its last packet is awaited
+-- the last packet of the session is awaited
 abbrev pub IsLastOf : Incoming → Type 0
 IsLastOf (Broadcast s) = wants_last s.join ≡ true
 IsLastOf (Connection s) = awaits_last s ≡ true

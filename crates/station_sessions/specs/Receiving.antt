@@ -65,7 +65,7 @@ concluded station set room sessions given refused message =
 abbrev pub goes_on_at : Key → (set : List ℕ) → Inbound → Incoming → Option CanFrame → Reception
 goes_on_at key set sessions state frame = record { sessions = map.insert sessions key (Some (set, state)); frame = frame; events = [] }
 
--- it has ended, and a frame is queued
+-- the session of a key has ended, and a frame is queued
 abbrev pub ended_at : Key → Inbound → Option CanFrame → Reception
 ended_at key sessions frame = record { sessions = map.remove sessions key; frame = frame; events = [] }
 
@@ -75,7 +75,7 @@ broadcast_settled station key set room sessions s (bam-steps.Awaits t) = goes_on
 broadcast_settled station key set room sessions s (bam-steps.Completes bytes) = concluded station set room (map.remove sessions key) None None (broadcast_message s bytes)
 broadcast_settled station key set room sessions s bam-steps.Drops = ended_at key sessions None
 
--- and of a connection, whose message is given with the end of message acknowledgement, or without room refused by an abort
+-- the message of a connection is given with the end of message acknowledgement, or without room refused by an abort
 abbrev pub connection_settled : Address → Key → (set : List ℕ) → (room : Bool) → Inbound → Received → Reception
 connection_settled station key set room sessions (On s frame) = goes_on_at key set sessions (Connection s) frame
 connection_settled station key set room sessions (Complete m) =
@@ -89,7 +89,7 @@ session_stepped station key set room sessions flow (Broadcast s) wire now =
 session_stepped station key set room sessions flow (Connection s) wire now =
     connection_settled station key set room sessions (stepped (prepared s wire room flow) wire room flow now)
 
--- its timer fires: a connection on hold asks again, any other session ends
+-- the timer of a session fires: a connection on hold asks again, any other session ends
 abbrev pub session_fired : Address → Key → (set : List ℕ) → Inbound → Flow → Incoming → (now : ℕ) → Reception
 session_fired station key set sessions flow (Broadcast s) now = ended_at key sessions None
 session_fired station key set sessions flow (Connection s) now =

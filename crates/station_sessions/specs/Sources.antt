@@ -16,7 +16,7 @@ last_below (suc source) = Some (key_of (record { 0 = source }) session.Etp)
 abbrev pub HasNoneOf : Inbound → (source : ℕ) → Type 0
 HasNoneOf m source = (kind : SessionKind) → state_at m (key_of (record { 0 = source }) kind) ≡ None
 
--- nor of those from one source on, below another
+-- the sources from one on, below another, have no session
 abbrev pub HasNoneBetween : Inbound → (low high : ℕ) → Type 0
 HasNoneBetween m low high = (source : ℕ) → low ≤ source → source < high → HasNoneOf m source
 
