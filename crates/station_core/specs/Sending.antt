@@ -11,11 +11,11 @@ use Rattle.station_lanes.specs.LaneCalls.{lane_to}
 use Rattle.station_lanes.specs.LaneReaders.{pumping_lane, sight_at}
 use Rattle.station_core.specs.Station.{Station, StationStep, by_lane}
 
--- the lane to a destination; before the first message it is as a new one
+-- the lane to a destination; a new one before the first message
 abbrev pub lane_of : Station → (to : Address) → Lane
 lane_of st to = lane_to st.address st.lanes to.0
 
--- what is seen of it
+-- the sight of the lane to a destination
 abbrev pub lane_seen : Station → (to : Address) → LaneSight
 lane_seen st to = sight_at st.lanes to.0
 

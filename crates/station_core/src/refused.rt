@@ -17,7 +17,7 @@ pub enum Refused {
     /// The destination is the station itself.
     #[error("the destination is the station itself")]
     SameStation,
-    /// The message has less than 9 bytes.
+    /// The message has fewer than 9 bytes.
     #[error("a message has 9 bytes or more")]
     TooShort,
     /// The message has more than 1,785 bytes to all, or more than 117,440,505 to one node.

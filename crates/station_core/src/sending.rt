@@ -44,7 +44,7 @@ fn message_refusal(from: Address, to: Address, len: usize) -> Option<Refused>
 }
 
 impl Station {
-    /// What is seen of its lane to a destination.
+    /// The sight of its lane to a destination.
     pub fn lane(&self, to: Address) -> LaneSight
         ensures { result ≡ lane_seen self.now to }
     {
