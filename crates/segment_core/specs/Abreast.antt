@@ -24,7 +24,7 @@ pub record Takes (before : Station) (frame : CanFrame) (now : ℕ) (after : Stat
   pub well_formed : is_malformed_for before frame ≡ false
   pub step : taken before frame true now ≡ record { station = after; events = told }
 
--- one station more does, after those before it
+-- one station more takes it, after those before it
 pub record OneMore (Before : List Station → List Event → Type 0) (n : ℕ) (frame : CanFrame) (now : ℕ) (stations : List Station) (told : List Event) : Type 0 where
   pub others : List Station
   pub earlier : List Event
