@@ -29,7 +29,7 @@ IsStopped answer (Refused cause) = answer ≡ Err cause
 IsStopped answer OutOfMemory = IsOk answer
 IsStopped answer ClockPassed = ⊥
 
--- it was made; or it isn't, and nothing changed
+-- the call was made; or it wasn't, and nothing changed
 abbrev pub IsAnswered : {A : Type 0} → (before : Node) → Call → (after : Node) → Result A NodeError → Type 0
 IsAnswered before call after (Ok _) = IsOk (called before.segment call) × Did before (call ∷ []) after
 IsAnswered before call after (Err error) = IsStopped (called before.segment call) error × (after ≡ before)
@@ -62,14 +62,14 @@ has_frame node = nat_lt 0 (waiting_at node.segment node.address)
 abbrev pub overruns : Node → Call
 overruns node = Overrun node.address 0
 
--- it has ended, and nothing is remembered
+-- what was under way has ended, and missed frames are no longer remembered
 abbrev pub caught_up : Node → Node
 caught_up node = record node { has_missed = false }
 
 abbrev pub IsCaughtUp : (before after : Node) → Type 0
 IsCaughtUp before after = (has_frame before ≡ false) × Did (caught_up before) (overruns before ∷ []) after
 
--- it did; or the node remembers that it is to
+-- what was under way has ended; or the node remembers that it must
 abbrev pub IsMissed : (before after : Node) → Missed → Type 0
 IsMissed before after missed.Ended = IsCaughtUp before after
 IsMissed before after missed.Waits = after ≡ record before { has_missed = true }
@@ -83,7 +83,7 @@ EndsFirst false before ready = ready ≡ before
 abbrev pub IsReady : (before ready : Node) → Type 0
 IsReady before ready = EndsFirst before.has_missed before ready × (has_frame ready ≡ false)
 
--- it is remembered still, since it found no memory
+-- missed frames are still remembered, since ending what was under way found no memory
 abbrev pub IsUnready : (before after : Node) → Type 0
 IsUnready before after = (before.has_missed ≡ true) × IsOk (called before.segment (overruns before)) × (after ≡ before)
 
@@ -119,11 +119,11 @@ abbrev pub IsTakenIn : (ready : Node) → CanFrame → (after : Node) → Result
 IsTakenIn ready frame after (Ok fed) = (feed_refusal ready frame ≡ None) × DidAndLooked ready (Inject frame) after fed
 IsTakenIn ready frame after (Err error) = IsUndone (feed_refusal ready frame) ready after error
 
--- first the node is ready
+-- the node is made ready first, and then the frame is fed
 abbrev pub IsReadyAndFed : (before : Node) → CanFrame → (after : Node) → Result Fed NodeError → Type 0
 IsReadyAndFed before frame after fed = (ready : Node) × IsReady before ready × IsTakenIn ready frame after fed
 
--- or it can't be, and passes the frame by
+-- or the node can't be made ready, and passes the frame by
 abbrev pub IsFed : (before : Node) → CanFrame → (after : Node) → Result Fed NodeError → Type 0
 IsFed before frame after (Ok PassedBy) = IsUnready before after
 IsFed before frame after (Ok Taken) = IsReadyAndFed before frame after (Ok Taken)
@@ -149,11 +149,11 @@ abbrev pub IsPassedBy : (ready after : Node) → Result (Unit {0}) NodeError →
 IsPassedBy ready after (Ok _) = (sent_refusal ready ≡ None) × Did ready (Transmit ready.address ∷ looks ready ∷ []) after
 IsPassedBy ready after (Err error) = (sent_refusal ready ≡ Some error) × (after ≡ ready)
 
--- first the node is ready
+-- the node is made ready first
 abbrev pub IsReadyAndSent : (before after : Node) → Result (Unit {0}) NodeError → Type 0
 IsReadyAndSent before after sent = (ready : Node) × IsReady before ready × IsPassedBy ready after sent
 
--- or it can't be, for want of memory
+-- or it can't be made ready, for want of memory
 abbrev pub IsSent : (before after : Node) → Result (Unit {0}) NodeError → Type 0
 IsSent before after (Ok done) = IsReadyAndSent before after (Ok done)
 IsSent before after (Err OutOfMemory) = IsUnready before after

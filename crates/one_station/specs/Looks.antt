@@ -27,7 +27,7 @@ pub record Tells (before : Segment) (waiting : List Event) (call : Call) (after 
 abbrev pub Puts : Segment → Call → Segment → Type 0
 Puts before call after = (waiting : List Event) → Tells before waiting call after waiting
 
--- it does so, or is refused and changes nothing
+-- such a call is made, or is refused and changes nothing
 abbrev pub IsPut : (before : Segment) → Call → (after : Segment) → Result (Unit {0}) Refusal → Type 0
 IsPut before call after (Ok done) = IsOk (called before call) × Puts before call after
 IsPut before call after (Err cause) = (called before call ≡ Err cause) × (after ≡ before)

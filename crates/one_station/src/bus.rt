@@ -119,12 +119,12 @@ impl Node {
         Ok(self.queued())
     }
 
-    /// The frame that `front` answered was put on the bus. The station doesn't look at its own frames, and passes it by. That takes no
+    /// The frame that `front` returned was put on the bus. The station doesn't look at its own frames, and passes it by. That takes no
     /// memory.
     ///
     /// What was under way when frames were missed ends first, if it has yet to. If that finds no memory, it is refused as
-    /// `OutOfMemory`: the call is to be made again then, since the frame isn't to be put twice. Else refused as `NothingToSend` if the
-    /// transmit queue is empty.
+    /// `OutOfMemory`: make the call again then, since the frame must not be put twice. Else refused as `NothingToSend` if the transmit
+    /// queue is empty.
     pub fn sent(&mut self) -> Result<(), NodeError>
         ensures { IsSent self.old self.new result }
     {

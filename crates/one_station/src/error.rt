@@ -3,11 +3,11 @@
 use segment_law::Refusal;
 use thiserror::Error;
 
-/// Why a call on a node isn't done. It can be made again. It changed nothing then, but that `feed` and `sent` may have ended what
-/// `missed` left to end.
+/// Why a call on a node isn't done. It changed nothing then, except that `feed` and `sent` may have ended what `missed` left to
+/// end. It can be made again.
 #[derive(Clone, Copy, Debug, PartialEq, Eq, Error)]
 pub enum NodeError {
-    /// It is refused for this cause.
+    /// The call is refused for this cause.
     #[error("the call is refused")]
     Refused(Refusal),
     /// The clock is past the tick.

@@ -32,7 +32,7 @@ pub(crate) fn put(segment: &mut Segment, call: Call) -> Result<(), Refusal>
     }
 }
 
-/// The station passes the next frame by, since it doesn't look at it. With room or without is one then, and without room no memory is
+/// The station passes the next frame by, since it doesn't look at it. Room makes no difference then, and without room no memory is
 /// asked for.
 #[inline(always)]
 pub(crate) fn pass(segment: &mut Segment, station: Address)

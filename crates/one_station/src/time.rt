@@ -11,7 +11,7 @@ use crate::node::Node;
 use segment_core::Call;
 
 impl Node {
-    /// The tick of 1 ms at which its clock stands.
+    /// The tick of its clock, of 1 ms.
     pub fn now(&self) -> u64
         ensures { result ≡ self.now.segment.now }
     {
