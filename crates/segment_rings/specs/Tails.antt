@@ -11,7 +11,7 @@ pub record Tail (T : Type 0) : Type 0 where
 abbrev pub most_gone : ℕ
 most_gone = 2 ^ 63
 
--- it is what is kept of this list
+-- the tail is what is kept of this list
 abbrev pub IsTailOf : {T : Type 0} → Tail T → List T → Type 0
 IsTailOf k xs = (k.gone ≤ length xs) × (k.items ≡ drop k.gone xs)
 
