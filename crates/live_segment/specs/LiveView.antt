@@ -195,7 +195,7 @@ pub record Attached (a b : LiveView) (station : Address) (c : ClientEnd) : Type 
   pub clients : b.clients ≡ a.clients ++ new_client station ∷ []
   pub ports : b.ports ≡ a.ports
 
--- before the first cut no note of these clients and no delivery to these ports is kept no more
+-- before the first cut each note of these clients and each delivery to these ports is kept
 abbrev pub KeepsUncut : List Piece → List ClientView → List PortView → Type 0
 KeepsUncut ps cs ds = ps ≡ [] → ((c : ℕ) (x : ClientView) → c < length cs → (slice_index_or cs c x).notes_gone ≡ 0) × ((k : ℕ) (p : PortView) → k < length ds → (slice_index_or ds k p).given_gone ≡ 0)
 

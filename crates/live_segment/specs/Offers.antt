@@ -78,7 +78,7 @@ pub record IsStored (s : SeatView) (k number : ℕ) (x : Submission) (xs ys : Li
   pub owed : vs ≡ ws ++ owed_for k s x number ∷ []
   pub seats : ts ≡ slice_set ss k (popped_one s x rest)
 
--- no client has this number, its submissions are taken no more, or none is seen
+-- no client has this number, or its submissions are no longer taken, or none is seen
 abbrev pub IsEmptyAt : LiveView → ℕ → Type 0
 IsEmptyAt b c = (length b.clients ≤ c) ⊎ (((v : ClientView) → (slice_index_or b.clients c v).active ≡ false) ⊎ (length (slice_index_or b.seen c []) ≡ 0))
 

@@ -45,6 +45,6 @@ pub record HasPast (ps : List Piece) (xs : List Stored) : Type 0 where
 abbrev pub IsPastCounts : List Piece → List Stored → Type 0
 IsPastCounts ps xs = (2 ^ 64 ≤ length ps + 1) ⊎ (2 ^ 64 ≤ length xs + 1000000)
 
--- or neither would
+-- neither count would
 abbrev pub HasCounts : List Piece → List Stored → Type 0
 HasCounts ps xs = (length ps + 1 < 2 ^ 64) × (length xs + 1000000 < 2 ^ 64)

@@ -27,7 +27,7 @@ abbrev pub RoomAt : PortId → ℕ → List DoorView → Type 0
 RoomAt p needed [] = Unit {0}
 RoomAt p needed (d ∷ ds) = (same_port p d.port ≡ true → (needed ≤ d.free) × (needed ≤ d.spare) × (d.active ≡ true)) × RoomAt p needed ds
 
--- it has not, or gets no more deliveries
+-- the door of the port has too few places, or gets no more deliveries
 pub record LacksRoom (p : PortId) (needed : ℕ) (ds : List DoorView) : Type 0 where
   pub place : ℕ
   pub is : IsPlaceIn ds p place

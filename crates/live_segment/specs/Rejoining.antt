@@ -17,8 +17,8 @@ use Rattle.live_segment.specs.Record.{trail}
 use Rattle.live_segment.specs.Past.{joined, NumberedAfter, IsPastCounts, HasCounts}
 use Rattle.live_segment.specs.LiveView.{LiveView, ClientView, PortView, since_cut}
 
--- so many places of the ring of the client's notes are known to be free: the notes that are known to be out of it are kept no more, those
--- that may be in it are; of a client that is gone all are kept as they were
+-- so many places of the ring of the client's notes are known to be free: the notes that are known to be out of it are no longer kept,
+-- those that may be in it are; if the client is gone, all that were kept are
 pub record CutClient (a b : ClientView) (free : ℕ) : Type 0 where
   pub same : b ≡ record a { notes_gone = b.notes_gone }
   pub more : a.notes_gone ≤ b.notes_gone
@@ -62,7 +62,7 @@ IsCutCause a (not_made.Refused c) = (c ≡ TraceFull) × IsPastCounts a.pieces a
 abbrev pub AreNumbered : LiveView → List Piece → Type 0
 AreNumbered v ps = (length ps ≡ length v.pieces) × NumberedAfter 0 ps
 
--- and their calls, made on a new segment, leave it as the segment was at the last cut
+-- these pieces join: their calls, made on a new segment, leave it as the segment was at the last cut
 abbrev pub Join : LiveView → List Piece → Type 0
 Join v ps = AreNumbered v ps × ((trail v.addresses (joined ps)).state ≡ (trail v.addresses (joined v.pieces)).state)
 

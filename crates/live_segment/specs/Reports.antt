@@ -45,7 +45,7 @@ given_gone v q = gone_of v.ports q
 abbrev pub HasSubmitted : LiveView → ClientEnd → Type 0
 HasSubmitted v c = (c.gone ≤ accepted_before v c.id) × (accepted_before v c.id ≤ length c.submitted)
 
--- it read the notes that are kept no more, and keeps those that it read since
+-- the client read the notes that are no longer kept, and keeps those that it read since
 abbrev pub HasRead : LiveView → ClientEnd → Type 0
 HasRead v c = (c.read_gone ≤ notes_gone v c.id) × (notes_gone v c.id ≤ length c.read)
 

@@ -80,11 +80,11 @@ after_accept t (accepted.Sent n) = one_more t
 abbrev pub IsAnswered : LiveView → LiveView → WorkerCall → Reply → Type 0
 IsAnswered a b call r = ((1000000 ≤ stored_calls a) × (r ≡ Refused TraceFull) × (b ≡ a)) ⊎ ((stored_calls a < 1000000) × ((room : Bool) × Applied a b call r room))
 
--- one call: it is answered, or memory is lacking and nothing changes
+-- one call is made: it is answered, or memory is lacking and nothing changes
 abbrev pub Makes : WorkerCall → Point → Point → Type 0
 Makes call p q = ((r : Reply) × IsAnswered p.live q.live call r × (q.turn ≡ after_reply p.turn r)) ⊎ (SameLive p.live q.live × LacksMemory p.live call × (q.turn ≡ p.turn))
 
--- one look at the front submission of client c, in the same way
+-- the front submission of client c is looked at once, in that way
 abbrev pub Accepts : ℕ → Point → Point → Type 0
 Accepts c p q = ((r : Accepted) × AcceptedAs p.live q.live c r × (q.turn ≡ after_accept p.turn r)) ⊎ (SameLive p.live q.live × LacksMemoryFor p.live q.live c × (q.turn ≡ p.turn))
 
@@ -96,7 +96,7 @@ IsClientOf station c v = (c < length v.clients) × ((d : ClientView) → (slice_
 abbrev pub AcceptsOne : Address → ℕ → Point → Point → Type 0
 AcceptsOne station c p q = (IsClientOf station c p.live × Accepts c p q) ⊎ ((IsClientOf station c p.live → ⊥) × (q ≡ p))
 
--- once for each client of the station with a number below n, by rising number
+-- a station accepts once for each of its clients with a number below n, by rising number
 abbrev pub AcceptsBelow : ℕ → Address → Point → Point → Type 0
 AcceptsBelow zero station p q = q ≡ p
 AcceptsBelow (suc n) station p q = (m : Point) × AcceptsBelow n station p m × AcceptsOne station n m q
