@@ -1,4 +1,4 @@
--- What is seen of a lane.
+-- The sight of a lane.
 use Rattle.std.specs.Prelude.{Bool, true, false, length}
 use Rattle.lane_core.specs.Lane.{Lane}
 use Rattle.lane_core.specs.declared.probe.Standing.{Standing}

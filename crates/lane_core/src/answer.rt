@@ -21,7 +21,7 @@ impl Lane {
         }
     }
 
-    // What was asked for was answered.
+    // The Request was answered: the lane is settled.
     fn settle(&mut self)
         ensures { self.new ≡ record self.old { standing = Settled; token = other_token self.old.token } }
     {
