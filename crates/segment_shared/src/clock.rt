@@ -2,7 +2,7 @@
 use std::sync::atomic::{AtomicU64, Ordering};
 use std::time::Instant;
 
-/// A clock in ticks of 1 ms, on the scale of a segment's clock. A worker that goes by it brings the segment's clock forward to what it says, and never
+/// A clock in ticks of 1 ms, on the scale of a segment's clock. A worker that follows it brings the segment's clock forward to its tick, and never
 /// back.
 pub trait Clock {
     fn now(&self) -> u64;

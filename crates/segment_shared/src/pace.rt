@@ -16,9 +16,9 @@ pub const LOOK_TICKS: u64 = 50;
 /// How long a worker rests at most while others have something to do.
 const BUSY_TICKS: u64 = 5;
 
-/// The gate of one worker that goes by a clock: it sleeps at a gate of its own until there is something to do. A worker whose last turn made a call
-/// passes at once. Any other sleeps until another worker's turn gives it something to do, until something is due, until `SharedSegment::wake`, or until
-/// the next tick that `look` divides.
+/// The gate of one worker that follows a clock: it sleeps at a gate of its own until there is something to do. A worker whose last turn made a call
+/// passes at once. Any other sleeps until another worker's turn gives it something to do, until something is due, until `SharedSegment::wake`, or
+/// until the next tick that `look` divides.
 pub struct Pace<'a, R, C> {
     rt: &'a R,
     shared: &'a SharedSegment,

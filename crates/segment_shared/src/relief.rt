@@ -1,4 +1,4 @@
-//! What a station does that finds no memory for what it takes.
+//! What a station does if it finds no memory for the frames that it takes.
 use live_segment::{Live, Reply, Turn, WorkerCall};
 use pgn_ids::Address;
 
@@ -51,8 +51,8 @@ fn miss(live: &mut Live, station: Address, tried: u64, is_timed: bool) -> (u64, 
     (0, false)
 }
 
-/// A turn of a station's worker that has tried so many turns in vain to take a frame, and how many it has tried then. `is_timed`: the segment's clock
-/// goes by another.
+/// A turn of a station's worker that has tried so many turns in vain to take a frame. Returns also how many it has tried then. `is_timed`: the
+/// segment's clock follows another.
 pub(crate) fn relieved_turn(
     live: &mut Live,
     station: Address,

@@ -177,7 +177,7 @@ impl<G: Gate, K: PieceKeeper, C: Clock> Worker<'_, G, K, C> {
         }
     }
 
-    // Brings the segment's clock to the one that it goes by; how many calls that takes.
+    // Brings the segment's clock to the one that it follows; returns how many calls that takes.
     fn keep_time(&self, live: &mut Live) -> u64 {
         let Some(clock) = self.clock else {
             return 0;
