@@ -2,7 +2,7 @@
 use Rattle.std.specs.Prelude.{◌≡◌, ℕ, ◌/◌, ◌%◌, ◌<◌, ◌≤◌, ◌==◌, Bool, true, false, List, replicate, slice_index_or, Option, Some, None}
 use Rattle.std.specs.Int.{bit_at}
 
--- a bit for each address: four words, of which each has the next 64
+-- a bit for each address, in four words of 64
 pub record AddressSet : Type 0 where
   pub words : List ℕ
 

@@ -1,4 +1,4 @@
-//! Sets of addresses, of which the next address is found in a few steps, however many there are.
+//! Sets of addresses. The next address of a set is found in a few steps, however many there are.
 #![tactic(auto)]
 
 mod set;

@@ -8,13 +8,13 @@ use Rattle.bam_session.specs.States.{Incoming, accepted}
 use Rattle.bam_session.specs.declared.incoming.BamLeft.{BamLeft}
 use Rattle.bam_session.specs.declared.incoming.BamLeft.TheVariants.{Nothing, Message, Dropped}
 
--- where a packet leads: further ones are awaited, the message is complete with these bytes, or it is dropped
+-- what follows from a packet: further ones are awaited, the message is complete with these bytes, or it is dropped
 pub data Received : Type 0 where
   Awaits : Incoming → Received
   Completes : List ℕ → Received
   Drops : Received
 
--- packet k comes
+-- packet k arrives
 abbrev pub received : Incoming → (k : ℕ) → List ℕ → (now : ℕ) → Received
 received s k bytes now =
     if nat_lt k s.join.next then Awaits s
@@ -22,7 +22,7 @@ received s k bytes now =
     else if not (wants_last s.join) then Awaits (accepted s bytes now)
     else Completes (joined s.join bytes).bytes
 
--- a frame comes: one that is no packet of this transport changes nothing
+-- a frame arrives: one that is no packet of this transport changes nothing
 abbrev pub stepped : Incoming → Wire → (now : ℕ) → Received
 stepped s (Packet Tp k bytes) now = received s k bytes now
 stepped s _ now = Awaits s
@@ -32,7 +32,7 @@ abbrev pub completes : Incoming → Wire → Bool
 completes s (Packet Tp k bytes) = wants_last s.join && k == s.join.next
 completes s _ = false
 
--- a frame leads there: the step is made, or the receiver stands as it did and this is left to do
+-- what follows from a frame: the step is made, or the receiver is unchanged and this is left to do
 abbrev pub Leads : (before : Incoming) → Wire → (now : ℕ) → BamLeft → (after : Incoming) → Type 0
 Leads before wire now Nothing after = stepped before wire now ≡ Awaits after
 Leads before wire now Message after = (completes before wire ≡ true) × (wants_last before.join ≡ true) × (after ≡ before)

@@ -20,7 +20,7 @@ pumped s bytes now =
     else if s.next == packet_count s.len then Last (next_packet s bytes)
     else On (with_next s now) (next_packet s bytes)
 
--- where a packet leads that is queued, if one is
+-- what follows from a pump: a queued packet leads on, if there is one
 abbrev pub led : Option BamPacket → Outgoing → BamPumped
 led None s = NotYet s
 led (Some packet) s = if packet.is_last then Last packet.frame else On s packet.frame

@@ -20,7 +20,7 @@ pub record IsSending (s : InsideOut) : Type 0 where
 abbrev pub incoming_value : InsideIn → Incoming
 incoming_value s = record { from = s.from.0; pgn = s.pgn; join = s.join; timer = s.timer }
 
--- a packet is still to come, and there is room for all that are
+-- a packet is missing, and there is room for all that are
 pub record IsUnfinished (s : InsideIn) : Type 0 where
   pub valid : IsJoin s.join
   pub size : is_size s.join.size ≡ true

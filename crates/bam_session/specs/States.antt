@@ -29,7 +29,7 @@ first from len now = record { from = from; len = len; next = 1; gap = start now 
 abbrev pub with_next : Outgoing → (now : ℕ) → Outgoing
 with_next s now = record s { next = s.next + 1; gap = start now BROADCAST_GAP }
 
--- receiving: the source, the PGN field as received, how much of the message has come, and T1
+-- receiving: the source, the PGN field as received, the packets received, and T1
 pub record Incoming : Type 0 where
   pub from : ℕ
   pub pgn : ℕ

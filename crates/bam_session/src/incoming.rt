@@ -39,7 +39,7 @@ impl Model for BamIn {
     ghost invariant = { IsUnfinished };
 }
 
-/// What a frame leaves to do. With any answer but `Nothing` nothing has changed yet.
+/// What is left to do after a frame. If it is anything but `Nothing`, nothing has changed yet.
 #[derive(Clone, Copy, Debug, PartialEq, Eq)]
 pub enum BamLeft {
     /// Further packets are awaited.
@@ -50,7 +50,7 @@ pub enum BamLeft {
     Dropped,
 }
 
-/// Where a packet leads.
+/// What follows from a packet.
 pub enum BamStepped {
     /// Further packets are awaited.
     On(BamIn),
@@ -61,8 +61,8 @@ pub enum BamStepped {
 }
 
 impl BamIn {
-    /// A message that was announced by a BAM with this source and PGN field, taken at tick `now`. The join is that of
-    /// a message of 9 to 1,785 bytes of which no packet has come, with room for all its packets.
+    /// A message that was announced by a BAM with this source and PGN field, taken at tick `now`. The join is that of a
+    /// message of 9 to 1,785 bytes that has no packet yet, with room for all its packets.
     pub fn begin(from: Address, pgn: WirePgn, join: Join, now: u64) -> BamIn
         requires size { is_size join.size ≡ true }
         requires empty { join.next ≡ 1 }
@@ -79,8 +79,9 @@ impl BamIn {
         }
     }
 
-    /// Takes a frame of its source to all where it stands, at tick `now` (SAE J1939-21, TP.DT): one that is no packet of this
-    /// transport, or a packet that has come already, changes nothing, and one out of order is to drop the message.
+    /// Takes a frame that its source sent to all, at tick `now`, and changes in place (SAE J1939-21, TP.DT). A frame that is
+    /// no packet of this transport, or a packet received before, changes nothing. If a packet is out of order, the message is
+    /// to be dropped.
     #[inline(always)]
     pub fn take(&mut self, heard: &Heard<'_>, now: u64) -> BamLeft
         ensures { Leads self.old (meant heard.now) now result self.new }
@@ -96,7 +97,7 @@ impl BamIn {
         self.take_packet(*sequence, bytes, now)
     }
 
-    /// The same by value: where the frame leads.
+    /// `take`, by value: what follows from the frame.
     pub fn step(mut self, wire: &Wire, now: u64) -> BamStepped
         ensures { shown result ≡ stepped self wire.now now }
     {
@@ -138,7 +139,7 @@ impl BamIn {
         BamLeft::Nothing
     }
 
-    /// The last packet comes, which `take` left: the bytes of the message, as many as were announced.
+    /// Takes the last packet, which `take` left: the bytes of the message, as many as were announced.
     pub fn complete(self, packet: &[u8; 7]) -> Vec<u8>
         requires { wants_last_at self.join ≡ true }
         ensures value { result.items ≡ (joined self.join packet.now).bytes }
@@ -173,14 +174,14 @@ impl BamIn {
         self.join.wants_last() && u32::from(*sequence) == self.join.next()
     }
 
-    /// The address that the message comes from.
+    /// The address that the message is from.
     pub fn from(&self) -> Address
         ensures { result.0 ≡ self.now.from }
     {
         self.from
     }
 
-    /// The PGN field of its BAM, as it was received.
+    /// The PGN field of its BAM, as received.
     pub fn pgn(&self) -> WirePgn
         ensures { result ≡ self.now.pgn }
     {

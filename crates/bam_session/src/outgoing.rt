@@ -42,7 +42,7 @@ pub struct BamPacket {
     pub is_last: bool,
 }
 
-/// Where a pump leads.
+/// What follows from a pump.
 pub enum BamPumped {
     /// The next packet, which is to be queued; further ones follow.
     On(BamOut, Frame),
@@ -69,9 +69,10 @@ impl BamOut {
         (state, announce(from, pgn, len))
     }
 
-    /// Gives the next packet at tick `now`, which is to be queued, where at least 50 ticks have passed since the last queued
-    /// frame of the message, whose bytes are handed in. None where they have not, and then nothing changes. Behind the last
-    /// packet there is nothing left to do but `cancel`.
+    /// Gives the next packet to be queued, at tick `now`. `bytes` is the whole message.
+    ///
+    /// None if fewer than 50 ticks have passed since the message's last queued frame; then nothing changes. After the last
+    /// packet only `cancel` is left to do.
     #[inline]
     pub fn take_packet(&mut self, bytes: &[u8], now: u64) -> Option<BamPacket>
         requires { length bytes.now ≡ self.old.len }
@@ -90,7 +91,7 @@ impl BamOut {
         Some(BamPacket { frame, is_last })
     }
 
-    /// The same, by value.
+    /// `take_packet`, by value.
     pub fn pump(mut self, bytes: &[u8], now: u64) -> BamPumped
         requires { length bytes.now ≡ self.len }
         ensures { result ≡ pumped self bytes.now now }
@@ -112,7 +113,7 @@ impl BamOut {
         self.gap.is_due(now)
     }
 
-    /// The tick from which on the 50 ticks since its last queued frame have passed. None where that would be past the end of `u64`.
+    /// The tick at which the 50 ticks since its last queued frame have passed. None if that would be past the end of `u64`.
     pub fn due_at(&self) -> Option<u64>
         ensures { IsDueFrom (is_due_at self.now.gap) result }
     {

@@ -49,7 +49,7 @@ impl BamOutImage {
     }
 }
 
-// Whether two timers are the same.
+// Whether two timers are equal.
 fn is_same_timer(a: Timer, b: Timer) -> bool
     ensures { IsTrue result ↔ (a ≡ b) }
 {

@@ -1,5 +1,5 @@
-//! The law of messages to all: what ports and stations are given of one station's broadcasts; and that a station queues its own
-//! frames alone.
+//! The law of messages to all: which of one station's broadcasts the ports and stations are given, and that a station queues
+//! its own frames alone.
 #![tactic(auto)]
 
 mod laws;

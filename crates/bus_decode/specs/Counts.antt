@@ -1,4 +1,4 @@
--- What is counted of a log.
+-- The counts of a log.
 use Rattle.std.specs.Prelude.{ℕ, List, [], ◌++◌, codes, fold, Bool, ◌&&◌, not, ◌==◌, if◌then◌else◌, Option}
 use Rattle.std.specs.Fmt.{decimal}
 use Rattle.bus_frame.specs.Frames.{CanFrame}
@@ -27,17 +27,17 @@ with_frame frame is_earlier c = record c {
   malformed = more_if (is_malformed frame) c.malformed;
 }
 
--- and of no message or of one
+-- a frame that belongs to no message counts by its kind
 abbrev pub with_strays : Option Stray → Counts → Counts
 with_strays stray c = record c { strays = with_stray stray c.strays }
 
--- something was told
+-- a report is counted
 abbrev pub with_told : Told → Counts → Counts
 with_told (Given key pgn bytes) c = record c { messages = more c.messages }
 with_told (Aborted key pgn reason who) c = record c { aborted = more c.aborted }
 with_told (Lost key pgn have size cause) c = record c { lost = more c.lost }
 
--- it is counted where it was asked for
+-- a report is counted if it was asked for
 abbrev pub with_asked : Options → Counts → Told → Counts
 with_asked options c t = if is_told_asked options t then with_told t c else c
 
@@ -53,7 +53,7 @@ frames_text c = codes " earlier " ++ decimal c.earlier ++ codes " transport " ++
 abbrev pub messages_text : Counts → List ℕ
 messages_text c = codes " messages " ++ decimal c.messages ++ codes " aborted " ++ decimal c.aborted ++ codes " lost " ++ decimal c.lost
 
--- what is said of a log of which lines were wrong, or none shows a frame
+-- the words for a log in which lines were wrong, or none shows a frame
 abbrev pub rest_text : Counts → List ℕ
 rest_text c =
     if not (c.wrong == 0) then codes " wrong " ++ decimal c.wrong

@@ -49,7 +49,7 @@ IsLastCause before (causes.Fault f) = before ≡ causes.Fault f
 abbrev pub status_of : Decoded → ℕ
 status_of d = elim d.fault [ None ↦ if d.counts.wrong == 0 then 0 else 1 | Some f ↦ 1 ]
 
--- the line that tells of a fault
+-- the line that reports a fault
 abbrev pub fault_line : LogFault → List ℕ
 fault_line f = elim f.cause [
   | causes.ReadFailed ↦ codes "line " ++ decimal f.line ++ codes ": read failed"

@@ -1,4 +1,4 @@
--- The courses of the messages under way, and what is counted of those that were told.
+-- The courses of the messages under way, and the counts of those that were reported.
 use Rattle.std.specs.Prelude.{List, [], ◌∷◌, if◌then◌else◌}
 use Rattle.bus_frame.specs.Frames.{CanFrame}
 use Rattle.log_text.specs.declared.iface.Iface.{Iface}
@@ -14,7 +14,7 @@ use Rattle.bus_decode.specs.declared.options.Options.{Options}
 abbrev pub none_followed : Followed
 none_followed = record { courses = []; summary = no_summary }
 
--- a message is told, with its course
+-- a message is reported, with its course
 abbrev pub summed : Options → Course → Told → Summary → Summary
 summed options c t s = if sums_up options t then with_message c t s else s
 
@@ -26,7 +26,7 @@ abbrev pub after_each : Options → Place → List Told → Followed → Followe
 after_each options place [] f = f
 after_each options place (t ∷ ts) f = after_each options place ts (after_told options place t f)
 
--- where courses are followed
+-- the reports at the end of the log, if courses are followed
 abbrev pub left_followed : Options → Place → List Told → Followed → Followed
 left_followed options place told f = if follows options then after_each options place told f else f
 
@@ -34,10 +34,10 @@ left_followed options place told f = if follows options then after_each options 
 abbrev pub frame_summed : Options → Iface → Summary → Summary
 frame_summed options iface s = if options.summary then with_frame iface s else s
 
--- a frame is seen at which this was told, whose courses were taken out
+-- a frame is seen that has these reports, whose courses were taken out
 abbrev pub with_frame_of : Options → Iface → CanFrame → Place → List Told → Followed → Followed
 with_frame_of options iface frame place told f = record { courses = followed (detail_of options) iface frame place told f.courses; summary = frame_summed options iface f.summary }
 
--- what was told is taken out, and the frame is seen, where courses are followed
+-- the courses of the reports are taken out, and the frame is seen, if courses are followed
 abbrev pub heard_followed : Options → Iface → CanFrame → Place → List Told → Followed → Followed
 heard_followed options iface frame place told f = if follows options then with_frame_of options iface frame place told (after_each options place told f) else f

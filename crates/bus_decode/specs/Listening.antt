@@ -1,4 +1,4 @@
--- What each line of a log tells.
+-- The output of each line of a log.
 use Rattle.std.specs.Prelude.{◌≡◌, ℕ, List, [], ◌++◌, Bool, ◌&&◌, ◌||◌, not, ◌==◌, nat_lt, if◌then◌else◌, Option, Some, None, Result, Ok, Err, unwrap_or}
 use Rattle.bus_frame.specs.Frames.{CanFrame}
 use Rattle.pgn_ids.specs.Identifier.{meaning_of}
@@ -38,11 +38,11 @@ first_listener most = record { decoder = record { most = most; time = 0; buses =
 abbrev pub Hearing : Type 0
 Hearing = Listener × Counts
 
--- a listener, the form of the log's lines, where a line had one, and what was counted
+-- a listener, the form of the log's lines, if a line had one, and what was counted
 abbrev pub Listening : Type 0
 Listening = (Listener × Option Form) × Counts
 
--- these afterwards, and what is printed
+-- the listening afterwards, and the output
 abbrev pub Step : Type 0
 Step = Listening × List ℕ
 
@@ -50,22 +50,22 @@ Step = Listening × List ℕ
 abbrev pub is_asking : CanFrame → Bool
 is_asking frame = (meaning_of frame.id).pgn == request || (meaning_of frame.id).pgn == acknowledgement
 
--- a frame that carries nothing of a message, where it is asked for
+-- a frame that carries nothing of a message, if it is asked for
 abbrev pub single : ℕ → Iface → Options → CanFrame → List ℕ
 single now iface options frame = if shows_singles options && (not (is_transport frame) || is_asking frame) then single_text now iface options frame else []
 
--- a listener to a frame that was counted, and what is printed: the frame's place in the log is its number and the time to which it brings the
+-- a listener to a frame that was counted, and the output. The frame's place in the log is its number and the time to which it brings the
 -- interface
 abbrev pub frame_told : Options → Iface → CanFrame → Followed → Awaited → State × List Told → Counts → Hearing × List ℕ
 frame_told options iface frame f awaited t counts =
     let place : Place = record { number = counts.frames; time = t.0.time } in
     ((record { decoder = t.0; followed = heard_followed options iface frame place t.1 f; awaited = awaiting_each t.1 awaited }, counts), told_text place options t.1 f ++ single t.0.time iface options frame)
 
--- what is counted of a frame, of no message or of one, at which this is told
+-- the counts of a frame, of no message or of one, with these reports
 abbrev pub frame_counts : Options → CanFrame → (is_earlier : Bool) → Option Stray → List Told → Counts → Counts
 frame_counts options frame is_earlier stray told c = with_each options (with_strays stray (with_frame frame is_earlier c)) told
 
--- a frame is seen at a time on an interface: what it tells is counted and printed
+-- a frame is seen at a time on an interface: its reports are counted and printed
 unfoldable pub frame_seen : Options → Hearing → (time : ℕ) → Iface → CanFrame → Hearing × List ℕ
 frame_seen options s time iface frame =
     let t = taken s.0.decoder time iface frame [] in
@@ -85,7 +85,7 @@ abbrev pub form_with : Option Form → List ℕ → Option Form
 form_with None line = form_of line
 form_with (Some form) line = Some form
 
--- a wrong line, by its number, ends the run where that is asked for; else it is told and counted
+-- a wrong line, by its number, ends the run if the options say so; else it is reported and counted
 abbrev pub wrong_seen : Options → Listening → ℕ → Result Step Fault
 wrong_seen options s n = if options.strict then Err NotLogLine else Ok ((s.0, record s.1 { wrong = more s.1.wrong }), wrong_text options n)
 
@@ -99,7 +99,7 @@ seen_as options form s n line = elim (line_as form line) [ None ↦ wrong_seen o
 abbrev pub line_seen : Options → Listening → ℕ → List ℕ → Result Step Fault
 line_seen options s n line = seen_as options (form_with s.0.1 line) (s.0.0, with_line s.1) n line
 
--- at the end each message that is still under way is lost, and then the summary is printed
+-- at the end of the log each message that is still under way is lost, and then the summary is printed
 abbrev pub ended_counts : Options → Hearing → Counts
 ended_counts options s = with_each options s.1 (ended s.0.decoder.buses)
 

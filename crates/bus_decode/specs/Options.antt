@@ -12,7 +12,7 @@ abbrev pub is_among : List ℕ → ℕ → Bool
 is_among [] n = false
 is_among (x ∷ xs) n = x == n || is_among xs n
 
--- where no number is named, each is asked for
+-- whether a number is asked for; each is if none is named
 abbrev pub takes : List ℕ → ℕ → Bool
 takes wanted n = length wanted == 0 || is_among wanted n
 
@@ -20,19 +20,19 @@ takes wanted n = length wanted == 0 || is_among wanted n
 abbrev pub is_asked_for : Options → (from to : Address) → (pgn : ℕ) → Bool
 is_asked_for options from to pgn = takes options.pgns pgn && takes options.from from.0 && takes options.to to.0
 
--- what was told is asked for
+-- whether a report is asked for
 abbrev pub is_told_asked : Options → Told → Bool
 is_told_asked options t = is_asked_for options (key_told t).from (key_told t).to (pgn_told t)
 
--- it is printed, unless messages are left out
+-- whether a report is printed: not if messages are left out
 abbrev pub shows : Options → Told → Bool
 shows options t = not options.quiet && is_told_asked options t
 
--- it is counted, where that is asked for
+-- whether it is counted in a summary
 abbrev pub sums_up : Options → Told → Bool
 sums_up options t = options.summary && is_told_asked options t
 
--- frames that carry nothing of a message are looked at, where some are asked for
+-- whether frames that carry nothing of a message are looked at: if some are asked for
 abbrev pub shows_singles : Options → Bool
 shows_singles options = (options.singles || options.explain) && not options.quiet
 
@@ -40,7 +40,7 @@ shows_singles options = (options.singles || options.explain) && not options.quie
 abbrev pub is_single_asked : Options → (pgn : ℕ) → Bool
 is_single_asked options pgn = options.singles || (options.explain && has_form pgn)
 
--- courses are followed where they are printed or counted
+-- whether courses are followed: if they are printed or counted
 abbrev pub follows : Options → Bool
 follows options = options.json || options.frames || options.summary
 

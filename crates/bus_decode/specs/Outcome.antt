@@ -1,4 +1,4 @@
--- What a log tells, line by line, up to its fault.
+-- The outcome of a log, line by line, up to its fault.
 use Rattle.std.specs.Prelude.{ℕ, ◌+◌, ◌-◌, ◌^◌, List, [], ◌∷◌, ◌++◌, length, ◌||◌, Option, Some, None, Result, Ok, Err, nat_lt, nat_le, if◌then◌else◌, codes}
 use Rattle.text_lines.specs.Lines.{lines_of}
 use Rattle.bus_decode.specs.Counts.{no_counts}
@@ -17,7 +17,7 @@ fault_text NotLogLine = codes "not a log line"
 abbrev pub lines_end : ℕ
 lines_end = 2 ^ 64 - 1
 
--- that of a line n that is too long
+-- the fault of a line n that is too long
 abbrev pub limit_fault : ℕ → Fault
 limit_fault n = if nat_le lines_end n then TooManyLines else LineTooLong
 
@@ -25,7 +25,7 @@ limit_fault n = if nat_le lines_end n then TooManyLines else LineTooLong
 unfoldable pub numbered_line : Options → Listening → ℕ → List ℕ → Result Step Fault
 numbered_line options s n line = if nat_le lines_end n || nat_lt 8192 (length line) then Err (limit_fault n) else line_seen options s n line
 
--- what is printed, what was counted, and the fault with its line, where there is one
+-- what is printed, what was counted, and the fault with its line, if there is one
 pub record Outcome : Type 0 where
   pub text : List ℕ
   pub counts : Counts

@@ -1,4 +1,4 @@
--- The frames of a log that are of no message.
+-- The frames of a log that belong to no message.
 use Rattle.std.specs.Prelude.{ℕ, ◌+◌, ◌-◌, ◌^◌, List, ◌++◌, codes, Bool, min, if◌then◌else◌, Option, Some, None}
 use Rattle.std.specs.Fmt.{decimal}
 use Rattle.bus_frame.specs.Frames.{CanFrame}
@@ -15,14 +15,14 @@ more n = min (n + 1) (2 ^ 64 - 1)
 abbrev pub no_strays : Strays
 no_strays = record { packets = 0; windows = 0; acknowledgements = 0 }
 
--- a frame that is of no message counts by its kind
+-- a frame that belongs to no message counts by its kind
 abbrev pub with_stray : Option Stray → Strays → Strays
 with_stray None s = s
 with_stray (Some Packet) s = record s { packets = more s.packets }
 with_stray (Some Window) s = record s { windows = more s.windows }
 with_stray (Some Acknowledgement) s = record s { acknowledgements = more s.acknowledgements }
 
--- an end acknowledgement of the message that was given last is of that message
+-- an end acknowledgement of the message that was given last belongs to that message
 abbrev pub kept_unless : Awaited × Bool → Awaited × Option Stray
 kept_unless m = (m.0, if m.1 then None else Some Acknowledgement)
 

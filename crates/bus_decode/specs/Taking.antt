@@ -15,21 +15,21 @@ use Rattle.bus_decode.specs.declared.taking.Turn.TheVariants.{Line, End, Open}
 abbrev pub listening_of : Run → Listening
 listening_of run = ((run.listener, run.form), run.counts)
 
--- what further lines tell
+-- the outcome of further lines
 abbrev pub further : Options → Run → List (List ℕ) → Outcome
 further options run lines = outcome_from options (listening_of run) run.number lines
 
--- from known bytes a, now b: what the rest tells completes what all tells
+-- from known bytes a, now b: the outcome of the rest completes that of the whole
 pub record GoesOn (a b : Option (List ℕ)) (rest whole : Outcome) : Type 0 where
   pub text : Appends a (append_known b rest.text) whole.text
   pub counts : rest.counts ≡ whole.counts
   pub fault : rest.fault ≡ whole.fault
 
--- the number goes on by a line, and a log may have that line
+-- the number advances by a line, and a log may have that line
 abbrev pub IsNumbered : (old new : Run) → Type 0
 IsNumbered old new = (new.number ≡ old.number + 1) × (old.number < lines_end)
 
--- a line was taken so: whatever lines come behind it, what they tell completes what it tells with them; or it ends the run
+-- a line was taken: whatever lines follow it, their outcome completes that of all of them; or it ends the run
 abbrev pub TakesText : Result (Unit {0}) Cause → Options → (old new : Run) → (line : List ℕ) → (a b : Option (List ℕ)) → Type 0
 TakesText (Ok done) options old new line a b = ((lines : List (List ℕ)) → GoesOn a b (further options new lines) (further options old (line ∷ lines))) × IsNumbered old new
 TakesText (Err cause) options old new line a b = (lines : List (List ℕ)) → EndedByCause new.number cause new.counts a b (further options old (line ∷ lines))
@@ -38,14 +38,14 @@ TakesText (Err cause) options old new line a b = (lines : List (List ℕ)) → E
 abbrev pub IsAsBefore : (old new : Run) → Type 0
 IsAsBefore old new = (listening_of new ≡ listening_of old) × (new.number ≡ old.number)
 
--- of a reader's bytes, ra before and rb afterwards, the next line was taken so, a being written before and b afterwards
+-- the next line of a reader was taken: the reader's bytes were ra and are rb, and the writer's were a and are b
 abbrev pub Takes : Result Turn Cause → Options → (old new : Run) → (ra rb a b : Option (List ℕ)) → Type 0
 Takes (Ok Line) options old new ra rb a b = Known ra rb (λ all rest. GoesOn a b (further options new (lines_of rest)) (further options old (lines_of all))) × IsNumbered old new
 Takes (Ok End) options old new ra rb a b = IfSome ra (λ all. lines_of all ≡ []) × Keeps a b × IsAsBefore old new
 Takes (Ok Open) options old new ra rb a b = Keeps ra rb × Keeps a b × IsAsBefore old new
 Takes (Err cause) options old new ra rb a b = IfSome ra (λ all. EndedByCause new.number cause new.counts a b (further options old (lines_of all)))
 
--- and whether there was one
+-- the next line of a reader was taken, or there was none
 abbrev pub TakesNext : Result Bool Cause → Options → (old new : Run) → (ra rb a b : Option (List ℕ)) → Type 0
 TakesNext (Ok true) options old new ra rb a b = Takes (Ok Line) options old new ra rb a b
 TakesNext (Ok false) options old new ra rb a b = Takes (Ok End) options old new ra rb a b

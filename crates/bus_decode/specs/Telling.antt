@@ -1,4 +1,4 @@
--- What is printed of what was told.
+-- The printed text of the reports.
 use Rattle.std.specs.Prelude.{ℕ, List, [], ◌∷◌, ◌++◌, flat_map, ◌&&◌, if◌then◌else◌}
 use Rattle.bus_frame.specs.Frames.{CanFrame}
 use Rattle.pgn_ids.specs.Identifier.{meaning_of}
@@ -21,23 +21,23 @@ use Rattle.bus_decode.specs.Options.{is_asked_for, shows, is_single_asked, follo
 use Rattle.bus_decode.specs.declared.followed.Followed.{Followed}
 use Rattle.bus_decode.specs.declared.options.Options.{Options}
 
--- a message in words, where these are asked for
+-- a message in words, if these are asked for
 abbrev pub in_words : Options → (pgn : ℕ) → List ℕ → List (List ℕ)
 in_words options pgn bytes = if options.explain then explained pgn bytes else []
 
--- what was told in words: a message that was given
+-- a report in words: only a message that was given has some
 abbrev pub words_told : Options → Told → List (List ℕ)
 words_told options (Given key pgn bytes) = in_words options pgn bytes
 words_told options (Aborted key pgn reason who) = []
 words_told options (Lost key pgn have size cause) = []
 
--- a message that was told at a time, in words too, with the frames that are listed of its course
+-- the text of a report at a time, with its words, and with the frames that are listed of its course
 abbrev pub message_text : Options → (now : ℕ) → Course → Told → List ℕ
 message_text options now c t =
     if options.json then told_object (detail_of options) now c (words_told options t) t
     else (told_line now t ++ words_lines (words_told options t)) ++ mark_lines c.marks
 
--- where it is shown
+-- the text of a report, if it is shown
 abbrev pub shown_text : Options → (now : ℕ) → Course → Told → List ℕ
 shown_text options now c t = if shows options t then message_text options now c t else []
 
@@ -46,18 +46,18 @@ abbrev pub followed_text : Place → Options → List Told → Followed → List
 followed_text place options [] f = []
 followed_text place options (t ∷ ts) f = shown_text options place.time (course_of (detail_of options) place t f.courses) t ++ followed_text place options ts (after_told options place t f)
 
--- where no course is followed
+-- the text of a report, if no course is followed
 abbrev pub plain_line : (now : ℕ) → Options → Told → List ℕ
 plain_line now options t = if shows options t then told_line now t ++ words_lines (words_told options t) else []
 
 abbrev pub plain_text : (now : ℕ) → Options → List Told → List ℕ
 plain_text now options told = flat_map (plain_line now options) told
 
--- what was told at a frame
+-- the text of the reports at a frame
 abbrev pub told_text : Place → Options → List Told → Followed → List ℕ
 told_text place options told f = if follows options then followed_text place options told f else plain_text place.time options told
 
--- the summary of a log that has ended, where it is asked for
+-- the summary of a log that has ended, if it is asked for
 abbrev pub summary_text : Options → Summary → List ℕ
 summary_text options s = if options.summary then (if options.json then row_objects s else table_text s) else []
 
@@ -65,7 +65,7 @@ summary_text options s = if options.summary then (if options.json then row_objec
 abbrev pub frame_text : (now : ℕ) → Iface → Options → CanFrame → List (List ℕ) → List ℕ
 frame_text now iface options frame words = if options.json then single_object now iface words frame else single_line now iface frame ++ words_lines words
 
--- where it is asked for
+-- a frame that carries nothing of a message, if it is asked for
 abbrev pub single_text : (now : ℕ) → Iface → Options → CanFrame → List ℕ
 single_text now iface options frame =
     let m = meaning_of frame.id in

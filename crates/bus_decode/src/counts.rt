@@ -11,7 +11,7 @@ use log_decode::{Stray, Told};
 use std::fmt;
 use tp_wire::{is_transport, read};
 
-/// What was counted of a log. Each number stays at 2^64 - 1 where it would pass it.
+/// What was counted of a log. A number that would pass 2^64 - 1 stays there.
 #[derive(Clone, Copy, Debug, PartialEq, Eq)]
 pub struct Counts {
     /// Lines that were read.
@@ -28,7 +28,7 @@ pub struct Counts {
     pub transport: u64,
     /// Frames of those that mean nothing.
     pub malformed: u64,
-    /// Frames of a transport that are of no message.
+    /// Frames of a transport that belong to no message.
     pub strays: Strays,
     /// Messages that were given.
     pub messages: u64,
@@ -102,14 +102,14 @@ impl Counts {
         }
     }
 
-    /// A frame was seen that is of no message, or one of a message or of none at all.
+    /// Counts a frame by its kind, if it belongs to no message.
     pub(crate) fn add_stray(&mut self, stray: Option<Stray>)
         ensures { self.new ≡ with_strays stray self.old }
     {
         self.strays.add(stray);
     }
 
-    /// Something was told.
+    /// Counts a report.
     fn add_told(&mut self, told: &Told)
         ensures { self.new ≡ with_told told.now self.old }
     {
@@ -120,7 +120,7 @@ impl Counts {
         }
     }
 
-    /// Something was told; it is counted where it was asked for.
+    /// Counts a report, if it was asked for.
     fn add_asked(&mut self, options: &Options, told: &Told)
         ensures { self.new ≡ with_asked options.now self.old told.now }
     {
@@ -129,7 +129,7 @@ impl Counts {
         }
     }
 
-    /// So much was told.
+    /// Counts the reports.
     pub(crate) fn add_each(&mut self, options: &Options, told: &[Told])
         ensures { self.new ≡ with_each options.now self.old told.now }
     {
@@ -147,7 +147,7 @@ fn put_lines<W: fmt::Write>(counts: &Counts, f: &mut fmt::Formatter<W>) -> fmt::
     write!(f, "lines {lines} passed {passed} frames {frames}")
 }
 
-/// What of it was of a transport, or came late.
+/// The counts of frames: those of a transport, and the late ones.
 fn put_frames<W: fmt::Write>(counts: &Counts, f: &mut fmt::Formatter<W>) -> fmt::Result
     ensures { DisplaysOnOk W.write_str_gives f.old result (Some (frames_text counts.now)) f.new }
 {
@@ -158,7 +158,7 @@ fn put_frames<W: fmt::Write>(counts: &Counts, f: &mut fmt::Formatter<W>) -> fmt:
     )
 }
 
-/// What came of its messages.
+/// The counts of messages, by how they ended.
 fn put_messages<W: fmt::Write>(counts: &Counts, f: &mut fmt::Formatter<W>) -> fmt::Result
     ensures { DisplaysOnOk W.write_str_gives f.old result (Some (messages_text counts.now)) f.new }
 {
@@ -166,7 +166,7 @@ fn put_messages<W: fmt::Write>(counts: &Counts, f: &mut fmt::Formatter<W>) -> fm
     write!(f, " messages {messages} aborted {aborted} lost {lost}")
 }
 
-/// What is said of a log of which lines were wrong, or none shows a frame.
+/// Puts the words for a log in which lines were wrong, or none shows a frame.
 fn put_rest<W: fmt::Write>(counts: &Counts, f: &mut fmt::Formatter<W>) -> fmt::Result
     ensures { DisplaysOnOk W.write_str_gives f.old result (Some (rest_text counts.now)) f.new }
 {

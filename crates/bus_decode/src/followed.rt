@@ -10,14 +10,15 @@ use log_summary::Summary;
 use log_text::Iface;
 use std::alloc::{AllocError, Global};
 
-/// The courses of the messages under way, and what is counted of those that were told, where these are asked for; else none.
+/// The courses of the messages under way, and the counts of those that were reported, if these are asked for; else
+/// none.
 #[derive(Drop)]
 pub(crate) struct Followed {
     pub(crate) courses: Courses,
     pub(crate) summary: Summary,
 }
 
-/// A message that is told is counted with its course, where that is asked for.
+/// Counts a reported message with its course, if that is asked for.
 pub(crate) fn sum_up(
     summary: &mut Summary,
     options: &Options,
@@ -32,7 +33,7 @@ pub(crate) fn sum_up(
     Ok(())
 }
 
-/// A frame is counted, where that is asked for.
+/// Counts a frame, if that is asked for.
 fn sum_frame(summary: &mut Summary, options: &Options, iface: Iface) -> Result<(), AllocError>
     ensures { OnOk result (summary.new ≡ frame_summed options.now iface summary.old) }
 {
@@ -53,7 +54,7 @@ impl Followed {
         }
     }
 
-    /// A frame is seen at which this was told.
+    /// A frame is seen that has these reports.
     pub(crate) fn hear(
         &mut self,
         alloc: Global,

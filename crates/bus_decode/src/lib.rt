@@ -1,5 +1,5 @@
 //! The messages of a recorded bus, read from a log and printed: `run_decode` reads the lines of a log as `candump -L` writes them and
-//! prints each transport message of it, or why there is none, where that is known.
+//! prints each transport message of it, or why there is none, if that is known.
 #![tactic(auto)]
 
 mod counts;

@@ -18,7 +18,7 @@ pub(crate) struct Listener {
 }
 
 impl Listener {
-    /// One that heard nothing. It takes no memory.
+    /// A listener that heard nothing. It takes no memory.
     pub(crate) fn new(alloc: Global, most: u32) -> Listener
         ensures { result ≡ first_listener most }
     {

@@ -1,4 +1,4 @@
-//! A line of a log, and what it tells.
+//! A line of a log, and its output.
 ghost use Rattle.std.specs.Prelude.{◌≡◌, ◌++◌, OnOk};
 ghost use Rattle.bus_decode.specs.Listening.{is_asking, single, frame_seen, shown_seen, form_with, seen_as, line_seen, Seen, Read, ended_counts, ended_text};
 ghost use Rattle.bus_decode.specs.declared.listening.LineError.TheVariants.{OutOfMemory};
@@ -16,7 +16,7 @@ use std::alloc::{AllocError, Global};
 use tp_wire::constants::{ACKNOWLEDGEMENT, REQUEST};
 use tp_wire::is_transport;
 
-/// Why a line tells nothing.
+/// Why a line has no output.
 #[derive(Clone, Copy, PartialEq, Eq)]
 pub(crate) enum LineError {
     /// Memory was refused.
@@ -41,7 +41,7 @@ fn is_asking(frame: &Frame) -> bool
     pgn == REQUEST || pgn == ACKNOWLEDGEMENT
 }
 
-/// The line of a frame, where it carries nothing of a message, and is asked for.
+/// The line of a frame, if it carries nothing of a message, and is asked for.
 fn put_other(
     alloc: Global,
     out: &mut Vec<u8>,
@@ -159,7 +159,7 @@ fn take_line_as(
     }
 }
 
-/// A line is read, by its number. What it tells is put behind what `out` holds.
+/// Reads a line with its number. Its output is put behind what `out` holds.
 pub(crate) fn take_line(
     alloc: Global,
     listener: &mut Listener,
@@ -178,7 +178,7 @@ pub(crate) fn take_line(
     take_line_as(alloc, listener, known, counts, options, number, line, out)
 }
 
-/// The log ends. What that tells is put behind what `out` holds.
+/// The log ends. The output of that is put behind what `out` holds.
 pub(crate) fn take_end(
     alloc: Global,
     listener: Listener,

@@ -9,7 +9,7 @@ use pgn_ids::{Address, Pgn};
 use std::alloc::{AllocError, Global};
 use std::marker::Model;
 
-/// Numbers that are asked for. Where none is named, each is.
+/// Numbers that are asked for. If none is named, each is.
 #[derive(Debug, Drop)]
 pub struct Wanted {
     named: Vec<u32>,
@@ -73,15 +73,15 @@ pub struct Options {
     pub most: u32,
     /// Whether frames that carry nothing of a message are printed too: those that aren't of a transport, Requests and Acknowledgements.
     pub singles: bool,
-    /// Whether a wrong line ends the run; else it is told, and the log goes on.
+    /// Whether a wrong line ends the run; else it is reported, and the next line is read.
     pub strict: bool,
     /// Whether each line is a JSON object.
     pub json: bool,
-    /// Whether the frames of each message are listed, but for its packets.
+    /// Whether the frames of each message are listed, except its packets.
     pub frames: bool,
     /// Whether messages whose form is known are shown in words too, and single frames that have such a message.
     pub explain: bool,
-    /// Whether what came of the messages is counted, and printed as a table where the log ends.
+    /// Whether the ends of the messages are counted, and printed as a table at the end of the log.
     pub summary: bool,
     /// Whether neither messages nor frames are printed.
     pub quiet: bool,
@@ -97,7 +97,7 @@ impl Options {
             && self.to.takes(u32::from(to.0))
     }
 
-    /// Whether what was told is asked for.
+    /// Whether a report is asked for.
     pub(crate) fn ask_for_told(&self, told: &Told) -> bool
         ensures { result ≡ is_told_asked self.now told.now }
     {
@@ -105,14 +105,14 @@ impl Options {
         self.ask_for(key.from, key.to, pgn_told(told))
     }
 
-    /// Whether what was told is printed.
+    /// Whether a report is printed.
     pub(crate) fn shows(&self, told: &Told) -> bool
         ensures { result ≡ shows self.now told.now }
     {
         !self.quiet && self.ask_for_told(told)
     }
 
-    /// Whether what was told is counted in a summary.
+    /// Whether a report is counted in a summary.
     pub(crate) fn sums_up(&self, told: &Told) -> bool
         ensures { result ≡ sums_up self.now told.now }
     {

@@ -20,7 +20,7 @@ pub enum Fault {
     TooManyLines,
     /// The line has more than 8,192 bytes.
     LineTooLong,
-    /// The line begins as a frame of the log's form, and goes on otherwise.
+    /// The line begins as a frame of the log's form, but continues differently.
     NotLogLine,
 }
 
@@ -49,14 +49,14 @@ pub enum Cause {
     Fault(Fault),
 }
 
-/// Where a log wasn't read on, and why. Lines count from 1.
+/// The line at which reading a log ended, and why. Lines count from 1.
 #[derive(Clone, Copy, Debug, PartialEq, Eq)]
 pub struct LogFault {
     pub line: u64,
     pub cause: Cause,
 }
 
-/// What came of a log.
+/// The result of reading a log.
 #[derive(Clone, Copy, Debug, PartialEq, Eq)]
 pub struct Decoded {
     /// What was counted.
@@ -74,7 +74,7 @@ fn failed(line: u64, cause: Cause, counts: Counts) -> Decoded
     }
 }
 
-/// The log ends: what that tells is written and flushed.
+/// The log ends: the output of that is written and flushed.
 #[tactic(auto, using(text_lines::proofs::Known::front_none, crate::proofs::RunSteps::keeps_front))]
 fn end_run<W: Write>(alloc: Global, options: &Options, run: Run, writer: &mut W) -> Decoded
     ensures { Ended result (W.contents writer.old) (W.contents writer.new) (last_outcome options.now (run.listener, run.counts)) }
@@ -115,13 +115,13 @@ fn last_cause<W: Write>(cause: Cause, is_flushed: &mut bool, writer: &mut W) -> 
     cause
 }
 
-/// Reads a log to its end, and writes what each line tells before the next one is read. What was written is flushed before the reader is asked
-/// for more than it holds, so at the latest if it holds no further whole line, and where the run ends. It ends at the first fault: a wrong line is
-/// one where the options say so, else it is told by its number.
+/// Reads a log to its end, and writes the output of each line before the next one is read. The output is flushed before the reader is asked for
+/// more than it holds: at the latest when it holds no further whole line, and at the end. The run ends at the first fault: a wrong line is one if
+/// the options say so, else it is reported by its number.
 ///
-/// Unless it reports a failed read or write or refused memory, exactly the text of the log was written, and counts and fault are those of
-/// the log. Where it reports one of these, a front of that text was written. A line is looked at where the reader holds it; one that goes over
-/// the end of what it holds is copied, which takes memory for it.
+/// Unless it reports a failed read or write or refused memory, exactly the text of the log was written, and counts and fault are those of the log.
+/// If it reports one of these, a front of that text was written. A line is looked at in the reader's buffer; one that crosses the end of the
+/// buffer is copied, which takes memory for it.
 pub fn run_decode<R: BufRead, W: Write>(
     alloc: Global,
     options: &Options,
@@ -160,7 +160,7 @@ impl fmt::Display for LogFault {
 }
 
 impl Decoded {
-    /// The status of a program that read this log: 0 where it was read to its end and no line of it was wrong, else 1.
+    /// The status of a program that read this log: 0 if it was read to its end and no line of it was wrong, else 1.
     pub fn status(&self) -> u8
         ensures { result ≡ status_of self.now }
     {

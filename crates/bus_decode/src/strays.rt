@@ -1,4 +1,4 @@
-//! The frames of a log that are of no message.
+//! The frames of a log that belong to no message.
 ghost use Rattle.std.specs.Prelude.{◌≡◌, Some, IfOk};
 ghost use Rattle.std.specs.Fmt.{DisplaysOnOk};
 ghost use Rattle.bus_decode.specs.Strays.{no_strays, with_stray, stray_left, parts_text, ends_text, strays_text};
@@ -10,7 +10,7 @@ use log_text::Iface;
 use std::alloc::AllocError;
 use std::fmt;
 
-/// The frames of a transport that are of no message, by their kind. Each number stays at 2^64 - 1 where it would pass it.
+/// The frames of a transport that belong to no message, by their kind. A number that would pass 2^64 - 1 stays there.
 #[derive(Clone, Copy, Debug, PartialEq, Eq)]
 pub struct Strays {
     /// Packets.
@@ -33,7 +33,7 @@ impl Strays {
         }
     }
 
-    /// One was seen, or none.
+    /// Counts a stray frame, if one was seen.
     pub(crate) fn add(&mut self, stray: Option<Stray>)
         ensures { self.new ≡ with_stray stray self.old }
     {
@@ -48,7 +48,8 @@ impl Strays {
     }
 }
 
-/// What a frame is of whose message none is under way. The end acknowledgement of the message that was given last is of that.
+/// The kind of a frame whose message isn't under way. The end acknowledgement of the message that was given last
+/// belongs to that.
 pub(crate) fn stray_left(
     awaited: &mut Awaited,
     stray: Option<Stray>,

@@ -1,4 +1,4 @@
-//! The next line of a log: it is looked at where it lies in what the reader holds, and copied only if it goes over the end of that.
+//! The next line of a log: it is looked at in the reader's buffer, and copied only if it crosses the buffer's end.
 ghost use Rattle.std.specs.Prelude.{◌≡◌, ◌≤◌, true, length, None, IsOk, OnOk};
 ghost use Rattle.std.specs.Io.KnownBytes.{Keeps};
 ghost use Rattle.bus_decode.specs.Ending.{cause_of, read_cause};
@@ -28,7 +28,7 @@ pub(crate) struct Run {
     pub(crate) number: u64,
     /// Whether all that was written is flushed.
     pub(crate) is_flushed: bool,
-    /// Room for what a line tells.
+    /// Room for the output of a line.
     pub(crate) told: Vec<u8>,
 }
 
@@ -49,14 +49,14 @@ impl Run {
     }
 }
 
-/// What came of the next line.
+/// The result of the next line.
 #[derive(Clone, Copy, PartialEq, Eq)]
 pub(crate) enum Turn {
     /// It was taken.
     Line,
-    /// There is none.
+    /// There is no next line.
     End,
-    /// It doesn't lie whole in what the reader holds, and wasn't taken.
+    /// A part of it isn't in the reader's buffer, and it wasn't taken.
     Open,
 }
 
@@ -108,7 +108,7 @@ pub(crate) fn flush_told<W: Write>(is_flushed: &mut bool, writer: &mut W) -> Res
     Ok(())
 }
 
-/// The next line is this text: it is read, and what it tells is written.
+/// The next line is this text: it is read, and its output is written.
 fn take_text<W: Write>(
     alloc: Global,
     options: &Options,
@@ -149,8 +149,8 @@ fn take_text<W: Write>(
     Ok(())
 }
 
-/// Takes the next line where it lies, if it lies whole in what the reader holds. If that ends with the line, the reader waits for more when it
-/// is asked next, so what was told is flushed.
+/// Takes the next line from the reader's buffer, if the whole line is there. If the buffer ends with the line, the reader waits for more when
+/// it is asked next, so the output is flushed.
 fn take_held<R: BufRead, W: Write>(
     alloc: Global,
     options: &Options,
@@ -219,7 +219,7 @@ fn take_copied<R: BufRead, W: Write>(
     Ok(Turn::Line)
 }
 
-/// Takes the next line, and says whether there was one. What was told is flushed before the reader is asked for more than it holds.
+/// Takes the next line, and says whether there was one. The output is flushed before the reader is asked for more than it holds.
 pub(crate) fn take_next<R: BufRead, W: Write>(
     alloc: Global,
     options: &Options,

@@ -1,4 +1,4 @@
-//! What is printed of what was told, as the options say.
+//! The printed text of the reports, as the options say.
 ghost use Rattle.std.specs.Prelude.{◌≡◌, ◌++◌, IfOk, OnOk, if◌then◌else◌};
 ghost use Rattle.log_lines.specs.Explained.{words_lines};
 ghost use Rattle.log_lines.specs.Text.{told_line};
@@ -22,7 +22,7 @@ use pgn_ids::{Pgn, read_id};
 use std::alloc::{AllocError, Global};
 use summary_lines::{put_row_objects, put_table};
 
-/// The lines of a message in words, where these are asked for.
+/// The lines of a message in words, if these are asked for.
 fn in_words(
     alloc: Global,
     options: &Options,
@@ -37,7 +37,7 @@ fn in_words(
     Ok(Vec::new(alloc))
 }
 
-/// The same of what was told: of a message that was given.
+/// The lines of a report in words: only a message that was given has some.
 fn words_told(alloc: Global, options: &Options, told: &Told) -> Result<Vec<Line>, AllocError>
     ensures { IfOk result (λ lines. lines.items ≡ words_told options.now told.now) }
 {
@@ -56,7 +56,7 @@ fn put_lines(out: &mut Vec<u8>, now: u64, told: &Told, words: &[Line]) -> Result
     put_explained(out, words)
 }
 
-/// A message that was told at a time.
+/// Puts the report on a message at a time.
 fn put_message(
     alloc: Global,
     out: &mut Vec<u8>,
@@ -75,7 +75,7 @@ fn put_message(
     put_marks(out, course.marks.as_slice())
 }
 
-/// The same, where it is shown.
+/// Puts the report on a message, if it is shown.
 fn put_shown(
     alloc: Global,
     out: &mut Vec<u8>,
@@ -92,7 +92,7 @@ fn put_shown(
     Ok(())
 }
 
-/// What was told at a frame, each with its course, which is taken out.
+/// Puts the reports at a frame, each with its course, which is taken out.
 fn put_followed(
     alloc: Global,
     out: &mut Vec<u8>,
@@ -112,7 +112,7 @@ fn put_followed(
     Ok(())
 }
 
-/// The lines of a message without its course, where it is shown.
+/// Puts the lines of a message without its course, if it is shown.
 fn put_line(
     alloc: Global,
     out: &mut Vec<u8>,
@@ -129,7 +129,7 @@ fn put_line(
     Ok(())
 }
 
-/// What was told at a time, where no course is followed.
+/// Puts the reports at a time, if no course is followed.
 fn put_plain(
     alloc: Global,
     out: &mut Vec<u8>,
@@ -145,7 +145,7 @@ fn put_plain(
     Ok(())
 }
 
-/// What was told where the log ends. Where courses are followed, those of what was told are taken out.
+/// Puts the reports at the end of the log. If courses are followed, those of the reports are taken out.
 pub(crate) fn tell(
     alloc: Global,
     out: &mut Vec<u8>,
@@ -163,7 +163,7 @@ pub(crate) fn tell(
     put_plain(alloc, out, place.time, options, told)
 }
 
-/// What was told at a frame; then the messages that go on have one more, where courses are followed.
+/// Puts the reports at a frame. If courses are followed, those of the messages that continue have one frame more.
 pub(crate) fn tell_frame(
     alloc: Global,
     out: &mut Vec<u8>,
@@ -199,7 +199,7 @@ fn put_summary(
     }
 }
 
-/// The summary of a log that has ended, where it is asked for.
+/// Puts the summary of a log that has ended, if it is asked for.
 pub(crate) fn tell_summary(
     alloc: Global,
     out: &mut Vec<u8>,
@@ -232,7 +232,7 @@ fn put_frame(
     put_explained(out, words)
 }
 
-/// The same, with the words of a PGN.
+/// Puts a frame with the words of its PGN.
 fn put_in_words(
     alloc: Global,
     out: &mut Vec<u8>,
@@ -248,7 +248,7 @@ fn put_in_words(
     put_frame(out, now, iface, options, words.as_slice(), frame)
 }
 
-/// A frame that carries nothing of a message, where it is asked for.
+/// Puts a frame that carries nothing of a message, if it is asked for.
 pub(crate) fn tell_single(
     alloc: Global,
     out: &mut Vec<u8>,

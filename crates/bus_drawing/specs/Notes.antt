@@ -1,4 +1,4 @@
--- The notes of what is told.
+-- The notes of events.
 use Rattle.std.specs.Prelude.{ℕ, List, ◌++◌, length, flat_map, codes}
 use Rattle.std.specs.Fmt.{decimal}
 use Rattle.pgn_ids.specs.declared.address.Address.{Address}

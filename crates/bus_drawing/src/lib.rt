@@ -1,7 +1,7 @@
-//! What stations tell in a drawing of a bus, as notes of a sequence diagram in Mermaid. Each call puts whole lines behind what a buffer holds
-//! already.
+//! The events of stations in a drawing of a bus, as notes of a sequence diagram in Mermaid. Each call puts whole lines behind what a buffer
+//! holds already.
 //!
-//! A call fails only where memory is refused; what the buffer holds then is not said.
+//! A call fails only if memory is refused; what the buffer holds then is not specified.
 #![tactic(auto)]
 
 mod notes;

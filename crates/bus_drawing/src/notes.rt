@@ -1,4 +1,4 @@
-//! The notes of what is told.
+//! The notes of events.
 ghost use Rattle.std.specs.Prelude.{◌≡◌, ◌++◌, OnOk, codes};
 ghost use Rattle.frame_arrows.specs.Words.{name_of, length_words};
 ghost use Rattle.bus_drawing.specs.Notes.{note_over, note_line, pgn_words, message_words, given_words, outcome_words, event_note, notes};

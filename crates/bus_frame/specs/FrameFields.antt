@@ -1,11 +1,11 @@
--- A frame as it is kept: eight bytes, of which the first `len` are its data and the others 0.
+-- A frame as it is kept: eight bytes. The first `len` are its data, and the others are 0.
 use Rattle.std.specs.Prelude.{◌≡◌, ◌-◌, ◌≤◌, ◌++◌, length, take, drop, replicate}
 use Rattle.std.proofs.Common.{refl, arith, length-take-le}
 use Rattle.std.proofs.lemmas.List.{take-append-drop}
 use Rattle.bus_frame.specs.Frames.{CanFrame}
 use Rattle.bus_frame.specs.declared.frame.Frame.TheInside.{Inside}
 
--- the frame that the kept bytes stand for
+-- the frame that the kept bytes represent
 abbrev pub frame_value : Inside → CanFrame
 frame_value f = record { id = f.id; bytes = take f.len f.kept }
 

@@ -6,7 +6,7 @@ use Rattle.bus_frame.specs.declared.can_id.IdParts.{IdParts}
 abbrev pub id_value : IdParts → ℕ
 id_value p = p.priority * 2 ^ 26 + p.edp * 2 ^ 25 + p.dp * 2 ^ 24 + p.pf * 2 ^ 16 + p.ps * 2 ^ 8 + p.sa
 
--- the same parts, taken off an identifier
+-- the parts of an identifier
 abbrev pub id_parts : ℕ → IdParts
 id_parts n = record {
   priority = n / 2 ^ 26;

@@ -45,7 +45,7 @@ pub struct IdParts {
 }
 
 impl CanId {
-    /// The identifier with this number, refused exactly where that is above 29 bits.
+    /// The identifier with this number. Refused exactly if the number has more than 29 bits.
     pub fn new(raw: u32) -> Result<CanId, IdTooLarge>
         ensures { MatchResult result (λ id. (id ≡ raw) × (raw < 2 ^ 29)) (λ _. 2 ^ 29 ≤ raw) }
     {
@@ -78,7 +78,7 @@ impl CanId {
         }
     }
 
-    /// The identifier with these parts, each of which is in its range.
+    /// The identifier with these parts, each in its range.
     pub fn from_parts(parts: IdParts) -> CanId
         requires priority { parts.priority < 8 }
         requires edp { parts.edp < 2 }

@@ -39,7 +39,7 @@ impl Model for Frame {
 }
 
 impl Frame {
-    /// The frame with this identifier and these bytes, refused exactly where there are more than 8.
+    /// The frame with this identifier and these bytes. Refused exactly if there are more than 8.
     pub fn new(id: CanId, bytes: &[u8]) -> Result<Frame, DataTooLong>
         ensures { MatchResult result (λ f. (f ≡ record { id = id; bytes = bytes.now }) × (length bytes.now ≤ 8)) (λ _. 8 < length bytes.now) }
     {

@@ -15,8 +15,8 @@ use std::sync::Wait;
 use std::thread;
 use std::thread::Threads;
 
-// The threads of the segment, and one that watches. None begins before all are made: where one can't be, the others end at once, so
-// that nobody waits for it. What they hand back, and whether the bus is drained.
+// The threads of the segment, and one that watches. None begins before all are made: if one can't be made, the others end at once,
+// so that nobody waits for it. Returns what they hand back, and whether the bus is drained.
 fn in_threads<R: Threads + Wait + Sync, G: Gate + Sync>(
     rt: &R,
     alloc: Global,
@@ -70,7 +70,7 @@ fn run_shared<R: Threads + Wait + Sync, G: Gate + Sync>(
     Ok(handed)
 }
 
-// Reports on the clients and inboxes, and gives the text of what the threads came to.
+// Reports on the clients and inboxes, and returns the text of what the threads left.
 fn tell_end(
     alloc: Global,
     live: &mut Live,
@@ -139,7 +139,7 @@ fn run_named<R: Threads + Wait + Sync, G: Gate + Sync>(
     run_segment(rt, alloc, live.into_live(), inboxes, names, gate, turns)
 }
 
-// Runs what was set up, where there are stations.
+// Runs what was set up, if there are stations.
 fn run<R: Threads + Wait + Sync, G: Gate + Sync>(
     rt: &R,
     alloc: Global,
@@ -160,17 +160,17 @@ fn run<R: Threads + Wait + Sync, G: Gate + Sync>(
     Ok(told)
 }
 
-/// Reads a script of `stations`, `open` and `send` lines, runs it by threads, each worker with at most so many turns, and
-/// writes what the ports were given and how the messages ended.
+/// Reads a script of `stations`, `open` and `send` lines, runs it by threads, each worker with at most so many turns, and writes
+/// what the ports were given and how the messages ended.
 ///
-/// The lines that are refused are written before the threads run. At a fault of the script nothing else is written, and the
-/// fault is told. Where there is none, what follows is exactly the stated text of a record of calls on a segment of the script's
-/// stations, for which the headline holds: the script's ports by rising station and number, each with what that record gives to
-/// it, by rising sender and destination, then the outcomes by rising sender, destination and number, and whether the turns ran
-/// out. Unless they did, each message of the script has its outcome there. Where a read or a write failed or memory was refused,
-/// a front of that was written.
+/// The lines that are refused are written before the threads run. At a fault of the script nothing else is written, and the fault
+/// is returned. Otherwise the text that follows is exactly the stated text of a record of calls on a segment of the script's
+/// stations, for which the headline holds. It has the script's ports by rising station and number, each with what that record gives
+/// to it, by rising sender and destination; then the outcomes by rising sender, destination and number, and whether the turns ran
+/// out. Unless they did, each message of the script has its outcome there. If a read or a write failed or memory was refused, a
+/// front of that was written.
 ///
-/// Nothing is promised of which calls the threads make.
+/// Nothing is promised about which calls the threads make.
 pub fn run_live<T: Threads + Wait + Sync, R: BufRead, W: Write, G: Gate + Sync>(
     rt: &T,
     alloc: Global,

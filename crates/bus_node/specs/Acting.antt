@@ -27,7 +27,7 @@ use Rattle.bus_node.specs.Time.{settled, at_time}
 use Rattle.line_runs.specs.declared.running.Told.{Told}
 use Rattle.line_runs.specs.declared.running.Told.TheVariants.{Answered, NoMemory}
 
--- a line is counted, and has told nothing yet
+-- a line is counted, and has printed nothing yet
 abbrev pub begun : Node → Node
 begun n = record n { counts = with_line n.counts; text = [] }
 
@@ -35,8 +35,8 @@ abbrev pub due_text : Option ℕ → List ℕ
 due_text None = codes "none"
 due_text (Some tick) = decimal tick
 
--- the tick at which the clock stands, how many frames wait to be put, and the tick at which something is due; how many lanes are in doubt,
--- and how many have a message that waits or is under way
+-- the tick of the clock, how many frames wait to be put, and the tick at which something is due; how many lanes are in doubt, and how many
+-- have a message that waits or is under way
 unfoldable pub state_line : Node → List ℕ
 state_line n = line (codes "state " ++ decimal n.station.segment.now ++ codes " " ++ decimal (queue_len n.station.segment n.station.address) ++ codes " " ++ due_text (next_due n) ++ lane_counts_text (lanes_in_doubt n) (lanes_pending n))
 
@@ -70,15 +70,16 @@ acted n (Now time) = n
 acted n (Frame time iface frame) = heard n frame
 acted n (Command command) = commanded n command
 
--- what a line before found no memory to tell is told, and the time goes on to that of a line
+-- the events that a line before found no memory to print are printed, and the clock advances to the time of a line
 abbrev pub come_to : Node → Option ℕ → Node
 come_to n time = at_time (events_told n) time
 
--- then it is acted on, then all is done that is to be done at that tick
+-- the clock advances, the line is acted on, and then all is done that is due at that tick
 unfoldable pub followed : Node → NodeLine → Node
 followed n meant = settled (acted (come_to n (time_in meant)) meant)
 
--- so is a line that shows a frame of the node's interface or none; one that shows a frame of another says nothing, not even the time
+-- a line is followed if it shows a frame of the node's interface or none; one that shows a frame of another says nothing, not even the
+-- time
 abbrev pub obeyed_on : Node → NodeLine → Option Iface → Node
 obeyed_on n meant None = followed n meant
 obeyed_on n meant (Some iface) = if is_other n iface then passed_over n iface else followed (joined n iface) meant
@@ -86,7 +87,7 @@ obeyed_on n meant (Some iface) = if is_other n iface then passed_over n iface el
 unfoldable pub obeyed : Node → NodeLine → Node
 obeyed n meant = obeyed_on n meant (shown_on meant)
 
--- it is wrong if it means nothing
+-- a line is wrong if it means nothing
 abbrev pub obeyed_or_wrong : Node → Result NodeLine Fault → Result Node Fault
 obeyed_or_wrong n (Ok meant) = Ok (obeyed n meant)
 obeyed_or_wrong n (Err fault) = wrong_seen n fault
@@ -103,7 +104,7 @@ Obeyed (Ok NoMemory) new step = Unit {0}
 Obeyed (Err (errors.Fault f)) new step = step ≡ Err f
 Obeyed (Err errors.OutOfMemory) new step = Unit {0}
 
--- it found no memory
+-- the line found no memory
 abbrev pub IsUnmet : Result Told LineError → Type 0
 IsUnmet (Ok Answered) = ⊥
 IsUnmet (Ok NoMemory) = Unit {0}

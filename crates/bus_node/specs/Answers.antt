@@ -1,4 +1,4 @@
--- What is told of how the station answers a call.
+-- The text of the station's answer to a call.
 use Rattle.std.specs.Prelude.{◌≡◌, [], Result, Ok, Err}
 use Rattle.script_text.specs.Replies.{reply_line}
 use Rattle.segment_law.specs.declared.reply.Reply.{Reply}
@@ -7,7 +7,7 @@ use Rattle.one_station.specs.declared.error.NodeError.{NodeError}
 use Rattle.one_station.specs.declared.error.NodeError.TheVariants.{Refused, ClockPassed, OutOfMemory}
 use Rattle.bus_node.specs.Node.{Node, events_told, answered}
 
--- the reply, and then what the station told
+-- the reply, and then the station's events
 abbrev pub replied : Node → Reply → Node
 replied n reply = answered n n.station (reply_line reply)
 
@@ -22,7 +22,7 @@ abbrev pub IsReplied : (before : Node) → Result (Unit {0}) NodeError → (afte
 IsReplied before (Ok done) after = after ≡ replied before (replies.Done [])
 IsReplied before (Err error) after = IsRefused before error after
 
--- the same, of which no more is told than what the station told
+-- an answer, in which only the station's events are printed
 abbrev pub IsTold : (before : Node) → Result (Unit {0}) NodeError → (after : Node) → Type 0
 IsTold before (Ok done) after = after ≡ events_told before
 IsTold before (Err (Refused cause)) after = after ≡ events_told before

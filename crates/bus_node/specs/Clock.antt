@@ -12,20 +12,20 @@ time_of n = plus (unwrap_or n.start 0) (min ((n.station.segment.now - n.since) *
 abbrev pub tick_at : Node → ℕ → ℕ
 tick_at n time = plus n.since ((time - unwrap_or n.start time) / 1000)
 
--- the clock stands where it does, and that is this time
+-- this is the time of the clock's tick from now on
 abbrev pub counted_from : Node → ℕ → Node
 counted_from n time = record n { since = n.station.segment.now; start = Some time }
 
--- a time is more than a second before that of the clock. One that is less before it came late
+-- a time is more than a second before that of the clock. One that is less before it is late
 abbrev pub went_back : Node → ℕ → Bool
 went_back n time = nat_lt 1000000 (time_of n - time)
 
--- a time is more than ten minutes ahead of the clock's: by then all that goes on by itself has ended but for holds, so such a time is that of a
--- clock that was set, or of a bus that rested
+-- a time is more than ten minutes ahead of the clock's. By then all that is under way has ended but for holds, so the time is from a clock that
+-- was set, or a bus that rested
 abbrev pub has_jumped : Node → ℕ → Bool
 has_jumped n time = nat_lt 600000000 (time - time_of n)
 
--- the first time that is seen is that of tick 0; if one went back, this is told, and the time counts from it on
+-- the first time that is seen is that of tick 0; if one went back, this is printed, and the time counts from it on
 abbrev pub started : Node → ℕ → Node
 started n time = elim n.start [
   | None ↦ counted_from n time

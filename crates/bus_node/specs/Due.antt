@@ -19,16 +19,16 @@ works_at seg tick = nat_le seg.now tick && any_work seg tick
 abbrev pub next_work : Segment → Option ℕ
 next_work seg = least_below (works_at seg) (2 ^ 64)
 
--- while a broadcast waits for its time, the first tick at which the segment has something to do. Where that has come, all that there is to do
--- rests, and it is the next tick. The last where none waits
+-- while a broadcast waits for its time, the first tick at which the segment has something to do. If that has passed, all that there is to do
+-- rests, and it is the next tick. Without such a broadcast, the last tick
 abbrev pub paced_until : Node → ℕ
 paced_until n = if is_pacing n then elim (next_work n.station.segment) [ None ↦ last | Some tick ↦ max tick (plus n.station.segment.now 1) ] else last
 
--- the earlier of a tick, if there is one, and another, of which the last says none
+-- the earlier of a tick, if there is one, and another, of which the last tick means none
 abbrev pub first_of : Option ℕ → ℕ → Option ℕ
 first_of None wake = if nat_lt wake last then Some wake else None
 first_of (Some tick) wake = Some (min tick wake)
 
--- the tick at which the next timer is due, a destination no longer rests, or a broadcast goes on
+-- the tick at which the next timer is due, a destination no longer rests, or a broadcast continues
 abbrev pub next_due : Node → Option ℕ
 next_due n = first_of (due_below (2 ^ 64) n.station.segment) (min (wakes n.station.segment.now last n.rests) (paced_until n))

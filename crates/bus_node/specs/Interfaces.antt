@@ -8,7 +8,7 @@ use Rattle.node_lines.specs.declared.line.NodeLine.{NodeLine}
 use Rattle.node_lines.specs.declared.line.NodeLine.TheVariants.{Passed, Frame, Now, Command}
 use Rattle.bus_node.specs.Node.{Node, told}
 
--- interfaces are the same if their names are
+-- interfaces are equal if their names are
 abbrev pub same_iface : Iface → Iface → Bool
 same_iface a b = bytes_eq (name_of a) (name_of b)
 
@@ -19,14 +19,14 @@ shown_on (Now time) = None
 shown_on Passed = None
 shown_on (Command command) = None
 
--- it isn't the node's, which is known
+-- whether an interface is another than the node's, which is known
 abbrev pub is_other : Node → Iface → Bool
 is_other n iface = n.knows_iface && not (same_iface iface n.iface)
 
 unfoldable pub other_line : Iface → List ℕ
 other_line iface = line (codes "other interface " ++ name_of iface)
 
--- a frame of another interface is passed over; the first such is told
+-- a frame of another interface is passed over, and the first such is reported
 abbrev pub passed_over : Node → Iface → Node
 passed_over n iface = if n.knows_other then n else told (record n { knows_other = true }) (other_line iface)
 

@@ -13,7 +13,7 @@ is_doubted n to = (lane_seen n.station.segment n.station.address (record { 0 = t
 abbrev pub has_pending : Node → (to : ℕ) → Bool
 has_pending n to = nat_lt 0 (lane_seen n.station.segment n.station.address (record { 0 = to })).pending
 
--- to how many of the destinations 0 to 255
+-- how many of the lanes to the destinations 0 to 255 are in doubt
 abbrev pub lanes_in_doubt : Node → ℕ
 lanes_in_doubt n = count_below (is_doubted n) 256
 

@@ -12,7 +12,7 @@ no_lines = record { lines = 0; wrong = 0 }
 abbrev pub with_line : LineCounts → LineCounts
 with_line c = record c { lines = plus c.lines 1 }
 
--- it was wrong
+-- the line was wrong
 abbrev pub with_wrong : LineCounts → LineCounts
 with_wrong c = record c { wrong = plus c.wrong 1 }
 

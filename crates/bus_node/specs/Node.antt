@@ -1,4 +1,4 @@
--- A node: one station on a real bus, and what its calls tell.
+-- A node: one station on a real bus, and the text of its calls.
 use Rattle.std.specs.Prelude.{◌≡◌, ℕ, ◌<◌, Bool, true, false, List, [], ◌++◌, length, Option, None}
 use Rattle.bus_frame.specs.Frames.{CanFrame}
 use Rattle.pgn_ids.specs.declared.address.Address.{Address}
@@ -11,11 +11,11 @@ use Rattle.bus_node.specs.Rests.{plus, no_rests, rested}
 use Rattle.bus_node.specs.LineCounts.{no_lines}
 use Rattle.bus_node.specs.declared.line_counts.LineCounts.{LineCounts}
 
--- the station, the interface that its frames are shown on, whether that was named or a frame of it was shown, whether a frame of another
--- one was told, for how many ticks a destination rests after a connection to it failed, for each destination the tick until which it
--- rests, the tick from which the time counts and the time of that tick in microseconds, the frames put that the bus hasn't shown since,
--- the one of them that it showed last, the tick before which no conflict is told, whether a wrong line ends the run, how many lines were
--- read, and what the line has told so far
+-- the station; the interface that its frames are shown on, and whether that was named or a frame of it was shown; whether a frame of
+-- another one was reported; for how many ticks a destination rests after a connection to it failed; for each destination the tick until
+-- which it rests; the tick from which the time counts, and the time of that tick in microseconds; the frames put that the bus hasn't
+-- shown since, and the one of them that it showed last; the tick before which no conflict is reported; whether a wrong line ends the
+-- run; how many lines were read; and the text of the line so far
 pub record Node : Type 0 where
   pub station : Station
   pub iface : Iface
@@ -43,11 +43,11 @@ told n text = record n { text = n.text ++ text }
 abbrev pub rest_end : Node → ℕ
 rest_end n = plus n.station.segment.now n.quiet
 
--- all that the station told is told: a line each, and the destinations of connections that failed rest
+-- the station's events are printed, a line each, and the destinations of connections that failed rest
 abbrev pub events_told : Node → Node
 events_told n = record n { station = record n.station { events = [] }; rests = rested (rest_end n) n.rests n.station.events; text = n.text ++ event_lines n.station.events }
 
--- the station did something, and what it told is told
+-- the station did something, and its events are printed
 abbrev pub with_station : Node → Station → Node
 with_station n station = events_told (record n { station = station })
 
@@ -55,7 +55,7 @@ with_station n station = events_told (record n { station = station })
 unfoldable pub called : Node → Call → Node
 called n call = with_station n (makes n.station call)
 
--- a command did something with the station: the reply is told, and then the events
+-- a command did something with the station: the reply is printed, and then the events
 abbrev pub answered : Node → Station → (reply : List ℕ) → Node
 answered n station reply = events_told (told (record n { station = station }) reply)
 
@@ -63,9 +63,9 @@ answered n station reply = events_told (told (record n { station = station }) re
 unfoldable pub asked : Node → Call → Node
 asked n call = answered n (makes n.station call) (reply_line (applied n.station.segment call).1)
 
--- How the code tells what the station told
+-- How the code prints the station's events
 
--- the first event, so that the rest leads to where all lead; there was none
+-- the first event was printed, and printing the rest leads to the same node; or there was none
 abbrev pub HasToldFirst : Bool → (before after : Node) → Type 0
 HasToldFirst true before after = (events_told after ≡ events_told before) × (length after.station.events < length before.station.events)
 HasToldFirst false before after = after ≡ events_told before

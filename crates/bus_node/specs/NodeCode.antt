@@ -1,4 +1,4 @@
--- How nodes are told apart.
+-- When two nodes are equal.
 use Rattle.std.specs.Prelude.{ℕ, Bool, List, Option, refl}
 use Rattle.std.specs.Coded.{Coded, code_by, coded×, coded_list, coded_option, coded_bool, coded_ℕ}
 use Rattle.bus_frame.specs.Frames.{CanFrame}
@@ -12,7 +12,7 @@ use Rattle.bus_node.specs.Node.{Node}
 abbrev Parts : Type 0
 Parts = Station × (Iface × (Bool × (Bool × (ℕ × (List ℕ × (ℕ × (Option ℕ × (List CanFrame × (Option CanFrame × (ℕ × (Bool × ((ℕ × ℕ) × List ℕ))))))))))))
 
--- a node is told apart by its parts
+-- nodes are equal if their parts are
 abbrev pub node_code : Coded Node
 node_code =
     code_by Parts

@@ -1,4 +1,4 @@
--- What a node's input tells, line by line, up to its fault.
+-- The text of a node's input, line by line, up to its fault.
 use Rattle.std.specs.Prelude.{ℕ, ◌-◌, ◌^◌, List, [], Result, Ok, Err}
 use Rattle.script_commands.specs.declared.fault.Fault.{Fault}
 use Rattle.line_runs.specs.Outcome as lines
@@ -10,7 +10,7 @@ use Rattle.bus_node.specs.Acting.{obey_line}
 abbrev pub node_limits : Limits
 node_limits = record { lines = 2 ^ 64 - 2; bytes = 234881100 }
 
--- a line tells the text that it leaves
+-- the output of a line is the text that it leaves in the node
 abbrev pub with_text : Result Node Fault → Result (Node × List ℕ) Fault
 with_text (Ok t) = Ok (t, t.text)
 with_text (Err f) = Err f
@@ -18,7 +18,7 @@ with_text (Err f) = Err f
 abbrev pub told_by : lines.Steps Node
 told_by n line = with_text (obey_line n line)
 
--- and there is no log
+-- the log of a line is empty
 abbrev pub without_text : Result Node Fault → Result (Node × List ℕ) Fault
 without_text (Ok t) = Ok (t, [])
 without_text (Err f) = Err f

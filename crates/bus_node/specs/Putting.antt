@@ -15,12 +15,12 @@ use Rattle.bus_node.specs.Clock.{time_of}
 unfoldable pub put_line : ℕ → Iface → CanFrame → List ℕ
 put_line time iface frame = line (codes "put " ++ log_text time iface frame)
 
--- how many frames can be put that the bus hasn't shown: for each of 256 destinations a window of 255 packets and the frame that tells
--- where it begins, since what follows waits for an answer to the last of them; and a full queue
+-- how many frames can be put that the bus hasn't shown: for each of 256 destinations a window of 255 packets and the frame in front of it,
+-- since what follows waits for an answer to the last of them; and a full queue
 abbrev pub most_unseen : ℕ
 most_unseen = 65600
 
--- the frames that were put and not shown since, the oldest first. It is forgotten where there are more than can be
+-- the frames that were put and not shown since, the oldest first. It is forgotten if there are more than can be
 abbrev pub remembered : List CanFrame → CanFrame → List CanFrame
 remembered frames frame = (if length frames == most_unseen then drop 1 frames else frames) ++ frame ∷ []
 
@@ -43,7 +43,7 @@ is_of (Some put) frame = same_frame put frame
 abbrev pub shown : Node → (place : ℕ) → CanFrame → Node
 shown n place frame = record n { unseen = drop 1 (drop place n.unseen); last_echo = Some frame }
 
--- another node has the same address: that is told once in a thousand ticks at most
+-- another node has this node's address: that is reported once in a thousand ticks at most
 abbrev pub conflicting : Node → Node
 conflicting n = record n { silent_until = plus n.station.segment.now 1000; text = n.text ++ line (codes "address conflict") }
 
@@ -54,14 +54,14 @@ is_silent n = nat_lt n.station.segment.now n.silent_until
 abbrev pub sought : Node → CanFrame → Node
 sought n frame = elim (position (λ put. same_frame put frame) n.unseen) [ None ↦ conflicting n | Some place ↦ shown n place frame ]
 
--- a frame with the node's own address is the one that the bus was to show next. Else it may be the last one, since a frame may come twice, and
--- nothing is told so soon after a conflict
+-- a frame with the node's own address is the one that the bus was to show next. If not, it may be a repetition of the last one, and no
+-- conflict is reported so soon after another
 unfoldable pub own : Node → CanFrame → Node
 own n frame =
     if is_of (slice_get n.unseen 0) frame then shown n 0 frame
     else if is_of n.last_echo frame || is_silent n then n
     else sought n frame
 
--- any other comes to the station
+-- any other frame is for the station
 unfoldable pub heard : Node → CanFrame → Node
 heard n frame = if is_own n.station frame then own n frame else with_station n (fed (ready n.station) frame)

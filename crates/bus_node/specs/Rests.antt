@@ -5,7 +5,7 @@ use Rattle.tp_wire.specs.declared.outcome.Outcome.TheVariants.{Acknowledged, Bro
 use Rattle.message_events.specs.declared.event.Event.{Event}
 use Rattle.message_events.specs.declared.event.Event.TheVariants as events
 
--- within 64 bits
+-- a sum, within 64 bits
 abbrev pub plus : ℕ → ℕ → ℕ
 plus a b = min (a + b) (2 ^ 64 - 1)
 
@@ -17,7 +17,7 @@ HasAll rests = length rests ≡ 256
 abbrev pub no_rests : List ℕ
 no_rests = replicate 256 0
 
--- the tick has not come until which a destination rests
+-- a destination rests until a later tick
 abbrev pub is_at_rest : List ℕ → (now to : ℕ) → Bool
 is_at_rest rests now to = nat_lt now (slice_index_or rests to 0)
 
@@ -42,6 +42,6 @@ rest_by until rests (events.Outcome from to number outcome) = if is_failure outc
 abbrev pub rested : (until : ℕ) → List ℕ → List Event → List ℕ
 rested until rests told = fold (rest_by until) rests told
 
--- the first tick above one at which a destination no longer rests, where that is below the end, else the end
+-- the first tick above one at which a destination no longer rests, if that is below the end, else the end
 abbrev pub wakes : (now end : ℕ) → List ℕ → ℕ
 wakes now end rests = fold (λ first until. if nat_lt now until then min first until else first) end rests

@@ -1,4 +1,4 @@
--- What the station does by itself: it is told of missed frames, is given frames, and puts its own.
+-- What the station does by itself: it learns of missed frames, is given frames, and puts its own.
 use Rattle.std.specs.Prelude.{if◌then◌else◌, [], ◌∷◌, Option, Some, None}
 use Rattle.bus_frame.specs.Frames.{CanFrame}
 use Rattle.segment_law.specs.declared.call.Call.TheVariants.{Transmit, Inject}
@@ -10,11 +10,11 @@ use Rattle.one_station.specs.declared.error.NodeError.{NodeError}
 abbrev pub missed : Station → Station
 missed s = makes (caught_up s) (overruns s)
 
--- where that is remembered, it ends before a frame is heard or put
+-- if missed frames are remembered, what is under way ends before a frame is heard or put
 abbrev pub ready : Station → Station
 ready s = if s.has_missed then missed s else s
 
--- the first frame of the queue is put, and the station passes it by; where there is none, nothing is done
+-- the first frame of the queue is put, and the station passes it by; if there is none, nothing is done
 abbrev pub sent_by : Station → Option NodeError → Station
 sent_by s None = makes_all s (Transmit s.address ∷ looks s ∷ [])
 sent_by s (Some error) = s

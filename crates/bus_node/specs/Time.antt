@@ -1,4 +1,4 @@
--- How the time goes on, and what is done meanwhile without a command.
+-- How the clock advances, and what is done meanwhile without a command.
 use Rattle.std.specs.Prelude.{◌≡◌, ℕ, zero, suc, ◌+◌, ◌-◌, Bool, true, false, ◌&&◌, not, nat_lt, if◌then◌else◌, Option, Some, None}
 use Rattle.std.specs.Option.{option_map}
 use Rattle.bus_frame.specs.Frames.{CanFrame}
@@ -17,7 +17,7 @@ use Rattle.bus_node.specs.Node.{Node, called}
 use Rattle.bus_node.specs.Clock.{tick_at, started, has_jumped}
 use Rattle.bus_node.specs.Putting.{putting}
 
--- the tick at which the next timer is due, where it is one below the end
+-- the tick at which the next timer is due, if it is below the end
 abbrev pub due_below : ℕ → Segment → Option ℕ
 due_below end seg = least_below (any_due seg) end
 
@@ -29,7 +29,8 @@ is_not_yet _ = false
 abbrev pub is_pacing : Node → Bool
 is_pacing n = is_not_yet (refusal_of (called_on n.station.segment (Pump n.station.address record { 0 = 255 })))
 
--- the tick up to which the clock goes on at once: while a broadcast waits, the next one, else the first at which a destination no longer rests
+-- the tick up to which the clock advances at once: while a broadcast waits, the next one, else the first at which a destination no longer
+-- rests
 abbrev pub horizon : ℕ → Node → ℕ
 horizon target n = if is_pacing n && nat_lt n.station.segment.now target then n.station.segment.now + 1 else wakes n.station.segment.now target n.rests
 
@@ -41,7 +42,7 @@ may_pump n to = pumps_to n.station.segment n.station.address to && not (is_at_re
 abbrev pub next_lane : Node → Option Address
 next_lane n = option_map (λ to. record { 0 = to }) (least_below (may_pump n) 256)
 
--- the clock goes on to a tick
+-- the clock advances to a tick
 abbrev pub at_tick : ℕ → Node → Node
 at_tick tick n = called n (Tick (tick - n.station.segment.now))
 
@@ -49,14 +50,14 @@ at_tick tick n = called n (Tick (tick - n.station.segment.now))
 abbrev pub fired : Node → Node
 fired n = called n (Fire n.station.address)
 
--- the clock goes on to a timer, which fires, or to the horizon; none where it stands there
+-- the clock advances to a timer, which fires, or to the horizon; none if it is there
 abbrev pub waited : ℕ → Node → Option Node
 waited end n = elim (due_below (end + 1) n.station.segment) [
   | Some tick ↦ Some (fired (at_tick tick n))
   | None ↦ if nat_lt n.station.segment.now end then Some (at_tick end n) else None
 ]
 
--- what may be queued to a destination is; where nothing may, time goes on
+-- the next frames to a destination are queued; if there are none, time passes
 abbrev pub pumped : ℕ → Node → Option Address → Option Node
 pumped target n (Some to) = Some (called n (Pump n.station.address to))
 pumped target n None = waited (horizon target n) n
@@ -66,11 +67,11 @@ abbrev pub fronted : ℕ → Node → Option CanFrame → Option Node
 fronted target n (Some frame) = Some (putting n frame)
 fronted target n None = pumped target n (next_lane n)
 
--- what comes next up to a tick, until there is nothing
+-- the next thing to do up to a tick; none if there is nothing
 unfoldable pub step : ℕ → Node → Option Node
 step target n = fronted target n (front_at n.station.segment n.station.address)
 
--- so many steps at most
+-- so many steps are made at most
 unfoldable pub go_on : ℕ → ℕ → Node → Node
 go_on zero target n = n
 go_on (suc more) target n = elim (step target n) [ None ↦ n | Some m ↦ go_on more target m ]
@@ -83,15 +84,15 @@ most_steps = 1000000
 unfoldable pub settled : Node → Node
 settled n = go_on most_steps n.station.segment.now n
 
--- after a jump the clock is at the tick of the time at once, so that each timer that came due on the way fires once, there
+-- after a jump the clock is at the tick of the time at once, so that each timer that was due on the way fires once, there
 abbrev pub leapt : Node → ℕ → Node
 leapt n time = if has_jumped n time then at_tick (tick_at n time) n else n
 
--- else it goes on to that tick, and each timer fires at its own
+-- then it advances to that tick, and each timer fires at its own
 abbrev pub come_to_time : Node → ℕ → Node
 come_to_time n time = go_on most_steps (tick_at n time) (leapt n time)
 
--- where the line says a time, the clock goes on to it
+-- if the line says a time, the clock advances to it
 unfoldable pub at_time : Node → Option ℕ → Node
 at_time n None = n
 at_time n (Some time) = come_to_time (started n time) time

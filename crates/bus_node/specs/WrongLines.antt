@@ -7,11 +7,11 @@ use Rattle.script_text.specs.Parts.{line}
 use Rattle.bus_node.specs.LineCounts.{with_wrong}
 use Rattle.bus_node.specs.Node.{Node, told}
 
--- a wrong line is told by its number and its first fault
+-- a wrong line is reported by its number and its first fault
 abbrev pub wrong_line : ℕ → Fault → List ℕ
 wrong_line number fault = line (fault_line (record { line = number; cause = causes.Fault fault }))
 
--- it is counted and passed over
+-- a wrong line is counted and passed over
 abbrev pub wrong_told : Node → Fault → Node
 wrong_told n fault = told (record n { counts = with_wrong n.counts }) (wrong_line n.counts.lines fault)
 

@@ -35,7 +35,7 @@ impl Node {
         }
     }
 
-    // What a line before found no memory to tell is told, and the time goes on to that of a line.
+    // Prints the events that a line before found no memory to print, and advances the clock to the time of a line.
     fn come_to(&mut self, time: Option<u64>) -> Result<(), AllocError>
         ensures { OnOk result (self.new ≡ come_to self.old time) }
     {
@@ -43,8 +43,8 @@ impl Node {
         self.pass_time(time)
     }
 
-    // The time goes on to that of the line, then it is acted on, then all is done that is to be done at that tick. A frame that found no
-    // memory before it came to the station is missed.
+    // Advances the clock to the time of the line, acts on the line, and then does all that is due at that tick. A frame for which memory
+    // was refused before the station took it is missed.
     #[tactic(auto, unfolding(crate::specs::Acting::followed))]
     fn follow(&mut self, meant: NodeLine) -> Result<(), AllocError>
         ensures { OnOk result (self.new ≡ followed self.old meant) }
@@ -60,7 +60,7 @@ impl Node {
         self.settle()
     }
 
-    // Where a line shows a frame of another node, it is missed.
+    // If a line shows a frame of another node, it is missed.
     fn lose(&mut self, meant: &NodeLine) {
         if let NodeLine::Frame { frame, .. } = meant {
             if !self.is_own(frame) {
@@ -115,7 +115,7 @@ impl Node {
         }
     }
 
-    /// Obeys a line. What it tells is then the node's text.
+    /// Obeys a line. Its output is then the node's text.
     #[tactic(auto, unfolding(crate::specs::Acting::obey_line))]
     pub(crate) fn act_on(&mut self, alloc: Global, line: &[u8]) -> Result<Told, LineError>
         ensures { Obeyed result self.new (obey_line self.old line.now) }

@@ -1,4 +1,4 @@
-//! How the station answers calls on it, and what is told of that.
+//! The station's answers to calls, and their text.
 ghost use Rattle.std.specs.Prelude.{◌≡◌, OnOk};
 ghost use Rattle.bus_node.specs.Answers.{IsTold, IsReplied, IsRefused, replied};
 ghost use Rattle.bus_node.specs.Node.{with_station};
@@ -12,7 +12,7 @@ use segment_core::Reply;
 use std::alloc::AllocError;
 
 impl Node {
-    /// A call was made on the station or refused, unless it found no memory: what the station told is told.
+    /// A call was made on the station or refused, unless it found no memory: the station's events are printed.
     pub(crate) fn tell_of(&mut self, made: Result<(), NodeError>) -> Result<(), AllocError>
         ensures { OnOk result (IsTold self.old made self.new) }
     {
@@ -24,7 +24,7 @@ impl Node {
         }
     }
 
-    /// A reply is told, and then what the station told.
+    /// Prints a reply, and then the station's events.
     pub(crate) fn reply(&mut self, reply: &Reply) -> Result<(), AllocError>
         ensures { OnOk result (self.new ≡ replied self.old reply.now) }
     {
@@ -56,7 +56,7 @@ impl Node {
         }
     }
 
-    /// Frames were missed: what is under way ends. Where that finds no memory, the station remembers it.
+    /// Frames were missed: what is under way ends. If that finds no memory, the station remembers it.
     pub(crate) fn miss(&mut self) -> Result<(), AllocError>
         ensures { OnOk result (self.new ≡ with_station self.old (missed self.old.station)) }
     {

@@ -9,14 +9,14 @@ use std::alloc::AllocError;
 /// How many microseconds a tick has.
 const TICK: u64 = 1000;
 
-/// By how many microseconds at most a time that came late is before that of the clock. One that is more before it went back.
+/// By how many microseconds at most a late time is before that of the clock. One that is more before it went back.
 const LATE: u64 = 1_000_000;
 
 /// By how many microseconds a time is ahead of that of the clock at most, unless it jumped.
 const JUMP: u64 = 600_000_000;
 
 impl Node {
-    /// The time at which its clock stands, in microseconds.
+    /// The time of its clock, in microseconds.
     pub(crate) fn time(&self) -> u64
         ensures { result ≡ time_of self.now }
     {
@@ -34,7 +34,7 @@ impl Node {
         self.since.saturating_add(passed)
     }
 
-    // The clock stands where it does, and that is this time.
+    // Sets the time of the clock's tick, which stays.
     fn count_from(&mut self, time: u64)
         ensures { self.new ≡ counted_from self.old time }
     {
@@ -42,7 +42,7 @@ impl Node {
         self.start = Some(time);
     }
 
-    // Whether a time is more than a second before that of the clock. One that is less before it came late.
+    // Whether a time is more than a second before that of the clock. One that is less before it is late.
     fn went_back(&self, time: u64) -> bool
         ensures { result ≡ went_back self.now time }
     {
@@ -56,7 +56,8 @@ impl Node {
         time.saturating_sub(self.time()) > JUMP
     }
 
-    /// A line says a time. The first is that of tick 0. If one went back, this is told, and the time counts from it on.
+    /// A line says a time. The first is that of tick 0. If one went back, this is printed, and the time counts from it
+    /// on.
     pub(crate) fn start_at(&mut self, time: u64) -> Result<(), AllocError>
         ensures { OnOk result (self.new ≡ started self.old time) }
     {

@@ -128,7 +128,7 @@ impl Node {
         self.reply_to(made)
     }
 
-    // Frames were missed: what is under way ends. Where that finds no memory, the station remembers it.
+    // Frames were missed: what is under way ends. If that finds no memory, the station remembers it.
     fn report_missed(&mut self) -> Result<(), AllocError>
         ensures { OnOk result (self.new ≡ missing self.old) }
     {

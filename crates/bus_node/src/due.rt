@@ -14,7 +14,7 @@ fn next_work(station: &Station) -> Option<u64>
     station.next_at()
 }
 
-// The earlier of a tick, if there is one, and another, of which the last says none.
+// The earlier of a tick, if there is one, and another, of which the last tick means none.
 fn first_of(due: Option<u64>, wake: u64) -> Option<u64>
     ensures { result ≡ first_of due wake }
 {
@@ -30,8 +30,8 @@ fn first_of(due: Option<u64>, wake: u64) -> Option<u64>
 }
 
 impl Node {
-    // While a broadcast waits for its time, the first tick at which there is something to do: the next one where that has come, since all
-    // that there is to do rests. The last where none waits.
+    // While a broadcast waits for its time, the first tick at which there is something to do: the next tick if that has passed, since all
+    // that there is to do rests. Without such a broadcast, the last tick.
     fn paced_until(&self) -> u64
         ensures { result ≡ paced_until self.now }
     {
@@ -45,7 +45,7 @@ impl Node {
         }
     }
 
-    /// The tick at which the next timer is due, a destination no longer rests, or a broadcast goes on.
+    /// The tick at which the next timer is due, a destination no longer rests, or a broadcast continues.
     pub(crate) fn next_due(&self) -> Option<u64>
         ensures { result ≡ next_due self.now }
     {

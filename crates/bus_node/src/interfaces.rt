@@ -51,7 +51,7 @@ impl Node {
         self.knows_iface && !is_same(iface, &self.iface)
     }
 
-    /// A frame of another interface is passed over, and the first such is told.
+    /// A frame of another interface is passed over, and the first such is reported.
     pub(crate) fn pass_over(&mut self, iface: &Iface) -> Result<(), AllocError>
         ensures { OnOk result (self.new ≡ passed_over self.old iface.now) }
     {

@@ -16,7 +16,7 @@ pub(crate) struct LaneCounts {
 }
 
 impl Node {
-    /// Of the station's lanes.
+    /// The counts of the station's lanes.
     #[tactic(auto, using(station_lanes::proofs::Told::count_laws))]
     pub(crate) fn lane_counts(&self) -> LaneCounts
         ensures doubted { result.doubted ≡ lanes_in_doubt self.now }

@@ -19,14 +19,14 @@ impl LineCounts {
         LineCounts { lines: 0, wrong: 0 }
     }
 
-    /// One more was read.
+    /// Counts one more line that was read.
     pub(crate) fn add_line(&mut self)
         ensures { self.new ≡ with_line self.old }
     {
         self.lines = self.lines.saturating_add(1);
     }
 
-    /// It was wrong.
+    /// Counts the line as wrong.
     pub(crate) fn add_wrong(&mut self)
         ensures { self.new ≡ with_wrong self.old }
     {

@@ -17,7 +17,7 @@ use std::alloc::{AllocError, Global};
 use std::collections::VecDeque;
 use std::marker::Model;
 
-/// One station on a real bus, what it remembers of that bus, and what a line has told so far.
+/// One station on a real bus, what it remembers of that bus, and the text of the line so far.
 pub struct Node {
     pub(crate) alloc: Global,
     pub(crate) station: one_station::Node,
@@ -25,22 +25,22 @@ pub struct Node {
     pub(crate) iface: Iface,
     /// Whether that was named, or a frame of it was shown.
     pub(crate) knows_iface: bool,
-    /// Whether a frame of another interface was told.
+    /// Whether a frame of another interface was reported.
     pub(crate) knows_other: bool,
     /// For how many ticks a destination rests after a connection to it failed.
     pub(crate) quiet: u64,
     pub(crate) rests: Rests,
     /// The tick from which the time counts.
     pub(crate) since: u64,
-    /// The time of that tick, in microseconds; none was seen yet where there is none.
+    /// The time of that tick, in microseconds; none if no time was seen yet.
     pub(crate) start: Option<u64>,
     /// The frames that it put and that the bus hasn't shown since, the oldest first.
     pub(crate) unseen: VecDeque<Frame>,
     /// The one of them that the bus showed last.
     pub(crate) last_echo: Option<Frame>,
-    /// The tick before which no conflict of addresses is told.
+    /// The tick before which no conflict of addresses is reported.
     pub(crate) silent_until: u64,
-    /// Whether a wrong line ends the run; else it is told and passed over.
+    /// Whether a wrong line ends the run; else it is reported and passed over.
     pub(crate) strict: bool,
     pub(crate) counts: LineCounts,
     pub(crate) text: Vec<u8>,
@@ -81,11 +81,11 @@ impl Drop for Node {
 }
 
 impl Node {
-    /// A node with a station of this address, 0 to 253, on an interface: frames of no other come to it, and those that it puts are shown
-    /// there. Its clock stands at tick 0, no port is open, and nothing was done yet. A wrong line is told and passed over. After a connection to a destination failed, nothing of a
-    /// message is sent to it for `quiet` ticks.
+    /// A node with a station of this address, 0 to 253, on an interface: it takes frames of no other, and shows those that it puts there. Its clock
+    /// is at tick 0, no port is open, and nothing was done yet. A wrong line is reported and passed over. After a connection to a destination failed,
+    /// nothing of a message is sent to it for `quiet` ticks.
     ///
-    /// Refused as `BadAddresses` exactly where the address is 254 or 255, and else as `OutOfMemory` where memory is refused.
+    /// Refused as `BadAddresses` exactly if the address is 254 or 255, and else as `OutOfMemory` if memory is refused.
     pub fn new(
         alloc: Global,
         address: Address,
@@ -122,7 +122,7 @@ impl Node {
         self.counts = LineCounts::none();
     }
 
-    /// A line was read, and what the one before told was written.
+    /// A line was read, and the output of the one before was written.
     pub(crate) fn begin_line(&mut self)
         ensures { self.new ≡ begun self.old }
     {
@@ -130,14 +130,14 @@ impl Node {
         self.text.clear();
     }
 
-    /// What a line told.
+    /// The output of a line.
     pub(crate) fn told(&self) -> &[u8]
         ensures { result.now ≡ self.now.text }
     {
         self.text.as_slice()
     }
 
-    // What the station told first is told, and the destination of a connection that failed rests: whether there was anything.
+    // Prints the station's first event, and lets the destination rest if its connection failed. Returns whether there was an event.
     #[tactic(auto, using(crate::proofs::EventsTold::told_first, crate::proofs::EventsTold::fewer, crate::proofs::EventsTold::none_left))]
     fn tell_first(&mut self) -> Result<bool, AllocError>
         ensures { IfOk result (λ had_some. HasToldFirst had_some self.old self.new) }
@@ -151,7 +151,7 @@ impl Node {
         Ok(true)
     }
 
-    /// All that the station told is told.
+    /// Prints all events of the station.
     pub(crate) fn tell(&mut self) -> Result<(), AllocError>
         ensures { OnOk result (self.new ≡ events_told self.old) }
     {

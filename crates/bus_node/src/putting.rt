@@ -14,12 +14,12 @@ use script_text::print_text;
 use std::alloc::AllocError;
 use std::collections::VecDeque;
 
-/// How many ticks pass at least from one conflict that is told to the next.
+/// How many ticks pass at least from one conflict that is reported to the next.
 const BETWEEN_CONFLICTS: u64 = 1000;
 
 /// How many of the frames that it put a node remembers: as many as can be put that the bus hasn't shown. These are for each of 256 destinations
-/// a window of 255 packets and the frame that tells where it begins, since what follows waits for an answer to the last of them, and the 64
-/// frames of a full queue.
+/// a window of 255 packets and the frame in front of it, since what follows waits for an answer to the last of them, and the 64 frames of a full
+/// queue.
 const MOST_UNSEEN: usize = 65_600;
 
 #[tactic(auto, unfolding(crate::specs::Putting::put_line))]
@@ -48,14 +48,14 @@ fn is_of(put: Option<Frame>, frame: &Frame) -> bool
     }
 }
 
-/// The place of the oldest frame that is the same.
+/// The place of the oldest frame that equals this one.
 fn place_of(frames: &VecDeque<Frame>, frame: &Frame) -> Option<usize>
     ensures { result ≡ position (λ put. same_frame put frame.now) frames.now.items }
 {
     frames.iter().position(|put| is_same(put, frame))
 }
 
-/// So many of the oldest frames are waited for no more.
+/// Drops the oldest frames, which are no longer waited for.
 fn drop_oldest(frames: &mut VecDeque<Frame>, count: usize)
     ensures { frames.new.items ≡ drop count frames.old.items }
 {
@@ -75,7 +75,7 @@ fn remember(frames: &mut VecDeque<Frame>, frame: Frame) -> Result<(), AllocError
 }
 
 impl Node {
-    // A frame was put: it is told, and remembered.
+    // A frame was put: it is printed, and remembered.
     fn note_put(&mut self, frame: Frame) -> Result<(), AllocError>
         ensures { OnOk result (self.new ≡ with_put self.old frame) }
     {
@@ -102,7 +102,7 @@ impl Node {
         self.note_put(frame)
     }
 
-    // Another node has the same address.
+    // Another node has this node's address.
     fn conflict(&mut self) -> Result<(), AllocError>
         ensures { OnOk result (self.new ≡ conflicting self.old) }
     {
@@ -110,7 +110,7 @@ impl Node {
         print_text(&mut self.text, "address conflict")
     }
 
-    // Whether a conflict was told a short while ago.
+    // Whether a conflict was reported a short while ago.
     fn is_silent(&self) -> bool
         ensures { result ≡ is_silent self.now }
     {
@@ -139,8 +139,8 @@ impl Node {
         }
     }
 
-    // A frame with the node's own address was seen. What isn't the next one is looked for only where a conflict would be told: so a search finds
-    // a frame, and those before it are waited for no more, or is the only one of its second.
+    // A frame with the node's own address was seen. If it isn't the next one, it is searched for only when a conflict would be reported. So a
+    // search finds a frame, and those before it are no longer waited for, or it is the only one of its second.
     #[tactic(auto, unfolding(crate::specs::Putting::own))]
     fn see_own(&mut self, frame: &Frame) -> Result<(), AllocError>
         ensures { OnOk result (self.new ≡ own self.old frame.now) }
@@ -162,7 +162,7 @@ impl Node {
         read_id(frame.id()).from.0 == self.station.address().0
     }
 
-    // A frame of another node comes to the station. One that it isn't fed is missed.
+    // The station takes a frame of another node. One that it isn't fed is missed.
     fn feed(&mut self, frame: Frame) -> Result<(), AllocError>
         ensures { OnOk result (self.new ≡ with_station self.old (fed (ready self.old.station) frame)) }
     {

@@ -75,7 +75,7 @@ impl Rests {
         }
     }
 
-    /// The first tick above `now` at which one no longer rests, where that is below `end`, else `end`.
+    /// The first tick above `now` at which one no longer rests, if that is below `end`, else `end`.
     pub(crate) fn wakes(&self, now: u64, end: u64) -> u64
         ensures { result ≡ wakes now end self.now }
     {

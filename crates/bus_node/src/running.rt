@@ -27,7 +27,7 @@ pub struct Ran {
 }
 
 impl Ran {
-    /// The status of a program that made this run: 0 where it came to the end of its input and no line was wrong, else 1.
+    /// The status of a program that made this run: 0 if it reached the end of its input and no line was wrong, else 1.
     pub fn status(&self) -> u8
         ensures { result ≡ status_of self.now }
     {
@@ -47,14 +47,14 @@ fn node_limits() -> Limits
     }
 }
 
-/// Runs a node: reads lines to the end of the input, obeys each, and writes and flushes what it tells before the next line is read. A wrong
-/// line is told by its number and passed over, unless the node ends at one (`Node::end_at_wrong_line`). Numbers begin with 1 at each run. It
+/// Runs a node: reads lines to the end of the input, obeys each, and writes and flushes its output before the next line is read. A wrong line
+/// is reported by its number and passed over, unless the node ends at one (`Node::end_at_wrong_line`). Numbers begin with 1 at each run. It
 /// ends at the first fault: such a line, one of more than 234,881,100 bytes, or a line above 2^64 - 2.
 ///
 /// Unless it reports a failed read or write or refused memory, exactly the text of the input was written, and the fault is the input's; if
-/// there is none, the node is the one that the input leaves, and all its lines are counted. Where it reports a failed read or write, or memory
+/// there is none, the node is the one that the input leaves, and all its lines are counted. If it reports a failed read or write, or memory
 /// that was refused outside a line's calls and in none, a front of that text was written. A line that finds no memory prints `no memory`, the
-/// run goes on, and then nothing is promised of the text, the node and the counts.
+/// run continues, and then nothing is promised of the text, the node and the counts.
 #[tactic(auto, using(crate::proofs::Ends::counted))]
 pub fn run_node<R: BufRead, W: Write>(
     alloc: Global,

@@ -1,4 +1,4 @@
-//! What each line tells stands in the node's text.
+//! The output of each line, which is the node's text.
 use crate::node::Node;
 use line_runs::{Obeyer, Told};
 use script_commands::LineError;

@@ -1,4 +1,4 @@
-//! How the time goes on, and what is done meanwhile without a command.
+//! How the clock advances, and what is done meanwhile without a command.
 ghost use Rattle.std.specs.Prelude.{◌≡◌, ◌+◌, ◌<◌, IfOk, OnOk};
 ghost use Rattle.segment_law.specs.declared.call.Call.TheVariants.{Pump};
 ghost use Rattle.bus_node.specs.Node.{called};
@@ -22,7 +22,7 @@ fn is_not_yet(cause: Option<Refusal>) -> bool
     }
 }
 
-/// The tick at which the next timer is due, where it is none above the last.
+/// The tick at which the next timer is due, if that isn't above the last.
 #[tactic(auto, using(crate::proofs::Dues::due_is_below, crate::proofs::Dues::due_is_above, crate::proofs::Dues::none_is_due))]
 pub(crate) fn due_up_to(station: &Station, last: u64) -> Option<u64>
     ensures { result ≡ due_below (last + 1) station.now.segment }
@@ -48,7 +48,7 @@ impl Node {
         is_not_yet(self.station.refusal(&Call::Pump { station, to }))
     }
 
-    // The tick up to which the clock goes on at once.
+    // The tick up to which the clock advances at once.
     fn horizon(&self, target: u64) -> u64
         ensures { result ≡ horizon target self.now }
     {
@@ -68,7 +68,7 @@ impl Node {
         refusal.is_none() && !self.rests.is_at_rest(self.station.now(), to)
     }
 
-    // The lowest of them all, where the lowest that a frame can be queued to rests.
+    // The lowest destination of all, if the lowest that a frame can be queued to rests.
     fn lane_awake(&self) -> Option<Address>
         ensures { result ≡ next_lane self.now }
     {
@@ -101,7 +101,7 @@ impl Node {
         }
     }
 
-    // The clock goes on to a tick.
+    // Advances the clock to a tick.
     fn go_to(&mut self, tick: u64) -> Result<(), AllocError>
         ensures { OnOk result (self.new ≡ at_tick tick self.old) }
     {
@@ -125,7 +125,7 @@ impl Node {
         self.tell_of(made)
     }
 
-    // The clock goes on to a timer, which fires, or to the last tick.
+    // Advances the clock to a timer, which fires, or to the last tick.
     fn wait(&mut self, last: u64) -> Result<bool, AllocError>
         ensures { IfOk result (λ went_on. Stepped went_on self.old self.new (waited last self.old)) }
     {
@@ -141,7 +141,7 @@ impl Node {
         Ok(true)
     }
 
-    // What comes next up to a tick: whether there was anything.
+    // Does the next thing up to a tick, and returns whether there was any.
     #[tactic(auto, unfolding(crate::specs::Time::step))]
     fn step(&mut self, target: u64) -> Result<bool, AllocError>
         ensures { IfOk result (λ went_on. Stepped went_on self.old self.new (step target self.old)) }
@@ -158,7 +158,7 @@ impl Node {
         self.wait(last)
     }
 
-    // All that comes up to a tick.
+    // Does all that is due up to a tick.
     fn go_on(&mut self, target: u64) -> Result<(), AllocError>
         ensures { OnOk result (self.new ≡ go_on most_steps target self.old) }
     {
@@ -181,7 +181,7 @@ impl Node {
         self.go_on(now)
     }
 
-    // After a jump the clock is at the tick of the time at once, and timers that came due on the way fire there, once.
+    // After a jump the clock is at the tick of the time at once, and timers that were due on the way fire there, once.
     fn leap(&mut self, time: u64) -> Result<(), AllocError>
         ensures { OnOk result (self.new ≡ leapt self.old time) }
     {
@@ -192,7 +192,7 @@ impl Node {
         self.go_to(tick)
     }
 
-    /// Where a line says a time, the clock goes on to its tick, and what comes up to there is done.
+    /// If a line says a time, the clock advances to its tick, and all that is due up to there is done.
     #[tactic(auto, unfolding(crate::specs::Time::at_time))]
     pub(crate) fn pass_time(&mut self, time: Option<u64>) -> Result<(), AllocError>
         ensures { OnOk result (self.new ≡ at_time self.old time) }

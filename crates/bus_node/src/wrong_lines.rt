@@ -8,14 +8,15 @@ use script_text::print_text;
 use std::alloc::AllocError;
 
 impl Node {
-    /// Each run ends from now on at its first wrong line, which is its fault. Before this call wrong lines are told and passed over.
+    /// Each run ends from now on at its first wrong line, which is its fault. Before this call wrong lines are reported
+    /// and passed over.
     pub fn end_at_wrong_line(&mut self)
         ensures { self.new ≡ record self.old { strict = true } }
     {
         self.strict = true;
     }
 
-    /// A wrong line is told by its number and its first fault, and counted.
+    /// A wrong line is reported by its number and its first fault, and counted.
     pub(crate) fn tell_wrong(&mut self, fault: Fault) -> Result<(), AllocError>
         ensures { OnOk result (self.new ≡ wrong_told self.old fault) }
     {

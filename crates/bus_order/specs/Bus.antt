@@ -8,7 +8,8 @@ pub record Cursor : Type 0 where
   pub place : ℕ
   pub repeatable : Bool
 
--- the place of the first kept frame (where none is kept, of the next one put), the kept frames, and each station's cursor
+-- the place of the first kept frame (if none is kept, of the next one put), the kept frames, and each station's
+-- cursor
 pub record Bus : Type 0 where
   pub first : ℕ
   pub kept : List CanFrame
@@ -34,7 +35,7 @@ bus_len bus = bus.first + length bus.kept - 1
 abbrev pub cursor_at : Bus → ℕ → Cursor
 cursor_at bus i = slice_index_or bus.cursors i start
 
--- the frame at a place, where it is kept
+-- the frame at a place, if it is kept
 abbrev pub frame_at : Bus → ℕ → Option CanFrame
 frame_at bus place = if nat_le bus.first place then slice_get bus.kept (place - bus.first) else None
 
@@ -42,7 +43,7 @@ frame_at bus place = if nat_le bus.first place then slice_get bus.kept (place - 
 abbrev pub next_frame : Bus → ℕ → Option CanFrame
 next_frame bus i = frame_at bus ((cursor_at bus i).place + 1)
 
--- the frame at the cursor, where one was taken since frames were passed over last
+-- the frame at the cursor, if one was taken since frames were last passed over
 abbrev pub frame_again : Bus → ℕ → Option CanFrame
 frame_again bus i = if (cursor_at bus i).repeatable then frame_at bus (cursor_at bus i).place else None
 
@@ -54,7 +55,7 @@ waiting bus i = bus_len bus - (cursor_at bus i).place
 abbrev pub is_full : Bus → Bool
 is_full bus = nat_le kept_limit (length bus.kept) || not (nat_lt (bus_len bus + 1) (2 ^ 64))
 
--- a frame comes behind the newest
+-- a frame is put behind the newest
 abbrev pub put : Bus → CanFrame → Bus
 put bus frame = record bus { kept = bus.kept ++ frame ∷ [] }
 
@@ -66,12 +67,12 @@ taken bus i = record bus { cursors = slice_set bus.cursors i (record { place = (
 abbrev pub passed : Bus → ℕ → ℕ → Bus
 passed bus i n = record bus { cursors = slice_set bus.cursors i (record { place = (cursor_at bus i).place + n; repeatable = false }) }
 
--- the place of the cursor furthest behind; 0 where there is none
+-- the place of the cursor furthest behind; 0 if there is none
 abbrev pub lowest : List Cursor → ℕ
 lowest [] = 0
 lowest (c ∷ cs) = fold (λ least other. min least other.place) c.place cs
 
--- what is kept is the frame at the lowest cursor and all after it; where that cursor is at 0, all frames
+-- the frames from the lowest cursor on are kept; all are kept if that cursor is at 0
 abbrev pub released : Bus → Bus
 released bus =
     let from = max 1 (lowest bus.cursors) in

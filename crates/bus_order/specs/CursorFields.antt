@@ -8,7 +8,7 @@ use Rattle.bus_order.specs.declared.cursor.Cursor.TheInside.{Inside}
 abbrev pub cursor_value : Inside → Cursor
 cursor_value c = record { place = c.place; repeatable = c.again == 1 }
 
--- at most one frame can be
+-- at most one frame can be repeated
 pub record RepeatsOne (c : Inside) : Type 0 where
   pub one : c.again ≤ 1
 

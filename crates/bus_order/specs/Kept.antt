@@ -7,7 +7,7 @@ pub record HoldsAhead (bus : Bus) : Type 0 where
   pub takes : (i place : ℕ) → i < length bus.cursors → (cursor_at bus i).place < place → place ≤ bus_len bus → IsSome (frame_at bus place)
   pub repeats : (i : ℕ) → i < length bus.cursors → IsTrue (cursor_at bus i).repeatable → IsSome (frame_again bus i)
 
--- a cursor stands at one of the frames put, or before the first; and there is a frame where one can be repeated
+-- a cursor is at one of the frames put, or before the first; if it may repeat one, there is a frame
 pub record IsCursorWithin (len : ℕ) (c : Cursor) : Type 0 where
   pub within : c.place ≤ len
   pub repeats : IsTrue c.repeatable → 0 < c.place

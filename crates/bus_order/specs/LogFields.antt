@@ -6,7 +6,7 @@ use Rattle.bus_order.specs.Kept.{IsSound}
 use Rattle.bus_order.specs.Rear.{IsRear}
 use Rattle.bus_order.specs.declared.log.BusLog.TheInside.{Inside}
 
--- the bus that the fields stand for
+-- the bus that the fields represent
 abbrev pub log_value : Inside → Bus
 log_value log = record { first = log.first; kept = log.kept.items; cursors = log.cursors.items }
 

@@ -9,8 +9,8 @@ pub record HoldsLastOf (history : List CanFrame) (bus : Bus) : Type 0 where
   pub kept : bus.kept ≡ drop (bus.first - 1) history
 
 -- what a station saw is the bus in order: at each place that its cursor moved over it took the frame put there, or
--- passed over it; the next frame that it takes is the one put at the place behind these, and what it repeats is what it
--- took last
+-- passed over it. The next frame that it takes is the one put at the place behind these, and the frame that it repeats
+-- is the one that it took last
 pub record SeesInOrder (history : List CanFrame) (bus : Bus) (i : ℕ) (seen : List (Option CanFrame)) : Type 0 where
   pub place : (cursor_at bus i).place ≡ length seen
   pub within : length seen ≤ length history

@@ -18,13 +18,13 @@ abbrev pub history : Bus → List BusCall → List CanFrame
 history bus [] = []
 history bus (call ∷ calls) = put_by bus call ++ history (after_call bus call) calls
 
--- a frame that was taken, where there was one
+-- a frame that was taken, if there was one
 abbrev pub seen_of : Option CanFrame → List (Option CanFrame)
 seen_of None = []
 seen_of (Some frame) = Some frame ∷ []
 
--- what a call makes a station see: for each place that its cursor moves over, the frame that it takes there, or None
--- where it passes over what stands there
+-- what a station sees in a call, for each place that its cursor moves over: the frame that it takes, or None if it
+-- passes over that frame
 abbrev pub seen_by : ℕ → Bus → BusCall → List (Option CanFrame)
 seen_by i bus (Put frame) = []
 seen_by i bus (Next cursor) = if cursor == i then seen_of (next_frame bus cursor) else []

@@ -58,7 +58,7 @@ impl Cursor {
     }
 }
 
-/// The cursors furthest behind: their place, and how many stand there.
+/// The cursors furthest behind: their place, and how many are there.
 #[derive(Clone, Copy, Debug)]
 pub(crate) struct Rear {
     pub(crate) place: u64,
@@ -98,7 +98,8 @@ pub(crate) fn bring_all(cursors: &mut [Cursor], to: Cursor)
     cursors.fill(to);
 }
 
-/// Moves a cursor on, and says which are furthest behind then. All are looked at only where the last one of them left.
+/// Moves a cursor on, and returns which are furthest behind then. It looks at all of them only when the last one at the
+/// rear leaves.
 #[inline]
 pub(crate) fn move_cursor(cursors: &mut [Cursor], rear: Rear, at: usize, to: Cursor) -> Rear
     requires at { at < length cursors.old }

@@ -58,7 +58,7 @@ impl BusImage {
     }
 }
 
-// The frames once more.
+// A copy of the frames.
 fn copied(alloc: Global, frames: &VecDeque<Frame>) -> Result<Vec<Frame>, AllocError>
     ensures { IfOk result (λ copies. copies.items ≡ frames.now.items) }
 {
@@ -69,7 +69,7 @@ fn copied(alloc: Global, frames: &VecDeque<Frame>) -> Result<Vec<Frame>, AllocEr
     Ok(copies)
 }
 
-// Whether two frames are the same.
+// Whether two frames are equal.
 fn is_same(a: &Frame, b: &Frame) -> bool
     ensures { IsTrue result ↔ (a.now ≡ b.now) }
 {
@@ -91,14 +91,14 @@ fn are_kept(frames: &[Frame], kept: &VecDeque<Frame>) -> bool
     true
 }
 
-// Whether two cursors are the same.
+// Whether two cursors are equal.
 fn is_same_cursor(a: Cursor, b: Cursor) -> bool
     ensures { IsTrue result ↔ (a ≡ b) }
 {
     a.place == b.place && a.is_repeatable() == b.is_repeatable()
 }
 
-// Whether the cursors are the same.
+// Whether the cursors are equal.
 fn are_cursors(a: &[Cursor], b: &[Cursor]) -> bool
     ensures { IsTrue result ↔ (a.now ≡ b.now) }
 {

@@ -17,7 +17,7 @@ use thiserror::Error;
 /// How many frames are kept at most.
 const KEPT_LIMIT: usize = 4096;
 
-// Room for so many frames is there from the first on: where just the newest is kept, as it may still be repeated, one more needs no memory.
+// Frames that there is room for from the start: while only the newest is kept, as it may be repeated, one more needs no memory.
 const ROOM: usize = 2;
 
 /// Why a frame isn't put.
@@ -65,8 +65,8 @@ impl Drop for BusLog {
 }
 
 impl BusLog {
-    /// An empty bus with this many stations, whose cursors are the numbers below it. Where there is no station, no frame
-    /// is ever dropped. It makes room for two frames.
+    /// An empty bus with this many stations, whose cursors are the numbers below it. With no station, no frame is ever dropped.
+    /// It makes room for two frames.
     #[tactic(auto, using(crate::proofs::Steps::sound_new, crate::proofs::Steps::sound_holds))]
     pub fn new(alloc: Global, stations: usize) -> Result<BusLog, AllocError>
         ensures new { IfOk result (λ log. log ≡ new_bus stations) }
@@ -105,7 +105,7 @@ impl BusLog {
         self.len() == 0
     }
 
-    /// The frame at a place, where it is kept.
+    /// The frame at a place, if it is kept.
     pub fn frame(&self, place: u64) -> Option<Frame>
         ensures { result ≡ frame_at self.now place }
     {
@@ -123,8 +123,7 @@ impl BusLog {
         self.len() - self.at(cursor).place
     }
 
-    /// The frame that a station took last, once more: None exactly where it has taken none since it passed over frames,
-    /// or none at all.
+    /// The frame that a station took last. None exactly if it has taken none, or none since it passed over frames.
     #[tactic(auto, using(crate::proofs::Steps::read_repeats))]
     pub fn again(&self, cursor: usize) -> Option<Frame>
         requires { cursor < length self.now.cursors }
@@ -148,7 +147,7 @@ impl BusLog {
         self.cursors[cursor]
     }
 
-    // The frame behind a place, where it stands.
+    // The frame behind a place, by reference.
     #[inline]
     fn frame_behind(&self, place: u64) -> Option<&Frame>
         requires held { self.now.first ≤ place + 1 }
@@ -171,8 +170,8 @@ impl BusLog {
         self.rear = move_cursor(&mut self.cursors, self.rear, cursor, to);
     }
 
-    /// Puts a frame on the bus, at the place behind the newest. `BusFull` comes exactly where 4,096 frames are kept or that
-    /// place would pass `u64`; an error changes nothing. Memory is asked for only if two frames or more are kept.
+    /// Puts a frame on the bus, at the place behind the newest. `BusFull` exactly if 4,096 frames are kept or that place would
+    /// pass `u64`. An error changes nothing. It asks for memory only if two frames or more are kept.
     #[inline]
     #[tactic(auto, using(crate::proofs::Steps::sound_put, crate::proofs::Steps::sound_holds))]
     pub fn put(&mut self, frame: Frame) -> Result<(), PutError>
@@ -198,8 +197,8 @@ impl BusLog {
         Ok(())
     }
 
-    /// A station takes the frame behind its cursor, which moves on by one: None exactly where no frame waits for it, and
-    /// then nothing changes.
+    /// A station takes the frame behind its cursor, which moves on by one. None exactly if no frame waits for it; then nothing
+    /// changes.
     #[tactic(auto, using(crate::proofs::Steps::read_within, crate::proofs::Steps::read_held, crate::proofs::Steps::sound_holds))]
     pub fn next(&mut self, cursor: usize) -> Option<Frame>
         requires { cursor < length self.old.cursors }
@@ -216,7 +215,7 @@ impl BusLog {
         Some(frame)
     }
 
-    /// The frame behind a station's cursor, where it stands: None exactly where no frame waits for it.
+    /// The frame behind a station's cursor, by reference. None exactly if no frame waits for it.
     #[inline]
     #[tactic(auto, using(crate::proofs::Steps::read_within, crate::proofs::Steps::read_held))]
     pub fn peek(&self, cursor: usize) -> Option<&Frame>
@@ -346,7 +345,7 @@ impl BusLog {
         self.release()
     }
 
-    // Moves all cursors, of which there are some, on to one place, at most to that of the newest frame.
+    // Moves all cursors, at least one, to one place, at most that of the newest frame.
     #[inline]
     fn bring_to(&mut self, to: Cursor)
         requires some { 0 < length self.old.cursors }
@@ -364,8 +363,8 @@ impl BusLog {
         };
     }
 
-    /// A station passes over the next n frames, which may be none: false exactly where fewer wait for it, and then
-    /// nothing changes. Otherwise nothing can be repeated until it has taken a frame.
+    /// A station passes over the next n frames, which may be 0. False exactly if fewer wait for it; then nothing changes.
+    /// Otherwise nothing can be repeated until it has taken a frame.
     #[tactic(auto, using(crate::proofs::Steps::read_within, crate::proofs::Steps::read_held, crate::proofs::Steps::sound_holds))]
     pub fn skip(&mut self, cursor: usize, n: u64) -> bool
         requires { cursor < length self.old.cursors }
@@ -383,8 +382,7 @@ impl BusLog {
         true
     }
 
-    /// Drops the frames that no station can take or repeat: what is kept is the frame at the lowest cursor and all after
-    /// it, or all frames where that cursor is at 0.
+    /// Drops the frames that no station can take or repeat: those before the lowest cursor, or none if that cursor is at 0.
     #[inline]
     #[tactic(auto, using(crate::proofs::Steps::sound_released, crate::proofs::Steps::sound_holds))]
     pub fn release(&mut self)
@@ -410,7 +408,7 @@ fn grow(kept: &mut VecDeque<Frame>) -> Result<(), AllocError>
     kept.reserve(ROOM)
 }
 
-// Frame by frame, so that what it costs is in proportion to what it drops.
+// Frame by frame, so that its cost is in proportion to the frames that it drops.
 fn drop_front(kept: &mut VecDeque<Frame>, n: usize)
     ensures items { kept.new.items ≡ drop n kept.old.items }
     ensures capacity { deque_capacity kept.new ≡ deque_capacity kept.old }

@@ -19,7 +19,7 @@ pub record HasCarried (c : Carried) : Type 0 where
   pub submitted : c.client.submitted ≡ map (relayed_to c.to) (take c.pushed c.inbox.received)
   pub within : c.pulled ≤ c.limit
 
--- it was by this passage, with the client of this number
+-- the relay took this passage, with the client of this number
 pub record IsBy (c : Carried) (p : Passage) (client : ℕ) : Type 0 where
   pub station : c.inbox.port.station.0 ≡ p.port.station.0
   pub number : c.inbox.port.number ≡ p.port.number
@@ -45,22 +45,22 @@ port_given p near = given p.port (trail near.addresses near.calls).events
 abbrev pub client_sent : Passage → (stations : List Address) → (far : LiveView) → List Submission
 client_sent p stations far = accepted (place_of p.from stations) far.calls
 
--- what the relay received are the first messages that the port was given, at most so many; and what was sent of its client are the first
--- of these, in order, with the same PGN and bytes, to the one station
+-- the relay received the first messages that the port was given, at most so many. The first of these were sent by its client, in order,
+-- with their PGN and bytes, to the one station
 pub record IsCarried (p : Passage) (stations : List Address) (c : Carriage) (near far : LiveView) : Type 0 where
   pub counted : c.pulled ≡ c.pushed + c.left
   pub within : c.pulled ≤ p.limit
   pub received : c.pulled ≤ length (port_given p near)
   pub sent : IsPrefix (client_sent p stations far) (map (relayed_to p.to) (take c.pushed (port_given p near)))
 
--- all that was to come came, was sent on, and has its outcome
+-- all that was to be relayed was received, was sent on, and has its outcome
 pub record IsCarriedWhole (p : Passage) (stations : List Address) (c : Carriage) (near far : LiveView) : Type 0 where
   pub left : c.left ≡ 0
   pub pulled : c.pulled ≡ p.limit
   pub sent : client_sent p stations far ≡ map (relayed_to p.to) (take p.limit (port_given p near))
   pub noted : p.limit ≤ length (notes_of (place_of p.from stations) (trail far.addresses far.calls).noted)
 
--- without a route nothing is relayed
+-- a relay sent on by its passage; without a route nothing is relayed
 abbrev pub Carries : Option Passage → (stations : List Address) → Carriage → (near far : LiveView) → Type 0
 Carries None stations c near far = c ≡ record { pulled = 0; pushed = 0; left = 0 }
 Carries (Some p) stations c near far = IsCarried p stations c near far

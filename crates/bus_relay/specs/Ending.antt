@@ -28,9 +28,9 @@ end_text near far ports c ran_out t u =
     below 256 (λ station. ports_at station ports u) ++ relayed_line c.pulled c.pushed c.left ++ below 256 (λ station. clients_at station 0 near t)
     ++ below 256 (λ station. clients_at station 0 far u) ++ cond ran_out (line (codes "turns ran out")) []
 
--- the text of what the threads leave of two segments of these stations: that of two records, of each of which the headline holds, and of
--- a relay, where there is a route, that sent on what the first record gave to its port; and unless the turns ran out, each of the messages
--- has its outcome, and all that was to be relayed was and has its outcome too
+-- the text of what the threads left of two segments of these stations. It is that of two records, for each of which the headline holds,
+-- and of a relay, if there is a route, that sent on what the first record gave to its port. Unless the turns ran out, each of the messages
+-- has its outcome, and all that was to be relayed was relayed and has its outcome too
 pub record Came (near_stations far_stations : List Address) (ports : List PortId) (messages : List Message) (o : Option Passage) (c : Carriage) (ran_out : Bool) (printed : List ℕ) (near far : LiveView) : Type 0 where
   pub near_addresses : near.addresses ≡ near_stations
   pub far_addresses : far.addresses ≡ far_stations
@@ -46,7 +46,7 @@ pub record Came (near_stations far_stations : List Address) (ports : List PortId
 abbrev pub CameOf : (near_stations far_stations : List Address) → List PortId → List Message → Option Passage → (ran_out : Bool) → List ℕ → Type 0
 CameOf near_stations far_stations ports messages o ran_out text = (near : LiveView) × (far : LiveView) × (c : Carriage) × Came near_stations far_stations ports messages o c ran_out text near far
 
--- what the threads came to; they run where both segments are made
+-- what the threads left; they run if both segments are made
 abbrev pub CameFrom : (near far : Option (List Address × List Stored)) → List PortId → List Message → Option Passage → (ran_out : Bool) → List ℕ → Type 0
 CameFrom None far ports messages o ran_out text = ⊥
 CameFrom (Some m) None ports messages o ran_out text = ⊥
@@ -59,7 +59,7 @@ CameBy (Some p) q routing ran_out text = CameFrom p.made q.made q.ports p.messag
 abbrev pub CameTo : Plans → (ran_out : Bool) → List ℕ → Type 0
 CameTo p ran_out text = CameBy p.before p.now p.routing ran_out text
 
--- the text of the refused lines was written, and then, where the script has no fault, that of what the threads came to; at a fault
--- of the script nothing but the former
+-- the text of the refused lines was written, and then, if the script has no fault, the text of what the threads left; at a fault of the
+-- script only the former
 abbrev pub Ended : LiveRan → Option (List ℕ) → Option (List ℕ) → Planned Plans → Type 0
 Ended ran a b planned = EndedBy text_of CameTo ran a b planned

@@ -1,4 +1,4 @@
--- What is known of two segments before their threads run.
+-- The facts known of two segments before their threads run.
 use Rattle.std.specs.Prelude.{◌≡◌, Option}
 use Rattle.script_runs.specs.declared.ending.Told.{Told}
 use Rattle.script_setup.specs.Plan.{Plan}
@@ -13,6 +13,6 @@ pub record IsKnown (p q : Plan) (o : Option Passage) (k : Known) : Type 0 where
   pub far : IsNamed q k.far
   pub passage : k.passage ≡ o
 
--- what the threads of segments with these names came to
+-- what the threads of segments with these names left
 abbrev pub CameOfKnown : Known → Told → Type 0
 CameOfKnown k told = CameOf k.near.stations.items k.far.stations.items k.far.ports.items k.near.messages.items k.passage told.ran_out told.text.items

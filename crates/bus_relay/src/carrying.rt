@@ -22,8 +22,8 @@ pub(crate) struct Carrying {
     pub(crate) passage: Passage,
 }
 
-/// The same inbox and client, the station that it sent to, how many messages it was to receive at most, and how many it received,
-/// submitted and left.
+/// A relay's inbox and client after it, the station that it sent to, how many messages it was to receive at most, and how many it
+/// received, submitted and left.
 #[derive(Drop)]
 pub(crate) struct Carried {
     pub(crate) inbox: Inbox,
@@ -35,7 +35,7 @@ pub(crate) struct Carried {
     pub(crate) left: u64,
 }
 
-/// The same, of which the facts hold that `carry` promises: they come with it out of whatever thread made it.
+/// A `Carried` for which the facts hold that `carry` promises: as its invariant they pass from thread to thread with it.
 #[derive(Drop)]
 pub(crate) struct Account {
     carried: Carried,
@@ -112,7 +112,7 @@ fn count_of(left: &[Delivery]) -> u64
 
 /// Relays, and reads the outcomes of what it submitted.
 ///
-/// `NotThisSegment` where the inbox or the client isn't new or the route leads to no station, `OutOfMemory` where memory was refused
+/// `NotThisSegment` if the inbox or the client isn't new or the route leads to no station; `OutOfMemory` if memory was refused
 /// before the first message was received.
 pub(crate) fn carry<R: Threads + Wait + Sync, G: Gate + Sync>(
     rt: &R,
@@ -145,7 +145,7 @@ pub(crate) fn carry<R: Threads + Wait + Sync, G: Gate + Sync>(
     })
 }
 
-/// That it was carried by this passage, with the client of this number: else it is `NotThisSegment`.
+/// Fails with `NotThisSegment` unless it was carried by this passage, with the client of this number.
 pub(crate) fn check_passage(carried: &Carried, passage: Passage, client: u64) -> Result<(), Lost>
     ensures { OnOk result (IsBy carried.now passage client) }
 {

@@ -1,4 +1,4 @@
-//! Who submits and who receives on two segments.
+//! The crews of two segments: those who submit and those who receive.
 
 use crate::carrying::Carrying;
 use crate::known::Known;
@@ -11,14 +11,14 @@ use segment_shared::{Client, Inbox, Live};
 use segment_threads::{Sender, senders_of};
 use std::alloc::Global;
 
-/// Of one segment: a client of each station with its messages, and the inboxes.
+/// The crew of one segment: a client of each station with its messages, and the inboxes.
 #[derive(Drop)]
 pub(crate) struct Crew {
     pub(crate) senders: Vec<Sender>,
     pub(crate) inboxes: Vec<Inbox>,
 }
 
-/// Of both, without the relay's inbox and client; and the relay, where there is one.
+/// The crews of both segments, without the relay's inbox and client; and the relay, if there is one.
 #[derive(Drop)]
 pub(crate) struct Crews {
     pub(crate) near: Crew,
@@ -66,9 +66,9 @@ fn crew_of(
     Ok(Crew { senders, inboxes })
 }
 
-/// A client of each station, the inboxes, and the relay, where there is a passage.
+/// A client of each station, the inboxes, and the relay, if there is a passage.
 ///
-/// `NotThisSegment` where a station can have no client or the passage's port or station isn't among them, `OutOfMemory` where memory was
+/// `NotThisSegment` if a station can have no client or the passage's port or station isn't among them; `OutOfMemory` if memory was
 /// refused.
 pub(crate) fn crews_of(
     alloc: Global,

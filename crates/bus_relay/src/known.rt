@@ -1,8 +1,8 @@
-//! What is known of two segments before their threads run.
+//! The facts known of two segments before their threads run.
 use relay_setup::Passage;
 use segment_report::Names;
 
-/// The names of both segments, and where the relay leads, where there is one.
+/// The names of both segments, and the passage of the relay, if there is one.
 #[derive(Drop)]
 pub(crate) struct Known {
     pub(crate) near: Names,

@@ -1,5 +1,5 @@
-//! A script of two segments run by threads, with one relay between them: what a port of the first is given, a client of the second
-//! sends on.
+//! A script of two segments run by threads, with one relay between them: messages that a port of the first is given are sent on by
+//! a client of the second.
 #![tactic(auto)]
 
 mod carrying;

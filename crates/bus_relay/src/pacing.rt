@@ -6,7 +6,7 @@ use std::sync::atomic::Ordering;
 use std::thread;
 
 /// The gate of one segment's workers: they have numbers from `first` on, the stations in the order of their addresses, and then the
-/// bus, so that no two workers of two segments have the same.
+/// bus, so that workers of two segments have different numbers.
 #[derive(Drop)]
 pub(crate) struct Numbered<'g, 's, G> {
     pub(crate) gate: &'g G,
@@ -33,9 +33,9 @@ impl<G: Gate> Gate for Numbered<'_, '_, G> {
     }
 }
 
-/// The gate of the relay's workers, behind that of the caller. A turn of theirs takes next to no time, so that they would else be
-/// through all of them before the first segment gave anything: none is ahead of the workers of the segments on an average, until
-/// nothing comes any more.
+/// The gate of the relay's workers, behind that of the caller. Their turns take next to no time, so they would otherwise use up all
+/// of them before the first segment gave anything. So none is ahead of the workers of the segments on average, until the first
+/// segment gives nothing more.
 #[derive(Drop)]
 pub(crate) struct RelayPace<'g, 'b, G> {
     pub(crate) gate: &'g G,

@@ -20,8 +20,8 @@ use std::io::{BufRead, Write};
 use std::sync::Wait;
 use std::thread::Threads;
 
-// Runs two segments, with a relay between them where there is a passage. What ends the run early is looked at behind them, since each
-// way out drops both, which the proof pays for.
+// Runs two segments, with a relay between them if there is a passage. The early ends are looked at behind them, since each way out drops
+// both, which the proof pays for.
 fn run_lives<R: Threads + Wait + Sync, G: Gate + Sync>(
     rt: &R,
     alloc: Global,
@@ -46,7 +46,7 @@ fn run_lives<R: Threads + Wait + Sync, G: Gate + Sync>(
     tell_end(alloc, &mut near, &mut far, handed, known)
 }
 
-// The same, where both were made.
+// `run_lives`, if both segments were made.
 fn run_both<R: Threads + Wait + Sync, G: Gate + Sync>(
     rt: &R,
     alloc: Global,
@@ -139,22 +139,22 @@ fn run<R: Threads + Wait + Sync, G: Gate + Sync>(
     Ok(told)
 }
 
-/// Reads a script of two segments and a route between them, runs both by threads, each worker with at most so many turns, and one relay
-/// from a port of the first to a station of the second, and writes what the ports of the second were given, what the relay did, and how
-/// the messages of both ended.
+/// Reads a script of two segments and a route between them. Runs both by threads, each worker with at most so many turns, and one relay
+/// from a port of the first to a station of the second. Writes what the ports of the second were given, what the relay did, and how the
+/// messages of both ended.
 ///
-/// The lines that are refused are written before the threads run. At a fault of the script nothing else is written, and the fault is told.
-/// Where there is none, what follows is exactly the stated text of two records of calls on segments of the script's stations, for each
-/// of which the headline holds, and of a relay. It received the first messages that the first record gave to the route's port, and of its
-/// client the second record has the first of these, in order, with the same PGN and bytes, to the station that the route names. Unless
-/// the turns ran out, each message of the first segment has its outcome there, and the relay received as many messages as the script sends
-/// to that port, all of which the second record has, with their outcomes. Where a read or a write failed or memory was refused, a front
-/// of that text was written.
+/// The lines that are refused are written before the threads run. At a fault of the script nothing else is written, and the fault is
+/// returned. Otherwise the text that follows is exactly the stated text of two records of calls on segments of the script's stations, for
+/// each of which the headline holds, and of a relay. The relay received the first messages that the first record gave to the route's port.
+/// The second record has, from its client, the first of these, in order, with their PGN and bytes, to the station that the route names.
+/// Unless the turns ran out, each message of the first segment has its outcome there, and the relay received as many messages as the
+/// script sends to that port, all of which the second record has, with their outcomes. If a read or a write failed or memory was refused,
+/// a front of that text was written.
 ///
-/// Nothing is promised of which calls the threads make. The outcome of a message on the first segment says nothing of the second.
+/// Nothing is promised about which calls the threads make. The outcome of a message on the first segment says nothing of the second.
 ///
-/// To the gate the workers have numbers from 0 on: the stations of the first segment in the order of their line, its bus, the same of
-/// the second, and then the relay's worker that receives and the one that submits.
+/// The gate sees the workers by numbers from 0 on: the stations of the first segment in the order of their line, its bus, the stations and
+/// the bus of the second, and then the relay's worker that receives and the one that submits.
 pub fn run_relay<T: Threads + Wait + Sync, R: BufRead, W: Write, G: Gate + Sync>(
     rt: &T,
     alloc: Global,

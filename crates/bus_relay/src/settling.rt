@@ -57,7 +57,7 @@ fn is_none_left(reports: &[ClientReport]) -> bool
     true
 }
 
-// Reports on the first segment with the relay's inbox: what that received begins what its port was given.
+// Reports on the first segment with the relay's inbox: the messages that it received are the first that its port was given.
 fn report_near(live: &mut Live, ends: Ends, inbox: Inbox) -> Result<(), Lost>
     ensures { OnOk result (IsPrefix inbox.received (given inbox.port (trail live.new.addresses live.new.calls).events)) }
 {
@@ -66,7 +66,7 @@ fn report_near(live: &mut Live, ends: Ends, inbox: Inbox) -> Result<(), Lost>
     let Ends { clients, inboxes } = ends;
     let inboxes = with_last(inboxes, inbox)?;
     let told = report(live, clients, inboxes)?;
-    // Of a segment that was cut, nothing is told of what was given before and read.
+    // A segment that was cut doesn't show what was given and read before.
     if told.cuts > 0 {
         return Err(Lost::NotThisSegment);
     }
@@ -74,7 +74,8 @@ fn report_near(live: &mut Live, ends: Ends, inbox: Inbox) -> Result<(), Lost>
     Ok(())
 }
 
-// Reports on the second segment with the relay's client: what was accepted of it begins what it submitted. True only where all was.
+// Reports on the second segment with the relay's client: the messages accepted of it are the first that it submitted. True only if all
+// were accepted.
 fn report_far(live: &mut Live, ends: Ends, client: Client) -> Result<bool, Lost>
     ensures begins { OnOk result (IsPrefix (accepted client.id live.new.calls) client.submitted) }
     ensures all { IfOk result (λ b. b ≡ true → accepted client.id live.new.calls ≡ client.submitted) }
@@ -82,7 +83,7 @@ fn report_far(live: &mut Live, ends: Ends, client: Client) -> Result<bool, Lost>
     let Ends { clients, inboxes } = ends;
     let clients = with_last(clients, client)?;
     let told = report(live, clients, inboxes)?;
-    // Of a segment that was cut, nothing is told of what was accepted before.
+    // A segment that was cut doesn't show what was accepted before.
     if told.cuts > 0 {
         return Err(Lost::NotThisSegment);
     }
@@ -104,7 +105,8 @@ fn place_of(station: Address, stations: &[Address]) -> u64
     place
 }
 
-// Whether a relay did all that it was to do: what it submitted was accepted and has its outcomes, it left nothing, and it received so many.
+// Whether a relay completed its work: all that it submitted was accepted and has its outcomes, it left nothing, and it received so
+// many.
 fn is_done(far: &Live, client: u64, is_accepted: bool, carriage: Carriage, limit: u64) -> bool
     ensures accepted { result ≡ true → is_accepted ≡ true }
     ensures left { result ≡ true → carriage.left ≡ 0 }
@@ -187,7 +189,7 @@ fn settle_apart(
     })
 }
 
-// Reports on both segments, and on the relay where there is a passage.
+// Reports on both segments, and on the relay if there is a passage.
 fn settle(
     near: &mut Live,
     far: &mut Live,
@@ -216,10 +218,10 @@ fn settle(
     Ok(settled)
 }
 
-/// Reports on the clients and inboxes, and gives the text of what the threads came to.
+/// Reports on the clients and inboxes, and returns the text of what the threads left.
 ///
-/// `NotThisSegment` where one of them isn't of its segment or the relay isn't that of the passage, `OutOfMemory` where memory was refused;
-/// or why the threads came to nothing.
+/// `NotThisSegment` if one of them isn't of its segment or the relay isn't that of the passage; `OutOfMemory` if memory was refused; or
+/// why the threads left nothing.
 pub(crate) fn tell_end(
     alloc: Global,
     near: &mut Live,

@@ -85,7 +85,7 @@ fn is_cut_short(
     has_run_out(near, near_stations, messages, drained)
 }
 
-/// The text of what the threads leave, where it is two segments of these stations.
+/// The text of what the threads left, which must be two segments of these stations.
 pub(crate) fn text_of(
     alloc: Global,
     near: &Live,

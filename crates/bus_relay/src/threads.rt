@@ -48,7 +48,7 @@ struct AllSpawned {
     far: Spawned,
 }
 
-// Relays, where there is a passage. Where it can't all are to end.
+// Relays, if there is a passage. If it can't, all are to end.
 fn carry_or_end<R: Threads + Wait + Sync, G: Gate + Sync>(
     rt: &R,
     alloc: Global,
@@ -111,7 +111,7 @@ fn spawn_all<'s, E, R: Threads + Wait + Sync, G: Gate + Sync>(
     })
 }
 
-// The same. None begins before all are made: where one can't be, the others end at once, so that nobody waits for it.
+// `spawn_all`, in which none begins before all are made: if one can't be made, the others end at once, so that nobody waits for it.
 fn spawn_at_once<'s, E, R: Threads + Wait + Sync, G: Gate + Sync>(
     scope: &Scope<'s, E>,
     rt: &'s R,
@@ -184,7 +184,7 @@ fn in_threads<R: Threads + Wait + Sync, G: Gate + Sync>(
     )
 }
 
-// The number of the worker behind so many, or the last number where there are too many.
+// The number of the worker behind so many, or the last number if there are too many.
 fn number_behind(workers: u64) -> u8 {
     if workers > 255 {
         return 255;
@@ -220,7 +220,7 @@ impl Counts {
     }
 }
 
-/// Runs two segments by threads at one pace, which no worker of either is ahead of, with a relay where there is one. Crews that weren't
+/// Runs two segments by threads at one pace, which no worker of either is ahead of, with a relay if there is one. Crews that weren't
 /// made end it at once.
 pub(crate) fn run_shared<R: Threads + Wait + Sync, G: Gate + Sync>(
     rt: &R,

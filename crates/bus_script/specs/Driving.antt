@@ -15,7 +15,7 @@ told_at ends.Idle = Answered
 told_at (ends.Refused cause) = Answered
 told_at ends.OutOfMemory = NoMemory
 
--- a drive was made, with its turns and its end: its frames stand in the log, its events below
+-- a drive was made, with its turns and its end: its frames are in the log, its events below
 pub record HasDriven (d : Driven) (log : List ℕ) (seg : Segment) (old page : Parted) (done : ℕ × DriveEnd) : Type 0 where
   pub segment : seg ≡ d.segment
   pub turns : done.0 ≡ d.turns

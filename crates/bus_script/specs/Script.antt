@@ -1,4 +1,4 @@
--- What a script tells, line by line, up to its fault.
+-- The outcome of a script, line by line, up to its fault.
 use Rattle.std.specs.Prelude.{◌≡◌, ℕ, List, [], ◌∷◌, ◌++◌, map, Option, Some, None, Result, Ok, Err, if◌then◌else◌, option_to_list}
 use Rattle.bus_frame.specs.Frames.{CanFrame}
 use Rattle.pgn_ids.specs.declared.address.Address.{Address}
@@ -29,7 +29,7 @@ use Rattle.line_runs.specs.Outcome as lines
 use Rattle.line_runs.specs.declared.running.Told.{Told}
 use Rattle.line_runs.specs.declared.running.Told.TheVariants.{Answered, NoMemory}
 
--- the segment afterwards, where there is one, and what is told
+-- the segment afterwards, if there is one, and the telling of the line
 abbrev pub Step : Type 0
 Step = Result (Option Segment × Telling) Fault
 
@@ -39,7 +39,7 @@ made addresses =
     if are_addresses addresses then Ok (Some (new_segment addresses), made_of addresses)
     else Ok (None, refused_by BadAddresses)
 
--- the frame that a call puts on the bus where it is done
+-- the frame that a call puts on the bus if it is done
 abbrev pub frame_put : Segment → Call → Option CanFrame
 frame_put s (Transmit station) = front_at s station
 frame_put s (Inject frame) = Some frame
@@ -89,7 +89,7 @@ obey_words s (name ∷ words) = do
 unfoldable pub obey_line : Option Segment → List ℕ → Step
 obey_line s text = if is_ascii text then obey_words s (words_of text) else Err NotAscii
 
--- of what each line tells, a text has what a view shows
+-- a line's text is the part of its telling that a view shows
 abbrev pub shown_by : (Telling → List ℕ) → Step → Result (Option Segment × List ℕ) Fault
 shown_by view (Ok done) = Ok (done.0, view done.1)
 shown_by view (Err f) = Err f
@@ -102,7 +102,7 @@ outcome view script = lines.outcome script_limits (told_in view) None script
 
 -- How the code obeyed a line
 
--- what a step told
+-- the telling of a step
 abbrev pub told_by : Step → Telling
 told_by (Ok done) = done.1
 told_by (Err f) = reply_alone []

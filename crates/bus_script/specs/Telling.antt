@@ -1,4 +1,4 @@
--- What a line of a script tells, and where it stands: in one text, or the frames in a log and the rest in a text.
+-- The telling of a script's line, and how it is shown: in one text, or with the frames in a log and the rest in a text.
 use Rattle.std.specs.Prelude.{ℕ, ◌*◌, ◌-◌, ◌^◌, List, [], ◌++◌, flat_map, min, codes}
 use Rattle.std.specs.List.{zip}
 use Rattle.bus_frame.specs.Frames.{CanFrame}
@@ -12,7 +12,7 @@ use Rattle.segment_law.specs.declared.counts.Counts.{Counts}
 use Rattle.script_text.specs.Replies.{refusal_text, put_lines, event_lines}
 use Rattle.script_text.specs.Counts.{counts_line}
 
--- the line of the reply, the stations where the segment was made, the frames that were put, the clock at which each of them was put, and
+-- the line of the reply, the stations if the segment was made, the frames that were put, the clock at which each of them was put, and
 -- the events
 pub record Telling : Type 0 where
   pub reply : List ℕ
@@ -24,7 +24,7 @@ pub record Telling : Type 0 where
 abbrev pub reply_alone : List ℕ → Telling
 reply_alone reply = record { reply = reply; stations = []; frames = []; times = []; events = [] }
 
--- the segment was made of these stations
+-- the telling of a segment that was made of these stations
 abbrev pub made_of : List Address → Telling
 made_of addresses = record (reply_alone (line (codes "done"))) { stations = addresses }
 
@@ -64,6 +64,6 @@ frames_alone told = flat_map put_at (zip told.times told.frames)
 abbrev pub without_frames : Telling → List ℕ
 without_frames told = told.reply ++ event_lines told.events
 
--- where no log is kept
+-- the view that shows nothing, if no log is kept
 abbrev pub nothing : Telling → List ℕ
 nothing told = []

@@ -7,7 +7,7 @@ use Rattle.segment_law.specs.Segment.{Segment}
 use Rattle.segment_law.specs.Drive.{Driven, driven}
 use Rattle.bus_script.specs.Telling.{put_at}
 
--- nothing comes behind a turn that ended the drive
+-- nothing follows a turn that ended the drive
 abbrev pub unless_ended : Driven → List ℕ → List ℕ
 unless_ended d rest = elim d.ended [ None ↦ rest | Some cause ↦ [] ]
 

@@ -1,4 +1,4 @@
-//! What is printed of a drive.
+//! The printed text of a drive.
 ghost use Rattle.std.specs.Prelude.{◌≡◌, ◌++◌, OnOk};
 ghost use Rattle.script_text.specs.Replies.{event_lines, drive_lines};
 
@@ -16,7 +16,7 @@ pub(crate) fn print_told(out: &mut Vec<u8>, events: &EventList) -> Result<(), Al
     Ok(())
 }
 
-/// The lines of a drive: its turns and how it ended, the frames that it put, then the events that it told.
+/// The lines of a drive: its turns and how it ended, the frames that it put, then its events.
 pub(crate) fn print_driven(out: &mut Vec<u8>, driven: Driven) -> Result<(), AllocError>
     ensures { OnOk result (out.new.items ≡ out.old.items ++ drive_lines driven.turns driven.end driven.frames driven.events) }
 {

@@ -17,7 +17,7 @@ use script_text::print_drove;
 use segment_core::{DriveEnd, Segment};
 use std::alloc::AllocError;
 
-/// A drive for which memory was wanting is told as such.
+/// A drive that ended for want of memory is reported as such.
 pub(crate) fn told_at(ended: DriveEnd) -> Told
     ensures { result ≡ told_at ended }
 {
@@ -29,7 +29,7 @@ pub(crate) fn told_at(ended: DriveEnd) -> Told
     }
 }
 
-/// One turn. Its frame stands in the log, its events stand below, and nothing is added to the text.
+/// One turn. Its frame is put into the log, its events below, and nothing is added to the text.
 fn log_turn(
     segment: &mut Segment,
     from: Address,

@@ -1,5 +1,5 @@
 //! The script language of a segment: a script is read line by line, each line is obeyed, and the reply to it is printed
-//! before the next line is read. The frames that are put stand below the replies, or as a log of their own.
+//! before the next line is read. The frames that are put are printed below the replies, or as a log of their own.
 #![tactic(auto)]
 
 mod driven;

@@ -1,4 +1,4 @@
-//! What a line does, and what is told of it.
+//! What a line does, and its telling.
 ghost use Rattle.std.specs.Prelude.{◌≡◌, Some, None};
 ghost use Rattle.script_commands.specs.Words.{texts};
 ghost use Rattle.bus_script.specs.Script.{Obeyed, frame_put, made, called, on_segment, perform, obey_words, obey_line};
@@ -10,7 +10,7 @@ use script_commands::{Addresses, Command, Fault, LineError, is_ascii, read_comma
 use segment_core::{Call, NewRefused, Refusal, Segment};
 use std::alloc::Global;
 
-/// The frame that a call puts on the bus where it is done.
+/// The frame that a call puts on the bus if it is done.
 fn frame_put(segment: &Segment, call: &Call) -> Option<Frame>
     ensures { result ≡ frame_put segment.entry.now call.now }
 {
@@ -123,7 +123,7 @@ fn obey_words<S: Sheet>(
     }
 }
 
-/// Obeys a line, and shows what it tells behind what the sheet has.
+/// Obeys a line, and shows its telling behind what the sheet has.
 #[tactic(auto, unfolding(crate::specs::Script::obey_line))]
 pub(crate) fn obey_line<S: Sheet>(
     alloc: Global,

@@ -1,4 +1,4 @@
-//! What a line tells, in two parts: the frames that are put as a log, and all the rest.
+//! The telling of a line, in two parts: the frames that are put as a log, and all the rest.
 ghost use Rattle.std.specs.Prelude.{◌≡◌, ◌++◌, OnOk};
 ghost use Rattle.segment_law.specs.Calls.{events_of};
 ghost use Rattle.script_text.specs.Replies.{event_lines};
@@ -23,7 +23,7 @@ pub(crate) struct Parted {
     pub(crate) text: Vec<u8>,
     /// The frames that are put.
     pub(crate) log: Vec<u8>,
-    /// The events of a drive while its line, which stands above them, isn't known.
+    /// The events of a drive while its line, which goes above them, isn't known.
     pub(crate) below: Vec<u8>,
 }
 
@@ -37,7 +37,7 @@ impl Parted {
         }
     }
 
-    // What a call that was done told: its frame, and its events.
+    // The frame and the events of a call that was done.
     fn show_below(&mut self, now: u64, put: Option<Frame>, reply: Reply) -> Result<(), AllocError>
         ensures text { OnOk result (self.new.text.items ≡ self.old.text.items ++ event_lines (events_of reply)) }
         ensures log { OnOk result (self.new.log.items ≡ self.old.log.items ++ log_at now (frames_put put reply)) }

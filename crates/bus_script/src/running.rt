@@ -12,12 +12,12 @@ use std::alloc::Global;
 use std::io;
 use std::io::{BufRead, Write};
 
-/// Runs a script: reads its lines to the end of the input, obeys each, and writes and flushes what is printed for it before
-/// the next line is read. It ends at the first fault, at 1,000,001 lines at the latest.
+/// Runs a script: reads its lines to the end of the input, obeys each, and writes and flushes what is printed for it before the next
+/// line is read. It ends at the first fault, at 1,000,001 lines at the latest.
 ///
-/// Unless the run reports a failed read or write or refused memory, exactly the text of the script was written, and the fault is
-/// the script's. Where it reports a failed read or write, or memory that was refused outside a call and in none, a front of that
-/// text was written. A call that finds no memory prints `no memory`, the run goes on, and then nothing is promised of the text.
+/// Unless the run reports a failed read or write or refused memory, exactly the text of the script was written, and the fault is the
+/// script's. If it reports a failed read or write, or memory that was refused outside a call and in none, a front of that text was
+/// written. A call that finds no memory prints `no memory`, the run continues, and then nothing is promised of the text.
 pub fn run_script<R: BufRead, W: Write>(alloc: Global, reader: &mut R, writer: &mut W) -> Ran
     ensures { IfSome (R.remaining reader.old) (λ script.
         Ended result (W.contents writer.old) (W.contents writer.new) (outcome whole script)) }
@@ -26,9 +26,9 @@ pub fn run_script<R: BufRead, W: Write>(alloc: Global, reader: &mut R, writer: &
     run_on(alloc, Whole::new(alloc), reader, writer, &mut nowhere)
 }
 
-/// Runs a script as `run_script` does, and parts what that writes: the frames that are put are written to `writer`, each as a line of a
-/// log of the interface `bus0` at the time of the segment's clock, where a tick is 1,000 microseconds, and all the rest to `errors`.
-/// What a line tells is written and flushed before the next line is read, its frames first.
+/// Runs a script as `run_script` does, and splits its output in two. The frames that are put are written to `writer`, each as a line of
+/// a log of the interface `bus0` at the time of the segment's clock, in which a tick is 1,000 microseconds; all the rest is written to
+/// `errors`. The output of a line is written and flushed before the next line is read, its frames first.
 ///
 /// What is promised of the one text of `run_script` is promised of each of the two.
 pub fn run_logged<R: BufRead, W: Write, E: Write>(

@@ -11,7 +11,7 @@ use segment_core::Segment;
 use std::alloc::Global;
 use std::io::{BufRead, Write};
 
-/// The segment of a script, once it is made, and what the last line told.
+/// The segment of a script, once it is made, and the telling of the last line.
 #[derive(Drop)]
 struct Script<S> {
     segment: Option<Segment>,

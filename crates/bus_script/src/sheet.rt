@@ -1,4 +1,4 @@
-//! Where what the lines of a script tell is shown.
+//! Sheets, on which the tellings of a script's lines are shown.
 ghost use Rattle.std.specs.Prelude.{◌≡◌, ◌++◌, [], List, ℕ, Some, OnOk};
 ghost use Rattle.bus_script.specs.Telling.{Telling, reply_alone, made_of, refused_by, counted, without_memory};
 ghost use Rattle.bus_script.specs.Script.{Obeyed, told_of, drove};
@@ -10,14 +10,14 @@ use script_commands::LineError;
 use segment_core::{Counts, Refusal, Reply, Segment};
 use std::alloc::AllocError;
 
-/// A text and a log, which hold what a line tells, or parts of it.
+/// A text and a log, which hold the telling of a line, or parts of it.
 pub trait Sheet {
     // What the text has of it, and what the log has.
     ghost in_text: { Telling → List ℕ };
 
     ghost in_log: { Telling → List ℕ };
 
-    // What stands there.
+    // The text and the log so far.
     ghost text_shown: { Self → List ℕ };
 
     ghost log_shown: { Self → List ℕ };
@@ -28,7 +28,7 @@ pub trait Sheet {
     fn log(&self) -> &[u8]
         ensures { result.now ≡ log_shown self.now };
 
-    /// Nothing stands there.
+    /// Empties the text and the log.
     fn clear(&mut self)
         ensures text { text_shown self.new ≡ [] }
         ensures log { log_shown self.new ≡ [] };
@@ -48,7 +48,7 @@ pub trait Sheet {
         ensures text { OnOk result (text_shown self.new ≡ text_shown self.old ++ in_text (counted counts)) }
         ensures log { OnOk result (log_shown self.new ≡ log_shown self.old ++ in_log (counted counts)) };
 
-    /// The reply to a call that was made at this tick and puts this frame where it is done.
+    /// The reply to a call that was made at this tick and puts this frame if it is done.
     fn show_reply(&mut self, now: u64, put: Option<Frame>, reply: Reply) -> Result<(), AllocError>
         ensures text { OnOk result (text_shown self.new ≡ text_shown self.old ++ in_text (told_of now put reply)) }
         ensures log { OnOk result (log_shown self.new ≡ log_shown self.old ++ in_log (told_of now put reply)) };
@@ -69,7 +69,7 @@ pub trait Sheet {
         ensures text { Obeyed in_text result (Some segment.new) (text_shown self.old) (text_shown self.new) (drove segment.old from to turns) }
         ensures log { Obeyed in_log result (Some segment.new) (log_shown self.old) (log_shown self.new) (drove segment.old from to turns) };
 
-    // A line that tells nothing shows nothing.
+    // An empty telling shows nothing.
     ghost blank_text: { in_text (reply_alone []) ≡ [] };
 
     ghost blank_log: { in_log (reply_alone []) ≡ [] };

@@ -1,4 +1,4 @@
-//! All that a line tells, in one text.
+//! The whole telling of a line, in one text.
 ghost use Rattle.std.specs.Prelude.{◌≡◌, ◌++◌, OnOk, option_to_list};
 ghost use Rattle.segment_law.specs.Calls.{events_of};
 ghost use Rattle.script_text.specs.Replies.{put_lines, event_lines};
@@ -39,7 +39,7 @@ fn print_optional(text: &mut Vec<u8>, put: Option<Frame>) -> Result<(), AllocErr
     }
 }
 
-/// What stands below the reply of a call that was done: the frame that it put, and its events.
+/// The lines below the reply of a call that was done: the frame that it put, and its events.
 fn print_below(text: &mut Vec<u8>, put: Option<Frame>, reply: Reply) -> Result<(), AllocError>
     ensures { OnOk result (text.new.items ≡ text.old.items ++ (put_lines (frames_put put reply) ++ event_lines (events_of reply))) }
 {

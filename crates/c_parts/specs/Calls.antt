@@ -1,7 +1,7 @@
 -- Calls on what a handle has.
 use Rattle.std.specs.Prelude.{◌≡◌, ℕ, Option, Some, None, Result, Ok, Err}
 
--- a call was made on what the handle had, the handle has what it left, and the code is that of its answer
+-- a call was made on the handle's value, the handle has the value after it, and the code is that of its answer
 pub record IsMadeOn {S A : Type 0} (code : A → ℕ) (does : (before after : S) → A → Type 0) (of out : Option S) (result : ℕ) : Type 0 where
   pub before : S
   pub after : S
@@ -19,7 +19,7 @@ pub record IsCoded {A : Type 0} (code : A → ℕ) (is : A → Type 0) (result :
 
 -- What is written
 
--- a number, if there is one; else the place is as it was
+-- a number is written, if there is one; else the place is unchanged
 abbrev pub IsWritten : {A E : Type 0} → (number : A → ℕ) → (old new : ℕ) → Result A E → Type 0
 IsWritten number old new (Ok value) = new ≡ number value
 IsWritten number old new (Err error) = new ≡ old

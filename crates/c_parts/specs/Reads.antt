@@ -1,4 +1,4 @@
--- What numbers from C stand for.
+-- The meaning of numbers from C.
 use Rattle.std.specs.Prelude.{ℕ, ◌^◌, nat_lt, nat_le, if◌then◌else◌, List, length, Result, Ok, Err}
 use Rattle.bus_frame.specs.Frames.{CanFrame}
 use Rattle.pgn_ids.specs.Pgn.{is_pgn}

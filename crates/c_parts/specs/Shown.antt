@@ -11,7 +11,7 @@ use Rattle.c_parts.specs.declared.shown.CCounts.{CCounts}
 abbrev pub shown_frame : CanFrame → CFrame
 shown_frame frame = record { id = frame.id; len = length frame.bytes; bytes = frame.bytes ++ replicate (8 - length frame.bytes) 0 }
 
--- from 1
+-- the number of an outcome, from 1
 abbrev pub outcome_number : Outcome → ℕ
 outcome_number end.Acknowledged = 1
 outcome_number end.Broadcast = 2

@@ -1,4 +1,4 @@
-//! What a call comes to, as C reads it: 0 if it is done, 1 to 30 the number of its refusal, and these.
+//! The code that a call returns to C: 0 if it is done, 1 to 30 for the number of its refusal, and those below.
 ghost use Rattle.std.specs.Prelude.{◌≡◌};
 ghost use Rattle.segment_law.specs.Refusals.{refusal_number};
 
@@ -13,7 +13,7 @@ pub const NO_MEMORY: u32 = 64;
 /// There is nothing that could be written.
 pub const NOTHING: u32 = 65;
 
-/// The clock stands at a later tick.
+/// The clock is at a later tick.
 pub const CLOCK_PASSED: u32 = 67;
 
 /// The message has more bytes than there is room for.

@@ -1,4 +1,4 @@
-//! What numbers from C stand for.
+//! The meaning of numbers from C.
 ghost use Rattle.std.specs.Prelude.{◌≡◌};
 ghost use Rattle.c_parts.specs.Reads.{read_pgn, read_frame};
 
@@ -8,7 +8,7 @@ use segment_law::Refusal;
 
 /// The PGN of this number.
 ///
-/// Refused as `BadPgn` if it has more than 18 bits, or is of PDU1 and its low byte isn't 0.
+/// Refused as `BadPgn` if it has more than 18 bits, or is PDU1 with a low byte other than 0.
 pub fn read_pgn(raw: u32) -> Result<Pgn, Refusal>
     ensures { result ≡ read_pgn raw }
 {

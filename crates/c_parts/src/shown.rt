@@ -9,7 +9,7 @@ use bus_frame::Frame;
 use segment_law::Counts;
 use tp_wire::Outcome;
 
-/// A frame: its identifier of 29 bits, and `len` bytes, 0 to 8. The other bytes of one that is shown are 0.
+/// A frame: its identifier of 29 bits, and `len` bytes, 0 to 8. If the frame is shown, its other bytes are 0.
 #[repr(C)]
 #[derive(Drop)]
 pub struct CFrame {
@@ -96,7 +96,7 @@ pub fn outcome_reason(outcome: &Outcome) -> u32
     }
 }
 
-/// Writes a tick, if there is one, and answers `DONE` or `NOTHING`.
+/// Writes a tick, if there is one, and returns `DONE` or `NOTHING`.
 pub fn write_tick(answer: Option<u64>, tick: &mut u64) -> u32
     ensures code { result ≡ found_code answer }
     ensures written { IsTickWritten tick.old tick.new answer }

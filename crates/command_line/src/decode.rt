@@ -7,7 +7,7 @@ use std::alloc::{AllocError, Global};
 /// What of a log is asked for.
 #[derive(Debug, PartialEq, Eq, Drop)]
 pub struct OfLog {
-    /// Messages of these PGNs; of each where none is named. So with the addresses.
+    /// Messages of these PGNs; of each PGN if none is named. The addresses likewise.
     pub pgns: Vec<u32>,
     /// Messages from these addresses.
     pub from: Vec<u32>,
@@ -17,15 +17,15 @@ pub struct OfLog {
     pub most: u32,
     /// Whether frames that carry nothing of a message are printed too.
     pub singles: bool,
-    /// Whether a wrong line ends the run; else it is told, and the log goes on.
+    /// Whether a wrong line ends the run; else it is reported, and the next line is read.
     pub strict: bool,
     /// Whether each line is a JSON object.
     pub json: bool,
-    /// Whether the frames of each message are listed, but for its packets.
+    /// Whether the frames of each message are listed, except its packets.
     pub frames: bool,
     /// Whether fault lists and identifications are shown in words too.
     pub explain: bool,
-    /// Whether what came of the messages is counted, and printed where the log ends.
+    /// Whether the ends of the messages are counted, and printed at the end of the log.
     pub summary: bool,
     /// Whether neither messages nor frames are printed.
     pub quiet: bool,
@@ -141,7 +141,7 @@ fn strict_arg<'a>(alloc: Global) -> Arg<'a> {
     flag(alloc, "strict", "Ends at a wrong line")
 }
 
-/// Its arguments, in the order of the help.
+/// The arguments of `decode`, in the order of the help.
 fn decode_args<'a>(alloc: Global) -> Result<Vec<Arg<'a>>, AllocError> {
     let pgn = "Only messages of this PGN, hexadecimal";
     let from = "Only messages from this address, hexadecimal";
@@ -180,7 +180,7 @@ pub(crate) fn decode_command<'a>(alloc: Global) -> Result<Command<'a>, AllocErro
     )
 }
 
-/// The number that hexadecimal digits write, where it is at most `most`.
+/// The number that hexadecimal digits write, if it is at most `most`.
 pub(crate) fn hexadecimal(word: &str, most: u32) -> Option<u32> {
     if !word.as_bytes().first()?.is_ascii_hexdigit() {
         return None;
@@ -189,7 +189,7 @@ pub(crate) fn hexadecimal(word: &str, most: u32) -> Option<u32> {
     if number <= most { Some(number) } else { None }
 }
 
-/// The number that a word of an argument writes; where it writes none, the word is refused.
+/// The number that a word of an argument writes; if it writes none, the word is refused.
 fn number(alloc: Global, name: &str, word: &str, most: u32) -> Result<u32, Refused> {
     match hexadecimal(word, most) {
         Some(number) => Ok(number),

@@ -19,7 +19,7 @@ pub struct OfDrawing {
     pub interface: Option<String>,
     /// Whether frames are drawn too that carry nothing of a message.
     pub others: bool,
-    /// Whether a wrong line ends the drawing; else it is told, and the log goes on.
+    /// Whether a wrong line ends the drawing; else it is reported, and the next line is read.
     pub strict: bool,
 }
 
@@ -67,12 +67,12 @@ fn log_arg<'a>(
     valued(alloc, name, value, ArgAction::Set, help).requires_arg("log")
 }
 
-/// One without a value.
+/// A flag without a value.
 fn log_flag<'a>(alloc: Global, name: &'a str, help: &'a str) -> Result<Arg<'a>, AllocError> {
     flag(alloc, name, help).requires_arg("log")
 }
 
-/// Its arguments, in the order of the help.
+/// The arguments of `draw`, in the order of the help.
 fn draw_args<'a>(alloc: Global) -> Result<Vec<Arg<'a>>, AllocError> {
     let pair = "Only frames between these nodes, and from either to all, hexadecimal";
     let from = "No frame before this time";
@@ -163,7 +163,7 @@ fn pair_of(alloc: Global, matches: &ArgMatches) -> Result<Option<(u8, u8)>, Refu
     }
 }
 
-/// What its words ask for, where logs are drawn.
+/// What its words ask for, if logs are drawn.
 fn read_log(alloc: Global, matches: &ArgMatches) -> Result<OfDrawing, Refused> {
     Ok(OfDrawing {
         pair: pair_of(alloc, matches)?,

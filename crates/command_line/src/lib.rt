@@ -23,17 +23,17 @@ use std::alloc::{AllocError, Global};
 pub enum Asked {
     /// The script is run line by line.
     Script,
-    /// It is run so, and the frames that it puts are printed as a log, without the replies.
+    /// The script is run, and the frames that it puts are printed as a log, without the replies.
     Logged,
-    /// It is run so, and drawn as a sequence diagram.
+    /// The script is run, and drawn as a sequence diagram.
     Drawn,
     /// Logs are drawn so.
     DrawnLog(OfDrawing),
-    /// It is run by threads, each worker with at most so many turns.
+    /// The script is run by threads, each worker with at most so many turns.
     Live { turns: u64 },
-    /// Its two segments are run by threads, with a relay between them.
+    /// The script's two segments are run by threads, with a relay between them.
     Relay { turns: u64 },
-    /// It is a station on the bus whose frames are read from standard input.
+    /// A station on the bus whose frames are read from standard input.
     Node(OfNode),
     /// The messages of logs are printed.
     Decode(OfLog),
@@ -48,10 +48,10 @@ pub struct Line {
     pub files: Vec<String>,
 }
 
-/// The turns of a worker where the command line names none.
+/// The turns of a worker if the command line names none.
 const TURNS: u64 = 1_000_000;
 
-/// What is read and written, an example, and the statuses, which stand at the end of the program's help.
+/// What is read and written, an example, and the statuses: the end of the program's help.
 const PROGRAM_HELP: &str =
     "The reply to each line is written to standard output before the next line is
 read. What ends the run before the script's end, such as a wrong line or a file
@@ -74,7 +74,7 @@ Status:
 
 docs/SCRIPTS.md describes the language, docs/LOGS.md what decode reads.";
 
-/// The same at the end of the help of `live`.
+/// The end of the help of `live`.
 const LIVE_HELP: &str = "The script is read to its end: one line of 1 to 8 stations, lines that open
 ports, and at most 64 lines that send. A thread for each station submits its
 messages, one for each port receives, and a worker for each station and one for
@@ -94,7 +94,7 @@ Status:
 
 docs/SCRIPTS.md describes the language, and this in its last part.";
 
-/// The same at the end of the help of `relay`.
+/// The end of the help of `relay`.
 const RELAY_HELP: &str =
     "The script is read to its end: lines of a first segment as live reads them, a
 second line of stations, lines that open ports on the second segment, and one
@@ -166,7 +166,7 @@ fn commands<'a>(alloc: Global) -> Result<Vec<Command<'a>>, AllocError> {
     add(commands, node_command(alloc))
 }
 
-/// The program with what it takes where none of its commands is named.
+/// The program with its own arguments, for a command line that names none of its commands.
 fn without_commands<'a>(alloc: Global) -> Result<Command<'a>, AllocError> {
     let log = flag(
         alloc,
@@ -191,7 +191,7 @@ fn program<'a>(alloc: Global) -> Result<Command<'a>, AllocError> {
         .subcommands(commands)
 }
 
-/// The turns that a command is given, where it is the one that is named.
+/// The turns that a command is given, if it is the one that is named.
 fn turns_of(matches: &ArgMatches, name: &str) -> Option<u64> {
     let threads = matches.subcommand_matches(name)?;
     Some(threads.get_one::<u64>("turns").unwrap_or(TURNS))
@@ -255,12 +255,12 @@ fn read_words<'a>(
     or_error(command, line)
 }
 
-/// Reads the words of a command line, of which the first names the program. What it doesn't take is refused, and so is help, whose
-/// text is the error.
+/// Reads the words of a command line, of which the first names the program. Words that it doesn't take are refused, and so is a
+/// request for help, whose text is the error.
 pub fn read_command_line(alloc: Global, words: &[String]) -> Result<Line, Error> {
     let mut command = program(alloc)?;
     let asked = read_words(alloc, &mut command, words);
-    // By a call, since at the end of a function each of its fields is dropped, and proved to be, by itself.
+    // Dropped by a call: at the end of a function each of its fields is dropped, and proved to be, by itself.
     drop(command);
     asked
 }

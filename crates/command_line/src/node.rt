@@ -17,7 +17,7 @@ pub struct OfPort {
 /// Which node is asked for.
 #[derive(Debug, PartialEq, Eq, Drop)]
 pub struct OfNode {
-    /// Its address, 0 to 253.
+    /// The node's address, 0 to 253.
     pub address: u8,
     /// The interface that it is on; none: that of the first frame that it is shown.
     pub interface: Option<String>,
@@ -25,14 +25,14 @@ pub struct OfNode {
     pub ports: Vec<OfPort>,
     /// For how many milliseconds nothing is queued to a destination after a connection to it failed.
     pub quiet: u64,
-    /// Whether a wrong line ends the run; else it is told, and the input goes on.
+    /// Whether a wrong line ends the run; else it is reported, and the next line is read.
     pub strict: bool,
 }
 
 /// The highest address of a node.
 const ADDRESS_MOST: u32 = 0xFD;
 
-/// The quiet after a failed connection where none is named, in milliseconds.
+/// The quiet after a failed connection if none is named, in milliseconds.
 const QUIET: u64 = 700;
 
 const NODE_HELP: &str =
@@ -102,7 +102,7 @@ fn strict_arg<'a>(alloc: Global) -> Arg<'a> {
     flag(alloc, "strict", "Ends at a wrong line")
 }
 
-/// Its arguments, in the order of the help.
+/// The arguments of `node`, in the order of the help.
 fn node_args<'a>(alloc: Global) -> Result<Vec<Arg<'a>>, AllocError> {
     list(
         alloc,
@@ -127,7 +127,7 @@ pub(crate) fn node_command<'a>(alloc: Global) -> Result<Command<'a>, AllocError>
     )
 }
 
-/// The port that a word writes, where it is one.
+/// The port that a word writes, if it is one.
 fn port(word: &str) -> Option<OfPort> {
     let Some((pgn, most)) = word.split_once(':') else {
         return Some(OfPort {
@@ -141,7 +141,7 @@ fn port(word: &str) -> Option<OfPort> {
     })
 }
 
-/// The port that a word of `--port` writes; where it writes none, the word is refused.
+/// The port that a word of `--port` writes; if it writes none, the word is refused.
 fn port_of(alloc: Global, word: &str) -> Result<OfPort, Refused> {
     match port(word) {
         Some(port) => Ok(port),
@@ -160,7 +160,7 @@ fn ports(alloc: Global, matches: &ArgMatches) -> Result<Vec<OfPort>, Refused> {
     Ok(ports)
 }
 
-/// The address that is named; where its word writes none, it is refused.
+/// The address that is named; if its word writes none, it is refused.
 fn address_of(alloc: Global, word: &str) -> Result<u8, Refused> {
     match address(word) {
         Some(address) => Ok(address),
@@ -198,7 +198,7 @@ pub(crate) fn first_of<'a>(matches: &ArgMatches<'a>, name: &str) -> Option<&'a s
     }
 }
 
-/// The address that a word writes, where it is one of a node.
+/// The address that a word writes, if it is one of a node.
 fn address(word: &str) -> Option<u8> {
     u8::try_from(hexadecimal(word, ADDRESS_MOST)?).ok()
 }

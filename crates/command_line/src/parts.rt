@@ -1,5 +1,5 @@
-//! What the commands and their arguments are made of. These are small functions, some of them generic: at each step of a function
-//! the check weighs every value that the function holds, and those of `clap` are large.
+//! Parts of the commands and their arguments. These are small functions, some of them generic: at each step of a function the
+//! check weighs every value that the function holds, and those of `clap` are large.
 use clap::builder::ValueParser;
 use clap::{Arg, ArgAction, ArgMatches, Command, value_parser};
 use std::alloc::{AllocError, Global};
@@ -27,12 +27,12 @@ pub(crate) fn named<'a>(alloc: Global, name: &'a str, help: &'a str) -> Arg<'a> 
     Arg::new(alloc, name).long(name).help(help)
 }
 
-/// One that is there or isn't.
+/// A flag, which is there or isn't.
 pub(crate) fn flag<'a>(alloc: Global, name: &'a str, help: &'a str) -> Arg<'a> {
     named(alloc, name, help).action(ArgAction::SetTrue)
 }
 
-/// One with a value, which help calls `value`.
+/// An argument with a value, which the help calls `value`.
 pub(crate) fn valued<'a>(
     alloc: Global,
     name: &'a str,

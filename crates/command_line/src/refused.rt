@@ -7,7 +7,7 @@ use std::alloc::{AllocError, AllocFailed};
 /// Why nothing was read.
 #[derive(Drop)]
 pub(crate) enum Refused {
-    /// A word is none that its argument takes, as this text tells.
+    /// A word that its argument doesn't take, as this text says.
     Word(String),
     /// There was no memory.
     Memory,
@@ -25,7 +25,7 @@ impl<T: Drop> From<AllocFailed<T>> for Refused {
     }
 }
 
-/// What was read, or the error that tells why nothing was: where it is a word, with the usage of the command below the text.
+/// What was read, or the error that says why nothing was: for a word, with the usage of the command below the text.
 pub(crate) fn or_error<'a>(
     command: &mut Command<'a>,
     read: Result<Line, Refused>,

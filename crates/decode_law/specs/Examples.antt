@@ -12,8 +12,8 @@ use Rattle.log_decode.specs.declared.told.Told.TheVariants.{Lost}
 use Rattle.decode_law.specs.Hearing.{IsSendable, key_for}
 use Rattle.decode_law.specs.Lacking.{Entry, told_to_end, frames_of, LacksFrames}
 
--- there are a listener, a message of so many bytes, and a log of which all premises hold. The log has all of the message's frames but one, and one
--- that is of no such message; told is that the message is lost for this cause, when so many of its bytes had come
+-- there are a listener, a message of so many bytes, and a log for which all premises hold. The log lacks one of the message's frames, and has one
+-- of no such message. The listener reports the message as lost for this cause, with so many of its bytes received
 pub record Met (len have : ℕ) (cause : Cause) : Type 0 where
   pub m : Pending
   pub s : Address

@@ -36,17 +36,17 @@ heard_all l iface (f ∷ fs) told = heard_all (taken l f.0 iface f.1 told).0 ifa
 abbrev pub frames_in : Log → List CanFrame
 frames_in log = map (λ f. f.1) log
 
--- the time of the last of them, or that before them where there is none
+-- the time of the last of them, or the time before them if there is none
 abbrev pub end_of : (time : ℕ) → Log → ℕ
 end_of time [] = time
 end_of time (f ∷ fs) = end_of f.0 fs
 
--- each comes no earlier than the one before it, and less than so long after it
+-- each frame follows the one before it at no earlier time, and less than so long after it
 abbrev pub ComeWithin : (wait time : ℕ) → Log → Type 0
 ComeWithin wait time [] = ⊤
 ComeWithin wait time (f ∷ fs) = (time ≤ f.0) × (f.0 < time + wait) × ComeWithin wait f.0 fs
 
--- the first may come at any time from this one on
+-- the first may follow at any time from this one on
 abbrev pub ComeInTime : (wait time : ℕ) → Log → Type 0
 ComeInTime wait time [] = ⊤
 ComeInTime wait time (f ∷ fs) = (time ≤ f.0) × ComeWithin wait f.0 fs
@@ -68,7 +68,7 @@ pub record IsSendable (m : Pending) (s d : Address) : Type 0 where
 abbrev pub kind_to : Pending → (d : Address) → Kind
 kind_to m d = if is_to_all d then Tp else kind_for (length m.bytes)
 
--- what tells it apart from others under way
+-- the key of the message: it distinguishes it from others under way
 abbrev pub key_for : Iface → Pending → (s d : Address) → Key
 key_for iface m s d = record { iface = iface; from = s; to = d; transport = transport_of (kind_to m d) }
 
@@ -80,20 +80,20 @@ pub record IsLogOf (frames : List CanFrame) (l : State) (iface : Iface) (m : Pen
   pub times : ComeInTime (patience d) (bus_at iface l.buses).time log
   pub others : All (λ f. NoneSilent f.0 (bus_at iface l.buses).sessions) log
 
--- with an interface at this time
+-- a listener whose interface is at this time
 abbrev pub at_time : State → Iface → (time : ℕ) → State
 at_time l iface time = record { most = l.most; time = time; buses = put_bus iface (record { time = time; sessions = (bus_at iface l.buses).sessions }) l.buses }
 
--- of these frames every listener tells that the message was given and nothing else, and has under way what it had before
+-- for these frames every listener reports that the message was given and nothing else, and has under way what it had before
 abbrev pub AreHeardAs : List CanFrame → Pending → (s d : Address) → Type 0
 AreHeardAs frames m s d = (l : State) (iface : Iface) (log : Log) (told : List Told) → IsLogOf frames l iface m s d log
     → heard_all l iface log told ≡ (at_time l iface (end_of (bus_at iface l.buses).time log), told ++ Given (key_for iface m s d) (clean m.pgn) m.bytes ∷ [])
 
--- so are the frames of one undisturbed message
+-- the frames of one undisturbed message are heard so
 abbrev pub IsHeard : Pending → (s d : Address) → Type 0
 IsHeard m s d = AreHeardAs (quiet m s d) m s d
 
--- and those that a drive puts, from a segment at a record that is quiet for this message
+-- the frames that a drive puts from a segment at a record that is quiet for this message are heard so
 abbrev pub DrivesAreHeard : Type 0
 DrivesAreHeard = (addresses : List Address) (steps : Record) (seg : Segment) (s d : Address) (m : Pending)
     → StandsAt addresses steps seg → IsQuiet seg s d m → AreHeardAs (driven seg s d (length (quiet m s d))).frames m s d

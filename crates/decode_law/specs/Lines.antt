@@ -12,7 +12,7 @@ use Rattle.log_text.specs.declared.reading.Form.TheVariants.{Timed}
 abbrev pub LinesHaveForm : Type 0
 LinesHaveForm = (time : ℕ) (name : List ℕ) (iface : Iface) (f : CanFrame) → iface_of name ≡ Some iface → form_of (log_text time iface f) ≡ Some Timed
 
--- and in such a log each is read as its frame, at the same time on the same interface
+-- in such a log each line is read as its frame, at its time on its interface
 abbrev pub LinesAreReadInForm : Type 0
 LinesAreReadInForm = (time : ℕ) (name : List ℕ) (iface : Iface) (f : CanFrame) → time < 2 ^ 64 → iface_of name ≡ Some iface → IsFrame f
     → line_as (Some Timed) (log_text time iface f) ≡ Some (Frame (Some time) iface f)

@@ -11,18 +11,18 @@ use Rattle.responder.specs.declared.in_state.InState.TheVariants as InState
 use Rattle.responder.specs.declared.received.Received.{Received}
 use Rattle.responder.specs.declared.received.Received.TheVariants.{On, Complete, Ended}
 
--- beside what came there is room for one window at most
+-- there is room for one window at most beside the bytes received
 abbrev pub IsWithinWindow : Join → Type 0
 IsWithinWindow join = join.room ≤ ETP_MAX_WINDOW
 
--- of a message of ETP there is room for no more than the next window
+-- a message of ETP has room for no more than the next window
 pub record HasSpareRoom (m : Unfinished) : Type 0 where
   pub etp : m.kind ≡ Etp
   pub most : m.most ≤ ETP_MAX_WINDOW
   pub from_first : 1 ≤ m.join.next
   pub within_window : m.join.room ≤ window m.most m.join.size m.join.next
 
--- and where packets are awaited, for just those that are granted
+-- while packets are awaited, there is room for just those that are granted
 pub record HasGrantedRoom (s : AwaitPacket) : Type 0 where
   pub spare : HasSpareRoom s.message
   pub announced : s.until ≤ s.granted
@@ -33,7 +33,7 @@ abbrev pub HasLeastRoom : InState → Type 0
 HasLeastRoom (InState.AwaitPacket s) = HasGrantedRoom s
 HasLeastRoom (InState.Holding s) = HasSpareRoom s.message
 
--- and so has the one that goes on
+-- the state that follows has no more room than that
 abbrev pub GoesOnWithLeastRoom : Received → Type 0
 GoesOnWithLeastRoom (On s frame) = HasLeastRoom s
 GoesOnWithLeastRoom (Complete message) = ⊤

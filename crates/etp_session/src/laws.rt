@@ -26,9 +26,9 @@ pub fn rows_are_those_of_etp()
     ensures fires { (s : InState) (flow : Flow) (now : ℕ) → IsEtp s → GoesOnAsEtp (expired s flow now) }
 {}
 
-/// The memory of a receiver grows by the window: where it begins, after each step and after each firing of its timer
-/// that was prepared, there is room for just the packets that are granted, 64 at most, so that it holds the bytes that
-/// came rounded up by one window at most. One that begins on hold holds none.
+/// The memory of a receiver grows by the window: at its beginning, after each step, and after each firing of its timer
+/// that was prepared. There is then room for just the granted packets, 64 at most, so it holds the bytes received,
+/// rounded up by one window at most. A receiver that begins on hold holds none.
 pub fn memory_grows_by_the_window()
     ensures begins { (peer : Peer) (size now : ℕ) → IsSizeOf Etp size
         → HasLeastRoom (asking (begun Etp peer ETP_MAX_WINDOW (first_join Etp size Open)) Open now) }

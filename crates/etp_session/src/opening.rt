@@ -30,11 +30,11 @@ pub fn begin(from: Address, to: Address, pgn: Pgn, len: u32, now: u64) -> (Await
     originator::begin(Kind::Etp, from, to, pgn, len, now)
 }
 
-/// Accepts an RTS at tick `now`: the state, and the frame to be queued, which is the first CTS, or a hold where the
-/// session is held (ISO 11783-3, ETP.CM_CTS).
+/// Accepts an RTS at tick `now`: the state, and the frame to be queued, which is the first CTS, or a hold if the session
+/// is held (ISO 11783-3, ETP.CM_CTS).
 ///
-/// The join is that of a message of 1,786 to 117,440,505 bytes of which no packet has come. Where the session is open
-/// it has room for the first window, 64 packets; where it is held it needs none, and in no case it has more.
+/// The join is that of a message of 1,786 to 117,440,505 bytes that has no packet yet. If the session is open, the join
+/// has room for the first window, 64 packets. If it is held, the join needs none. In no case it has more.
 pub fn accept(peer: Peer, join: Join, flow: Flow, now: u64) -> (InState, Frame)
     requires size { IsSizeOf Etp join.size }
     requires empty { join.next ≡ 1 }

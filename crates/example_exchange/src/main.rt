@@ -1,5 +1,5 @@
 //! Two stations on one bus, and a message each way by TP (SAE J1939-21): the replies to the calls, what was put on the bus, and
-//! what was told.
+//! the events.
 #![tactic(auto)]
 
 use anyhow::Result;

@@ -1,5 +1,5 @@
 //! A station at address 21 on can0. Standard input has the frames of the bus, as `candump -L` prints them, and commands for the station;
-//! standard output has the frames that it puts, the replies, and what it is told.
+//! standard output has the frames that it puts, the replies, and its events.
 #![tactic(auto)]
 
 use anyhow::Result;
@@ -15,7 +15,7 @@ const STATION: Address = Address(0x21);
 /// After a connection failed, nothing is sent to its destination for so many milliseconds.
 const QUIET: u64 = 700;
 
-/// Tells how many lines were wrong, if any were, and why the run ended before its end, where it did.
+/// Reports how many lines were wrong, if any were, and why the run ended before its end, if it did.
 fn tell(rt: &impl Eprint, ran: Ran) -> Result<ExitCode> {
     let counts = ran.counts;
     if counts.wrong != 0 {

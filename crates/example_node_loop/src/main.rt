@@ -1,5 +1,5 @@
-//! A program's loop over a node, to copy: the time goes on, frames come from a driver and go to it, what is told is handed on, and the loop
-//! sleeps until there is something to do. The driver is a list of frames with their ticks here, so that each run prints the same.
+//! A program's loop over a node, to copy: the clock advances, frames are exchanged with a driver, events are handed on, and the loop sleeps
+//! until there is something to do. The driver is a list of frames with their ticks here, so that each run prints the same.
 #![tactic(auto)]
 
 use anyhow::Result;
@@ -16,7 +16,8 @@ enum Received {
     Lost,
 }
 
-/// The tick of 1 ms at which each comes. Node 80 sends nine bytes by TP (SAE J1939-21), takes as many, and begins once more; then frames are lost.
+/// The tick of 1 ms at which each arrives. Node 80 sends nine bytes by TP (SAE J1939-21), takes as many, and begins again; then frames are
+/// lost.
 const RECEIVED: [(u64, Received); 7] = [
     (
         10,
@@ -45,7 +46,7 @@ const RECEIVED: [(u64, Received); 7] = [
 /// At most so many frames are put, timers fired and events taken in one turn, and so many turns are made here.
 const MOST: usize = 64;
 
-/// What stands for a CAN driver and a clock: what it has handed over so far, and the time.
+/// A stand-in for a CAN driver and a clock: what it has handed over so far, and the time.
 #[derive(Drop)]
 struct Driver {
     received: usize,
@@ -53,7 +54,7 @@ struct Driver {
 }
 
 impl Driver {
-    /// The tick at which the next frame comes.
+    /// The tick at which the next frame arrives.
     fn next_tick(&self) -> Option<u64> {
         match RECEIVED.get(self.received) {
             None => None,
@@ -61,7 +62,7 @@ impl Driver {
         }
     }
 
-    /// Sleeps until a tick, if there is one, or until a frame comes. It answers false if neither will be. A real driver waits for its
+    /// Sleeps until a tick, if there is one, or until a frame arrives. It returns false if neither will be. A real driver waits for its
     /// socket with a time-out here.
     fn sleep(&mut self, until: Option<u64>) -> bool {
         let tick = match (self.next_tick(), until) {
@@ -74,7 +75,7 @@ impl Driver {
         true
     }
 
-    /// What has come by now.
+    /// What has arrived by now.
     fn receive(&mut self) -> Option<Received> {
         let (tick, received) = RECEIVED.get(self.received)?;
         if *tick > self.now {
@@ -98,7 +99,7 @@ fn fire(node: &mut Node) -> Result<()> {
     Ok(())
 }
 
-/// Hands a frame of the bus to the node, or tells it of a loss. A frame that has the node's own address isn't fed.
+/// Hands a frame of the bus to the node, or reports a loss to it. A frame that has the node's own address isn't fed.
 fn feed(rt: &impl Print, node: &mut Node, now: u64, received: Received) -> Result<()> {
     match received {
         Received::Lost => {
@@ -137,7 +138,7 @@ fn put(rt: &impl Print, node: &mut Node, now: u64) -> Result<()> {
     Ok(())
 }
 
-/// Hands on what the node tells: a message that was given is sent back to its sender.
+/// Hands on the node's events: a message that was given is sent back to its sender.
 fn tell(rt: &impl Print, node: &mut Node, now: u64) -> Result<()> {
     for _ in 0..MOST {
         let Some(event) = node.take_event() else {
@@ -167,7 +168,7 @@ fn tell(rt: &impl Print, node: &mut Node, now: u64) -> Result<()> {
     Ok(())
 }
 
-/// Shows a frame, as it comes in or goes out.
+/// Shows a frame, received or sent.
 fn show(rt: &impl Print, now: u64, way: &str, frame: &Frame) -> Result<()> {
     print!(rt; "{now:4} {way} {:08X}", frame.id().raw())?;
     for byte in frame.bytes() {
@@ -177,7 +178,7 @@ fn show(rt: &impl Print, now: u64, way: &str, frame: &Frame) -> Result<()> {
     Ok(())
 }
 
-/// One turn of the loop: time, what came, what goes, what is told, and what that sends.
+/// One turn of the loop: the time, what arrived, what is sent, the events, and what they send.
 fn turn(rt: &impl Print, node: &mut Node, driver: &mut Driver) -> Result<()> {
     let now = driver.now;
     node.clock(now)?;

@@ -1,5 +1,5 @@
 //! Two stations on one bus, and a thread for each: it sends the other a message, waits for the outcome, and receives the other's.
-//! Three more threads move the bus on. The program tells so and ends where one of them can't be made.
+//! Three more threads drive the bus. If one of them can't be made, the program says so and ends.
 #![tactic(auto)]
 
 use anyhow::bail;
@@ -68,7 +68,7 @@ fn talk_both<'s, E, R: Threads + Wait + Sync>(
     Ok((at_21.join(rt), at_35))
 }
 
-/// What the talks came to. The workers are stopped in each case: the scope ends with its threads.
+/// The result of the talks. The workers are stopped in each case: the scope ends with its threads.
 fn run<R: Threads + Wait + Sync>(
     rt: &R,
     shared: &SharedSegment,

@@ -1,4 +1,4 @@
-//! What a drive of one message does where nothing else goes on.
+//! The drive of one message when nothing else goes on.
 ghost use Rattle.std.specs.Prelude.{◌≢◌};
 ghost use Rattle.pgn_ids.specs.Address.{global_address};
 ghost use Rattle.pgn_ids.specs.declared.address.Address.{Address};
@@ -14,7 +14,7 @@ use tp_wire::what_is_written_is_read;
 ///
 /// From a segment at a record that is quiet for a lane to a station, a drive of as many turns as the exchange has frames puts
 /// exactly these frames: the RTS, for each window its CTS and its packets, in ETP with a DPO ahead of them, and the end
-/// acknowledgement. It tells that the message was given at each port that takes it, by rising number, and then that it was
+/// acknowledgement. It gives the message at each port that takes it, by rising number, and then reports that it was
 /// acknowledged. Afterwards nothing is queued, nothing waits, and the lane is settled with nothing under way.
 pub fn connections_are_undisturbed()
     ensures { (d : Address) → d.0 ≢ global_address → IsQuietExchange d }

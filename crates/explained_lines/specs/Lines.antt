@@ -1,4 +1,4 @@
--- Lines of words, and how the text of a message stands in one.
+-- Lines of words, and the escaping of a message's text in them.
 use Rattle.std.specs.Prelude.{ℕ, List, [], ◌∷◌, ◌++◌, flat_map, codes, Bool, ◌&&◌, not, ◌==◌, nat_lt, if◌then◌else◌}
 use Rattle.std.specs.Fmt.{decimal}
 use Rattle.text_digits.specs.Digits.{digits}
@@ -14,6 +14,6 @@ shown_byte b = if is_plain b then b ∷ [] else codes "\\x" ++ digits 16 2 b
 abbrev pub escaped : List ℕ → List ℕ
 escaped text = flat_map shown_byte text
 
--- a message whose length is none of its form
+-- a message whose length isn't one of its form
 abbrev pub wrong_length : ℕ → List ℕ
 wrong_length n = codes "wrong length: " ++ decimal n

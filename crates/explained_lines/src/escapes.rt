@@ -23,7 +23,8 @@ fn put_shown(out: &mut Vec<u8>, byte: u8) -> Result<(), AllocError>
     put_byte(out, byte)
 }
 
-/// Puts a text behind what `out` holds. A backslash, and each byte that isn't printable ASCII, stands there as `\x` and two hexadecimal digits.
+/// Puts a text behind what `out` holds. A backslash, and each byte that isn't printable ASCII, is put as `\x` and two
+/// hexadecimal digits.
 pub fn put_escaped(out: &mut Vec<u8>, text: &[u8]) -> Result<(), AllocError>
     ensures { OnOk result (out.new.items ≡ out.old.items ++ escaped text.now) }
 {

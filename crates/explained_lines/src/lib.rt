@@ -1,6 +1,8 @@
-//! Lines of words that say what a message means, and how the text of a message stands in one: what isn't printable ASCII is escaped.
+//! Lines of words that say what a message means, and the escaping of a message's text in them: whatever isn't printable
+//! ASCII is escaped.
 //!
-//! Each call fails only where memory is refused. One that puts something behind what `out` holds may have put a part of it then.
+//! Each call fails only if memory is refused. One that puts something behind what `out` holds may have put a part of it
+//! then.
 #![tactic(auto)]
 
 mod escapes;

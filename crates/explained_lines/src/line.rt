@@ -51,7 +51,7 @@ pub fn plain_line(alloc: Global, words: &str) -> Result<Line, AllocError>
     Ok(Line::new(text))
 }
 
-/// The line of a message whose length, in bytes, is none of its form.
+/// The line of a message whose length, in bytes, isn't one of its form.
 pub fn wrong_length(alloc: Global, length: usize) -> Result<Line, AllocError>
     ensures { IfOk result (λ l. l ≡ wrong_length length) }
 {

@@ -40,7 +40,7 @@ pub fn has_form(pgn: Pgn) -> bool
     is_faults(pgn) || pgn == SOFTWARE || pgn == COMPONENT || pgn == VEHICLE || pgn == ECU
 }
 
-/// The lines of a message, none where its PGN has no form. It fails only where memory is refused.
+/// The lines of a message, none if its PGN has no form. It fails only if memory is refused.
 pub fn explain(alloc: Global, pgn: Pgn, bytes: &[u8]) -> Result<Vec<Line>, AllocError>
     ensures { IfOk result (λ lines. lines.items ≡ explained pgn bytes.now) }
 {

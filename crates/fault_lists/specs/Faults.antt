@@ -26,7 +26,7 @@ mode_text c d = codes " FMI " ++ decimal (c % 32) ++ codes " count " ++ count_te
 abbrev pub version_4_line : (a b c d : ℕ) → List ℕ
 version_4_line a b c d = codes "fault: SPN " ++ decimal (spn_of a b c) ++ mode_text c d
 
--- the highest bit says that the bits of the SPN stand in one of three older orders, and doesn't say which
+-- the highest bit says that the bits of the SPN are in one of three older orders, and doesn't say which
 abbrev pub older_line : (a b c d : ℕ) → List ℕ
 older_line a b c d = codes "fault: SPN by an older conversion method," ++ mode_text c d ++ codes " bytes " ++ unspaced (a ∷ b ∷ c ∷ d ∷ [])
 

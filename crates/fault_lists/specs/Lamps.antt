@@ -9,7 +9,7 @@ lamp_state n =
     else if n == 2 then codes "reserved"
     else codes "not available"
 
--- and of how it flashes: slowly at 1 Hz, fast at 2 Hz or more
+-- how a lamp flashes: slowly at 1 Hz, fast at 2 Hz or more
 abbrev pub flash_state : ℕ → List ℕ
 flash_state n =
     if n == 0 then codes "slow"

@@ -20,12 +20,12 @@ run_of frame = run_by (reading frame)
 unfoldable pub arrow_of_run : Run → List ℕ
 arrow_of_run r = arrow_line r.from r.to (packet_words r.first r.last)
 
--- and that of one that is open, where one is
+-- the arrow of an open run, if there is one
 abbrev pub run_arrow : Option Run → List ℕ
 run_arrow None = []
 run_arrow (Some r) = arrow_of_run r
 
--- whether a packet goes on with a run
+-- whether a packet continues a run
 abbrev pub goes_on : Option Run → Run → Bool
 goes_on None p = false
 goes_on (Some r) p = r.from.0 == p.from.0 && r.to.0 == p.to.0 && r.last + 1 == p.first
@@ -35,7 +35,7 @@ abbrev pub longer : Option Run → Run → Run
 longer None p = p
 longer (Some r) p = record p { first = r.first }
 
--- by the packet that a frame is: the run that is open behind it
+-- the run that is open behind a frame, from the packet that the frame is
 abbrev pub open_by : Option Run → Option Run → Option Run
 open_by run None = None
 open_by run (Some p) = Some (if goes_on run p then longer run p else p)
@@ -43,7 +43,7 @@ open_by run (Some p) = Some (if goes_on run p then longer run p else p)
 unfoldable pub open_after : Option Run → CanFrame → Option Run
 open_after run frame = open_by run (run_of frame)
 
--- and what is drawn at it: the run that it ends, and its own arrow where it is no packet
+-- the text drawn at a frame: the run that it ends, and its own arrow if it is no packet
 abbrev pub drawn_by : Option Run → CanFrame → Option Run → List ℕ
 drawn_by run frame None = run_arrow run ++ arrow_of frame
 drawn_by run frame (Some p) = if goes_on run p then [] else run_arrow run

@@ -22,7 +22,7 @@ name_of a = if a.0 == 255 then codes "all" else digits 16 2 a.0
 abbrev pub ends : (from to : Address) → List ℕ
 ends from to = codes "  " ++ name_of from ++ codes "->>" ++ name_of to ++ codes ": "
 
--- and its words behind them
+-- the line of an arrow with its words
 unfoldable pub arrow_line : (from to : Address) → List ℕ → List ℕ
 arrow_line from to words = line (ends from to ++ words)
 
@@ -30,7 +30,7 @@ arrow_line from to words = line (ends from to ++ words)
 abbrev pub size_words : (size packets : ℕ) → List ℕ
 size_words size packets = decimal size ++ codes " bytes in " ++ decimal packets ++ codes " packets"
 
--- so many packets, behind a number or from one on
+-- how many packets from which number on
 abbrev pub from_words : (packets from : ℕ) → List ℕ
 from_words packets from = decimal packets ++ codes " packets from " ++ decimal from
 
@@ -68,7 +68,7 @@ length_words bytes = codes ", " ++ decimal bytes ++ codes " bytes"
 unfoldable pub other_words : (pgn bytes : ℕ) → List ℕ
 other_words pgn bytes = codes "frame " ++ digits 16 5 pgn ++ length_words bytes
 
--- of a frame that was read so
+-- the words for a frame with this meaning
 abbrev pub words_by : CanFrame → Option (Wire × Address × Address) → List ℕ
 words_by frame (Some (wire, from, to)) = words_of wire
 words_by frame None = other_words (meaning_of frame.id).pgn (length frame.bytes)
@@ -76,6 +76,6 @@ words_by frame None = other_words (meaning_of frame.id).pgn (length frame.bytes)
 unfoldable pub meaning_words : CanFrame → List ℕ
 meaning_words frame = words_by frame (reading frame)
 
--- from the source to the destination of its identifier
+-- the arrow of a frame: from the source to the destination of its identifier
 unfoldable pub arrow_of : CanFrame → List ℕ
 arrow_of frame = arrow_line (meaning_of frame.id).from (meaning_of frame.id).to (meaning_words frame)

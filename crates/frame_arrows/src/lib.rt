@@ -1,7 +1,7 @@
 //! A bus as a sequence diagram in Mermaid: its beginning, and the arrows of frames with their meaning in words. Each call puts its text behind
 //! what a buffer holds already.
 //!
-//! A call fails only where memory is refused; what the buffer holds then is not said.
+//! A call fails only if memory is refused; what the buffer holds then is not specified.
 #![tactic(auto)]
 
 mod opening;

@@ -34,7 +34,8 @@ pub fn draw_heading(out: &mut Vec<u8>) -> Result<(), AllocError>
     put_text(out, "sequenceDiagram\n")
 }
 
-/// The beginning of a drawing: its kind, and its stations as participants in this order. Nothing where there is no station.
+/// The beginning of a drawing: its kind, and its stations as participants in this order. Nothing if there is no
+/// station.
 pub fn draw_opening(out: &mut Vec<u8>, stations: &[Address]) -> Result<(), AllocError>
     ensures { OnOk result (out.new.items ≡ out.old.items ++ opening stations.now) }
 {

@@ -23,7 +23,7 @@ pub struct Run {
     pub last: u8,
 }
 
-/// The run of one that a frame is, where it is a packet.
+/// The run of the one packet that a frame is, if it is one.
 #[tactic(auto, unfolding(crate::specs::Runs::run_of))]
 pub fn run_of(frame: &Frame) -> Option<Run>
     ensures { result ≡ run_of frame.now }
@@ -56,7 +56,7 @@ fn draw_run(out: &mut Vec<u8>, run: Option<Run>) -> Result<(), AllocError>
     put_text(out, "\n")
 }
 
-/// Whether a packet goes on with a run, if one is open.
+/// Whether a packet continues a run, if one is open.
 pub fn goes_on(run: Option<Run>, packet: Run) -> bool
     ensures { result ≡ goes_on run packet }
 {
@@ -68,7 +68,7 @@ pub fn goes_on(run: Option<Run>, packet: Run) -> bool
         && u16::from(run.last) + 1 == u16::from(packet.first)
 }
 
-/// A run with one packet more; where none is open, the packet alone.
+/// A run with one packet more; if none is open, the packet alone.
 pub fn longer(run: Option<Run>, packet: Run) -> Run
     ensures { result ≡ longer run packet }
 {
@@ -83,7 +83,7 @@ pub fn longer(run: Option<Run>, packet: Run) -> Run
     }
 }
 
-/// What is drawn at a frame behind an open run, and the run that is open behind it.
+/// The text drawn at a frame behind an open run, and the run that is open behind the frame.
 #[tactic(auto, unfolding(crate::specs::Runs::drawn_at, crate::specs::Runs::open_after))]
 fn draw_at(out: &mut Vec<u8>, run: Option<Run>, frame: &Frame) -> Result<Option<Run>, AllocError>
     ensures drawn { OnOk result (out.new.items ≡ out.old.items ++ drawn_at run frame.now) }

@@ -32,7 +32,7 @@ use Rattle.fulwethi_c.specs.Shown.{shown_event}
 
 -- A new node
 
--- the handle has a new node; or it is as it was, for the address, or else for want of memory
+-- the handle has a new node; or it is unchanged, because of the address, or else for want of memory
 abbrev pub IsNew : Address → (old new : Option Node) → Result (Unit {0}) NewRefused → Type 0
 IsNew address old new (Ok _) = (new ≡ Some (new_node address)) × StandsAt (address ∷ []) [] (new_node address).segment
 IsNew address old new (Err made.BadAddresses) = (new ≡ old) × (are_addresses (address ∷ []) ≡ false)
@@ -67,7 +67,7 @@ IsSending to bytes (Ok pgn) before after answer =
     IsAnswered before (Send before.address to pgn bytes) after answer
     × IfOk answer (λ number. (applied before.segment (Send before.address to pgn bytes)).1 ≡ Sent number)
 
--- The clock: it goes on, or it stands later
+-- The clock: it advances to the tick, or is past it
 
 abbrev pub IsClocked : (tick : ℕ) → (before after : Node) → Result (Unit {0}) NodeError → Type 0
 IsClocked tick before after answer =
@@ -85,7 +85,7 @@ IsFront before after answer =
     IfOk answer (λ frame. frame ≡ front_at after.segment before.address)
     × (OnOk answer (Did before (front_calls before) after) × (IfErr answer (λ error. error ≡ OutOfMemory) × OnErr answer (after ≡ before)))
 
--- What was told
+-- The events
 
 abbrev pub IsTakenInto : (room left : List ℕ) → (before after : Node) → Result ℕ TakeError → Type 0
 IsTakenInto room left before after answer = IsTaken before.events room after.events left answer × (after ≡ record before { events = after.events })

@@ -20,7 +20,7 @@ error_code (Refused cause) = refusal_number cause
 error_code ClockPassed = 67
 error_code OutOfMemory = 64
 
--- of a call that would be refused, or wouldn't
+-- the code of a call's refusal, if it would be refused
 abbrev pub refusal_code : Option Refusal → ℕ
 refusal_code None = 0
 refusal_code (Some cause) = refusal_number cause

@@ -1,4 +1,4 @@
-//! What a call comes to, as C reads it: 0 where it is done, 1 to 30 the number of its refusal, and these.
+//! The code that a call returns to C: 0 if it is done, 1 to 30 for the number of its refusal, and those below.
 ghost use Rattle.std.specs.Prelude.{◌≡◌};
 ghost use Rattle.fulwethi_c.specs.Codes.{error_code, refusal_code, done_code, fed_code, missed_code, taken_code, new_code};
 

@@ -1,4 +1,4 @@
-//! What was told, and when something is to be done.
+//! The events, and when something is to be done.
 ghost use Rattle.std.specs.Prelude.{IsSome};
 ghost use Rattle.c_parts.specs.Codes.{found_code};
 ghost use Rattle.c_parts.specs.Calls.{IsMadeOn, IsTickWritten};
@@ -10,7 +10,7 @@ use crate::handle::Handle;
 use crate::shown::{CEvent, write_event};
 use c_parts::{Parts, write_tick};
 
-/// Shows the event that is told next, which stays.
+/// Shows the next event, which stays.
 #[unsafe(no_mangle)]
 pub extern "C" fn fulwethi_raw_event(of: Handle, event: &mut CEvent, out: &mut Handle) -> u32
     requires { IsSome of.node }
@@ -22,7 +22,7 @@ pub extern "C" fn fulwethi_raw_event(of: Handle, event: &mut CEvent, out: &mut H
     code
 }
 
-/// Takes the event that is told next, and writes its bytes to the front of the room.
+/// Takes the next event, and writes its bytes to the front of the room.
 #[unsafe(no_mangle)]
 pub extern "C" fn fulwethi_raw_take(of: Handle, room: &mut [u8], out: &mut Handle) -> u32
     requires { IsSome of.node }

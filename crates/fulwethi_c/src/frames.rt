@@ -12,7 +12,7 @@ use crate::shown::write_frame;
 use c_parts::{CFrame, Parts, read_frame};
 use one_station::{Fed, Node, NodeError};
 
-/// A frame of another node comes from the bus.
+/// Feeds a frame of another node, read from the bus.
 #[unsafe(no_mangle)]
 pub extern "C" fn fulwethi_raw_feed(of: Handle, id: u32, bytes: &[u8], out: &mut Handle) -> u32
     requires { IsSome of.node }
@@ -57,7 +57,7 @@ pub extern "C" fn fulwethi_raw_front(of: Handle, frame: &mut CFrame, out: &mut H
     code
 }
 
-/// That frame was put on the bus.
+/// The frame of `front` was put on the bus.
 #[unsafe(no_mangle)]
 pub extern "C" fn fulwethi_raw_sent(of: Handle, out: &mut Handle) -> u32
     requires { IsSome of.node }

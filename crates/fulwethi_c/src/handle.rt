@@ -20,7 +20,7 @@ impl Model for Handle {
     ghost also_owns = { λ h. held_owns h.alloc h.ptr h.node };
 }
 
-// C may hand it to another thread: what it owns goes along.
+// C may hand it to another thread: it owns all that it holds.
 unsafe impl Send for Handle {}
 
 impl Handle {

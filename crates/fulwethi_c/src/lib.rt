@@ -1,5 +1,5 @@
-//! A node of J1939 for C: a handle, which owns the node, goes into each call and comes back by `out`. `fulwethi.h` has functions
-//! over these that take a pointer to the handle.
+//! A node of J1939 for C: a handle, which owns the node, is passed into each call and returned by `out`. `fulwethi.h` has
+//! functions over these that take a pointer to the handle.
 #![tactic(auto)]
 
 ghost use Rattle.std.specs.Prelude.{◌≡◌, IsSome};
@@ -51,7 +51,7 @@ pub extern "C" fn fulwethi_raw_free(of: Handle)
     drop(of.into_parts().into_box());
 }
 
-/// The clock goes on to a tick.
+/// Advances the clock to a tick.
 #[unsafe(no_mangle)]
 pub extern "C" fn fulwethi_raw_clock(of: Handle, tick: u64, out: &mut Handle) -> u32
     requires { IsSome of.node }

@@ -1,4 +1,4 @@
-//! What a node answers without a step.
+//! The readers of a node.
 ghost use Rattle.std.specs.Prelude.{IsSome};
 ghost use Rattle.c_parts.specs.Calls.{IsMadeOn, IsRead};
 ghost use Rattle.c_parts.specs.Reads.{read_pgn};

@@ -11,7 +11,7 @@ use bus_frame::Frame;
 use c_parts::{CFrame, DONE, NOTHING, outcome_number, outcome_reason, show_frame};
 use one_station::{Event, LaneSight, Node, NodeError, PortId};
 
-/// What is told next. `kind` 1: a message at port `number`, of `len` bytes. `kind` 2: the outcome of message `number`, 1 to 7,
+/// The next event. `kind` 1: a message at port `number`, of `len` bytes. `kind` 2: the outcome of message `number`, 1 to 7,
 /// and the reason of its abort.
 #[repr(C)]
 #[derive(Drop)]

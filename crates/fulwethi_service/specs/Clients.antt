@@ -17,14 +17,14 @@ use Rattle.fulwethi_service.specs.Shown.{shown_note}
 abbrev pub OnClient : {A : Type 0} → (does : (before after : ClientEnd) → A → Type 0) → (before after : Desk) → A → Type 0
 OnClient does before after answer = (c : ClientEnd) → before.client ≡ Some c → (d : ClientEnd) × (after.client ≡ Some d) × does c d answer
 
--- without a refusal memory is lacking
+-- the cause of a submission that isn't made: its refusal, or else want of memory
 abbrev pub cause_of_refusal : Option Refusal → NotMade
 cause_of_refusal (Some cause) = Refused cause
 cause_of_refusal None = OutOfMemory
 
--- the message was submitted, and the ticket is its place among all; or it is refused: for its PGN, destination or length exactly if that
--- holds, and else as the ring is full or memory is lacking; then nothing has changed but what is known of the
--- ring, and how many of the first submissions are kept no more
+-- the message was submitted, and the ticket is its place among all. Or it is refused: for its PGN, destination or length exactly if that
+-- holds, and else because the ring is full or memory is lacking; then nothing has changed but what is known of the ring, and how many of
+-- the first submissions are no longer kept
 abbrev pub IsSubmitted : (to : Address) → (pgn : ℕ) → (bytes : List ℕ) → (before after : ClientEnd) → Result ℕ NotMade → Type 0
 IsSubmitted to pgn bytes before after answer =
     IfOk answer (λ ticket. (after ≡ submits before to pgn bytes after.free after.gone) × (before.gone ≤ after.gone) × (ticket ≡ length after.submitted))
@@ -38,7 +38,7 @@ IsNoteRead before after answer =
     IfOk answer (λ r. MatchOption r (after ≡ lets_read_go before after.read_gone) (λ n. after ≡ reads before n after.read_gone)) × (before.read_gone ≤ after.read_gone)
     × OnErr answer (after ≡ lets_read_go before after.read_gone)
 
--- a note, if there is one; else the place is as it was
+-- a note is written, if there is one; else the place is unchanged
 abbrev pub IsNoteWritten : (old new : CNote) → Result (Option Note) AllocError → Type 0
 IsNoteWritten old new (Ok (Some note)) = new ≡ shown_note note
 IsNoteWritten old new (Ok None) = new ≡ old

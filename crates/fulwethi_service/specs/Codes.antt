@@ -20,12 +20,12 @@ reply_code (Ok (Refused cause)) = refusal_number cause
 reply_code (Ok (Done events)) = 0
 reply_code (Err _) = 64
 
--- of a clock that may stand later
+-- the code of a clock call; none: the clock is past the tick
 abbrev pub clock_code : Option (Result Reply AllocError) → ℕ
 clock_code None = 67
 clock_code (Some answer) = reply_code answer
 
--- of a note that may be there
+-- the code of an optional note
 abbrev pub note_code : {A : Type 0} → Result (Option A) AllocError → ℕ
 note_code (Ok (Some _)) = 0
 note_code (Ok None) = 65

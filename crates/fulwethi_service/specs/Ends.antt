@@ -12,7 +12,7 @@ use Rattle.live_segment.specs.declared.refused.NotMade.TheVariants.{Refused, Out
 use Rattle.fulwethi_service.specs.declared.desk.Desk.{Desk}
 use Rattle.fulwethi_service.specs.declared.post.Post.{Post}
 
--- the handle has a new client of the station; or it is as it was, since the station has none more, or else for want of memory
+-- the handle has a new client of the station; or it is unchanged, since the station can have no more, or else for want of memory
 abbrev pub IsAttached : (station : Address) → (old new : Option Desk) → (before after : LiveView) → Result (Unit {0}) NotMade → Type 0
 IsAttached station old new before after (Ok _) =
     (c : ClientEnd) × Attached before after station c × ((desk : Desk) × (new ≡ Some desk) × (desk.client ≡ Some c))
@@ -31,8 +31,8 @@ abbrev pub IsOpened : (station : Address) → (pgn : Result ℕ Refusal) → (ma
 IsOpened station (Err cause) max_len port port' old new before after answer = (answer ≡ Err (Refused cause)) × (after ≡ before) × (new ≡ old) × (port' ≡ port)
 IsOpened station (Ok pgn) max_len port port' old new before after answer = IsOpenedAt station pgn max_len port port' old new before after answer
 
--- the port of an inbox was closed, and what the inbox didn't receive comes next after what is held; else it is as it was, but for room
--- that is kept
+-- the port of an inbox was closed, and what the inbox didn't receive follows what is held; else the inbox is unchanged, but for the
+-- room that it keeps
 abbrev pub IsClosedAt : (old new : Post) → (before after : LiveView) → InboxEnd → Result (Unit {0}) NotMade → Type 0
 IsClosedAt old new before after i (Ok _) = (j : InboxEnd) × (r : Closed) × ClosedFor before after i j r × (new.inbox ≡ Some j) × (new.held ≡ old.held) × (new.rest.items ≡ r.rest.items)
 IsClosedAt old new before after i (Err e) = (spare : ℕ) × IsCloseCause before i e × SameLive before after × (new.inbox ≡ Some (with_room_kept i spare)) × (new.held ≡ old.held) × (new.rest ≡ old.rest)

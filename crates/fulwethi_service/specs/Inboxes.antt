@@ -8,14 +8,14 @@ use Rattle.fulwethi_service.specs.declared.inboxes.Received.TheVariants as recei
 use Rattle.fulwethi_service.specs.declared.shown.CMessage.{CMessage}
 use Rattle.fulwethi_service.specs.Shown.{shown_delivery}
 
--- what comes next, and what is left: the delivery that was held, or the first of what a closing handed out, or one from the ring
+-- the next delivery, and what is left: the delivery that was held, or the first of what a closing handed out, or one from the ring
 abbrev pub Brings : (before after : Post) → Delivery → Type 0
 Brings before after d = ((before.held ≡ Some d) × (after.inbox ≡ before.inbox) × (after.rest ≡ before.rest))
     ⊎ (((before.held ≡ None) × (before.rest.items ≡ d ∷ after.rest.items) × (after.inbox ≡ before.inbox))
     ⊎ ((before.held ≡ None) × (before.rest.items ≡ []) × (after.rest ≡ before.rest)
     × ((i : InboxEnd) × (gone spare : ℕ) × (before.inbox ≡ Some i) × (i.gone ≤ gone) × (after.inbox ≡ Some (receives i d gone spare)))))
 
--- the same inbox, if there is one, which keeps no more of its deliveries than before
+-- the inbox, if there is one, is unchanged, and keeps no more of its deliveries than before
 abbrev pub KeepsNoMore : (before after : Option InboxEnd) → Type 0
 KeepsNoMore None after = after ≡ None
 KeepsNoMore (Some i) after = (gone spare : ℕ) × (i.gone ≤ gone) × (after ≡ Some (lets_received_go i gone spare))

@@ -1,4 +1,4 @@
--- What bytes from C stand for.
+-- The meaning of bytes from C.
 use Rattle.std.specs.Prelude.{ℕ, List, map}
 use Rattle.pgn_ids.specs.declared.address.Address.{Address}
 

@@ -47,18 +47,18 @@ IsFrameFed (Ok frame) before after answer = IsAsked (Inject frame) before after 
 abbrev pub IsMissed : Address → (before after : LiveView) → Result Reply AllocError → Type 0
 IsMissed station before after answer = IsAsked (Overrun station (waiting_at (state_of before) station)) before after answer
 
--- the station of which a frame comes next on the bus
+-- the station whose frame is next on the bus
 abbrev pub IsFront : (before after : LiveView) → Option Address → Type 0
 IsFront before after next = (after ≡ before) × IsNext (state_of before) before.addresses next
 
--- its address and its frame, if there is one; else the places are as they were
+-- the station's address and its frame are written, if there is one; else the places are unchanged
 abbrev pub IsFrontWritten : LiveView → (station station' : ℕ) → (frame frame' : CFrame) → Option Address → Type 0
 IsFrontWritten v station station' frame frame' None = (station' ≡ station) × (frame' ≡ frame)
 IsFrontWritten v station station' frame frame' (Some next) = (station' ≡ next.0) × MatchOption (front_at (state_of v) next) ⊥ (λ f. frame' ≡ shown_frame f)
 
 -- The clock
 
--- it goes on to the tick; none: it stands later
+-- the clock advances to the tick; none: it is past the tick
 abbrev pub IsClocked : (tick : ℕ) → (before after : LiveView) → Option (Result Reply AllocError) → Type 0
 IsClocked tick before after answer =
     MatchOption answer ((tick < (state_of before).now) × (after ≡ before))

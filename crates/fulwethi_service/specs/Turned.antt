@@ -12,7 +12,7 @@ use Rattle.live_segment.specs.declared.turns.Turn.{Turn}
 abbrev pub TurnAt : ℕ → (p q : LiveView) → (calls : ℕ) → Type 0
 TurnAt k p q calls = MatchOption (slice_get p.addresses k) ((q ≡ p) × (calls ≡ 0)) (λ a. (t : Turn) × StationTurn a (point p no_turn) (point q t) × (calls ≡ t.calls))
 
--- of the first n stations, one after another; calls are counted up to the last value
+-- the turns of the first n stations, one after another; calls are counted up to the last value
 abbrev pub TurnsBelow : ℕ → (p q : LiveView) → (calls : ℕ) → Type 0
 TurnsBelow zero p q calls = (q ≡ p) × (calls ≡ 0)
 TurnsBelow (suc n) p q calls = (m : LiveView) × (below at : ℕ) × TurnsBelow n p m below × TurnAt n m q at × (calls ≡ plus below at)
@@ -21,7 +21,7 @@ TurnsBelow (suc n) p q calls = (m : LiveView) × (below at : ℕ) × TurnsBelow 
 abbrev pub IsKeptShort : (p q : LiveView) → Type 0
 IsKeptShort p q = ((stored_calls p < 900000) × (q ≡ p)) ⊎ ((900000 ≤ stored_calls p) × ((piece : Piece) × CutAs p q piece))
 
--- of each station, after that
+-- a round: a long record is cut, and then each station has its turn
 abbrev pub IsRound : (p q : LiveView) → (calls : ℕ) → Type 0
 IsRound p q calls = (m : LiveView) × IsKeptShort p m × TurnsBelow (length m.addresses) m q calls
 

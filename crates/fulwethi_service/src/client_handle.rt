@@ -20,7 +20,7 @@ impl Model for ClientHandle {
     ghost also_owns = { λ h. held_owns h.alloc h.ptr h.desk };
 }
 
-// C may hand it to another thread: what it owns goes along.
+// C may hand it to another thread: it owns all that it holds.
 unsafe impl Send for ClientHandle {}
 
 impl ClientHandle {

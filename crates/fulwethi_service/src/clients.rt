@@ -49,7 +49,7 @@ fn submit(
     submit_by(alloc, client, to, pgn, bytes)
 }
 
-// Its bytes are copied only if nothing but a full ring or want of memory can stand against it.
+// Its bytes are copied only if nothing but a full ring or want of memory can prevent it.
 fn submit_by(
     alloc: Global,
     client: &mut Client,

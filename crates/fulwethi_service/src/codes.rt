@@ -1,4 +1,4 @@
-//! What the calls of the service come to, as C reads it.
+//! The codes that the calls of the service return to C.
 ghost use Rattle.std.specs.Prelude.{◌≡◌};
 ghost use Rattle.c_parts.specs.Codes.{value_code};
 ghost use Rattle.fulwethi_service.specs.Codes.{not_made_code, reply_code, clock_code};
@@ -40,7 +40,7 @@ pub(crate) fn reply_code(reply: Result<Reply, AllocError>) -> u32
     }
 }
 
-/// The code of a clock that goes on, or stands later.
+/// The code of a clock that advances, or is past the tick.
 pub(crate) fn clock_code(asked: Option<Result<Reply, AllocError>>) -> u32
     ensures { result ≡ clock_code asked }
 {

@@ -64,7 +64,7 @@ fn attach(
     Ok(())
 }
 
-// Why a station gets no client, but for want of memory.
+// Why a station gets no client, except for want of memory.
 fn attach_refusal(live: &Live, station: Address) -> Option<Refusal>
     ensures { result ≡ attaching_refusal live.now station }
 {
@@ -176,7 +176,7 @@ fn open_at(
     Ok(())
 }
 
-// Why a port isn't opened, but for want of memory.
+// Why a port isn't opened, except for want of memory.
 fn open_cause(live: &Live, station: Address) -> Option<NotMade>
     ensures { MatchOption result ((pgn max_len : ℕ) → IsOpenCause live.now station pgn max_len OutOfMemory) (λ e. (pgn max_len : ℕ) → IsOpenCause live.now station pgn max_len e) }
 {

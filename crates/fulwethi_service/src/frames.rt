@@ -15,7 +15,7 @@ use live_segment::{Live, Reply, WorkerCall};
 use pgn_ids::Address;
 use std::alloc::AllocError;
 
-/// A frame of a node that is no station of the service comes from the bus.
+/// Feeds a frame, read from the bus, of a node that is no station of the service.
 #[unsafe(no_mangle)]
 pub extern "C" fn fulwethi_raw_service_feed(
     of: ServiceHandle,

@@ -17,9 +17,9 @@ use live_segment::Delivery;
 pub enum Received {
     /// A message was copied out.
     Taken,
-    /// There is none.
+    /// There is no message.
     Nothing,
-    /// It has more bytes than there is room for, and stays.
+    /// The message has more bytes than there is room for, and stays.
     TooLittleRoom,
     /// There was no memory, and it stays.
     OutOfMemory,

@@ -2,7 +2,8 @@
 use live_segment::{Delivery, Inbox};
 use std::collections::VecDeque;
 
-/// The inbox is there once its port is open. What comes next is `held`, then `rest`, which its closing handed out, and then the inbox's.
+/// The inbox is there once its port is open. The next deliveries are `held`, then `rest`, which its closing handed out,
+/// and then the inbox's.
 #[derive(Drop)]
 pub struct Post {
     pub inbox: Option<Inbox>,

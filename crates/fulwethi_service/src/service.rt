@@ -55,7 +55,7 @@ fn read_addresses(addresses: &[u8], stations: &mut [Address])
     }
 }
 
-/// Frees a service. Its clients and inboxes stay, but nothing comes of them any more.
+/// Frees a service. Its clients and inboxes stay, but get nothing more.
 #[unsafe(no_mangle)]
 pub extern "C" fn fulwethi_raw_service_free(of: ServiceHandle)
     requires { IsSome of.live }

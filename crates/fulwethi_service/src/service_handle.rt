@@ -21,7 +21,7 @@ impl Model for ServiceHandle {
     ghost also_owns = { λ h. held_owns h.alloc h.ptr h.live };
 }
 
-// C may hand it to another thread: what it owns goes along.
+// C may hand it to another thread: it owns all that it holds.
 unsafe impl Send for ServiceHandle {}
 
 impl ServiceHandle {

@@ -24,7 +24,7 @@ pub struct CNote {
     pub unused: u32,
 }
 
-/// A message that came: its addresses, its PGN, and how many bytes it has.
+/// A message received: its addresses, its PGN, and how many bytes it has.
 #[repr(C)]
 #[derive(Drop)]
 pub struct CMessage {

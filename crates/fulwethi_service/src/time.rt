@@ -11,7 +11,7 @@ use c_parts::write_tick;
 use live_segment::{Live, Reply, WorkerCall};
 use std::alloc::AllocError;
 
-/// The clock goes on to a tick.
+/// Advances the clock to a tick.
 #[unsafe(no_mangle)]
 pub extern "C" fn fulwethi_raw_service_clock(
     of: ServiceHandle,

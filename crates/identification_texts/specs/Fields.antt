@@ -11,11 +11,11 @@ abbrev pub is_filled : List ℕ → Bool
 is_filled [] = true
 is_filled (b ∷ bs) = b == 255 && is_filled bs
 
--- what stands behind the last asterisk is a field too, unless it is padding or nothing
+-- the text behind the last asterisk is a field too, unless it is padding or empty
 abbrev pub last_field : List ℕ → List (List ℕ)
 last_field field = if is_filled field then [] else field ∷ []
 
--- the fields of a text that goes on by these bytes, of whose next field these stand before them
+-- the fields of a text that continues with these bytes, after the front of a field
 abbrev pub fields_from : List ℕ → List ℕ → List (List ℕ)
 fields_from field [] = last_field field
 fields_from field (b ∷ bs) = if b == 42 then field ∷ fields_from [] bs else fields_from (field ++ b ∷ []) bs

@@ -1,4 +1,4 @@
--- The names of fields, which count from 1: empty where one has no name.
+-- The names of fields, which count from 1: empty if one has no name.
 use Rattle.std.specs.Prelude.{ℕ, List, [], ◌∷◌, ◌++◌, length, codes, ◌==◌, if◌then◌else◌}
 use Rattle.std.specs.Fmt.{decimal}
 use Rattle.identification_texts.specs.declared.naming.Kind.{Kind}

@@ -15,7 +15,7 @@ behind_colon (b ∷ bs) = codes ": " ++ escaped (b ∷ bs)
 abbrev pub field_line : Kind → ℕ → List ℕ → List ℕ
 field_line kind n field = field_name kind n ++ behind_colon field
 
--- the lines of fields, of which the first has this number
+-- the lines of fields; the first field has this number
 abbrev pub field_lines : Kind → ℕ → List (List ℕ) → List (List ℕ)
 field_lines kind n [] = []
 field_lines kind n (f ∷ fs) = field_line kind n f ∷ field_lines kind (n + 1) fs

@@ -24,7 +24,7 @@ fn push_field<'a>(fields: &mut Vec<&'a [u8]>, field: &'a [u8]) -> Result<(), All
     Ok(())
 }
 
-/// What stands behind the last asterisk.
+/// The text behind the last asterisk.
 fn push_last<'a>(fields: &mut Vec<&'a [u8]>, field: &'a [u8]) -> Result<(), AllocError>
     ensures { OnOk result (texts fields.new.items ≡ texts fields.old.items ++ last_field field.entry.now) }
 {

@@ -1,6 +1,7 @@
-//! Identifications in words: the fields of text of vehicle, component, ECU and software identification (SAE J1939-71), a line each.
+//! Identifications in words: the fields of text of vehicle, component, ECU and software identification (SAE J1939-71),
+//! a line each.
 //!
-//! Each call fails only where memory is refused.
+//! Each call fails only if memory is refused.
 #![tactic(auto)]
 
 mod fields;

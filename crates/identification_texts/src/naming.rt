@@ -5,7 +5,7 @@ ghost use Rattle.identification_texts.specs.Naming.{vehicle_name, component_name
 use std::alloc::AllocError;
 use text_digits::{put_decimal, put_text};
 
-/// What an identification is of.
+/// The thing that an identification names.
 #[derive(Clone, Copy, Debug, PartialEq, Eq)]
 pub enum Kind {
     /// A vehicle (PGN FEEC).
@@ -18,7 +18,7 @@ pub enum Kind {
     Software,
 }
 
-/// The name of a component's field, empty where it has none. Fields count from 1.
+/// The name of a component's field, empty if it has none. Fields count from 1.
 fn component_name(number: u64) -> &'static str
     ensures { result.now ≡ component_name number }
 {
@@ -31,7 +31,7 @@ fn component_name(number: u64) -> &'static str
     }
 }
 
-/// The name of an ECU's field, empty where it has none. Fields count from 1.
+/// The name of an ECU's field, empty if it has none. Fields count from 1.
 fn ecu_name(number: u64) -> &'static str
     ensures { result.now ≡ ecu_name number }
 {
@@ -55,7 +55,7 @@ fn vehicle_name(number: u64) -> &'static str
     }
 }
 
-/// The name of a field, empty where it has none.
+/// The name of a field, empty if it has none.
 fn name_of(kind: Kind, number: u64) -> &'static str
     ensures { result.now ≡ name_of kind number }
 {

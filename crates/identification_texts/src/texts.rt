@@ -44,8 +44,8 @@ fn push_fields(
     Ok(())
 }
 
-/// The lines of an identification of a vehicle, a component or an ECU: one for each of its fields, or one that says that there is none. Of
-/// software they are those of its fields.
+/// The lines of an identification of a vehicle, a component or an ECU: one for each of its fields, or one that says that there is none.
+/// For software they are those of its fields.
 pub fn identification(alloc: Global, kind: Kind, text: &[u8]) -> Result<Vec<Line>, AllocError>
     ensures { IfOk result (λ lines. lines.items ≡ identification kind text.now) }
 {

@@ -1,4 +1,4 @@
-//! What is read: standard input if no file is named, else the files in their order, of which `-` is standard input.
+//! The input: standard input if no file is named, else the files in their order, with `-` for standard input.
 ghost use Rattle.std.specs.Io.{ReadsAtMost};
 
 use std::alloc::{AllocError, Global};
@@ -71,7 +71,7 @@ fn open_file<R: Files>(rt: &R, name: &str) -> io::Result<R::File> {
     Ok(file)
 }
 
-/// Opens what is read. If a file can't be opened, that is told on standard error, and there is nothing.
+/// Opens what is read. If a file can't be opened, that is reported on standard error, and there is nothing.
 pub(crate) fn open_inputs<R: Files + Input + Eprint + AllocGlobal>(
     rt: &R,
     names: &[String],

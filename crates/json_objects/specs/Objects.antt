@@ -31,7 +31,7 @@ count_of n = number (unsigned n)
 abbrev pub object_line : List Named → List ℕ
 object_line ms = compact_text (object_of ms) ++ codes "\n"
 
--- The text of a member where another one stands before it or not
+-- The text of a member, after another one or as the first
 
 unfoldable pub key_text : (later : Bool) → (name : List ℕ) → List ℕ
 key_text later name = comma_if later ++ quoted name ++ codes ":"

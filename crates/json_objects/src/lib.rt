@@ -1,7 +1,7 @@
 //! Objects of JSON (RFC 8259) behind what a buffer holds: the text that `serde_json` gives for them, with no value of them made first, so that
 //! a long text is held no second time.
 //!
-//! Each call fails only where memory is refused, and may have put a part of the text then.
+//! Each call fails only if memory is refused, and may have put a part of the text then.
 #![tactic(auto)]
 
 mod members;

@@ -1,4 +1,4 @@
-//! Members of an object. `later` says whether another one stands before it.
+//! Members of an object. `later` says whether another one precedes it.
 ghost use Rattle.std.specs.Prelude.{◌≡◌, ◌++◌, OnOk};
 ghost use Rattle.serde_json.specs.Data.{string};
 ghost use Rattle.serde_json.specs.Written.{comma_if};

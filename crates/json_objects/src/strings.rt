@@ -6,7 +6,7 @@ ghost use Rattle.json.specs.Print.{escape_letter, escape_byte, escape, quoted};
 use std::alloc::AllocError;
 use text_digits::put_text;
 
-/// The letter of a byte's short escape, 0 where it has none.
+/// The letter of a byte's short escape, 0 if it has none.
 fn escape_letter(byte: u8) -> u8
     ensures { result ≡ escape_letter byte }
 {
@@ -29,7 +29,7 @@ fn digit_char(n: u8) -> u8
     if n < 10 { b'0' + n } else { b'a' + (n - 10) }
 }
 
-/// A byte, as it stands in a quoted text.
+/// A byte, as it is written in a quoted text.
 #[tactic(auto, unfolding(json::specs::Print::escape_byte))]
 fn put_escaped(out: &mut Vec<u8>, byte: u8) -> Result<(), AllocError>
     ensures { OnOk result (out.new.items ≡ out.old.items ++ escape_byte byte) }

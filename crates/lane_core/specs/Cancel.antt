@@ -19,7 +19,7 @@ numbered messages number = list_any (λ m. m.number == number) messages
 abbrev pub place_of : List Pending → ℕ → Option ℕ
 place_of messages number = position (λ m. m.number == number) messages
 
--- without the first message of this number
+-- the messages without the first one of this number
 abbrev pub without_number : List Pending → ℕ → List Pending
 without_number [] number = []
 without_number (m ∷ messages) number = if m.number == number then messages else m ∷ without_number messages number
@@ -28,7 +28,7 @@ abbrev pub is_front : List Pending → ℕ → Bool
 is_front [] number = false
 is_front (m ∷ _) number = m.number == number
 
--- a message that has not begun is cancelled: the lane is otherwise as it was
+-- a message that has not begun is cancelled: the rest of the lane is unchanged
 abbrev pub withdrawn : Lane → ℕ → Lane × LaneStep
 withdrawn lane number = (
   record lane { pending = without_number lane.pending number },

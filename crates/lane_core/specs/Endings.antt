@@ -44,7 +44,7 @@ over lane outcome frame = (ended_lane lane outcome, record { frames = option_to_
 abbrev pub still : Lane → Lane × LaneStep
 still lane = (lane, nothing_to_do)
 
--- the connection under way goes on in a state, or is over
+-- the connection under way continues in a state, or is over
 abbrev pub connection_over : Lane → OutOver → Lane × LaneStep
 connection_over lane over_by = over lane over_by.outcome over_by.frame
 

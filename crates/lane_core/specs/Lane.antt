@@ -55,6 +55,6 @@ kind_for len = if nat_le len TP_MAX_SIZE then Tp else Etp
 abbrev pub link_for : (from to : ℕ) → Pending → Link
 link_for from to m = record { kind = kind_for (length m.bytes); from = from; to = to; pgn = m.pgn; len = length m.bytes }
 
--- what is under way, in the place of what was
+-- the lane with this under way
 abbrev pub with_under_way : Lane → UnderWay → Lane
 with_under_way lane under_way = record lane { under_way = under_way }

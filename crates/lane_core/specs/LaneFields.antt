@@ -39,7 +39,7 @@ is_under_way Nothing = false
 is_under_way (Broadcast s) = true
 is_under_way (Connection s) = true
 
--- a message is under way only where the lane is settled
+-- a message is under way only if the lane is settled
 abbrev pub IsCalm : UnderWay → Standing → Type 0
 IsCalm under_way standing = is_under_way under_way ≡ true → standing ≡ Settled
 

@@ -1,4 +1,4 @@
--- What a lane does with what is under way, where it stands.
+-- The steps of a lane that change what is under way in place.
 use Rattle.std.specs.Prelude.{◌≡◌, ℕ, Bool, true, false, List, [], ◌∷◌, Option, Some, None, ⊤}
 use Rattle.bus_frame.specs.Frames.{CanFrame}
 use Rattle.tp_wire.specs.declared.outcome.Outcome.TheVariants as outcome
@@ -20,7 +20,7 @@ IsOfLength Nothing len = ⊤
 IsOfLength (Broadcast s) len = len ≡ s.len
 IsOfLength (Connection s) len = len ≡ (link_of s).len
 
--- it is of the same message
+-- the message is unchanged
 abbrev pub KeepsMessage : UnderWay → UnderWay → Type 0
 KeepsMessage Nothing Nothing = ⊤
 KeepsMessage (Broadcast s) (Broadcast t) = t.len ≡ s.len
@@ -39,12 +39,12 @@ frames_pumped Nothing bytes now = []
 frames_pumped (Broadcast s) bytes now = packet_of (bam.pumped s bytes now)
 frames_pumped (Connection s) bytes now = (out.pumped s bytes now).1
 
--- the lane after it: the message under way goes on in this state, or as a broadcast it has ended
+-- the lane after a pump: the message under way continues in this state, or is a broadcast that has ended
 abbrev pub after_pump : Lane → UnderWay → List CanFrame → (has_ended : Bool) → Lane × LaneStep
 after_pump lane u frames true = (ended_lane lane outcome.Broadcast, record { frames = frames; ended = front_ended lane.pending outcome.Broadcast })
 after_pump lane u frames false = (with_under_way lane u, record { frames = frames; ended = None })
 
--- the lane after a frame of the destination: the message under way goes on in this state, or is ended in this way
+-- the lane after a frame of the destination: the message under way continues in this state, or is ended in this way
 abbrev pub after_frame : Lane → UnderWay → Option Ending → Lane × LaneStep
 after_frame lane u None = still (with_under_way lane u)
 after_frame lane u (Some ending) = ended_by u (with_under_way lane u) ending

@@ -23,7 +23,7 @@ use Rattle.lane_core.specs.Lane.{Lane, link_for, with_under_way}
 use Rattle.lane_core.specs.Endings.{over, still}
 use Rattle.lane_core.specs.Probe.{probes}
 
--- why the front message doesn't begin, where nothing is under way
+-- why the front message doesn't begin, if nothing is under way
 abbrev pub idle_refusal : Standing → List Pending → Option PumpRefused
 idle_refusal standing [] = Some NothingToSend
 idle_refusal Settled (m ∷ _) = None
@@ -40,7 +40,7 @@ refusal_by (Connection _) lane now = Some NothingToSend
 abbrev pub pump_refusal : Lane → (now : ℕ) → Option PumpRefused
 pump_refusal lane now = refusal_by lane.under_way lane now
 
--- it has a frame to queue, now or once the gap of its broadcast has passed
+-- a lane has a frame to queue, now or once the gap of its broadcast has passed
 abbrev pub ready_by : UnderWay → Lane → Bool
 ready_by Nothing lane = is_none (idle_refusal lane.standing lane.pending)
 ready_by (Broadcast s) lane = true
@@ -65,7 +65,7 @@ begins lane m now =
     then (with_under_way lane (Broadcast (bam.begun lane.from m.pgn (length m.bytes) now).0), says (bam.begun lane.from m.pgn (length m.bytes) now).1)
     else (with_under_way lane (Connection (AwaitCts (begun (link_for lane.from lane.to m) now).0)), says (begun (link_for lane.from lane.to m) now).1)
 
--- nothing is under way: the front message begins where the lane is settled, and in doubt the lane asks first
+-- nothing is under way: the front message begins if the lane is settled; in doubt the lane asks first
 abbrev pub idle_pumped : Standing → List Pending → Lane → (now : ℕ) → Lane × LaneStep
 idle_pumped Settled (m ∷ _) lane now = begins lane m now
 idle_pumped InDoubt (m ∷ _) lane now = probes lane 1 now
@@ -76,7 +76,7 @@ abbrev pub front_bytes : List Pending → List ℕ
 front_bytes [] = []
 front_bytes (m ∷ _) = m.bytes
 
--- a broadcast goes on with its next packet, and with the last one it has its outcome
+-- a broadcast continues with its next packet, and has its outcome with the last one
 abbrev pub after_packet : Lane → BamPumped → Lane × LaneStep
 after_packet lane (pumping.On s frame) = (with_under_way lane (Broadcast s), says frame)
 after_packet lane (pumping.Last frame) = over lane outcome.Broadcast (Some frame)

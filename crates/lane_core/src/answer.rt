@@ -9,7 +9,7 @@ use crate::probe::Standing;
 use pgn_ids::WirePgn;
 
 impl Lane {
-    /// Takes an Acknowledgement of the destination: where a Request is on its way and the PGN field names its token, the
+    /// Takes an Acknowledgement of the destination. If a Request is under way and the PGN field names its token, the
     /// lane is settled, and the next round has the other token.
     pub fn answer(&mut self, pgn: WirePgn)
         ensures { self.new ≡ answered_lane self.old pgn }
@@ -21,7 +21,7 @@ impl Lane {
         }
     }
 
-    // What was asked for was answered.
+    // The Request was answered: the lane is settled.
     fn settle(&mut self)
         ensures { self.new ≡ record self.old { standing = Settled; token = other_token self.old.token } }
     {

@@ -40,7 +40,7 @@ impl Lane {
         }
     }
 
-    /// A message is taken out, wherever it stands, while nothing is under way.
+    /// Takes a message out, wherever it is in the lane, while nothing is under way.
     #[tactic(auto, using(crate::proofs::Cancelling::carried_withdraw))]
     fn withdraw(&mut self, number: u64) -> Ended
         requires { self.old.under_way ≡ Nothing }
@@ -54,9 +54,11 @@ impl Lane {
         }
     }
 
-    /// Cancels the message with this number, and tells it: a connection under way ends by an abort, which is queued behind the
-    /// frames of a queue, a broadcast under way without a frame, and one that has not begun leaves the lane otherwise as it was.
-    /// None exactly where no message with this number is pending, and then nothing changes.
+    /// Cancels the message with this number, and returns its outcome. A connection under way ends with an abort, which is queued
+    /// behind the frames of a queue. A broadcast under way ends without a frame. A message that has not begun leaves the rest of
+    /// the lane unchanged.
+    ///
+    /// None exactly if no message with this number is pending; then nothing changes.
     #[tactic(auto, using(crate::proofs::Cancelling::tells_one))]
     pub fn cancel(&mut self, number: u64, queue: &mut TxQueue) -> Option<Ended>
         requires place { queues_abort_of self.old number ≡ true → length queue.old < queue_limit }
@@ -73,7 +75,7 @@ impl Lane {
         self.end(number, queue)
     }
 
-    // The same of a message that is pending.
+    // Ends a message that is pending.
     fn end(&mut self, number: u64, queue: &mut TxQueue) -> Option<Ended>
         requires place { queues_abort_of self.old number ≡ true → length queue.old < queue_limit }
         ensures lane { self.new ≡ (cancelled_lane self.old number).0 }

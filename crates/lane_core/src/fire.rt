@@ -48,8 +48,8 @@ impl Lane {
         }
     }
 
-    /// The tick from which on the timer of its connection, or of its Request, is due. None where neither runs, and where it
-    /// isn't due up to the last tick.
+    /// The tick from which on the timer of its connection, or of its Request, is due. None if neither runs, or if it isn't due up
+    /// to the last tick.
     pub fn due_at(&self) -> Option<u64>
         ensures { IsDueFrom (is_lane_due self.now) result }
     {
@@ -60,7 +60,7 @@ impl Lane {
         }
     }
 
-    // The same of its Request.
+    // The tick from which on the timer of its Request is due.
     fn probe_due_at(&self) -> Option<u64>
         ensures { IsDueFrom (is_probe_due_at self.now.standing) result }
     {
@@ -70,9 +70,9 @@ impl Lane {
         }
     }
 
-    /// Its timer fired at tick `now`, as `is_due` told: a connection under way timed out and is aborted; a Request is
-    /// repeated, and after the third one the front message is unreachable. It looks at no clock. The message that it ends is told,
-    /// and its frame queued behind those of a queue.
+    /// Its timer fired at tick `now`, as `is_due` said. A connection under way timed out and is aborted. A Request is repeated,
+    /// and after the third one the front message is unreachable. The call reads no clock. It returns the message that ends, and
+    /// queues the frame behind those of a queue.
     pub fn fire(&mut self, now: u64, queue: &mut TxQueue) -> Option<Ended>
         requires { length queue.old < queue_limit }
         ensures lane { self.new ≡ (fired_lane self.old now).0 }

@@ -41,7 +41,7 @@ pub(crate) fn hear_frame(state: &mut OutState, heard: &Heard<'_>, now: u64) -> O
 
 impl Lane {
     /// Takes a frame of the destination at tick `now`: a CTS, an end of message acknowledgement or an abort of the connection
-    /// under way. The message that it ends is told, and its abort queued behind the frames of a queue, if the sender aborts it.
+    /// under way. It returns the message that ends, and queues an abort behind the frames of a queue if the sender aborts it.
     /// Every other frame changes nothing.
     #[inline]
     #[tactic(auto, using(crate::proofs::Keeping::carries_on, crate::proofs::Keeping::calm_on))]

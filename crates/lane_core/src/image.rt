@@ -21,7 +21,7 @@ pub(crate) enum UnderWayImage {
     Connection(OutImage),
 }
 
-/// What a lane was, with the messages that had no outcome. It holds no state that must be spent.
+/// The value of a lane, with the messages that had no outcome. It holds no state that must be spent.
 pub struct LaneImage {
     from: Address,
     to: Address,
@@ -74,7 +74,7 @@ impl Lane {
 }
 
 impl LaneImage {
-    /// Whether it is that of a lane. It takes no memory.
+    /// Whether this is the image of a lane. It takes no memory.
     pub fn is_of(&self, lane: &Lane) -> bool
         ensures { IsTrue result ↔ (self.now ≡ lane.now) }
     {
@@ -88,7 +88,7 @@ impl LaneImage {
     }
 }
 
-// The messages once more.
+// A copy of the messages.
 fn copied(alloc: Global, messages: &VecDeque<Pending>) -> Result<Vec<Pending>, AllocError>
     ensures { IfOk result (λ copies. copies.items ≡ messages.now.items) }
 {
@@ -105,7 +105,7 @@ fn copied(alloc: Global, messages: &VecDeque<Pending>) -> Result<Vec<Pending>, A
     Ok(copies)
 }
 
-// Whether two messages are the same.
+// Whether two messages are equal.
 fn is_same(a: &Pending, b: &Pending) -> bool
     ensures { IsTrue result ↔ (a.now ≡ b.now) }
 {
@@ -138,7 +138,7 @@ fn under_way_image(under_way: &UnderWay) -> UnderWayImage
     }
 }
 
-// Whether it is that of what is under way.
+// Whether this is the image of what is under way.
 fn is_under_way(image: &UnderWayImage, under_way: &UnderWay) -> bool
     ensures { IsTrue result ↔ (under_way_value image.now ≡ under_way.now) }
 {
@@ -158,14 +158,14 @@ fn is_under_way(image: &UnderWayImage, under_way: &UnderWay) -> bool
     }
 }
 
-// Whether two standings are the same.
+// Whether two standings are equal.
 fn is_same_standing(a: &Standing, b: &Standing) -> bool
     ensures { IsTrue result ↔ (a.now ≡ b.now) }
 {
     *a == *b
 }
 
-// Whether two tokens are the same.
+// Whether two tokens are equal.
 fn is_same_token(a: &Token, b: &Token) -> bool
     ensures { IsTrue result ↔ (a.now ≡ b.now) }
 {

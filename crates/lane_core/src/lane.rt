@@ -1,4 +1,4 @@
-//! A lane, and how its messages come.
+//! A lane, and how messages are pushed to it.
 ghost use Rattle.std.specs.Prelude.{◌≡◌, ◌≤◌, ◌+◌, ◌||◌, ◌==◌, true, length, IfOk, OnOk, OnErr, IfErr, IsErr};
 ghost use Rattle.pgn_ids.specs.Address.{is_one, global_address};
 ghost use Rattle.lane_core.specs.Lane.{lane_limit, new_lane, is_full, pushed, longest_to, with_under_way};
@@ -20,8 +20,8 @@ use std::mem;
 /// How many messages a lane has without an outcome at most.
 const LANE_LIMIT: usize = 32;
 
-/// The messages of one station to one destination, of which one is under way at a time. What is under way when a lane is
-/// dropped ends without a frame or an outcome.
+/// The messages of one station to one destination, one of which is under way at a time. If a lane is dropped, what is
+/// under way ends without a frame or an outcome.
 pub struct Lane {
     pub(crate) from: Address,
     pub(crate) to: Address,
@@ -91,7 +91,7 @@ impl Lane {
         self.to
     }
 
-    /// The number of the last message that was pushed, 0 where there was none.
+    /// The number of the last message that was pushed, 0 if there was none.
     pub fn sent(&self) -> u64
         ensures { result ≡ self.now.sent }
     {

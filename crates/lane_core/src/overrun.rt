@@ -7,7 +7,8 @@ use crate::place::UnderWay;
 use crate::step::Ended;
 
 impl Lane {
-    /// The station missed frames: a connection under way ends, and nothing is queued. A broadcast and a Request go on.
+    /// The station missed frames: a connection under way ends, and nothing is queued. A broadcast and a Request
+    /// continue.
     pub fn overrun(&mut self) -> Option<Ended>
         ensures lane { self.new ≡ (overrun_lane self.old).0 }
         ensures silent { (overrun_lane self.old).1.frames ≡ [] }

@@ -20,15 +20,15 @@ use tx_queue::TxQueue;
 
 /// How the front message of a lane is under way. It must be spent.
 pub enum UnderWay {
-    /// It has not begun, or there is none.
+    /// Nothing is under way.
     Nothing,
-    /// It is being broadcast.
+    /// A message is being broadcast.
     Broadcast(BamOut),
-    /// Its connection is open.
+    /// A connection is open.
     Connection(OutState),
 }
 
-/// Where a lane keeps what is under way. One that is dropped ends it, without a frame or an outcome.
+/// Where a lane keeps what is under way. Dropping it ends what is under way without a frame or an outcome.
 pub(crate) struct Place {
     content: UnderWay,
 }
@@ -73,9 +73,9 @@ impl Place {
         &self.content
     }
 
-    /// Queues what comes next of what is under way behind the frames of a queue at tick `now`: the part of a connection's window,
-    /// or a packet of a broadcast that is due. `bytes` are those of the message. Whether the message ends with it: a broadcast
-    /// does with its last packet.
+    /// Queues the next frames of what is under way behind those of a queue at tick `now`: a part of a connection's window, or a
+    /// packet of a broadcast that is due. `bytes` are those of the message. Returns whether the message ends with it, as a
+    /// broadcast does with its last packet.
     #[inline(always)]
     pub(crate) fn pump(&mut self, bytes: &[u8], now: u64, queue: &mut TxQueue) -> bool
         requires under_way { is_under_way self.old ≡ true }

@@ -24,7 +24,7 @@ pub enum Standing {
     Probing { count: u8, timer: Timer },
 }
 
-/// Which PGN a lane asks for to settle: the two take turns, so that an answer to an earlier round is known.
+/// The PGN that a lane asks for to settle: the two take turns, so that an answer to an earlier round is recognised.
 #[derive(Clone, Copy, Debug, PartialEq, Eq)]
 pub enum Token {
     /// TP.CM, which is asked for first.

@@ -26,7 +26,7 @@ use tp_wire::{Kind, Outcome};
 use tx_queue::TxQueue;
 
 impl Lane {
-    /// Why it queues nothing at tick `now`, or `None` where a pump queues a frame.
+    /// Why it queues nothing at tick `now`, or `None` if a pump queues a frame.
     pub fn pump_refusal(&self, now: u64) -> Option<PumpRefused>
         ensures { result ≡ refusal_of self.now now }
     {
@@ -44,7 +44,7 @@ impl Lane {
         }
     }
 
-    /// Why the front message does not begin, where nothing is under way.
+    /// Why the front message does not begin, if nothing is under way.
     fn idle_refusal(&self) -> Option<PumpRefused>
         ensures { result ≡ idle_refusal self.now.standing self.now.pending }
     {
@@ -57,8 +57,8 @@ impl Lane {
         }
     }
 
-    /// The tick from which on a pump queues a frame: 0 where one does at every tick, and that at which the gap of a broadcast has
-    /// passed. None where it has nothing to queue at any tick.
+    /// The tick from which on a pump queues a frame: 0 if one does at every tick, or the end of the gap of a broadcast. None if
+    /// it has nothing to queue at any tick.
     pub fn pump_due_at(&self) -> Option<u64>
         ensures { IsDueFrom (λ now. is_none (refusal_of self.now now)) result }
     {
@@ -82,8 +82,8 @@ impl Lane {
         }
     }
 
-    /// How many ticks are missing at tick `now` until the next frame of a broadcast message may be queued, 0 where none
-    /// is under way.
+    /// How many ticks are missing at tick `now` until the next frame of a broadcast message may be queued, 0 if none is under
+    /// way.
     pub fn missing(&self, now: u64) -> u64
         ensures { result ≡ missing_of self.now now }
     {
@@ -93,9 +93,9 @@ impl Lane {
         }
     }
 
-    /// Queues what comes next at tick `now` behind the frames of a queue: the first frame of the front message, or of a round
-    /// of Requests where the lane is in doubt; the next packet of a broadcast; the next part of a connection's window. The
-    /// message that it ends is told. Where `pump_refusal` gives a cause, nothing is queued and the lane stays as it was.
+    /// Queues the next frames at tick `now` behind those of a queue: the first frame of the front message; the first of a round
+    /// of Requests if the lane is in doubt; the next packet of a broadcast; or the next part of a connection's window. It returns
+    /// the message that ends. If `pump_refusal` gives a cause, nothing is queued and the lane is unchanged.
     #[inline(always)]
     #[tactic(auto, using(crate::proofs::Pumping::refused_pump, crate::proofs::Keeping::of_length, crate::proofs::Keeping::carries_on, crate::proofs::Keeping::calm_on))]
     pub fn pump(&mut self, now: u64, queue: &mut TxQueue) -> Option<Ended>

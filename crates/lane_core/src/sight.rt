@@ -1,11 +1,11 @@
-//! What is seen of a lane from outside.
+//! The sight of a lane from outside.
 ghost use Rattle.std.specs.Prelude.{◌≡◌};
 ghost use Rattle.lane_core.specs.Sight.{is_doubtful, sight_of, nothing_seen};
 
 use crate::lane::Lane;
 use crate::probe::Standing;
 
-/// What is seen of a lane: whether it has something to do, and whether the next message can begin at once.
+/// The sight of a lane: whether it has something to do, and whether the next message can begin at once.
 #[derive(Clone, Copy, Debug, PartialEq, Eq)]
 pub struct LaneSight {
     /// How many messages wait or are under way, 0 to 32.
@@ -16,7 +16,7 @@ pub struct LaneSight {
 }
 
 impl LaneSight {
-    /// What is seen where no message was sent.
+    /// The sight of a lane that sent no message.
     pub fn nothing() -> LaneSight
         ensures { result ≡ nothing_seen }
     {
@@ -28,7 +28,7 @@ impl LaneSight {
 }
 
 impl Lane {
-    /// What is seen of it.
+    /// The sight of this lane.
     pub fn sight(&self) -> LaneSight
         ensures { result ≡ sight_of self.now }
     {

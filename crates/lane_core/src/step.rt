@@ -1,4 +1,4 @@
-//! What a step of a lane tells.
+//! The outcome that a step of a lane returns.
 
 use tp_wire::Outcome;
 

@@ -12,8 +12,8 @@ numbers given = map (λ g. g.number) given
 abbrev pub IsGiven : List Given → ℕ → Type 0
 IsGiven given number = Contains (numbers given) number
 
--- once at most, in the order sent, byte for byte: the numbers are strictly rising places of what was sent, and under each
--- the message was given that was sent under it
+-- what was given is a choice of what was sent: the numbers are strictly rising places of it, and each message is the one
+-- that was sent under its number, byte for byte
 pub record IsChoice (given : List Given) (sent : List Message) : Type 0 where
   pub rising : IsStrictlyIncreasing (numbers given)
   pub as_sent : All (λ g. IsSent sent g.number g.message) given

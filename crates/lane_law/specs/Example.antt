@@ -19,7 +19,7 @@ pub record GivesAcknowledged (message : Message) (lane : Lane) : Type 0 where
   pub given : lane.stream.given ≡ record { number = 1; message = message } ∷ []
   pub outcomes : lane.outcomes ≡ outcome 1 Acknowledged ∷ []
 
--- of six equal messages the first times out and is given all the same, the second is lost in an overrun, the third is
+-- of six equal messages the first times out although it is given, the second is lost in an overrun, the third is
 -- cancelled, the fourth is given and acknowledged, the fifth times out, and the sixth is unreachable
 pub record GivesTwoOfSix (message : Message) (lane : Lane) : Type 0 where
   pub reached : Lane.IsReached true lane

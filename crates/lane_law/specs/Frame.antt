@@ -9,7 +9,7 @@ pub data Frame : Type 0 where
   Packet : (sequence : ℕ) (bytes : List ℕ) → Frame  -- data transfer
   Request : (token : Bool) → Frame  -- a round of doubt asks whether all before it was taken
 
--- where a reader of the frames stands: in the message of the last RTS, at the offset of the last DPO behind it
+-- the place of a reader of the frames: in the message of the last RTS, at the offset of the last DPO behind it
 pub record Place : Type 0 where
   pub number : ℕ
   pub message : Message

@@ -10,9 +10,9 @@ use Rattle.lane_law.specs.Stream
 -- what the destination queues for the sender
 pub data Answer : Type 0 where
   EndAcknowledgement : (number : ℕ) → Answer  -- EndOfMsgAck or EOMA: the wire doesn't have the number
-  Acknowledgement : (token : Bool) → Answer  -- of a Request
+  Acknowledgement : (token : Bool) → Answer  -- answers a Request
 
--- how the sender stands with the lane
+-- the lane in the sender's books
 pub data Phase : Type 0 where
   Idle : Phase  -- settled, with nothing under way
   Begun : (number : ℕ) → Phase  -- this message is under way, and no CTS was taken since its RTS
@@ -23,13 +23,13 @@ pub data Phase : Type 0 where
 pub record Lane : Type 0 where
   pub stream : Stream.Stream
   pub answers : List Answer  -- ahead of the sender: on the bus past its cursor, then in the destination's queue
-  pub heard : List Answer  -- the answer that the sender would take if it took a frame again, where it is one of these; else empty
+  pub heard : List Answer  -- the answer that the sender would take if it took a frame again, if it is one of these; else empty
   pub phase : Phase
-  pub token : Bool  -- of the round of doubt that there is, or else of the next one: two tokens take turns
+  pub token : Bool  -- the token of the round of doubt, if there is one, else of the next one: two tokens take turns
   pub pending : List ℕ  -- the numbers that are neither begun nor ended
   pub outcomes : List Outcome  -- the newest first
 
--- what may happen, one step each: first at the sender, then at the destination, then where the sender takes answers
+-- the steps: first those of the sender, then those of the destination, then those of the sender that takes answers
 pub data LaneEvent : Type 0 where
   Sends : (message : Message) → LaneEvent  -- a message is accepted for sending
   Begins : (number : ℕ) (message : Message) (rest : List ℕ) → LaneEvent  -- the RTS of the first pending one is queued
@@ -37,7 +37,7 @@ pub data LaneEvent : Type 0 where
   QueuesDpo : (number offset : ℕ) → LaneEvent
   QueuesPacket : (number sequence : ℕ) → LaneEvent  -- also one that was queued before
   Ends : (number : ℕ) → LaneEvent  -- timed out, aborted, cancelled, overrun
-  Probes : LaneEvent  -- a Request is queued, or queued once more
+  Probes : LaneEvent  -- a Request is queued, or repeated
   Cancels : (earlier : List ℕ) (number : ℕ) (later : List ℕ) → LaneEvent  -- a pending one
   GivesUp : (number : ℕ) (rest : List ℕ) → LaneEvent  -- no Request was answered
   Takes : (frame : Frame) (rest : List Frame) → LaneEvent
@@ -80,7 +80,7 @@ MayHappen ForgetsAnswer lane = Unit {0}
 MayHappen (Acknowledges number heard) lane = (lane.phase ≡ Granted number) × (lane.heard ≡ EndAcknowledgement heard ∷ [])
 MayHappen Settles lane = (lane.phase ≡ InDoubt) × (lane.heard ≡ Acknowledgement lane.token ∷ [])
 
--- the lane after an event of its stream, where nothing else changes
+-- the lane after an event of its stream; the rest is unchanged
 abbrev pub with_stream_event : Stream.StreamEvent → Lane → Lane
 with_stream_event event lane = record lane { stream = Stream.after event lane.stream }
 
@@ -116,11 +116,11 @@ after Settles lane = record lane { phase = Idle; token = not lane.token }
 abbrev pub start : Bool → Lane
 start token = record { stream = Stream.empty_stream; answers = []; heard = []; phase = Idle; token = token; pending = []; outcomes = [] }
 
--- some events lead to this lane
+-- this lane is reached by some events
 abbrev pub IsReached : Bool → Lane → Type 0
 IsReached token lane = Leads MayHappen after (start token) lane
 
--- a fact holds of each lane that events lead to, whichever token comes first
+-- a fact holds of each lane that events reach, whichever token is first
 abbrev pub OnEachLane : (Lane → Type 0) → Type 0
 OnEachLane P = (token : Bool) (lane : Lane) → IsReached token lane → P lane
 

@@ -18,6 +18,6 @@ packet bytes k = take 7 (drop (7 * (k - 1)) (padded bytes))
 abbrev pub packet_count : ℕ → ℕ
 packet_count size = (size + 6) / 7
 
--- the message with this number, where the numbers are the places in the order sent, from 1
+-- the message with this number; the numbers are the places in the order sent, from 1
 abbrev pub IsSent : List Message → ℕ → Message → Type 0
 IsSent sent number message = (0 < number) × (slice_get sent (number - 1) ≡ Some message)

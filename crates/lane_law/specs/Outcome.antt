@@ -1,9 +1,9 @@
--- What a sender is told of its messages, held against what was given.
+-- The outcomes that a sender is told, compared with what was given.
 use Rattle.std.specs.Prelude.{ℕ, ◌<◌, ◌≤◌, ◌≢◌, List, All, AllPairs}
 use Rattle.lane_law.specs.Session.{Given}
 use Rattle.lane_law.specs.Choice.{IsGiven}
 
--- the outcomes of which the law says something, and all the others as one
+-- the outcomes that the law says something about, and all the others as one
 pub data Fate : Type 0 where
   Acknowledged : Fate
   Unreachable : Fate
@@ -18,7 +18,7 @@ pub record Outcome : Type 0 where
 abbrev pub outcome : ℕ → Fate → Outcome
 outcome number fate = record { number = number; fate = fate }
 
--- what a fate says of what was given: an acknowledged message was, an unreachable one was not
+-- an acknowledged message was given, an unreachable one was not
 abbrev pub Says : List Given → ℕ → Fate → Type 0
 Says given number Acknowledged = IsGiven given number
 Says given number Unreachable = ¬ IsGiven given number

@@ -11,6 +11,6 @@ abbrev pub run : {Event State : Type 0} → (Event → State → State) → List
 run after [] state = state
 run after (event ∷ events) state = run after events (after event state)
 
--- some events lead from the first state to the last one
+-- some events take the first state to the last one
 abbrev pub Leads : {Event State : Type 0} → (Event → State → Type 0) → (Event → State → State) → State → State → Type 0
 Leads {Event} {State} may after first last = (events : List Event) × MayRun may after events first × (run after events first ≡ last)

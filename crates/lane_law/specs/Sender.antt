@@ -4,7 +4,7 @@ use Rattle.std.specs.Prelude.{ℕ, ◌+◌, ◌≡◌, List, [], ◌∷◌, ◌+
 use Rattle.lane_law.specs.Outcome.{Fate, Outcome, outcome}
 use Rattle.lane_law.specs.Runs.{Leads}
 
--- how many messages were sent, and how each of them stands
+-- how many messages were sent, and the state of each
 pub record Sender : Type 0 where
   pub sent : ℕ  -- so many messages: their numbers count from 1
   pub under_way : Option ℕ
@@ -37,10 +37,10 @@ after (EndsPending earlier number later fate) sender =
 abbrev pub new_sender : Sender
 new_sender = record { sent = 0; under_way = None; pending = []; outcomes = [] }
 
--- some events lead to this sender
+-- this sender is reached by some events
 abbrev pub IsReached : Sender → Type 0
 IsReached sender = Leads MayHappen after new_sender sender
 
--- a fact holds of each sender that events lead to
+-- a fact holds of each sender that events reach
 abbrev pub OnEachSender : (Sender → Type 0) → Type 0
 OnEachSender P = (sender : Sender) → IsReached sender → P sender

@@ -5,11 +5,11 @@ use Rattle.lane_law.specs.Frame.{Frame, Rts, Dpo, Packet, Request}
 
 -- what a session knows of its message, and the packets that it accepted
 pub record Session : Type 0 where
-  pub number : ℕ  -- the wire doesn't have it: only what is given names it
+  pub number : ℕ  -- the wire doesn't have it: only messages that are given name it
   pub pgn : ℕ
   pub size : ℕ
   pub accepted : ℕ  -- so many packets: the next one is accepted + 1
-  pub offset : ℕ  -- of the last DPO
+  pub offset : ℕ  -- the offset of the last DPO
   pub collected : List ℕ
 
 -- a message that the destination was given, with its number

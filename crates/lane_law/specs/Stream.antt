@@ -11,7 +11,7 @@ pub record Stream : Type 0 where
   pub sent : List Message
   pub queued : Place  -- behind the newest frame
   pub forward : List Frame  -- ahead of the destination: on the bus past its cursor, then in the sender's queue
-  pub again : List Frame  -- the frame that the destination would take if it took one again, where it is one of these; else empty
+  pub again : List Frame  -- the frame that the destination would take if it took one again, if it is one of these; else empty
   pub reached : Place  -- behind the frames that the destination took or passed over
   pub session : Option Session
   pub given : List Given
@@ -25,7 +25,7 @@ pub data StreamEvent : Type 0 where
   QueueRequest : (token : Bool) → StreamEvent
   Take : (frame : Frame) (rest : List Frame) → StreamEvent  -- the destination takes the next frame
   PassOver : (frame : Frame) (rest : List Frame) → StreamEvent  -- unseen: one of the frames of an overrun
-  Forget : StreamEvent  -- a frame of somebody else is taken or passed over, or an overrun of none: no repeat
+  Forget : StreamEvent  -- a frame of another sender is taken or passed over, or an overrun of no frame: no repeat
   Reopen : (number : ℕ) (message : Message) → StreamEvent  -- the RTS is taken again
   Accept : (session : Session) (sequence : ℕ) (bytes : List ℕ) → StreamEvent  -- the packet that was taken is kept
   Give : (session : Session) (sequence : ℕ) (bytes : List ℕ) → StreamEvent  -- with the last packet the message is given
@@ -74,7 +74,7 @@ after (Accept session sequence bytes) stream = record stream { session = Some (w
 after (Give session sequence bytes) stream = record stream { session = None; given = stream.given ++ given_of session bytes ∷ [] }
 after EndSession stream = record stream { session = None }
 
--- before the first RTS
+-- the place of a reader before the first RTS
 abbrev pub nowhere : Place
 nowhere = record { number = 0; message = record { pgn = 0; bytes = [] }; offset = 0 }
 
@@ -82,15 +82,15 @@ nowhere = record { number = 0; message = record { pgn = 0; bytes = [] }; offset 
 abbrev pub empty_stream : Stream
 empty_stream = record { sent = []; queued = nowhere; forward = []; again = []; reached = nowhere; session = None; given = [] }
 
--- some events lead to this stream
+-- this stream is reached by some events
 abbrev pub IsReached : Stream → Type 0
 IsReached stream = Leads MayHappen after empty_stream stream
 
--- a fact holds of each stream that events lead to
+-- a fact holds of each stream that events reach
 abbrev pub OnEachStream : (Stream → Type 0) → Type 0
 OnEachStream P = (stream : Stream) → IsReached stream → P stream
 
--- a session is of the message of the last RTS, which was sent and was not given, and has its first packets
+-- a session is that of the message of the last RTS, which was sent and not given, and has its first packets
 pub record IsOfReached (stream : Stream) (session : Session) : Type 0 where
   pub number : session.number ≡ stream.reached.number
   pub pgn : session.pgn ≡ stream.reached.message.pgn

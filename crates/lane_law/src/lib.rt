@@ -1,64 +1,64 @@
-//! The law of a lane: what one destination is given of one sender, and what that sender is told of it.
+//! The law of a lane: the messages of one sender that one destination is given, and the outcomes that the sender is told.
 //!
-//! Nothing runs here. `specs/` has a small machine, and each function below is a law of it: its body is empty, and its
-//! contract is what was proved. Who has a real sender and a real destination runs the machine beside them, event by event
-//! (`lanes_go_on`, `broadcasts_go_on`), and reads off what the laws say.
+//! Nothing runs here. `specs/` has a small machine, and each function below is a law of it: its body is empty, and its contract
+//! is what was proved. To apply the laws to a real sender and a real destination, run the machine beside them, event by event
+//! (`lanes_go_on`, `broadcasts_go_on`).
 //!
 //! # The machine
 //!
-//! There is one sender and one destination, and a way from each to the other that keeps its order. The machine has only what
-//! the laws need:
+//! There is one sender and one destination, and a way from each to the other that keeps its order. The machine has only what the
+//! laws need:
 //!
 //! - `sent`: the messages that were accepted for sending. Their places, from 1, are the message numbers.
-//! - `forward`: the sender's frames that are ahead of the destination, on the bus or still in the sender's queue. `again` is
-//!   the one frame that the destination would take if it took a frame again, a list of at most one. `reached` and `queued` say
-//!   which message, and which offset, the two ends of `forward` are in.
+//! - `forward`: the sender's frames that are ahead of the destination, on the bus or still in the sender's queue. `again` is the
+//!   one frame that the destination would take if it took a frame again, a list of at most one. `reached` and `queued` say which
+//!   message, and which offset, the two ends of `forward` are in.
 //! - `session`: the incoming session that the last RTS (or BAM) opened, and `given`: what the destination was given.
 //! - `answers`: the end acknowledgements and Acknowledgements that are ahead of the sender. `heard` is the one that it would
 //!   take if it took a frame again, a list of at most one.
 //! - `phase`, `token`, `pending`, `outcomes`: the sender's books. A message is `Begun` with its RTS, and `Granted` once a CTS
-//!   was taken. If it ends in another way than by its end acknowledgement, the lane is `InDoubt`, and no message begins until
-//!   a Request that carries the token was answered. Then the other token is next.
+//!   was taken. If it ends in another way than by its end acknowledgement, the lane is `InDoubt`, and no message begins until a
+//!   Request that carries the token was answered. Then the other token is next.
 //!
-//! Message numbers stand in frames, sessions and answers for the laws alone: the wire has none, and whether an event may happen
-//! depends on none of them. So the sender takes any end acknowledgement that it hears for that of its message.
+//! Frames, sessions and answers hold message numbers for the laws alone: the wire has none, and no event depends on them. So the
+//! sender takes any end acknowledgement that it hears for that of its message.
 //!
 //! A stream (`specs/Stream.antt`) is the part from `sent` to `given`, and all that there is of a broadcast. A lane
-//! (`specs/Lane.antt`) is a stream with the answers and the books. A sender (`specs/Sender.antt`) is books alone, for lanes of
-//! whose answers nothing is known: broadcasts, and lanes to a node outside.
+//! (`specs/Lane.antt`) is a stream with the answers and the books. A sender (`specs/Sender.antt`) is the books alone, for lanes
+//! whose answers are unknown: broadcasts, and lanes to a node outside.
 //!
 //! # A Take, and a frame taken again
 //!
-//! A Take moves the first frame of `forward` to `again`, and does only what can't be left undone: an RTS replaces the session, a
-//! DPO sets its offset. All that the destination may do then, or leave, is an event of its own that looks at `again`: it
-//! accepts the packet, gives the message, replies to the Request, ends the session. So a frame that is taken again needs no
-//! Take: the same events look at `again` once more, and an RTS opens its session anew. Likewise the sender hears an answer,
-//! which moves it to `heard`, and what it makes of it is an event that looks at `heard`. A frame of somebody else, and an
-//! overrun, leave both empty.
+//! A Take moves the first frame of `forward` to `again`, and does only what must be done: an RTS replaces the session, a DPO
+//! sets its offset. Each thing that the destination may do then is an event of its own that looks at `again`: it accepts the
+//! packet, gives the message, replies to the Request, ends the session. So a frame that is taken again needs no Take: those
+//! events look at `again` a second time, and an RTS reopens its session. Likewise the sender hears an answer, which moves it to
+//! `heard`, and its reaction is an event that looks at `heard`. A frame of somebody else, and an overrun, leave both empty.
 //!
 //! # What is left out, and why that is sound
 //!
 //! CTS frames and their windows, holds, timers, the count of retransmissions, the kinds of sessions, abort frames, ports, and
-//! what an end acknowledgement says of its message are not there. In place of each is a free choice: a CTS may be taken
-//! whenever a message is under way, a message and a session may end at any time, any packet of the message under way may be
-//! queued, in any order and any number of times, and each end acknowledgement is as good as any other. So the machine allows
-//! more than the protocol does. What the protocol does is one of its runs, and what holds of all its runs holds of the
-//! protocol. Of two incoming sessions of one source, a TP and an ETP one, it has that of the last RTS: the other gets no
-//! frame before an RTS of its kind has replaced it.
+//! what an end acknowledgement says of its message are not there. Each is replaced by a free choice: a CTS may be taken whenever
+//! a message is under way, a message and a session may end at any time, any packet of the message under way may be queued, in
+//! any order and any number of times, and each end acknowledgement is as good as any other. So the machine allows more than the
+//! protocol does. Each run of the protocol is one of its runs, so what holds of all its runs holds of the protocol. If a source
+//! has two incoming sessions, a TP and an ETP one, the machine has that of the last RTS: the other gets no frame before an RTS
+//! of its kind has replaced it.
 //!
 //! # The laws
 //!
-//! - `given_once_in_order`: of every stream, what is given is a choice of what was sent. The given numbers are strictly rising
-//!   places of it, and under each the message is the one that was sent, byte for byte.
-//! - `outcomes_are_true`: of every lane the same; and an acknowledged message had been given before, by an end acknowledgement
-//!   of its own; an unreachable one is never given; each number has at most one outcome, and only sent ones have one.
-//! - `broadcasts_end_once`: the last part, of every sender, whatever it is answered.
-//! - `lanes_go_on`, `broadcasts_go_on`: how a run begins and goes on, and what a session and the message under way are.
-//! - `a_message_comes`: runs in which messages are given, acknowledged, lost, cancelled and unreachable, so that the other
-//!   laws are not about nothing.
+//! - `given_once_in_order`: in every stream, the given messages are among the sent ones. Their numbers rise strictly, and each
+//!   message is the one that was sent under its number, byte for byte.
+//! - `outcomes_are_true`: that law for every lane. Also an acknowledged message had been given before, and the end
+//!   acknowledgement was its own; an unreachable one is never given; each number has at most one outcome, and only sent ones
+//!   have one.
+//! - `broadcasts_end_once`: the law of outcomes for every sender, whatever the answers are.
+//! - `lanes_go_on`, `broadcasts_go_on`: how a run begins and continues, and what a session and the message under way are.
+//! - `a_message_comes`: runs in which messages are given, acknowledged, lost, cancelled and unreachable, so that the other laws
+//!   are not vacuous.
 //!
-//! What they don't say: that a message arrives, or gets an outcome; and of an outcome that is neither Acknowledged nor
-//! Unreachable, whether the message was given.
+//! They don't say that a message arrives, or gets an outcome. If an outcome is neither Acknowledged nor Unreachable, they don't
+//! say whether the message was given.
 #![tactic(auto)]
 
 ghost use Rattle.std.specs.Prelude.{All, Bool, Contains, ◌≡◌, ℕ, Some, length};
@@ -74,17 +74,17 @@ ghost use Rattle.lane_law.specs.Session.{Session};
 ghost use Rattle.lane_law.specs.Stream;
 ghost use Rattle.lane_law.specs.Stream.{IsOfReached, OnEachStream};
 
-/// A destination is given each message at most once, in the order sent, byte for byte: of a broadcast, and of every other
-/// stream, whatever its sender is told.
+/// A destination is given each message at most once, in the order sent, byte for byte. This holds for a broadcast and every
+/// other stream, whatever its sender is told.
 pub fn given_once_in_order()
     ensures { OnEachStream (λ stream. IsChoice stream.given stream.sent) }
 {}
 
-/// What the sender of a lane is told is true.
+/// The outcomes that the sender of a lane is told are true.
 ///
-/// An acknowledged message was given, and had been given before the sender could acknowledge it. A message that is reported
-/// unreachable was not given, and as its outcome stays, it never will be. Each number has at most one outcome, and only
-/// numbers that were sent have one.
+/// An acknowledged message had been given before the sender could acknowledge it. A message that is reported unreachable was not
+/// given, and as its outcome stays, it never will be. Each number has at most one outcome, and only numbers that were sent have
+/// one.
 pub fn outcomes_are_true()
     // at most once, in the order sent, byte for byte, as of every stream
     ensures given { OnEachLane (λ lane. IsChoice lane.stream.given lane.stream.sent) }
@@ -108,20 +108,20 @@ pub fn outcomes_are_true()
     ensures stays { (lane : Lane) (event : LaneEvent) → All (Contains (after event lane).outcomes) lane.outcomes }
 {}
 
-/// Each number has at most one outcome, and only numbers that were sent have one, also where nothing is known of the answers:
-/// of a broadcast lane, and of a lane to a node outside.
+/// Each number has at most one outcome, and only numbers that were sent have one, even if nothing is known of the answers, as
+/// for a broadcast lane and a lane to a node outside.
 pub fn broadcasts_end_once()
     ensures single { OnEachSender (λ sender. AreOneEach sender.outcomes) }
     ensures sent { OnEachSender (λ sender. AreWithin sender.sent sender.outcomes) }
 {}
 
-/// For those who run a lane beside a real one: where it begins, that an event leads on, and what a reached lane has under way.
+/// For running a lane beside a real one: how it begins, that an event leads on, and what a reached lane has under way.
 pub fn lanes_go_on()
     ensures begins { (token : Bool) → IsReached token (start token) }
     ensures goes_on { (token : Bool) (lane : Lane) (event : LaneEvent)
         → IsReached token lane → MayHappen event lane → IsReached token (after event lane) }
 
-    // an open session is of the message of the last RTS that was taken
+    // an open session is that of the message of the last RTS that was taken
     ensures session { OnEachLane (λ lane. (session : Session)
         → lane.stream.session ≡ Some session → IsOfReached lane.stream session) }
 
@@ -129,7 +129,7 @@ pub fn lanes_go_on()
     ensures last { OnEachLane (λ lane. IsLastBegun lane.stream.queued.number lane.phase) }
 {}
 
-/// The same for those who run a stream and a sender beside a real broadcast lane.
+/// For running a stream and a sender beside a real broadcast lane: how they begin, and that an event leads on.
 pub fn broadcasts_go_on()
     ensures stream_begins { Stream.IsReached Stream.empty_stream }
     ensures stream_goes_on { (stream : Stream.Stream) (event : Stream.StreamEvent)
@@ -143,8 +143,8 @@ pub fn broadcasts_go_on()
         → Sender.IsReached (Sender.after event sender) }
 {}
 
-/// The laws speak of something: a broadcast can be given, a message can be given and acknowledged, and a lane can go through
-/// frames taken again, late answers, two rounds of doubt, an overrun on either side and each kind of outcome.
+/// The laws aren't vacuous: a broadcast can be given, a message can be given and acknowledged, and a lane can go through frames
+/// taken again, late answers, two rounds of doubt, an overrun on either side and each kind of outcome.
 pub fn a_message_comes()
     ensures broadcast { (message : Message) × (stream : Stream.Stream) × GivesBroadcast message stream }
     ensures acknowledged { (message : Message) × (lane : Lane) × GivesAcknowledged message lane }

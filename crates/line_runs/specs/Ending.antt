@@ -21,7 +21,7 @@ EndedBy (Some f) a b o = EndedByCause f.line f.cause a b o
 abbrev pub Ended : Ran → Option (List ℕ) → Option (List ℕ) → Outcome → Type 0
 Ended ran a b o = ran.memory_refused ≡ false → EndedBy ran.fault a b o
 
--- a run that came to the end of its input left this state
+-- a run that reached the end of its input left this state
 abbrev pub Left : {S : Type 0} → Ran → (state left : S) → Type 0
 Left ran state left = ran.memory_refused ≡ false → ran.fault ≡ None → state ≡ left
 

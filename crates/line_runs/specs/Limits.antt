@@ -8,7 +8,7 @@ use Rattle.script_commands.specs.declared.fault.Fault.{Fault}
 use Rattle.script_commands.specs.declared.fault.Fault.TheVariants.{TooManyLines, LineTooLong}
 use Rattle.line_runs.specs.declared.limits.Limits.{Limits}
 
--- those of a script
+-- the limits of a script
 abbrev pub script_limits : Limits
 script_limits = record { lines = 1000000; bytes = 8192 }
 

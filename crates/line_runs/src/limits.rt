@@ -14,7 +14,7 @@ pub struct Limits {
 }
 
 impl Limits {
-    /// Those of a script: 1,000,000 lines of 8,192 bytes.
+    /// The limits of a script: 1,000,000 lines of 8,192 bytes.
     pub fn of_script() -> Limits
         ensures { result ≡ script_limits }
     {
@@ -36,8 +36,8 @@ fn limit_fault(limits: &Limits, number: u64) -> Fault
     }
 }
 
-/// Reads the line of this number into `line`, without its line feed, and says whether there was one. Lines count from 1. It fails at a line
-/// that is above the limits, where the reader fails, and where memory is refused.
+/// Reads the line of this number into `line`, without its line feed, and says whether there was one. Lines count from 1. It fails if a line
+/// is above the limits, if the reader fails, or if memory is refused.
 #[tactic(auto, using(crate::proofs::Above::within))]
 pub fn next_line<R: BufRead>(
     limits: &Limits,

@@ -21,7 +21,7 @@ pub struct Ran {
 }
 
 impl Ran {
-    /// The status of a program that made this run: 0 where it came to the end of its input, else 1.
+    /// The status of a program that made this run: 0 if it reached the end of its input, else 1.
     pub fn status(&self) -> u8
         ensures { result ≡ status_of self.now }
     {
@@ -35,7 +35,7 @@ impl Ran {
 /// How a line was obeyed.
 #[derive(Clone, Copy, Debug, PartialEq, Eq)]
 pub enum Told {
-    /// What it tells is told.
+    /// The line's text is there.
     Answered,
     /// There was no memory for it.
     NoMemory,
@@ -53,19 +53,19 @@ impl Told {
     }
 }
 
-/// What obeys the lines of an input, one after another, and tells something of each: a text, and a log.
+/// An obeyer of the lines of an input, one after another, with two outputs for each: a text, and a log.
 pub trait Obeyer {
     // What its lines act on.
     ghost State: { Type 0 };
 
     ghost state: { Self → Self.State };
 
-    // What a line does, and what it tells in the text; and in the log.
+    // What a line does, and its output in the text; and in the log.
     ghost in_text: { Steps Self.State };
 
     ghost in_log: { Steps Self.State };
 
-    // What the last line told.
+    // The output of the last line.
     ghost text_told: { Self → List ℕ };
 
     ghost log_told: { Self → List ℕ };
@@ -75,11 +75,11 @@ pub trait Obeyer {
         ensures text { Obeyed result (state self.new) (text_told self.new) (in_text (state self.old) line.now) }
         ensures log { Obeyed result (state self.new) (log_told self.new) (in_log (state self.old) line.now) };
 
-    /// What the last line told in the text.
+    /// The last line's output in the text.
     fn text(&self) -> &[u8]
         ensures { result.now ≡ text_told self.now };
 
-    /// What the last line told in the log.
+    /// The last line's output in the log.
     fn log(&self) -> &[u8]
         ensures { result.now ≡ log_told self.now };
 }
@@ -93,7 +93,7 @@ fn failed(line: u64, cause: Cause, memory_refused: bool) -> Ran
     }
 }
 
-// What a line told is written and flushed, its log first. Where that fails, a front of it was written.
+// The output of a line is written and flushed, its log first. If that fails, a front of it was written.
 #[tactic(auto, using(crate::proofs::RunSteps::front_all, text_lines::proofs::Known::front_none))]
 fn tell_both<T: Write, L: Write, O: Obeyer>(text: &mut T, log: &mut L, obeyer: &O) -> Result<(), ()>
     ensures in_text { MatchResult result (λ _. Appends (T.contents text.old) (T.contents text.new) (O.text_told obeyer.now))
@@ -107,13 +107,13 @@ fn tell_both<T: Write, L: Write, O: Obeyer>(text: &mut T, log: &mut L, obeyer: &
     tell(text, obeyer.text())
 }
 
-/// Reads the lines of an input to its end, obeys each, and writes and flushes what it tells, its log first, before the next line is read.
-/// It ends at the first fault.
+/// Reads the lines of an input to its end, obeys each, and writes and flushes its output, the log first, before the next line is read. It
+/// ends at the first fault.
 ///
 /// Unless it reports a failed read or write or refused memory, exactly the text and the log of the input were written, and the fault is the
-/// input's. Where it reports a failed read or write, or memory that was refused outside a line and in none, fronts of both were written.
-/// Behind a line that found no memory the run goes on, and then nothing is promised of them. A run to the end of the input leaves what obeys
-/// its lines as they do.
+/// input's. If it reports a failed read or write, or memory that was refused outside a line and in none, fronts of both were written. After
+/// a line that found no memory the run continues, and then nothing is promised of them. A run to the end of the input leaves its obeyer in
+/// the state that the lines lead to.
 pub fn run_lines<R: BufRead, T: Write, L: Write, O: Obeyer>(
     alloc: Global,
     limits: &Limits,

@@ -28,7 +28,7 @@ abbrev pub HaveRoom : List Owed → List SeatView → Type 0
 HaveRoom ws [] = Unit {0}
 HaveRoom ws (s ∷ ss) = (owed_by s.id ws ≤ s.free) × (owed_by s.id ws ≤ s.spare) × HaveRoom ws ss
 
--- the notes of each client, one after another, are kept, and go to its ring where the client isn't gone
+-- the notes of each client, one after another, are kept, and put into its ring if the client isn't gone
 abbrev pub note_seat : List (ℕ × Note) → SeatView → SeatView
 note_seat ns s = record s {
   kept = s.kept ++ notes_of s.id ns;
@@ -41,7 +41,7 @@ abbrev pub note_all : List (ℕ × Note) → List SeatView → List SeatView
 note_all ns [] = []
 note_all ns (s ∷ ss) = note_seat ns s ∷ note_all ns ss
 
--- each owed message is of a client that is there
+-- each owed message has a client that is there
 abbrev pub OwedWithin : ℕ → List Owed → Type 0
 OwedWithin n [] = Unit {0}
 OwedWithin n (w ∷ ws) = (w.client < n) × OwedWithin n ws
@@ -60,7 +60,7 @@ HasNotes false noted ns = IsPrefix noted ns
 abbrev pub IsEndOf : (gone : ℕ) → (kept all : List Note) → Type 0
 IsEndOf gone kept all = (gone ≤ length all) × (kept ≡ drop gone all)
 
--- the notes of each client are kept but for the first of them, and went into its ring until it was gone
+-- the notes of each client but for the first ones are kept, and went into its ring until it was gone
 abbrev pub PushesNotes : List (ℕ × Note) → List SeatView → Type 0
 PushesNotes ns [] = Unit {0}
 PushesNotes ns (s ∷ ss) = IsEndOf s.gone s.kept (notes_of s.id ns) × HasNotes s.active s.noted (notes_of s.id ns) × PushesNotes ns ss
@@ -70,7 +70,7 @@ abbrev pub PushesGiven : List Event → List DoorView → Type 0
 PushesGiven es [] = Unit {0}
 PushesGiven es (d ∷ ds) = (d.pushed ≡ given d.port es) × PushesGiven es ds
 
--- no two doors are of one port
+-- no two doors have one port
 abbrev pub NoneAt : PortId → List DoorView → Type 0
 NoneAt p [] = Unit {0}
 NoneAt p (d ∷ ds) = (same_port p d.port ≡ false) × NoneAt p ds
@@ -116,12 +116,12 @@ HaveSenders stations (x ∷ xs) = IsSender x.call x.by stations × HaveSenders s
 abbrev pub seat_station : SeatView → Address
 seat_station s = s.station
 
--- each note is of a client that is there
+-- each note has a client that is there
 abbrev pub NotedWithin : ℕ → List (ℕ × Note) → Type 0
 NotedWithin n [] = Unit {0}
 NotedWithin n (x ∷ xs) = (x.0 < n) × NotedWithin n xs
 
--- each door is of a port that was opened
+-- each door has a port that was opened
 abbrev pub DoorsKnown : Segment → List DoorView → Type 0
 DoorsKnown seg [] = Unit {0}
 DoorsKnown seg (d ∷ ds) = IsKnown d.port seg × DoorsKnown seg ds

@@ -108,11 +108,11 @@ stored_calls v = count_since v.pieces v.calls
 abbrev pub since_cut : LiveView → List Stored
 since_cut v = since v.pieces v.calls
 
--- the same, but its workers are to end
+-- the segment is unchanged, but its workers are to end
 abbrev pub halted : LiveView → LiveView
 halted v = record v { stopped = true }
 
--- the same but for what is known of the rings
+-- the segment is unchanged, but for what is known of the rings
 pub record SameLive (a b : LiveView) : Type 0 where
   pub addresses : b.addresses ≡ a.addresses
   pub stopped : b.stopped ≡ a.stopped
@@ -140,7 +140,7 @@ abbrev pub clients_after : ℕ → List (ℕ × Note) → List ClientView → Li
 clients_after n ns [] = []
 clients_after n ns (c ∷ cs) = record c { noted = noted_after c.active c.noted (notes_of n ns) } ∷ clients_after (n + 1) ns cs
 
--- the clients after a call of nobody that is answered so
+-- the clients after a call without an owner that has this reply
 abbrev pub told_clients : LiveView → Reply → List ClientView
 told_clients a r = clients_after 0 (settle_notes (trail a.addresses a.calls).owed (events_of r)) a.clients
 
@@ -195,11 +195,11 @@ pub record Attached (a b : LiveView) (station : Address) (c : ClientEnd) : Type 
   pub clients : b.clients ≡ a.clients ++ new_client station ∷ []
   pub ports : b.ports ≡ a.ports
 
--- before the first cut no note of these clients and no delivery to these ports is kept no more
+-- before the first cut each note of these clients and each delivery to these ports is kept
 abbrev pub KeepsUncut : List Piece → List ClientView → List PortView → Type 0
 KeepsUncut ps cs ds = ps ≡ [] → ((c : ℕ) (x : ClientView) → c < length cs → (slice_index_or cs c x).notes_gone ≡ 0) × ((k : ℕ) (p : PortView) → k < length ds → (slice_index_or ds k p).given_gone ≡ 0)
 
--- what went through the rings is what the stored calls say, and each stored Send is of a client of the station that it is from
+-- what went through the rings is what the stored calls say, and each stored Send has a client of the station that it is from
 pub record Laws (v : LiveView) : Type 0 where
   pub past : HasPast v.pieces v.calls
   pub stands : StandsAt v.addresses (trail v.addresses v.calls).steps (trail v.addresses v.calls).state
@@ -212,8 +212,7 @@ pub record Laws (v : LiveView) : Type 0 where
 abbrev pub new_port_view : PortId → PortView
 new_port_view p = record { port = p; active = true; pushed = []; given_gone = 0 }
 
--- why a port isn't opened: the segment refuses the Open, or else no more calls can be stored; or for want of memory, where
--- neither holds
+-- why a port isn't opened: the segment refuses the Open, or else no more calls can be stored; or, if neither holds, for want of memory
 abbrev pub IsOpenCause : LiveView → (station : Address) → (pgn max_len : ℕ) → NotMade → Type 0
 IsOpenCause a station pgn max_len not_made.OutOfMemory = (refusal_of (called (trail a.addresses a.calls).state (Open station pgn max_len)) ≡ None) × (stored_calls a < 1000000)
 IsOpenCause a station pgn max_len (not_made.Refused c) = (Refused c ≡ reply_of (trail a.addresses a.calls).state (Open station pgn max_len))

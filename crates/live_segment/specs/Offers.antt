@@ -29,7 +29,7 @@ use Rattle.live_segment.specs.LiveView.{ClientView, LiveView, SameLive, stored, 
 abbrev pub IsWaiting : SeatView → Type 0
 IsWaiting s = (s.active ≡ true) × (0 < length s.ahead)
 
--- what is found of the seat at a place that is owed so many notes, where so many calls are stored
+-- the finding at the seat at a place that is owed so many notes, while so many calls are stored
 abbrev pub IsFrontIn : List SeatView → (k owed stored : ℕ) → Front → Type 0
 IsFrontIn ss k owed stored front.Empty = (s : SeatView) → ((slice_index_or ss k s).active ≡ false) ⊎ (length (slice_index_or ss k s).ahead ≡ 0)
 IsFrontIn ss k owed stored front.Owed = (s : SeatView) → IsWaiting (slice_index_or ss k s) × ((slice_index_or ss k s).free ≤ owed)
@@ -47,7 +47,7 @@ IsSendOf s call = (x : Submission) × IsPrefix (x ∷ []) s.ahead × (call ≡ s
 abbrev pub IsCauseFor : Segment → SeatView → Option Cause → Type 0
 IsCauseFor st s cause = (x : Submission) × IsPrefix (x ∷ []) s.ahead × (cause ≡ refusal_of (called st (send_call s.station x)))
 
--- whether the front submission of client k can be sent where so many calls are stored, and by which call
+-- whether the front submission of client k can be sent while so many calls are stored, and by which call
 abbrev pub IsReadyToSend : Segment → (stored : ℕ) → List Owed → List SeatView → ℕ → Ready → Type 0
 IsReadyToSend st stored ws ss k ready.Empty = IsFrontIn ss k (owed_by k ws) stored front.Empty
 IsReadyToSend st stored ws ss k ready.Owed = IsFrontIn ss k (owed_by k ws) stored front.Owed
@@ -78,7 +78,7 @@ pub record IsStored (s : SeatView) (k number : ℕ) (x : Submission) (xs ys : Li
   pub owed : vs ≡ ws ++ owed_for k s x number ∷ []
   pub seats : ts ≡ slice_set ss k (popped_one s x rest)
 
--- no client has this number, its submissions are taken no more, or none is seen
+-- no client has this number, or its submissions are no longer taken, or none is seen
 abbrev pub IsEmptyAt : LiveView → ℕ → Type 0
 IsEmptyAt b c = (length b.clients ≤ c) ⊎ (((v : ClientView) → (slice_index_or b.clients c v).active ≡ false) ⊎ (length (slice_index_or b.seen c []) ≡ 0))
 

@@ -31,7 +31,7 @@ pub record CallsView : Type 0 where
   pub image : Option Segment
   pub spare : ℕ
 
--- the image is of the segment as the calls of all pieces left it; there is one from the first cut on
+-- the image is that of the segment after the calls of all pieces; there is one from the first cut on
 abbrev pub IsCutImage : List Address → List Piece → Option Segment → Type 0
 IsCutImage addresses ps image = MatchOption image (ps ≡ []) (λ s. s ≡ (trail addresses (joined ps)).state)
 
@@ -45,6 +45,6 @@ pub record HasPast (ps : List Piece) (xs : List Stored) : Type 0 where
 abbrev pub IsPastCounts : List Piece → List Stored → Type 0
 IsPastCounts ps xs = (2 ^ 64 ≤ length ps + 1) ⊎ (2 ^ 64 ≤ length xs + 1000000)
 
--- or neither would
+-- neither count would
 abbrev pub HasCounts : List Piece → List Stored → Type 0
 HasCounts ps xs = (length ps + 1 < 2 ^ 64) × (length xs + 1000000 < 2 ^ 64)

@@ -1,4 +1,4 @@
--- How lists of calls with their pieces are told apart.
+-- When two lists of calls with their pieces are equal.
 use Rattle.std.specs.Prelude.{ℕ, List, Option, refl}
 use Rattle.std.specs.Coded.{Coded, code_by, coded×, coded_ℕ, coded_list, coded_option}
 use Rattle.segment_law.specs.Segment.{Segment}
@@ -12,7 +12,7 @@ use Rattle.live_segment.specs.Past.{CallsView}
 abbrev Parts : Type 0
 Parts = List Piece × (List Stored × (Option Segment × ℕ))
 
--- they are told apart by their parts
+-- the lists are equal if their parts are
 abbrev pub calls_code : Coded CallsView
 calls_code =
     code_by Parts

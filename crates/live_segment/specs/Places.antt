@@ -10,7 +10,7 @@ use Rattle.reply_law.specs.Replies.{EachShort}
 use Rattle.live_segment.specs.declared.wanted.Wanted.{Wanted}
 use Rattle.live_segment.specs.Record.{given}
 
--- how often a number stands among others
+-- how often a number is among others
 abbrev pub times : ℕ → List ℕ → ℕ
 times n [] = 0
 times n (m ∷ ms) = cond {A = ℕ} (m == n) 1 0 + times n ms
@@ -18,7 +18,7 @@ times n (m ∷ ms) = cond {A = ℕ} (m == n) 1 0 + times n ms
 abbrev pub port : Address → ℕ → PortId
 port station number = record { station = station; number = number }
 
--- the k-th door is of this port
+-- the k-th door has this port
 abbrev pub IsPlaceIn : List DoorView → PortId → ℕ → Type 0
 IsPlaceIn ds p k = (k < length ds) × ((d : DoorView) → (slice_index_or ds k d).port ≡ p)
 
@@ -27,13 +27,13 @@ abbrev pub RoomAt : PortId → ℕ → List DoorView → Type 0
 RoomAt p needed [] = Unit {0}
 RoomAt p needed (d ∷ ds) = (same_port p d.port ≡ true → (needed ≤ d.free) × (needed ≤ d.spare) × (d.active ≡ true)) × RoomAt p needed ds
 
--- it has not, or gets no more deliveries
+-- the door of the port has too few places, or gets no more deliveries
 pub record LacksRoom (p : PortId) (needed : ℕ) (ds : List DoorView) : Type 0 where
   pub place : ℕ
   pub is : IsPlaceIn ds p place
   pub lacks : (d : DoorView) → ((slice_index_or ds place d).free < needed) ⊎ ((slice_index_or ds place d).active ≡ false)
 
--- a door of the station has a place for each delivery to its port, to which some are made only where it isn't closed
+-- a door of the station has a place for each delivery to its port, and it isn't closed if there are any
 abbrev pub HasPlaces : Address → List ℕ → DoorView → Type 0
 HasPlaces station numbers d = d.port.station ≡ station → (times d.port.number numbers ≤ d.free) × (times d.port.number numbers ≤ d.spare) × (0 < times d.port.number numbers → d.active ≡ true)
 
@@ -41,7 +41,7 @@ abbrev pub HavePlaces : Address → List ℕ → List DoorView → Type 0
 HavePlaces station numbers [] = Unit {0}
 HavePlaces station numbers (d ∷ ds) = HasPlaces station numbers d × HavePlaces station numbers ds
 
--- the same for those numbers that were seen
+-- a door has these places if its number was seen
 abbrev pub IsPrepared : Address → (numbers seen : List ℕ) → DoorView → Type 0
 IsPrepared station numbers seen d = d.port.station ≡ station → 0 < times d.port.number seen → (times d.port.number numbers ≤ d.free) × (times d.port.number numbers ≤ d.spare) × (d.active ≡ true)
 

@@ -43,7 +43,7 @@ abbrev pub given : PortId → List Event → List Delivery
 given q [] = []
 given q (e ∷ es) = delivery_at q e ++ given q es
 
--- it is the message with this number of a lane
+-- the owed message is that with this number of a lane
 abbrev pub is_of : Address → Address → ℕ → Owed → Bool
 is_of f t n w = (w.from.0 == f.0) && (w.to.0 == t.0) && (w.number == n)
 

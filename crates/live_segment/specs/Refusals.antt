@@ -8,7 +8,7 @@ use Rattle.live_segment.specs.LiveView.{LiveView, is_station_of, clients_at}
 use Rattle.live_segment.specs.declared.refused.NotMade.{NotMade}
 use Rattle.live_segment.specs.declared.refused.NotMade.TheVariants.{Refused, OutOfMemory}
 
--- what is answered: the first cause; and only where there is none, want of memory
+-- the cause that is returned: the first cause; want of memory only if there is none
 abbrev pub IsAnsweredBy : (refusal : Option Refusal) → (answered : Option NotMade) → Type 0
 IsAnsweredBy refusal None = refusal ≡ None
 IsAnsweredBy refusal (Some (Refused cause)) = refusal ≡ Some cause

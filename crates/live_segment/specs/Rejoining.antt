@@ -17,8 +17,8 @@ use Rattle.live_segment.specs.Record.{trail}
 use Rattle.live_segment.specs.Past.{joined, NumberedAfter, IsPastCounts, HasCounts}
 use Rattle.live_segment.specs.LiveView.{LiveView, ClientView, PortView, since_cut}
 
--- so many places of the ring of the client's notes are known to be free: the notes that are known to be out of it are kept no more, those
--- that may be in it are; of a client that is gone all are kept as they were
+-- so many places of the ring of the client's notes are known to be free: the notes that are known to be out of it are no longer kept,
+-- those that may be in it are; if the client is gone, all that were kept are
 pub record CutClient (a b : ClientView) (free : ℕ) : Type 0 where
   pub same : b ≡ record a { notes_gone = b.notes_gone }
   pub more : a.notes_gone ≤ b.notes_gone
@@ -26,7 +26,8 @@ pub record CutClient (a b : ClientView) (free : ℕ) : Type 0 where
   pub left : a.active ≡ false → b.notes_gone ≡ a.notes_gone
   pub unread : b.notes_gone + ring_places ≤ length a.noted + free
 
--- the same of a port
+-- so many places of the ring of a port's deliveries are known to be free: those known to be out of it are no longer kept, those that may
+-- be in it are
 pub record CutPort (a b : PortView) (free : ℕ) : Type 0 where
   pub same : b ≡ record a { given_gone = b.given_gone }
   pub more : a.given_gone ≤ b.given_gone
@@ -52,7 +53,7 @@ pub record CutAs (a b : LiveView) (p : Piece) : Type 0 where
   pub clients : CutClients a.clients b.clients b.note_free
   pub ports : CutPorts a.ports b.ports b.port_free
 
--- why a segment isn't cut: a count would pass its last value; or for want of memory, where none would
+-- why a segment isn't cut: a count would pass its last value; or, if none would, for want of memory
 abbrev pub IsCutCause : LiveView → NotMade → Type 0
 IsCutCause a not_made.OutOfMemory = HasCounts a.pieces a.calls
 IsCutCause a (not_made.Refused c) = (c ≡ TraceFull) × IsPastCounts a.pieces a.calls
@@ -61,11 +62,11 @@ IsCutCause a (not_made.Refused c) = (c ≡ TraceFull) × IsPastCounts a.pieces a
 abbrev pub AreNumbered : LiveView → List Piece → Type 0
 AreNumbered v ps = (length ps ≡ length v.pieces) × NumberedAfter 0 ps
 
--- and their calls, made on a new segment, leave it where the segment stood at the last cut
+-- these pieces join: their calls, made on a new segment, leave it as the segment was at the last cut
 abbrev pub Join : LiveView → List Piece → Type 0
 Join v ps = AreNumbered v ps × ((trail v.addresses (joined ps)).state ≡ (trail v.addresses (joined v.pieces)).state)
 
--- a segment stands at the record of these calls
+-- a segment is at the record of these calls
 abbrev pub StandsAfter : List Address → List Stored → Segment → Type 0
 StandsAfter addresses xs seg = StandsAt addresses (trail addresses xs).steps seg × (seg ≡ (trail addresses xs).state)
 
@@ -76,14 +77,14 @@ call_in x = x.call
 abbrev pub all_calls : LiveView → List Piece → List Stored
 all_calls v ps = joined ps ++ since_cut v
 
--- these are the calls of the pieces and then the stored ones, and the segment stands at the record of them, of which the headline holds
+-- these are the calls of the pieces and then the stored ones, and the segment is at their record, for which the headline holds
 pub record IsJoined (v : LiveView) (ps : List Piece) (cs : List Call) : Type 0 where
   pub join : Join v ps
   pub calls : cs ≡ map call_in (all_calls v ps)
   pub stands : StandsAt v.addresses (trail v.addresses (all_calls v ps)).steps (trail v.addresses v.calls).state
   pub headline : Headline v.addresses (trail v.addresses (all_calls v ps)).steps
 
--- why pieces aren't joined: they don't join; or for want of memory, where they are numbered as they are to be
+-- why pieces aren't joined: they don't join; or, if they are numbered in order, for want of memory
 abbrev pub IsJoinCause : LiveView → List Piece → Option Refusal → Type 0
 IsJoinCause v ps None = AreNumbered v ps
 IsJoinCause v ps (Some c) = (c ≡ PiecesDontJoin) × (Join v ps → ⊥)

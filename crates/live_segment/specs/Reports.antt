@@ -26,7 +26,7 @@ abbrev pub client_gone : Option ClientView → ℕ
 client_gone None = 0
 client_gone (Some x) = x.notes_gone
 
--- what the client submitted but for these
+-- the submissions of the client, without the first ones
 abbrev pub submitted_since : LiveView → ClientEnd → List Submission
 submitted_since v c = drop (accepted_before v c.id) c.submitted
 
@@ -45,7 +45,7 @@ given_gone v q = gone_of v.ports q
 abbrev pub HasSubmitted : LiveView → ClientEnd → Type 0
 HasSubmitted v c = (c.gone ≤ accepted_before v c.id) × (accepted_before v c.id ≤ length c.submitted)
 
--- it read the notes that are kept no more, and keeps those that it read since
+-- the client read the notes that are no longer kept, and keeps those that it read since
 abbrev pub HasRead : LiveView → ClientEnd → Type 0
 HasRead v c = (c.read_gone ≤ notes_gone v c.id) × (notes_gone v c.id ≤ length c.read)
 
@@ -53,8 +53,8 @@ HasRead v c = (c.read_gone ≤ notes_gone v c.id) × (notes_gone v c.id ≤ leng
 abbrev pub HasReceived : LiveView → InboxEnd → Type 0
 HasReceived v i = (i.gone ≤ given_gone v i.port) × (given_gone v i.port ≤ length i.received)
 
--- the client is of this segment, and its lists begin and are begun as they are to; what it submitted is compared from the messages on
--- that were accepted since the last cut, and the notes that it read from those on that are kept
+-- the client belongs to this segment, and its lists begin and are begun as they are to; its submissions are compared from the messages
+-- on that were accepted since the last cut, and its notes from those on that are kept
 pub record ClientAgrees (v : LiveView) (c : ClientEnd) : Type 0 where
   pub within : c.id < length v.clients
   pub has_submitted : HasSubmitted v c
@@ -65,7 +65,8 @@ pub record ClientAgrees (v : LiveView) (c : ClientEnd) : Type 0 where
 abbrev pub HasPort : List PortView → PortId → Type 0
 HasPort ps q = (k : ℕ) × (k < length ps) × ((p : PortView) → (slice_index_or ps k p).port ≡ q)
 
--- the inbox is of this segment, and what it received, from the deliveries on that are kept, begins what its port was given from there on
+-- the inbox belongs to this segment, and its deliveries, from those on that are kept, are the first that its port was given from there
+-- on
 pub record InboxAgrees (v : LiveView) (i : InboxEnd) : Type 0 where
   pub within : HasPort v.ports i.port
   pub has_received : HasReceived v i
@@ -135,8 +136,8 @@ pub record CloseMade (a b : LiveView) (port : PortId) : Type 0 where
   pub clients : b.clients ≡ told_clients a (reply_of (trail a.addresses a.calls).state (Close port))
   pub ports : b.ports ≡ a.ports
 
--- why a port isn't closed: the inbox isn't of this segment, or else no more calls can be stored; or for want of memory, where
--- neither holds
+-- why a port isn't closed: the inbox isn't of this segment, or else no more calls can be stored; or, if neither holds, for want of
+-- memory
 abbrev pub IsCloseCause : LiveView → InboxEnd → NotMade → Type 0
 IsCloseCause a i not_made.OutOfMemory = InboxAgrees a i × (stored_calls a < 1000000)
 IsCloseCause a i (not_made.Refused c) = ((c ≡ NotThisSegment) × (InboxAgrees a i → ⊥)) ⊎ ((c ≡ TraceFull) × InboxAgrees a i × (1000000 ≤ stored_calls a))
@@ -157,8 +158,8 @@ abbrev pub gone_ports : List InboxEnd → List PortView → List PortView
 gone_ports [] ps = ps
 gone_ports (i ∷ is) ps = gone_ports is (map (closing i.port) ps)
 
--- the same record, of which these clients and ports are gone: no later note goes into a ring of these clients, and no delivery into
--- one of these ports
+-- the record is unchanged, but these clients and ports are gone: no later note is put into a ring of these clients, and no delivery
+-- into one of these ports
 pub record Retired (a b : LiveView) (cs : List ClientEnd) (is : List InboxEnd) : Type 0 where
   pub addresses : b.addresses ≡ a.addresses
   pub stopped : b.stopped ≡ a.stopped

@@ -26,7 +26,7 @@ state_of v = (trail v.addresses v.calls).state
 abbrev pub NoneWaits : Segment → List Address → ℕ → Type 0
 NoneWaits seg addresses n = (k : ℕ) (d : Address) → k < n → front_at seg (slice_index_or addresses k d) ≡ None
 
--- of the first n stations it is the one whose first frame has the lowest identifier, of several the first
+-- among the first n stations it is the one whose first frame has the lowest identifier, of several the first
 pub record IsLowest (seg : Segment) (addresses : List Address) (n id : ℕ) (a : Address) : Type 0 where
   pub place : ℕ
   pub within : place < n
@@ -80,11 +80,11 @@ after_accept t (accepted.Sent n) = one_more t
 abbrev pub IsAnswered : LiveView → LiveView → WorkerCall → Reply → Type 0
 IsAnswered a b call r = ((1000000 ≤ stored_calls a) × (r ≡ Refused TraceFull) × (b ≡ a)) ⊎ ((stored_calls a < 1000000) × ((room : Bool) × Applied a b call r room))
 
--- one call: it is answered, or memory is lacking and nothing changes
+-- one call is made: it is answered, or memory is lacking and nothing changes
 abbrev pub Makes : WorkerCall → Point → Point → Type 0
 Makes call p q = ((r : Reply) × IsAnswered p.live q.live call r × (q.turn ≡ after_reply p.turn r)) ⊎ (SameLive p.live q.live × LacksMemory p.live call × (q.turn ≡ p.turn))
 
--- one look at the front submission of client c, in the same way
+-- the front submission of client c is looked at once, in that way
 abbrev pub Accepts : ℕ → Point → Point → Type 0
 Accepts c p q = ((r : Accepted) × AcceptedAs p.live q.live c r × (q.turn ≡ after_accept p.turn r)) ⊎ (SameLive p.live q.live × LacksMemoryFor p.live q.live c × (q.turn ≡ p.turn))
 
@@ -96,12 +96,12 @@ IsClientOf station c v = (c < length v.clients) × ((d : ClientView) → (slice_
 abbrev pub AcceptsOne : Address → ℕ → Point → Point → Type 0
 AcceptsOne station c p q = (IsClientOf station c p.live × Accepts c p q) ⊎ ((IsClientOf station c p.live → ⊥) × (q ≡ p))
 
--- once for each client of the station with a number below n, by rising number
+-- a station accepts once for each of its clients with a number below n, by rising number
 abbrev pub AcceptsBelow : ℕ → Address → Point → Point → Type 0
 AcceptsBelow zero station p q = q ≡ p
 AcceptsBelow (suc n) station p q = (m : Point) × AcceptsBelow n station p m × AcceptsOne station n m q
 
--- the call, where there is something to do
+-- the call is made if there is something to do
 abbrev pub MakesWhere : Bool → WorkerCall → Point → Point → Type 0
 MakesWhere true call p q = Makes call p q
 MakesWhere false call p q = q ≡ p
@@ -110,8 +110,8 @@ abbrev pub PumpsTo : Option Address → Address → Point → Point → Type 0
 PumpsTo None station p q = q ≡ p
 PumpsTo (Some to) station p q = Makes (Pump station to) p q
 
--- a station's queue has no place for an answer, so that it takes nothing, and with the frame that it took last as many wait for it
--- as the bus keeps, so that no frame leaves a queue: no other call but that it misses them would let either go on
+-- a station can't go on by itself: its queue has no place for an answer, so it takes nothing; and with the frame that it took last
+-- as many wait for it as the bus keeps, so no frame leaves a queue. Only an Overrun, by which it misses them, lets either go on
 abbrev pub is_stuck : Segment → Address → Bool
 is_stuck seg a = nat_le (kept_limit - 1) (waiting_at seg a) && nat_le queue_limit (queue_len seg a)
 
@@ -127,7 +127,7 @@ pub record StationTurn (station : Address) (p q : Point) : Type 0 where
   pub fires : MakesWhere (is_due (state_of taken.live) station) (Fire station) taken fired
   pub misses : MakesWhere (is_stuck (state_of fired.live) station) (Overrun station (waiting_at (state_of fired.live) station)) fired q
 
--- the station of the lowest identifier transmits; where none does, the clock goes on by 50 ticks if all rest
+-- the station of the lowest identifier transmits; if none does, the clock advances by 50 ticks if all rest
 abbrev pub TransmitsOr : Option Address → Point → Point → Type 0
 TransmitsOr (Some station) p q = Makes (Transmit station) p q
 TransmitsOr None p q = MakesWhere (is_idle (state_of p.live)) (Tick 50) p q

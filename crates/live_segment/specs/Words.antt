@@ -10,7 +10,7 @@ use Rattle.live_segment.specs.declared.call.WorkerCall.{WorkerCall}
 use Rattle.live_segment.specs.declared.call.WorkerCall.TheVariants.{Pump, Transmit, Take, TakeAgain, Overrun, Tick, Fire, Cancel, Inject, Pause, Resume}
 use Rattle.live_segment.specs.declared.wanted.Wanted.{Wanted}
 
--- with or without room for what it gives
+-- the segment's call, with or without room for what it gives
 abbrev pub call_of : WorkerCall → (room : Bool) → Call
 call_of (Pump station to) room = call.Pump station to
 call_of (Transmit station) room = call.Transmit station

@@ -6,11 +6,11 @@ use bus_frame::Frame;
 use pgn_ids::Address;
 use segment_core::{Call, PortId};
 
-/// A call of a thread. Ports are opened before the threads, messages come by clients, and whether there is room is found by
-/// the segment itself.
+/// A call of a thread. Opens are made before the threads, Sends are made by clients, and the segment itself finds whether
+/// there is room.
 #[derive(Clone, Copy, Debug)]
 pub enum WorkerCall {
-    /// Queues what comes next in the lane from a station to a destination.
+    /// Queues the next frames of the lane from a station to a destination.
     Pump {
         station: Address,
         to: Address,
@@ -23,7 +23,7 @@ pub enum WorkerCall {
     Take {
         station: Address,
     },
-    /// A station takes the frame that it took last once more.
+    /// A station takes again the frame that it took last.
     TakeAgain {
         station: Address,
     },
@@ -32,7 +32,7 @@ pub enum WorkerCall {
         station: Address,
         n: u64,
     },
-    /// The clock goes on by `n` ticks of 1 ms.
+    /// The clock advances by `n` ticks of 1 ms.
     Tick {
         n: u64,
     },

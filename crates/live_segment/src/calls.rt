@@ -150,7 +150,7 @@ impl Calls {
             || self.before + self.stored.len() as u64 > u64::MAX - MOST_CALLS as u64
     }
 
-    /// Hands out the calls that are stored, where the segment stands at this image. It takes no memory.
+    /// Hands out the calls that are stored, when this is the segment's image. It takes no memory.
     pub(crate) fn cut(&mut self, alloc: Global, image: Image) -> Piece
         requires { HasCounts self.old.pieces self.old.items }
         ensures number { result.number ≡ length self.old.pieces + 1 }

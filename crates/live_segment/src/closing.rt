@@ -41,11 +41,12 @@ impl Live {
     ghost use Rattle.live_segment.specs.LiveView.{PortView, SameLive, stored_calls};
     ghost use Rattle.live_segment.specs.Reports.{InboxAgrees, CloseMade, ClosedFor, IsCloseCause};
 
-    /// Closes the port of an inbox, and hands out what the port was given and the inbox did not receive. No later call gives
-    /// to it.
+    /// Closes the port of an inbox, and hands out what the port was given and the inbox did not receive. No later call gives to
+    /// it.
     ///
-    /// Refused where the port was never opened here, or what the inbox received, from the deliveries on that are kept, isn't the
-    /// beginning of what the port was given from there on; and then where no more calls can be stored. These and want of memory change nothing but what is known of the rings.
+    /// Refused if the port was never opened here, or if what the inbox received, from the deliveries on that are kept, isn't the
+    /// beginning of what the port was given from there on; and then if no more calls can be stored. These and want of memory
+    /// change nothing but what is known of the rings.
     pub fn close_on(&mut self, inbox: &mut Inbox) -> Result<Closed, NotMade>
         ensures closed { IfOk result (λ r. ClosedFor self.old self.new inbox.old inbox.new r) }
         ensures refused { IfErr result (λ e. IsCloseCause self.old inbox.old e) }
@@ -67,7 +68,7 @@ impl Live {
         }
     }
 
-    // The same for the inbox of the k-th port, where its list agrees.
+    // `close_on`, for the inbox of the k-th port, if its list agrees.
     fn shut(&mut self, k: usize, inbox: &mut Inbox) -> Result<Closed, AllocError>
         requires within { k < length self.old.ports }
         requires port { (p : PortView) → (slice_index_or self.old.ports k p).port ≡ inbox.old.port }
@@ -85,7 +86,7 @@ impl Live {
         Ok(Closed { port, rest })
     }
 
-    // Makes the Close of a port, and notes what it tells. It is stored unless it is refused.
+    // Makes the Close of a port, and notes its events. It is stored unless it is refused.
     fn make_close(&mut self, port: PortId) -> Result<(), AllocError>
         requires { stored_calls self.old < 1000000 }
         ensures made { OnOk result (CloseMade self.old self.new port) }

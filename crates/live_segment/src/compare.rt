@@ -29,8 +29,7 @@ fn same_delivery(a: &Delivery, b: &Delivery) -> bool
         && a.bytes.as_slice() == b.bytes.as_slice()
 }
 
-/// A list from the item on that has so many before it, where the list has these and keeps all from there on. `gone` of its first items
-/// aren't kept.
+/// The end of a list, behind so many items, if the list has these and keeps all behind them. `gone` of its first items aren't kept.
 pub(crate) fn kept_from<T>(kept: &[T], gone: u64, before: u64) -> Option<&[T]>
     ensures { (all : List T) → gone ≤ length all → kept.now ≡ drop gone all → MatchOption result ((gone ≤ before) × (before ≤ length all) → ⊥) (λ rest. (gone ≤ before) × (before ≤ length all) × (rest.now ≡ drop before all)) }
 {

@@ -1,4 +1,4 @@
-//! A segment hands out the calls that are stored, and goes on.
+//! A segment hands out the calls that are stored, and continues.
 ghost use Rattle.std.specs.Prelude.{◌≡◌, length, IfOk, IfErr, OnErr, IsTrue, ◌↔◌};
 ghost use Rattle.live_segment.specs.Record.{trail};
 ghost use Rattle.live_segment.specs.Past.{joined};
@@ -32,15 +32,14 @@ fn cut_doors(doors: &mut Vec<Door>)
 }
 
 impl Live {
-    /// Hands out all calls that are stored, and stores the next ones anew. The segment, its clients and its ports go on as if
-    /// nothing had been: what is given, noted and owed is what it would have been.
+    /// Hands out all calls that are stored, and stores the next ones from the start. The segment, its clients and its ports are not
+    /// affected: all that is given, noted and owed later is the same as without the cut.
     ///
-    /// What a client is known to have read, or an inbox to have received, the segment keeps no more, nor do these when they are called
-    /// next; a client then keeps no more what was accepted either. What may be unread stays.
+    /// The segment no longer keeps what a client is known to have read, or an inbox to have received, nor do these once they are
+    /// called next; a client then no longer keeps what was accepted either. What may be unread stays.
     ///
-    /// Refused as `TraceFull` exactly where the piece's number, or the number of all calls that can have been made by the next
-    /// cut, would pass the last value of u64, and else as `OutOfMemory` where memory for the image is refused. These change
-    /// nothing.
+    /// Refused as `TraceFull` exactly if the piece's number, or the number of all calls that can have been made by the next cut, would
+    /// pass the last value of u64, and else as `OutOfMemory` if memory for the image is refused. These change nothing.
     pub fn cut(&mut self) -> Result<Piece, NotMade>
         ensures cut { IfOk result (λ p. CutAs self.old self.new p) }
         ensures refused { IfErr result (λ e. IsCutCause self.old e) }
@@ -62,7 +61,7 @@ impl Live {
         self.calls.cuts()
     }
 
-    // Whether a segment that stands where so many pieces leave it stands where the segment stood at the last cut.
+    // Whether a segment after so many pieces is as the segment was at the last cut.
     pub(crate) fn is_at_cut(&self, segment: &Segment, pieces: &[Piece]) -> bool
         requires stands { segment.now ≡ (trail self.now.addresses (joined pieces.now)).state }
         requires count { length pieces.now ≡ length self.now.pieces }

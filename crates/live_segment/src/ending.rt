@@ -27,16 +27,16 @@ fn accepted_before(live: &Live, client: u64) -> usize
     live.taken_of(client) - count_accepted(live.calls(), client)
 }
 
-/// Whether what these pieces hold of a client is what it submitted first. `finish` compares nothing of the calls before the last cut;
-/// who keeps all pieces of a segment, from the first on, compares the rest by this. Of a client that keeps its submissions no more from
-/// the first on it is false, since nothing is left to compare.
+/// Whether what these pieces hold of a client is what it submitted first. `finish` compares nothing of the calls before the last cut; a
+/// caller that keeps all pieces of a segment, from the first on, compares the rest by this. It is false if the client no longer keeps
+/// its first submissions, since nothing is left to compare.
 pub fn pieces_begin(pieces: &[Piece], client: &Client) -> bool
     ensures { IsTrue result ↔ ((client.now.gone ≡ 0) × IsPrefix (accepted client.now.id (joined pieces.now)) client.now.submitted) }
 {
     client.submitted_gone() == 0 && pieces_accepted_begin(pieces, client.id(), client.submitted())
 }
 
-// Whether a client is of this segment, and its lists begin and are begun as they are to.
+// Whether a client belongs to this segment, and its lists begin and are begun as they are to.
 fn client_agrees(live: &Live, client: &Client) -> bool
     ensures { IsTrue result ↔ ClientAgrees live.now client.now }
 {
@@ -53,7 +53,7 @@ fn client_agrees(live: &Live, client: &Client) -> bool
     accepted_begin(live.calls(), id, submitted) && notes_begin(read, notes)
 }
 
-// What a client submitted since the last cut, where it submitted as much before as was accepted then, and keeps what came since.
+// What a client submitted since the last cut, if it submitted as much before as was accepted then, and keeps all since.
 fn submitted_since<'a>(live: &Live, client: &'a Client) -> Option<&'a [Submission]>
     requires { client.now.id < length live.now.clients }
     ensures { MatchOption result (HasSubmitted live.now client.now → ⊥) (λ xs. HasSubmitted live.now client.now × (xs.now ≡ submitted_since_of live.now client.now)) }
@@ -65,7 +65,7 @@ fn submitted_since<'a>(live: &Live, client: &'a Client) -> Option<&'a [Submissio
     )
 }
 
-// The notes that a client read, from those on that the segment keeps, where it read the notes before them, and keeps these.
+// The notes that a client read, from those on that the segment keeps, if it read the notes before them, and keeps these.
 fn read_since<'a>(live: &Live, client: &'a Client) -> Option<&'a [Note]>
     requires { client.now.id < length live.now.clients }
     ensures { MatchOption result (HasRead live.now client.now → ⊥) (λ xs. HasRead live.now client.now × (xs.now ≡ drop (notes_gone live.now client.now.id) client.now.read)) }
@@ -76,7 +76,7 @@ fn read_since<'a>(live: &Live, client: &'a Client) -> Option<&'a [Note]>
     kept_from(client.read(), client.read_gone(), gone)
 }
 
-// What an inbox received, from the deliveries on that the segment keeps, where it received those before them, and keeps these.
+// What an inbox received, from the deliveries on that the segment keeps, if it received those before them, and keeps these.
 fn received_since<'a>(live: &Live, inbox: &'a Inbox) -> Option<&'a [Delivery]>
     requires { HasPort live.now.ports inbox.now.port }
     ensures { MatchOption result (HasReceived live.now inbox.now → ⊥) (λ xs. HasReceived live.now inbox.now × (xs.now ≡ drop (given_gone live.now inbox.now.port) inbox.now.received)) }
@@ -87,7 +87,7 @@ fn received_since<'a>(live: &Live, inbox: &'a Inbox) -> Option<&'a [Delivery]>
     kept_from(inbox.received(), inbox.gone(), gone)
 }
 
-/// Whether an inbox is of this segment, and its list begins what its port was given.
+/// Whether an inbox belongs to this segment, and its deliveries are the first that its port was given.
 pub(crate) fn inbox_agrees(live: &Live, inbox: &Inbox) -> bool
     ensures { IsTrue result ↔ InboxAgrees live.now inbox.now }
 {
@@ -129,7 +129,7 @@ fn agrees(live: &Live, clients: &[Client], inboxes: &[Inbox]) -> bool
     clients_agree(live, clients) && inboxes_agree(live, inboxes)
 }
 
-// What is left of a client whose lists agree.
+// The remainder for a client whose lists agree.
 fn report_client(alloc: Global, live: &Live, client: &Client) -> Result<ClientReport, AllocError>
     requires { ClientAgrees live.now client.now }
     ensures { IfOk result (λ r. IsClientReport live.now client.now r) }
@@ -150,7 +150,7 @@ fn report_client(alloc: Global, live: &Live, client: &Client) -> Result<ClientRe
     Ok(ClientReport { id, left, unread })
 }
 
-/// What is left for an inbox whose list agrees.
+/// The remainder for an inbox whose list agrees.
 pub(crate) fn report_inbox(
     alloc: Global,
     live: &Live,
@@ -215,12 +215,12 @@ fn report_both(
     Ok((client_reports, inbox_reports))
 }
 
-/// Compares the lists of clients and inboxes with those of the segment, and reports what is left of each. Afterwards no
-/// submission of these clients is taken, and the rings of these ports have no free place.
+/// Compares the lists of clients and inboxes with those of the segment, and reports what is left of each. Afterwards no submission of
+/// these clients is taken, and the rings of these ports have no free place.
 ///
 /// The submissions are compared from those on that were accepted since the last cut, the notes and deliveries from those on that the
-/// segment keeps. Refused exactly where a client or an inbox isn't of this segment, or its lists don't agree with it; want of memory is
-/// answered only where all agree. Both hand the clients and inboxes back, and change nothing.
+/// segment keeps. Refused exactly if a client or an inbox isn't of this segment, or its lists don't agree with it; want of memory is
+/// returned only if all agree. Both hand the clients and inboxes back, and change nothing.
 pub fn finish(
     live: &mut Live,
     clients: Vec<Client>,

@@ -1,11 +1,11 @@
 //! One bus with its stations, with the far ends of the rings that lead to each client and each port, for one thread at a time.
 //!
-//! At every moment the segment stands at the record of all calls that were made, and what went through each ring is what this record
-//! says: each client's submissions are its accepted messages, each port's deliveries its given ones, each client's notes the
-//! outcomes of its messages.
+//! At every moment the segment is at the record of all calls that were made, and this record says what was put through each ring:
+//! each client's submissions are its accepted messages, each port's deliveries its given ones, each client's notes the outcomes of
+//! its messages.
 //!
-//! The calls are stored until they are handed out: a segment that is cut goes on from where it stands, and the pieces joined
-//! again are the calls of its record.
+//! The calls are stored until they are handed out. A segment that is cut continues from its state, and the pieces joined again are
+//! the calls of its record.
 #![tactic(auto)]
 
 mod call;

@@ -20,7 +20,7 @@ use stored_calls::{Stored, StoredCalls};
 /// How many clients a station has at most.
 pub const MOST_CLIENTS: usize = 16;
 
-/// How many words stand before what is under a lock: two lines of a processor's cache, which may be fetched as one.
+/// How many words precede what is under a lock: two lines of a processor's cache, which may be fetched as one.
 const WORDS_BEFORE: usize = 16;
 
 /// A segment, the calls that were made on it, and the far ends of its clients' and ports' rings.
@@ -82,8 +82,8 @@ impl Live {
 
     /// A new segment with stations of these addresses, no clients and no ports.
     ///
-    /// Refused as `BadAddresses` exactly where there is no address, one twice, one above 253 or more than 32, and else as
-    /// `OutOfMemory` where memory is refused.
+    /// Refused as `BadAddresses` exactly if there is no address, one twice, one above 253 or more than 32, and else as `OutOfMemory` if
+    /// memory is refused.
     pub fn new(alloc: Global, addresses: &[Address]) -> Result<Live, NotMade>
         ensures ok { IfOk result (λ live. live ≡ live_view (keep false []) addresses.now [] [] []) }
         ensures refused { IsAnsweredBy (making_refusal addresses.now) (result_err result) }
@@ -110,7 +110,7 @@ impl Live {
         })
     }
 
-    /// The segment. It stands at the record of the stored calls.
+    /// The segment, which is at the record of the stored calls.
     pub fn segment(&self) -> &Segment
         ensures value { result.now ≡ (trail self.now.addresses self.now.calls).state }
         ensures stands { StandsAt self.now.addresses (trail self.now.addresses self.now.calls).steps result.now }
@@ -125,9 +125,9 @@ impl Live {
         self.segment.counts()
     }
 
-    /// What went through the rings is what the stored calls say. Each stored Send is of a client of the station that it is from, and any
-    /// other call is nobody's. The headline holds of their record: each port was given the messages of one station to one destination at
-    /// most once, in order, byte for byte, and what was acknowledged was given.
+    /// What went through the rings is what the stored calls say. Each stored Send has a client of the station that it is from, and any
+    /// other call has no owner. The headline holds of their record: each port was given the messages of one station to one destination
+    /// at most once, in order, byte for byte, and what was acknowledged was given.
     pub fn laws(&self)
         ensures laws { Laws self.now }
         ensures headline { Headline self.now.addresses (trail self.now.addresses self.now.calls).steps }
@@ -159,11 +159,11 @@ impl Live {
         self.calls.stored()
     }
 
-    /// Makes a call, and gives and notes what it tells. `room` is false only where a ring that the call needs has no place
-    /// that is known to be free, or is that of a closed port: such a port is given nothing.
+    /// Makes a call, and gives and notes its events. `room` is false only if a ring that the call needs has no place that is known to be
+    /// free, or is that of a closed port: such a port is given nothing.
     ///
-    /// Refused where no more calls can be stored, and then where the segment refuses the call. Want of memory is answered
-    /// only for a call that isn't refused. A refused call and want of memory change nothing.
+    /// Refused if no more calls can be stored, and then if the segment refuses the call. Want of memory is returned only for a call that
+    /// isn't refused. A refused call and want of memory change nothing.
     pub fn apply(&mut self, call: WorkerCall) -> Result<Reply, AllocError>
         ensures full { 1000000 ≤ stored_calls self.old → (result ≡ Ok (Refused TraceFull)) × (self.new ≡ self.old) }
         ensures applied { stored_calls self.old < 1000000 → IfOk result (λ r. (room : Bool) × Applied self.old self.new call r room) }
@@ -180,7 +180,7 @@ impl Live {
         }
     }
 
-    // The same where what it tells is put down in a place in which nothing was told yet.
+    // `apply`, which puts its events into a place that has none yet.
     #[inline(always)]
     pub(crate) fn apply_telling(
         &mut self,
@@ -199,7 +199,7 @@ impl Live {
         self.make(call, told)
     }
 
-    // The same where one more call can be stored. Room for all that follows it is found first.
+    // `apply_telling`, if one more call can be stored. Room for all that follows it is found first.
     #[inline(never)]
     fn make(&mut self, call: WorkerCall, told: &mut Events) -> Result<Made, AllocError>
         requires few { stored_calls self.old < 1000000 }
@@ -244,9 +244,9 @@ impl Live {
 
     /// Accepts the front submission of a client: its message is sent, and the Send is stored with the client's number.
     ///
-    /// The first that holds is answered: `Empty` where none is seen or no client has the number, `Owed`, and `Refused` where no
-    /// more calls can be stored or else where the segment refuses the Send. Want of memory is answered only where none of them
-    /// holds. These and want of memory change nothing.
+    /// It returns the first that holds: `Empty` if none is seen or no client has the number; `Owed`; and `Refused` if no more calls can
+    /// be stored or else if the segment refuses the Send. Want of memory is returned only if none of them holds. These and want of
+    /// memory change nothing.
     pub fn accept(&mut self, client: u64) -> Result<Accepted, AllocError>
         ensures accepted { IfOk result (λ r. AcceptedAs self.old self.new client r) }
         ensures err { OnErr result (SameLive self.old self.new) }
@@ -282,8 +282,8 @@ impl Live {
 
     /// A new client of a station, with empty lists.
     ///
-    /// Refused as `NoSuchStation` exactly where no station has the address, else as `ClientsFull` where it has 16 clients, and
-    /// else as `OutOfMemory` where memory is refused. These change nothing.
+    /// Refused as `NoSuchStation` exactly if no station has the address, else as `ClientsFull` if it has 16 clients, and else as
+    /// `OutOfMemory` if memory is refused. These change nothing.
     pub fn attach(&mut self, station: Address) -> Result<Client, NotMade>
         ensures attached { IfOk result (λ c. Attached self.old self.new station c) }
         ensures refused { IsAnsweredBy (attaching_refusal self.old station) (result_err result) }
@@ -302,10 +302,10 @@ impl Live {
         Ok(client)
     }
 
-    /// Opens a port, and gives its inbox.
+    /// Opens a port, and returns its inbox.
     ///
-    /// Refused where the segment refuses the Open, and then where no more calls can be stored. Want of memory is answered only
-    /// where neither holds. These and want of memory change nothing.
+    /// Refused if the segment refuses the Open, and then if no more calls can be stored. Want of memory is returned only if neither
+    /// holds. These and want of memory change nothing.
     pub fn open_port(&mut self, station: Address, pgn: Pgn, max_len: u32) -> Result<Inbox, NotMade>
         ensures opened { IfOk result (λ i. OpenedFor self.old self.new station pgn max_len i) }
         ensures refused { IfErr result (λ e. IsOpenCause self.old station pgn max_len e) }

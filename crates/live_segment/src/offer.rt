@@ -44,7 +44,7 @@ pub(crate) enum Front {
     Waits,
 }
 
-// Looks at the front submission of a client that is owed so many notes, where so many calls are stored.
+// Looks at the front submission of a client that is owed so many notes, while so many calls are stored.
 fn look(seats: &mut Vec<Seat>, k: usize, owed: usize, stored: usize) -> Front
     requires { k < length seats.old.items }
     ensures same { SameSeats seats.old.items seats.new.items }
@@ -115,7 +115,7 @@ pub(crate) enum Ready {
     Send(Call),
 }
 
-// Whether a client has nothing to accept, as at most turns. What is owed is counted only where it has.
+// Whether a client has nothing to accept, as in most turns. What is owed is counted only if it has something.
 fn has_nothing(seats: &mut Vec<Seat>, k: usize) -> bool
     requires { k < length seats.old.items }
     ensures same { SameSeats seats.old.items seats.new.items }
@@ -130,7 +130,7 @@ fn has_nothing(seats: &mut Vec<Seat>, k: usize) -> bool
     }
 }
 
-/// All that can fail before the front submission is sent. Memory is looked for only where nothing else stands against it.
+/// All that can fail before the front submission is sent. Memory is looked for only if nothing else prevents it.
 pub(crate) fn make_ready(
     alloc: Global,
     segment: &Segment,
@@ -157,7 +157,7 @@ pub(crate) fn make_ready(
     make_front_ready(alloc, segment, calls, owed, seats, k)
 }
 
-// The same of a client that may have one.
+// `make_ready`, for a client that may have a submission.
 fn make_front_ready(
     alloc: Global,
     segment: &Segment,

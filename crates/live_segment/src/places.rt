@@ -25,7 +25,7 @@ pub(crate) fn door_of(doors: &[Door], port: PortId) -> Option<usize>
     None
 }
 
-/// How often a number stands among others.
+/// How often a number is among others.
 pub(crate) fn count(numbers: &[u64], number: u64) -> usize
     ensures { result ≡ times number numbers.now }
 {
@@ -38,7 +38,7 @@ pub(crate) fn count(numbers: &[u64], number: u64) -> usize
     times
 }
 
-// Looks for so many places in a port's ring, where the port has one.
+// Looks for so many places in a port's ring, if the port has one.
 fn prepare(doors: &mut Vec<Door>, port: PortId, needed: usize) -> Result<bool, AllocError>
     requires { PortsApart doors.old.items }
     ensures same { SameDoors doors.old.items doors.new.items }
@@ -111,7 +111,7 @@ fn find_places(alloc: Global, doors: &mut Vec<Door>, wanted: &Wanted) -> Result<
     })
 }
 
-/// A place where a call is stored, and for each delivery that it makes, with memory for it.
+/// Finds a place to store a call, and one for each delivery that it makes, with memory for it.
 #[inline(always)]
 pub(crate) fn find_room(
     alloc: Global,

@@ -1,4 +1,4 @@
-//! What is read of a shared segment: its clients, what each submitted and was told, and what each port was given.
+//! The readers of a shared segment: its clients, what each submitted and was noted, and what each port was given.
 ghost use Rattle.std.specs.Prelude.{◌≡◌, ◌≤◌, ◌<◌, length, drop, MatchOption, slice_index_or};
 ghost use Rattle.live_segment.specs.Record.{trail, accepted, given, notes_of};
 ghost use Rattle.live_segment.specs.LiveView.{ClientView};

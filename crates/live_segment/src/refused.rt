@@ -28,7 +28,7 @@ impl From<AllocError> for NotMade {
 /// What became of a client's front submission.
 #[derive(Clone, Copy, Debug, PartialEq, Eq)]
 pub enum Accepted {
-    /// There is none, or no client has this number.
+    /// There is no submission, or no client has this number.
     Empty,
     /// Each place for its note that is known to be free is owed to an accepted message.
     Owed,

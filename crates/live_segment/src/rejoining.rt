@@ -13,18 +13,18 @@ use segment_core::{Call, NewRefused, Refusal, Segment, the_headline_holds};
 use std::alloc::{AllocError, Global};
 use stored_calls::{Stored, StoredCalls};
 
-/// The pieces come back. Without a refusal there was no memory.
+/// The pieces are handed back. Without a refusal there was no memory.
 #[derive(Debug, Drop)]
 pub struct RejoinRefused {
     pub refusal: Option<Refusal>,
     pub pieces: Vec<Piece>,
 }
 
-/// Joins the pieces of a segment, and answers all calls of its record: those of the pieces, and then those that are stored.
+/// Joins the pieces of a segment, and returns all calls of its record: those of the pieces, and then those that are stored.
 ///
-/// Refused as `PiecesDontJoin` where they aren't as many as were cut, numbered from 1 in order, and else where their calls, made
-/// on a new segment, don't leave it as the segment stood at the last cut. Want of memory is answered only where the numbers are
-/// right; the calls are made once more for it, so that it takes time and memory as they did. Both hand the pieces back.
+/// Refused as `PiecesDontJoin` if they aren't as many as were cut, numbered from 1 in order, and else if their calls, made on a
+/// new segment, don't leave it as the segment was at the last cut. Want of memory is returned only if the numbers are right. The
+/// calls are made again for it, so it takes time and memory as they did. Both hand the pieces back.
 pub fn rejoin(pieces: Vec<Piece>, live: &Live) -> Result<Vec<Call>, RejoinRefused>
     ensures joined { IfOk result (λ calls. IsJoined live.now pieces.items calls.items) }
     ensures refused { IfErr result (λ e. IsJoinCause live.now pieces.items e.refusal) }
@@ -87,7 +87,7 @@ fn replay(alloc: Global, addresses: &[Address], pieces: &[Piece]) -> Result<Segm
     Ok(segment)
 }
 
-// Makes stored calls once more.
+// Makes stored calls again.
 fn make_all(alloc: Global, segment: &mut Segment, calls: &StoredCalls) -> Result<(), AllocError>
     ensures { (addresses : List Address) (made : List StoredCall) → StandsAfter addresses made segment.old → OnOk result (StandsAfter addresses (made ++ calls.now.items) segment.new) }
 {

@@ -24,7 +24,7 @@ pub(crate) fn make(segment: &mut Segment, call: Call) -> Result<Reply, AllocErro
     segment.apply(call)
 }
 
-/// The same where what it tells is put down in a place in which nothing was told yet.
+/// `make`, which puts the events into a place that has none yet.
 #[inline(always)]
 pub(crate) fn make_telling(
     segment: &mut Segment,

@@ -1,4 +1,4 @@
-//! What a call told goes to the ports and the clients.
+//! The events of a call, on their way to the ports and the clients.
 ghost use Rattle.std.specs.Prelude.{◌≡◌, ℕ, length};
 ghost use Rattle.live_segment.specs.Record.{settle_notes, settle_owed};
 ghost use Rattle.live_segment.specs.Facts.{IdsFrom, HaveRoom, OwedWithin, PortsApart, give_all, note_all};
@@ -10,7 +10,7 @@ use crate::settle::{settle, settle_event};
 use segment_core::Events;
 use segment_rings::{Buffer, Door, Seat};
 
-/// Gives and notes what events tell. It takes no memory.
+/// Gives and notes events. It takes no memory.
 #[inline(always)]
 pub(crate) fn tell(
     doors: &mut Vec<Door>,
@@ -32,14 +32,14 @@ pub(crate) fn tell(
     ensures room { HaveRoom owed.new.items seats.new.items }
     ensures within { OwedWithin (length seats.new.items) owed.new.items }
 {
-    // Most calls tell nothing.
+    // Most calls have no event.
     if events.is_empty() {
         return;
     }
     tell_some(doors, owed, seats, buffers, events);
 }
 
-// The same of a call that tells something.
+// `tell`, for a call with events.
 #[inline(never)]
 fn tell_some(
     doors: &mut Vec<Door>,

@@ -27,7 +27,7 @@ const QUEUE_LIMIT: usize = 64;
 /// How many frames can wait for a station that has taken one: the bus keeps 4,096, and that one is among them.
 const MOST_WAITING: u64 = 4_095;
 
-/// How far the clock goes on while nothing is to do.
+/// How far the clock advances while nothing is to do.
 const IDLE_TICKS: u64 = 50;
 
 impl Turn {
@@ -47,7 +47,7 @@ impl Turn {
         self.calls = self.calls.saturating_add(1);
     }
 
-    // The worker ends where no more calls can be stored.
+    // The worker ends if no more calls can be stored.
     fn refused(&mut self, refusal: Refusal)
         ensures { self.new ≡ after_refusal self.old refusal }
     {
@@ -100,7 +100,7 @@ impl Turn {
         }
     }
 
-    // The same, where it is a client of the station.
+    // `accept`, if it is a client of the station.
     fn accept_one(&mut self, live: &mut Live, station: Address, client: u64)
         ensures { AcceptsOne station client (point live.old self.old) (point live.new self.new) }
     {
@@ -131,7 +131,7 @@ impl Turn {
         }
     }
 
-    // Makes a call where it has something to do.
+    // Makes a call if it has something to do.
     #[inline(always)]
     fn make_where(&mut self, live: &mut Live, is_wanted: bool, call: WorkerCall)
         ensures { MakesWhere is_wanted call (point live.old self.old) (point live.new self.new) }
@@ -141,8 +141,8 @@ impl Turn {
         }
     }
 
-    // A station whose queue is full takes nothing more. Where so many frames wait for it that the bus is full, no station can
-    // transmit either, and nothing would go on: it misses what waits.
+    // A station whose queue is full takes nothing more. If so many frames wait for it that the bus is full, no station can
+    // transmit either, and nothing would go on: it misses the frames that wait.
     fn miss(&mut self, live: &mut Live, station: Address)
         ensures { MakesWhere (is_stuck (state_of live.old) station) (OverrunCall station (waiting_at (state_of live.old) station)) (point live.old self.old) (point live.new self.new) }
     {
@@ -181,7 +181,7 @@ fn next_of(segment: &Segment, addresses: &[Address]) -> Option<Address>
 
 impl Live {
     /// One turn of a station's worker: it accepts once for each client of the station, by rising number, and then makes at most
-    /// one Pump, one Take and one Fire, each where there is something to do. Where its queue of 64 frames is full then and 4,095
+    /// one Pump, one Take and one Fire, each if there is something to do. If its queue of 64 frames is full then and 4,095
     /// frames or more wait for it, it misses them by an Overrun: the bus is as good as full, so its queue could not empty and
     /// nothing would go on. A call that is refused or finds no memory changes nothing and isn't counted.
     pub fn station_turn(&mut self, station: Address) -> Turn
@@ -198,16 +198,16 @@ impl Live {
         turn
     }
 
-    /// The station whose waiting frame has the lowest identifier, of several the first in the order of their addresses; none
-    /// where no station's queue has a frame.
+    /// The station whose waiting frame has the lowest identifier, of several the first in the order of their addresses; none if
+    /// no station's queue has a frame.
     pub fn lowest(&self) -> Option<Address>
         ensures { IsNext (state_of self.now) self.now.addresses result }
     {
         next_of(self.segment(), self.addresses())
     }
 
-    /// One turn of the bus's worker: the waiting frame of lowest identifier comes on the bus; or the clock goes on by 50 ticks
-    /// where no frame waits and nothing is to do.
+    /// One turn of the bus's worker: the waiting frame of the lowest identifier is put on the bus; or the clock advances by 50
+    /// ticks if no frame waits and nothing is to do.
     pub fn bus_turn(&mut self) -> Turn
         ensures { BusTurn (point self.old no_turn) (point self.new result) }
     {

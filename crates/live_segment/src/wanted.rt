@@ -1,4 +1,4 @@
-//! What a call gives where there is room.
+//! What a call gives if there is room.
 ghost use Rattle.std.specs.Prelude.{◌≡◌, []};
 ghost use Rattle.std.specs.Bool.{OnFalse};
 ghost use Rattle.live_segment.specs.Words.{wanted_by};

@@ -1,5 +1,5 @@
--- The end acknowledgements of messages that were given (SAE J1939-21, TP.CM_EndOfMsgACK; ISO 11783-3, ETP.CM_EOMA): each comes after its message
--- is told.
+-- The end acknowledgements of messages that were given (SAE J1939-21, TP.CM_EndOfMsgACK; ISO 11783-3, ETP.CM_EOMA): each follows the report on
+-- its message.
 use Rattle.std.specs.Prelude.{ℕ, List, [], ◌∷◌, length, Bool, true, false, not, ◌&&◌, ◌==◌, if◌then◌else◌, Option, Some, None}
 use Rattle.std.specs.Map.{lookup}
 use Rattle.indexmap.specs.IndexMap.{insert_entry}
@@ -21,7 +21,7 @@ use Rattle.log_decode.specs.declared.told.Told.TheVariants.{Given, Aborted, Lost
 use Rattle.log_courses.specs.Courses.{key_between}
 use Rattle.log_courses.specs.declared.awaited.Last.{Last}
 
--- by what tells messages apart, the one that was given last
+-- by key, the message that was given last
 abbrev pub Awaited : Type 0
 Awaited = List (Key × Last)
 
@@ -48,7 +48,7 @@ is_open l pgn size = not l.is_met && clean pgn == l.pgn && size == l.size
 abbrev pub met_at : Key → (pgn size : ℕ) → Awaited → Awaited × Bool
 met_at key pgn size awaited = elim (last_at key awaited) [ None ↦ (awaited, false) | Some l ↦ if is_open l pgn size then (put_last key (record l { is_met = true }) awaited, true) else (awaited, false) ]
 
--- it comes from the receiver of its message
+-- it is from the receiver of its message
 unfoldable pub cm_met : Iface → (from to : Address) → CmFrame → Awaited → Awaited × Bool
 cm_met iface from to (Rts size packets window pgn) awaited = (awaited, false)
 cm_met iface from to (Cts granted next pgn) awaited = (awaited, false)
@@ -67,6 +67,6 @@ wire_met iface from to (Packet kind sequence bytes) awaited = (awaited, false)
 wire_met iface from to (Request pgn) awaited = (awaited, false)
 wire_met iface from to (Ack control address pgn) awaited = (awaited, false)
 
--- a frame on an interface: what is awaited then, and whether it was such an acknowledgement
+-- the messages awaited after a frame on an interface, and whether the frame was such an acknowledgement
 abbrev pub met : Iface → CanFrame → Awaited → Awaited × Bool
 met iface frame awaited = elim (reading frame) [ None ↦ (awaited, false) | Some r ↦ wire_met iface r.1 r.2 r.0 awaited ]

@@ -13,7 +13,7 @@ use Rattle.log_courses.specs.declared.marks.Mark.{Mark}
 use Rattle.log_courses.specs.declared.marks.Step.{Step}
 use Rattle.log_courses.specs.declared.marks.Step.TheVariants.{Window, Again, Hold, End}
 
--- within 64 bits
+-- a count, within 64 bits
 abbrev pub counted : ℕ → ℕ
 counted n = min n (2 ^ 64 - 1)
 
@@ -43,17 +43,17 @@ with_grant granted next c = record c { again = counted (c.again + asked_again c.
 abbrev pub with_mark : Place → Step → List Mark → List Mark
 with_mark place step marks = if nat_lt (length marks) MOST_MARKS then marks ++ (record { place = place; step = step }) ∷ [] else marks
 
--- what a frame does is listed, where frames are
+-- the effect of a frame is listed, if frames are listed
 abbrev pub noted : Detail → Place → Step → Course → Course
 noted Ends place step c = c
 noted Frames place step c = record c { marks = with_mark place step c.marks }
 
--- so is the end, however many there are
+-- the end is listed too, however many frames are
 abbrev pub ended : Detail → Place → Course → Course
 ended Ends place c = c
 ended Frames place c = record c { marks = c.marks ++ (record { place = place; step = End }) ∷ [] }
 
--- so many packets, from one on, are asked for again
+-- it is listed that so many packets, from one on, are asked for again
 abbrev pub again_noted : Detail → Place → (again next : ℕ) → Course → Course
 again_noted detail place again next c = if again == 0 then c else noted detail place (Again next (next + again - 1)) c
 

@@ -1,5 +1,5 @@
--- The courses of the messages under way, beside what a listener is told (SAE J1939-21, transport protocol; ISO 11783-3, extended transport
--- protocol).
+-- The courses of the messages under way, beside the reports of a listener (SAE J1939-21, transport protocol; ISO 11783-3, extended
+-- transport protocol).
 use Rattle.std.specs.Prelude.{ℕ, List, [], ◌∷◌, Bool, true, false, ◌||◌, ◌==◌, if◌then◌else◌, Option, Some, None}
 use Rattle.std.specs.Map.{lookup, remove_entry}
 use Rattle.indexmap.specs.IndexMap.{insert_entry}
@@ -26,7 +26,7 @@ use Rattle.log_courses.specs.declared.course.Place.{Place}
 use Rattle.log_courses.specs.declared.marks.Detail.{Detail}
 use Rattle.log_courses.specs.declared.marks.Step.TheVariants.{Announcement}
 
--- of each message under way, by what tells them apart
+-- the course of each message under way, by its key
 abbrev pub Courses : Type 0
 Courses = List (Key × Course)
 
@@ -36,11 +36,11 @@ course_at key courses = lookup (same_key key) courses
 abbrev pub put : Key → Course → Courses → Courses
 put key c courses = insert_entry same_key courses key c
 
--- the course at a key, where one is, becomes what f says
+-- the course at a key, if there is one, is changed by f
 abbrev pub changed_at : (Course → Course) → Key → Courses → Courses
 changed_at f key courses = elim (course_at key courses) [ None ↦ courses | Some c ↦ put key (f c) courses ]
 
--- What is told ends a course
+-- A report ends a course
 
 abbrev pub key_told : Told → Key
 key_told (Given key pgn bytes) = key
@@ -52,7 +52,7 @@ pgn_told (Given key pgn bytes) = pgn
 pgn_told (Aborted key pgn reason who) = pgn
 pgn_told (Lost key pgn have size cause) = pgn
 
--- the frame at which a message is lost for this cause is one of its own: else it says that none of them comes
+-- the frame at which a message is lost for this cause is one of its own; else the message is lost since none of them follows
 abbrev pub is_by_frame : Cause → Bool
 is_by_frame Missing = true
 is_by_frame Replaced = false
@@ -63,13 +63,13 @@ is_by_frame Unsound = true
 is_by_frame TooLong = true
 is_by_frame EndOfLog = false
 
--- the frame at which this is told is one of the message
+-- the frame at which this is reported is one of the message
 abbrev pub ends_by_frame : Told → Bool
 ends_by_frame (Given key pgn bytes) = true
 ends_by_frame (Aborted key pgn reason who) = true
 ends_by_frame (Lost key pgn have size cause) = is_by_frame cause
 
--- the course of what is told: that of the message of this PGN under way
+-- the course of a report: that of the message of this PGN under way
 abbrev pub course_told : Told → Courses → Option Course
 course_told told courses = elim (course_at (key_told told) courses) [ None ↦ None | Some c ↦ if c.pgn == pgn_told told then Some c else None ]
 
@@ -96,7 +96,7 @@ alone detail place told =
     else if ends_by_frame told then ended detail place (begun (pgn_told told) place)
     else begun (pgn_told told) place
 
--- the course of what is told at a frame, with that frame where it is one of the message
+-- the course of a report at a frame, with that frame if it is one of the message
 abbrev pub course_of : Detail → Place → Told → Courses → Course
 course_of detail place told courses = elim (course_told told courses) [ None ↦ alone detail place told | Some c ↦ if ends_by_frame told then ended detail place (longer place c) else c ]
 
@@ -104,7 +104,7 @@ course_of detail place told courses = elim (course_told told courses) [ None ↦
 abbrev pub without_told : Told → Courses → Courses
 without_told told courses = elim (course_told told courses) [ None ↦ courses | Some c ↦ remove_entry (same_key (key_told told)) courses ]
 
--- What a frame adds to the messages that go on
+-- What a frame adds to the messages that continue
 
 abbrev pub is_refused : List Told → Bool
 is_refused [] = false
@@ -114,13 +114,14 @@ is_refused (t ∷ ts) = refuses t || is_refused ts
 abbrev pub key_between : Iface → (from to : Address) → Kind → Key
 key_between iface from to kind = record { iface = iface; from = from; to = to; transport = transport_of kind }
 
--- an announcement, seen once more or of a message that begins
+-- an announcement of a message that begins, or a repeated one
 abbrev pub announced : Detail → Key → (pgn : ℕ) → Place → List Told → Courses → Courses
 announced detail key pgn place told courses =
     if is_refused told then courses
     else elim (course_at key courses) [ None ↦ put key (noted detail place Announcement (begun (clean pgn) place)) courses | Some c ↦ put key (noted detail place Announcement (longer place c)) courses ]
 
--- RTS, BAM and DPO come from the sender of a message, CTS and the end acknowledgement from its receiver. A message that an abort ends is told
+-- the sender of a message puts RTS, BAM and DPO, its receiver CTS and the end acknowledgement. A message that an abort ends is in the
+-- reports
 unfoldable pub cm_frame_followed : Detail → Iface → (from to : Address) → CmFrame → Place → List Told → Courses → Courses
 cm_frame_followed detail iface from to (Rts size packets window pgn) place told courses = announced detail (key_between iface from to Tp) pgn place told courses
 cm_frame_followed detail iface from to (Cts granted next pgn) place told courses = changed_at (cm_followed detail (Cts granted next pgn) place) (key_between iface to from Tp) courses
@@ -139,6 +140,6 @@ wire_followed detail iface from to (Packet kind sequence bytes) place told cours
 wire_followed detail iface from to (Request pgn) place told courses = courses
 wire_followed detail iface from to (Ack control address pgn) place told courses = courses
 
--- a frame on an interface, at its place in the log, where this was told and the courses of that were taken out
+-- a frame on an interface, at its place in the log, after the courses of these reports were taken out
 unfoldable pub followed : Detail → Iface → CanFrame → Place → List Told → Courses → Courses
 followed detail iface frame place told courses = elim (reading frame) [ None ↦ courses | Some r ↦ wire_followed detail iface r.1 r.2 r.0 place told courses ]

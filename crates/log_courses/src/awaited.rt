@@ -22,7 +22,7 @@ pub(crate) struct Last {
     pub(crate) is_met: bool,
 }
 
-/// The messages that were given last, and whether the end acknowledgement of each was seen: it comes after its message is told.
+/// The messages that were given last, and whether the end acknowledgement of each was seen: it follows the report on its message.
 pub struct Awaited {
     last: IndexMap<Key, Last>,
 }
@@ -79,8 +79,8 @@ impl Awaited {
         }
     }
 
-    /// So much was told. Each message that was given to one node is to be acknowledged. It fails only where memory is refused; what it leaves
-    /// then is not said.
+    /// Adds the reports. Each message that was given to one node is to be acknowledged. It fails only if memory is refused; what it leaves then
+    /// is not specified.
     pub fn add_each(&mut self, told: &[Told]) -> Result<(), AllocError>
         ensures { OnOk result (self.new ≡ awaiting_each told.now self.old) }
     {
@@ -155,8 +155,8 @@ impl Awaited {
         }
     }
 
-    /// A frame is seen on an interface. Answered is whether it is the end acknowledgement of the message that was given last between its nodes by
-    /// its transport: one of the same PGN and size, and the first. It fails only where memory is refused; what it leaves then is not said.
+    /// A frame is seen on an interface. Returns whether it is the end acknowledgement of the message that was given last between its nodes by its
+    /// transport: one of the same PGN and size, and the first. It fails only if memory is refused; what it leaves then is not specified.
     pub fn meet(&mut self, iface: Iface, frame: &Frame) -> Result<bool, AllocError>
         ensures { IfOk result (λ is. (self.new, is) ≡ met iface frame.now self.old) }
     {

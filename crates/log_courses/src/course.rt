@@ -8,16 +8,16 @@ use pgn_ids::Pgn;
 use std::alloc::{AllocError, Global};
 use tp_wire::CmFrame;
 
-/// Where a frame stands in a log.
+/// The place of a frame in a log.
 #[derive(Clone, Copy, Debug, PartialEq, Eq)]
 pub struct Place {
-    /// Its number among the frames of the log, from 1.
+    /// The frame's number among the frames of the log, from 1.
     pub number: u64,
-    /// Its time, in microseconds.
+    /// The frame's time, in microseconds.
     pub time: u64,
 }
 
-/// The frames of a message. Each count stays at 2^64 - 1 where it would pass it.
+/// The frames of a message. A count that would pass 2^64 - 1 stays there.
 #[derive(Debug, Drop)]
 pub struct Course {
     pub pgn: Pgn,
@@ -27,22 +27,22 @@ pub struct Course {
     pub last: Place,
     /// How many frames of it were seen.
     pub frames: u64,
-    /// The highest number of a packet that its receiver asked for; 0 where it asked for none.
+    /// The highest number of a packet that its receiver asked for; 0 if it asked for none.
     pub asked: u64,
-    /// How many packets its receiver asked for that it had asked for before, as often as it did.
+    /// How many packets its receiver asked for again, counted each time.
     pub again: u64,
-    /// Its frames but for packets, where each is kept.
+    /// Its frames except the packets, if each is kept.
     pub marks: Marks,
 }
 
-/// One more.
+/// One more, up to the last value.
 fn more(n: u64) -> u64
     ensures { result ≡ more n }
 {
     n.saturating_add(1)
 }
 
-/// Of the packets that a CTS asks for, how many had been asked for before, where that was done up to the packet `asked`.
+/// How many of the packets that a CTS asks for had been asked for before, if all up to the packet `asked` had been.
 fn asked_again(asked: u64, granted: u8, next: u32) -> u64
     ensures { result ≡ asked_again asked granted next }
 {
@@ -61,7 +61,7 @@ fn asked_to(asked: u64, granted: u8, next: u32) -> u64
 }
 
 impl Course {
-    /// One that has a frame.
+    /// A course of one frame.
     pub(crate) fn begun(alloc: Global, pgn: Pgn, place: Place) -> Course
         ensures { result ≡ begun pgn place }
     {
@@ -76,7 +76,7 @@ impl Course {
         }
     }
 
-    /// One more frame of it is seen.
+    /// Counts one more of its frames.
     pub(crate) fn go_on(&mut self, place: Place)
         ensures { self.new ≡ longer place self.old }
     {
@@ -84,7 +84,7 @@ impl Course {
         self.frames = more(self.frames);
     }
 
-    /// What a frame of it does is listed, where each frame is.
+    /// Lists the effect of one of its frames, if each is listed.
     pub(crate) fn note(
         &mut self,
         detail: Detail,
@@ -99,7 +99,7 @@ impl Course {
         }
     }
 
-    /// It is announced once more.
+    /// It is announced again.
     pub(crate) fn renew(&mut self, detail: Detail, place: Place) -> Result<(), AllocError>
         ensures { OnOk result (self.new ≡ noted detail place Announcement (longer place self.old)) }
     {
@@ -117,7 +117,7 @@ impl Course {
         }
     }
 
-    /// So many packets, from one on, are asked for again.
+    /// Notes that so many packets, from one on, are asked for again.
     fn note_again(
         &mut self,
         detail: Detail,

@@ -37,7 +37,7 @@ impl Drop for Courses {
     }
 }
 
-/// What tells the message that is told apart from others.
+/// The key of the message that is reported.
 pub fn key_told(told: &Told) -> Key
     ensures { result ≡ key_told told.now }
 {
@@ -48,7 +48,7 @@ pub fn key_told(told: &Told) -> Key
     }
 }
 
-/// The PGN of the message that is told.
+/// The PGN of the message that is reported.
 pub fn pgn_told(told: &Told) -> Pgn
     ensures { result ≡ pgn_told told.now }
 {
@@ -75,7 +75,7 @@ fn is_by_frame(cause: Cause) -> bool
     }
 }
 
-/// Whether the frame at which this is told is one of the message.
+/// Whether the frame at which this is reported is one of the message.
 fn ends_by_frame(told: &Told) -> bool
     ensures { result ≡ ends_by_frame told.now }
 {
@@ -144,7 +144,7 @@ pub(crate) fn key_between(iface: Iface, from: Address, to: Address, kind: Kind) 
     }
 }
 
-/// One more frame of the message of a key, where one is under way.
+/// Counts one more frame of the message of a key, if one is under way.
 fn go_on(kept: &mut Kept, key: Key, place: Place)
     ensures { kept.new.entries ≡ changed_at (longer place) key kept.old.entries }
 {
@@ -169,7 +169,7 @@ fn follow_cm(
     Ok(())
 }
 
-/// The message of a key is announced once more.
+/// The message of a key is announced again.
 fn announce_again(kept: &mut Kept, detail: Detail, key: Key, place: Place) -> Result<(), AllocError>
     ensures { OnOk result (kept.new.entries ≡ changed_at (λ c. noted detail place Announcement (longer place c)) key kept.old.entries) }
 {
@@ -196,7 +196,7 @@ fn begin(
     Ok(())
 }
 
-/// An announcement, seen once more or of a message that begins.
+/// An announcement of a message that begins, or a repeated one.
 fn announce(
     alloc: Global,
     kept: &mut Kept,
@@ -280,7 +280,7 @@ fn follow_wire(
     }
 }
 
-/// The course of what is told where no message is under way: this one frame, which announces a message that doesn't begin, or aborts none.
+/// The course of a report with no message under way: this one frame, which announces a message that doesn't begin, or aborts none.
 fn alone(alloc: Global, detail: Detail, place: Place, told: &Told) -> Result<Course, AllocError>
     ensures { IfOk result (λ course. course ≡ alone detail place told.now) }
 {
@@ -303,8 +303,8 @@ impl Courses {
         }
     }
 
-    /// Takes out the course of what is told at a frame of the log, by the place of that frame. If none is under way, since the message didn't
-    /// begin or an abort is of none, its course is this one frame. It fails only where memory is refused; what it leaves then is not said.
+    /// Takes out the course of a report at a frame of the log, by the place of that frame. If none is under way, since the message didn't
+    /// begin or an abort is of none, its course is this one frame. It fails only if memory is refused; what it leaves then is not specified.
     pub fn end(
         &mut self,
         alloc: Global,
@@ -335,8 +335,8 @@ impl Courses {
         Ok(course)
     }
 
-    /// A frame is seen on an interface, at its place in the log. All that was told at it is `told`, and the courses of that were taken out. It
-    /// fails only where memory is refused; what it leaves then is not said.
+    /// A frame is seen on an interface, at its place in the log. `told` has all reports at it, whose courses were taken out. It fails only if
+    /// memory is refused; what it leaves then is not specified.
     #[tactic(auto, unfolding(crate::specs::Courses::followed))]
     pub fn follow(
         &mut self,

@@ -9,7 +9,7 @@ use std::marker::Model;
 /// What a frame is in the course of a message.
 #[derive(Clone, Copy, Debug, PartialEq, Eq)]
 pub enum Step {
-    /// It announces the message, for the first time or once more.
+    /// It announces the message, or announces it again.
     Announcement,
     /// It opens a window: its receiver asks for these packets, or its sender is to send them.
     Window { first: u64, last: u64 },
@@ -65,7 +65,7 @@ impl Marks {
         }
     }
 
-    /// One more.
+    /// Puts one more frame.
     pub(crate) fn put(&mut self, place: Place, step: Step) -> Result<(), AllocError>
         ensures { OnOk result (self.new ≡ self.old ++ record { place = place; step = step } ∷ []) }
     {
@@ -73,7 +73,7 @@ impl Marks {
         Ok(())
     }
 
-    /// One more, unless there are as many as are listed at most.
+    /// Puts one more frame, unless there are as many as are listed at most.
     pub(crate) fn add(&mut self, place: Place, step: Step) -> Result<(), AllocError>
         ensures { OnOk result (self.new ≡ with_mark place step self.old) }
     {
@@ -83,7 +83,7 @@ impl Marks {
         Ok(())
     }
 
-    /// They in their order.
+    /// The frames in their order.
     pub fn as_slice(&self) -> &[Mark]
         ensures { result.now ≡ self.now }
     {

@@ -1,4 +1,4 @@
--- Of which message a frame is, and what is told.
+-- The message that a frame or a report belongs to.
 use Rattle.std.specs.Prelude.{List, [], ◌∷◌, Bool, false, filter, Some, None}
 use Rattle.std.specs.List.{list_any}
 use Rattle.bus_frame.specs.Frames.{CanFrame}
@@ -15,8 +15,8 @@ use Rattle.log_decode.specs.declared.key.Way.{Way}
 use Rattle.log_decode.specs.declared.told.Told.{Told}
 use Rattle.log_decode.specs.declared.told.Told.TheVariants.{Given, Aborted, Lost}
 
--- RTS, BAM and DPO go from the sender of a message to its destination, CTS and the end acknowledgement come back, and an abort may
--- come from either end
+-- RTS, BAM and DPO go from the sender of a message to its destination, CTS and the end acknowledgement go back, and an abort may
+-- be from either end
 abbrev pub keys_of_cm : Way → CmFrame → List Key
 keys_of_cm way (frames.Rts size packets window pgn) = key_of way Tp ∷ []
 keys_of_cm way (frames.Cts granted next pgn) = key_back way Tp ∷ []
@@ -29,23 +29,23 @@ keys_of_cm way (frames.EtpDpo packets offset pgn) = key_of way Etp ∷ []
 keys_of_cm way (frames.EtpEoma size pgn) = key_back way Etp ∷ []
 keys_of_cm way (frames.EtpAbort reason pgn) = key_of way Etp ∷ key_back way Etp ∷ []
 
--- packets go from its sender to its destination, and other frames are of no message
+-- packets go from its sender to its destination, and other frames belong to no message
 abbrev pub keys_of : Way → Wire → List Key
 keys_of way (Cm frame) = keys_of_cm way frame
 keys_of way (Packet kind sequence bytes) = key_of way kind ∷ []
 keys_of way (Request pgn) = []
 keys_of way (Ack control address pgn) = []
 
--- a frame on an interface is of the message of this key
+-- whether a frame on an interface belongs to the message of this key
 abbrev pub is_frame_of : Key → Iface → CanFrame → Bool
 is_frame_of key iface frame = elim (reading frame) [ None ↦ false | Some r ↦ list_any (same_key key) (keys_of (record { iface = iface; from = r.1; to = r.2 }) r.0) ]
 
--- the message of which this is told
+-- the key of the message that is reported
 abbrev pub key_told : Told → Key
 key_told (Given key pgn bytes) = key
 key_told (Aborted key pgn reason who) = key
 key_told (Lost key pgn have size cause) = key
 
--- what is told of the messages of this key
+-- the reports on the messages of this key
 abbrev pub told_of_key : Key → List Told → List Told
 told_of_key key told = filter (λ t. same_key key (key_told t)) told

@@ -1,4 +1,4 @@
--- What a frame tells a listener to a recorded bus.
+-- What a listener to a recorded bus makes of a frame.
 use Rattle.std.specs.Prelude.{ℕ, ◌-◌, List, [], ◌∷◌, ◌++◌, Bool, ◌&&◌, ◌||◌, ◌==◌, nat_lt, max, if◌then◌else◌, Some, None, flat_map}
 use Rattle.bus_frame.specs.Frames.{CanFrame}
 use Rattle.log_text.specs.declared.iface.Iface.{Iface}
@@ -26,7 +26,7 @@ use Rattle.log_decode.specs.declared.told.Told.TheVariants.{Aborted}
 abbrev pub tp_news : (pgn size packets : ℕ) → News
 tp_news pgn size packets = record { pgn = pgn; size = size; is_sound = is_size_of Tp size && packet_count size == packets }
 
--- one of the extended transport protocol
+-- a message of the extended transport protocol is announced
 abbrev pub etp_news : (pgn size : ℕ) → News
 etp_news pgn size = record { pgn = pgn; size = size; is_sound = is_size_of Etp size }
 
@@ -34,13 +34,13 @@ etp_news pgn size = record { pgn = pgn; size = size; is_sound = is_size_of Etp s
 abbrev pub both_aborted : Way → Kind → (reason pgn : ℕ) → Heard → Heard
 both_aborted way kind reason pgn h = abort_taken (key_back way kind) way.from reason pgn (abort_taken (key_of way kind) way.from reason pgn h)
 
--- where none is under way, it is told as that of a message from the node that sent it
+-- if no such message is under way, the abort is reported as that of a message from the node that sent it
 abbrev pub aborted : Way → Kind → (reason pgn : ℕ) → Heard → Heard
 aborted way kind reason pgn h =
     if is_of (key_of way kind) pgn h.0 || is_of (key_back way kind) pgn h.0 then both_aborted way kind reason pgn h
     else (h.0, h.1 ++ Aborted (key_of way kind) (clean pgn) reason way.from ∷ [])
 
--- RTS, BAM and DPO come from the sender of a message, CTS and the end acknowledgement from its receiver
+-- the sender of a message puts RTS, BAM and DPO, its receiver CTS and the end acknowledgement
 unfoldable pub cm_frame_taken : Way → CmFrame → (most now : ℕ) → Heard → Heard
 cm_frame_taken way (Rts size packets window pgn) most now h = announced (key_of way Tp) (tp_news pgn size packets) most now h
 cm_frame_taken way (Cts granted next pgn) most now h = cm_taken (key_back way Tp) (Cts granted next pgn) now h
@@ -59,7 +59,7 @@ wire_taken way (Packet kind sequence bytes) most now h = packet_taken (key_of wa
 wire_taken way (Request pgn) most now h = h
 wire_taken way (Ack control address pgn) most now h = h
 
--- a frame that means nothing to a transport tells nothing
+-- a frame without a meaning to a transport changes nothing
 abbrev pub frame_taken : Iface → CanFrame → (most now : ℕ) → Heard → Heard
 frame_taken iface frame most now h = elim (reading frame) [ None ↦ h | Some r ↦ wire_taken (record { iface = iface; from = r.1; to = r.2 }) r.0 most now h ]
 
@@ -71,22 +71,22 @@ goes_back before time = nat_lt 1000000 (before - time)
 abbrev pub now_at : (before time : ℕ) → ℕ
 now_at before time = if goes_back before time then time else max before time
 
--- time goes on, and ends what has become silent; if it goes back, it ends what was under way
+-- time advances, and ends what has become silent; if it goes back, it ends what was under way
 abbrev pub passed : (before time : ℕ) → Heard → Heard
 passed before time h = if goes_back before time then broken_off h else silenced (max before time) h
 
--- then the frame is taken
+-- a frame of a bus is taken after its time has passed
 abbrev pub bus_taken : Bus → (most time : ℕ) → Iface → CanFrame → List Told → Bus × List Told
 bus_taken b most time iface frame told =
     let h = frame_taken iface frame most (now_at b.time time) (passed b.time time (b.sessions, told)) in
     (record { time = now_at b.time time; sessions = h.0 }, h.1)
 
--- each interface is a bus of its own: what a frame tells depends on the frames of its interface alone
+-- each interface is a bus of its own: the reports on a frame depend on the frames of its interface alone
 abbrev pub taken : State → (time : ℕ) → Iface → CanFrame → List Told → State × List Told
 taken d time iface frame told =
     let b = bus_taken (bus_at iface d.buses) d.most time iface frame told in
     (record { most = d.most; time = b.0.time; buses = put_bus iface b.0 d.buses }, b.1)
 
--- at the end of the log what is still under way on each is lost
+-- at the end of the log each message that is still under way on a bus is lost
 abbrev pub ended : Buses → List Told
 ended buses = flat_map (λ b. losses (Lost EndOfLog) b.1.sessions) buses

@@ -1,4 +1,4 @@
--- What tells messages under way apart: interface, sender, destination and transport.
+-- The key of a message under way: interface, sender, destination and transport.
 use Rattle.std.specs.Prelude.{Bool}
 use Rattle.tp_wire.specs.declared.wire.Kind.{Kind}
 use Rattle.tp_wire.specs.declared.wire.Kind.TheVariants as kinds
@@ -14,18 +14,18 @@ abbrev pub transport_of : Kind → Transport
 transport_of kinds.Tp = Tp
 transport_of kinds.Etp = Etp
 
--- that of a message that goes as a frame does
+-- the key of a message that goes the way of a frame
 abbrev pub key_of : Way → Kind → Key
 key_of way kind = record { iface = way.iface; from = way.from; to = way.to; transport = transport_of kind }
 
--- that of one that goes the other way
+-- the key of a message that goes the other way
 abbrev pub key_back : Way → Kind → Key
 key_back way kind = record { iface = way.iface; from = way.to; to = way.from; transport = transport_of kind }
 
--- keys are the same where each of their parts is
+-- keys are equal if each of their parts is
 abbrev pub same_key : Key → Key → Bool
 same_key = (derived.eq-value).it
 
--- interfaces are the same where their names are
+-- interfaces are equal if their names are
 abbrev pub same_iface : Iface → Iface → Bool
 same_iface = (names.eq-value).it

@@ -20,7 +20,7 @@ use Rattle.log_decode.specs.declared.told.Told.TheVariants.{Lost}
 abbrev pub Sessions : Type 0
 Sessions = List (Key × Session)
 
--- what is under way, and what was told
+-- the messages under way, and the reports
 abbrev pub Heard : Type 0
 Heard = Sessions × List Told
 
@@ -28,30 +28,30 @@ Heard = Sessions × List Told
 abbrev pub session_at : Key → Sessions → Option Session
 session_at key sessions = lookup (same_key key) sessions
 
--- with a message at a key: in its place where one is there, else behind the others
+-- with a message at a key: in its place if one is there, else behind the others
 abbrev pub put : Key → Session → Sessions → Sessions
 put key s sessions = insert_entry same_key sessions key s
 
--- without that of a key
+-- the messages under way without that of a key
 abbrev pub without : Key → Sessions → Sessions
 without key sessions = remove_entry (same_key key) sessions
 
--- the message of a key ends so, where there is one, and that is told
+-- the message of a key ends in this way, if there is one, and that is reported
 abbrev pub ended_at : Key → Fate → Heard → Heard
 ended_at key fate h = elim (session_at key h.0) [ None ↦ h | Some s ↦ (without key h.0, h.1 ++ option_to_list (told_of key s fate)) ]
 
--- it goes on, or ends
+-- a message continues, or ends
 abbrev pub settled : Key → Fate → Heard → Heard
 settled key fates.GoesOn h = h
 settled key fates.Given h = ended_at key fates.Given h
 settled key (fates.Lost cause) h = ended_at key (fates.Lost cause) h
 settled key (fates.Aborted reason who) h = ended_at key (fates.Aborted reason who) h
 
--- the message of a key, where there is one, becomes what f says, and meets its fate
+-- the message of a key, if there is one, is changed by f, and meets its fate
 abbrev pub heard_at : (Session → Session × Fate) → Key → Heard → Heard
 heard_at f key h = elim (session_at key h.0) [ None ↦ h | Some s ↦ settled key (f s).1 (put key (f s).0 h.0, h.1) ]
 
--- a packet comes
+-- a packet arrives
 abbrev pub packet_taken : Key → (sequence : ℕ) → List ℕ → (now : ℕ) → Heard → Heard
 packet_taken key sequence bytes now h = heard_at (λ s. sequence_heard key.to s sequence bytes now) key h
 
@@ -63,7 +63,7 @@ cm_taken key frame now h = heard_at (λ s. heard s frame now) key h
 abbrev pub abort_taken : Key → (who : Address) → (reason pgn : ℕ) → Heard → Heard
 abort_taken key who reason pgn h = elim (session_at key h.0) [ None ↦ h | Some s ↦ settled key (abort_heard s who reason pgn) h ]
 
--- the announcement of the message under way, of which nothing has come yet, is seen once more
+-- whether the announcement repeats that of the message under way, which has no packet yet
 abbrev pub is_again_at : Key → (pgn size : ℕ) → Sessions → Bool
 is_again_at key pgn size sessions = elim (session_at key sessions) [ None ↦ false | Some s ↦ is_again s pgn size ]
 
@@ -74,11 +74,11 @@ renewed_at key now sessions = elim (session_at key sessions) [ None ↦ sessions
 abbrev pub is_of : Key → (pgn : ℕ) → Sessions → Bool
 is_of key pgn sessions = elim (session_at key sessions) [ None ↦ false | Some s ↦ clean pgn == clean s.pgn ]
 
--- what tells that a message didn't begin
+-- the report that a message didn't begin
 abbrev pub not_begun : Key → News → Cause → Told
 not_begun key news cause = Lost key (clean news.pgn) 0 news.size cause
 
--- a message begins, unless no transport carries it or it is too long, which is told
+-- a message begins; if no transport carries it or it is too long, that is reported
 abbrev pub opened_at : Key → News → (most now : ℕ) → Heard → Heard
 opened_at key news most now h =
     if not news.is_sound then (h.0, h.1 ++ not_begun key news Unsound ∷ [])
@@ -99,7 +99,7 @@ silent_entry now e = is_silent e.0.to e.1 now
 abbrev pub losses : Fate → Sessions → List Told
 losses fate sessions = flat_map (λ e. option_to_list (told_of e.0 e.1 fate)) sessions
 
--- those that are silent are lost
+-- the messages that are silent are lost
 abbrev pub silenced : (now : ℕ) → Heard → Heard
 silenced now h = (filter (λ e. not (silent_entry now e)) h.0, h.1 ++ losses (fates.Lost TimedOut) (filter (silent_entry now) h.0))
 

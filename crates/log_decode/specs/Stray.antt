@@ -1,4 +1,4 @@
--- Frames of a transport that are of no message under way.
+-- Frames of a transport that belong to no message under way.
 use Rattle.std.specs.Prelude.{ℕ, [], not, filter, if◌then◌else◌, max, Option, Some, None}
 use Rattle.bus_frame.specs.Frames.{CanFrame}
 use Rattle.log_text.specs.declared.iface.Iface.{Iface}
@@ -17,16 +17,16 @@ use Rattle.log_decode.specs.declared.key.Way.{Way}
 use Rattle.log_decode.specs.declared.stray.Stray.{Stray}
 use Rattle.log_decode.specs.declared.stray.Stray.TheVariants.{Packet, Window, Acknowledgement}
 
--- a packet is of no message where none is under way at its key
+-- a packet is stray if no message is under way at its key
 abbrev pub packet_stray : Key → Sessions → Option Stray
 packet_stray key sessions = elim (session_at key sessions) [ None ↦ Some Packet | Some s ↦ None ]
 
--- a connection management frame is of none where none of its PGN is
+-- a connection management frame is stray if no message of its PGN is under way
 abbrev pub cm_stray : Stray → Key → (pgn : ℕ) → Sessions → Option Stray
 cm_stray kind key pgn sessions = if is_of key pgn sessions then None else Some kind
 
--- DPO comes from the sender of a message, CTS and the end acknowledgement from its receiver. An announcement opens a message, is seen once more
--- or is told, and an abort is told
+-- the sender of a message puts DPO, its receiver CTS and the end acknowledgement. An announcement is never stray: it opens a message, is a
+-- repetition or is reported. An abort is reported
 unfoldable pub cm_frame_stray : Way → CmFrame → Sessions → Option Stray
 cm_frame_stray way (frames.Rts size packets window pgn) sessions = None
 cm_frame_stray way (frames.Cts granted next pgn) sessions = cm_stray Window (key_back way Tp) pgn sessions
@@ -49,7 +49,7 @@ wire_stray way (wires.Ack control address pgn) sessions = None
 abbrev pub frame_stray : Iface → CanFrame → Sessions → Option Stray
 frame_stray iface frame sessions = elim (reading frame) [ None ↦ None | Some r ↦ wire_stray (record { iface = iface; from = r.1; to = r.2 }) r.0 sessions ]
 
--- what is under way once time has gone on, or back
+-- the messages under way after time has advanced, or gone back
 abbrev pub left_at : (before time : ℕ) → Sessions → Sessions
 left_at before time sessions = if goes_back before time then [] else filter (λ e. not (silent_entry (max before time) e)) sessions
 

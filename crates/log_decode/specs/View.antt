@@ -15,7 +15,7 @@ pub record Bus : Type 0 where
 abbrev pub new_bus : Bus
 new_bus = record { time = 0; sessions = [] }
 
--- in the order in which their first frames were seen
+-- the buses, in the order in which their first frames were seen
 abbrev pub Buses : Type 0
 Buses = List (Iface × Bus)
 

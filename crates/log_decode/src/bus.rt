@@ -20,8 +20,8 @@ use log_text::Iface;
 use std::alloc::{AllocError, Global};
 use std::marker::Model;
 
-/// By how many microseconds a time may be before that of the last frame, as one that came late. A time that is more before it is of a clock
-/// that was set back.
+/// By how many microseconds the time of a late frame may be before that of the last one. A time that is more before it is from a clock that
+/// was set back.
 const LATE: u64 = 1_000_000;
 
 /// A listener to one interface.
@@ -71,8 +71,8 @@ fn now_at(before: u64, time: u64) -> u64
     }
 }
 
-/// Time goes on, or back. What is under way becomes silent at no time before `due`, and what is left of it at none before the one that is
-/// answered.
+/// Time advances, or goes back. None of what is under way becomes silent before `due`, and none of what is left before the time that is
+/// returned.
 fn pass(
     sessions: &mut Sessions,
     due: u64,
@@ -94,7 +94,7 @@ fn pass(
 }
 
 impl Bus {
-    /// One on which nothing was seen. It takes no memory.
+    /// A bus on which nothing was seen. It takes no memory.
     pub(crate) fn new(alloc: Global) -> Bus
         ensures { result ≡ new_bus }
     {
@@ -112,7 +112,7 @@ impl Bus {
         self.time
     }
 
-    /// A frame is seen. Answered is what it is if it is of a message that isn't under way.
+    /// A frame is seen. Returns its kind if it belongs to a message that isn't under way.
     pub(crate) fn take(
         &mut self,
         alloc: Global,

@@ -53,7 +53,7 @@ fn finish_all(buses: &IndexMap<Iface, Bus>, told: &mut Vec<Told>) -> Result<(), 
 }
 
 impl Decoder {
-    /// A listener that has seen nothing. A message of more than `most` bytes is told as lost where it is announced. It takes no memory.
+    /// A listener that has seen nothing. A message of more than `most` bytes is reported as lost when it is announced. It takes no memory.
     pub fn new(alloc: Global, most: u32) -> Decoder
         ensures { result ≡ record { most = most; time = 0; buses = [] } }
     {
@@ -83,10 +83,10 @@ impl Decoder {
 
     /// A frame is seen on an interface, at so many microseconds. A time before that of the last frame of the interface is taken as that;
     /// but if it is more than a second before it, the clock was set back, and what was under way there is lost. First the messages of the
-    /// interface that have become silent are told, in the order in which they were announced, then what the frame tells.
+    /// interface that have become silent are reported, in the order in which they were announced, then those that the frame ends.
     ///
-    /// It answers what the frame is if it is a packet, a CTS, a data packet offset or an end acknowledgement, and no message is under way
-    /// between its nodes by its transport, nor, for all but a packet, one of its PGN. It fails only where memory is refused.
+    /// Returns the frame's kind if it is a packet, a CTS, a data packet offset or an end acknowledgement, and no message is under way
+    /// between its nodes by its transport, nor, for all but a packet, one of its PGN. It fails only if memory is refused.
     pub fn take(
         &mut self,
         alloc: Global,
@@ -115,8 +115,8 @@ impl Decoder {
         }
     }
 
-    /// The log ends: each message that is still under way is told, by interface, and of each in the order in which they were announced. It
-    /// fails only where memory is refused.
+    /// The log ends: each message that is still under way is reported, by interface, and for each in the order in which they were
+    /// announced. It fails only if memory is refused.
     pub fn finish(self, told: &mut Vec<Told>) -> Result<(), AllocError>
         ensures { OnOk result (told.new.items ≡ told.old.items ++ ended self.buses) }
     {

@@ -1,4 +1,4 @@
-//! What a frame of an interface tells.
+//! The reports on a frame of an interface.
 ghost use Rattle.std.specs.Prelude.{◌≡◌, OnOk, IfOk};
 ghost use Rattle.log_decode.specs.Decoder.{tp_news, etp_news, both_aborted, aborted, cm_frame_taken, wire_taken, frame_taken};
 ghost use Rattle.log_decode.specs.Stray.{cm_frame_stray, wire_stray, frame_stray};
@@ -28,7 +28,7 @@ fn tp_news(pgn: WirePgn, size: u16, count: u8) -> News
     }
 }
 
-/// One of the extended transport protocol.
+/// The announcement of a message of the extended transport protocol.
 fn etp_news(pgn: WirePgn, size: u32) -> News
     ensures { result ≡ etp_news pgn size }
 {
@@ -54,7 +54,7 @@ fn end_both(
     take_abort(sessions, way.back(kind), way.from, reason, pgn, told)
 }
 
-/// An abort. Where no message of its PGN is under way, it is told as that of one from the node that sent it.
+/// An abort. If no message of its PGN is under way, it is reported as that of one from the node that sent it.
 fn take_both(
     sessions: &mut Sessions,
     way: Way,
@@ -185,7 +185,7 @@ fn take_wire(
     }
 }
 
-/// A frame is seen on an interface. One that means nothing to a transport tells nothing. Answered is what it is if it is of a message that
+/// A frame is seen on an interface. One without a meaning to a transport has no report. Returns its kind if it belongs to a message that
 /// isn't under way.
 pub(crate) fn take_frame(
     alloc: Global,

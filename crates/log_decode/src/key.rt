@@ -1,4 +1,4 @@
-//! What tells messages under way apart.
+//! The key of a message under way.
 ghost use Rattle.std.specs.Prelude.{◌≡◌};
 ghost use Rattle.log_decode.specs.Keys.{transport_of, key_of, key_back};
 
@@ -26,8 +26,8 @@ impl Transport {
     }
 }
 
-/// What tells messages under way apart: on an interface, a node sends at most one at a time to each destination, 255 for a broadcast, by
-/// each transport.
+/// The key of a message under way: on an interface, a node sends at most one at a time to each destination, 255 for a broadcast, by each
+/// transport.
 #[derive(Clone, Copy, Debug, PartialEq, Eq, Hash)]
 pub struct Key {
     pub iface: Iface,
@@ -38,7 +38,7 @@ pub struct Key {
     pub transport: Transport,
 }
 
-/// Where a frame was seen, and between which nodes it goes.
+/// The interface on which a frame was seen, and the nodes between which it goes.
 #[derive(Clone, Copy, PartialEq, Eq)]
 pub(crate) struct Way {
     pub(crate) iface: Iface,

@@ -1,9 +1,9 @@
-//! The transport messages of a recorded bus, put together again: what a listener that sees every frame of every pair of nodes, kind of
-//! transport and interface is told, however they are interleaved (SAE J1939-21, transport protocol; ISO 11783-3, extended transport
+//! The transport messages of a recorded bus, put together again: the reports of a listener that sees every frame of every pair of nodes,
+//! kind of transport and interface, however they are interleaved (SAE J1939-21, transport protocol; ISO 11783-3, extended transport
 //! protocol).
 //!
-//! Memory is that of the messages under way: what has come of each, and room for as much again, or for a window. A call fails only where
-//! memory is refused; what it leaves then is not said.
+//! It holds the messages under way: the bytes received of each, and room for as many again, or for a window. A call fails only if memory
+//! is refused; what it leaves then is not specified.
 #![tactic(auto)]
 
 mod bus;

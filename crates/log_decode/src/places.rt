@@ -1,11 +1,11 @@
-//! Where a key stands in a map.
+//! The place of a key in a map.
 ghost use Rattle.std.specs.Prelude.{◌≡◌, ◌<◌, IfSome, is_some};
 ghost use Rattle.indexmap.specs.IndexMap.{index_of, index_map_len, get};
 
 use indexmap::IndexMap;
 use std::hash::Hash;
 
-/// So few keys are compared one after another, which takes less than to hash one.
+/// So few keys are compared one after another, which is faster than hashing one.
 const FEW: usize = 8;
 
 /// The place of a key in a map.

@@ -18,9 +18,9 @@ use tp_wire::CmFrame;
 /// What becomes of a message under way by a frame.
 #[derive(Clone, Copy, PartialEq, Eq)]
 pub enum Fate {
-    /// It goes on.
+    /// It continues.
     GoesOn,
-    /// All of it has come.
+    /// All of it was received.
     Given,
     /// It is lost.
     Lost(Cause),
@@ -33,28 +33,28 @@ pub enum Fate {
 pub struct Session {
     /// The PGN field that announced it.
     pgn: WirePgn,
-    /// What has come of it.
+    /// The bytes received.
     join: Join,
-    /// The offset of the last data packet offset, 0 before the first and where there is none.
+    /// The offset of the last data packet offset, 0 before the first and if there is none.
     offset: u32,
-    /// The last sequence number of the window that a data packet offset opened, 0 before the first and once a CTS has closed it. None
-    /// where sequence numbers are those of the message's packets.
+    /// The last sequence number of the window that a data packet offset opened, 0 before the first and once a CTS has closed it. None if
+    /// sequence numbers are those of the message's packets.
     window: Option<u8>,
     /// When a frame of it was last seen, in microseconds.
     heard: u64,
 }
 
-/// For how many packets there is room at least, where one more comes.
+/// For how many packets there is room at least when one more arrives.
 const WINDOW: u32 = 64;
 
 /// How many microseconds a tick has.
 const TICK: u64 = 1_000;
 
-/// How many microseconds a frame of a connection is waited for: more than its ends wait, so that the abort of one that waited in vain comes
-/// before.
+/// How many microseconds a frame of a connection is waited for: more than its ends wait, so that the abort of one that waited in vain is
+/// seen before.
 pub const CONNECTION_PATIENCE: u64 = 1_500_000;
 
-/// The window of a message of which nothing has come.
+/// The window of a message that has no packet yet.
 fn first_window(transport: Transport) -> Option<u8>
     ensures { result ≡ first_window transport }
 {
@@ -65,7 +65,7 @@ fn first_window(transport: Transport) -> Option<u8>
 }
 
 impl Session {
-    /// One of which nothing has come. It takes no memory.
+    /// A message that has no packet yet. It takes no memory.
     pub(crate) fn new(
         alloc: Global,
         transport: Transport,
@@ -84,14 +84,14 @@ impl Session {
         }
     }
 
-    /// Whether an announcement of this PGN and size is the one that it began with, seen once more.
+    /// Whether an announcement of this PGN and size repeats the one that it began with.
     pub(crate) fn is_again(&self, pgn: WirePgn, size: u32) -> bool
         ensures { result ≡ is_again self.now pgn size }
     {
         self.pgn == pgn && self.join.size() == size && self.join.next() == 1
     }
 
-    /// Its next packet comes.
+    /// Takes its next packet.
     fn accept(&mut self, bytes: [u8; 7], now: u64) -> Result<(), AllocError>
         requires { wants self.old.join self.old.join.next ≡ true }
         ensures { OnOk result (self.new ≡ accepted self.old bytes now) }
@@ -107,7 +107,7 @@ impl Session {
         Ok(())
     }
 
-    /// A packet of this number comes.
+    /// Takes a packet of this number.
     #[tactic(auto, unfolding(crate::specs::Session::packet_heard))]
     fn hear_number(
         &mut self,
@@ -143,7 +143,7 @@ impl Session {
         }
     }
 
-    /// A packet of it comes, or one that looks so.
+    /// Takes a packet of it, or one that looks so.
     pub(crate) fn hear_packet(
         &mut self,
         to: Address,
@@ -208,7 +208,7 @@ impl Session {
         }
     }
 
-    /// A connection management frame of one of its ends comes that is neither an announcement nor an abort. One of another PGN changes
+    /// Takes a connection management frame of one of its ends that is neither an announcement nor an abort. One of another PGN changes
     /// nothing.
     pub(crate) fn hear(&mut self, frame: &CmFrame, now: u64) -> Fate
         ensures { (self.new, result) ≡ heard self.old frame.now now }
@@ -219,14 +219,14 @@ impl Session {
         self.hear_cm(frame, now)
     }
 
-    /// Whether it is of this PGN.
+    /// Whether it has this PGN.
     pub(crate) fn is_of(&self, pgn: WirePgn) -> bool
         ensures { result ≡ (clean pgn == clean self.now.pgn) }
     {
         pgn.clean() == self.pgn.clean()
     }
 
-    /// One of its ends aborts a message of a PGN.
+    /// An end aborts a message of a PGN: this message, if that is its PGN.
     pub(crate) fn hear_abort(&self, who: Address, reason: u8, pgn: WirePgn) -> Fate
         ensures { result ≡ abort_heard self.now who reason pgn }
     {
@@ -237,7 +237,7 @@ impl Session {
         }
     }
 
-    /// A frame of it comes that says nothing new.
+    /// Takes a frame of it that says nothing new.
     pub(crate) fn renew(&mut self, now: u64)
         ensures { self.new ≡ renewed self.old now }
     {
@@ -258,7 +258,7 @@ impl Session {
         self.heard.saturating_add(patience(to))
     }
 
-    /// What tells that it is lost.
+    /// The report that it is lost.
     pub(crate) fn lost(&self, key: Key, cause: Cause) -> Told
         ensures { Some result ≡ told_of key self.now (Lost cause) }
     {
@@ -271,7 +271,7 @@ impl Session {
         }
     }
 
-    /// What its fate tells; nothing where it goes on.
+    /// The report on its fate; none if it continues.
     pub(crate) fn into_told(self, key: Key, fate: Fate) -> Option<Told>
         ensures { result ≡ told_of key self fate }
     {
@@ -298,7 +298,7 @@ impl Session {
     }
 }
 
-/// A time so long after this one as no message of which a frame is seen at this one is silent.
+/// The earliest time at which a message can be silent whose last frame is seen at this one.
 pub(crate) fn soonest(now: u64) -> u64
     ensures { result ≤ now + T1 * 1000 }
 {
@@ -316,7 +316,7 @@ fn patience(to: Address) -> u64
     }
 }
 
-/// How many bytes have come.
+/// How many bytes were received.
 fn bytes_seen(join: &Join) -> u32
     ensures { result ≡ length join.now.bytes }
 {
@@ -324,7 +324,7 @@ fn bytes_seen(join: &Join) -> u32
     (7 * packets).min(u64::from(join.size())) as u32
 }
 
-/// A message of which all has come.
+/// The report on a message of which all was received.
 fn given(key: Key, pgn: Pgn, join: Join) -> Option<Told>
     ensures { result ≡ given_of key pgn join }
 {

@@ -18,7 +18,7 @@ use tp_wire::CmFrame;
 /// The messages under way, in the order in which they were announced.
 pub(crate) type Sessions = IndexMap<Key, Session>;
 
-/// Puts what is told, where something is, behind what was told before.
+/// Puts a report, if there is one, behind those before it.
 pub(crate) fn tell(told: &mut Vec<Told>, one: Option<Told>) -> Result<(), AllocError>
     ensures { OnOk result (told.new.items ≡ told.old.items ++ option_to_list one) }
 {
@@ -28,7 +28,7 @@ pub(crate) fn tell(told: &mut Vec<Told>, one: Option<Told>) -> Result<(), AllocE
     Ok(())
 }
 
-/// A message under way meets its fate, if it isn't to go on.
+/// A message under way meets its fate, unless it continues.
 fn settle(
     sessions: &mut Sessions,
     key: Key,
@@ -46,7 +46,7 @@ fn settle(
     tell(told, session.into_told(key, fate))
 }
 
-/// A packet comes.
+/// Takes a packet.
 pub(crate) fn take_packet(
     sessions: &mut Sessions,
     key: Key,
@@ -66,7 +66,8 @@ pub(crate) fn take_packet(
     Ok(None)
 }
 
-/// A connection management frame comes that is neither an announcement nor an abort, of this kind where its message isn't under way.
+/// Takes a connection management frame that is neither an announcement nor an abort. It is of this kind if its message
+/// isn't under way.
 pub(crate) fn take_cm(
     sessions: &mut Sessions,
     key: Key,
@@ -88,7 +89,7 @@ pub(crate) fn take_cm(
     Ok(stray_unless(is_of, kind))
 }
 
-/// An abort of a message of a PGN comes.
+/// Takes an abort of a message of a PGN.
 pub(crate) fn take_abort(
     sessions: &mut Sessions,
     key: Key,
@@ -116,7 +117,7 @@ pub(crate) fn is_of(sessions: &Sessions, key: Key, pgn: WirePgn) -> bool
     }
 }
 
-/// Whether the announcement is that of the message under way, of which nothing has come yet.
+/// Whether the announcement is that of the message under way, which has no packet yet.
 fn is_again(sessions: &Sessions, key: Key, pgn: WirePgn, size: u32) -> bool
     ensures { result ≡ is_again_at key pgn size sessions.now.entries }
 {
@@ -126,7 +127,7 @@ fn is_again(sessions: &Sessions, key: Key, pgn: WirePgn, size: u32) -> bool
     }
 }
 
-/// A frame comes that says nothing new.
+/// Takes a frame that says nothing new.
 fn renew(sessions: &mut Sessions, key: Key, now: u64)
     ensures { sessions.new.entries ≡ renewed_at key now sessions.old.entries }
 {
@@ -143,7 +144,7 @@ pub(crate) struct News {
     pub(crate) is_sound: bool,
 }
 
-/// What tells that a message didn't begin.
+/// The report that a message didn't begin.
 fn not_begun(key: Key, news: News, cause: Cause) -> Told
     ensures { result ≡ not_begun key news cause }
 {
@@ -156,7 +157,7 @@ fn not_begun(key: Key, news: News, cause: Cause) -> Told
     }
 }
 
-/// A message begins, unless no transport carries it or it is longer than `most` bytes, which is told.
+/// A message begins; if no transport carries it or it is longer than `most` bytes, that is reported.
 fn begin(
     alloc: Global,
     sessions: &mut Sessions,
@@ -201,7 +202,7 @@ pub(crate) fn announce(
     begin(alloc, sessions, key, news, most, now, told)
 }
 
-/// Of each message that is under way it is told that it is lost, for this cause.
+/// Each message that is under way is reported as lost, for this cause.
 pub(crate) fn tell_all(
     sessions: &Sessions,
     cause: Cause,

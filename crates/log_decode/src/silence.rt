@@ -1,4 +1,4 @@
-//! The messages under way of which no frame comes any more.
+//! The messages under way whose frames have stopped.
 ghost use Rattle.std.specs.Prelude.{◌≡◌, ◌++◌, OnOk, IfOk, not, filter, None, if◌then◌else◌};
 ghost use Rattle.log_decode.specs.Session.{is_silent, told_of};
 ghost use Rattle.log_decode.specs.Sessions.{silent_entry, losses, silenced};
@@ -12,7 +12,7 @@ use crate::sessions::{Sessions, tell};
 use crate::told::{Cause, Told};
 use std::alloc::AllocError;
 
-/// What tells that a message is lost, where it is silent.
+/// The report that a message is lost, if it is silent.
 fn silence_of(key: Key, session: &Session, now: u64) -> Option<Told>
     ensures { result ≡ (if is_silent key.to session.now now then told_of key session.now (Lost TimedOut) else None) }
 {
@@ -23,7 +23,7 @@ fn silence_of(key: Key, session: &Session, now: u64) -> Option<Told>
     }
 }
 
-/// Of each message that is silent it is told that it is lost.
+/// Each message that is silent is reported as lost.
 fn tell_silent(sessions: &Sessions, now: u64, told: &mut Vec<Told>) -> Result<(), AllocError>
     ensures { OnOk result (told.new.items ≡ told.old.items ++ losses (Lost TimedOut) (filter (silent_entry now) sessions.now.entries)) }
 {
@@ -36,7 +36,7 @@ fn tell_silent(sessions: &Sessions, now: u64, told: &mut Vec<Told>) -> Result<()
     Ok(())
 }
 
-/// Those that are silent are under way no longer.
+/// Drops the messages that are silent.
 fn drop_silent(sessions: &mut Sessions, now: u64)
     ensures { sessions.new.entries ≡ filter (λ e. not (silent_entry now e)) sessions.old.entries }
 {
@@ -61,8 +61,8 @@ fn next_due(sessions: &Sessions) -> u64
     due
 }
 
-/// Each message that is silent is lost. None becomes silent before `due`, so that a frame that comes earlier looks at no message; of what
-/// is left none does before the time that is answered.
+/// Each message that is silent is lost. None becomes silent before `due`, so that an earlier frame looks at no message. None of those
+/// left becomes silent before the time that is returned.
 pub(crate) fn end_due(
     sessions: &mut Sessions,
     due: u64,

@@ -1,14 +1,14 @@
-//! Frames of a transport that are of no message under way.
+//! Frames of a transport that belong to no message under way.
 ghost use Rattle.std.specs.Prelude.{◌≡◌, None, Some, if◌then◌else◌};
 
-/// A frame that carries a part of a message, or steers one, where no such message is under way.
+/// A frame that carries a part of a message, or steers one, if no such message is under way.
 #[derive(Clone, Copy, Debug, PartialEq, Eq)]
 pub enum Stray {
     /// A packet.
     Packet,
     /// A CTS or a data packet offset.
     Window,
-    /// An end acknowledgement: that of a message which was given comes after it.
+    /// An end acknowledgement: that of a message which was given follows the report.
     Acknowledgement,
 }
 

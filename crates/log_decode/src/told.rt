@@ -1,4 +1,4 @@
-//! What a listener is told.
+//! The reports of a listener.
 use crate::key::Key;
 use message_events::Bytes;
 use pgn_ids::{Address, Pgn};
@@ -6,11 +6,11 @@ use pgn_ids::{Address, Pgn};
 /// Why a message is lost to the listener.
 #[derive(Clone, Copy, Debug, PartialEq, Eq)]
 pub enum Cause {
-    /// A packet of a broadcast is missing: a later one came.
+    /// A packet of a broadcast is missing: a later one was seen.
     Missing,
     /// Its sender announced another one in its place.
     Replaced,
-    /// No frame of it came for as long as both of its ends wait at most.
+    /// No frame of it was seen for as long as both of its ends wait at most.
     TimedOut,
     /// The clock of its interface was set back by more than a second.
     WentBack,
@@ -24,23 +24,23 @@ pub enum Cause {
     EndOfLog,
 }
 
-/// What a listener is told of a message, whose key says where it was seen and between which nodes.
+/// The report on a message, whose key says where it was seen and between which nodes.
 #[derive(Debug, Drop)]
 pub enum Told {
-    /// All of it came.
+    /// All of it was received.
     Given {
         key: Key,
         pgn: Pgn,
         bytes: Bytes,
     },
-    /// One of its ends, `who`, aborted it, for a reason which is told as its byte.
+    /// One of its ends, `who`, aborted it, for the reason with this byte.
     Aborted {
         key: Key,
         pgn: Pgn,
         reason: u8,
         who: Address,
     },
-    /// It is lost: of its `size` bytes the first `have` came.
+    /// It is lost: the first `have` of its `size` bytes were received.
     Lost {
         key: Key,
         pgn: Pgn,

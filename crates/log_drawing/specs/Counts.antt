@@ -1,4 +1,4 @@
--- What is counted of a log.
+-- The counts of a log.
 use Rattle.std.specs.Prelude.{ℕ, ◌+◌, ◌-◌, ◌^◌, min, List, ◌++◌, codes, ◌==◌, if◌then◌else◌}
 use Rattle.std.specs.Fmt.{decimal}
 use Rattle.log_drawing.specs.declared.counts.Counts.{Counts}
@@ -17,7 +17,7 @@ lines_text c = codes "lines " ++ decimal c.lines ++ codes " passed " ++ decimal 
 abbrev pub frames_text : Counts → List ℕ
 frames_text c = codes " frames " ++ decimal c.frames ++ codes " drawn " ++ decimal c.drawn
 
--- and whether nothing was drawn
+-- the last words: whether nothing was drawn
 abbrev pub rest_text : Counts → List ℕ
 rest_text c = if c.drawn == 0 then codes " elsewhere " ++ decimal c.elsewhere ++ codes ": no frame is drawn" else codes " elsewhere " ++ decimal c.elsewhere
 

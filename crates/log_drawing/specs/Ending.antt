@@ -11,7 +11,7 @@ use Rattle.log_drawing.specs.Outcome.{Outcome, closed}
 use Rattle.log_drawing.specs.declared.picture.Picture.{Picture}
 use Rattle.log_drawing.specs.declared.running.Drawn.{Drawn}
 
--- at its end, or at a fault of a line
+-- whether a log ended at its end, or at a fault of a line
 abbrev pub is_of_cause : Cause → Bool
 is_of_cause (causes.Fault fault) = true
 is_of_cause causes.ReadFailed = false
@@ -22,7 +22,7 @@ abbrev pub is_of_log : Option ScriptFault → Bool
 is_of_log None = true
 is_of_log (Some f) = is_of_cause f.cause
 
--- the fault of a line that was told, with the line
+-- the line and the fault of a cause, if it is a fault
 abbrev pub fault_by : ℕ → Cause → Option (ℕ × Fault)
 fault_by line (causes.Fault fault) = Some (line, fault)
 fault_by line causes.ReadFailed = None
@@ -36,7 +36,7 @@ fault_of (Some f) = fault_by f.line f.cause
 abbrev pub at_line : ℕ → Option Fault → Option (ℕ × Fault)
 at_line n fault = elim fault [ None ↦ None | Some f ↦ Some (n, f) ]
 
--- all of a text was written, or a front of it, where a read or a write failed or memory was refused
+-- the whole text was written; or a front of it, if a read or a write failed or memory was refused
 abbrev pub WrittenBy : Bool → Option (List ℕ) → Option (List ℕ) → List ℕ → Type 0
 WrittenBy true a b text = Appends a b text
 WrittenBy false a b text = IsFront a b text
@@ -44,7 +44,7 @@ WrittenBy false a b text = IsFront a b text
 abbrev pub WrittenAs : Drawn → Option (List ℕ) → Option (List ℕ) → List ℕ → Type 0
 WrittenAs d a b text = WrittenBy (is_of_log d.fault) a b text
 
--- what is reported is what came of the log, but for such a failure
+-- the report is the outcome of the log, unless there was such a failure
 abbrev pub SaysBy : Bool → Drawn → Outcome → Type 0
 SaysBy true d o = (d.counts ≡ o.counts) × (fault_of d.fault ≡ o.fault)
 SaysBy false d o = ⊤
@@ -59,7 +59,7 @@ Stopped causes.ReadFailed d a b s n = (is_of_log d.fault ≡ false) × (a ≡ b)
 Stopped causes.OutOfMemory d a b s n = (is_of_log d.fault ≡ false) × (a ≡ b)
 Stopped causes.WriteFailed d a b s n = (is_of_log d.fault ≡ false) × (a ≡ b)
 
--- the text went from a to b, what was told from e to f
+-- the output went from a to b, the error output from e to f
 pub record Ended (d : Drawn) (a b e f : Option (List ℕ)) (o : Outcome) : Type 0 where
   pub text : WrittenAs d a b o.text
   pub errors : WrittenAs d e f o.errors

@@ -7,17 +7,17 @@ use Rattle.tp_wire.specs.Reading.{is_transport}
 use Rattle.log_drawing.specs.declared.options.Options.{Options}
 use Rattle.log_drawing.specs.declared.options.Pair.{Pair}
 
--- from one of the two to the other, or to all
+-- whether a frame goes from one of the pair to the other, or to all
 abbrev pub is_between : Pair → (from to : Address) → Bool
 is_between pair from to =
     if from.0 == pair.first.0 then to.0 == pair.second.0 || to.0 == 255
     else from.0 == pair.second.0 && (to.0 == pair.first.0 || to.0 == 255)
 
--- where no pair is named, each frame
+-- whether a frame belongs to the pair that is named; each does if none is named
 abbrev pub is_of_pair : Options → CanFrame → Bool
 is_of_pair options frame = elim options.pair [ None ↦ true | Some pair ↦ is_between pair (meaning_of frame.id).from (meaning_of frame.id).to ]
 
--- at no time before the one that is named, and at none behind the other; a frame without a time, where neither is named
+-- whether a time is neither before the first one named nor behind the second; a frame without a time passes if neither is named
 abbrev pub is_within : Options → Option ℕ → Bool
 is_within options None = is_none options.from && is_none options.to
 is_within options (Some time) = nat_le (unwrap_or options.from 0) time && nat_le time (unwrap_or options.to (2 ^ 64 - 1))

@@ -14,7 +14,7 @@ use Rattle.log_drawing.specs.declared.picture.Picture.{Picture}
 abbrev pub log_limits : Limits
 log_limits = record { lines = 2 ^ 64 - 2; bytes = 8192 }
 
--- the drawing, what is told on standard error, what was counted, and the fault with its line, where there is one
+-- the drawing, the lines on standard error, what was counted, and the fault with its line, if there is one
 pub record Outcome : Type 0 where
   pub text : List ℕ
   pub errors : List ℕ
@@ -25,7 +25,7 @@ pub record Outcome : Type 0 where
 abbrev pub closed : Picture → Option (ℕ × Fault) → Outcome
 closed s fault = record { text = closing s.packets; errors = []; counts = s.counts; fault = fault }
 
--- what a line tells, and then the rest
+-- the output of a line, and then the rest
 abbrev pub told : Step → Outcome → Outcome
 told step rest = record { text = step.text ++ rest.text; errors = step.errors ++ rest.errors; counts = rest.counts; fault = rest.fault }
 

@@ -9,7 +9,7 @@ use Rattle.frame_arrows.specs.declared.run.Run.{Run}
 use Rattle.log_text.specs.Written.{time_text}
 use Rattle.log_drawing.specs.declared.packets.Packets.{Packets}
 
--- a time in front of words, where the log says one
+-- a time in front of words, if the log has one
 abbrev pub stamp : Option ℕ → List ℕ
 stamp None = []
 stamp (Some time) = time_text time ++ codes " "
@@ -24,7 +24,7 @@ run_words o = stamp o.since ++ packet_words o.run.first o.run.last ++ until_word
 unfoldable pub open_line : Packets → List ℕ
 open_line o = arrow_line o.run.from o.run.to (run_words o)
 
--- of the packets that are open, where there are any
+-- the line of the open packets, if there are any
 abbrev pub closing : Option Packets → List ℕ
 closing None = []
 closing (Some o) = open_line o
@@ -42,7 +42,7 @@ abbrev pub with_packet : Option Packets → Option ℕ → Run → Option Packet
 with_packet None time packet = None
 with_packet (Some o) time packet = if goes_on (Some o.run) packet then Some record { run = longer (Some o.run) packet; since = o.since; until = time } else None
 
--- by the packet that a frame is: those that are open behind it
+-- the packets that are open behind a frame, from the packet that the frame is
 abbrev pub open_by : Option Packets → Option ℕ → Option Run → Option Packets
 open_by packets time None = None
 open_by packets time (Some packet) = Some (unwrap_or (with_packet packets time packet) (alone time packet))
@@ -50,7 +50,7 @@ open_by packets time (Some packet) = Some (unwrap_or (with_packet packets time p
 unfoldable pub open_after : Option Packets → Option ℕ → CanFrame → Option Packets
 open_after packets time frame = open_by packets time (run_of frame)
 
--- and what is drawn at it: those that it ends, and its own arrow where it is no packet
+-- the text drawn at a frame: the open packets that it ends, and its own arrow if it is no packet
 abbrev pub drawn_by : Option Packets → Option ℕ → CanFrame → Option Run → List ℕ
 drawn_by packets time frame None = closing packets ++ frame_line time frame
 drawn_by packets time frame (Some packet) = elim (with_packet packets time packet) [ None ↦ closing packets | Some o ↦ [] ]

@@ -30,7 +30,7 @@ abbrev pub participants : Option Pair → List ℕ
 participants None = []
 participants (Some pair) = flat_map participant_line (pair.first ∷ pair.second ∷ [])
 
--- in front of the first frame that is drawn: the kind of the drawing, and the pair
+-- the text in front of the first frame that is drawn: the kind of the drawing, and the pair
 abbrev pub beginning : Options → (drawn : ℕ) → List ℕ
 beginning options drawn = if drawn == 0 then heading ++ participants options.pair else []
 
@@ -38,19 +38,19 @@ beginning options drawn = if drawn == 0 then heading ++ participants options.pai
 abbrev pub first_picture : Options → Picture
 first_picture options = record { form = None; iface = options.iface; packets = None; counts = no_counts }
 
--- interfaces are the same if their names are
+-- interfaces are equal if their names are
 abbrev pub same_iface : Iface → Iface → Bool
 same_iface a b = bytes_eq (name_of a) (name_of b)
 
--- it isn't the one whose frames are drawn, which is known
+-- whether an interface is another than the one whose frames are drawn, which is known
 abbrev pub is_elsewhere : Picture → Iface → Bool
 is_elsewhere s iface = elim s.iface [ None ↦ false | Some known ↦ not (same_iface iface known) ]
 
--- a wrong line ends the drawing where that is asked for
+-- a wrong line ends the drawing if the options say so
 abbrev pub is_ended : Options → Picture → Bool
 is_ended options s = options.strict && not (s.counts.wrong == 0)
 
--- a frame that is asked for is drawn, unless it is of another interface
+-- a frame that is asked for is drawn, unless another interface shows it
 abbrev pub with_frame : Options → Picture → Option ℕ → Iface → CanFrame → Picture × List ℕ
 with_frame options s time iface frame =
     if is_elsewhere s iface then (record s { counts = record s.counts { elsewhere = more s.counts.elsewhere } }, [])
@@ -71,7 +71,7 @@ abbrev pub form_with : Option Form → List ℕ → Option Form
 form_with None line = form_of line
 form_with (Some form) line = Some form
 
--- what a line leaves, what it draws, and what is told of it on standard error
+-- the state after a line, what it draws, and its line on standard error
 pub record Step : Type 0 where
   pub left : Picture
   pub text : List ℕ

@@ -5,7 +5,7 @@ ghost use Rattle.log_drawing.specs.Counts.{no_counts, more, lines_text, frames_t
 
 use std::fmt;
 
-/// What was counted of a log. Each number stays at 2^64 - 1 where it would pass it.
+/// What was counted of a log. A number that would pass 2^64 - 1 stays there.
 #[derive(Clone, Copy, Debug, PartialEq, Eq)]
 pub struct Counts {
     /// Lines that were read.
@@ -18,11 +18,11 @@ pub struct Counts {
     pub frames: u64,
     /// Frames of them that were drawn.
     pub drawn: u64,
-    /// Frames of them that were asked for, but are of another interface than those that were drawn.
+    /// Frames of them that were asked for, but were seen on another interface than the one drawn.
     pub elsewhere: u64,
 }
 
-/// One more.
+/// One more, up to the last value.
 pub(crate) fn more(n: u64) -> u64
     ensures { result ≡ more n }
 {
@@ -61,7 +61,7 @@ fn put_frames<W: fmt::Write>(counts: &Counts, f: &mut fmt::Formatter<W>) -> fmt:
     write!(f, " frames {frames} drawn {drawn}")
 }
 
-/// What wasn't, though it was asked for, and what is said where nothing was drawn.
+/// The counts of frames that were asked for and not drawn, and a hint if nothing was drawn.
 fn put_rest<W: fmt::Write>(counts: &Counts, f: &mut fmt::Formatter<W>) -> fmt::Result
     ensures { DisplaysOnOk W.write_str_gives f.old result (Some (rest_text counts.now)) f.new }
 {

@@ -29,7 +29,7 @@ pub struct Options {
     pub iface: Option<Iface>,
     /// Whether frames are drawn too that are neither of a transport nor Requests nor Acknowledgements.
     pub others: bool,
-    /// Whether a wrong line ends the drawing; else it is told, and the log goes on.
+    /// Whether a wrong line ends the drawing; else it is reported, and the next line is read.
     pub strict: bool,
 }
 

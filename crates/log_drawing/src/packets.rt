@@ -14,7 +14,7 @@ use text_digits::put_text;
 pub(crate) struct Packets {
     /// The packets.
     pub(crate) run: Run,
-    /// The time of the first one, where the log says it.
+    /// The time of the first one, if the log has it.
     pub(crate) since: Option<u64>,
     /// The time of the last one.
     pub(crate) until: Option<u64>,
@@ -96,7 +96,7 @@ fn alone(time: Option<u64>, packet: Run) -> Packets
     }
 }
 
-/// The open packets with one more that follows on them. None where it doesn't, or where none are open.
+/// The open packets with one more that follows them. None if it doesn't, or if none are open.
 fn with_packet(packets: Option<Packets>, time: Option<u64>, packet: Run) -> Option<Packets>
     ensures { result ≡ with_packet packets time packet }
 {
@@ -111,7 +111,7 @@ fn with_packet(packets: Option<Packets>, time: Option<u64>, packet: Run) -> Opti
     })
 }
 
-/// What is drawn at a frame, and the packets that are open behind it.
+/// The text drawn at a frame, and the packets that are open behind it.
 #[tactic(auto, unfolding(crate::specs::Packets::drawn_at, crate::specs::Packets::open_after))]
 pub(crate) fn draw_at(
     out: &mut Vec<u8>,

@@ -16,7 +16,7 @@ use text_digits::{put_decimal, put_text};
 pub(crate) struct Picture {
     /// The form of the log's lines: that of its first line that has one.
     pub(crate) form: Option<Form>,
-    /// The interface whose frames are drawn, where it is known.
+    /// The interface whose frames are drawn, if it is known.
     pub(crate) iface: Option<Iface>,
     /// The packets that aren't drawn yet.
     pub(crate) packets: Option<Packets>,
@@ -34,7 +34,7 @@ fn put_between(out: &mut Vec<u8>, before: &str, number: u64, behind: &str) -> Re
     put_text(out, behind)
 }
 
-/// Tells of a wrong line, by its number.
+/// Reports a wrong line, by its number.
 fn put_wrong(told: &mut Vec<u8>, number: u64) -> Result<(), AllocError>
     ensures { OnOk result (told.new.items ≡ told.old.items ++ wrong_line number) }
 {
@@ -72,7 +72,7 @@ fn form_with(form: Option<Form>, line: &[u8]) -> Option<Form>
 }
 
 impl Picture {
-    /// One that is empty.
+    /// A picture without a frame.
     pub(crate) fn new(options: &Options) -> Picture
         ensures { result ≡ first_picture options.now }
     {
@@ -101,7 +101,7 @@ impl Picture {
         options.strict && self.counts.wrong != 0
     }
 
-    /// A frame that is asked for is drawn, unless it is of another interface.
+    /// Draws a frame that is asked for, unless it was seen on another interface.
     fn draw_frame(
         &mut self,
         options: &Options,
@@ -151,7 +151,8 @@ impl Picture {
         }
     }
 
-    /// A line is read, by its number. What it draws is put behind what `out` holds, and that it is wrong behind what `told` holds.
+    /// Reads a line with its number. Its drawing is put behind what `out` holds, and the report that it is wrong behind
+    /// what `told` holds.
     #[tactic(auto, unfolding(crate::specs::Picture::line_seen))]
     pub(crate) fn take_line(
         &mut self,

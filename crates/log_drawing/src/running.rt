@@ -16,18 +16,18 @@ use std::alloc::Global;
 use std::io::{BufRead, Write};
 use text_lines::tell;
 
-/// What came of a log.
+/// The result of drawing a log.
 #[derive(Clone, Copy, Debug, PartialEq, Eq)]
 pub struct Drawn {
     /// What was counted.
     pub counts: Counts,
-    /// Why it wasn't read to its end, if it wasn't. A wrong line that ends the drawing is none: it is counted.
+    /// Why it wasn't read to its end, if it wasn't. A wrong line that ends the drawing is no fault: it is counted.
     pub fault: Option<ScriptFault>,
 }
 
 impl Drawn {
-    /// The status of a program that made this drawing: 0 where the log was read to its end, no line of it was wrong and a frame was drawn,
-    /// else 1.
+    /// The status of a program that made this drawing: 0 if the log was read to its end, no line of it was wrong and a frame was drawn, else
+    /// 1.
     pub fn status(&self) -> u8
         ensures { result ≡ status_of self.now }
     {
@@ -92,7 +92,7 @@ fn end_run<W: Write>(
     failed(line, Cause::Fault(fault), counts)
 }
 
-/// No line was read, for this cause. Where it is no fault of the line, nothing more is drawn: packets that follow may be there.
+/// No line was read, for this cause. If it is no fault of the line, nothing more is drawn: packets that follow may be there.
 fn stop<W: Write>(
     picture: &Picture,
     line: u64,
@@ -110,7 +110,7 @@ fn stop<W: Write>(
     }
 }
 
-/// What a line tells is written and flushed, that it is wrong first. Where that fails, a front of each was written.
+/// Writes and flushes the output of a line, the report that it is wrong first. If that fails, a front of each was written.
 #[tactic(auto, using(crate::proofs::RunSteps::front_all, text_lines::proofs::Known::front_none))]
 fn tell_both<W: Write, E: Write>(
     writer: &mut W,
@@ -130,13 +130,14 @@ fn tell_both<W: Write, E: Write>(
 }
 
 /// Reads a log to its end, and draws it, as the text of a sequence diagram in Mermaid: in front of the first frame its kind and the pair
-/// that is asked for, then an arrow for each frame that is asked for, with its time. Packets that follow on one another have one arrow, with
-/// the times of the first and of the last; it is drawn once the next frame, or the end of the log, shows that no other one follows. What a
-/// line draws is written and flushed before the next one is read. A wrong line is told in `errors` by its number, and ends the drawing where
-/// the options say so. It holds one line, and what it draws.
+/// that is asked for, then an arrow for each frame that is asked for, with its time. Packets that follow one another have one arrow, with
+/// the times of the first and of the last. It is drawn once the next frame, or the end of the log, shows that no other one follows.
 ///
-/// Unless it reports a failed read or write or refused memory, exactly the drawing of the log and what is told of its lines were
-/// written, and counts and fault are those of the log. Where it reports one of these, fronts of both were written.
+/// The drawing of a line is written and flushed before the next one is read. A wrong line is reported in `errors` by its number, and ends
+/// the drawing if the options say so. The call holds one line and its drawing in memory.
+///
+/// Unless it reports a failed read or write or refused memory, exactly the drawing of the log and the reports of its wrong lines were
+/// written, and counts and fault are those of the log. If it reports one of these, fronts of both were written.
 pub fn draw_log<R: BufRead, W: Write, E: Write>(
     alloc: Global,
     options: &Options,

@@ -18,7 +18,7 @@ step_text (Again first last) = range_text (codes " again ") first last
 step_text Hold = codes " hold\n"
 step_text End = codes " end\n"
 
--- its time, and its number in the log
+-- the line of a frame: its time, and its number in the log
 abbrev pub mark_line : Mark → List ℕ
 mark_line m = codes "  " ++ time_text m.place.time ++ codes " " ++ decimal m.place.number ++ step_text m.step
 

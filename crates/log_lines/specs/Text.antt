@@ -1,4 +1,4 @@
--- What is printed of a log, as lines.
+-- The printed text of a log, as lines.
 use Rattle.std.specs.Prelude.{ℕ, List, ◌++◌, length, codes}
 use Rattle.std.specs.Fmt.{decimal}
 use Rattle.bus_frame.specs.Frames.{CanFrame}
@@ -27,7 +27,7 @@ pgn_text pgn = digits 16 5 pgn
 abbrev pub ends_text : (from to : Address) → List ℕ
 ends_text from to = address_text from ++ codes " " ++ address_text to ++ codes " "
 
--- between which addresses, and of which PGN
+-- the words for the addresses between which a message goes, and for its PGN
 abbrev pub way_text : (from to : Address) → ℕ → List ℕ
 way_text from to pgn = ends_text from to ++ pgn_text pgn ++ codes " "
 
@@ -49,27 +49,27 @@ cause_text EndOfLog = codes "end of log\n"
 abbrev pub abort_text : ℕ → Address → List ℕ
 abort_text reason who = decimal reason ++ codes " " ++ address_text who ++ codes "\n"
 
--- how many bytes came, of how many, and why the others didn't
+-- how many bytes were received, of how many, and why the others weren't
 abbrev pub loss_text : (have size : ℕ) → Cause → List ℕ
 loss_text have size cause = decimal have ++ codes " " ++ decimal size ++ codes " " ++ cause_text cause
 
--- where and when a message was told, what came of it, between which addresses it went, and of which PGN
+-- where and when a message was reported, how it ended, between which addresses it went, and its PGN
 abbrev pub head_text : ℕ → Key → (what : List ℕ) → (pgn : ℕ) → List ℕ
 head_text now key what pgn = place_text now key.iface what ++ way_text key.from key.to pgn
 
--- all of it came
+-- all of it was received
 abbrev pub given_line : ℕ → Key → (pgn : ℕ) → List ℕ → List ℕ
 given_line now key pgn bytes = head_text now key (codes " given ") pgn ++ message_text bytes
 
--- one of its ends aborted it, for a reason
+-- one of the message's ends aborted it, for a reason
 abbrev pub aborted_line : ℕ → Key → (pgn reason : ℕ) → Address → List ℕ
 aborted_line now key pgn reason who = head_text now key (codes " aborted ") pgn ++ abort_text reason who
 
--- it is lost: so many of its bytes came
+-- it is lost: so many of its bytes were received
 abbrev pub lost_line : ℕ → Key → (pgn have size : ℕ) → Cause → List ℕ
 lost_line now key pgn have size cause = head_text now key (codes " lost ") pgn ++ loss_text have size cause
 
--- what was told at a time
+-- the line of a report at a time
 abbrev pub told_line : ℕ → Told → List ℕ
 told_line now (Given key pgn bytes) = given_line now key pgn bytes
 told_line now (Aborted key pgn reason who) = aborted_line now key pgn reason who

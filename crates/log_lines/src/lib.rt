@@ -1,6 +1,8 @@
-//! What is printed of a log as lines of text: a message that was told, what it means in words, a frame of it, a frame that carries nothing of a message, and a wrong line.
+//! A log printed as lines of text: a report on a message, its meaning in words, a frame of it, a frame that carries
+//! nothing of a message, and a wrong line.
 //!
-//! Each call puts its text behind what `out` holds. It fails only where memory is refused, and may have put a part of the text then.
+//! Each call puts its text behind what `out` holds. It fails only if memory is refused, and may have put a part of the
+//! text then.
 #![tactic(auto)]
 
 mod explained;

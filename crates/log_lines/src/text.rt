@@ -1,4 +1,4 @@
-//! What is printed of a log.
+//! The printed text of a log.
 ghost use Rattle.std.specs.Prelude.{◌≡◌, ◌++◌, OnOk};
 ghost use Rattle.log_lines.specs.Text.{place_text, address_text, pgn_text, ends_text, way_text, head_text, message_text, cause_text, abort_text, loss_text, given_line, aborted_line, lost_line, told_line, between_texts, wrong_line, single_line};
 
@@ -9,7 +9,7 @@ use pgn_ids::{Address, Pgn, read_id};
 use std::alloc::AllocError;
 use text_digits::{put_bytes, put_decimal, put_digits, put_text};
 
-/// Where and when something was seen: the time, the interface, and what it is.
+/// When something was seen, on which interface, and what it is.
 fn put_place(out: &mut Vec<u8>, now: u64, iface: &Iface, what: &str) -> Result<(), AllocError>
     ensures { OnOk result (out.new.items ≡ out.old.items ++ place_text now iface.now what.now) }
 {
@@ -42,7 +42,7 @@ fn put_ends(out: &mut Vec<u8>, from: Address, to: Address) -> Result<(), AllocEr
     put_text(out, " ")
 }
 
-/// Between which addresses, and of which PGN.
+/// Puts the addresses between which a message goes, and its PGN.
 fn put_way(out: &mut Vec<u8>, from: Address, to: Address, pgn: Pgn) -> Result<(), AllocError>
     ensures { OnOk result (out.new.items ≡ out.old.items ++ way_text from to pgn) }
 {
@@ -94,7 +94,7 @@ fn put_loss(out: &mut Vec<u8>, have: u32, size: u32, cause: Cause) -> Result<(),
     put_cause(out, cause)
 }
 
-/// Where and when a message was told, what came of it, between which addresses it went, and of which PGN.
+/// Where and when a message was reported, how it ended, between which addresses it went, and its PGN.
 fn put_head(out: &mut Vec<u8>, now: u64, key: &Key, what: &str, pgn: Pgn) -> Result<(), AllocError>
     ensures { OnOk result (out.new.items ≡ out.old.items ++ head_text now key.now what.now pgn) }
 {
@@ -144,7 +144,7 @@ fn put_lost(
     put_loss(out, have, size, cause)
 }
 
-/// The line of what was told at a time, in microseconds.
+/// The line of a report at a time, in microseconds.
 pub fn put_told(out: &mut Vec<u8>, now: u64, told: &Told) -> Result<(), AllocError>
     ensures { OnOk result (out.new.items ≡ out.old.items ++ told_line now told.now) }
 {

@@ -13,7 +13,7 @@ use Rattle.log_courses.specs.declared.marks.Step.TheVariants.{Announcement, Wind
 abbrev pub plain_members : (kind : List ℕ) → Place → List Named
 plain_members kind p = (codes "kind", string kind) ∷ (codes "number", count_of p.number) ∷ (codes "time", count_of p.time) ∷ []
 
--- with the packets from one to another
+-- the members of a frame with the packets from one to another
 abbrev pub ranged_members : (kind : List ℕ) → Place → (first last : ℕ) → List Named
 ranged_members kind p first last =
     (codes "from", count_of first)
@@ -35,7 +35,7 @@ mark_object m = object_of (step_members m.place m.step)
 abbrev pub frames_array : List Mark → Data
 frames_array marks = array_of (map mark_object marks)
 
--- behind this member stand these, where frames are listed
+-- with these members behind that one, if frames are listed
 abbrev pub with_frames : Detail → List Mark → List Named → List Named
 with_frames Ends marks rest = rest
 with_frames Frames marks rest = (codes "frames", frames_array marks) ∷ rest

@@ -1,4 +1,4 @@
--- What is printed of a log as JSON: an object a line, with its members in the order of their names. Times are in microseconds.
+-- The printed text of a log as JSON: an object a line, with its members in the order of their names. Times are in microseconds.
 use Rattle.std.specs.Prelude.{ℕ, List, [], ◌∷◌, length, codes}
 use Rattle.bus_frame.specs.Frames.{CanFrame}
 use Rattle.json_objects.specs.Objects.{Named, object_of, count_of, object_line}
@@ -23,7 +23,7 @@ use Rattle.log_objects.specs.Frames.{with_frames}
 abbrev pub place_object : Place → Data
 place_object p = object_of ((codes "number", count_of p.number) ∷ (codes "time", count_of p.time) ∷ [])
 
--- in the words of the other lines
+-- the words of a cause, as in the lines of text
 abbrev pub cause_words : Cause → List ℕ
 cause_words Missing = codes "packet missing"
 cause_words Replaced = codes "replaced"
@@ -34,7 +34,7 @@ cause_words Unsound = codes "wrong size"
 cause_words TooLong = codes "too long"
 cause_words EndOfLog = codes "end of log"
 
--- where a message of a length was seen, and how it ended
+-- the place of a message of a length, and how it ended
 abbrev pub measured_members : (now : ℕ) → Iface → (kind : List ℕ) → Course → (size pgn : ℕ) → (to : Address) → List Named
 measured_members now iface kind c size pgn to =
     (codes "interface", string (name_of iface))
@@ -45,7 +45,7 @@ measured_members now iface kind c size pgn to =
     ∷ (codes "time", count_of now)
     ∷ (codes "to", count_of to.0) ∷ []
 
--- all of it came
+-- all of it was received
 unfoldable pub given_members : Detail → (now : ℕ) → Course → (explained : List (List ℕ)) → Key → (pgn : ℕ) → List ℕ → List Named
 given_members detail now c explained key pgn bytes =
     (codes "again", count_of c.again)
@@ -54,7 +54,7 @@ given_members detail now c explained key pgn bytes =
     ∷ with_frames detail c.marks ((codes "from", count_of key.from.0)
     ∷ measured_members now key.iface (codes "given") c (length bytes) pgn key.to))
 
--- it is lost: so many of its bytes came
+-- it is lost: so many of its bytes were received
 unfoldable pub lost_members : Detail → (now : ℕ) → Course → Key → (pgn have size : ℕ) → Cause → List Named
 lost_members detail now c key pgn have size cause =
     (codes "again", count_of c.again)
@@ -74,7 +74,7 @@ abort_members now c key pgn reason =
     ∷ (codes "time", count_of now)
     ∷ (codes "to", count_of key.to.0) ∷ []
 
--- one of its ends aborted it, for a reason
+-- one of the message's ends aborted it, for a reason
 unfoldable pub aborted_members : Detail → (now : ℕ) → Course → Key → (pgn reason : ℕ) → Address → List Named
 aborted_members detail now c key pgn reason who =
     (codes "again", count_of c.again)
@@ -98,7 +98,7 @@ frame_members now iface explained from to pgn bytes =
 abbrev pub wrong_members : ℕ → List Named
 wrong_members n = (codes "kind", string (codes "wrong line")) ∷ (codes "line", count_of n) ∷ []
 
--- what was told at a time, with its course, and what it means in words
+-- the object of a report at a time, with its course and its meaning in words
 abbrev pub told_object : Detail → (now : ℕ) → Course → (explained : List (List ℕ)) → Told → List ℕ
 told_object detail now c explained (Given key pgn bytes) = object_line (given_members detail now c explained key pgn bytes)
 told_object detail now c explained (Aborted key pgn reason who) = object_line (aborted_members detail now c key pgn reason who)

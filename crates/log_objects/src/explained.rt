@@ -46,7 +46,7 @@ fn put_member(out: &mut Vec<u8>, lines: &[Line]) -> Result<(), AllocError>
     put_array(out, lines)
 }
 
-/// The member, where there are lines.
+/// The member, if there are lines.
 pub(crate) fn put_explained(out: &mut Vec<u8>, lines: &[Line]) -> Result<(), AllocError>
     ensures { OnOk result (out.new.items ≡ out.old.items ++ explained_text lines.now) }
 {

@@ -21,7 +21,7 @@ fn put_plain(out: &mut Vec<u8>, kind: &str, place: Place) -> Result<(), AllocErr
     put_text(out, "}")
 }
 
-/// The same, with the packets from one to another.
+/// A frame's object with the packets from one to another.
 fn put_ranged(
     out: &mut Vec<u8>,
     kind: &str,
@@ -93,7 +93,7 @@ fn put_member(out: &mut Vec<u8>, marks: &[Mark]) -> Result<(), AllocError>
     put_array(out, marks)
 }
 
-/// The member, where frames are listed.
+/// The member, if frames are listed.
 pub(crate) fn put_frames(
     out: &mut Vec<u8>,
     detail: Detail,

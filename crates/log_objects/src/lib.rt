@@ -1,7 +1,7 @@
-//! What is printed of a log as objects of JSON, one a line: a message that was told, with what it means in words, a frame that carries nothing of a message, and a wrong line.
-//! Members stand in the order of their names. Times are in microseconds.
+//! A log printed as objects of JSON, one a line: a report on a message, with its meaning in words, a frame that carries nothing of a message, and a
+//! wrong line. Members are in the order of their names. Times are in microseconds.
 //!
-//! Each call puts its text behind what `out` holds. It fails only where memory is refused, and may have put a part of the text then.
+//! Each call puts its text behind what `out` holds. It fails only if memory is refused, and may have put a part of the text then.
 #![tactic(auto)]
 
 mod explained;

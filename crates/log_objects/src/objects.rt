@@ -1,4 +1,4 @@
-//! What is printed of a log as JSON.
+//! The printed text of a log as JSON.
 ghost use Rattle.std.specs.Prelude.{◌≡◌, ◌++◌, OnOk, true, length, codes};
 ghost use Rattle.json_objects.specs.Objects.{count_of, member_text, object_line, rest_text};
 ghost use Rattle.serde_json.specs.Data.{string};
@@ -33,7 +33,7 @@ pub fn cause_words(cause: Cause) -> &'static str
     }
 }
 
-/// A member that says where a frame stands in the log.
+/// A member that gives the place of a frame in the log.
 fn put_place(out: &mut Vec<u8>, name: &str, place: Place) -> Result<(), AllocError>
     ensures { OnOk result (out.new.items ≡ out.old.items ++ member_text true name.now (place_object place)) }
 {
@@ -232,8 +232,8 @@ fn put_aborted(
     put_abort(out, now, course, key, pgn, reason)
 }
 
-/// The line of what was told at a time in microseconds, with its course: with the frames of that, where frames are listed. One that was given has
-/// these lines that say what it means, if there are any.
+/// The line of a report at a time in microseconds, with its course, and with the course's frames if frames are listed. A message that was given
+/// has these lines of its meaning, if there are any.
 pub fn put_told_object(
     out: &mut Vec<u8>,
     detail: Detail,

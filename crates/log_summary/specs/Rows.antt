@@ -1,4 +1,4 @@
--- What came of the messages of a log, by interface, PGN, sender and destination.
+-- The messages of a log and how they ended, by interface, PGN, sender and destination.
 use Rattle.std.specs.Prelude.{ℕ, zero, suc, ◌+◌, ◌-◌, ◌*◌, ◌/◌, List, [], ◌∷◌, ◌++◌, length, take, replicate, ◌==◌, min, max, if◌then◌else◌, Option, Some, None, unwrap_or, flat_map}
 use Rattle.std.specs.declared.cmp.Ordering.{Ordering}
 use Rattle.std.specs.BTreeMap.{insert_entry, is_at}
@@ -51,7 +51,7 @@ row_key iface pgn from to = record { name = name_of_iface iface; pgn = pgn; from
 abbrev pub no_losses : Losses
 no_losses = record { missing = 0; replaced = 0; timed_out = 0; went_back = 0; acknowledged = 0; unsound = 0; too_long = 0; end_of_log = 0 }
 
--- nothing was told
+-- a row without a message
 abbrev pub new_row : Key → (pgn : ℕ) → Row
 new_row key pgn = record { iface = key.iface; pgn = pgn; from = key.from; to = key.to; given = 0; bytes = 0; time = 0; longest = 0; again = 0; frames = 0; losses = no_losses }
 
@@ -77,11 +77,11 @@ lost_of l Unsound = l.unsound
 lost_of l TooLong = l.too_long
 lost_of l EndOfLog = l.end_of_log
 
--- a cause, where messages are lost for it
+-- the count of a cause, if messages are lost for it
 abbrev pub lost_for : Losses → Cause → List LossCount
 lost_for l cause = if lost_of l cause == 0 then [] else (record { cause = cause; count = lost_of l cause }) ∷ []
 
--- in the order of their words
+-- the causes for which messages are lost, in the order of their words
 abbrev pub losses_of : Row → List LossCount
 losses_of r = flat_map (lost_for r.losses) (Acknowledged ∷ EndOfLog ∷ Missing ∷ Replaced ∷ WentBack ∷ TimedOut ∷ TooLong ∷ Unsound ∷ [])
 
@@ -93,13 +93,13 @@ span c = c.last.time - c.first.time
 abbrev pub with_given : (bytes : ℕ) → Course → Row → Row
 with_given bytes c r = record r { given = more r.given; bytes = counted (r.bytes + bytes); time = counted (r.time + span c); longest = max r.longest (span c) }
 
--- the frames of a message, and the packets that its receiver asked for again, count whatever came of it: its announcements, its packets as often
--- as they were sent, the CTS and data packet offsets of its PGN, and the frame at which it is told if that is one of its own. The end
--- acknowledgement of a message that was given comes after it was told, and isn't among them
+-- the frames of a message, and the packets that its receiver asked for again, count however it ended: its announcements, its packets as often as
+-- they were sent, the CTS and data packet offsets of its PGN, and the frame at which it is reported if that is one of its own. The end
+-- acknowledgement of a message that was given follows its report, and isn't among them
 abbrev pub with_course : Course → Row → Row
 with_course c r = record r { again = counted (r.again + c.again); frames = counted (r.frames + c.frames) }
 
--- what came of it
+-- a row with the end of a message
 abbrev pub with_end : Course → Told → Row → Row
 with_end c (Given key pgn bytes) r = with_given (length bytes) c r
 with_end c (Aborted key pgn reason who) r = r
@@ -108,11 +108,11 @@ with_end c (Lost key pgn have size cause) r = record r { losses = with_loss caus
 abbrev pub with_told : Course → Told → Row → Row
 with_told c t r = with_end c t (with_course c r)
 
--- on average, rounded down
+-- how long a message took on average, rounded down
 abbrev pub mean_of : Row → ℕ
 mean_of r = if r.given == 0 then 0 else r.time / r.given
 
--- in parts per thousand, rounded down
+-- the part of frames in all, in parts per thousand, rounded down
 abbrev pub share_of : (frames all : ℕ) → ℕ
 share_of frames all = if all == 0 then 0 else counted (frames * 1000) / all
 
@@ -127,7 +127,7 @@ pub record Summary : Type 0 where
 abbrev pub no_summary : Summary
 no_summary = record { rows = []; aborts = []; frames = [] }
 
--- the row of a key, where it is there
+-- the row of a key, if there is one
 abbrev pub row_at : RowKey → List (RowKey × Row) → Option Row
 row_at key rows = lookup (is_at (by_row key)) rows
 
@@ -148,7 +148,7 @@ aborts_told row (Given key pgn bytes) aborts = aborts
 aborts_told row (Aborted key pgn reason who) aborts = insert_entry by_reason aborts (record { row = row; reason = reason }) (more (aborted row reason aborts))
 aborts_told row (Lost key pgn have size cause) aborts = aborts
 
--- a message is told, with its course
+-- a message is reported, with its course
 abbrev pub with_message : Course → Told → Summary → Summary
 with_message c t s =
     let key = row_key (key_told t).iface (pgn_told t) (key_told t).from (key_told t).to in
@@ -168,15 +168,15 @@ with_frame iface s = record s { frames = insert_entry by_name s.frames (name_of_
 abbrev pub rows_of : Summary → List Row
 rows_of s = values_of s.rows
 
--- a reason, where messages of the row were aborted for it
+-- the count of a reason, if messages of the row were aborted for it
 abbrev pub aborts_for : RowKey → List (AbortKey × ℕ) → (reason : ℕ) → List AbortCount
 aborts_for row aborts reason = if aborted row reason aborts == 0 then [] else (record { reason = reason; count = aborted row reason aborts }) ∷ []
 
--- of the reasons below a number, in their order
+-- the counts of the reasons below a number, in their order
 unfoldable pub aborts_below : RowKey → List (AbortKey × ℕ) → ℕ → List AbortCount
 aborts_below row aborts zero = []
 aborts_below row aborts (suc n) = aborts_below row aborts n ++ aborts_for row aborts n
 
--- of all of its reasons
+-- the counts of all reasons of a row
 abbrev pub aborts_of : Row → Summary → List AbortCount
 aborts_of r s = aborts_below (row_key r.iface r.pgn r.from r.to) s.aborts 256

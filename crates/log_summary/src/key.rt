@@ -1,4 +1,4 @@
-//! What tells rows apart, in the order of the rows.
+//! The key of a row, in the order of the rows.
 ghost use Rattle.std.specs.Prelude.{◌≡◌};
 ghost use Rattle.log_summary.specs.Rows.{padded, name_of_iface, row_key};
 
@@ -15,7 +15,7 @@ pub(crate) struct Name {
     pub(crate) bytes: [u8; 16],
 }
 
-/// What tells rows apart: interfaces by their names, then PGNs, senders and destinations.
+/// The key of a row: interfaces are ordered by their names, then PGNs, senders and destinations.
 #[derive(Clone, Copy, PartialEq, Eq, PartialOrd, Ord)]
 pub(crate) struct RowKey {
     pub(crate) name: Name,

@@ -1,7 +1,8 @@
-//! What came of the messages of a log, counted: a row for each interface, PGN, sender and destination between which a message was told of.
+//! The messages of a log, counted by how they ended: a row for each interface, PGN, sender and destination between which a message was
+//! reported.
 //!
-//! Memory is that of one row for each of these, of one note for each reason for which messages of a row were aborted, and of one for each
-//! interface. A call that wants some fails only where memory is refused.
+//! It holds one row for each of these, one note for each reason for which messages of a row were aborted, and one for each interface. A
+//! call that takes memory fails only if memory is refused.
 #![tactic(auto)]
 
 mod key;

@@ -1,4 +1,4 @@
-//! What came of the messages of a PGN between two nodes.
+//! The messages of a PGN between two nodes, and how they ended.
 ghost use Rattle.std.specs.Prelude.{◌≡◌, ◌++◌, OnOk, IfOk, flat_map};
 ghost use Rattle.log_courses.specs.Course.{more};
 ghost use Rattle.log_summary.specs.Rows.{new_row, no_losses, with_loss, lost_of, lost_for, losses_of, with_given, with_course, with_end, with_told, mean_of, share_of};
@@ -22,7 +22,8 @@ pub struct Losses {
     pub end_of_log: u64,
 }
 
-/// The messages of a PGN from a node to another one, or to all, on an interface. Each number stays at 2^64 - 1 where it would pass it.
+/// The messages of a PGN from a node to another one, or to all, on an interface. A number that would pass 2^64 - 1
+/// stays there.
 #[derive(Clone, Copy)]
 pub struct Row {
     pub iface: Iface,
@@ -65,7 +66,7 @@ const CAUSES: [Cause; 8] = [
     Cause::Unsound,
 ];
 
-/// One more.
+/// One more, up to the last value.
 fn more(n: u64) -> u64
     ensures { result ≡ more n }
 {
@@ -118,7 +119,7 @@ impl Losses {
         }
     }
 
-    /// A cause is put where messages are lost for it.
+    /// Puts the count of a cause if messages are lost for it.
     fn put(&self, found: &mut Vec<LossCount>, cause: Cause) -> Result<(), AllocError>
         ensures { OnOk result (found.new.items ≡ found.old.items ++ lost_for self.now cause) }
     {
@@ -141,7 +142,7 @@ impl Losses {
 }
 
 impl Row {
-    /// One of which nothing was told.
+    /// A row without a message.
     pub(crate) fn new(key: &Key, pgn: Pgn) -> Row
         ensures { result ≡ new_row key.now pgn }
     {
@@ -187,7 +188,7 @@ impl Row {
         }
     }
 
-    /// A message of it is told, with its course.
+    /// Adds the report on one of its messages, with its course.
     pub(crate) fn add(&mut self, course: &Course, told: &Told)
         ensures { self.new ≡ with_told course.now told.now self.old }
     {
@@ -195,7 +196,7 @@ impl Row {
         self.add_end(course, told);
     }
 
-    /// The causes for which messages are lost, in the order of their words. It fails only where memory is refused.
+    /// The causes for which messages are lost, in the order of their words. It fails only if memory is refused.
     pub fn lost(&self, alloc: Global) -> Result<Vec<LossCount>, AllocError>
         ensures { IfOk result (λ lost. lost.items ≡ losses_of self.now) }
     {
@@ -212,7 +213,7 @@ impl Row {
         self.time / self.given
     }
 
-    /// Of so many frames those of the row, in parts per thousand, rounded down; 0 of none.
+    /// The row's part of so many frames, in parts per thousand, rounded down; 0 if there are none.
     pub fn share(&self, all: u64) -> u64
         ensures { result ≡ share_of self.now.frames all }
     {

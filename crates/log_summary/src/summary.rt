@@ -13,14 +13,14 @@ use std::alloc::{AllocError, Global};
 use std::collections::BTreeMap;
 use std::marker::Model;
 
-/// How often messages were aborted for a reason, which is told as its byte.
+/// How often messages were aborted for the reason with this byte.
 #[derive(Clone, Copy)]
 pub struct AbortCount {
     pub reason: u8,
     pub count: u64,
 }
 
-/// What came of the messages of a log. Each number stays at 2^64 - 1 where it would pass it.
+/// The messages of a log and how they ended. A number that would pass 2^64 - 1 stays there.
 pub struct Summary {
     rows: BTreeMap<RowKey, Row>,
     aborts: BTreeMap<AbortKey, u64>,
@@ -66,8 +66,8 @@ impl Summary {
         self.frames.get(&name).copied().unwrap_or(0)
     }
 
-    /// A frame is seen on an interface, of a message or of none. It fails only where memory is refused, which the first frame of an interface
-    /// wants; then nothing has changed.
+    /// A frame is seen on an interface, of a message or of none. It fails only if memory is refused, which the first frame of an interface
+    /// takes; then nothing has changed.
     #[tactic(auto, using(crate::proofs::PutBack::none_seen))]
     pub fn add_frame(&mut self, iface: Iface) -> Result<(), AllocError>
         ensures counted { OnOk result (self.new ≡ with_frame iface self.old) }
@@ -80,7 +80,7 @@ impl Summary {
         Ok(())
     }
 
-    /// A message counts in its row. The row is answered as it was, if it was there.
+    /// Counts a message in its row. Returns the row as it was before, if it was there.
     fn add_row(
         &mut self,
         key: RowKey,
@@ -136,7 +136,7 @@ impl Summary {
         }
     }
 
-    /// A message is told, with its course. It fails only where memory is refused; then nothing has changed.
+    /// Adds the report on a message, with its course. It fails only if memory is refused; then nothing has changed.
     pub fn add(&mut self, course: &Course, told: &Told) -> Result<(), AllocError>
         ensures told { OnOk result (self.new ≡ with_message course.now told.now self.old) }
         ensures refused { OnErr result (self.new ≡ self.old) }
@@ -165,7 +165,7 @@ impl Summary {
         self.aborts.get(&key).copied().unwrap_or(0)
     }
 
-    /// A reason is put where messages of a row were aborted for it.
+    /// Puts the count of a reason if messages of a row were aborted for it.
     fn put_aborts(
         &self,
         found: &mut Vec<AbortCount>,

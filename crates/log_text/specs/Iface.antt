@@ -13,7 +13,7 @@ is_printable (b ∷ bs) = is_between 33 126 b && is_printable bs
 abbrev pub iface_of : List ℕ → Option Iface
 iface_of name = if length name == 0 || nat_lt 15 (length name) then None else if is_printable name then Some (record { kept = name ++ replicate (16 - length name) 0 }) else None
 
--- up to the first 0
+-- the name of an interface: its bytes up to the first 0
 abbrev pub name_of : Iface → List ℕ
 name_of iface = take (unwrap_or (place_of 0 iface.kept) 15) iface.kept
 

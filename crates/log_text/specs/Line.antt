@@ -9,7 +9,7 @@ use Rattle.log_text.specs.declared.iface.Iface.{Iface}
 use Rattle.log_text.specs.declared.line.LogLine.{LogLine}
 use Rattle.log_text.specs.declared.line.LogLine.TheVariants.{Frame, Passed}
 
--- a time in microseconds, of which six digits stand behind the point
+-- a time in microseconds, with six digits behind the point
 unfoldable pub time_of : (seconds micros : List ℕ) → Option ℕ
 time_of seconds micros = if length seconds == 0 || not (length micros == 6) then None else (do
   s ← numeral_from 10 0 seconds
@@ -51,7 +51,7 @@ short_frame digits = do
   id ← numeral_from 16 0 digits
   Some Passed
 
--- by the digits of the identifier
+-- the frame of a line, by the digits of its identifier
 abbrev pub frame_by : ℕ → Iface → (digits shown : List ℕ) → Option LogLine
 frame_by time iface digits shown = if length digits == 3 then short_frame digits else if length digits == 8 then long_frame time iface digits shown else None
 
@@ -61,7 +61,7 @@ frame_line time iface word = do
   parts ← cut_at 35 word
   frame_by time iface parts.0 parts.1
 
--- the interface, the frame, and what may stand behind them
+-- the interface, the frame, and what may follow them
 unfoldable pub behind_time : ℕ → List ℕ → Option LogLine
 behind_time time text = do
   iface ← iface_of (next_word text).0

@@ -1,5 +1,5 @@
--- What a line shows in a log whose lines have a form: that of candump -L, (SECONDS.MICROS) IFACE ID#HEX, or that of a screen, IFACE ID [N] B0 B1 ..,
--- with a time in front of it or not. None begins as a frame of the log's form, and goes on otherwise.
+-- The meaning of a line in a log whose lines have a form: that of candump -L, (SECONDS.MICROS) IFACE ID#HEX, or that of a screen, IFACE ID [N] B0 B1
+-- .., with a time in front of it or not. None if it begins as a frame of the log's form, but continues differently.
 use Rattle.std.specs.Prelude.{ℕ, ◌+◌, ◌*◌, ◌/◌, ◌^◌, List, [], ◌∷◌, length, drop, Bool, false, ◌&&◌, ◌||◌, Option, Some, None, ◌==◌, nat_lt, nat_le, if◌then◌else◌, is_some}
 use Rattle.text_digits.specs.Numerals.{◌>>=◌, is_between, numeral_from}
 use Rattle.log_text.specs.Fields.{cut_at, spaces_in, next_word}
@@ -12,11 +12,11 @@ use Rattle.log_text.specs.declared.line.LogLine.TheVariants.{Frame, Passed}
 use Rattle.log_text.specs.declared.reading.Form.{Form}
 use Rattle.log_text.specs.declared.reading.Form.TheVariants.{Timed, Untimed}
 
--- without a carriage return at its end
+-- a line without a carriage return at its end
 abbrev pub before_return : List ℕ → List ℕ
 before_return line = elim (cut_at 13 line) [ None ↦ line | Some p ↦ if length p.1 == 0 then p.0 else line ]
 
--- and without blanks at its front
+-- a line without that and without blanks at its front
 abbrev pub trimmed : List ℕ → List ℕ
 trimmed line = let bare = before_return line in drop (spaces_in bare) bare
 
@@ -42,11 +42,11 @@ begins_shown text =
     let digits = next_word name.1 in
     is_some (iface_of name.0) && is_id digits.0 && is_bracket (next_word digits.1).0
 
--- the form of a line, where it has one
+-- the form of a line, if it has one
 abbrev pub form_of : List ℕ → Option Form
 form_of line = if begins_timed (trimmed line) then Some Timed else if begins_shown (trimmed line) then Some Untimed else None
 
--- the microseconds that the digits behind the point write: six digits, or nine, of which the last three say less
+-- the microseconds that the digits behind the point write: six digits, or nine, of which the last three are dropped
 unfoldable pub micros_of : List ℕ → Option ℕ
 micros_of word = do
   n ← numeral_from 10 0 word
@@ -58,7 +58,7 @@ stamp_of seconds fraction = if length seconds == 0 then None else (do
   m ← micros_of fraction
   if nat_lt (s * 1000000 + m) (2 ^ 64) then Some (s * 1000000 + m) else None)
 
--- without the same bytes as text, which stand in quotes behind them
+-- the data without its bytes as text, which follow in quotes
 abbrev pub before_quote : List ℕ → List ℕ
 before_quote text = elim (cut_at 39 text) [ None ↦ text | Some p ↦ p.0 ]
 
@@ -72,7 +72,7 @@ abbrev pub is_remote : List ℕ → Bool
 is_remote [] = false
 is_remote (b ∷ bs) = b == 114
 
--- what stands behind an identifier of eight digits: above 29 bits it is an error frame's
+-- the text behind an identifier of eight digits: above 29 bits it is an error frame's
 unfoldable pub long_shown : Option ℕ → Iface → (id : ℕ) → List ℕ → Option LogLine
 long_shown time iface id text =
     let count = next_word text in
@@ -92,7 +92,7 @@ shown_line time text =
       id ← numeral_from 16 0 digits.0
       if length digits.0 == 3 then Some Passed else long_shown time iface id digits.1
 
--- behind the bracket of a time
+-- the text behind the bracket of a time
 unfoldable pub stamped_line : List ℕ → Option LogLine
 stamped_line text = do
   stamp ← cut_at 41 text
@@ -100,16 +100,16 @@ stamped_line text = do
   time ← stamp_of halves.0 halves.1
   if begins_shown stamp.1 then shown_line (Some time) stamp.1 else behind_time time stamp.1
 
--- in a log of times a line that begins with a bracket
+-- a line that begins with a bracket, in a log of times
 abbrev pub timed_as : List ℕ → Option LogLine
 timed_as [] = Some Passed
 timed_as (b ∷ text) = if b == 40 then stamped_line text else Some Passed
 
--- in one without, a line that begins as a frame
+-- a line that begins as a frame, in a log without times
 abbrev pub untimed_as : List ℕ → Option LogLine
 untimed_as text = if begins_shown text then shown_line None text else Some Passed
 
--- any other line is passed over, and so is each where the log has no form yet
+-- any other line is passed over, and so is each line while the log has no form yet
 unfoldable pub line_as : Option Form → List ℕ → Option LogLine
 line_as None line = Some Passed
 line_as (Some Timed) line = timed_as (trimmed line)

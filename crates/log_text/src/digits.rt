@@ -8,8 +8,8 @@ use text_digits::read_pair;
 /// The most digits of a frame's data.
 const MOST_DIGITS: usize = 16;
 
-/// The frame with this identifier whose data pairs of hexadecimal digits write. None where they aren't pairs of digits, or more than
-/// eight of them.
+/// The frame with this identifier whose data pairs of hexadecimal digits write. None if they aren't pairs of digits, or more than
+/// eight.
 pub(crate) fn frame(id: CanId, digits: &[u8]) -> Option<Frame>
     ensures { result ≡ data_of id digits.now }
 {

@@ -1,4 +1,4 @@
-//! Fields of a line: what stands between marks and spaces.
+//! Fields of a line: the text between marks and spaces.
 ghost use Rattle.std.specs.Prelude.{◌≡◌, ◌<◌, ◌≤◌, length, IfSome, option_map};
 ghost use Rattle.log_text.specs.Fields.{place_of, cut_at, spaces_in, next_word};
 
@@ -15,7 +15,7 @@ pub(crate) fn place_of(wanted: u8, text: &[u8]) -> Option<usize>
     None
 }
 
-/// What stands before and behind the first byte of this value.
+/// The text before and behind the first byte of this value.
 pub(crate) fn cut_at(wanted: u8, text: &[u8]) -> Option<(&[u8], &[u8])>
     ensures { option_map (λ p. (p.0.now, p.1.now)) result ≡ cut_at wanted text.now }
 {
@@ -23,7 +23,7 @@ pub(crate) fn cut_at(wanted: u8, text: &[u8]) -> Option<(&[u8], &[u8])>
     Some((&text[..at], &text[at + 1..]))
 }
 
-/// How many spaces stand at the front.
+/// How many spaces are at the front.
 pub(crate) fn spaces_in(text: &[u8]) -> usize
     ensures value { result ≡ spaces_in text.now }
     ensures within { result ≤ length text.now }
@@ -36,7 +36,7 @@ pub(crate) fn spaces_in(text: &[u8]) -> usize
     text.len()
 }
 
-/// The first word, which is empty where there is none, and what stands behind it.
+/// The first word, which is empty if there is none, and the text behind it.
 pub(crate) fn next_word(text: &[u8]) -> (&[u8], &[u8])
     ensures { (result.0.now, result.1.now) ≡ next_word text.now }
 {

@@ -46,7 +46,7 @@ fn is_printable(name: &[u8]) -> bool
 }
 
 impl Iface {
-    /// The interface of this name, refused exactly where it is none.
+    /// The interface of this name. Refused exactly if it is no name of an interface.
     pub fn new(name: &[u8]) -> Result<Iface, BadName>
         ensures { MatchResult result (λ iface. iface_of name.now ≡ Some iface) (λ _. iface_of name.now ≡ None) }
     {

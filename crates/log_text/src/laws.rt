@@ -7,7 +7,7 @@ ghost use Rattle.log_text.specs.Written.{log_text, IsFrame};
 ghost use Rattle.log_text.specs.declared.iface.Iface.{Iface};
 ghost use Rattle.log_text.specs.declared.line.LogLine.TheVariants as shows;
 
-/// The line that is written of a frame is read as that frame, at the same time on the same interface.
+/// A law: the line that is written for a frame is read as that frame, at its time on its interface.
 pub fn written_lines_are_read_back()
     ensures { (time : ℕ) (name : List ℕ) (iface : Iface) (f : CanFrame) → time < 2 ^ 64 → iface_of name ≡ Some iface → IsFrame f
         → log_line (log_text time iface f) ≡ Some (shows.Frame (Some time) iface f) }

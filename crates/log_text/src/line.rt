@@ -13,7 +13,7 @@ use thiserror::Error;
 /// What a line of a log shows.
 #[derive(Clone, Copy, Debug, PartialEq, Eq)]
 pub enum LogLine {
-    /// A data frame with a 29-bit identifier, seen on an interface, at so many microseconds where the line says when.
+    /// A data frame with a 29-bit identifier, seen on an interface, at so many microseconds if the line says when.
     Frame {
         time: Option<u64>,
         iface: Iface,
@@ -23,7 +23,7 @@ pub enum LogLine {
     Passed,
 }
 
-/// The line begins as one of a log, and goes on otherwise.
+/// The line begins as one of a log, but continues differently.
 #[derive(Clone, Copy, Debug, PartialEq, Eq, Error)]
 #[error("not a log line")]
 pub struct NotLogLine;
@@ -50,7 +50,7 @@ fn time(seconds: &[u8], micros: &[u8]) -> Option<u64>
     seconds.checked_mul(SECOND)?.checked_add(micros)
 }
 
-/// A time in microseconds, of a word `SECONDS.MICROS`. None where a half of it isn't digits, the microseconds aren't six of them, or the time
+/// A time in microseconds, from a word `SECONDS.MICROS`. None if one part isn't digits, the microseconds aren't six of them, or the time
 /// isn't below 2^64 microseconds.
 #[tactic(auto, unfolding(crate::specs::Line::time_word))]
 pub fn read_time(word: &[u8]) -> Option<u64>
@@ -148,12 +148,12 @@ fn timed_line(text: &[u8]) -> Option<LogLine>
     behind_time(time(seconds, micros)?, text)
 }
 
-/// What a line shows, without its line feed. Any number of spaces may stand where one does.
+/// The meaning of a line, without its line feed. Any number of spaces may be in the place of one.
 ///
-/// A line that begins with a bracket is refused where it goes on otherwise than as a log line: the time has six digits behind its point and
-/// is below 2^64 microseconds; then come a name of 1 to 15 characters, and the frame in one word, of 8 or 3 digits of identifier and at
-/// most eight pairs of digits of data; then `R` or `T`, or nothing. Any other line is passed over, unless it shows a frame in the form that
-/// candump shows on a screen: a name, 8 digits of identifier, a number up to 8 in square brackets, and so many pairs of digits.
+/// A line that begins with a bracket is refused unless it continues as a log line: the time has six digits behind its point and is below 2^64
+/// microseconds. Then follow a name of 1 to 15 characters, and the frame in one word, of 8 or 3 digits of identifier and at most eight pairs
+/// of digits of data; then `R` or `T`, or nothing. Any other line is passed over, unless it shows a frame in the form that candump shows on a
+/// screen: a name, 8 digits of identifier, a number up to 8 in square brackets, and so many pairs of digits.
 #[tactic(auto, unfolding(crate::specs::Line::log_line))]
 pub fn read_log_line(line: &[u8]) -> Result<LogLine, NotLogLine>
     ensures { MatchResult result (λ shown. log_line line.now ≡ Some shown) (λ _. log_line line.now ≡ None) }

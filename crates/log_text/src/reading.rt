@@ -14,7 +14,7 @@ use text_digits::read_numeral;
 /// The form of a log's lines.
 #[derive(Clone, Copy, Debug, PartialEq, Eq)]
 pub enum Form {
-    /// Each begins with a time in round brackets, as candump writes them for a file, and on a screen where it is asked for times.
+    /// Each begins with a time in round brackets, as candump writes them for a file, and on a screen if it is asked for times.
     Timed,
     /// Each begins with an interface, as candump shows them on a screen.
     Untimed,
@@ -79,7 +79,7 @@ fn begins_shown(text: &[u8]) -> bool
     Iface::new(name).is_ok() && is_id(digits) && is_bracket(brackets)
 }
 
-/// The form of a line, where it has one: it begins with a bracket and a digit, or as a frame on a screen.
+/// The form of a line, if it has one: it begins with a bracket and a digit, or as a frame on a screen.
 pub fn form_of(line: &[u8]) -> Option<Form>
     ensures { result ≡ form_of line.now }
 {
@@ -119,7 +119,7 @@ pub(crate) fn stamp(seconds: &[u8], fraction: &[u8]) -> Option<u64>
     seconds.checked_mul(SECOND)?.checked_add(micros)
 }
 
-/// The text without the same bytes as text, which stand in quotes behind them.
+/// The data without its bytes as text, which follow in quotes.
 fn before_quote(text: &[u8]) -> &[u8]
     ensures { result.now ≡ before_quote text.now }
 {
@@ -156,7 +156,7 @@ fn is_remote(word: &[u8]) -> bool
     }
 }
 
-/// What stands behind an identifier of eight digits. The bit above the identifier marks an error frame.
+/// The text behind an identifier of eight digits. The bit above the identifier marks an error frame.
 #[tactic(auto, unfolding(crate::specs::Reading::long_shown))]
 fn long_shown(time: Option<u64>, iface: Iface, id: u64, text: &[u8]) -> Option<LogLine>
     ensures { result ≡ long_shown time iface id text.now }
@@ -190,7 +190,7 @@ fn shown_line(time: Option<u64>, text: &[u8]) -> Option<LogLine>
     long_shown(time, iface, id, text)
 }
 
-/// What stands behind a time: a frame in either form. A word that isn't an identifier alone is none of a screen.
+/// The text behind a time: a frame in either form. If a word isn't an identifier alone, the form isn't that of a screen.
 #[tactic(auto, unfolding(crate::specs::Line::behind_time))]
 fn behind_stamp(time: u64, text: &[u8]) -> Option<LogLine>
     ensures { result ≡ (if begins_shown text.now then shown_line (Some time) text.now else behind_time time text.now) }
@@ -210,7 +210,7 @@ fn behind_stamp(time: u64, text: &[u8]) -> Option<LogLine>
     frame_line(time, iface, word)
 }
 
-/// What stands behind the bracket of a time: the time, and a frame in either form.
+/// The text behind the bracket of a time: the time, and a frame in either form.
 #[tactic(auto, unfolding(crate::specs::Reading::stamped_line))]
 fn stamped_line(text: &[u8]) -> Option<LogLine>
     ensures { result ≡ stamped_line text.now }
@@ -243,11 +243,12 @@ fn untimed_as(text: &[u8]) -> Option<LogLine>
     }
 }
 
-/// What a line shows, without its line feed, in a log of this form: that of its first line that has one.
+/// The meaning of a line, without its line feed, in a log of this form: that of its first line that has one.
 ///
-/// Blanks at its front and a carriage return at its end say nothing. Refused is a line that begins as a frame of the log's form, with a
-/// round bracket or as on a screen, and goes on otherwise: behind a time of six or nine digits of fraction, below 2^64 microseconds, come
-/// `IFACE ID#HEX` as `read_log_line` reads it, or `IFACE ID [N] B0 B1 ..`, which a screen shows. Any other line is passed over.
+/// Blanks at its front and a carriage return at its end are ignored. A line is refused if it begins as a frame of the log's form, with a
+/// round bracket or as on a screen, but continues differently. Behind a time of six or nine digits of fraction, below 2^64 microseconds,
+/// there must be `IFACE ID#HEX` as `read_log_line` reads it, or `IFACE ID [N] B0 B1 ..`, which a screen shows. Any other line is passed
+/// over.
 #[tactic(auto, unfolding(crate::specs::Reading::line_as))]
 pub fn read_line_as(form: Option<Form>, line: &[u8]) -> Result<LogLine, NotLogLine>
     ensures { MatchResult result (λ shown. line_as form line.now ≡ Some shown) (λ _. line_as form line.now ≡ None) }

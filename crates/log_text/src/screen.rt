@@ -52,7 +52,7 @@ pub(crate) fn bytes(id: CanId, count: usize, text: &[u8]) -> Option<Frame>
     Frame::new(id, &kept[..count]).ok()
 }
 
-/// The frame of a line on a screen, where it shows one with an identifier of eight digits, below 2^29.
+/// The frame of a line on a screen, if it shows one with an identifier of eight digits, below 2^29.
 #[tactic(auto, unfolding(crate::specs::Screen::screen_frame))]
 pub(crate) fn screen_frame(line: &[u8]) -> Option<LogLine>
     ensures { result ≡ screen_frame line.now }

@@ -1,4 +1,5 @@
-//! The parts of a line as `candump -L` writes them, so that most lines are read in one pass. Where a part isn't so, nothing is said of it.
+//! The parts of a line as `candump -L` writes them, so that most lines are read in one pass. If a part is different,
+//! the readers here return none and decide nothing.
 ghost use Rattle.std.specs.Prelude.{◌≡◌, ◌∷◌, IfSome, Some, true, false, if◌then◌else◌};
 ghost use Rattle.log_text.specs.Fields.{next_word};
 ghost use Rattle.log_text.specs.Line.{is_ended, frame_line, behind_time};
@@ -21,7 +22,7 @@ const MICROS: usize = 6;
 /// How many digits an identifier has.
 const DIGITS: usize = 8;
 
-/// What stands behind a byte of this value.
+/// The text behind a byte of this value.
 #[inline(always)]
 fn behind(wanted: u8, text: &[u8]) -> Option<&[u8]>
     ensures { IfSome result (λ rest. text.now ≡ wanted ∷ rest.now) }
@@ -30,7 +31,7 @@ fn behind(wanted: u8, text: &[u8]) -> Option<&[u8]>
     if *first == wanted { Some(rest) } else { None }
 }
 
-/// The time in front of a bracket, and what stands behind it.
+/// The time in front of a bracket, and the text behind it.
 #[inline(always)]
 pub(crate) fn usual_stamp(text: &[u8]) -> Option<(u64, &[u8])>
     ensures { IfSome result (λ p. stamped_line text.now ≡ (if begins_shown p.1.now then shown_line (Some p.0) p.1.now else behind_time p.0 p.1.now)) }

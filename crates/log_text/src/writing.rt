@@ -12,7 +12,7 @@ use text_digits::{put_bytes, put_digits};
 const TEN_DIGITS: u64 = 10_000_000_000;
 
 /// Puts a time of so many microseconds in round brackets behind what `out` holds: the seconds in ten digits, or in fourteen from 10^10 on,
-/// a point, and six digits. It fails only where memory is refused.
+/// a point, and six digits. It fails only if memory is refused.
 #[tactic(auto, unfolding(crate::specs::Written::time_text))]
 pub fn put_time(out: &mut Vec<u8>, time: u64) -> Result<(), AllocError>
     ensures { OnOk result (out.new.items ≡ out.old.items ++ time_text time) }
@@ -36,8 +36,8 @@ fn put_frame(out: &mut Vec<u8>, frame: &Frame) -> Result<(), AllocError>
     put_bytes(out, frame.bytes())
 }
 
-/// Puts the line of a frame that was seen at so many microseconds on an interface behind what `out` holds, without its line feed. It
-/// fails only where memory is refused.
+/// Puts the line of a frame that was seen at so many microseconds on an interface behind what `out` holds, without its line feed. It fails
+/// only if memory is refused.
 #[tactic(auto, unfolding(crate::specs::Written::log_text))]
 pub fn put_log_line(
     out: &mut Vec<u8>,

@@ -54,7 +54,7 @@ impl Bytes {
         self.items.len()
     }
 
-    /// The same bytes once more.
+    /// A copy of the bytes.
     pub fn copy(&self, alloc: Global) -> Result<Bytes, AllocError>
         ensures { IfOk result (λ b. b ≡ self.now) }
     {

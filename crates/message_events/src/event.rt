@@ -1,4 +1,4 @@
-//! What a station tells.
+//! The events of a station.
 ghost use Rattle.std.specs.Prelude.{◌≡◌, ◌==◌, ◌∷◌, ◌++◌, [], length, None, option_to_list, option_copied, drop, slice_get};
 
 mod iter;
@@ -11,7 +11,7 @@ use std::alloc::Global;
 use std::marker::Model;
 use tp_wire::Outcome;
 
-/// What a station tells.
+/// An event of a station.
 #[derive(Debug, Drop)]
 pub enum Event {
     /// A message from one node to this one or to all is given at a port.
@@ -31,7 +31,7 @@ pub enum Event {
     },
 }
 
-/// The events of one call, in their order. The first stands in place, so that one event takes no memory.
+/// The events of one call, in their order. The first is held in place, so that one event takes no memory.
 #[derive(Debug)]
 pub struct Events {
     first: Option<Event>,
@@ -87,7 +87,7 @@ impl Events {
         }
     }
 
-    /// Tells one event, or none, where nothing was told yet. It takes no memory.
+    /// Puts one event, or none, if no event was put yet. It takes no memory.
     pub fn tell(&mut self, event: Option<Event>)
         requires { self.old ≡ [] }
         ensures { self.new ≡ option_to_list event }
@@ -95,7 +95,7 @@ impl Events {
         self.first = event;
     }
 
-    /// Tells an event and those behind it, where nothing was told yet. It takes no memory.
+    /// Puts an event and those behind it, if no event was put yet. It takes no memory.
     pub fn tell_all(&mut self, first: Event, rest: Vec<Event>)
         requires { self.old ≡ [] }
         ensures { self.new ≡ first ∷ rest.items }
@@ -114,7 +114,7 @@ impl Events {
         }
     }
 
-    /// Whether there is none.
+    /// Whether there is no event.
     pub fn is_empty(&self) -> bool
         ensures { result ≡ (length self.now == 0) }
     {

@@ -1,5 +1,5 @@
-//! Messages as they are handed over: the bytes of one, and what a station tells of messages, that one is given at a port or has
-//! its outcome (SAE J1939-21; ISO 11783-3).
+//! Messages as they are handed over: the bytes of one, and the events of a station, which say that a message is given at a port
+//! or has its outcome (SAE J1939-21; ISO 11783-3).
 #![tactic(auto)]
 
 mod bytes;

@@ -35,7 +35,7 @@ abbrev pub has_bracket : List ℕ → Bool
 has_bracket [] = false
 has_bracket (b ∷ bs) = b == 40
 
--- a frame is shown, the line is none of a log although it begins as one, or no frame is shown
+-- a frame is shown; or the line isn't one of a log although it begins as one; or no frame is shown
 abbrev pub by_log : List ℕ → Option LogLine → Meaning
 by_log line None = Err UnknownCommand
 by_log line (Some (logged.Frame time iface frame)) = Ok (Frame time iface frame)
@@ -44,6 +44,6 @@ by_log line (Some logged.Passed) = if has_bracket line then Ok Passed else words
 abbrev pub bare_meaning : List ℕ → Meaning
 bare_meaning line = if is_ascii line then by_log line (log_line line) else Err NotAscii
 
--- a carriage return at its end says nothing
+-- a carriage return at its end is ignored
 unfoldable pub node_line : List ℕ → Meaning
 node_line line = bare_meaning (before_return line)

@@ -21,7 +21,7 @@ pub enum NodeCommand {
     Close { number: u64 },
     /// The port of this number is paused.
     Pause { number: u64 },
-    /// The port of this number goes on.
+    /// Ends the pause of the port of this number.
     Resume { number: u64 },
     /// The message of this number is taken back from the lane to a node.
     Cancel { to: Address, number: u64 },
@@ -149,8 +149,8 @@ fn state(words: &[&[u8]]) -> Result<NodeCommand, LineError>
 
 /// What the words of a command ask for: `name` is the first of them, `words` those behind it.
 ///
-/// The first fault is that of the name, then of how many words there are, then of the words in their order. Where each word
-/// is well written and its value is no PGN, that is a command too, `Refused`. Besides faults, the only error is that memory was
+/// The first fault is that of the name, then of how many words there are, then of the words in their order. If each word is
+/// well written and its value is no PGN, that is a command too, `Refused`. Besides faults, the only error is that memory was
 /// refused.
 #[tactic(auto, unfolding(crate::specs::Commands::command_of))]
 pub(crate) fn read_node_command(

@@ -65,12 +65,12 @@ fn has_bracket(line: &[u8]) -> bool
     }
 }
 
-/// What a line means, without its line feed. A carriage return at its end says nothing.
+/// The meaning of a line, without its line feed. A carriage return at its end is ignored.
 ///
 /// A line that begins with a bracket is one of the bus's log, as `candump -L` writes it, and so is one that shows a frame in the form that
-/// candump shows on a screen. Any other line is `now SECONDS.MICROS`, with six digits behind the point, or a command of a script
-/// without the station's address: `send TO PGN HEX`, `send TO PGN fill N`, `open PGN MAX`, `close N`, `pause N`, `resume N`,
-/// `cancel TO N`, `counts`, `state`.
+/// candump shows on a screen. Any other line is `now SECONDS.MICROS`, with six digits behind the point, or a command of a script without the
+/// station's address: `send TO PGN HEX`, `send TO PGN fill N`, `open PGN MAX`, `close N`, `pause N`, `resume N`, `cancel TO N`, `counts`,
+/// `state`.
 ///
 /// The first fault is that of a byte above 127, then of a line that is neither of a log nor named by such a word, which is an unknown command,
 /// then of how many words there are, then of the words in their order. Besides faults, the only error is that memory was refused.

@@ -23,20 +23,20 @@ use Rattle.one_station.specs.declared.error.Missed.TheVariants as missed
 
 -- One call of the segment
 
--- why it isn't made: it is refused for this cause; or, where it isn't refused, for want of memory
+-- why a call isn't made: it is refused for this cause; or, if it isn't refused, for want of memory
 abbrev pub IsStopped : Answer → NodeError → Type 0
 IsStopped answer (Refused cause) = answer ≡ Err cause
 IsStopped answer OutOfMemory = IsOk answer
 IsStopped answer ClockPassed = ⊥
 
--- it was made; or it isn't, and nothing changed
+-- the call was made; or it wasn't, and nothing changed
 abbrev pub IsAnswered : {A : Type 0} → (before : Node) → Call → (after : Node) → Result A NodeError → Type 0
 IsAnswered before call after (Ok _) = IsOk (called before.segment call) × Did before (call ∷ []) after
 IsAnswered before call after (Err error) = IsStopped (called before.segment call) error × (after ≡ before)
 
 -- Several calls
 
--- none of them was made: for this cause; or, where there is no cause, for want of memory
+-- none of the calls was made: for this cause; or, if there is no cause, for want of memory
 abbrev pub IsUndone : Option NodeError → (before after : Node) → NodeError → Type 0
 IsUndone (Some cause) before after error = (error ≡ cause) × (after ≡ before)
 IsUndone None before after error = (error ≡ OutOfMemory) × (after ≡ before)
@@ -48,7 +48,7 @@ as_error cause = option_map (λ refusal. Refused refusal) cause
 abbrev pub looks : Node → Call
 looks node = Take node.address true
 
--- the same without room for what the frame brings
+-- the station takes it without room for what the frame brings
 abbrev pub looks_roomless : Node → Call
 looks_roomless node = Take node.address false
 
@@ -62,28 +62,28 @@ has_frame node = nat_lt 0 (waiting_at node.segment node.address)
 abbrev pub overruns : Node → Call
 overruns node = Overrun node.address 0
 
--- it has ended, and nothing is remembered
+-- what was under way has ended, and missed frames are no longer remembered
 abbrev pub caught_up : Node → Node
 caught_up node = record node { has_missed = false }
 
 abbrev pub IsCaughtUp : (before after : Node) → Type 0
 IsCaughtUp before after = (has_frame before ≡ false) × Did (caught_up before) (overruns before ∷ []) after
 
--- it did; or the node remembers that it is to
+-- what was under way has ended; or the node remembers that it must
 abbrev pub IsMissed : (before after : Node) → Missed → Type 0
 IsMissed before after missed.Ended = IsCaughtUp before after
 IsMissed before after missed.Waits = after ≡ record before { has_missed = true }
 
--- where that is remembered it ends first; else nothing is done
+-- if missed frames are remembered, what is under way ends first; else nothing is done
 abbrev pub EndsFirst : (missed : Bool) → (before ready : Node) → Type 0
 EndsFirst true before ready = IsCaughtUp before ready
 EndsFirst false before ready = ready ≡ before
 
--- nothing is left of what came before: no frame waits to be looked at, and what was under way when frames were missed has ended
+-- nothing earlier is left: no frame waits to be looked at, and what was under way when frames were missed has ended
 abbrev pub IsReady : (before ready : Node) → Type 0
 IsReady before ready = EndsFirst before.has_missed before ready × (has_frame ready ≡ false)
 
--- it is remembered still, since it found no memory
+-- missed frames are still remembered, since ending what was under way found no memory
 abbrev pub IsUnready : (before after : Node) → Type 0
 IsUnready before after = (before.has_missed ≡ true) × IsOk (called before.segment (overruns before)) × (after ≡ before)
 
@@ -97,7 +97,7 @@ is_own node frame = (meaning_of frame.id).from.0 == node.address.0
 abbrev pub is_queue_full : Node → Bool
 is_queue_full node = nat_le queue_limit (queue_len node.segment node.address)
 
--- the first of the causes for which a frame isn't fed, of which the last may be the inner bus's
+-- the first of the causes for which a frame isn't fed; the last of them may be the inner bus's
 abbrev pub first_cause : Node → CanFrame → (last : Option NodeError) → Option NodeError
 first_cause node frame last =
     if is_own node frame then Some (Refused refusal.StationAddress)
@@ -114,16 +114,16 @@ DidAndLooked before call after Taken = Did before (call ∷ looks before ∷ [])
 DidAndLooked before call after WithoutRoom = Did before (call ∷ looks_roomless before ∷ []) after
 DidAndLooked before call after PassedBy = ⊥
 
--- the frame comes on the inner bus, and the station takes it; or it doesn't, and nothing changed
+-- the frame is put on the inner bus, and the station takes it; or it isn't, and nothing changed
 abbrev pub IsTakenIn : (ready : Node) → CanFrame → (after : Node) → Result Fed NodeError → Type 0
 IsTakenIn ready frame after (Ok fed) = (feed_refusal ready frame ≡ None) × DidAndLooked ready (Inject frame) after fed
 IsTakenIn ready frame after (Err error) = IsUndone (feed_refusal ready frame) ready after error
 
--- first the node is ready
+-- the node is made ready first, and then the frame is fed
 abbrev pub IsReadyAndFed : (before : Node) → CanFrame → (after : Node) → Result Fed NodeError → Type 0
 IsReadyAndFed before frame after fed = (ready : Node) × IsReady before ready × IsTakenIn ready frame after fed
 
--- or it can't be, and passes the frame by
+-- or the node can't be made ready, and passes the frame by
 abbrev pub IsFed : (before : Node) → CanFrame → (after : Node) → Result Fed NodeError → Type 0
 IsFed before frame after (Ok PassedBy) = IsUnready before after
 IsFed before frame after (Ok Taken) = IsReadyAndFed before frame after (Ok Taken)
@@ -132,7 +132,7 @@ IsFed before frame after (Err error) = IsReadyAndFed before frame after (Err err
 
 -- Frames for the bus
 
--- the frame that is next: one of the queue, or what comes next in the lowest lane that has something to queue
+-- the next frame: the first of the queue, or the next one of the lowest lane that has something to queue
 abbrev pub pump_for_front : Node → Option CanFrame → Option Address → List Call
 pump_for_front node (Some frame) to = []
 pump_for_front node None None = []
@@ -144,16 +144,16 @@ front_calls node = pump_for_front node (front_at node.segment node.address) (nex
 abbrev pub sent_refusal : Node → Option NodeError
 sent_refusal node = as_error (refusal_of (called node.segment (Transmit node.address)))
 
--- the frame leaves the queue for the inner bus, where the station passes it by; or it doesn't, for this cause, and nothing changed
+-- the frame leaves the queue for the inner bus, on which the station passes it by; or it doesn't, for this cause, and nothing changed
 abbrev pub IsPassedBy : (ready after : Node) → Result (Unit {0}) NodeError → Type 0
 IsPassedBy ready after (Ok _) = (sent_refusal ready ≡ None) × Did ready (Transmit ready.address ∷ looks ready ∷ []) after
 IsPassedBy ready after (Err error) = (sent_refusal ready ≡ Some error) × (after ≡ ready)
 
--- first the node is ready
+-- the node is made ready first
 abbrev pub IsReadyAndSent : (before after : Node) → Result (Unit {0}) NodeError → Type 0
 IsReadyAndSent before after sent = (ready : Node) × IsReady before ready × IsPassedBy ready after sent
 
--- or it can't be, for want of memory
+-- or it can't be made ready, for want of memory
 abbrev pub IsSent : (before after : Node) → Result (Unit {0}) NodeError → Type 0
 IsSent before after (Ok done) = IsReadyAndSent before after (Ok done)
 IsSent before after (Err OutOfMemory) = IsUnready before after

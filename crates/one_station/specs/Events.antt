@@ -10,7 +10,7 @@ abbrev pub event_bytes : Event → List ℕ
 event_bytes (Given port from to pgn bytes) = bytes
 event_bytes (Outcome from to number outcome) = []
 
--- the bytes stand at the front of the room, and the rest of the room is as it was; or they don't fit, and nothing changed
+-- the bytes are at the front of the room, and the rest of the room is unchanged; or they don't fit, and nothing changed
 abbrev pub IsCopied : Event → (room left : List ℕ) → Result ℕ TakeError → Type 0
 IsCopied event room left (Ok len) = (len ≡ length (event_bytes event)) × (left ≡ event_bytes event ++ drop len room)
 IsCopied event room left (Err (TooLittleRoom len)) = (len ≡ length (event_bytes event)) × ((length room < len) × (left ≡ room))
@@ -21,7 +21,7 @@ abbrev pub IsFirstTaken : Event → (events : List Event) → (room : List ℕ) 
 IsFirstTaken event events room waiting left (Ok len) = IsCopied event room left (Ok len) × (waiting ≡ drop 1 events)
 IsFirstTaken event events room waiting left (Err error) = IsCopied event room left (Err error) × (waiting ≡ events)
 
--- there is none
+-- there is no event
 abbrev pub IsNoneTaken : (events : List Event) → (room : List ℕ) → (waiting : List Event) → (left : List ℕ) → Result ℕ TakeError → Type 0
 IsNoneTaken events room waiting left (Ok len) = ⊥
 IsNoneTaken events room waiting left (Err (TooLittleRoom len)) = ⊥

@@ -1,4 +1,4 @@
--- What one call does with the inner bus and with what was told.
+-- What one call does to the inner bus and to the events that wait.
 use Rattle.std.specs.Prelude.{◌≡◌, Bool, true, false, List, [], ◌∷◌, ◌++◌, Result, Ok, Err, IsOk}
 use Rattle.pgn_ids.specs.declared.address.Address.{Address}
 use Rattle.message_events.specs.declared.event.Event.{Event}
@@ -11,28 +11,28 @@ use Rattle.segment_law.specs.declared.refusal.Refusal.{Refusal}
 use Rattle.one_station.specs.declared.error.Fed.{Fed}
 use Rattle.one_station.specs.declared.error.Fed.TheVariants.{Taken, WithoutRoom, PassedBy}
 
--- a frame comes on the bus
+-- whether a call puts a frame on the bus
 abbrev pub comes_on_bus : Call → Bool
 comes_on_bus (Transmit a) = true
 comes_on_bus (Inject f) = true
 comes_on_bus call = false
 
--- a call is made, and what it tells waits behind the rest
+-- a call is made, and its events wait behind the others
 pub record Tells (before : Segment) (waiting : List Event) (call : Call) (after : Segment) (left : List Event) : Type 0 where
   pub made : (applied before call).0 ≡ after
   pub told : left ≡ waiting ++ events_of (applied before call).1
   pub stands : (addresses : List Address) (steps : Record) → StandsAt addresses steps before → StandsAt addresses (steps ++ (call, (applied before call).1) ∷ []) after
 
--- it tells nothing
+-- a call is made, and it has no event
 abbrev pub Puts : Segment → Call → Segment → Type 0
 Puts before call after = (waiting : List Event) → Tells before waiting call after waiting
 
--- it does so, or is refused and changes nothing
+-- such a call is made, or is refused and changes nothing
 abbrev pub IsPut : (before : Segment) → Call → (after : Segment) → Result (Unit {0}) Refusal → Type 0
 IsPut before call after (Ok done) = IsOk (called before call) × Puts before call after
 IsPut before call after (Err cause) = (called before call ≡ Err cause) × (after ≡ before)
 
--- to take the next frame is one with room and without: it isn't refused, and tells nothing
+-- taking the next frame has one result with room and without: it isn't refused, and has no event
 abbrev pub PassesBy : Segment → Address → Type 0
 PassesBy segment station = (next : Segment) × ((room : Bool) → called segment (Take station room) ≡ done next)
 

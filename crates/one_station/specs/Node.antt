@@ -1,4 +1,4 @@
--- A node: one station, and what it told.
+-- A node: one station, and its events.
 use Rattle.std.specs.Prelude.{◌≡◌, Bool, false, List, [], ◌∷◌, ◌++◌}
 use Rattle.pgn_ids.specs.declared.address.Address.{Address}
 use Rattle.message_events.specs.declared.event.Event.{Event}
@@ -7,8 +7,8 @@ use Rattle.segment_law.specs.Calls.{applied, events_of}
 use Rattle.segment_law.specs.Record.{Record, StandsAt}
 use Rattle.segment_law.specs.declared.call.Call.{Call}
 
--- the segment that its station stands on alone, the station's address, the events that were told and not taken, and whether it missed
--- frames and what was under way then has yet to end
+-- the segment with the station alone, the station's address, the events that were not taken yet, and whether it missed frames and
+-- what was under way then has yet to end
 pub record Node : Type 0 where
   pub segment : Segment
   pub address : Address
@@ -19,7 +19,7 @@ pub record Node : Type 0 where
 abbrev pub new_node : Address → Node
 new_node address = record { segment = new_segment (address ∷ []); address = address; events = []; has_missed = false }
 
--- a call is made on the segment, and what it tells waits behind the rest
+-- a call is made on the segment, and its events wait behind the others
 abbrev pub makes : Node → Call → Node
 makes node call = record node { segment = (applied node.segment call).0; events = node.events ++ events_of (applied node.segment call).1 }
 
@@ -33,7 +33,7 @@ abbrev pub answered : Segment → List Call → Record
 answered seg [] = []
 answered seg (call ∷ calls) = (call, (applied seg call).1) ∷ answered (applied seg call).0 calls
 
--- whatever record the segment stood at, it stands at that record followed by these calls
+-- whatever record the segment was at, it is now at that record followed by these calls
 abbrev pub GoesOn : (before : Segment) → List Call → (after : Segment) → Type 0
 GoesOn before calls after =
     (addresses : List Address) (steps : Record) → StandsAt addresses steps before → StandsAt addresses (steps ++ answered before calls) after

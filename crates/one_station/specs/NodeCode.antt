@@ -1,4 +1,4 @@
--- How nodes are told apart.
+-- When two nodes are equal.
 use Rattle.std.specs.Prelude.{Bool, List, refl}
 use Rattle.std.specs.Coded.{Coded, code_by, coded×, coded_list, coded_bool}
 use Rattle.pgn_ids.specs.declared.address.Address.{Address}
@@ -12,7 +12,7 @@ use Rattle.one_station.specs.Node.{Node}
 abbrev Parts : Type 0
 Parts = Segment × (Address × (List Event × Bool))
 
--- a node is told apart by its parts
+-- nodes are equal if their parts are
 abbrev pub node_code : Coded Node
 node_code =
     code_by Parts

@@ -19,6 +19,6 @@ joined (part ∷ parts) = part_events part ++ joined parts
 abbrev pub told_events : Told → List Event
 told_events told = front_events told.front ++ joined told.parts.items
 
--- without a front part there is none
+-- without a front part there is no other
 abbrev pub IsFrontFirst : Told → Type 0
 IsFrontFirst told = told.front ≡ None → told.parts.items ≡ []

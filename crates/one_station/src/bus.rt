@@ -18,15 +18,15 @@ use segment_core::{Call, Refusal};
 const QUEUE_LIMIT: usize = 64;
 
 impl Node {
-    /// A frame of another node comes from the bus, and the node looks at it: with room for what it brings, or without if there is no
-    /// memory (`Fed::WithoutRoom`).
+    /// Feeds a frame of another node, read from the bus, and the node looks at it: with room for what it brings, or without if there
+    /// is no memory (`Fed::WithoutRoom`).
     ///
     /// What was under way when frames were missed ends first, if it has yet to. If that finds no memory, the frame is passed by
     /// (`Fed::PassedBy`).
     ///
     /// Refused as `StationAddress` if the frame has the node's own source address, as `TxFull` if the transmit queue has no place for
-    /// an answer, and else as `OutOfMemory` if there is no place for what it tells and memory is refused. `send` makes the place of an
-    /// outcome. The node doesn't have the frame then: it is fed again before any other, or told to be missed.
+    /// an answer, and else as `OutOfMemory` if there is no place for its events and memory is refused. `send` makes the place of an
+    /// outcome. The node doesn't have the frame then: feed it again before any other, or report it by `missed`.
     pub fn feed(&mut self, frame: Frame) -> Result<Fed, NodeError>
         ensures { IsFed self.old frame self.new result }
     {
@@ -52,7 +52,7 @@ impl Node {
         None
     }
 
-    // Any other frame comes on the inner bus, unless that refuses it, and the station takes it.
+    // Any other frame is put on the inner bus, unless that refuses it, and the station takes it.
     fn take_in(&mut self, frame: Frame) -> Result<Fed, NodeError>
         requires { first_cause self.old frame None ≡ None }
         ensures { IsTakenIn self.old frame self.new result }
@@ -68,7 +68,7 @@ impl Node {
         Ok(look(&mut self.segment, &mut self.told, &mut self.owed, station))
     }
 
-    /// The first frame of the transmit queue, or none where that is empty. It is what `front` answers then, and stays the first until
+    /// The first frame of the transmit queue, or none if that is empty. It is what `front` returns then, and stays the first until
     /// `sent` says that it was put.
     pub fn queued(&self) -> Option<Frame>
         ensures { result ≡ front_at self.now.segment self.now.address }
@@ -83,12 +83,12 @@ impl Node {
         self.segment.next_pump(self.address)
     }
 
-    /// Queues what comes next in the lane to a destination: at most eight frames. It is for a program that chooses itself which lane
-    /// goes on; else `front` does it.
+    /// Queues the next frames of the lane to a destination: at most eight. It is for a program that chooses itself which lane is next;
+    /// else `front` does it.
     ///
-    /// Refused as `NoSuchStation` for address 254, as `NothingToSend` where no message is pending or it awaits a frame, as `NotYet`
-    /// where the next frame of a broadcast comes too soon, and as `TxFull` where fewer than eight places of the transmit queue are
-    /// free; and else as `OutOfMemory` where memory is refused.
+    /// Refused as `NoSuchStation` for address 254; as `NothingToSend` if no message is pending or it awaits a frame; as `NotYet` if it
+    /// is too soon for the next frame of a broadcast; as `TxFull` if fewer than eight places of the transmit queue are free; and else
+    /// as `OutOfMemory` if memory is refused.
     pub fn pump(&mut self, to: Address) -> Result<(), NodeError>
         ensures { IsAnswered self.old (Pump self.old.address to) self.new result }
     {
@@ -96,10 +96,10 @@ impl Node {
         self.make(Call::Pump { station, to })
     }
 
-    /// The frame that is next for the bus, or none where there is nothing to put now. It stays the next until `sent` says that it
-    /// was put. Where the transmit queue is empty, what comes next in the lowest lane that has something to queue is queued.
+    /// The next frame for the bus, or none if there is nothing to put now. It stays the next until `sent` says that it was put. If the
+    /// transmit queue is empty, it queues the next frames of the lowest lane that has some.
     ///
-    /// Refused as `OutOfMemory` where memory is refused.
+    /// Refused as `OutOfMemory` if memory is refused.
     #[tactic(auto, using(crate::proofs::Fronts::front_memory))]
     pub fn front(&mut self) -> Result<Option<Frame>, NodeError>
         ensures frame { IfOk result (λ frame. frame ≡ front_at self.new.segment self.old.address) }
@@ -119,12 +119,12 @@ impl Node {
         Ok(self.queued())
     }
 
-    /// The frame that `front` answered was put on the bus. The station doesn't look at its own frames, and passes it by. That takes no
+    /// The frame that `front` returned was put on the bus. The station doesn't look at its own frames, and passes it by. That takes no
     /// memory.
     ///
     /// What was under way when frames were missed ends first, if it has yet to. If that finds no memory, it is refused as
-    /// `OutOfMemory`: the call is to be made again then, since the frame isn't to be put twice. Else refused as `NothingToSend` if the
-    /// transmit queue is empty.
+    /// `OutOfMemory`: make the call again then, since the frame must not be put twice. Else refused as `NothingToSend` if the transmit
+    /// queue is empty.
     pub fn sent(&mut self) -> Result<(), NodeError>
         ensures { IsSent self.old self.new result }
     {
@@ -134,11 +134,11 @@ impl Node {
         self.pass_own()
     }
 
-    // The first frame of the transmit queue comes on the inner bus. It is the station's own, which passes it by.
+    // The first frame of the transmit queue is put on the inner bus. It is the station's own, which passes it by.
     fn pass_own(&mut self) -> Result<(), NodeError>
         ensures { IsPassedBy self.old self.new result }
     {
-        // A law, by which it is its own: the call does nothing.
+        // A law: the frame is the station's own. The call does nothing.
         stations_queue_their_own();
         let station = self.address;
         let _at_most_full = self.segment.queue_len(station);

@@ -3,14 +3,14 @@
 use segment_law::Refusal;
 use thiserror::Error;
 
-/// Why a call on a node isn't done. It can be made again. It changed nothing then, but that `feed` and `sent` may have ended what
-/// `missed` left to end.
+/// Why a call on a node isn't done. It changed nothing then, except that `feed` and `sent` may have ended what `missed` left to
+/// end. It can be made again.
 #[derive(Clone, Copy, Debug, PartialEq, Eq, Error)]
 pub enum NodeError {
-    /// It is refused for this cause.
+    /// The call is refused for this cause.
     #[error("the call is refused")]
     Refused(Refusal),
-    /// The clock stands at a later tick.
+    /// The clock is past the tick.
     #[error("the clock stands at a later tick")]
     ClockPassed,
     /// Memory was refused.
@@ -18,7 +18,7 @@ pub enum NodeError {
     OutOfMemory,
 }
 
-/// What came of a frame of another node.
+/// The result of feeding a frame of another node.
 #[derive(Clone, Copy, Debug, PartialEq, Eq)]
 pub enum Fed {
     /// The node has looked at it.
@@ -31,7 +31,7 @@ pub enum Fed {
     PassedBy,
 }
 
-/// What came of frames that were missed.
+/// The result of reporting missed frames.
 #[derive(Clone, Copy, Debug, PartialEq, Eq)]
 pub enum Missed {
     /// What was under way has ended.

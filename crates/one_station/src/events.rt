@@ -1,4 +1,4 @@
-//! What was told: a message that is given at a port, or the outcome of one that was sent.
+//! The events: a message that is given at a port, or the outcome of one that was sent.
 ghost use Rattle.std.specs.Prelude.{◌≡◌, drop, slice_get, option_copied};
 ghost use Rattle.one_station.specs.Events.{IsTaken, IsCopied, event_bytes};
 
@@ -22,11 +22,11 @@ impl Node {
         self.told.take()
     }
 
-    /// Takes the event that waits longest, and copies its bytes to the front of the caller's room; an outcome has none. The answer
-    /// is how many they are.
+    /// Takes the event that waits longest, and copies its bytes to the front of the caller's room; an outcome has none. Returns
+    /// how many they are.
     ///
-    /// Refused as `Nothing` where no event waits, and as `TooLittleRoom`, which says how many bytes the event has, where these are
-    /// more than the room has places: then the event still waits, and the room is as it was.
+    /// Refused as `Nothing` if no event waits, and as `TooLittleRoom`, which says how many bytes the event has, if these are more
+    /// than the room has places: then the event still waits, and the room is unchanged.
     pub fn take_bytes(&mut self, room: &mut [u8]) -> Result<usize, TakeError>
         ensures taken { IsTaken self.old.events room.old self.new.events room.new result }
         ensures rest { self.new ≡ record self.old { events = self.new.events } }
@@ -54,7 +54,7 @@ fn bytes_of(event: &Event) -> &[u8]
     }
 }
 
-// Copies the bytes of an event to the front of the room, where they fit.
+// Copies the bytes of an event to the front of the room, if they fit.
 fn copy_bytes(event: &Event, room: &mut [u8]) -> Result<usize, TakeError>
     ensures { IsCopied event.now room.old room.new result }
 {

@@ -1,5 +1,5 @@
 //! One station of SAE J1939-21 and ISO 11783-3 for a program that owns the bus, on a controller or behind a CAN socket: frames
-//! and ticks go in, frames and what is told come out. Nothing here waits, reads a clock or starts a thread.
+//! and ticks go in, frames and events come out. Nothing here waits, reads a clock or starts a thread.
 //!
 //! Each call is a short list of calls on a segment with this one station, and its contract says which: so all that is proved of
 //! lists of calls holds of it.

@@ -15,8 +15,8 @@ use pgn_ids::Address;
 use segment_core::{Call, Refusal, Reply, Segment};
 use std::alloc::AllocError;
 
-/// A frame comes on the bus, which has room for it: that of another node, or the first of the station's queue. Or it is refused, and
-/// nothing changes.
+/// A frame is put on the bus, which has room for it: that of another node, or the first of the station's queue. Or the call is
+/// refused, and nothing changes.
 #[inline(always)]
 pub(crate) fn put(segment: &mut Segment, call: Call) -> Result<(), Refusal>
     requires comes { comes_on_bus call ≡ true }
@@ -32,7 +32,7 @@ pub(crate) fn put(segment: &mut Segment, call: Call) -> Result<(), Refusal>
     }
 }
 
-/// The station passes the next frame by, since it doesn't look at it. With room or without is one then, and without room no memory is
+/// The station passes the next frame by, since it doesn't look at it. Room makes no difference then, and without room no memory is
 /// asked for.
 #[inline(always)]
 pub(crate) fn pass(segment: &mut Segment, station: Address)
@@ -119,7 +119,7 @@ fn look_without_room(
     }
 }
 
-// It takes it with room or without, which isn't refused. There is a place for what that tells.
+// It takes it with room or without, which isn't refused. There is a place for the events.
 #[inline(always)]
 fn tell(
     segment: &mut Segment,

@@ -9,9 +9,9 @@ use crate::node::Node;
 use segment_core::Call;
 
 impl Node {
-    /// Frames of the bus were lost: the driver didn't get them, or the node wasn't given them. To be called before a later frame is
-    /// fed. Each message that is coming in ends, and each connection with its outcome, `Overrun`: else a message could be put together
-    /// of the packets of two.
+    /// Frames of the bus were lost: the driver didn't get them, or the node wasn't given them. Call it before a later frame is fed.
+    /// Each message that is being received ends, and each connection with its outcome, `Overrun`: else a message could be joined from
+    /// the packets of two.
     ///
     /// If that finds no memory, as it may if several connections are under way, the node remembers it (`Missed::Waits`): each `feed`
     /// and each `sent` tries it first.
@@ -27,7 +27,7 @@ impl Node {
         }
     }
 
-    /// What was under way when frames were missed ends, if that is remembered: whether nothing is left of it.
+    /// Ends what was under way when frames were missed, if that is remembered. Returns whether nothing of it is left.
     #[tactic(auto, using(crate::proofs::Made::ready_at_once, crate::proofs::Made::ready_then))]
     pub(crate) fn make_ready(&mut self) -> bool
         ensures ready { OnTrue result (IsReady self.old self.new) }
@@ -85,7 +85,7 @@ impl Node {
         let _read = self.address;
     }
 
-    // It isn't refused that what is under way ends.
+    // Ending what is under way isn't refused.
     fn may_miss(&self)
         ensures { IsOk (called self.now.segment (overruns self.now)) }
     {

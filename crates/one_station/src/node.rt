@@ -1,4 +1,4 @@
-//! A node: one station, and what it told.
+//! A node: one station, and its events.
 ghost use Rattle.std.specs.Prelude.{◌≡◌, ◌<◌, ◌∷◌, ◌↔◌, [], false, IfOk, IfErr, OnOk, IsErrOf};
 ghost use Rattle.std.specs.VecDeque.{deque_len, deque_capacity};
 ghost use Rattle.segment_law.specs.Segment.{are_addresses};
@@ -20,9 +20,9 @@ use std::marker::Model;
 
 /// One station on a bus that the program owns.
 ///
-/// The program gives it each frame that comes from the bus (`feed`) and the time (`clock`, `fire`), and puts each frame that it
-/// has for the bus (`front`, `sent`). What it tells, a message given at a port or the outcome of one that was sent, waits until
-/// it is taken. Where the program lost frames, it says so (`missed`). Nothing changes a node but the calls on it.
+/// The program gives it each frame that it reads from the bus (`feed`) and the time (`clock`, `fire`), and puts each frame that
+/// the node has for the bus (`front`, `sent`). An event, a message given at a port or the outcome of one that was sent, waits
+/// until it is taken. If the program lost frames, it says so (`missed`). Nothing changes a node but the calls on it.
 pub struct Node {
     pub(crate) alloc: Global,
     pub(crate) segment: Segment,
@@ -62,9 +62,9 @@ impl Drop for Node {
 }
 
 impl Node {
-    /// A node with this address, 0 to 253 (SAE J1939-81): its clock stands at tick 0, no port is open, and nothing was done yet.
+    /// A node with this address, 0 to 253 (SAE J1939-81): its clock is at tick 0, no port is open, and nothing was done yet.
     ///
-    /// Refused as `BadAddresses` exactly where the address is 254 or 255, and else as `OutOfMemory` where memory is refused.
+    /// Refused as `BadAddresses` exactly if the address is 254 or 255, and else as `OutOfMemory` if memory is refused.
     pub fn new(alloc: Global, address: Address) -> Result<Node, NewRefused>
         ensures ok { IfOk result (λ node. node ≡ new_node address) }
         ensures bad { IsErrOf result NewRefused.BadAddresses ↔ (are_addresses (address ∷ []) ≡ false) }
@@ -91,8 +91,8 @@ impl Node {
         self.address
     }
 
-    /// Makes a call of the segment by which no frame comes on its bus, and keeps what it tells. Memory is taken only once the call
-    /// isn't refused, and the place for what it tells before it is made.
+    /// Makes a call of the segment that puts no frame on its bus, and keeps the events. Memory is taken only once the call isn't
+    /// refused, and the place for the events before it is made.
     pub(crate) fn make(&mut self, call: Call) -> Result<(), NodeError>
         requires { comes_on_bus call ≡ false }
         ensures { IsAnswered self.old call self.new result }
@@ -120,7 +120,7 @@ pub(crate) fn make_place(told: &mut Told, owed: usize) -> Result<(), AllocError>
     told.reserve(owed)
 }
 
-/// How many messages have ended by what a call told. No call gives a message and ends one.
+/// How many messages have ended by the events of a call. No call gives a message and ends one.
 #[inline(always)]
 pub(crate) fn ended(events: &Events) -> usize {
     match events.get(0) {
@@ -140,7 +140,7 @@ fn gives(segment: &Segment, call: &Call) -> bool {
     }
 }
 
-/// Makes a place for what a call tells, unless the call is refused.
+/// Makes a place for the events of a call, unless the call is refused.
 #[inline(always)]
 pub(crate) fn make_room(
     segment: &Segment,
@@ -155,14 +155,14 @@ pub(crate) fn make_room(
     ensures kept { deque_len told.old.parts < deque_capacity told.old.parts → deque_len told.new.parts < deque_capacity told.new.parts }
     ensures err { IfErr result (λ error. IsStopped (called segment.now call.now) error) }
 {
-    // As a rule there is one, whatever it tells.
+    // Usually there is one, whatever the events are.
     if told.has_place_to_give(owed) {
         return Ok(());
     }
     find_room(segment, told, owed, call)
 }
 
-// The same if no place is free for a message that is given.
+// `make_room`, if no place is free for a message that is given.
 #[inline(never)]
 fn find_room(segment: &Segment, told: &mut Told, owed: usize, call: &Call) -> Result<(), NodeError>
     requires { IsFrontFirst told.old }
@@ -184,7 +184,7 @@ fn find_room(segment: &Segment, told: &mut Told, owed: usize, call: &Call) -> Re
     }
 }
 
-/// Makes a place for what a frame tells that another node puts, unless there is one or the frame is refused.
+/// Makes a place for the events of a frame that another node puts, unless there is one or the frame is refused.
 pub(crate) fn make_one(
     segment: &Segment,
     told: &mut Told,

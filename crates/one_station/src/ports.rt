@@ -11,10 +11,10 @@ use pgn_ids::{Address, Pgn};
 use segment_core::{Bytes, Call, PortId, Reply};
 
 impl Node {
-    /// Opens a port for messages of a PGN, of at most `max_len` bytes, and answers its name. From now on messages of that PGN to
-    /// this node and to all are given at it (SAE J1939-21; ISO 11783-3 for more than 1,785 bytes).
+    /// Opens a port for messages of a PGN, of at most `max_len` bytes, and returns its name. From now on messages of that PGN to this
+    /// node and to all are given at it (SAE J1939-21; ISO 11783-3 for more than 1,785 bytes).
     ///
-    /// Refused as `PortsFull` where 16 ports are open or no number is left, and else as `OutOfMemory` where memory is refused.
+    /// Refused as `PortsFull` if 16 ports are open or no number is left, and else as `OutOfMemory` if memory is refused.
     pub fn open_port(&mut self, pgn: Pgn, max_len: u32) -> Result<PortId, NodeError>
         ensures answered { IsAnswered self.old (Open self.old.address pgn max_len) self.new result }
         ensures port { IfOk result (λ port. (applied self.old.segment (Open self.old.address pgn max_len)).1 ≡ Opened port) }
@@ -34,21 +34,21 @@ impl Node {
         }
     }
 
-    /// Closes a port: nothing is given at it any more. A message that is coming in for no other port is broken off, a connection
-    /// by an abort as far as places of the transmit queue reach.
+    /// Closes a port: nothing more is given at it. A message that is being received for no other port is broken off, a connection by
+    /// an abort as far as the transmit queue has places.
     ///
-    /// Refused as `NoSuchStation` where the port is another node's, and as `NoSuchPort` where it isn't open.
+    /// Refused as `NoSuchStation` if the port is another node's, and as `NoSuchPort` if it isn't open.
     pub fn close_port(&mut self, port: PortId) -> Result<(), NodeError>
         ensures { IsAnswered self.old (Close port) self.new result }
     {
         self.make(Call::Close { port })
     }
 
-    /// Pauses a port: a message that is coming in for it by a connection is held, and goes on once the port is resumed. What was
-    /// granted still comes.
+    /// Pauses a port: a connection that carries a message for it is held, and continues once the port is resumed. Packets granted
+    /// before still arrive.
     ///
-    /// Refused as `NoSuchStation` where the port is another node's, as `NoSuchPort` where it isn't open, and as `PortPaused` where it
-    /// is paused.
+    /// Refused as `NoSuchStation` if the port is another node's, as `NoSuchPort` if it isn't open, and as `PortPaused` if it is
+    /// paused.
     pub fn pause_port(&mut self, port: PortId) -> Result<(), NodeError>
         ensures { IsAnswered self.old (Pause port) self.new result }
     {
@@ -57,20 +57,20 @@ impl Node {
 
     /// Ends the pause of a port.
     ///
-    /// Refused as `NoSuchStation` where the port is another node's, as `NoSuchPort` where it isn't open, and as `PortNotPaused` where
-    /// it isn't paused.
+    /// Refused as `NoSuchStation` if the port is another node's, as `NoSuchPort` if it isn't open, and as `PortNotPaused` if it isn't
+    /// paused.
     pub fn resume_port(&mut self, port: PortId) -> Result<(), NodeError>
         ensures { IsAnswered self.old (Resume port) self.new result }
     {
         self.make(Call::Resume { port })
     }
 
-    /// Sends a message of 9 to 1,785 bytes to all (address 255), or of 9 to 117,440,505 bytes to one node, and answers its number,
-    /// from 1 for each destination. Messages to one destination go out in this order, and each has one outcome. The bytes are
+    /// Sends a message of 9 to 1,785 bytes to all (address 255), or of 9 to 117,440,505 bytes to one node, and returns its number,
+    /// from 1 for each destination. Messages to one destination are sent in this order, and each has one outcome. The bytes are
     /// copied, and the place of its outcome is made. `front` and `sent` put its frames on the bus.
     ///
-    /// Refused as `NoSuchStation` for address 254, `SameStation` for the own one, `TooShort`, `TooLong`, and `LaneFull` where 32
-    /// messages to that destination have no outcome yet; and else as `OutOfMemory` where memory is refused.
+    /// Refused as `NoSuchStation` for address 254, `SameStation` for the own one, `TooShort`, `TooLong`, and `LaneFull` if 32
+    /// messages to that destination have no outcome yet; and else as `OutOfMemory` if memory is refused.
     pub fn send(&mut self, to: Address, pgn: Pgn, bytes: &[u8]) -> Result<u64, NodeError>
         ensures answered { IsAnswered self.old (Send self.old.address to pgn bytes.now) self.new result }
         ensures number { IfOk result (λ number. (applied self.old.segment (Send self.old.address to pgn bytes.now)).1 ≡ Sent number) }
@@ -84,9 +84,9 @@ impl Node {
         self.send_bytes(to, pgn, Bytes::new(items))
     }
 
-    /// The same for bytes that the caller gives away, which aren't copied.
+    /// `send`, for bytes that the caller gives away, which aren't copied.
     ///
-    /// Refused for the causes of `send`, and else as `OutOfMemory` where memory is refused. The bytes are gone then.
+    /// Refused for the causes of `send`, and else as `OutOfMemory` if memory is refused. The bytes are gone then.
     pub fn send_bytes(&mut self, to: Address, pgn: Pgn, bytes: Bytes) -> Result<u64, NodeError>
         ensures answered { IsAnswered self.old (Send self.old.address to pgn bytes) self.new result }
         ensures number { IfOk result (λ number. (applied self.old.segment (Send self.old.address to pgn bytes)).1 ≡ Sent number) }
@@ -116,11 +116,11 @@ impl Node {
         }
     }
 
-    /// Cancels a message that has no outcome yet: its outcome is `Cancelled`, and where its frames are under way to one node an
-    /// abort is queued.
+    /// Cancels a message that has no outcome yet: its outcome is `Cancelled`, and if its frames are under way to one node an abort is
+    /// queued.
     ///
-    /// Refused as `NoSuchStation` for address 254, `NothingToSend` where there is no such message, and `TxFull` where the abort has
-    /// no place in the transmit queue; and else as `OutOfMemory` where memory is refused.
+    /// Refused as `NoSuchStation` for address 254, `NothingToSend` if there is no such message, and `TxFull` if the abort has no
+    /// place in the transmit queue; and else as `OutOfMemory` if memory is refused.
     pub fn cancel(&mut self, to: Address, number: u64) -> Result<(), NodeError>
         ensures { IsAnswered self.old (Cancel self.old.address to number) self.new result }
     {

@@ -1,4 +1,4 @@
-//! What a node answers without a step, and without memory.
+//! The readers of a node, which take no memory.
 ghost use Rattle.std.specs.Prelude.{◌≡◌, ℕ, List, length};
 ghost use Rattle.segment_law.specs.Calls.{called};
 ghost use Rattle.segment_law.specs.Readers.{lane_seen, queue_len};
@@ -10,14 +10,14 @@ use pgn_ids::Address;
 use segment_core::{Call, Counts, LaneSight, Refusal};
 
 impl Node {
-    /// What it counted, each number up to the last value of `u64`.
+    /// Its counts, each up to the last value of `u64`.
     pub fn counts(&self) -> Counts
         ensures { result ≡ self.now.segment.counts }
     {
         self.segment.counts()
     }
 
-    /// What is seen of its lane to a destination: how many messages wait or are under way, and whether it is in doubt after one that
+    /// The sight of its lane to a destination: how many messages wait or are under way, and whether it is in doubt after one that
     /// failed.
     pub fn lane(&self, to: Address) -> LaneSight
         ensures { result ≡ lane_seen self.now.segment self.now.address to }

@@ -1,4 +1,4 @@
-//! What was told and isn't taken yet.
+//! The events that aren't taken yet.
 ghost use Rattle.std.specs.Prelude.{◌≡◌, ◌<◌, ◌++◌, [], drop, slice_get, option_copied, IfOk, OnOk};
 ghost use Rattle.std.specs.Bool.{OnTrue};
 ghost use Rattle.std.specs.VecDeque.{deque_len, deque_capacity};
@@ -8,17 +8,16 @@ use segment_core::{Event, Events};
 use std::alloc::{AllocError, Global};
 use std::collections::VecDeque;
 
-/// An event, and those behind it that the same call told.
+/// An event, and those behind it that one call had.
 #[derive(Drop)]
 pub struct Part {
     pub(crate) first: Event,
     pub(crate) rest: Vec<Event>,
 }
 
-/// The events that wait, part by part: one part for each call that told something, as it came, so that only a place for it has
-/// to be there beforehand.
+/// The events that wait, part by part: one part for each call that had some, so that only a place for it must be there beforehand.
 ///
-/// There is a place for the outcome of each message that has none yet, and one more, in which a call that tells nothing finds its own. So an
+/// There is a place for the outcome of each message that has none yet, and one more, in which a call without an event finds its own. So an
 /// outcome never asks for memory; and a message that is given takes none of these places.
 #[derive(Drop)]
 pub struct Told {
@@ -30,7 +29,7 @@ pub struct Told {
 const SPARE: usize = 1;
 
 impl Told {
-    /// Nothing was told.
+    /// There is no event.
     pub(crate) fn new(alloc: Global) -> Result<Told, AllocError>
         ensures events { IfOk result (λ told. told_events told ≡ []) }
         ensures sound { IfOk result IsFrontFirst }
@@ -40,14 +39,14 @@ impl Told {
         Ok(Told { front: None, parts })
     }
 
-    /// Whether there is a place for what one more call tells.
+    /// Whether there is a place for the events of one more call.
     pub(crate) fn has_room(&self) -> bool
         ensures { OnTrue result (deque_len self.now.parts < deque_capacity self.now.parts) }
     {
         self.parts.len() < self.parts.capacity()
     }
 
-    /// Whether a message that is given finds a place, where so many messages have no outcome yet.
+    /// Whether a message that is given finds a place, if so many messages have no outcome yet.
     #[inline(always)]
     pub(crate) fn has_place_to_give(&self, owed: usize) -> bool
         ensures { OnTrue result (deque_len self.now.parts < deque_capacity self.now.parts) }
@@ -69,7 +68,7 @@ impl Told {
         self.parts.reserve(1)
     }
 
-    /// Keeps what a call told, for which there is a place, behind all that waits.
+    /// Keeps the events of a call, for which there is a place, behind all that wait.
     #[inline(always)]
     pub(crate) fn keep(&mut self, events: Events)
         requires sound { IsFrontFirst self.old }

@@ -12,7 +12,7 @@ use Rattle.originator.specs.declared.states.OutState.TheVariants.{AwaitCts, Send
 use Rattle.originator.specs.declared.states.Stepped.{Stepped}
 use Rattle.originator.specs.declared.states.Stepped.TheVariants.{On, Over}
 
--- where a frame leads: to this state, or it ends the message in this way
+-- the outcome of a frame: the message continues in this state, or ends in this way
 abbrev pub led : Option Ending → OutState → Stepped
 led None state = On state
 led (Some ending) state = Over (ended (link_of state) ending)
@@ -35,7 +35,7 @@ window_opened link unsent resends granted next =
       announced = false;
     }))
 
--- there is no window: a hold; a packet that isn't there or comes too soon; a packet named again, too often or not; the next packet
+-- there is no window: a hold; a packet that isn't there or is ahead of turn; a packet named again, too often or not; the next packet
 abbrev pub cts_without_window : Link → (unsent resends granted next now : ℕ) → Stepped
 cts_without_window link unsent resends granted next now =
     if granted == 0 then On (without_window link unsent resends (started now T4))
@@ -44,7 +44,7 @@ cts_without_window link unsent resends granted next now =
     else if nat_lt next unsent then window_opened link unsent (resends + 1) granted next
     else window_opened link unsent resends granted next
 
--- the CTS that opened the window, once more
+-- whether a CTS equals the one that opened the window
 abbrev pub is_equal_cts : Window → (granted next : ℕ) → Bool
 is_equal_cts s granted next = s.granted == granted && s.next == next
 
@@ -52,7 +52,7 @@ is_equal_cts s granted next = s.granted == granted && s.next == next
 abbrev pub has_unsent : Window → Bool
 has_unsent s = nat_le s.unsent s.until
 
--- during a window an equal CTS is ignored, another one drops the window, or aborts where it would lose a new packet
+-- during a window an equal CTS is ignored; another one drops the window, or aborts if it would lose a new packet
 abbrev pub cts_in_window : Window → (granted next now : ℕ) → Stepped
 cts_in_window s granted next now =
     if is_equal_cts s granted next then On (Sending s)

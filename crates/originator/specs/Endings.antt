@@ -10,7 +10,7 @@ use Rattle.originator.specs.declared.states.OutOver.{OutOver}
 use Rattle.originator.specs.declared.endings.Ending.{Ending}
 use Rattle.originator.specs.declared.endings.Ending.TheVariants as ending
 
--- it ends without a frame
+-- the message ends without a frame
 abbrev pub ends : Outcome → OutOver
 ends outcome = record { outcome = outcome; frame = None }
 
@@ -26,7 +26,7 @@ aborts link reason = gives_up link reason (Aborted (reason_byte reason))
 abbrev pub expired : Link → OutOver
 expired link = gives_up link Timeout TimedOut
 
--- it is cancelled
+-- the message is cancelled
 abbrev pub cancelled : Link → OutOver
 cancelled link = gives_up link Other Cancelled
 

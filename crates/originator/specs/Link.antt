@@ -41,7 +41,7 @@ abbrev pub request_to_send : Kind → (len pgn : ℕ) → CmFrame
 request_to_send Tp len pgn = Rts len (packet_count len) ANY_WINDOW pgn
 request_to_send Etp len pgn = EtpRts len pgn
 
--- and its frame
+-- the frame of the RTS
 abbrev pub rts_frame : Link → CanFrame
 rts_frame link = frame_of link (Cm (request_to_send link.kind link.len link.pgn))
 

@@ -49,7 +49,7 @@ abbrev pub burst_of_window : Window → List ℕ → List CanFrame
 burst_of_window s bytes =
     announcement s.link.kind s ++ packet_frames s.link s.next bytes s.at (burst_packets s)
 
--- the packets before `at` are queued: the window goes on, or is finished
+-- the packets before `at` are queued: the window continues, or is finished
 abbrev pub queued_to : Window → (at now : ℕ) → OutState
 queued_to s at now =
     if nat_lt s.until at then without_window s.link (max s.unsent at) s.resends (started now T3)

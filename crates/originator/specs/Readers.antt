@@ -14,7 +14,7 @@ link_of (AwaitCts s) = s.link
 link_of (Sending s) = s.link
 link_of (AwaitEnd s) = s.link
 
--- the first packet that was never queued, one more than there are where each was
+-- the first packet that was never queued; one more than the last if each was
 abbrev pub unsent_of : OutState → ℕ
 unsent_of (AwaitCts s) = s.unsent
 unsent_of (Sending s) = s.unsent
@@ -36,11 +36,11 @@ timer_of (AwaitCts s) = Some s.timer
 timer_of (Sending s) = None
 timer_of (AwaitEnd s) = Some s.timer
 
--- it awaits a CTS or the end acknowledgement
+-- the message awaits a CTS or the end acknowledgement
 abbrev pub has_timer : OutState → Bool
 has_timer state = is_some (timer_of state)
 
--- its timer is due
+-- the message's timer is due
 abbrev pub is_state_due : OutState → ℕ → Bool
 is_state_due (AwaitCts s) now = is_due s.timer now
 is_state_due (Sending s) now = false
@@ -61,7 +61,7 @@ without_window link unsent resends timer =
     then AwaitCts (record { link = link; unsent = unsent; resends = resends; timer = timer })
     else AwaitEnd (record { link = link; resends = resends; timer = timer })
 
--- the state that goes on has the same message
+-- the state that follows has this message
 abbrev pub KeepsLink : Link → Stepped → Type 0
 KeepsLink link (On state) = link_of state ≡ link
 KeepsLink link (Over over) = ⊤

@@ -23,7 +23,7 @@ pub record IsSending (a : SendingFields) : Type 0 where
   pub unsent_to : a.unsent ≤ packets_of a.link + 1
   pub resends : a.resends ≤ most_resends
 
--- at most two resends
+-- the count of resends, at most two
 pub record IsAwaitEnd (a : AwaitEndFields) : Type 0 where
   pub resends : a.resends ≤ most_resends
 

@@ -13,7 +13,7 @@ use Rattle.originator.specs.declared.states.OutState.{OutState}
 use Rattle.originator.specs.declared.states.Stepped.{Stepped}
 use Rattle.originator.specs.declared.states.Stepped.TheVariants.{On, Over}
 
--- an end acknowledgement of so many bytes: it counts where the message has them and each packet was queued
+-- an end acknowledgement of so many bytes: it counts if the message has them and each packet was queued
 abbrev pub on_end : OutState → ℕ → Stepped
 on_end state size =
     if size == (link_of state).len && is_all_queued state then Over acknowledged

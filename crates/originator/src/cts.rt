@@ -84,7 +84,7 @@ impl OutState {
         self.go_by_cts(granted, next, now)
     }
 
-    /// The same where there is no window, or it is dropped.
+    /// Follows a CTS when there is no window, or after the window is dropped.
     fn go_by_cts(&mut self, granted: u8, next: u32, now: u64) -> Option<Ending>
         ensures step { cts_without_window (link_of self.old) (unsent_of self.old) (resends_of self.old) granted next now ≡ led result self.new }
         ensures link { link_of self.new ≡ link_of self.old }

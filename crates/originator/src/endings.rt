@@ -10,11 +10,11 @@ use tp_wire::{AbortReason, Outcome};
 /// How a frame of the destination ends a message.
 #[derive(Clone, Copy, Debug, PartialEq, Eq)]
 pub enum Ending {
-    /// It acknowledges the whole message.
+    /// The frame acknowledges the whole message.
     Acknowledged,
-    /// It is an abort of the message, with this reason.
+    /// The frame aborts the message, with this reason.
     Aborted(u8),
-    /// It breaks the rules: the sender aborts the message for this reason.
+    /// The frame breaks the rules: the sender aborts the message for this reason.
     Abort(AbortReason),
 }
 
@@ -52,7 +52,7 @@ impl Link {
 }
 
 impl OutState {
-    /// Its timer fired: the message ended as timed out, and an abort is queued. `is_due` says where it has a timer.
+    /// Its timer fired: the message ends as timed out, and an abort is queued. `is_due` says when it has a timer.
     pub fn expire(self) -> OutOver
         ensures { result ≡ expired (link_of self) }
     {

@@ -171,7 +171,7 @@ impl OutImage {
     }
 }
 
-// Whether two timers are the same.
+// Whether two timers are equal.
 fn is_same_timer(a: Timer, b: Timer) -> bool
     ensures { IsTrue result ↔ (a ≡ b) }
 {

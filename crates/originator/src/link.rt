@@ -91,7 +91,7 @@ impl Link {
         self.kind == kind && pgn.clean().raw() == self.pgn.raw()
     }
 
-    /// Whether it is the same message as another.
+    /// Whether it equals another message.
     pub(crate) fn is_same(self, other: Link) -> bool
         ensures { IsTrue result ↔ (self ≡ other) }
     {

@@ -81,7 +81,7 @@ impl Sending {
 }
 
 impl OutState {
-    /// Queues the next frames of the window behind those of a queue at tick `now`, one to eight, or none where there is no
+    /// Queues the next frames of the window behind those of a queue at tick `now`, one to eight, or none if there is no
     /// window: in ETP its data packet offset (DPO) first, then its packets. `bytes` is the message. After the last packet of
     /// the window a CTS or the end acknowledgement is awaited for T3.
     #[inline(never)]

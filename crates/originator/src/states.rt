@@ -29,7 +29,7 @@ pub struct OutOver {
 
 /// What a step leaves.
 pub enum Stepped {
-    /// The message goes on.
+    /// The message continues.
     On(OutState),
     /// It ended.
     Over(OutOver),
@@ -98,7 +98,7 @@ impl OutState {
         self.link().is_of(kind, pgn)
     }
 
-    /// Whether its timer is due at tick `now`. It has one where it awaits a CTS or the end acknowledgement.
+    /// Whether its timer is due at tick `now`. It has one while it awaits a CTS or the end acknowledgement.
     pub fn is_due(&self, now: u64) -> bool
         ensures value { result ≡ is_state_due self.now now }
         ensures timer { result ≡ true → has_timer self.now ≡ true }
@@ -110,7 +110,7 @@ impl OutState {
         }
     }
 
-    /// It goes on in another state of the message, and the one that it leaves is spent.
+    /// Continues in another state of the message, and spends the one that it leaves.
     pub(crate) fn go_to(&mut self, next: OutState)
         ensures { self.new ≡ next }
     {

@@ -60,9 +60,9 @@ impl OutState {
         }
     }
 
-    /// Takes a frame of the destination where the state stands, at tick `now`: a CTS or an end acknowledgement of its transport
-    /// and PGN. Every other frame leaves the message as it is. If the frame ends the message, it says how and changes nothing:
-    /// `end` is left to do.
+    /// Takes a frame of the destination at tick `now`, and changes the state in place. A CTS or an end acknowledgement of its
+    /// transport and PGN counts; every other frame leaves the message unchanged. If the frame ends the message, it returns how
+    /// and changes nothing: `end` is left to do.
     #[inline]
     pub fn take(&mut self, heard: &Heard<'_>, now: u64) -> Option<Ending>
         ensures step { stepped self.old (meant heard.now) now ≡ led result self.new }
@@ -75,7 +75,7 @@ impl OutState {
         }
     }
 
-    /// The same, by value.
+    /// `take`, by value.
     pub fn step(mut self, wire: &Wire, now: u64) -> Stepped
         ensures value { result ≡ stepped self wire.now now }
         ensures link { KeepsLink (link_of self) result }

@@ -7,7 +7,7 @@ use crate::address::Address;
 use crate::pgn::{Pgn, WirePgn};
 use bus_frame::{CanId, IdParts};
 
-/// What an identifier says: priority (0 to 7), PGN, destination and source. To all where the PGN is PDU2.
+/// What an identifier says: priority (0 to 7), PGN, destination and source. A PDU2 PGN goes to all.
 #[derive(Clone, Copy, Debug, PartialEq, Eq)]
 pub struct IdMeaning {
     pub priority: u8,

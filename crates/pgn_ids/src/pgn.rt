@@ -17,7 +17,7 @@ const PDU2_START: u32 = 240;
 #[error("a PGN has 18 bits, and in the PDU1 format a low byte of 0")]
 pub struct BadPgn;
 
-/// A parameter group number: 18 bits, with the low byte 0 where its format is PDU1.
+/// A parameter group number: 18 bits, with the low byte 0 if its format is PDU1.
 #[derive(Clone, Copy, Debug, PartialEq, Eq)]
 pub struct Pgn {
     raw: u32,
@@ -62,7 +62,7 @@ fn is_pdu1_format(raw: u32) -> bool
 }
 
 impl Pgn {
-    /// The PGN with this number, refused exactly where that is above 18 bits or of PDU1 with a low byte other than 0.
+    /// The PGN with this number. Refused exactly if it has more than 18 bits, or is PDU1 with a low byte other than 0.
     pub fn new(raw: u32) -> Result<Pgn, BadPgn>
         ensures { MatchResult result (λ p. (p ≡ raw) × (is_pgn raw ≡ true)) (λ _. is_pgn raw ≡ false) }
     {
@@ -100,7 +100,7 @@ impl Pgn {
 }
 
 impl WirePgn {
-    /// The field with this value, refused exactly where that is above 18 bits.
+    /// The field with this value. Refused exactly if it has more than 18 bits.
     pub fn new(raw: u32) -> Result<WirePgn, BadPgn>
         ensures { MatchResult result (λ p. (p ≡ raw) × (raw < 2 ^ 18)) (λ _. 2 ^ 18 ≤ raw) }
     {
@@ -127,7 +127,7 @@ impl WirePgn {
         self.raw
     }
 
-    /// The PGN that is meant: the low byte is cleared where the format is PDU1.
+    /// The PGN that is meant: the low byte is cleared if the format is PDU1.
     pub fn clean(self) -> Pgn
         ensures { result ≡ clean self }
     {

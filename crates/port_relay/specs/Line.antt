@@ -1,5 +1,5 @@
--- The rule of the line: what was put is what was taken, and then what the line holds, which are at most 16 messages. One pass at
--- most may put, and it has the list of what was put; the same of taking.
+-- The rule of the line: the messages put are those taken, and then those that the line holds, which are at most 16. At most one
+-- pass may put, and it has the list of the messages put; likewise one pass may take.
 use Rattle.std.specs.Prelude.{◌≡◌, ℕ, ◌≤◌, Bool, true, List, [], ◌∷◌, ◌++◌, length, Option, Some, None}
 use mathlib.Core.Option.{some}
 use lib.ListN.{get_elem?}

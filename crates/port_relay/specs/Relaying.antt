@@ -7,9 +7,9 @@ use Rattle.port_relay.specs.declared.relaying.Relayed.{Relayed}
 use Rattle.port_relay.specs.declared.stopping.Ended.TheVariants.{Limit}
 use Rattle.port_relay.specs.Working.{receives_all, submits_all, relayed_to, IsFit}
 
--- what the inbox received is what the client submitted, to one station, and then what is left, in order and byte for byte; what
--- was submitted are messages that the client may submit, so that nothing is submitted behind one that it may not. Where the receiving
--- ended at the limit, as many were received
+-- the inbox received what the client submitted, to one station, and then what is left, in order and byte for byte. All that was
+-- submitted are messages that the client may submit, so nothing is submitted behind one that it may not. If the receiving ended at
+-- the limit, as many were received
 pub record IsRelayed (to : Address) (limit : ℕ) (i j : InboxEnd) (c d : ClientEnd) (r : Relayed) : Type 0 where
   pub pushed : List Delivery
   pub inbox : j ≡ receives_all i (pushed ++ r.left.items) j.gone j.spare

@@ -1,5 +1,5 @@
-//! The gateway between two segments: what one of them gives to a port is sent on over the other, in order, nothing dropped,
-//! repeated or invented.
+//! The gateway between two segments: messages that one of them gives to a port are sent on over the other, in order,
+//! nothing dropped, repeated or invented.
 //!
 //! Two sides on two threads carry the messages, with a channel of 16 places between them. An acknowledgement on the second
 //! segment says nothing to the sender on the first.

@@ -1,5 +1,5 @@
-//! The line between the two workers: a bounded channel under the rule that what was put is what was taken, and then what the
-//! line holds.
+//! The line between the two workers: a bounded channel under the rule that the messages put are those taken, and then those
+//! that the line holds.
 ghost use Rattle.std.specs.Prelude.{◌≡◌, ◌+◌, ◌≤◌, ◌<◌, true, false, List, [], ◌∷◌, ◌++◌, length, IfOk, MatchOption, vec_len, vec_capacity};
 ghost use Rattle.crossbeam_channel.specs.Claims.{view, IsSeatAt};
 ghost use Rattle.crossbeam_channel.specs.Ends.{sends_on, receives_on, ruled_capacity};
@@ -99,7 +99,7 @@ pub(crate) fn open(alloc: Global) -> Result<(Sender, Receiver, Way, Way), AllocE
     Ok((sender, receiver, writer, reader))
 }
 
-/// Puts a message at the back, or hands it back where the line is full.
+/// Puts a message at the back, or hands it back if the line is full.
 pub(crate) fn put<R: Wait>(
     rt: &R,
     sender: &Sender,
@@ -119,7 +119,7 @@ pub(crate) fn put<R: Wait>(
     }
 }
 
-/// Takes the message at the front. Who may put and take too learns from an empty line that all was taken.
+/// Takes the message at the front. A pass that may both put and take learns from an empty line that all was taken.
 pub(crate) fn take<R: Wait>(rt: &R, receiver: &Receiver, pass: &mut Way) -> Option<Delivery>
     requires seat { IsSeatAt (receives_on receiver.now) pass.old }
     requires may { (view pass.old).takes ≡ true }
@@ -146,7 +146,7 @@ pub(crate) fn rejoin(sender: &Sender, pass: &mut Way, other: Way)
     sender.learn_as::<Rest>(pass);
 }
 
-/// Takes what the line still holds, behind what is left already, for which there is room.
+/// Takes the messages that the line still holds, behind those left already, for which there is room.
 pub(crate) fn drain<R: Wait>(rt: &R, receiver: &Receiver, pass: &mut Way, left: &mut Vec<Delivery>)
     requires seat { IsSeatAt (receives_on receiver.now) pass.old }
     requires both { view pass.old ≡ log true true (view pass.old).put (view pass.old).taken }

@@ -104,7 +104,7 @@ fn settle<R: Wait>(
     }
 }
 
-// One round: both sides at once, or one after the other where no thread can be made for the one that submits.
+// One round: both sides at once, or one after the other if no thread can be made for the one that submits.
 fn run_round<R: Threads + Wait + Sync, G: Gate + Sync>(
     rt: &R,
     sender: &Sender,
@@ -136,7 +136,7 @@ fn run_round<R: Threads + Wait + Sync, G: Gate + Sync>(
     );
 }
 
-// Rounds until a side has ended: more than one only where no thread can be made, or where one begins late.
+// Rounds until a side has ended: more than one only if no thread can be made, or if one begins late.
 fn run_rounds<R: Threads + Wait + Sync, G: Gate + Sync>(
     rt: &R,
     sender: &Sender,
@@ -166,15 +166,15 @@ fn run_rounds<R: Threads + Wait + Sync, G: Gate + Sync>(
     }
 }
 
-/// Receives at most so many messages from an inbox, and has a client of another segment submit them to a station, with the same
-/// PGN and bytes. Two sides do so on two threads, 0 receiving and 1 submitting, each with at most so many turns; each turn passes
-/// the gate first. Where no second thread can be made, they take turns on the one that there is.
+/// Receives at most so many messages from an inbox, and has a client of another segment submit them to a station, with their PGN
+/// and bytes. Two sides do so on two threads, 0 receiving and 1 submitting, each with at most so many turns; each turn passes the
+/// gate first. If no second thread can be made, the sides take turns on one.
 ///
-/// What the inbox received meanwhile is what the client submitted, and then what is left. Where the client's ring is full it is
-/// tried again; any other refusal, and want of memory, ends the submitting, and want of memory in receiving ends the receiving.
-/// The receiving ends too where the submitting has ended, and the submitting where the receiving has and all else is submitted;
-/// the answer says why each of them did. Want of memory is answered only before the first message is received, and then nothing
-/// has changed.
+/// What the inbox received meanwhile is what the client submitted, and then what is left. If the client's ring is full, the
+/// submission is tried again. Any other refusal, and want of memory, ends the submitting; want of memory in receiving ends the
+/// receiving. The receiving also ends once the submitting has ended, and the submitting once the receiving has ended and all else
+/// is submitted; the result says why each of them did. The call fails for want of memory only before the first message is
+/// received, and then nothing has changed.
 pub fn relay<R: Threads + Wait + Sync, G: Gate + Sync>(
     rt: &R,
     alloc: Global,
@@ -192,7 +192,7 @@ pub fn relay<R: Threads + Wait + Sync, G: Gate + Sync>(
     relay_until(rt, alloc, inbox, client, route, limit, turns, gate, &never)
 }
 
-/// As `relay`, until `stop` is set: each side looks at it at each of its turns, behind the gate, and ends where it is. What was
+/// `relay`, until `stop` is set: each side looks at it at each of its turns, behind the gate, and ends if it is set. What was
 /// received and isn't submitted is left.
 pub fn relay_until<R: Threads + Wait + Sync, G: Gate + Sync>(
     rt: &R,

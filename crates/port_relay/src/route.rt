@@ -1,4 +1,4 @@
-//! Where a relay sends to.
+//! The destination of a relay.
 ghost use Rattle.std.specs.Prelude.{◌≡◌, true, false, MatchResult};
 ghost use Rattle.pgn_ids.specs.Address.{is_one};
 ghost use Rattle.segment_law.specs.declared.refusal.Refusal.TheVariants.{NoSuchStation};

@@ -2,7 +2,7 @@
 use segment_shared::Refusal;
 use std::sync::atomic::{AtomicBool, Ordering};
 
-/// A word by which a program ends the relays that it lends it to. Any thread may set it, and it stays set.
+/// A word with which a program ends the relays that it lends it to. Any thread may set it, and it stays set.
 ///
 /// No contract says what it holds, since another thread may set it at any moment.
 #[derive(Drop)]
@@ -11,7 +11,7 @@ pub struct Stop {
 }
 
 impl Stop {
-    /// One that isn't set.
+    /// A signal that isn't set.
     pub fn new() -> Stop {
         Stop {
             is_set: AtomicBool::new(false),
@@ -32,13 +32,13 @@ impl Stop {
 /// Why a side of a relay ended.
 #[derive(Clone, Copy, Debug, PartialEq, Eq)]
 pub enum Ended {
-    /// It has made all its turns.
+    /// The side has made all its turns.
     Turns,
-    /// As many messages were received as were to be.
+    /// The limit of messages was received.
     Limit,
     /// The client refused a message, for this cause, which isn't `RingFull`.
     Refused(Refusal),
-    /// It found no memory.
+    /// The side found no memory.
     OutOfMemory,
     /// The relay was stopped.
     Stopped,

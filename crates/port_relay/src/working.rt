@@ -37,8 +37,8 @@ pub(crate) struct Terms<'t, G> {
     pub(crate) stop: &'t Stop,
 }
 
-/// What the sides tell one another in a round: whether the one that submits has begun, whether the one that receives has ended the
-/// round and goes on in the next one, and which of them has ended for good.
+/// What the sides let one another know in a round: whether the one that submits has begun, whether the one that receives has ended
+/// the round and continues in the next one, and which of them has ended for good.
 #[derive(Drop)]
 pub(crate) struct Round {
     has_begun: AtomicBool,
@@ -76,7 +76,7 @@ pub(crate) struct Worked {
     pub(crate) hand: Option<Delivery>,
 }
 
-/// How many turns a side has made, and why it has ended, where it has and will do nothing more.
+/// How many turns a side has made, and why it has ended, if it has ended for good.
 #[derive(Clone, Copy)]
 pub(crate) struct Course {
     pub(crate) turns: u64,
@@ -95,7 +95,7 @@ impl Course {
     }
 }
 
-/// A side of a relay: its pass for the line, what it has done, and how far it has come.
+/// A side of a relay: its pass for the line, what it has done, and its course.
 #[derive(Drop)]
 pub(crate) struct Side {
     pub(crate) pass: Way,
@@ -104,7 +104,7 @@ pub(crate) struct Side {
 }
 
 impl Side {
-    /// One that has done nothing yet.
+    /// A side that has done nothing yet.
     pub(crate) fn new(pass: Way) -> Side
         ensures pass { result.pass ≡ pass }
         ensures worked { (result.worked.count ≡ 0) × (result.worked.hand ≡ None) }
@@ -124,7 +124,8 @@ impl Side {
     }
 }
 
-// Receives a message, where none is in hand, one waits and fewer than the limit were received. Why no more are to be, where none are.
+// Receives a message, if none is in hand, one waits and fewer than the limit were received. Otherwise returns why no more are to be
+// received, if so.
 fn receive_one(inbox: &mut Inbox, worked: &mut Worked, limit: u64) -> Option<Ended>
     requires within { worked.old.count ≤ limit }
     ensures pulled { (start : InboxEnd) (v : Log) → HasPulled start inbox.old v worked.old → HasPulled start inbox.new v worked.new }
@@ -148,7 +149,7 @@ fn receive_one(inbox: &mut Inbox, worked: &mut Worked, limit: u64) -> Option<End
     }
 }
 
-// Puts what is in hand into the line, where there is something and the line has a place.
+// Puts what is in hand into the line, if there is something and the line has a place.
 fn put_one<R: Wait>(rt: &R, line: &Sender, pass: &mut Way, worked: &mut Worked)
     requires places { ruled_capacity (sends_on line.now) ≡ 16 }
     requires seat { IsSeatAt (sends_on line.now) pass.old }
@@ -216,8 +217,8 @@ fn pull_turns<R: Wait, G: Gate>(
 
 /// Receives messages, up to the limit, and puts them into the line; at most one in each turn, which passes the gate first.
 ///
-/// It ends for good at the limit, after its turns, at want of memory and where it is stopped. It ends its round where the other side
-/// has ended, and where it can do nothing while the other side has not begun, as one that no thread could be made for.
+/// It ends for good at the limit, after its turns, at want of memory and if it is stopped. It ends its round if the other side has
+/// ended, or if it can do nothing while the other side has not begun, as when no thread could be made for that.
 pub(crate) fn pull<R: Wait, G: Gate>(
     rt: &R,
     line: &Sender,
@@ -254,7 +255,7 @@ pub(crate) fn pull<R: Wait, G: Gate>(
     }
 }
 
-// Takes a message out of the line, where one is there.
+// Takes a message out of the line, if there is one.
 fn take_one<R: Wait>(rt: &R, line: &Receiver, pass: &mut Way, worked: &mut Worked)
     requires seat { IsSeatAt (receives_on line.now) pass.old }
     requires may { (view pass.old).takes ≡ true }
@@ -267,7 +268,7 @@ fn take_one<R: Wait>(rt: &R, line: &Receiver, pass: &mut Way, worked: &mut Worke
     worked.hand = take(rt, line, pass);
 }
 
-// Submits what is in hand, where there is something. Why nothing is to be submitted any more, where it isn't.
+// Submits what is in hand, if there is something. Returns why nothing more is to be submitted, if so.
 fn submit_one(client: &mut Client, to: Address, worked: &mut Worked) -> Option<Ended>
     requires few { worked.old.count + 1 < 2 ^ 64 }
     ensures pushed { (start : ClientEnd) (v : Log) → HasPushed to start client.old v worked.old → HasPushed to start client.new v worked.new }
@@ -352,11 +353,11 @@ fn push_turns<R: Wait, G: Gate>(
     }
 }
 
-/// Takes messages out of the line, and submits them to the station; at most one in each turn, which passes the gate first. Where
-/// the client's ring is full it tries again.
+/// Takes messages out of the line, and submits them to the station; at most one in each turn, which passes the gate first. If the
+/// client's ring is full it tries again.
 ///
-/// It ends for good after its turns, at any other refusal, at want of memory and where it is stopped. It ends its round where the
-/// other side has ended and the line is empty, and where it can do nothing while the other side waits for the next round.
+/// It ends for good after its turns, at any other refusal, at want of memory and if it is stopped. It ends its round if the other
+/// side has ended and the line is empty, or if it can do nothing while the other side waits for the next round.
 pub(crate) fn push<R: Wait, G: Gate>(
     rt: &R,
     line: &Receiver,

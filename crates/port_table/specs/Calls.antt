@@ -22,12 +22,12 @@ after_call ports (Close number) = unless_refused (closing_refusal ports number) 
 after_call ports (Pause number) = unless_refused (pausing_refusal ports number) ports (with_paused ports number true)
 after_call ports (Resume number) = unless_refused (resuming_refusal ports number) ports (with_paused ports number false)
 
--- the number that a call answers, before the others
+-- the number that a call returns, before the others
 abbrev pub given_before : Option Refused → ℕ → List ℕ → List ℕ
 given_before None number others = number ∷ others
 given_before (Some cause) number others = others
 
--- the numbers that `open` answers over the calls
+-- the numbers that `open` returns over the calls
 abbrev pub numbers_given : Ports → List PortCall → List ℕ
 numbers_given ports [] = []
 numbers_given ports (Open pgn max_len ∷ calls) = given_before (opening_refusal ports) (next_id ports).number (numbers_given (after_call ports (Open pgn max_len)) calls)

@@ -1,4 +1,4 @@
--- A set of ports as it is kept: sixteen numbers, of which those before the first 0 are its ports. No port has the number 0.
+-- A set of ports as it is kept: sixteen numbers. Those before the first 0 are its ports. No port has the number 0.
 use Rattle.std.specs.Prelude.{ℕ, ◌≡◌, ◌==◌, ◌-◌, ◌++◌, List, length, drop, replicate}
 use Rattle.std.specs.List.{before_first, position_or_len}
 use Rattle.std.proofs.Common.{◌≤◌, take, refl, length-take-le}

@@ -47,7 +47,7 @@ impl PortsImage {
     }
 }
 
-// Whether two ports are the same.
+// Whether two ports are equal.
 fn is_same(a: &Port, b: &Port) -> bool
     ensures { IsTrue result ↔ (a.now ≡ b.now) }
 {
@@ -57,7 +57,7 @@ fn is_same(a: &Port, b: &Port) -> bool
         && a.paused == b.paused
 }
 
-// Whether these are the same ports.
+// Whether the ports are equal.
 fn are_same(a: &[Port], b: &[Port]) -> bool
     ensures { IsTrue result ↔ (a.now ≡ b.now) }
 {

@@ -4,8 +4,8 @@ ghost use Rattle.std.specs.List.Sorted.{IsStrictlyIncreasing};
 ghost use Rattle.port_table.specs.Ports.{Ports};
 ghost use Rattle.port_table.specs.Calls.{PortCall, numbers_given};
 
-/// Over every list of calls on a table, each number that `open` answers is above all that it answered before, and
-/// above all that the table gave before these calls.
+/// A law: over every list of calls on a table, each number that `open` returns is above all that it returned
+/// before, and above all that the table gave before these calls.
 pub fn numbers_are_never_used_again()
     ensures rising { (ports : Ports) (calls : List PortCall)
         → IsStrictlyIncreasing (numbers_given ports calls) }

@@ -33,7 +33,7 @@ impl Model for PortSet {
     ghost inverse_ok = { set_fields_back };
 }
 
-// How many of these numbers stand before the first 0.
+// How many of these numbers precede the first 0.
 #[inline(always)]
 fn count(kept: &[u64]) -> usize
     ensures { result ≡ ports_in kept.now }
@@ -113,7 +113,7 @@ impl PortSet {
         self.numbers().contains(&number)
     }
 
-    /// The set less a port, in the same order.
+    /// The set without a port, in its order.
     pub fn without(&self, number: u64) -> PortSet
         ensures { result ≡ without_number self.now number }
     {

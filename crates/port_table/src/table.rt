@@ -83,8 +83,8 @@ impl PortTable {
 
     /// Opens a port for messages of a PGN, of at most `max_len` bytes. Its number is the next one, from 1.
     ///
-    /// Refused as `PortsFull` exactly where 16 ports are open, or the next number would pass the end of `u64`; then
-    /// nothing changes.
+    /// Refused as `PortsFull` exactly if 16 ports are open or the next number would pass the end of `u64`; then nothing
+    /// changes.
     pub fn open(&mut self, pgn: Pgn, max_len: u32) -> Result<PortId, Refused>
         ensures id { IfOk result (λ id. id ≡ next_id self.old) }
         ensures ok { OnOk result (self.new ≡ with_port self.old pgn max_len) }
@@ -119,14 +119,14 @@ impl PortTable {
         None
     }
 
-    /// Closes a port. Refused as `NoSuchPort` exactly where no open port has this number; then nothing changes.
+    /// Closes a port. Refused as `NoSuchPort` exactly if no open port has this number; then nothing changes.
     pub fn close(&mut self, number: u64) -> Result<(), Refused>
         ensures ok { OnOk result (self.new ≡ without_port self.old number) }
         ensures refused { result_err result ≡ closing_refusal self.old number }
         ensures err { OnErr result (self.new ≡ self.old) }
         ensures valid { ArePorts self.new }
     {
-        // The ports are looked through once: where all stay, none has the number.
+        // One pass over the ports: if all stay, none has the number.
         let open = self.ports.len();
         remove(&mut self.ports, number);
         if self.ports.len() == open {
@@ -149,9 +149,9 @@ impl PortTable {
         None
     }
 
-    /// Pauses a port: it is found as before, and sessions that give to it are held.
+    /// Pauses a port: it is found as before, and its sessions are held.
     ///
-    /// Refused as `NoSuchPort` exactly where no open port has this number, else as `PortPaused` where it is paused; then
+    /// Refused as `NoSuchPort` exactly if no open port has this number, else as `PortPaused` if it is paused; then
     /// nothing changes.
     pub fn pause(&mut self, number: u64) -> Result<(), Refused>
         ensures ok { OnOk result (self.new ≡ with_paused self.old number true) }
@@ -182,8 +182,8 @@ impl PortTable {
 
     /// Ends the pause of a port.
     ///
-    /// Refused as `NoSuchPort` exactly where no open port has this number, else as `PortNotPaused` where it isn't paused;
-    /// then nothing changes.
+    /// Refused as `NoSuchPort` exactly if no open port has this number, else as `PortNotPaused` if it isn't paused; then
+    /// nothing changes.
     pub fn resume(&mut self, number: u64) -> Result<(), Refused>
         ensures ok { OnOk result (self.new ≡ with_paused self.old number false) }
         ensures refused { result_err result ≡ resuming_refusal self.old number }

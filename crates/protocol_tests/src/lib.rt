@@ -1,5 +1,5 @@
-//! Tests of the protocol, through what its crates show: of the layers below the sessions (`frame`), of the messages that come in to a station and
-//! the table of their sessions (`session`), and of the lanes and the receivers of a station, and of a station (`station`).
+//! Tests of the protocol, through the crates' public items: of the layers below the sessions (`frame`), of received messages and the table of
+//! their sessions (`session`), and of the lanes and the receivers of a station, and of a station (`station`).
 #![tactic(auto)]
 
 #[cfg(test)]

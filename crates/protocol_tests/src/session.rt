@@ -1,4 +1,4 @@
-//! Tests of the messages that come in to a station, and of the table of their sessions, through what these crates show.
+//! Tests of received messages, and of the table of their sessions, through the crates' public items.
 mod broadcasts;
 mod connections;
 mod extended_connections;

@@ -1,4 +1,4 @@
--- What is told of so many bytes read of all.
+-- The text about the bytes read so far.
 use Rattle.std.specs.Prelude.{ℕ, ◌/◌, List, ◌++◌, codes}
 use Rattle.std.specs.Fmt.{decimal}
 

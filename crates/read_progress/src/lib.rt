@@ -1,4 +1,4 @@
-//! A reader that tells how far it has come, on one line that goes on in place.
+//! A reader that reports its progress, on one line that is rewritten in place.
 #![tactic(auto)]
 
 mod progress;

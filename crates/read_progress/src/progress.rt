@@ -1,4 +1,4 @@
-//! A reader and what it tells.
+//! A reader and its reports.
 ghost use Rattle.std.specs.Prelude.{◌≡◌, ◌++◌, IfOk, OnOk};
 ghost use Rattle.read_progress.specs.Text.{progress_text};
 
@@ -9,20 +9,20 @@ use std::time::{Clock, Duration, Instant};
 use text_digits::{put_decimal, put_text};
 use text_lines::tell;
 
-/// For how many milliseconds nothing is told.
+/// For how many milliseconds nothing is reported.
 const PATIENCE: u64 = 1_000;
 
-/// For how many milliseconds what was told stands.
+/// For how many milliseconds a report stands.
 const STEP: u64 = 200;
 
 /// How many bytes a megabyte has.
 const MEGABYTE: u64 = 1_000_000;
 
-/// A reader of so many bytes that tells on a writer how many of them it has read, once it has read for more than a second, and then up to
-/// five times a second.
+/// A reader of so many bytes that reports on a writer how many of them it has read, once it has read for more than a second, and then up
+/// to five times a second.
 ///
-/// What is told stands on one line, each text in the place of the one before, and the last one stays there. Where the writer fails, the
-/// clock can't be read or memory is refused, nothing is told, and reading goes on.
+/// The reports share one line, each text in the place of the one before, and the last one stays there. If the writer fails, the clock
+/// can't be read or memory is refused, nothing is reported, and reading continues.
 #[derive(Drop)]
 pub struct Progress<'a, R, C, W> {
     alloc: Global,
@@ -32,12 +32,12 @@ pub struct Progress<'a, R, C, W> {
     /// How many bytes there are, and how many of them were read.
     size: u64,
     done: u64,
-    /// When it began, and for how long it has to read until it tells again.
+    /// When it began, and how long it reads until the next report.
     start: Instant,
     due: Duration,
 }
 
-/// Puts what is told of so many bytes read of all behind what `out` holds.
+/// Puts the report on so many bytes read of all behind what `out` holds.
 fn put_progress(out: &mut Vec<u8>, done: u64, size: u64) -> Result<(), AllocError>
     ensures { OnOk result (out.new.items ≡ out.old.items ++ progress_text done size) }
 {
@@ -49,7 +49,7 @@ fn put_progress(out: &mut Vec<u8>, done: u64, size: u64) -> Result<(), AllocErro
 }
 
 impl<'a, R: Read + Drop, C: Clock, W: Write + Drop> Progress<'a, R, C, W> {
-    /// A reader of what `inner` has, of which nothing was read yet. It fails only where the clock can't be read.
+    /// A reader of what `inner` has; nothing was read yet. It fails only if the clock can't be read.
     pub fn new(
         alloc: Global,
         inner: R,
@@ -74,7 +74,7 @@ impl<'a, R: Read + Drop, C: Clock, W: Write + Drop> Progress<'a, R, C, W> {
         })
     }
 
-    // Tells how far it has come, where that is due.
+    // Reports the progress, if that is due.
     fn tell(&mut self)
         ensures { self.new.inner ≡ self.old.inner }
     {

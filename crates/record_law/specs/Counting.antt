@@ -49,12 +49,12 @@ abbrev pub is_malformed_to : Option Station → Option CanFrame → Bool
 is_malformed_to (Some st) (Some frame) = is_malformed_for st frame
 is_malformed_to _ _ = false
 
--- so is the frame that the station at a place takes next, or takes again
+-- the frame that the station at a place takes next, or takes again, is malformed
 abbrev pub malformed_at : Segment → (again : Bool) → Option ℕ → Bool
 malformed_at seg again None = false
 malformed_at seg again (Some i) = is_malformed_to (slice_get seg.stations i) (frame_for seg again i)
 
--- a Take or a TakeAgain is of such a frame
+-- whether a call is a Take or a TakeAgain of such a frame
 abbrev pub is_malformed_take : Segment → Call → Bool
 is_malformed_take seg (Take station room) = malformed_at seg false (place_of seg station)
 is_malformed_take seg (TakeAgain station room) = malformed_at seg true (place_of seg station)

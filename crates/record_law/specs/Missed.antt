@@ -19,8 +19,8 @@ is_take_at a _ = false
 abbrev pub takes_at : Address → Step → Bool
 takes_at a step = is_done step.1 && is_take_at a step.0
 
--- a station has no incoming session and no connection under way; and its TakeAgain is refused, whatever calls come between,
--- until it has taken a frame
+-- a station has no incoming session and no connection under way; its TakeAgain is refused after any calls, until it has
+-- taken a frame
 pub record HasMissed (seg : Segment) (a : Address) : Type 0 where
   pub none : HasNoneUnderWay (station_at seg a)
   pub again : (more : Record) (room : Bool) → IsTrue (list_all is_call (calls_of more)) → replies_from seg (calls_of more) ≡ replies_of more

@@ -13,12 +13,12 @@ use Rattle.segment_law.specs.declared.reply.Reply.TheVariants.{Sent}
 abbrev pub Answered : Type 0
 Answered = ℕ × Message
 
--- of a Send from s to d
+-- the number and the message of a Send from s to d
 abbrev pub answered_by : (s d : Address) → Call → Reply → List Answered
 answered_by s d (Send from to pgn bytes) (Sent number) = if is_lane s d from to then (number, (pgn, bytes)) ∷ [] else []
 answered_by s d _ _ = []
 
--- in the order sent
+-- the numbers and messages of a lane's Sends, in the order sent
 abbrev pub answered : Record → (s d : Address) → List Answered
 answered steps s d = items_of (told (λ step. answered_by s d step.0 step.1) steps)
 

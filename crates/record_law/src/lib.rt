@@ -1,8 +1,8 @@
-//! What holds of every record whatever frames the bus carries: what ports are given, that each message has one outcome, and
-//! what a segment answers without a step.
+//! The laws of every record, whatever frames the bus carries: what ports are given, that each message has one outcome, and what
+//! a segment's readers return.
 //!
-//! Its lemmas are those that all laws of records share: of tests and lists, of look-ups in the parts of a segment, of what steps
-//! tell, and the walk along a record, call by call.
+//! Its lemmas are those that all laws of records share: on tests and lists, on look-ups in the parts of a segment, on the events
+//! of steps, and the induction along a record, call by call.
 #![tactic(auto)]
 
 pub mod outcomes;

@@ -47,7 +47,7 @@ Step = Result Plans Fault
 abbrev pub text_of : Plans → List ℕ
 text_of p = p.now.text
 
--- as the segment that is set up now goes on
+-- the plans after a step of the segment that is set up now
 abbrev pub goes_on : Plans → setup.Step → Step
 goes_on p (Ok q) = Ok (record p { now = q })
 goes_on p (Err f) = Err f
@@ -69,7 +69,7 @@ pgn_of_port [] xs q = None
 pgn_of_port (p ∷ ps) [] q = None
 pgn_of_port (p ∷ ps) (x ∷ xs) q = cond (same_port p q) (pgn_asked x.call) (pgn_of_port ps xs q)
 
--- how many of the messages are of this PGN, and to this station or to all
+-- how many of the messages have this PGN, and are for this station or for all
 abbrev pub count_to : (station : Address) → (pgn : ℕ) → List Message → ℕ
 count_to a pgn [] = 0
 count_to a pgn (m ∷ ms) = cond ((m.pgn == pgn) && ((m.to.0 == a.0) || (m.to.0 == 255))) 1 0 + count_to a pgn ms
@@ -89,7 +89,7 @@ led_by first addresses w (Some pgn) =
     else if w.from.0 == w.to.0 then Err SameStation
     else Ok (record { port = w.port; from = w.from; to = w.to; limit = count_to w.port.station pgn first.messages })
 
--- where a route leads, by stations of the second segment
+-- the passage of a route to stations of the second segment, or why there is none
 abbrev pub passage_of : (first : Plan) → List Address → RouteWords → Result Passage Refusal
 passage_of first addresses w = led_by first addresses w (port_pgn first w.port)
 
@@ -127,7 +127,7 @@ placed_by p name words =
 abbrev pub named_by : Plans → (name : List ℕ) → (rest : List (List ℕ)) → Step
 named_by p name rest = if bytes_eq name (codes "route") then routed_by p rest else placed_by p name (name ∷ rest)
 
--- nothing stands behind the route
+-- nothing may follow the route
 abbrev pub ordered_by : Plans → Routing → List ℕ → List (List ℕ) → Step
 ordered_by p routings.NotYet name words = named_by p name words
 ordered_by p routings.Refused name words = Err UnknownCommand
@@ -166,6 +166,6 @@ Done result p q step = script.Done text_of result p q step
 abbrev pub HasRoom : Plans → ℕ → Type 0
 HasRoom p n = CallsBelow p.now.made n
 
--- so few that one more can be
+-- there are so few calls that one more can be made
 abbrev pub FewCalls : Plans → Type 0
 FewCalls p = HasRoom p 1000000

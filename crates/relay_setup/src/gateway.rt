@@ -9,7 +9,8 @@ use script_setup::Setup;
 use std::alloc::Global;
 use std::mem;
 
-/// From a port of the first segment by a client of one station of the second to another, so many messages at most.
+/// The passage of a relay: from a port of the first segment, by a client of one station of the second, to another station, with
+/// so many messages at most.
 #[derive(Clone, Copy, Debug, PartialEq, Eq)]
 pub struct Passage {
     pub port: PortId,
@@ -27,7 +28,7 @@ pub enum Routing {
 }
 
 impl Routing {
-    /// Where the route leads, where it leads somewhere.
+    /// The passage of the route, if there is one.
     pub fn passage(self) -> Option<Passage>
         ensures { result ≡ passage_in self }
     {

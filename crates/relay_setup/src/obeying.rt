@@ -24,7 +24,7 @@ fn obey_now(alloc: Global, gateway: &mut Gateway, words: &[&[u8]]) -> Result<(),
     script_setup::obey_words(alloc, &mut gateway.here, words)
 }
 
-// The same of the second segment, which begins with this line.
+// Obeys a line of the second segment, which begins with this line.
 fn obey_second(alloc: Global, gateway: &mut Gateway, words: &[&[u8]]) -> Result<(), LineError>
     ensures { Done result (plans_of gateway.old) (plans_of gateway.new) (obeyed_now (with_second (plans_of gateway.old)) (texts words.now)) }
 {

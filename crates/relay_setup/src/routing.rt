@@ -1,4 +1,4 @@
-//! Where a route leads.
+//! The passage of a route.
 ghost use Rattle.std.specs.Prelude.{◌≡◌, ◌<◌, length, map, slice_index_or};
 ghost use Rattle.stored_calls.specs.declared.stored.Stored.{Stored};
 ghost use Rattle.segment_law.specs.Told.{same_port};
@@ -44,7 +44,7 @@ fn is_of(inbox: &Inbox, port: PortId) -> bool
     own.station.0 == port.station.0 && own.number == port.number
 }
 
-// The PGN of a port, where it is one of these. Each call opened the port of its place.
+// The PGN of a port, if it is one of these. Each call opened the port of its place.
 fn pgn_of_port(inboxes: &[Inbox], calls: &StoredCalls, port: PortId) -> Option<Pgn>
     ensures { result ≡ pgn_of_port (map port_of inboxes.now) calls.now.items port }
 {
@@ -59,7 +59,7 @@ fn pgn_of_port(inboxes: &[Inbox], calls: &StoredCalls, port: PortId) -> Option<P
     None
 }
 
-// The PGN of a port, where it was opened.
+// The PGN of a port, if it was opened.
 fn port_pgn(first: &Setup, port: PortId) -> Option<Pgn>
     ensures { result ≡ port_pgn (plan_of first.now) port }
 {
@@ -69,7 +69,7 @@ fn port_pgn(first: &Setup, port: PortId) -> Option<Pgn>
     pgn_of_port(first.inboxes.as_slice(), live.calls(), port)
 }
 
-// How many of the messages are of a PGN, and to one station or to all.
+// How many of the messages have a PGN, and are for one station or for all.
 fn count_to(station: Address, pgn: Pgn, messages: &[Message]) -> u64
     ensures { result ≡ count_to station pgn messages.now }
 {
@@ -90,7 +90,7 @@ fn refuse(alloc: Global, gateway: &mut Gateway, cause: Refusal) -> Result<(), Li
     gateway.here.refuse(alloc, cause)
 }
 
-// Where a route leads to the second segment, or why it leads nowhere.
+// The passage of a route to the second segment, or why there is none.
 fn passage_of(first: &Setup, second: &Uncut, words: RouteWords) -> Result<Passage, Refusal>
     ensures { result ≡ passage_of (plan_of first.now) second.now.addresses words }
 {

@@ -32,7 +32,7 @@ abbrev pub opens : Call → Bool
 opens (Open station pgn max_len) = true
 opens _ = false
 
--- an opening is answered by a port, a Send by a number, and every other call by events, where they aren't refused
+-- if it isn't refused, an opening is answered by a port, a Send by a number, and every other call by events
 abbrev pub IsAnsweredBy : Call → Reply → Type 0
 IsAnsweredBy call (Opened p) = opens call ≡ true
 IsAnsweredBy call (Sent n) = is_send call ≡ true
@@ -45,7 +45,7 @@ expected seg (Take station true) = (station, wanted seg station false)
 expected seg (TakeAgain station true) = (station, wanted seg station true)
 expected seg _ = (record { 0 = null_address }, ([], 0))
 
--- what is given is given at this station, and is no longer than this
+-- the message is given at this station, and is no longer than this
 abbrev pub EventAt : Address → ℕ → Event → Type 0
 EventAt station len (event.Given port from to pgn bytes) = (port.station ≡ station) × (length bytes ≤ len)
 EventAt station len (event.Outcome from to number outcome) = Unit {0}
@@ -54,7 +54,7 @@ abbrev pub EachAt : Address → ℕ → List Event → Type 0
 EachAt station len [] = Unit {0}
 EachAt station len (e ∷ events) = EventAt station len e × EachAt station len events
 
--- what is given is no longer than this
+-- the message is no longer than this
 abbrev pub EventShort : ℕ → Event → Type 0
 EventShort n (event.Given port from to pgn bytes) = length bytes ≤ n
 EventShort n (event.Outcome from to number outcome) = Unit {0}
@@ -80,11 +80,11 @@ pub record Follows (seg : Segment) (call : Call) (next : Segment) (reply : Reply
   -- a refusal changes nothing
   pub refused : IsRefusal reply → next ≡ seg
   pub kind : IsAnsweredBy call reply
-  -- what is given is given at the ports that were wanted, in this order, and is no longer than was said
+  -- messages are given at the ports that were wanted, in this order, and are no longer than was said
   pub ports : ports_given (events_of reply) ≡ (expected seg call).1.0
   pub fits : EachAt (expected seg call).0 (expected seg call).1.1 (events_of reply)
-  -- and at ports that were opened
+  -- all are given at ports that were opened
   pub known : EachKnown next (events_of reply)
   pub stays : (p : PortId) → IsKnown p seg → IsKnown p next
-  -- a port that is opened is none of those before
+  -- a port that is opened is a new one
   pub opened : (p : PortId) → reply ≡ Opened p → IsKnown p next × ((q : PortId) → IsKnown q seg → same_port q p ≡ false)

@@ -1,4 +1,4 @@
--- Where a frame or a timer leads a receiver whose state changes where it stands (SAE J1939-21, TP.DT; ISO 11783-3, ETP.CM_DPO, ETP.DT).
+-- The step of a receiver, changed in place, at a frame or a timer (SAE J1939-21, TP.DT; ISO 11783-3, ETP.CM_DPO, ETP.DT).
 use Rattle.std.specs.Prelude.{◌≡◌, ℕ, Bool, true, false, ◌&&◌, ◌<◌, nat_lt, nat_le, List, Option, None, ◌++◌, option_to_list}
 use Rattle.bus_frame.specs.Frames.{CanFrame}
 use Rattle.tp_wire.specs.declared.reason.AbortReason.TheVariants.{Timeout}
@@ -37,12 +37,12 @@ prepared_step s wire room flow now = stepped (prepared s wire room flow) wire ro
 abbrev pub prepared_expiry : InState → Flow → (now : ℕ) → Received
 prepared_expiry s flow now = expired (prepared_to_expire s flow) flow now
 
--- a message with room for its next packet and the window behind it, where one is granted
+-- a message with room for its next packet, and for the window behind it if one is granted
 abbrev pub window_ready : Unfinished → Flow → Unfinished
 window_ready m Open = with_window_room m 1
 window_ready m Held = m
 
--- the session goes on in this state, and the frame, if there is one, is queued behind the others
+-- the session continues in this state, and the frame, if there is one, is queued behind the others
 abbrev pub GoesOn : Received → InState → (before after : List CanFrame) → Type 0
 GoesOn (On s frame) state before after = (state ≡ s) × (after ≡ before ++ option_to_list frame)
 GoesOn _ state before after = ⊥
@@ -56,7 +56,7 @@ abbrev pub Lacks : (before with_room : InState) → Flow → Type 0
 Lacks before with_room flow =
     ((unfinished_of before).kind ≡ Etp) × (flow ≡ Open) × (held (unfinished_of before).join < held (unfinished_of with_room).join)
 
--- the step with this frame leads there: it is made, or nothing has changed and this is left to do
+-- what follows from the step with this frame: it is made, or nothing has changed and this is left to do
 abbrev pub Leads : (before : InState) → Wire → (room : Bool) → Flow → (now : ℕ) → Left → (after : InState) → (queued left : List CanFrame) → Type 0
 Leads before wire room flow now Nothing after queued left = GoesOn (prepared_step before wire room flow now) after queued left
 Leads before wire room flow now Message after queued left =
@@ -66,7 +66,7 @@ Leads before wire room flow now (Abort reason) after queued left =
 Leads before wire room flow now NoMemory after queued left =
     (room ≡ true) × Lacks before (prepared before wire room flow) flow × IsUnchanged before after queued left
 
--- the same of a timer that fires
+-- that relation, for a timer that fires
 abbrev pub Fires : (before : InState) → Flow → (now : ℕ) → Left → (after : InState) → (queued left : List CanFrame) → Type 0
 Fires before flow now Nothing after queued left = GoesOn (prepared_expiry before flow now) after queued left
 Fires before flow now Message after queued left = ⊥
@@ -74,7 +74,7 @@ Fires before flow now (Abort reason) after queued left =
     (reason ≡ Timeout) × (prepared_expiry before flow now ≡ aborted (unfinished_of before) Timeout) × IsUnchanged before after queued left
 Fires before flow now NoMemory after queued left = Lacks before (prepared_to_expire before flow) flow × IsUnchanged before after queued left
 
--- a step as it is made before its answer is queued: what it answers
+-- a step before its answer is queued, with that answer
 abbrev pub Answers : (before : InState) → Wire → (room : Bool) → Flow → (now : ℕ) → Left → (after : InState) → (answer : Option CanFrame) → Type 0
 Answers before wire room flow now Nothing after answer = prepared_step before wire room flow now ≡ On after answer
 Answers before wire room flow now Message after answer =

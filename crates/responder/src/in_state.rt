@@ -22,14 +22,14 @@ use tp_wire::{AbortReason, CmFrame, Kind, Wire};
 
 /// The receiver of a connection, in whichever state it is. It must be spent.
 pub enum InState {
-    /// It awaits the packets that it granted.
+    /// The receiver awaits the packets that it granted.
     AwaitPacket(AwaitPacket),
-    /// It is on hold, and has granted none.
+    /// The receiver is on hold, and has granted none.
     Holding(Holding),
 }
 
 impl Receiver {
-    /// The same receiver as the state that it is in.
+    /// This receiver as the state that it is in.
     pub fn into_state(self) -> InState
         ensures { result ≡ self }
     {
@@ -51,7 +51,7 @@ impl Receiver {
 }
 
 impl InState {
-    /// The same receiver, whose state changes where it stands.
+    /// This receiver in the form that changes in place.
     pub fn into_receiver(self) -> Receiver
         ensures { result ≡ self }
     {
@@ -114,7 +114,7 @@ impl InState {
         }
     }
 
-    // A connection management frame comes.
+    // Takes a connection management frame.
     fn step_cm(self, frame: &CmFrame, room: bool, flow: Flow, now: u64) -> Received
         requires { IsPrepared self (Cm frame.now) room flow }
         ensures { result ≡ stepped self (Cm frame.now) room flow now }
@@ -126,7 +126,7 @@ impl InState {
         Received::Ended(Some(receiver.end(AbortReason::Other)))
     }
 
-    // A packet comes.
+    // Takes a packet.
     #[tactic(auto, using(crate::proofs::Receivers::stays_prepared))]
     fn step_packet(
         self,

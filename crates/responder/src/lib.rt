@@ -1,9 +1,9 @@
 //! The receiving side of a connection, for TP (SAE J1939-21, connection mode data transfer) and ETP (ISO 11783-3) alike: TP is
-//! ETP with offset 0, where what is granted needs no DPO, and where the room for the whole message is made as it begins.
+//! ETP with offset 0, whose granted packets need no DPO, and which makes room for the whole message as it begins.
 //!
-//! Values in, values out: there is no clock and no thread here. A `Receiver` changes where it stands, and says what a frame
-//! leaves to do. `InState` is the same receiver as typed states, by value: a step takes one and gives what follows. Either
-//! must be spent, exactly once.
+//! Values in, values out: there is no clock and no thread here. A `Receiver` changes in place, and says what is left to do
+//! after a frame. `InState` is that receiver as typed states, by value: a step takes one and gives what follows. Either must
+//! be spent, exactly once.
 #![tactic(auto)]
 
 mod finished;

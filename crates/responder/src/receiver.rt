@@ -1,4 +1,4 @@
-//! The receiver of a connection, whose state changes where it stands (SAE J1939-21, TP.DT; ISO 11783-3, ETP.CM_DPO, ETP.DT).
+//! The receiver of a connection, which changes in place (SAE J1939-21, TP.DT; ISO 11783-3, ETP.CM_DPO, ETP.DT).
 ghost use Rattle.std.specs.Prelude.{◌≡◌, ℕ, ◌+◌, ◌*◌, ◌<◌, ◌≤◌, Bool, true, false, None, length};
 ghost use Rattle.std.specs.Bool.{OnTrue, OnFalse};
 ghost use Rattle.tick_timers.specs.Timers.{is_due as is_due_at};
@@ -61,10 +61,10 @@ impl Model for Receiver {
     ghost invariant = { IsReceiver };
 }
 
-/// What a frame, or a timer that fired, leaves to do. With any answer but `Nothing` nothing has changed yet.
+/// What is left to do after a frame, or a timer that fired. If it is anything but `Nothing`, nothing has changed yet.
 #[derive(Clone, Copy, Debug, PartialEq, Eq)]
 pub enum Left {
-    /// The step is made, and what it answers is queued.
+    /// The step is made, and its answer is queued.
     Nothing,
     /// The frame completes the message: `complete` ends the receiver with it.
     Message,
@@ -74,12 +74,12 @@ pub enum Left {
     NoMemory,
 }
 
-/// Accepts an RTS of a kind at tick `now`: the receiver, and the frame to be queued, which is the first CTS, or a hold if the
-/// session is held (SAE J1939-21, TP.CM_CTS; ISO 11783-3, ETP.CM_CTS).
+/// Accepts an RTS of a kind at tick `now`: the receiver, and the frame to be queued, which is the first CTS, or a hold if the session
+/// is held (SAE J1939-21, TP.CM_CTS; ISO 11783-3, ETP.CM_CTS).
 ///
-/// A CTS grants `most` packets at most. The join is that of a message of a size that the kind carries, of which no packet has
-/// come. In TP it has room for all packets, so that no later call takes memory. In ETP it has room for the first window if the
-/// session is open and needs none if it is held, and has room for 64 packets at most.
+/// A CTS grants `most` packets at most. The join is that of a message of a size that the kind carries, and has no packet yet. In TP
+/// it has room for all packets, so that no later call takes memory. In ETP it has room for the first window if the session is open
+/// and needs none if it is held, and has room for 64 packets at most.
 pub fn begin(
     kind: Kind,
     peer: Peer,
@@ -102,7 +102,7 @@ pub fn begin(
 }
 
 impl Receiver {
-    /// Asks for the window from the next packet on, or tells the peer to hold.
+    /// Asks for the window from the next packet on, or asks the peer to hold.
     pub(crate) fn asking(message: Unfinished, flow: Flow, now: u64) -> (Receiver, Frame)
         requires room { HasRoom flow message }
         requires within_window { FitsWindow message }
@@ -153,7 +153,7 @@ impl Receiver {
         }
     }
 
-    /// Accepts a packet inside a window, as most of what comes is. If it is any other, this is false, and nothing has changed.
+    /// Accepts a packet inside a window, as most frames are. For any other frame it returns false, and nothing has changed.
     #[inline(always)]
     pub(crate) fn accept(&mut self, kind: Kind, sequence: u8, bytes: &[u8; 7], now: u64) -> bool
         ensures value { result ≡ is_inner self.old (Packet kind sequence bytes.now) }
@@ -171,7 +171,7 @@ impl Receiver {
         true
     }
 
-    // A packet comes that isn't inside a window, and what it answers is queued. Out of line, since such packets are few.
+    // Takes a packet that isn't inside a window, and queues the answer. Out of line, since such packets are few.
     #[inline(never)]
     #[tactic(auto, using(crate::proofs::Receivers::queued, crate::proofs::Receivers::not_queued))]
     fn take_other(
@@ -197,7 +197,7 @@ impl Receiver {
         left
     }
 
-    /// A packet comes that isn't inside a window.
+    /// Takes a packet that isn't inside a window.
     pub(crate) fn take_packet(
         &mut self,
         kind: Kind,
@@ -255,8 +255,8 @@ impl Receiver {
         Left::Nothing
     }
 
-    /// A connection management frame comes, of which only a DPO of ETP is for a receiver. If it is wrong, this is false, nothing
-    /// has changed, and the session is to be ended.
+    /// Takes a connection management frame; only a DPO of ETP is for a receiver. If it is wrong, this returns false, nothing has
+    /// changed, and the session must be ended.
     #[inline(never)]
     pub(crate) fn take_cm(&mut self, frame: &CmFrame) -> bool
         ensures step { OnTrue result ((room : Bool) (flow : Flow) (now : ℕ) → prepared_step self.old (Cm frame.now) room flow now ≡ On self.new None) }
@@ -273,7 +273,7 @@ impl Receiver {
         }
     }
 
-    // A DPO comes.
+    // Takes a DPO.
     fn take_dpo(&mut self, packets: u8, offset: u32, pgn: WirePgn) -> bool
         ensures step { OnTrue result ((room : Bool) (flow : Flow) (now : ℕ) → prepared_step self.old (Cm (EtpDpo packets offset pgn)) room flow now ≡ On self.new None) }
         ensures wrong { OnFalse result ((room : Bool) (flow : Flow) (now : ℕ) → prepared_step self.old (Cm (EtpDpo packets offset pgn)) room flow now ≡ aborted (unfinished_of self.old) Other) }
@@ -298,7 +298,7 @@ impl Receiver {
         true
     }
 
-    /// Ends with the last packet, which `take` left: the message, whose packets have all come, in the size that was announced.
+    /// Ends with the last packet, which `take` left: the message with all its packets, in the size that was announced.
     #[tactic(auto, using(crate::proofs::Receivers::has_room))]
     pub fn complete(self, packet: &[u8; 7]) -> Finished
         requires { awaits_last self ≡ true }
@@ -364,14 +364,14 @@ impl Receiver {
         message
     }
 
-    /// The kind of connection that the message comes by.
+    /// The kind of connection that carries the message.
     pub fn kind(&self) -> Kind
         ensures { result ≡ (unfinished_of self.now).kind }
     {
         self.message.kind()
     }
 
-    /// Whom the message comes from.
+    /// The peer that sends the message.
     pub fn peer(&self) -> Peer
         ensures { result ≡ (unfinished_of self.now).peer }
     {
@@ -406,8 +406,8 @@ impl Receiver {
         }
     }
 
-    /// How many bytes of memory it holds. In ETP those are the bytes that came and a window at most, and while a step is
-    /// prepared the packet that the step accepts.
+    /// How many bytes of memory it holds. In ETP those are the bytes received and a window at most, and, while a step is prepared,
+    /// the packet that the step accepts.
     pub fn memory(&self) -> usize
         ensures value { result ≡ held (unfinished_of self.now).join }
         ensures small { (unfinished_of self.now).kind ≡ Etp → result ≤ length (unfinished_of self.now).join.bytes + 7 * (1 + ETP_MAX_WINDOW) }

@@ -13,14 +13,14 @@ use tick_timers::{T2, TH, Timer};
 /// Whether a receiver awaits packets.
 #[derive(Clone, Copy, Debug, PartialEq, Eq)]
 pub(crate) enum Stage {
-    /// It does: the last one granted, and the last one announced.
+    /// The receiver awaits packets: the last one granted, and the last one announced.
     Awaiting { granted: u32, until: u32 },
-    /// It is on hold.
+    /// The receiver is on hold.
     OnHold,
 }
 
-/// Asks for the window from the next packet on, or tells the peer to hold: the stage that this leads to, the timer that starts,
-/// and the frame.
+/// Asks for the window from the next packet on, or asks the peer to hold: the stage that follows, the timer that starts, and
+/// the frame.
 #[inline(always)]
 pub(crate) fn ask(message: &Unfinished, flow: Flow, now: u64) -> (Stage, Timer, Frame)
     requires room { HasRoom flow message.now }

@@ -1,4 +1,4 @@
-//! Logs that are decoded: what of one is asked for, and how what was counted of it is shown.
+//! Logs that are decoded: the options of a case, and the text of its counts.
 use crate::runs::{Runs, no_memory, show_end};
 use bus_decode::{Cause, Decoded, Options, Strays, Wanted, run_decode};
 use std::alloc::Global;
@@ -66,7 +66,7 @@ impl Recorded {
     }
 }
 
-/// Whether a log was decoded without want of memory, for which alone a vector refuses a write.
+/// Whether a log was decoded without want of memory, the only reason for which a vector refuses a write.
 fn has_ended(decoded: &Decoded) -> bool {
     match decoded.fault {
         None => true,
@@ -74,7 +74,7 @@ fn has_ended(decoded: &Decoded) -> bool {
     }
 }
 
-/// Puts what is told on standard error behind what was told there.
+/// Puts the lines for standard error behind those that are there.
 fn tell(errors: &mut Vec<u8>, decoded: &Decoded) -> io::Result<()> {
     if let Some(fault) = decoded.fault {
         writeln!(errors, "{fault}")?;

@@ -1,4 +1,4 @@
-//! Where two texts differ.
+//! The first line in which two texts differ.
 use std::io;
 
 /// The number of the first line in which two texts differ.
@@ -17,7 +17,7 @@ fn differing_line(printed: &[u8], text: &[u8]) -> u64 {
     line
 }
 
-/// A line of a text, empty where it has no such line.
+/// A line of a text, empty if it has no such line.
 fn line_of(text: &str, number: u64) -> &str {
     let mut at = 1u64;
     for line in text.split('\n') {
@@ -29,7 +29,7 @@ fn line_of(text: &str, number: u64) -> &str {
     ""
 }
 
-/// Tells on standard error in which line what was printed differs from its text.
+/// Reports on standard error in which line what was printed differs from its text.
 pub(crate) fn tell_difference(
     rt: &impl Eprint,
     name: &str,

@@ -1,8 +1,8 @@
 //! Runs cases, and compares what each prints with the text that is stated for it, byte for byte. Standard input lists the cases, a line each: the
 //! way in which it is run, and the name of its files. Blank lines there and those that begin with `#` are passed over.
 //!
-//! `NAME.text` is what is to be printed of `NAME.script`, `NAME.log` or `NAME.node`. A case that prints its text is told by its line; of each
-//! other one standard error tells by its name in which line it differs, or why it can't be run, and the status is 1 then.
+//! `NAME.text` is what is to be printed of `NAME.script`, `NAME.log` or `NAME.node`. A case that prints its text is reported by its line. For
+//! each other one standard error names the case and the line in which it differs, or why it can't be run, and the status is 1 then.
 #![tactic(auto)]
 
 mod decoding;
@@ -20,7 +20,7 @@ use std::process::ExitCode;
 use std::rt::Files;
 use std::{fs, io};
 
-/// What stands between two pieces of an input, each of which is run by itself.
+/// The text between two pieces of an input, each of which is run by itself.
 const BETWEEN: &str = "\n==\n";
 
 /// Runs the pieces of an input, and shows what they write, with a line `==` between each two.
@@ -41,7 +41,7 @@ fn show_pieces<R: Runs>(
     Ok(())
 }
 
-/// Whether an input prints its text; standard error tells where it doesn't.
+/// Whether an input prints its text; standard error shows where it doesn't.
 fn prints<R: Runs>(
     rt: &(impl Eprint + AllocGlobal),
     runs: &mut R,
@@ -51,7 +51,7 @@ fn prints<R: Runs>(
 ) -> io::Result<bool> {
     let mut shown = Vec::new(rt.alloc());
     if let Err(error) = show_pieces(rt.alloc(), runs, input, &mut shown) {
-        // Whatever memory was refused, nothing false may have been told before.
+        // If memory was refused, all that was printed before must still be right.
         if !text.as_bytes().starts_with(shown.as_slice()) {
             tell_difference(rt, name, shown.as_slice(), text)?;
         }
@@ -64,7 +64,7 @@ fn prints<R: Runs>(
     Ok(false)
 }
 
-/// Whether the files of this name, of which the input's ends so, are as they are to be.
+/// Whether the files of this name, whose input has this ending, are as they are to be.
 fn holds<R: Runs>(
     rt: &(impl Eprint + AllocGlobal + Files),
     mut runs: R,
@@ -104,7 +104,7 @@ fn case_holds(rt: &(impl Eprint + AllocGlobal + Files), way: &str, name: &str) -
     }
 }
 
-/// Whether the case of a line holds, which is told by the line. Whatever keeps a case from being run fails that case alone.
+/// Whether the case of a line holds, which is reported by the line. Whatever keeps a case from being run fails that case alone.
 fn line_holds(rt: &(impl Print + Eprint + AllocGlobal + Files), line: &str) -> io::Result<bool> {
     if line.is_empty() || line.starts_with('#') {
         return Ok(true);

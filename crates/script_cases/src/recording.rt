@@ -1,4 +1,4 @@
-//! Logs that are drawn: what of one is asked for, and how what was counted of it is shown.
+//! Logs that are drawn: the options of a case, and the text of its counts.
 use crate::runs::{Runs, no_memory, show_end};
 use bus_script::Cause;
 use log_drawing::{Drawn, Options, Pair, draw_log};
@@ -27,7 +27,7 @@ fn pair(word: &str) -> Option<Pair> {
     })
 }
 
-/// Asks for what a word with its value asks for. None if it is none of these.
+/// Sets the option that a word with its value names. None if it names none.
 fn ask(options: &mut Options, name: &str, value: &str) -> Option<()> {
     match name {
         "--pair" => options.pair = Some(pair(value)?),
@@ -60,7 +60,7 @@ impl Pictured {
     }
 }
 
-/// Whether a log was drawn without want of memory, for which alone a vector refuses a write.
+/// Whether a log was drawn without want of memory, the only reason for which a vector refuses a write.
 fn has_ended(drawn: &Drawn) -> bool {
     match drawn.fault {
         None => true,

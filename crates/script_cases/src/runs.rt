@@ -10,12 +10,12 @@ use std::io::{ErrorKind, Write};
 
 /// Runs the pieces of a case, one after another.
 pub(crate) trait Runs: Drop {
-    /// Runs a piece, and puts behind `shown` what it writes: standard output, below a line `--` standard error, if it tells anything, and the
-    /// status, if that isn't 0. Where it finds no memory, what it puts there is a front of that.
+    /// Runs a piece, and puts behind `shown` what it writes: standard output, standard error below a line `--` if it has any, and the status,
+    /// if that isn't 0. If it finds no memory, what it puts there is a front of that.
     fn run(&mut self, alloc: Global, piece: &[u8], shown: &mut Vec<u8>) -> io::Result<()>;
 }
 
-/// Puts what standard error tells, and the status, behind what was written.
+/// Puts standard error, and the status, behind what was written.
 pub(crate) fn show_end(shown: &mut Vec<u8>, errors: &[u8], status: u8) -> io::Result<()> {
     if !errors.is_empty() {
         shown.extend_from_slice(b"--\n")?;
@@ -59,7 +59,7 @@ fn end_of_node(ran: &bus_node::Ran) -> End {
     }
 }
 
-/// Whether a run came to an end without want of memory, for which alone a vector refuses a write. What was printed of a call that found none
+/// Whether a run ended without want of memory, the only reason for which a vector refuses a write. What was printed of a call that found none
 /// isn't shown.
 fn has_ended(end: &End, before: usize, shown: &mut Vec<u8>) -> bool {
     if end.memory_refused {
@@ -76,7 +76,7 @@ pub(crate) fn no_memory() -> io::Error {
     io::Error::from(ErrorKind::OutOfMemory)
 }
 
-/// Puts what a run told behind what it wrote.
+/// Puts the error output of a run behind what it wrote.
 fn show_ran(end: &End, before: usize, errors: &mut Vec<u8>, shown: &mut Vec<u8>) -> io::Result<()> {
     if !has_ended(end, before, shown) {
         return Err(no_memory());

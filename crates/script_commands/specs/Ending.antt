@@ -20,7 +20,7 @@ abbrev pub read_cause : ReadError → Cause
 read_cause reads.Failed = causes.ReadFailed
 read_cause reads.OutOfMemory = causes.OutOfMemory
 
--- the line that tells of a fault
+-- the line that reports a fault
 abbrev pub fault_line : ScriptFault → List ℕ
 fault_line f = elim f.cause [
   | causes.ReadFailed ↦ codes "line " ++ decimal f.line ++ codes ": read failed"

@@ -15,7 +15,7 @@ abbrev pub ◌>>=◌ : {A B : Type 0} → Result A Fault → (A → Result B Fau
 (Ok x) >>= f = f x
 (Err e) >>= f = Err e
 
--- what a function returned, seen by view, is what reading gives, unless memory ran out
+-- the result of a function, seen by view, equals that of reading, unless memory ran out
 abbrev pub Fails : {Y : Type 0} → LineError → Result Y Fault → Type 0
 Fails errors.OutOfMemory read = Unit {0}
 Fails (errors.Fault f) read = read ≡ Err f
@@ -40,17 +40,17 @@ bounded_word most word = at_most most (decimal_word word)
 abbrev pub number_of : ℕ → List ℕ → Result ℕ Fault
 number_of most word = or_bad (bounded_word most word)
 
--- at most two hexadecimal digits
+-- an address of at most two hexadecimal digits
 abbrev pub address_of : List ℕ → Result Address Fault
 address_of word = do
   n ← or_bad (at_most 255 (hex_word 2 word))
   Ok (record { 0 = n })
 
--- at most five
+-- a PGN of at most five hexadecimal digits
 abbrev pub pgn_of : List ℕ → Result ℕ Fault
 pgn_of word = or_bad (at_most 1048575 (hex_word 5 word))
 
--- at most eight
+-- an identifier of at most eight hexadecimal digits
 abbrev pub id_of : List ℕ → Result ℕ Fault
 id_of word = or_bad (at_most 4294967295 (hex_word 8 word))
 

@@ -12,17 +12,17 @@ is_ascii (b ∷ bs) = nat_lt b 128 && is_ascii bs
 abbrev pub texts : List (Bor (List ℕ)) → List (List ℕ)
 texts words = map (λ w. w.now) words
 
--- the word, where it has a byte
+-- the word, if it has a byte
 abbrev pub some_word : List ℕ → List (List ℕ)
 some_word [] = []
 some_word (b ∷ bs) = (b ∷ bs) ∷ []
 
--- the words of a line that goes on by these bytes, where a word stands at its end so far
+-- the words of a line that continues with these bytes, after the front of a word
 abbrev pub words_from : List ℕ → List ℕ → List (List ℕ)
 words_from word [] = some_word word
 words_from word (b ∷ bs) = if b == 32 then some_word word ++ words_from [] bs else words_from (word ++ b ∷ []) bs
 
--- what stands between spaces
+-- the words between spaces
 abbrev pub words_of : List ℕ → List (List ℕ)
 words_of line = words_from [] line
 

@@ -30,7 +30,7 @@ impl Addresses {
         }
     }
 
-    /// One more, behind the others.
+    /// Puts one more address behind the others.
     pub(crate) fn push(&mut self, address: Address) -> Result<(), AllocError>
         ensures { OnOk result (self.new ≡ self.old ++ address ∷ []) }
     {

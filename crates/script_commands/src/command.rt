@@ -264,8 +264,8 @@ fn counts(words: &[&[u8]]) -> Result<Command, LineError>
 
 /// What the words of a line ask for: `name` is the first of them, `words` those behind it.
 ///
-/// The first fault is that of the name, then of how many words there are, then of the words in their order. Where each word
-/// is well written and its value fits no PGN, identifier or frame, that is a command too, `Refused`. Besides faults, the only
+/// The first fault is that of the name, then of how many words there are, then of the words in their order. If each word is
+/// well written and its value fits no PGN, identifier or frame, that is a command too, `Refused`. Besides faults, the only
 /// error is that memory was refused.
 #[tactic(auto, unfolding(crate::specs::Commands::command_of))]
 pub fn read_command(alloc: Global, name: &[u8], words: &[&[u8]]) -> Result<Command, LineError>
@@ -298,7 +298,7 @@ pub fn read_command(alloc: Global, name: &[u8], words: &[&[u8]]) -> Result<Comma
     read_later_command(alloc, name, words)
 }
 
-// The same of the names further down in the table.
+// `read_command`, for the names further down in the table.
 #[tactic(auto, unfolding(crate::specs::Commands::later_command_of))]
 fn read_later_command(alloc: Global, name: &[u8], words: &[&[u8]]) -> Result<Command, LineError>
     ensures { Gives (λ c. c) result (later_command_of name.now (texts words.now)) }

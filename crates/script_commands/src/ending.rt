@@ -1,4 +1,4 @@
-//! Where a script ended before its end, and why.
+//! The line at which a script ended before its end, and why.
 ghost use Rattle.std.specs.Prelude.{◌≡◌, Some};
 ghost use Rattle.script_commands.specs.Ending.{cause_of, read_cause, fault_line};
 
@@ -19,7 +19,7 @@ pub enum Cause {
     Fault(Fault),
 }
 
-/// Where a script ended before its end, and why. Lines count from 1.
+/// The line at which a script ended before its end, and why. Lines count from 1.
 #[derive(Clone, Copy, Debug, PartialEq, Eq)]
 pub struct ScriptFault {
     pub line: u64,

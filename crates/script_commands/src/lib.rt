@@ -1,7 +1,7 @@
 //! What a line of a script asks for: its words, the command that they mean, or the first fault in them; and where and why a script
 //! ended before its end.
 //!
-//! Nothing here knows a segment that is made: whether a command can be obeyed is for the layer above.
+//! Nothing here knows a segment that is made: the layer above says whether a command can be obeyed.
 #![tactic(auto)]
 
 mod addresses;

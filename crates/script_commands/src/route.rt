@@ -8,7 +8,7 @@ use crate::values::{WRONG_NUMBER, address, port};
 use pgn_ids::Address;
 use port_table::PortId;
 
-/// What is given to a port of the first segment goes on from one address to another on the second.
+/// Messages that a port of the first segment is given are sent from one address to another on the second.
 #[derive(Clone, Copy, Debug, PartialEq, Eq)]
 pub struct RouteWords {
     pub port: PortId,

@@ -135,8 +135,8 @@ pub(crate) fn data_word(alloc: Global, word: &[u8]) -> Result<Bytes, LineError>
     }
 }
 
-/// The bytes of a message: data in pairs of hexadecimal digits, or `fill` and how many, up to 117,440,506. Of no word and of more than two
-/// the number is wrong, and any other words are bad. It fails otherwise only where memory is refused.
+/// The bytes of a message: data in pairs of hexadecimal digits, or `fill` and how many, up to 117,440,506. With no word or more than two
+/// the number is wrong, and any other words are bad. Otherwise it fails only if memory is refused.
 #[tactic(auto, unfolding(crate::specs::Values::payload_of))]
 pub fn payload(alloc: Global, words: &[&[u8]]) -> Result<Bytes, LineError>
     ensures { Gives (λ b. b) result (payload_of (texts words.now)) }

@@ -18,7 +18,7 @@ pub fn is_ascii(line: &[u8]) -> bool
     true
 }
 
-/// Puts a word behind the others, where it has a byte.
+/// Puts a word behind the others, if it has a byte.
 fn push_word<'a>(words: &mut Vec<&'a [u8]>, word: &'a [u8]) -> Result<(), AllocError>
     ensures { OnOk result (texts words.new.items ≡ texts words.old.items ++ some_word word.entry.now) }
 {
@@ -28,7 +28,7 @@ fn push_word<'a>(words: &mut Vec<&'a [u8]>, word: &'a [u8]) -> Result<(), AllocE
     Ok(())
 }
 
-/// The words of a line, parted by one or more spaces. It fails only where memory is refused.
+/// The words of a line, parted by one or more spaces. It fails only if memory is refused.
 pub fn split_words(alloc: Global, line: &[u8]) -> Result<Vec<&[u8]>, AllocError>
     ensures { IfOk result (λ words. texts words.items ≡ words_of line.now) }
 {

@@ -5,6 +5,6 @@ use Rattle.frame_arrows.specs.Opening.{opening}
 use Rattle.frame_arrows.specs.Runs.{arrows}
 use Rattle.bus_drawing.specs.Notes.{notes}
 
--- of what a line tells: the stations where the segment is made, the arrows of the frames that are put, the notes of the events
+-- the drawing of a line's telling: the stations if the segment is made, the arrows of the frames that are put, the notes of the events
 abbrev pub drawing_of : Telling → List ℕ
 drawing_of told = opening told.stations ++ arrows told.frames ++ notes told.events

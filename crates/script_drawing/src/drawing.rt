@@ -1,4 +1,4 @@
-//! What is drawn of what a line tells.
+//! The drawing of a line's telling.
 ghost use Rattle.std.specs.Prelude.{◌≡◌, ◌++◌, OnOk, option_to_list};
 ghost use Rattle.frame_arrows.specs.Runs.{arrows};
 

@@ -1,4 +1,5 @@
-//! A script, drawn: it is read and obeyed line by line, and what each line puts and tells is drawn before the next line is read.
+//! A script, drawn: it is read and obeyed line by line, and the frames and events of each line are drawn before the
+//! next line is read.
 #![tactic(auto)]
 
 mod drawing;

@@ -1,5 +1,5 @@
--- A script that is read to its end, or to its first fault. Its lines set up a plan, each by one step; text is what is printed of
--- refused lines, and ends what is wrong with a script that ends at a plan.
+-- A script that is read to its end, or to its first fault. Each of its lines sets up a plan by one step. `text` is the text of
+-- refused lines, and `ends` says what is wrong with a script that ends at a plan.
 use Rattle.std.specs.Prelude.{◌≡◌, ℕ, ◌+◌, ◌≤◌, List, [], ◌∷◌, ◌++◌, Option, Some, None, Result, Ok, Err}
 use Rattle.script_commands.specs.declared.fault.Fault.{Fault}
 use Rattle.script_commands.specs.declared.fault.LineError.{LineError}
@@ -10,7 +10,7 @@ use Rattle.script_commands.specs.declared.ending.Cause.TheVariants as causes
 use Rattle.script_commands.specs.declared.ending.ScriptFault.{ScriptFault}
 use Rattle.line_runs.specs.Limits.{script_limits, above, unless_above}
 
--- what a line leaves of a plan, or what is wrong with it; and the same of a script's end
+-- the plan after a line, or what is wrong with the line; and what is wrong with a script's end
 pub record Grammar (P : Type 0) : Type 0 where
   pub step : P → List ℕ → Result P Fault
   pub ends : P → Option Fault
@@ -20,7 +20,7 @@ pub record Grammar (P : Type 0) : Type 0 where
 abbrev pub numbered_line : {P : Type 0} → Grammar P → P → ℕ → List ℕ → Result P Fault
 numbered_line g p n text = unless_above (above script_limits n text) (g.step p text)
 
--- what is set up, and the fault with its line, where there is one
+-- what is set up, and the fault with its line, if there is one
 pub record Planned (P : Type 0) : Type 0 where
   pub plan : P
   pub fault : Option (ℕ × Fault)
@@ -33,7 +33,7 @@ abbrev pub fault_at : ℕ → Option Fault → Option (ℕ × Fault)
 fault_at n None = None
 fault_at n (Some f) = Some (n, f)
 
--- up to the first fault
+-- the plan of the lines up to the first fault
 unfoldable pub planned_from : {P : Type 0} → Grammar P → P → ℕ → List (List ℕ) → Planned P
 planned_from g p n [] = record { plan = p; fault = fault_at n (g.ends p) }
 planned_from g p n (text ∷ texts) = then_rest p n (numbered_line g p n text) (λ q. planned_from g q (n + 1) texts)
@@ -43,7 +43,7 @@ planned_by g p script = planned_from g p 1 (lines_of script)
 
 -- What holds of each line
 
--- after a line that was obeyed there is room from the next line on, and where there is room from a line on there is from a later one
+-- after a line that was obeyed there is room from the next line on; and room from a line on is room from a later one on
 abbrev pub RoomAfter : (P : Type 0) → Grammar P → (P → ℕ → Type 0) → Type 0
 RoomAfter P g HasRoom = (p q : P) (line : List ℕ) (n : ℕ) → HasRoom p n → g.step p line ≡ Ok q → HasRoom q (n + 1)
 

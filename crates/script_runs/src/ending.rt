@@ -10,7 +10,7 @@ use std::fmt;
 /// Why a run ended before its end.
 #[derive(Clone, Copy, Debug, PartialEq, Eq)]
 pub enum LiveFault {
-    /// As a script ends; behind its last line, the line is told as 0.
+    /// As a script ends; a fault behind its last line has line 0.
     Script(ScriptFault),
     /// What the threads hold at the end isn't of the segment that they shared.
     NotThisSegment,
@@ -24,7 +24,7 @@ pub struct LiveRan {
 }
 
 impl LiveRan {
-    /// The status of a program that made this run: 0 where all was done, 1 at a fault, 3 where the turns ran out.
+    /// The status of a program that made this run: 0 if all was done, 1 at a fault, 3 if the turns ran out.
     pub fn status(&self) -> u8
         ensures { result ≡ status_of self.now }
     {

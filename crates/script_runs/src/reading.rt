@@ -17,7 +17,7 @@ pub trait Planner {
     // What a line leaves of it, and what is wrong with a script that ends at it.
     ghost lines: { Grammar Self.State };
 
-    // It has room for the lines from one of this number on.
+    // There is room for the lines from one of this number on.
     ghost has_room: { Self.State → ℕ → Type 0 };
 
     /// Does what a line asks for. The first fault is answered. Want of memory is the only other error. A line that isn't obeyed prints
@@ -26,11 +26,11 @@ pub trait Planner {
         requires { has_room (state self.old) 1000000 }
         ensures { Done lines.text result (state self.old) (state self.new) (lines.step (state self.old) line.now) };
 
-    /// What is wrong where the script ends here.
+    /// What is wrong if the script ends here.
     fn wrong_end(&self) -> Option<Fault>
         ensures { result ≡ lines.ends (state self.now) };
 
-    /// Each line only adds to what is printed, and takes the room of one line.
+    /// Each line only adds to the text of refused lines, and takes the room of one line.
     fn laws()
         ensures grows { EachGrows Self.State lines }
         ensures after { RoomAfter Self.State lines has_room }

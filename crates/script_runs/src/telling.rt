@@ -6,8 +6,8 @@ use script_commands::{Cause, ScriptFault};
 use std::io::Write;
 use text_lines::tell;
 
-/// Writes what is printed of refused lines once a script is read. The run goes on where that is written and the script has no
-/// fault; else what it came to is answered.
+/// Writes the text of refused lines once a script is read. The run continues if that is written and the script has no fault;
+/// else the end of the run is returned.
 pub fn tell_refused<W: Write>(
     writer: &mut W,
     refused: &[u8],
@@ -24,7 +24,7 @@ pub fn tell_refused<W: Write>(
     }
 }
 
-/// Writes the text of what the threads leave, where there is one, and answers how the run ended.
+/// Writes the text of what the threads left, if there is one, and returns how the run ended.
 pub fn tell_run<W: Write>(writer: &mut W, told: Result<Told, Lost>) -> LiveRan
     ensures { IsRunTold told (W.contents writer.old) (W.contents writer.new) result }
 {

@@ -32,7 +32,7 @@ use Rattle.script_setup.specs.declared.setup.Message.{Message}
 use Rattle.script_setup.specs.declared.setup.Setup.{Setup}
 
 -- the stations and the calls that opened ports, once there are stations; the ports opened; how many lines asked for a message; the
--- messages; and what is printed of refused lines
+-- messages; and the text of refused lines
 pub record Plan : Type 0 where
   pub made : Option (List Address × List Stored)
   pub ports : List PortId
@@ -61,7 +61,7 @@ Step = Result Plan Fault
 abbrev pub refused_by : Plan → Refusal → Step
 refused_by p cause = Ok (record p { text = p.text ++ line (refusal_text cause) })
 
--- at most eight stations, once
+-- the stations are made: at most eight, once
 abbrev pub made_by : Plan → List Address → Step
 made_by p addresses =
     if nat_lt 8 (length addresses) then Err BadWord
@@ -70,7 +70,7 @@ made_by p addresses =
       | Some m ↦ Err StationsTwice
     ]
 
--- as the segment answers
+-- the plan after the segment's reply
 abbrev pub answered : Plan → List Address × List Stored → Call → Reply → Step
 answered p m call (Opened port) = Ok (record p { made = Some (m.0, m.1 ++ stored None call ∷ []); ports = p.ports ++ port ∷ [] })
 answered p m call (Refused cause) = refused_by p cause
@@ -83,7 +83,7 @@ opened_by p station pgn max_len = elim p.made [
   | Some m ↦ answered p m (calls.Open station pgn max_len) (reply_of (trail m.0 m.1).state (calls.Open station pgn max_len))
 ]
 
--- why a message isn't submitted, where its PGN is one: no client can be of its sender, or else the client refuses it
+-- why a message whose PGN is one isn't submitted: its sender can have no client, or else the client refuses it
 abbrev pub message_refusal : List Address → Message → Option Refusal
 message_refusal addresses m = if is_station_of addresses m.from then submit_refusal m.from m.to (length m.bytes) else Some NoSuchStation
 
@@ -157,6 +157,6 @@ CallsBelow (Some m) n = length m.1 < n
 abbrev pub HasRoom : Plan → ℕ → Type 0
 HasRoom p n = CallsBelow p.made n
 
--- so few that one more can be
+-- there are so few calls that one more can be made
 abbrev pub FewCalls : Plan → Type 0
 FewCalls p = HasRoom p 1000000

@@ -148,7 +148,7 @@ fn perform_send(alloc: Global, setup: &mut Setup, command: Command) -> Result<()
     perform(alloc, setup, command)
 }
 
-// Whether a line of this name may stand in the script.
+// Whether the script may have a line of this name.
 fn is_known(name: &[u8]) -> bool
     ensures { result ≡ is_known name.now }
 {
@@ -161,10 +161,9 @@ fn is(word: &[u8], name: &str) -> bool
     word == name.as_bytes()
 }
 
-/// Does what the words of a line ask for, the first of which names the command. The first fault is answered: that of the name, of how
-/// many words there are, of the words in their order, and then that the segment isn't made yet or is so twice. What is refused isn't a
-/// fault: it is told in the text of refused lines. Want of memory is the only other error. A line that isn't obeyed adds nothing to
-/// that text.
+/// Obeys the words of a line, the first of which names the command. It returns the first fault: that of the name, of how many words
+/// there are, of the words in their order, and then that the segment isn't made yet or is made twice. A refusal isn't a fault: it is
+/// put into the text of refused lines. Want of memory is the only other error. A line that isn't obeyed adds nothing to that text.
 #[tactic(auto, unfolding(crate::specs::Plan::obeyed_words))]
 pub fn obey_words(alloc: Global, setup: &mut Setup, words: &[&[u8]]) -> Result<(), LineError>
     requires { FewCalls (plan_of setup.old) }

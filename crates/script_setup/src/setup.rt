@@ -56,7 +56,7 @@ impl Setup {
     }
 }
 
-/// The ports of inboxes, in their order. It fails only where memory is refused.
+/// The ports of inboxes, in their order. It fails only if memory is refused.
 pub fn ports_of(alloc: Global, inboxes: &[Inbox]) -> Result<Vec<PortId>, AllocError>
     ensures { IfOk result (λ ports. ports.items ≡ map port_of inboxes.now) }
 {

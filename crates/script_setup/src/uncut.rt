@@ -1,4 +1,4 @@
-//! A segment of which nothing was cut.
+//! A segment that was never cut.
 ghost use Rattle.std.specs.Prelude.{◌≡◌, []};
 
 use live_segment::{Inbox, Live, NotMade};
@@ -7,7 +7,7 @@ use std::alloc::Global;
 use std::marker::Model;
 use stored_calls::StoredCalls;
 
-/// A segment of which nothing was cut yet, so that all calls that were made are stored.
+/// A segment that was never cut, so that all calls that were made are stored.
 #[derive(Drop)]
 pub struct Uncut {
     live: Live,

@@ -2,7 +2,7 @@
 use std::io;
 use std::io::{Error, ErrorKind, Read};
 
-/// Gives its text, and fails where it ends.
+/// Gives its text, and fails at the text's end.
 #[derive(Drop)]
 pub(crate) struct Breaking<'a> {
     pub(crate) text: &'a [u8],

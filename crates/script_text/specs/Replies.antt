@@ -1,4 +1,4 @@
--- Replies, and the frames and events that stand below them.
+-- Replies, and the frames and events below them.
 use Rattle.std.specs.Prelude.{ℕ, List, ◌++◌, length, flat_map, codes}
 use Rattle.std.specs.Fmt.{decimal}
 use Rattle.bus_frame.specs.Frames.{CanFrame}
@@ -78,6 +78,6 @@ end_text ending.OutOfMemory = no_memory
 unfoldable pub drove_line : ℕ → DriveEnd → List ℕ
 drove_line turns end = line (codes "drove " ++ decimal turns ++ codes " " ++ end_text end)
 
--- below it the frames put, then what was told
+-- the line of a drive, and below it the frames put, then the events
 abbrev pub drive_lines : ℕ → DriveEnd → List CanFrame → List Event → List ℕ
 drive_lines turns end frames events = drove_line turns end ++ put_lines frames ++ event_lines events

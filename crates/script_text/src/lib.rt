@@ -1,7 +1,7 @@
-//! What is printed of a segment's replies, frames, events and counts, and of a relay: `print_` puts whole lines behind what a buffer holds
-//! already, `put_` a part of one.
+//! The printed text of a segment's replies, frames, events and counts, and of a relay: `print_` puts whole lines behind what a buffer
+//! holds already, `put_` a part of one.
 //!
-//! A call fails only where memory is refused; what the buffer holds then is not said.
+//! A call fails only if memory is refused; what the buffer holds then is not specified.
 #![tactic(auto)]
 
 mod counts;

@@ -1,4 +1,4 @@
-//! Replies, and the frames and events that stand below them.
+//! Replies, and the frames and events below them.
 ghost use Rattle.std.specs.Prelude.{◌≡◌, ◌++◌, OnOk, codes};
 ghost use Rattle.script_text.specs.Parts.{line, port_text};
 ghost use Rattle.script_text.specs.Replies.{message_text, frame_text, given_text, ended_text, outcome_text, refusal_text, end_text, reply_line, put_line, event_line, put_lines, event_lines, drove_line};
@@ -38,7 +38,7 @@ pub fn print_refused(out: &mut Vec<u8>, cause: Refusal) -> Result<(), AllocError
     put_text(out, "\n")
 }
 
-/// The line of a reply. The events of a call that was done stand in lines of their own.
+/// The line of a reply. The events of a call that was done have lines of their own.
 #[tactic(auto, unfolding(crate::specs::Replies::reply_line))]
 pub fn print_reply(out: &mut Vec<u8>, reply: &Reply) -> Result<(), AllocError>
     ensures { OnOk result (out.new.items ≡ out.old.items ++ reply_line reply.now) }

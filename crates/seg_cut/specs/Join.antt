@@ -1,19 +1,19 @@
--- Joining the packets of a message that comes in their order (SAE J1939-21, TP.DT).
+-- Joining the packets of a message that arrive in order (SAE J1939-21, TP.DT).
 use Rattle.std.specs.Prelude.{ℕ, zero, suc, ◌+◌, ◌-◌, ◌*◌, ◌^◌, ◌≡◌, ◌<◌, ◌≤◌, Bool, ◌==◌, ◌&&◌, nat_le, List, [], ◌++◌, length, take, min, max}
 use Rattle.seg_cut.specs.Packets.{packet_count, packet}
 
--- a message of this size: the number of the next packet, the bytes that have come, and for how many more there is room
+-- a message of this size: the number of the next packet, the bytes received, and how many more packets there is room for
 pub record Join : Type 0 where
   pub size : ℕ
   pub next : ℕ
   pub bytes : List ℕ
   pub room : ℕ
 
--- nothing of the message has come
+-- no packet has arrived
 abbrev pub empty_join : ℕ → Join
 empty_join size = record { size = size; next = 1; bytes = []; room = 0 }
 
--- each packet has come
+-- each packet has arrived
 abbrev pub is_complete : Join → Bool
 is_complete j = j.next == packet_count j.size + 1
 
@@ -25,7 +25,7 @@ wants_last j = j.next == packet_count j.size
 abbrev pub wants : Join → ℕ → Bool
 wants j k = (k == j.next) && nat_le k (packet_count j.size)
 
--- with the next packet: what the message still lacks of it, without the filling
+-- a join with the next packet: the bytes of it that the message still lacks, without the filling
 abbrev pub joined : Join → List ℕ → Join
 joined j packet = record {
   size = j.size;
@@ -34,7 +34,7 @@ joined j packet = record {
   room = j.room - 1;
 }
 
--- with room for so many further packets
+-- a join with room for so many further packets
 abbrev pub with_room : Join → ℕ → Join
 with_room j packets = record j { room = max j.room packets }
 
@@ -50,7 +50,7 @@ pub record IsJoin (j : Join) : Type 0 where
   pub to_end : j.next ≤ packet_count j.size + 1
   pub so_far : length j.bytes ≡ min j.size (7 * (j.next - 1))
 
--- the packets of this message before the next one have come
+-- the bytes received are those of the message's packets before the next one
 pub record IsFrontOf (message : List ℕ) (j : Join) : Type 0 where
   pub same_size : j.size ≡ length message
   pub from_packet : 1 ≤ j.next

@@ -6,7 +6,7 @@ use Rattle.seg_cut.specs.declared.join.Join.TheInside.{Inside}
 abbrev pub view_join : Inside → Join
 view_join s = record { size = s.size; next = s.next; bytes = take (7 * (s.next - 1)) s.bytes.items; room = s.room }
 
--- its block of memory is just what there is room for, and is written whole
+-- the join's block of memory is just what there is room for, and is written whole
 pub record IsExact (s : Inside) : Type 0 where
   pub valid : IsJoin (view_join s)
   pub written : vec_len s.bytes ≡ held (view_join s)

@@ -5,7 +5,7 @@ ghost use Rattle.seg_cut.specs.Packets.{packet_count, packet as packet_of};
 /// How many bytes of a message a data frame carries, behind its sequence number.
 pub(crate) const PACKET_BYTES: usize = 7;
 
-/// What stands in the last packet past the end of the message.
+/// The bytes of the last packet past the end of the message.
 const FILLING: u8 = 0xff;
 
 /// How many packets a message of `size` bytes has: the size divided by seven, rounded up.

@@ -12,16 +12,15 @@ use std::marker::Model;
 use std::mem;
 use thiserror::Error;
 
-/// A message that comes packet by packet, in their order.
+/// A message that is joined from its packets, which arrive in order.
 ///
-/// It holds no more memory than it was asked to make room for, and has the bytes of the message alone, without the
-/// filling of the last packet.
+/// It holds no more memory than it was asked to make room for. Its bytes leave out the filling of the last packet.
 #[derive(Debug)]
 pub struct Join {
     size: u32,
     next: u32,
     room: u32,
-    // As many as there is memory for: those that have come, and behind them zeros. A packet is then written over them as a whole.
+    // As many bytes as there is memory for: those received, then zeros. So each packet is written as a whole.
     bytes: Vec<u8>,
 }
 
@@ -60,7 +59,7 @@ pub enum PutError {
 }
 
 impl Join {
-    /// A message of `size` bytes of which nothing has come. It takes no memory.
+    /// A message of `size` bytes that has no packet yet. It takes no memory.
     pub fn new(alloc: Global, size: u32) -> Join
         ensures empty { result ≡ empty_join size }
         ensures valid { IsJoin result }
@@ -81,7 +80,7 @@ impl Join {
         self.size
     }
 
-    /// The number of the next packet, from 1; one more than there are where the message is complete.
+    /// The number of the next packet, from 1; one more than the last if the message is complete.
     pub fn next(&self) -> u32
         ensures value { result ≡ self.now.next }
         ensures valid { IsJoin self.now }
@@ -89,7 +88,7 @@ impl Join {
         self.next
     }
 
-    /// How many further packets can be put without taking memory; it may be more than are still to come.
+    /// How many further packets can be put without taking memory; it may be more than are still missing.
     pub fn room(&self) -> u32
         ensures value { result ≡ self.now.room }
         ensures valid { IsJoin self.now }
@@ -104,7 +103,7 @@ impl Join {
         self.bytes.capacity()
     }
 
-    /// Whether each packet has come.
+    /// Whether each packet has arrived.
     pub fn is_complete(&self) -> bool
         ensures { result ≡ is_complete_at self.now }
     {
@@ -127,16 +126,16 @@ impl Join {
         PACKET_BYTES * (self.next as usize - 1)
     }
 
-    /// The bytes that have come.
+    /// The bytes received.
     fn front(&self) -> &[u8]
         ensures { result.now ≡ self.now.bytes }
     {
         &self.bytes[..self.begin_of_next().min(self.size as usize)]
     }
 
-    /// Makes room for so many further packets, or up to the end of the message where that is less.
+    /// Makes room for so many further packets, or up to the end of the message if that is less.
     ///
-    /// It takes what memory is missing in one block, and none where the room is there. An error changes nothing.
+    /// It takes the missing memory in one block, and none if the room is there. An error changes nothing.
     pub fn make_room(&mut self, packets: u32) -> Result<(), AllocError>
         ensures ok { OnOk result (self.new ≡ with_room self.old packets) }
         ensures full { OnErr result (held self.old < held (with_room self.old packets)) }
@@ -156,7 +155,7 @@ impl Join {
         Ok(())
     }
 
-    /// Puts packet `k`, where it is the next one. It takes no memory where there is room. An error changes nothing.
+    /// Puts packet `k`, if it is the next one. It takes no memory if there is room. An error changes nothing.
     #[inline]
     pub fn put(&mut self, k: u32, packet: [u8; 7]) -> Result<(), PutError>
         ensures ok { OnOk result (self.new ≡ joined self.old packet) }
@@ -180,7 +179,7 @@ impl Join {
         Ok(())
     }
 
-    /// Puts the next packet, which is not the last, and for which there is room. It takes no memory.
+    /// Puts the next packet, which is not the last. There is room for it. It takes no memory.
     #[inline]
     pub fn put_inner(&mut self, packet: &[u8; 7])
         requires inner { self.old.next < packet_count self.old.size }
@@ -194,7 +193,7 @@ impl Join {
         self.room -= 1;
     }
 
-    /// Puts the last packet, for which there is room. It takes no memory.
+    /// Puts the last packet. There is room for it. It takes no memory.
     pub fn put_last(&mut self, packet: &[u8; 7])
         requires last { wants_last_at self.old ≡ true }
         requires room { 0 < self.old.room }
@@ -208,7 +207,7 @@ impl Join {
         self.room -= 1;
     }
 
-    /// The whole message, or the same join where a packet is still to come.
+    /// The whole message, or the unchanged join if a packet is missing.
     pub fn finish(self) -> Result<Vec<u8>, Join>
         ensures complete { IsOk result ↔ IsTrue (is_complete_at self) }
         ensures ok { IfOk result (λ v. v.items ≡ self.bytes) }

@@ -1,4 +1,4 @@
--- Stations that are abreast, of which the first take the newest frame with room.
+-- Stations that are abreast; the first of them take the newest frame with room.
 use Rattle.std.specs.Prelude.{◌≡◌, ℕ, zero, suc, ◌≤◌, true, false, length, List, [], ◌∷◌, ◌++◌, Some, None, slice_get, slice_set}
 use Rattle.bus_frame.specs.Frames.{CanFrame}
 use Rattle.pgn_ids.specs.declared.address.Address.{Address}
@@ -18,13 +18,13 @@ use Rattle.segment_core.specs.Drives.{IsCourse, IsFollowed}
 use Rattle.segment_core.specs.Joined.{joined}
 use Rattle.segment_core.specs.declared.course.Course.{Course}
 
--- a station takes a frame, and tells this
+-- a station takes a frame, and has these events
 pub record Takes (before : Station) (frame : CanFrame) (now : ℕ) (after : Station) (told : List Event) : Type 0 where
   pub free : taking_refusal before ≡ None
   pub well_formed : is_malformed_for before frame ≡ false
   pub step : taken before frame true now ≡ record { station = after; events = told }
 
--- one station more does, after those before it
+-- one station more takes it, after those before it
 pub record OneMore (Before : List Station → List Event → Type 0) (n : ℕ) (frame : CanFrame) (now : ℕ) (stations : List Station) (told : List Event) : Type 0 where
   pub others : List Station
   pub earlier : List Event
@@ -42,11 +42,11 @@ abbrev pub FirstTake : (n : ℕ) → CanFrame → (now : ℕ) → (before after 
 FirstTake zero frame now before after told = (after ≡ before) × (told ≡ [])
 FirstTake (suc n) frame now before after told = OneMore (FirstTake n frame now before) n frame now after told
 
--- a course tells this beside what it told
+-- a course has these events more than before
 abbrev pub Notes : (was course : Course) → (told : List Event) → Type 0
 Notes was course told = (course.frames.items ≡ was.frames.items) × (joined course.parts.items ≡ joined was.parts.items ++ told)
 
--- what the first n of the stations tell is noted and counted
+-- the events of the first n of the stations are noted and counted
 pub record FirstTell (n : ℕ) (frame : CanFrame) (now : ℕ) (before after : List Station) (was course : Course) (counts left : Counts) : Type 0 where
   pub told : List Event
   pub steps : FirstTake n frame now before after told
@@ -81,7 +81,7 @@ pub record PutAbreast (a : Address) (n : ℕ) (before after : Segment) (was cour
   pub parts : shown.parts.items ≡ was.parts.items
   pub passed : FirstPass n between after shown course
 
--- the same in a drive, whose course tells it
+-- a station does so in a drive, whose course shows it
 pub record HasPut (a : Address) (n : ℕ) (before : Segment) (was : Course) (after : Segment) (course : Course) : Type 0 where
   pub between : Segment
   pub shown : Course

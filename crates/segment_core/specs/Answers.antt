@@ -16,29 +16,29 @@ use Rattle.segment_core.specs.declared.made.Made.TheVariants as made
 use Rattle.segment_core.specs.declared.stop.Stop.{Stop}
 use Rattle.segment_core.specs.declared.stop.Stop.TheVariants.{Refused, OutOfMemory}
 
--- as the law says; or for want of memory as if it hadn't been made, where the law doesn't refuse it
+-- the law's answer; or, if the law doesn't refuse the call, want of memory, as if it hadn't been made
 abbrev pub IsAnswer : Answer → (before after : Segment) → Result Reply Stop → Type 0
 IsAnswer answer before after (Ok reply) = answer ≡ Ok (after, reply)
 IsAnswer answer before after (Err (Refused cause)) = (answer ≡ Err cause) × (after ≡ before)
 IsAnswer answer before after (Err OutOfMemory) = IsOk answer × (after ≡ before)
 
--- the same of a call whose reply is put together from what it gives
+-- the law's answer to a call whose reply is built from its result
 abbrev pub IsAnswerBy : {T : Type 0} → (reply : T → Reply) → Answer → (before after : Segment) → Result T Stop → Type 0
 IsAnswerBy reply answer before after (Ok given) = answer ≡ Ok (after, reply given)
 IsAnswerBy reply answer before after (Err stop) = IsAnswer answer before after (Err stop)
 
--- the reply of a call that is answered so and tells these events
+-- the reply of a call that was answered so and has these events
 abbrev pub reply_with : Made → List Event → Reply
 reply_with (made.Opened port) events = Opened port
 reply_with (made.Sent number) events = Sent number
 reply_with made.Done events = Done events
 reply_with (made.Refused cause) events = reply.Refused cause
 
--- as the law says, with what it tells put down apart
+-- as the law says, with its events put into a place of their own
 abbrev pub IsMade : Answer → (before after : Segment) → (told : List Event) → Result Made Stop → Type 0
 IsMade answer before after told result = IsAnswerBy (λ made. reply_with made told) answer before after result
 
--- only a call that is done tells anything
+-- only a call that is done has events
 abbrev pub IsSilentBut : Made → List Event → Type 0
 IsSilentBut made.Done told = ⊤
 IsSilentBut _ told = told ≡ []
@@ -47,12 +47,12 @@ abbrev pub IsSilent : {E : Type 0} → (told : List Event) → Result Made E →
 IsSilent told (Ok made) = IsSilentBut made told
 IsSilent told (Err stop) = told ≡ []
 
--- a call that tells events is done unless it is stopped
+-- a call that may have events is done unless it is stopped
 abbrev pub done_unless : {E : Type 0} → {T : Type 0} → Result T E → Result Made E
 done_unless (Ok given) = Ok made.Done
 done_unless (Err stop) = Err stop
 
--- why a call is refused; none where it isn't
+-- why a call is refused; none if it isn't
 abbrev pub refusal_of : Answer → Option Refusal
 refusal_of (Ok step) = None
 refusal_of (Err cause) = Some cause

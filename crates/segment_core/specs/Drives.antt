@@ -50,17 +50,17 @@ pub record IsBegun (d : Driven) (before seg : Segment) (done : ran.Driven) : Typ
 
 -- Its steps
 
--- how a drive ends where a call isn't done
+-- how a drive ends if a call isn't done
 abbrev pub stop_end : Stop → DriveEnd
 stop_end (Refused cause) = end_by cause
 stop_end OutOfMemory = end.OutOfMemory
 
--- a call is refused only because it came too soon
+-- whether a call is refused only because it is too soon
 abbrev pub too_soon : Option Refusal → Bool
 too_soon (Some refusal.NotYet) = true
 too_soon cause = false
 
--- these frames and events are those of a drive that began at a segment and stands at another
+-- these frames and events are those of a drive that began at one segment and is at another
 pub record IsShown (ended : Option DriveEnd) (start : Segment) (d : Driven) (seg : Segment) (put : List CanFrame) (told : List Event) : Type 0 where
   pub segment : seg ≡ d.segment
   pub frames : put ≡ d.frames
@@ -72,22 +72,22 @@ pub record IsShown (ended : Option DriveEnd) (start : Segment) (d : Driven) (seg
   pub replies : replies_from start (calls_of d.calls) ≡ replies_of d.calls
   pub state : after start (calls_of d.calls) ≡ d.segment
 
--- the same, kept by the code
+-- these are the frames and events that the code keeps
 abbrev pub IsCourse : (ended : Option DriveEnd) (start : Segment) (d : Driven) (seg : Segment) → Course → Type 0
 IsCourse ended start d seg course = IsShown ended start d seg course.frames.items (joined course.parts.items)
 
--- a course tells what another one did
+-- two courses show the same frames and events
 abbrev pub SameTold : (old new : Course) → Type 0
 SameTold old new = (new.frames.items ≡ old.frames.items) × (new.parts.items ≡ old.parts.items)
 
--- a drive comes to another by further calls
+-- a drive leads to another by further calls
 pub record GoesOn (e d : Driven) : Type 0 where
   pub rest : Record
   pub later : List CanFrame
   pub calls : e.calls ++ rest ≡ d.calls
   pub frames : e.frames ++ later ≡ d.frames
 
--- the same, and the first of these calls is this one
+-- a drive leads to another by further calls, and this is the first of them
 pub record GoesOnBy (call : Call) (e d : Driven) : Type 0 where
   pub reply : Reply
   pub rest : Record
@@ -95,7 +95,7 @@ pub record GoesOnBy (call : Call) (e d : Driven) : Type 0 where
   pub calls : e.calls ++ (call, reply) ∷ rest ≡ d.calls
   pub frames : e.frames ++ later ≡ d.frames
 
--- the code stands before the end of a step, at a call that isn't refused
+-- the code stopped before the end of a step, at a call that isn't refused
 pub record IsCut (start : Segment) (d : Driven) (seg : Segment) (put : List CanFrame) (told : List Event) : Type 0 where
   pub made : Driven
   pub shown : IsShown None start made seg put told
@@ -112,7 +112,7 @@ HasGone start next seg put told (Err OutOfMemory) = IsCut start next seg put tol
 abbrev pub Went : (start : Segment) (next : Driven) (seg : Segment) → Course → Result (Unit {0}) Stop → Type 0
 Went start next seg course result = HasGone start next seg course.frames.items (joined course.parts.items) result
 
--- what a drive did so far comes to the frame of its next turn, which this station puts
+-- a drive is about to put the frame of its next turn, which this station puts
 pub record PutsNext (from to a : Address) (start : Segment) (d : Driven) (seg : Segment) (course : Course) : Type 0 where
   pub at : Driven
   pub shown : IsCourse None start at seg course

@@ -2,7 +2,7 @@
 use Rattle.std.specs.Prelude.{List, [], ◌∷◌, ◌++◌}
 use Rattle.message_events.specs.declared.event.Event.{Event}
 
--- one after another
+-- the events of all parts, one after another
 abbrev pub joined : List (List Event) → List Event
 joined [] = []
 joined (events ∷ parts) = events ++ joined parts

@@ -17,13 +17,13 @@ abbrev pub next_at : Segment → Option ℕ → Option CanFrame
 next_at seg None = None
 next_at seg (Some i) = next_frame seg.bus i
 
--- a frame for which memory may be wanting: one that opens a session, completes a message or grants a window of ETP
+-- a frame for which memory may be missing: one that opens a session, completes a message or grants a window of ETP
 abbrev pub TakeMayLackMemory : Option Station → Option CanFrame → (room : Bool) → Type 0
 TakeMayLackMemory (Some st) (Some frame) room = station.MayLackMemory st frame room
 TakeMayLackMemory _ _ room = ⊥
 
--- a Take asks for none without room, and with room only for such a frame; a frame that comes on the bus only if two or more are kept;
--- of the other calls nothing is said
+-- a Take asks for none without room, and with room only for such a frame; a frame that is put on the bus asks for some only if two or
+-- more are kept; nothing is said of the other calls
 abbrev pub MayAskMemory : Segment → Call → Type 0
 MayAskMemory seg (Transmit a) = KeepsTwo seg
 MayAskMemory seg (Take a room) = (room ≡ true) × TakeMayLackMemory (station_of seg a) (next_at seg (place_of seg a)) room

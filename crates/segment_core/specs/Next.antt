@@ -1,4 +1,4 @@
--- What a segment has to do by itself: without a frame from elsewhere, and without a call of the program that it works for.
+-- What a segment has to do by itself: without a frame from elsewhere, and without a call of its program.
 use Rattle.std.specs.Prelude.{ℕ, Bool, true, ◌||◌, is_some, is_ok}
 use Rattle.std.specs.List.{list_any}
 use Rattle.pgn_ids.specs.declared.address.Address.{Address}
@@ -16,10 +16,10 @@ at_tick seg tick = record seg { now = tick }
 abbrev pub passes : Segment → Call → Bool
 passes seg call = is_ok (called seg call)
 
--- its Transmit, its Take, its Pump to some destination or its Fire would not be refused
+-- a station's Transmit, its Take, its Pump to some destination or its Fire would not be refused
 abbrev pub has_work : Segment → Address → Bool
 has_work seg a = (passes seg (Transmit a) || passes seg (Take a true)) || (is_some (next_pump seg a) || passes seg (Fire a))
 
--- at a tick, that holds of some station
+-- at a tick, some station has work
 abbrev pub any_work : Segment → (tick : ℕ) → Bool
 any_work seg tick = list_any (λ station. has_work (at_tick seg tick) station.address) seg.stations

@@ -1,4 +1,4 @@
--- Where the station with an address stands, kept for all 256 addresses.
+-- The place of the station with an address, kept for all 256 addresses.
 use Rattle.std.specs.Prelude.{◌≡◌, ℕ, ◌<◌, ◌==◌, if◌then◌else◌, List, length, replicate, Option, Some, None, position, slice_set, slice_index_or}
 use Rattle.pgn_ids.specs.declared.address.Address.{Address}
 use Rattle.station_core.specs.Station.{Station}

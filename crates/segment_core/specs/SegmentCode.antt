@@ -1,4 +1,4 @@
--- How segments are told apart.
+-- When two segments are equal.
 use Rattle.std.specs.Prelude.{ℕ, List, refl}
 use Rattle.std.specs.Coded.{Coded, code_by, coded×, coded_ℕ, coded_list}
 use Rattle.bus_order.specs.Bus.{Bus}
@@ -12,7 +12,7 @@ use Rattle.segment_law.specs.contracts.counts.Counts as counts
 abbrev Parts : Type 0
 Parts = ℕ × (List Station × (Bus × Counts))
 
--- a segment is told apart by its parts
+-- segments are equal if their parts are
 abbrev pub segment_code : Coded Segment
 segment_code =
     code_by Parts

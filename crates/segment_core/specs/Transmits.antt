@@ -15,7 +15,7 @@ abbrev pub put_by : Segment → Call → Reply → List CanFrame
 put_by seg (Transmit a) (Done events) = option_to_list (front_at seg a)
 put_by seg call reply = []
 
--- one after another, from a segment on
+-- the frames that calls put, one after another, from a segment on
 abbrev pub transmitted : Segment → Record → List CanFrame
 transmitted seg [] = []
 transmitted seg (step ∷ steps) = put_by seg step.0 step.1 ++ transmitted (applied seg step.0).0 steps

@@ -36,8 +36,8 @@ impl<'a> Model for Seen<'a> {
 }
 
 impl<'a> Seen<'a> {
-    // A station takes it with room, and what that tells is put down where nothing was told yet. Where it is refused, malformed, or finds no
-    // memory, nothing changes.
+    // A station takes it with room, and its events are put into a place without one. If it is refused, malformed, or finds no memory,
+    // nothing changes.
     #[inline(always)]
     fn taken_by(&self, station: &mut Station, now: u64, told: &mut Events) -> bool
         requires { told.old ≡ [] }
@@ -59,8 +59,8 @@ impl<'a> Seen<'a> {
         }
     }
 
-    // The first of the stations take it, up to one that doesn't or that finds no room to note what it tells: how many. What they tell
-    // is counted.
+    // The first of the stations take it, up to one that doesn't or that finds no room to note its events. Returns how many. The events are
+    // counted.
     #[inline(always)]
     fn taken_by_first(
         &self,
@@ -90,7 +90,7 @@ impl<'a> Seen<'a> {
     }
 }
 
-// What a station told is counted and noted, and nothing is told any more: whether there is room to note what one more tells.
+// Counts and notes the events of a station, and removes them. Returns whether there is room to note those of one more.
 #[inline(always)]
 fn note(told: &mut Events, alloc: Global, course: &mut Course, counts: &mut Counts) -> bool
     requires room { vec_len course.old.parts < vec_capacity course.old.parts }
@@ -106,7 +106,7 @@ fn note(told: &mut Events, alloc: Global, course: &mut Course, counts: &mut Coun
     course.has_part()
 }
 
-// The same where something was told, as few frames do.
+// `note`, if there are events, as for few frames.
 #[inline(never)]
 fn note_events(told: &mut Events, alloc: Global, course: &mut Course, counts: &mut Counts)
     requires room { vec_len course.old.parts < vec_capacity course.old.parts }
@@ -118,8 +118,8 @@ fn note_events(told: &mut Events, alloc: Global, course: &mut Course, counts: &m
     course.note(mem::replace(told, Events::none(alloc)));
 }
 
-// The same of a frame that is read once for all of them. Most frames are packets: what a station does with one is made apart, so
-// that it isn't sorted once more at each of them.
+// The first of the stations take a frame that is read once for all of them. Most frames are packets: a packet has a path of its own, so
+// that each station needn't match on its kind again.
 #[inline(always)]
 fn take_first(
     stations: &mut [Station],
@@ -169,8 +169,8 @@ fn take_first(
 }
 
 impl Segment {
-    /// Where the stations are abreast, the first of them take the newest frame with room, up to one that is refused or finds no
-    /// memory, or no room to note what it tells: how many do. None do where the stations aren't abreast.
+    /// If the stations are abreast, the first of them take the newest frame with room, up to one that is refused or finds no memory, or no
+    /// room to note its events. Returns how many do. None do if the stations aren't abreast.
     #[inline(never)]
     pub(crate) fn take_abreast(&mut self, course: &mut Course) -> usize
         ensures { FirstPass result self.old self.new course.old course.new }
@@ -194,10 +194,9 @@ impl Segment {
         taken
     }
 
-    /// Where the stations are level, the first frame of a station's queue is put on the bus, and the first of the stations take
-    /// it, as by `transmit` and `take_abreast`: how many do. It is read and sorted before it comes to the bus, where it
-    /// takes the place of the newest if all of them take it. None where they aren't level or there is no such frame, and then
-    /// nothing changes.
+    /// If the stations are level, puts the first frame of a station's queue on the bus, and the first of the stations take it, as by
+    /// `transmit` and `take_abreast`. Returns how many do. The frame is read and sorted before it is put on the bus, where it replaces the
+    /// newest if all of them take it. None if they aren't level or there is no such frame; then nothing changes.
     #[inline(always)]
     pub(crate) fn put_abreast(&mut self, station: Address, course: &mut Course) -> Option<usize>
         requires room { vec_len course.old.frames < vec_capacity course.old.frames }

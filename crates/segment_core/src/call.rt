@@ -24,7 +24,7 @@ fn octets(bytes: &[u8])
     are_octets(bytes);
 }
 
-// The same, byte by byte.
+// `octets`, byte by byte.
 fn are_octets(bytes: &[u8])
     ensures { (i : ℕ) → slice_index bytes.now i < 256 }
 {}
@@ -58,7 +58,7 @@ fn fits(call: &Call)
     }
 }
 
-// A call that tells events is done unless it is stopped.
+// A call that may have events is done unless it is stopped.
 #[inline(always)]
 fn done(made: Result<(), Stop>) -> Result<Made, Stop>
     ensures { result ≡ done_unless made }
@@ -70,11 +70,11 @@ fn done(made: Result<(), Stop>) -> Result<Made, Stop>
 }
 
 impl Segment {
-    /// Makes one call: one atomic step. A refused call is answered by the first of its causes, and changes nothing.
+    /// Makes one call: one atomic step. A refused call returns the first of its causes, and changes nothing.
     ///
-    /// Want of memory changes nothing either, and then the call is no step: it is answered only for a call that isn't
-    /// refused. A Take without room asks for no memory, and a Transmit or an Inject only if two frames or more are kept on the bus.
-    /// The call is spent in each case: who wants to make it again keeps a copy.
+    /// Want of memory changes nothing either, and then the call is no step: it is returned only for a call that isn't refused. A
+    /// Take without room asks for no memory, and a Transmit or an Inject only if two frames or more are kept on the bus. The call
+    /// is spent in each case: to make it again, keep a copy.
     #[inline(always)]
     pub fn apply(&mut self, call: Call) -> Result<Reply, AllocError>
         ensures ok { IfOk result (λ reply. applied self.old call ≡ (self.new, reply)) }
@@ -94,8 +94,8 @@ impl Segment {
         }
     }
 
-    /// The same for a caller that keeps a place for what calls tell, in which nothing was told yet: a reply that is handed up is
-    /// copied on each level. Only a call that is done tells anything.
+    /// `apply`, which puts the events into a place that has none yet: a reply that is returned is copied on each level. Only a
+    /// call that is done has events.
     #[inline(always)]
     pub fn apply_telling(&mut self, call: Call, told: &mut Events) -> Result<Made, AllocError>
         requires { told.old ≡ [] }

@@ -12,7 +12,7 @@ use segment_law::Refusal;
 use station_core::Events;
 
 impl Segment {
-    /// The clock goes on by n ticks.
+    /// The clock advances by n ticks.
     #[inline(always)]
     pub(crate) fn tick(&mut self, n: u64) -> Result<Made, Stop>
         ensures { IsMade (ticks self.old n) self.old self.new [] result }
@@ -23,7 +23,7 @@ impl Segment {
         }
     }
 
-    /// Fires the first timer of a station that is due. What that tells is put down where nothing was told yet.
+    /// Fires the first timer of a station that is due. Its events are put into a place that has none yet.
     #[inline(never)]
     pub(crate) fn fire(&mut self, station: Address, told: &mut Events) -> Result<(), Stop>
         requires { told.old ≡ [] }

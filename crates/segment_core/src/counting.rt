@@ -1,4 +1,4 @@
-//! Counting what calls tell.
+//! Counting the events of calls.
 ghost use Rattle.std.specs.Prelude.{◌≡◌, []};
 ghost use Rattle.segment_law.specs.Segment.{plus, counted_outcome, counted_event, counted, counted_frame, counted_look, counted_repeat};
 
@@ -28,7 +28,7 @@ pub(crate) fn count_repeat(counts: &mut Counts)
     counts.repeated = one_more(counts.repeated);
 }
 
-/// Counts a frame that a station took, where it looked at it and found it malformed.
+/// Counts a frame that a station took, if it looked at the frame and found it malformed.
 pub(crate) fn count_look(counts: &mut Counts, is_malformed: bool)
     ensures { counts.new ≡ counted_look counts.old is_malformed }
 {
@@ -71,7 +71,7 @@ fn count_all(counts: &mut Counts, events: &[Event])
     }
 }
 
-/// Counts events that a call told.
+/// Counts the events of a call.
 #[inline(always)]
 pub(crate) fn count_events(counts: &mut Counts, events: &Events)
     ensures { counts.new ≡ counted counts.old events.now }
@@ -84,7 +84,7 @@ pub(crate) fn count_events(counts: &mut Counts, events: &Events)
 }
 
 impl Segment {
-    /// Counts events that a call told, and puts them down where nothing was told yet.
+    /// Counts the events of a call, and puts them into a place that has none yet.
     #[inline(always)]
     pub(crate) fn tell(&mut self, events: Events, told: &mut Events)
         requires { told.old ≡ [] }
@@ -95,7 +95,7 @@ impl Segment {
         *told = events;
     }
 
-    /// Counts events that a call told.
+    /// Counts the events of a call.
     #[inline(always)]
     pub(crate) fn count_told(&mut self, events: &Events)
         ensures { self.new ≡ record self.old { counts = counted self.old.counts events.now } }

@@ -9,7 +9,7 @@ use segment_law::DriveEnd;
 use station_core::Events;
 use std::alloc::Global;
 
-/// The frames that were put, and what the calls told, one part for each call that told something.
+/// The frames that were put, and the events, one part for each call that had some.
 #[derive(Drop)]
 pub(crate) struct Course {
     pub(crate) frames: Vec<Frame>,
@@ -36,7 +36,7 @@ impl Course {
         self.frames.len() < self.frames.capacity()
     }
 
-    /// Whether there is room for what one more call tells.
+    /// Whether there is room for the events of one more call.
     #[inline(always)]
     pub(crate) fn has_part(&self) -> bool
         ensures { OnTrue result (vec_len self.now.parts < vec_capacity self.now.parts) }
@@ -44,7 +44,7 @@ impl Course {
         self.parts.len() < self.parts.capacity()
     }
 
-    /// The frame that a call put, for which there is room.
+    /// Notes the frame that a call put. There is room for it.
     pub(crate) fn put(&mut self, frame: Option<Frame>)
         requires room { vec_len self.old.frames < vec_capacity self.old.frames }
         ensures frames { self.new.frames.items ≡ self.old.frames.items ++ option_to_list frame }
@@ -55,7 +55,7 @@ impl Course {
         }
     }
 
-    /// What a call told, for which there is room.
+    /// Notes the events of a call. There is room for them.
     #[tactic(auto, using(crate::proofs::Joining::joined_push))]
     pub(crate) fn note(&mut self, events: Events)
         requires room { vec_len self.old.parts < vec_capacity self.old.parts }

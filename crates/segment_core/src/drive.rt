@@ -30,10 +30,10 @@ use station_core::Events;
 // Room for so many frames is taken at once, so that an exchange of a few frames takes memory once.
 const FRAMES_AT_ONCE: usize = 8;
 
-// So is room for what a few calls tell: a message that is sent to one node is given there, and has its outcome.
+// Likewise the room for the events of a few calls: a message that is sent to one node is given there, and has its outcome.
 const PARTS_AT_ONCE: usize = 2;
 
-// How a drive ends where one of its calls isn't done.
+// How a drive ends if one of its calls isn't done.
 fn end_at(stop: Stop) -> DriveEnd
     ensures { result ≡ stop_end stop }
 {
@@ -44,7 +44,7 @@ fn end_at(stop: Stop) -> DriveEnd
     }
 }
 
-// Whether a call is refused only because it came too soon.
+// Whether a call is refused only because it is too soon.
 fn is_too_soon(cause: Option<Refusal>) -> bool
     ensures { result ≡ too_soon cause }
 {
@@ -55,17 +55,18 @@ fn is_too_soon(cause: Option<Refusal>) -> bool
 }
 
 impl Segment {
-    /// Drives the lane from a station to a destination for at most so many turns, and tells what was put and given.
+    /// Drives the lane from a station to a destination for at most so many turns, and returns the frames put and the events.
     ///
-    /// One turn: where the queue of `from` isn't empty, it transmits; else where `to` is a station whose queue isn't empty,
-    /// that one transmits; else the lane is pumped, after a Tick of what is missing to the 50 ticks between the frames of a
-    /// broadcast, and `from` transmits. Then every station, by rising address, takes with room until no frame waits for it.
+    /// One turn: if the queue of `from` isn't empty, it transmits. Else if `to` is a station whose queue isn't empty, that one
+    /// transmits. Else the lane is pumped, after a Tick of what is missing to the 50 ticks between the frames of a broadcast, and
+    /// `from` transmits. Then every station, by rising address, takes with room until no frame waits for it.
     ///
-    /// It ends after its turns; as idle where the lane has nothing to queue; at another refusal; or at a call that isn't
-    /// refused and for which memory is wanting, which then wasn't made. A turn counts once its frame is put.
+    /// It ends after its turns; as idle if the lane has nothing to queue; at another refusal; or at a call that isn't refused but
+    /// lacks memory, which then wasn't made. A turn counts once its frame is put.
     ///
-    /// Where nothing disturbs the first message of a lane, as many turns as its exchange has frames put exactly these, give it at each
-    /// port that takes it, tell that it was acknowledged or broadcast, and leave all at rest (SAE J1939-21; ISO 11783-3).
+    /// If nothing disturbs the first message of a lane, a drive of as many turns as its exchange has frames puts exactly these, gives
+    /// the message at each port that takes it, reports that it was acknowledged or broadcast, and leaves all at rest (SAE J1939-21;
+    /// ISO 11783-3).
     pub fn drive(&mut self, from: Address, to: Address, turns: u64) -> Driven
         ensures done { result.end ≢ end.OutOfMemory → IsDriven (driven self.old from to turns) self.new result }
         ensures begun { result.end ≡ end.OutOfMemory → IsBegun (driven self.old from to turns) self.old self.new result }
@@ -102,7 +103,7 @@ impl Segment {
         Ok(())
     }
 
-    // The station that puts a frame in this turn. Where none has one queued, the lane is pumped.
+    // The station that puts a frame in this turn. If none has one queued, the lane is pumped.
     fn transmitter(
         &mut self,
         from: Address,
@@ -139,7 +140,7 @@ impl Segment {
         Ok(taken)
     }
 
-    // Room in a course for the frame that a station transmits, and for what one that takes it tells.
+    // Makes room in a course for the frame that a station transmits, and for the events of one that takes it.
     #[inline(always)]
     fn make_way(&self, station: Address, course: &mut Course) -> Result<(), Stop>
         ensures room { OnOk result (vec_len course.new.frames < vec_capacity course.new.frames) }
@@ -152,7 +153,7 @@ impl Segment {
         self.grow_course(station, course)
     }
 
-    // The same where there is none. Memory is taken only once the frame isn't refused.
+    // `make_way`, if there is none. Memory is taken only once the frame isn't refused.
     #[inline(never)]
     fn grow_course(&self, station: Address, course: &mut Course) -> Result<(), Stop>
         ensures room { OnOk result (vec_len course.new.frames < vec_capacity course.new.frames) }
@@ -167,7 +168,7 @@ impl Segment {
         Ok(())
     }
 
-    // A station transmits, and the stations take, one after the other: where they aren't level.
+    // A station transmits, and the stations take, one after the other: the way if they aren't level.
     #[inline(never)]
     fn put_apart(&mut self, station: Address, course: &mut Course) -> Result<usize, Stop>
         requires { vec_len course.old.frames < vec_capacity course.old.frames }
@@ -180,7 +181,7 @@ impl Segment {
         Ok(self.take_abreast(course))
     }
 
-    // The lane is pumped, once more at its time where it answers that it is too soon.
+    // Pumps the lane, and again at its time if it is too soon.
     fn pump_lane(&mut self, from: Address, to: Address, course: &mut Course) -> Result<(), Stop>
         ensures { (start : State) (d : Drive) → IsCourse None start d self.old course.old → Went start (pumps from to d) self.new course.new result }
     {
@@ -216,7 +217,7 @@ impl Segment {
         Ok(())
     }
 
-    // Room in a course for what a pump tells. Memory is taken only once that isn't refused.
+    // Makes room in a course for the event of a pump. Memory is taken only once that isn't refused.
     #[inline(always)]
     fn make_pump_part(&self, from: Address, to: Address, course: &mut Course) -> Result<(), Stop>
         ensures room { OnOk result (vec_len course.new.parts < vec_capacity course.new.parts) }
@@ -245,7 +246,7 @@ impl Segment {
         Ok(())
     }
 
-    // A station takes the next frame, with room, and what it tells is told.
+    // A station takes the next frame, with room, and its events are noted.
     fn take_next(&mut self, station: Address, course: &mut Course) -> Result<(), Stop>
         requires { IsFollowed self.old }
         ensures took { (start : State) (d : Drive) → IsCourse None start d self.old course.old → Went start (makes d (Take station true)) self.new course.new result }
@@ -258,7 +259,7 @@ impl Segment {
         Ok(())
     }
 
-    // Room in a course for what a station tells that takes the next frame. Memory is taken only once that isn't refused.
+    // Makes room in a course for the events of a station that takes the next frame. Memory is taken only once that isn't refused.
     fn make_part(&self, station: Address, course: &mut Course) -> Result<(), Stop>
         ensures room { OnOk result (vec_len course.new.parts < vec_capacity course.new.parts) }
         ensures same { SameTold course.old course.new }

@@ -47,7 +47,7 @@ impl FrameList {
     }
 }
 
-/// The events of several calls, in their order: one part for each call that told something.
+/// The events of several calls, in their order: one part for each call that had some.
 #[derive(Debug, Drop)]
 pub struct EventList {
     parts: Vec<Events>,
@@ -94,7 +94,7 @@ pub struct Driven {
     pub turns: u64,
     /// The frames that they put.
     pub frames: FrameList,
-    /// What the calls told.
+    /// The events of the calls.
     pub events: EventList,
     /// How the drive ended.
     pub end: DriveEnd,

@@ -7,7 +7,7 @@ use tick_timers::earlier;
 
 impl Segment {
     /// The tick at which the next timer of its stations is due: the least at which `is_due` is true of one of them. None exactly
-    /// where no timer runs that would be due up to the last tick of `u64`.
+    /// if no timer runs that would be due up to the last tick of `u64`.
     #[tactic(auto, using(crate::proofs::Dues::due_laws))]
     pub fn next_due_at(&self) -> Option<u64>
         ensures { IsDueFrom (any_due self.now) result }

@@ -61,7 +61,7 @@ impl Segment {
 }
 
 impl Image {
-    /// Whether a segment stands at it. It takes no memory.
+    /// Whether this is the image of a segment. It takes no memory.
     pub fn is_of(&self, segment: &Segment) -> bool
         ensures { IsTrue result ↔ (self.now ≡ segment.now) }
     {
@@ -107,7 +107,7 @@ fn are_of(images: &[StationImage], stations: &[Station]) -> bool
     true
 }
 
-// Whether the same was counted.
+// Whether the counts are equal.
 fn is_same(a: &Counts, b: &Counts) -> bool
     ensures { IsTrue result ↔ (a.now ≡ b.now) }
 {

@@ -1,6 +1,6 @@
-//! One bus with its stations: every call on it is one atomic step, which changes nothing where it is refused.
+//! One bus with its stations: every call on it is one atomic step, which changes nothing if it is refused.
 //!
-//! What each call does is said by `segment_law`, whose types of calls, replies and refusals are shown here too.
+//! `segment_law` says what each call does; its types of calls, replies and refusals are shown here too.
 #![tactic(auto)]
 
 mod abreast;

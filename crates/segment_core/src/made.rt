@@ -1,8 +1,8 @@
-//! What a call is answered, apart from what it tells.
+//! The answer to a call, apart from its events.
 use port_table::PortId;
 use segment_law::Refusal;
 
-/// What a call is answered, apart from what it tells: a reply without its events.
+/// The answer to a call: a reply without its events.
 #[derive(Clone, Copy, Debug, PartialEq, Eq)]
 pub enum Made {
     /// The port that was opened.

@@ -11,9 +11,9 @@ use pgn_ids::Address;
 use tick_timers::{always, earlier, not_before};
 
 impl Segment {
-    /// The first tick, from that of its clock on, at which it has something to do by itself: a Pump to some destination, a Transmit,
-    /// a Take or a Fire of some station would not be refused if the clock stood there. So nothing is to be done before, unless a
-    /// call comes that is none of these. None where there is no such tick up to the last one of `u64`.
+    /// The first tick, from that of its clock on, at which it has something to do by itself: at that tick a Pump to some
+    /// destination, or a Transmit, a Take or a Fire of some station, would not be refused. So nothing is to be done before, unless
+    /// another call is made. None if there is no such tick up to the last one of `u64`.
     pub fn next_at(&self) -> Option<u64>
         ensures { IsNextFrom (any_work self.now) self.now.now result }
     {
@@ -32,7 +32,8 @@ impl Segment {
         tick
     }
 
-    // The same of the station with an address. A frame that it can put on the bus or take from it is there at every tick.
+    // The tick from which on the station with an address has something to do. A frame that it can put on the bus or take from it is
+    // there at every tick.
     #[tactic(auto, using(crate::proofs::Nexts::work_laws))]
     fn work_from_at(&self, address: Address) -> Option<u64>
         ensures { IsDueFrom (λ tick. has_work (at_tick self.now tick) address) result }

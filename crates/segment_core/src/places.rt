@@ -1,10 +1,10 @@
-//! Where the station with an address stands, without a search.
+//! The place of the station with an address, without a search.
 ghost use Rattle.std.specs.Prelude.{◌≡◌, ◌<◌, length};
 ghost use Rattle.segment_core.specs.Places.{no_places, place_in, with_place, noted};
 
 use pgn_ids::Address;
 
-/// What stands for no place. There are at most 32.
+/// The value for no place. There are at most 32.
 const NOWHERE: u8 = 255;
 
 /// The place of each station by its address, for all 256 addresses.

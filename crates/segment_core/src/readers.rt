@@ -17,7 +17,7 @@ use segment_law::Counts;
 use station_core::Station;
 
 impl Segment {
-    /// The tick of 1 ms at which the clock stands.
+    /// The clock's tick, of 1 ms.
     pub fn now(&self) -> u64
         ensures { result ≡ self.now.now }
     {
@@ -31,7 +31,7 @@ impl Segment {
         self.place_of(address).is_some()
     }
 
-    /// How many frames wait in a station's transmit queue; 0 where the address isn't a station's.
+    /// How many frames wait in a station's transmit queue; 0 if the address isn't a station's.
     pub fn queue_len(&self, station: Address) -> usize
         ensures value { result ≡ queue_len self.now station }
         ensures within { result ≤ queue_limit }
@@ -42,7 +42,7 @@ impl Segment {
         }
     }
 
-    /// How many frames of the bus a station has neither taken nor passed over; 0 where the address isn't a station's.
+    /// How many frames of the bus a station has neither taken nor passed over; 0 if the address isn't a station's.
     pub fn waiting(&self, station: Address) -> u64
         ensures { result ≡ waiting_at self.now station }
     {
@@ -59,7 +59,7 @@ impl Segment {
         self.bus.len()
     }
 
-    /// The frame at a place of the bus, from 1, where it is kept: those from the one that the station furthest behind took or
+    /// The frame at a place of the bus, from 1, if it is kept. Frames are kept from the one that the station furthest behind took or
     /// passed over last, that one included, to the newest.
     pub fn frame(&self, place: u64) -> Option<Frame>
         ensures { result ≡ frame_at self.now.bus place }
@@ -67,7 +67,7 @@ impl Segment {
         self.bus.frame(place)
     }
 
-    /// What was counted, each number up to the last value of `u64`: that which the segment's record holds.
+    /// The counts, each up to the last value of `u64`: those of the segment's record.
     #[tactic(auto, using(record_law::proofs::readers::Recorded::counts_are_recorded))]
     pub fn counts(&self) -> Counts
         ensures value { result ≡ self.now.counts }
@@ -76,7 +76,7 @@ impl Segment {
         self.counts
     }
 
-    /// The frame that a station transmits next; none where its queue is empty or the address isn't a station's.
+    /// The frame that a station transmits next; none if its queue is empty or the address isn't a station's.
     pub fn front(&self, station: Address) -> Option<Frame>
         ensures { result ≡ front_at self.now station }
     {
@@ -86,8 +86,8 @@ impl Segment {
         }
     }
 
-    /// What is seen of a station's lane to a destination: how many messages wait or are under way, and whether it is in doubt after one
-    /// that failed. Nothing where the address isn't a station's.
+    /// The sight of a station's lane to a destination: how many messages wait or are under way, and whether it is in doubt after one
+    /// that failed. Nothing if the address isn't a station's.
     pub fn lane(&self, station: Address, to: Address) -> LaneSight
         ensures { result ≡ lane_seen self.now station to }
     {
@@ -97,7 +97,7 @@ impl Segment {
         }
     }
 
-    /// The lowest destination of a station whose Pump would not be refused; none where the address isn't a station's.
+    /// The lowest destination of a station whose Pump would not be refused; none if the address isn't a station's.
     #[tactic(auto, using(crate::proofs::Pumping::next_pump_is, crate::proofs::Pumping::next_pump_none))]
     pub fn next_pump(&self, station: Address) -> Option<Address>
         ensures { result ≡ next_pump self.now station }
@@ -108,7 +108,7 @@ impl Segment {
         }
     }
 
-    /// Whether one of a station's timers is due; false where the address isn't a station's.
+    /// Whether one of a station's timers is due; false if the address isn't a station's.
     pub fn is_due(&self, station: Address) -> bool
         ensures { result ≡ is_due self.now station }
     {
@@ -118,8 +118,8 @@ impl Segment {
         }
     }
 
-    /// The ports that the station's next Take with room would give to, or with `again` its TakeAgain, and the length of the
-    /// message in bytes; no port and 0 where it would give nothing or the address isn't a station's.
+    /// The ports that the station's next Take with room would give to, or with `again` its TakeAgain, and the length of the message in
+    /// bytes; no port and 0 if it would give nothing or the address isn't a station's.
     pub fn wants(&self, station: Address, again: bool) -> (PortSet, u32)
         ensures value { result ≡ wanted self.now station again }
         ensures given { result.0 ≡ (given_by_take self.now station again).0 }
@@ -131,7 +131,7 @@ impl Segment {
         }
     }
 
-    // The same of the station at a place.
+    // `wants`, for the station at a place.
     fn wants_at(&self, place: usize, again: bool) -> (PortSet, u32)
         requires { place < length self.now.stations }
         ensures { result ≡ wanted_with (slice_get self.now.stations place) (frame_for self.now again place) }
@@ -164,7 +164,7 @@ impl Segment {
         self.stations.iter().all(|station| self.rests(station))
     }
 
-    // The same of one station.
+    // `is_idle`, for one station.
     fn rests(&self, station: &Station) -> bool
         ensures { result ≡ rests self.now station.now }
     {

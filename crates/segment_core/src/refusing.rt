@@ -16,8 +16,8 @@ use segment_law::{Call, Refusal};
 const MOST_KEPT: u64 = 4096;
 
 impl Segment {
-    /// Why a call would be refused: the first of its causes, or `None` where `apply` makes the call or finds no memory
-    /// for it. It takes no memory.
+    /// Why a call would be refused: the first of its causes, or `None` if `apply` makes the call or finds no memory for
+    /// it. It takes no memory.
     #[tactic(auto, unfolding(segment_law::specs::Calls::called))]
     pub fn refusal(&self, call: &Call) -> Option<Refusal>
         ensures { result ≡ refusal_of (called self.now call.now) }

@@ -21,9 +21,9 @@ pub struct Ran {
 
 impl Segment {
     /// Makes calls one after another, up to one that isn't refused and finds no memory. The room for all replies is made
-    /// first: where there is none, no call is made.
+    /// first: if there is none, no call is made.
     ///
-    /// The calls are spent, those that weren't applied too: who wants to make them again keeps a copy.
+    /// The calls are spent, those that weren't applied too: to make them again, keep a copy.
     pub fn run(&mut self, calls: Vec<Call>) -> Ran
         ensures ran { IsRun self.old calls.items self.new result.replies.items }
         ensures all { (result.end ≡ run_end.All) ↔ (length result.replies.items ≡ length calls.items) }

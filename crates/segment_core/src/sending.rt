@@ -33,7 +33,7 @@ impl Segment {
         }
     }
 
-    /// Queues what comes next in a lane. What that tells is put down where nothing was told yet.
+    /// Queues the next frames of a lane, and puts its event into a place that has none yet.
     #[inline(never)]
     pub(crate) fn pump(
         &mut self,
@@ -48,7 +48,7 @@ impl Segment {
         self.pump_telling(station, to, told)
     }
 
-    /// The same for a caller that knows which call it makes.
+    /// `pump`, for a caller that knows which call it makes.
     #[inline(always)]
     pub(crate) fn pump_telling(
         &mut self,
@@ -73,7 +73,7 @@ impl Segment {
         }
     }
 
-    /// Cancels a message that has no outcome yet. What that tells is put down where nothing was told yet.
+    /// Cancels a message that has no outcome yet. Its events are put into a place that has none yet.
     #[inline(never)]
     pub(crate) fn cancel(
         &mut self,

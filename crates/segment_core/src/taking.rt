@@ -17,7 +17,7 @@ use segment_law::Refusal;
 use station_core::Events;
 
 impl Segment {
-    /// A station takes the next frame of the bus. What that tells is put down where nothing was told yet.
+    /// A station takes the next frame of the bus, and puts its events into a place that has none yet.
     #[inline(never)]
     pub(crate) fn take(
         &mut self,
@@ -33,7 +33,7 @@ impl Segment {
         self.take_telling(station, room, told)
     }
 
-    /// The same for a caller that knows which call it makes.
+    /// `take`, for a caller that knows which call it makes.
     #[inline(always)]
     pub(crate) fn take_telling(
         &mut self,
@@ -62,7 +62,7 @@ impl Segment {
         Ok(())
     }
 
-    /// A station takes the frame that it took last once more. What that tells is put down where nothing was told yet.
+    /// A station takes again the frame that it took last, and puts its events into a place that has none yet.
     #[inline(never)]
     pub(crate) fn take_again(
         &mut self,
@@ -90,7 +90,7 @@ impl Segment {
         Ok(())
     }
 
-    /// A station missed the next n frames. What that tells is put down where nothing was told yet.
+    /// A station missed the next n frames. Its events are put into a place that has none yet.
     #[inline(never)]
     pub(crate) fn overrun(
         &mut self,
@@ -127,7 +127,7 @@ impl Segment {
         self.bus.frame(self.bus.len() - waiting + 1)
     }
 
-    // Counts what a station made of a frame.
+    // Counts the result of a station's look at a frame.
     #[inline(always)]
     fn looked(&mut self, is_malformed: bool, told: &Events)
         ensures { self.new ≡ record self.old { counts = counted (counted_look self.old.counts is_malformed) told.now } }

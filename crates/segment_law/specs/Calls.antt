@@ -1,4 +1,4 @@
--- The calls on a segment, each with its refusals in their order and with what it leaves and answers.
+-- The calls on a segment, each with its refusals in their order, the segment after it, and its answer.
 use Rattle.std.specs.Prelude.{ℕ, ◌+◌, ◌^◌, Bool, true, false, ◌&&◌, not, nat_lt, nat_le, ◌==◌, if◌then◌else◌, List, [], length, Option, Some, None, Result, Ok, Err, slice_get}
 use Rattle.std.specs.List.{list_all}
 use Rattle.bus_frame.specs.Frames.{CanFrame}
@@ -34,11 +34,11 @@ abbrev pub is_send : Call → Bool
 is_send (Send from to pgn bytes) = true
 is_send _ = false
 
--- what a call leaves and answers, or why it is refused
+-- the segment after a call and its events, or why it is refused
 abbrev pub Answer : Type 0
 Answer = Result (Segment × Reply) Refusal
 
--- a call that tells nothing
+-- a call that is done without an event
 abbrev pub done : Segment → Answer
 done seg = Ok (seg, Done [])
 
@@ -109,7 +109,7 @@ cancels seg to number i st =
 
 -- Frames
 
--- a frame comes on the bus
+-- a frame is put on the bus
 abbrev pub with_frame : Segment → CanFrame → Segment
 with_frame seg frame = record seg { bus = bus.put seg.bus frame; counts = counted_frame seg.counts }
 
@@ -123,11 +123,11 @@ transmits_by seg i st (Some frame) =
 abbrev pub transmits : Segment → ℕ → Station → Answer
 transmits seg i st = transmits_by seg i st (front st.queue)
 
--- a station takes a frame; where it looks at it and finds it malformed, that is counted
+-- a station takes a frame; if it looks at the frame and finds it malformed, that is counted
 abbrev pub looks : Segment → (room : Bool) → ℕ → Station → CanFrame → Answer
 looks seg room i st frame = stepped (record seg { counts = counted_look seg.counts (is_malformed_for st frame) }) i (taken st frame room seg.now)
 
--- the next frame of the bus: what no station needs any more is dropped
+-- a station takes the next frame of the bus, and frames that no station needs any more are dropped
 abbrev pub takes_by : Segment → (room : Bool) → ℕ → Station → Option CanFrame → Answer
 takes_by seg room i st None = Err refusal.NothingToTake
 takes_by seg room i st (Some frame) =
@@ -173,12 +173,12 @@ fires seg i st =
 
 -- Each call
 
--- of a station, where there is one at the place
+-- the answer of a station, if there is one at the place
 abbrev pub at_station : Option Station → (Station → Answer) → Answer
 at_station None call = Err refusal.NoSuchStation
 at_station (Some st) call = call st
 
--- of the station with an address, where there is one
+-- the answer of the station with an address, if there is one
 abbrev pub at_place : Segment → Option ℕ → (ℕ → Station → Answer) → Answer
 at_place seg None call = Err refusal.NoSuchStation
 at_place seg (Some i) call = at_station (slice_get seg.stations i) (call i)

@@ -44,7 +44,7 @@ abbrev pub stops_at : Driven → Reply → Driven
 stops_at d (Refused cause) = record d { ended = Some (end_by cause) }
 stops_at d _ = d
 
--- what comes next, unless the drive has ended
+-- the next call is made, unless the drive has ended
 abbrev pub goes_on : Driven → (Driven → Driven) → Driven
 goes_on d next = elim d.ended [ None ↦ next d | Some cause ↦ d ]
 
@@ -55,7 +55,7 @@ makes_call call d = stops_at (with_call d call (applied d.segment call)) (applie
 abbrev pub makes : Driven → Call → Driven
 makes d call = goes_on d (makes_call call)
 
--- after a Pump that was refused only because it was too soon, the lane is pumped again at its time
+-- a Pump that was refused only because it was too soon is repeated at the lane's time
 abbrev pub pumps_again : (from to : Address) → Reply → Driven → Driven
 pumps_again from to (Refused refusal.NotYet) d = makes (makes d (Tick (missing_at (station_at d.segment from).lanes to.0 d.segment.now))) (Pump from to)
 pumps_again from to reply d = stops_at d reply
@@ -63,7 +63,7 @@ pumps_again from to reply d = stops_at d reply
 abbrev pub pumps : (from to : Address) → Driven → Driven
 pumps from to d = pumps_again from to (applied d.segment (Pump from to)).1 (with_call d (Pump from to) (applied d.segment (Pump from to)))
 
--- the first frame of a station's queue has come on the bus: the turn counts
+-- the first frame of a station's queue was put on the bus: the turn counts
 abbrev pub with_put : Option CanFrame → Driven → Driven
 with_put None d = d
 with_put (Some frame) d = record d { turns = d.turns + 1; frames = d.frames ++ frame ∷ [] }
@@ -84,7 +84,7 @@ turn_puts from to d =
     else if has_queued d.segment to then puts d to
     else puts (pumps from to d) from
 
--- so many Takes with room
+-- the station takes so many frames, with room
 abbrev pub takes : ℕ → Address → Driven → Driven
 takes zero a d = d
 takes (suc more) a d = takes more a (makes d (Take a true))
@@ -114,7 +114,7 @@ turns_from (suc turns) from to d = turns_from turns from to (goes_on d (turn fro
 abbrev pub not_driven : Segment → Driven
 not_driven seg = record { segment = seg; calls = []; turns = 0; frames = []; ended = None }
 
--- at most so many turns
+-- a drive of at most so many turns
 unfoldable pub driven : Segment → (from to : Address) → (turns : ℕ) → Driven
 driven seg from to turns = turns_from turns from to (not_driven seg)
 

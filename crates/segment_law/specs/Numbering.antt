@@ -36,8 +36,9 @@ numbered steps r s d numbers = zip numbers (station_givens steps r s d)
 abbrev pub part_of : (port : ℕ) → List Numbered → List ℕ
 part_of port givens = map (λ g. g.0) (filter (λ g. g.1.1.0 == port) givens)
 
--- message numbers for what station r was given of lane (s, d), over all its ports: they never fall, each is given after
--- its Send and in one reply, and those of each port number what the port was given in what was sent
+-- message numbers for the messages of lane (s, d) that station r was given, over all its ports: they never fall, each
+-- message is given after its Send and in one reply, and those of each port number what the port was given in what was
+-- sent
 pub record IsLaneNumbering (steps : Record) (r s d : Address) (numbers : List ℕ) : Type 0 where
   pub never_falls : IsNonDecreasing numbers
   pub items : map (item (sent steps s d)) numbers ≡ map Some (given_at steps r s d)

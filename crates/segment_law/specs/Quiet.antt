@@ -88,13 +88,13 @@ is_to_all d = d.0 == global_address
 unfoldable pub quiet : Pending → (s d : Address) → List CanFrame
 quiet m s d = if is_to_all d then quiet_broadcast m s d else quiet_connection (kind_for (length m.bytes)) m s d
 
--- Who receives it
+-- The receivers
 
 -- the open ports that take the message
 abbrev pub takers : Station → Pending → List ℕ
 takers st m = ports_for st.ports m.pgn (length m.bytes)
 
--- an open port takes it, and fewer than 32 sessions stand beside one of its kind from its source, which it replaces
+-- an open port takes it, and there are fewer than 32 sessions beside one of its kind from its source, which it replaces
 abbrev pub has_place : Station → Pending → (s : Address) → SessionKind → Bool
 has_place st m s kind = nat_lt 0 (length (takers st m)) && nat_lt (others_than st.sessions (key_of s kind)) MAX_SESSIONS
 
@@ -115,7 +115,7 @@ may_receive seg m s d =
     let st = station_at seg d in
     has_station seg d && has_place st m s (session_for (kind_for (length m.bytes))) && not (is_any_paused st.ports (takers st m))
 
--- the clock can still go on by the gaps between its frames
+-- the clock can advance by the gaps between the frames of a broadcast
 abbrev pub may_broadcast : Segment → Pending → Bool
 may_broadcast seg m = nat_lt (seg.now + BROADCAST_GAP * packet_count (length m.bytes)) (2 ^ 64)
 
@@ -128,13 +128,13 @@ pub record IsQuiet (seg : Segment) (s d : Address) (m : Pending) : Type 0 where
   pub front : slice_get (lane_at seg s d).pending 0 ≡ Some m
   pub receiver : IsTrue (if is_to_all d then may_broadcast seg m else may_receive seg m s d)
 
--- What is told
+-- The events
 
 -- each port that takes the message is given it, by rising number
 abbrev pub given_by : Station → Pending → (s d : Address) → List Event
 given_by st m s d = map (λ number. event.Given (record { station = st.address; number = number }) s d m.pgn m.bytes) (takers st m)
 
--- at each other station that takes the broadcast, in rising order
+-- each other station that takes the broadcast gives it at its ports, in rising order
 abbrev pub broadcast_given : List Station → Pending → (s d : Address) → List Event
 broadcast_given stations m s d = flat_map (λ st. if not (st.address.0 == s.0) && has_place st m s session.Broadcast then given_by st m s d else []) stations
 
@@ -143,7 +143,7 @@ quiet_events seg m s d =
     if is_to_all d then event.Outcome s d m.number outcome.Broadcast ∷ broadcast_given seg.stations m s d
     else given_by (station_at seg d) m s d ++ event.Outcome s d m.number outcome.Acknowledged ∷ []
 
--- the drive puts exactly the quiet frames, tells exactly these events, and leaves the segment at rest
+-- the drive puts exactly the quiet frames, has exactly these events, and leaves the segment at rest
 pub record IsUndisturbed (seg : Segment) (s d : Address) (m : Pending) (drive : Driven) : Type 0 where
   pub turns : drive.turns ≡ length (quiet m s d)
   pub frames : drive.frames ≡ quiet m s d

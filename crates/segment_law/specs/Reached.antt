@@ -1,4 +1,4 @@
--- What holds of every segment that calls lead to.
+-- The facts of every segment that calls reach.
 use Rattle.std.specs.Prelude.{◌≡◌, ℕ, ◌≤◌, true, length, max, All, Some, slice_get}
 use Rattle.std.specs.FinMap as map
 use Rattle.pgn_ids.specs.Address.{is_one}
@@ -34,7 +34,7 @@ pub record IsFitStation (st : Station) : Type 0 where
   pub ports : st.ports.station ≡ st.address
   pub lanes : AreFitLanes st.address st.lanes
 
--- each station stands at the place that its address leads to, so no two have one address
+-- each station is at the place that its address leads to, so no two have one address
 abbrev pub AreInPlace : Segment → Type 0
 AreInPlace seg = (i : ℕ) (st : Station) → slice_get seg.stations i ≡ Some st → place_of seg st.address ≡ Some i
 

@@ -1,4 +1,4 @@
--- What a segment answers without a step. Of an address that is no station's: nothing.
+-- The readers of a segment. They find nothing at an address that is no station's.
 use Rattle.std.specs.Prelude.{ℕ, Bool, true, false, ◌&&◌, ◌==◌, if◌then◌else◌, List, [], ◌∷◌, length, Option, Some, None, is_none, is_ok}
 use Rattle.std.specs.List.{list_all}
 use Rattle.std.specs.Option.{option_map}
@@ -49,7 +49,7 @@ is_due seg a = is_due_of seg (station_of seg a)
 abbrev pub frame_for : Segment → (again : Bool) → ℕ → Option CanFrame
 frame_for seg again i = if again then frame_again seg.bus i else next_frame seg.bus i
 
--- the ports that a station would give to with this frame, where it has a place for its answer, and the message's length
+-- the ports that a station would give to with this frame, if it has a place for its answer, and the message's length
 abbrev pub wanted_with : Option Station → Option CanFrame → List ℕ × ℕ
 wanted_with (Some st) (Some frame) = if no_place st then ([], 0) else taking.wanted st frame
 wanted_with _ _ = ([], 0)
@@ -58,7 +58,7 @@ wanted_with _ _ = ([], 0)
 abbrev pub wanted : Segment → Address → (again : Bool) → List ℕ × ℕ
 wanted seg a again = elim (place_of seg a) [ None ↦ ([], 0) | Some i ↦ wanted_with (station_of seg a) (frame_for seg again i) ]
 
--- the ports that events give to, and the length of the message; none and 0 where nothing is given
+-- the ports that events give to; none if nothing is given
 abbrev pub ports_given : List Event → List ℕ
 ports_given [] = []
 ports_given (event.Given port from to pgn bytes ∷ events) = port.number ∷ ports_given events
@@ -75,7 +75,7 @@ given_by_take seg a again =
     let events = events_of (applied seg (if again then TakeAgain a true else Take a true)).1 in
     (ports_given events, length_given events)
 
--- its queue is empty, no frame waits for it, and no lane of it would queue
+-- the station's queue is empty, no frame waits for it, and no lane of it would queue
 abbrev pub rests : Segment → Station → Bool
 rests seg st = length st.queue == 0 && waiting_at seg st.address == 0 && is_none (pumping_lane st.lanes seg.now)
 

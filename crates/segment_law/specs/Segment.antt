@@ -33,7 +33,7 @@ are_distinct (a ∷ addresses) = not (list_any (λ b. a.0 == b.0) addresses) && 
 abbrev pub are_addresses : List Address → Bool
 are_addresses addresses = nat_lt 0 (length addresses) && nat_le (length addresses) station_limit && list_all (λ a. is_one a.0) addresses && are_distinct addresses
 
--- an address comes before the first that is above it
+-- an address is inserted before the first that is above it
 abbrev pub rising_insert : Address → List Address → List Address
 rising_insert a [] = a ∷ []
 rising_insert a (b ∷ addresses) = if nat_lt a.0 b.0 then a ∷ b ∷ addresses else b ∷ rising_insert a addresses
@@ -62,7 +62,7 @@ has_station seg a = is_some (place_of seg a)
 abbrev pub station_of : Segment → Address → Option Station
 station_of seg a = elim (place_of seg a) [ None ↦ None | Some i ↦ slice_get seg.stations i ]
 
--- the same; a new one where there is none
+-- the station with an address; a new one if there is none
 abbrev pub station_at : Segment → Address → Station
 station_at seg a = unwrap_or (station_of seg a) (new_station a)
 

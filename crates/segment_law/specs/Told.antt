@@ -1,5 +1,5 @@
--- What a record tells of each lane and port: the messages that were sent and given, and their outcomes. Each stands with the
--- place of its reply in the record, from 1.
+-- What a record shows of each lane and port: the messages that were sent and given, and their outcomes. Each is paired with
+-- the place of its reply in the record, from 1.
 use Rattle.std.specs.Prelude.{ℕ, ◌+◌, Bool, ◌&&◌, ◌==◌, if◌then◌else◌, List, [], ◌∷◌, ◌++◌, map, Option, Some, None, filter_map}
 use Rattle.pgn_ids.specs.declared.address.Address.{Address}
 use Rattle.tp_wire.specs.declared.outcome.Outcome.{Outcome}
@@ -21,7 +21,7 @@ Message = ℕ × List ℕ
 abbrev pub Placed : Type 0 → Type 0
 Placed A = ℕ × A
 
--- each item that the steps tell, with the step's place
+-- each item that the steps show, with the step's place
 abbrev pub told_from : {A : Type 0} → (Step → List A) → ℕ → Record → List (Placed A)
 told_from tells place [] = []
 told_from tells place (step ∷ steps) = map (λ x. (place, x)) (tells step) ++ told_from tells (place + 1) steps
@@ -74,7 +74,7 @@ given steps p s d = items_of (givens steps p s d)
 abbrev pub AtPort : Type 0
 AtPort = ℕ × Message
 
--- the same of any port of station r
+-- the port's number and the message of a Given of any port of station r, from s to d
 abbrev pub given_to_station : (r s d : Address) → Event → Option AtPort
 given_to_station r s d (event.Given port from to pgn bytes) = if port.station.0 == r.0 && is_lane s d from to then Some (port.number, (pgn, bytes)) else None
 given_to_station r s d (event.Outcome from to number outcome) = None
@@ -86,7 +86,7 @@ station_givens steps r s d = told (λ step. filter_map (given_to_station r s d) 
 abbrev pub given_at : Record → (r s d : Address) → List Message
 given_at steps r s d = map (λ g. g.1.1) (station_givens steps r s d)
 
--- the message of a Given of port p, from whomever
+-- the message of a Given of port p, from any sender
 abbrev pub any_given_to : PortId → Event → Option Message
 any_given_to p (event.Given port from to pgn bytes) = if same_port port p then Some (pgn, bytes) else None
 any_given_to p (event.Outcome from to number outcome) = None

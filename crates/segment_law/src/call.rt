@@ -29,7 +29,7 @@ pub enum Call {
         pgn: Pgn,
         bytes: Bytes,
     },
-    /// Queues what comes next in the lane from a station to a destination: at most eight frames.
+    /// Queues the next frames of the lane from a station to a destination: at most eight.
     Pump {
         station: Address,
         to: Address,
@@ -44,7 +44,7 @@ pub enum Call {
         station: Address,
         room: bool,
     },
-    /// A station takes the frame that it took last once more.
+    /// A station takes again the frame that it took last.
     TakeAgain {
         station: Address,
         room: bool,
@@ -54,7 +54,7 @@ pub enum Call {
         station: Address,
         n: u64,
     },
-    /// The clock goes on by `n` ticks of 1 ms.
+    /// The clock advances by `n` ticks of 1 ms.
     Tick {
         n: u64,
     },
@@ -83,7 +83,7 @@ pub enum Call {
 }
 
 impl Call {
-    /// The same call once more. Memory is taken for the bytes of a Send alone.
+    /// A copy of the call. Only the bytes of a Send take memory.
     pub fn copy(&self, alloc: Global) -> Result<Call, AllocError>
         ensures { IfOk result (λ call. call ≡ self.now) }
     {
@@ -103,7 +103,7 @@ impl Call {
         }
     }
 
-    // A call that isn't a Send once more.
+    // A copy of a call that isn't a Send.
     fn copy_in_place(&self) -> Call
         requires { is_send self.now ≡ false }
         ensures { result ≡ self.now }

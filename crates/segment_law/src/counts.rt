@@ -1,4 +1,4 @@
-//! What is counted.
+//! The counts of a segment.
 
 /// What a segment counted, each number up to the last value of `u64`.
 #[derive(Clone, Copy, Debug, PartialEq, Eq)]

@@ -22,7 +22,7 @@ pub enum Refusal {
     /// The clock would pass the end of `u64`.
     #[error("the clock would pass its last tick")]
     ClockEnd,
-    /// Too few free places in the transmit queue.
+    /// The transmit queue has too few free places.
     #[error("too few places of the queue are free")]
     TxFull,
     /// 4,096 frames are kept on the bus, or no place of it is left in `u64`.

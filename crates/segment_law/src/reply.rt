@@ -1,4 +1,4 @@
-//! What a segment answers.
+//! The answer to a call.
 
 use crate::refusal::Refusal;
 use port_table::PortId;
@@ -13,6 +13,6 @@ pub enum Reply {
     Sent(u64),
     /// The call was refused, and changed nothing.
     Refused(Refusal),
-    /// The call was done, and told these events.
+    /// The call was done, with these events.
     Done(Events),
 }

@@ -10,13 +10,13 @@ use Rattle.script_setup.specs.declared.setup.Message.{Message}
 use Rattle.segment_report.specs.Texts.{below, ports_at, clients_at}
 use Rattle.segment_report.specs.Noted.{all_noted}
 
--- by rising station the ports, then the outcomes; and whether the turns ran out
+-- the text of the end: the ports by rising station, then the outcomes, and whether the turns ran out
 unfoldable pub end_text : List Address → List PortId → (ran_out : Bool) → Trail → List ℕ
 end_text addresses ports ran_out t =
     below 256 (λ station. ports_at station ports t) ++ below 256 (λ station. clients_at station 0 addresses t) ++ cond ran_out (line (codes "turns ran out")) []
 
--- the text of what the threads leave of a segment of these stations and ports: that of its record, of which the headline holds; and
--- unless the turns ran out, each of the messages has its outcome there
+-- the text of what the threads left of a segment of these stations and ports. It is that of the segment's record, for which the
+-- headline holds. Unless the turns ran out, each of the messages has its outcome there
 pub record Came (stations : List Address) (ports : List PortId) (messages : List Message) (ran_out : Bool) (printed : List ℕ) (v : LiveView) : Type 0 where
   pub addresses : v.addresses ≡ stations
   pub laws : Laws v

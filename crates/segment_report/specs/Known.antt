@@ -5,11 +5,11 @@ use Rattle.port_table.specs.declared.port.PortId.{PortId}
 use Rattle.live_segment.specs.LiveView.{LiveView, ClientView, PortView}
 use Rattle.live_segment.specs.Reports.{HasPort}
 
--- those of these ports that are of one station are ports of the segment
+-- those of these ports that one station has are ports of the segment
 abbrev pub ArePortsAt : (station : ℕ) → List PortView → List PortId → Type 0
 ArePortsAt station opened ports = All (λ p. p.station.0 ≡ station → HasPort opened p) ports
 
--- so are all
+-- all of these ports are ports of the segment
 abbrev pub ArePorts : List PortView → List PortId → Type 0
 ArePorts opened ports = All (HasPort opened) ports
 
@@ -17,7 +17,7 @@ ArePorts opened ports = All (HasPort opened) ports
 abbrev pub HaveClientsAt : (station : ℕ) → List ClientView → List Address → Type 0
 HaveClientsAt station clients stations = (k : ℕ) → (a : Address) → k < length stations → (slice_index_or stations k a).0 ≡ station → k < length clients
 
--- it has one for each of all
+-- the segment has a client for each of these stations
 abbrev pub HaveClients : List ClientView → List Address → Type 0
 HaveClients clients stations = length stations ≤ length clients
 
@@ -28,7 +28,7 @@ pub record AreKnown (stations : List Address) (ports : List PortId) (v : LiveVie
   pub clients : HaveClients v.clients stations
   pub uncut : v.pieces ≡ []
 
--- and they are its stations
+-- these are the segment's stations
 pub record IsThisSegment (stations : List Address) (ports : List PortId) (v : LiveView) : Type 0 where
   pub addresses : v.addresses ≡ stations
   pub known : AreKnown stations ports v

@@ -14,7 +14,7 @@ pub record IsNamed (p : Plan) (n : Names) : Type 0 where
   pub ports : p.ports ≡ n.ports.items
   pub messages : p.messages ≡ n.messages.items
 
--- where it has stations
+-- there are names if the plan has stations, and they are those of the plan
 abbrev pub AreNamed : Plan → Option Names → Type 0
 AreNamed p None = p.made ≡ None
 AreNamed p (Some n) = IsNamed p n

@@ -7,7 +7,7 @@ use Rattle.live_segment.specs.LiveView.{LiveView}
 use Rattle.script_setup.specs.declared.setup.Message.{Message}
 use Rattle.segment_report.specs.Known.{HaveClients}
 
--- how many of the messages are of one station
+-- how many of the messages one station sends
 abbrev pub count_from : Address → List Message → ℕ
 count_from a [] = 0
 count_from a (m ∷ ms) = cond (m.from.0 == a.0) 1 0 + count_from a ms

@@ -1,4 +1,4 @@
--- What is printed of a segment once its threads have ended: a port with what it was given, and the outcomes.
+-- The printed text of a segment once its threads have ended: a port with what it was given, and the outcomes.
 use Rattle.std.specs.Prelude.{ℕ, zero, suc, ◌+◌, ◌==◌, ◌&&◌, max, cond, List, [], ◌∷◌, ◌++◌, flat_map, codes}
 use Rattle.pgn_ids.specs.declared.address.Address.{Address}
 use Rattle.port_table.specs.declared.port.PortId.{PortId}
@@ -13,7 +13,7 @@ unfoldable pub below : ℕ → (ℕ → List ℕ) → List ℕ
 below zero text = []
 below (suc n) text = below n text ++ text n
 
--- those of the deliveries that are of this sender and destination, in the order in which they were given
+-- the lines of the deliveries with this sender and destination, in the order in which they were given
 abbrev pub given_lines : PortId → (from to : ℕ) → List Delivery → List ℕ
 given_lines port from to deliveries = flat_map (λ d. cond ((d.from.0 == from) && (d.to.0 == to)) (line (codes "  given " ++ given_text port d.from d.to d.pgn d.bytes)) []) deliveries
 
@@ -37,7 +37,7 @@ highest (n ∷ ns) = max n.number (highest ns)
 unfoldable pub outcome_lines : (from : Address) → List Note → List ℕ
 outcome_lines from notes = below 256 (λ to. below (suc (highest notes)) (λ number. numbered_lines from to number notes))
 
--- those of the messages of one station, whose client has the number of its place among the addresses
+-- the lines of the messages of one station, whose client has the number of its place among the addresses
 abbrev pub clients_at : (station client : ℕ) → List Address → Trail → List ℕ
 clients_at station client [] t = []
 clients_at station client (a ∷ more) t = cond (a.0 == station) (outcome_lines a (notes_of client t.noted)) [] ++ clients_at station (client + 1) more t

@@ -36,10 +36,10 @@ fn print_end(
     Ok(())
 }
 
-/// The text of what the threads leave, where it is a segment of these stations that has these ports and a client of each station.
-/// The turns ran out unless each message has its outcome and the bus was drained.
+/// The text of what the threads left, which must be a segment of these stations that has these ports and a client of each
+/// station. The turns ran out unless each message has its outcome and the bus was drained.
 ///
-/// `NotThisSegment` where it is another segment, or one that was cut, and only there; `OutOfMemory` where memory was refused.
+/// `NotThisSegment` exactly if it is another segment, or one that was cut; `OutOfMemory` if memory was refused.
 pub fn text_of(
     alloc: Global,
     live: &Live,

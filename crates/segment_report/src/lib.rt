@@ -1,5 +1,5 @@
-//! What is printed of a segment once its threads have ended: its ports with what they were given, and the outcomes of its messages; and
-//! the whole text of a run by the threads of one segment.
+//! The printed text of a segment once its threads have ended: its ports with what they were given, and the outcomes of its messages;
+//! and the whole text of a run by the threads of one segment.
 #![tactic(auto)]
 
 mod ending;

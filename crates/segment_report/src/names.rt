@@ -17,7 +17,7 @@ pub struct Names {
     pub messages: Vec<Message>,
 }
 
-/// The names of what was set up, out of which the messages are taken; none where there are no stations. It fails only where memory is
+/// The names of what was set up, from which the messages are moved; none if there are no stations. It fails only if memory is
 /// refused.
 pub fn names_of(alloc: Global, setup: &mut Setup) -> Result<Option<Names>, AllocError>
     ensures { IfOk result (λ names. AreNamed (plan_of setup.old) names) }

@@ -125,8 +125,8 @@ fn print_ports_at(
 /// Prints the ports by rising station, and those of one station in the order in which they are listed: each with what the record of the
 /// segment gives to it, by rising sender and destination and in the order in which it was given.
 ///
-/// `NotThisSegment` where one of them is no port of the segment, or the segment was cut, since it may then not keep all that was given;
-/// `OutOfMemory` where memory was refused. What the buffer holds then is not said.
+/// `NotThisSegment` if one of them is no port of the segment, or the segment was cut, since it may then not keep all that was given;
+/// `OutOfMemory` if memory was refused. What the buffer holds then is not specified.
 pub fn print_ports(out: &mut Vec<u8>, live: &Live, ports: &[PortId]) -> Result<(), Lost>
     ensures text { OnOk result (out.new.items ≡ out.old.items ++ below 256 (λ station. ports_at station ports.now (trail live.now.addresses live.now.calls))) }
     ensures known { OnOk result (ArePorts live.now.ports ports.now) }
@@ -245,8 +245,8 @@ fn print_clients_at(
 /// Prints the outcomes that are noted in the record of the segment, by rising station, destination and number. Each station has a client,
 /// and they are numbered from 0 in the order of the stations.
 ///
-/// `NotThisSegment` where one of them has none, or the segment was cut, since it may then not keep all notes; `OutOfMemory` where memory
-/// was refused. What the buffer holds then is not said.
+/// `NotThisSegment` if one of them has none, or the segment was cut, since it may then not keep all notes; `OutOfMemory` if memory was
+/// refused. What the buffer holds then is not specified.
 pub fn print_clients(out: &mut Vec<u8>, live: &Live, stations: &[Address]) -> Result<(), Lost>
     ensures text { OnOk result (out.new.items ≡ out.old.items ++ below 256 (λ station. clients_at station 0 stations.now (trail live.now.addresses live.now.calls))) }
     ensures known { OnOk result (HaveClients live.now.clients stations.now) }
@@ -261,7 +261,7 @@ pub fn print_clients(out: &mut Vec<u8>, live: &Live, stations: &[Address]) -> Re
     Ok(())
 }
 
-/// Whether two lists have the same addresses in the same order.
+/// Whether two lists have equal addresses in one order.
 pub fn are_same(stations: &[Address], others: &[Address]) -> bool
     ensures { IsTrue result ↔ (stations.now ≡ others.now) }
 {
@@ -276,7 +276,7 @@ pub fn are_same(stations: &[Address], others: &[Address]) -> bool
     true
 }
 
-// How many of the messages are of one station.
+// How many of the messages one station sends.
 fn count_from(station: Address, messages: &[Message]) -> usize
     ensures { result ≡ count_from station messages.now }
 {
@@ -304,7 +304,7 @@ fn lacks_notes(live: &Live, client: u64, count: usize) -> bool
 }
 
 /// Whether the turns ran out before the bus was drained and each message had its outcome in the record. Each station has a client, and
-/// they are numbered from 0 in the order of the stations; where one has none, the turns ran out.
+/// they are numbered from 0 in the order of the stations; if one has none, the turns ran out.
 pub fn has_run_out(live: &Live, stations: &[Address], messages: &[Message], drained: bool) -> bool
     ensures { HasRunOut result stations.now messages.now drained live.now }
 {

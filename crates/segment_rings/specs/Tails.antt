@@ -11,14 +11,14 @@ pub record Tail (T : Type 0) : Type 0 where
 abbrev pub most_gone : ℕ
 most_gone = 2 ^ 63
 
--- it is what is kept of this list
+-- the tail is what is kept of this list
 abbrev pub IsTailOf : {T : Type 0} → Tail T → List T → Type 0
 IsTailOf k xs = (k.gone ≤ length xs) × (k.items ≡ drop k.gone xs)
 
 abbrev pub new_tail : {T : Type 0} → ℕ → Tail T
 new_tail spare = record { gone = 0; items = []; spare = spare }
 
--- of a list's first items so many were kept no more before, and so many afterwards: never fewer
+-- so many of a list's first items were no longer kept before, and so many afterwards: never fewer
 abbrev pub GoesOn : {T : Type 0} → (before after : ℕ) → List T → Type 0
 GoesOn before after xs = (before ≤ after) × (after ≤ length xs)
 

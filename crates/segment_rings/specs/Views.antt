@@ -11,7 +11,7 @@ use Rattle.segment_rings.specs.Tails.{GoesOn, known_out}
 use Rattle.segment_rings.specs.Ends.{ring_places}
 
 -- popped and noted: what went out of and into the client's rings; ahead and free: what is known of them; gone: how many of its first
--- notes are kept no more; kept: all others; spare: room for more of them
+-- notes are no longer kept; kept: all others; spare: room for more of them
 pub record SeatView : Type 0 where
   pub id : ℕ
   pub station : Address
@@ -49,7 +49,8 @@ with_spare s spare = record s { spare = spare }
 abbrev pub popped_one : SeatView → Submission → List Submission → SeatView
 popped_one s x ahead = record s { popped = s.popped ++ x ∷ []; ahead = ahead }
 
--- what is in a client's ring after these notes, and how many places of it are free: none goes into the ring of one that is gone
+-- the content of a client's ring after these notes, and how many places of it are free: no note goes into the ring of a client that
+-- is gone
 abbrev pub noted_after : (active : Bool) → List Note → List Note → List Note
 noted_after true xs ns = xs ++ ns
 noted_after false xs ns = xs
@@ -64,7 +65,7 @@ with_note s n = record s { kept = s.kept ++ n ∷ []; noted = noted_after s.acti
 abbrev pub closed_seat : SeatView → SeatView
 closed_seat s = record s { active = false }
 
--- the same seat, of which more may be known
+-- the seat is unchanged, but more may be known of it
 pub record SameSeat (a b : SeatView) : Type 0 where
   pub id : b.id ≡ a.id
   pub station : b.station ≡ a.station
@@ -76,8 +77,8 @@ pub record SameSeat (a b : SeatView) : Type 0 where
   pub free : a.free ≤ b.free
   pub spare : a.spare ≤ b.spare
 
--- the same seat, of which more may be known; the notes that are known to be out of the ring are kept no more, those that may be in it
--- are. Of a client that is gone all are kept as they were
+-- the seat is unchanged, but more may be known of it. It no longer keeps the notes that are known to be out of the ring, and keeps
+-- those that may be in it. If its client is gone, it keeps all that it kept
 pub record CutSeat (a b : SeatView) : Type 0 where
   pub id : b.id ≡ a.id
   pub station : b.station ≡ a.station
@@ -93,8 +94,8 @@ pub record CutSeat (a b : SeatView) : Type 0 where
   pub free : a.free ≤ b.free
   pub spare : a.spare ≤ b.spare
 
--- what is known of a seat for which so many notes are owed: no submission is seen, or none is taken any more; or one is seen,
--- and its note has no free place beside those that are owed, or has one
+-- what is known of a seat that is owed so many notes: no submission is seen, or none is taken any more; or one is seen, and its note
+-- has no free place beside those that are owed, or has one
 abbrev pub IsOffer : SeatView → ℕ → Offer → Type 0
 IsOffer s owed offer.Empty = (s.active ≡ false) ⊎ (length s.ahead ≡ 0)
 IsOffer s owed offer.Owed = (s.active ≡ true) × (0 < length s.ahead) × (s.free ≤ owed)
@@ -115,7 +116,7 @@ with_delivery d x = record d { pushed = d.pushed ++ x ∷ []; free = d.free - 1;
 abbrev pub closed_door : DoorView → DoorView
 closed_door d = record d { active = false }
 
--- the same door, of which more may be known
+-- the door is unchanged, but more may be known of it
 pub record SameDoor (a b : DoorView) : Type 0 where
   pub port : b.port ≡ a.port
   pub active : b.active ≡ a.active
@@ -124,8 +125,8 @@ pub record SameDoor (a b : DoorView) : Type 0 where
   pub gone : b.gone ≡ a.gone
   pub spare : a.spare ≤ b.spare
 
--- the same door, of which more may be known; the deliveries that are known to be out of the ring are kept no more, those that may be
--- in it are
+-- the door is unchanged, but more may be known of it. It no longer keeps the deliveries that are known to be out of the ring, and
+-- keeps those that may be in it
 pub record CutDoor (a b : DoorView) : Type 0 where
   pub port : b.port ≡ a.port
   pub active : b.active ≡ a.active

@@ -13,7 +13,7 @@ use std::sync::Wait;
 use std::thread;
 use tp_wire::constants::MIN_SIZE;
 
-/// A submission that was refused, or, without a refusal, for which there was no memory. The bytes come back.
+/// A submission that was refused, or, without a refusal, for which there was no memory. The bytes are handed back.
 #[derive(Debug, Drop)]
 pub struct SubmitRefused {
     pub refusal: Option<Refusal>,
@@ -65,7 +65,7 @@ impl Drop for Client {
 ghost use Rattle.std.specs.Prelude.{◌≡◌, length, None};
 ghost use Rattle.segment_rings.specs.Submitting.{submit_refusal as submit_refusal_of};
 
-/// Why a message of so many bytes isn't submitted, where its PGN is one and before a ring is looked at: the first that holds.
+/// Why a message of so many bytes whose PGN is one isn't submitted, before a ring is looked at: the first cause that holds.
 pub fn submit_refusal(from: Address, to: Address, len: usize) -> Option<Refusal>
     ensures { result ≡ submit_refusal_of from to len }
 {
@@ -84,7 +84,7 @@ pub fn submit_refusal(from: Address, to: Address, len: usize) -> Option<Refusal>
     None
 }
 
-// The refusal, or want of memory, with the bytes that come back.
+// The refusal, or want of memory, with the bytes that are handed back.
 fn refused(refusal: Option<Refusal>, bytes: Bytes) -> SubmitRefused
     ensures refusal { result.refusal ≡ refusal }
     ensures bytes { result.bytes ≡ bytes }
@@ -126,7 +126,7 @@ impl Client {
         }
     }
 
-    /// Its number, which no other client of the same segment has.
+    /// Its number, which no other client of the segment has.
     pub fn id(&self) -> u64
         ensures { result ≡ self.now.id }
     {
@@ -140,11 +140,11 @@ impl Client {
         self.station
     }
 
-    /// Submits a message, and answers its ticket: its place among all that the client submitted, from 1.
+    /// Submits a message, and returns its ticket: its place among all that the client submitted, from 1.
     ///
-    /// It is refused where the PGN is none, then for its destination and its length, and then where the ring has no free
-    /// place. Want of memory is told by no refusal. The bytes come back in each case, and nothing has changed. Whatever it answers, it
-    /// keeps no more the first submissions of which a cut of the segment told that they needn't be kept.
+    /// It is refused if the PGN is none, then for its destination and its length, and then if the ring has no free place. Want of memory is
+    /// an error without a refusal. The bytes are handed back in each case, and nothing has changed. Whatever it returns, it drops the first
+    /// submissions that, by a cut of the segment, needn't be kept.
     pub fn submit(&mut self, to: Address, pgn: u32, bytes: Bytes) -> Result<u64, SubmitRefused>
         ensures new { IfOk result (λ n. self.new ≡ submits self.old to pgn bytes self.new.free self.new.gone) }
         ensures gone { GoesOn self.old.gone self.new.gone self.old.submitted }
@@ -182,8 +182,8 @@ impl Client {
         Ok(self.submitted.count())
     }
 
-    /// Reads the next note, if one is there. Want of memory leaves it in the ring. Whatever it answers, it keeps no more the first notes of
-    /// which a cut of the segment told that they needn't be kept.
+    /// Reads the next note, if there is one. Want of memory leaves it in the ring. Whatever it returns, it drops the first notes that, by a
+    /// cut of the segment, needn't be kept.
     pub fn try_outcome(&mut self) -> Result<Option<Note>, AllocError>
         ensures note { IfOk result (λ r. MatchOption r (self.new ≡ lets_read_go self.old self.new.read_gone) (λ n. self.new ≡ reads self.old n self.new.read_gone)) }
         ensures gone { GoesOn self.old.read_gone self.new.read_gone self.old.read }

@@ -48,7 +48,7 @@ impl Drop for Inbox {
 
 ghost use Rattle.std.specs.Prelude.{◌≡◌, OnErr, IfOk};
 
-/// The same delivery once more.
+/// A copy of the delivery.
 pub(crate) fn copy_delivery(alloc: Global, delivery: &Delivery) -> Result<Delivery, AllocError>
     ensures { IfOk result (λ d. d ≡ delivery.now) }
 {
@@ -100,8 +100,8 @@ impl Inbox {
         self.closed
     }
 
-    /// Receives the next delivery, if one is there. A closed inbox gives none. Want of memory leaves it in the ring. Whatever it answers, an
-    /// open inbox keeps no more the first deliveries of which a cut of the segment told that they needn't be kept.
+    /// Receives the next delivery, if there is one. A closed inbox gives none. Want of memory leaves it in the ring. Whatever it returns, an
+    /// open inbox drops the first deliveries that, by a cut of the segment, needn't be kept.
     pub fn try_receive(&mut self) -> Result<Option<Delivery>, AllocError>
         ensures delivery { IfOk result (λ r. MatchOption r (self.new ≡ lets_received_go self.old self.new.gone self.new.spare) (λ d. self.new ≡ receives self.old d self.new.gone self.new.spare)) }
         ensures gone { GoesOn self.old.gone self.new.gone self.old.received }

@@ -60,7 +60,7 @@ impl<T> Kept<T> {
         self.items.reserve(count)
     }
 
-    /// One item more, for which there is room.
+    /// Puts one item more. There is room for it.
     pub(crate) fn push_reserved(&mut self, item: T)
         requires { 0 < self.old.spare }
         ensures added { self.new ≡ record self.old { items = self.old.items ++ item ∷ []; spare = self.old.spare - 1 } }
@@ -99,7 +99,7 @@ impl<T: Drop> Kept<T> {
         self.items.drain(..more as usize);
     }
 
-    /// All these items more, for which there is room.
+    /// Puts all these items. There is room for them.
     pub(crate) fn append_reserved(&mut self, more: Vec<T>)
         requires { length more.items ≤ self.old.spare }
         ensures gone { self.new.gone ≡ self.old.gone }

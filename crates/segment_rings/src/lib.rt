@@ -1,10 +1,10 @@
-//! What threads hold of a shared segment, and what the segment keeps of each: the two ends of every ring, each beside the
-//! list of all that went through it.
+//! What threads hold of a shared segment, and what the segment keeps of each: the two ends of every ring, each beside the list of
+//! all that went through it.
 //!
-//! A client pushes submissions and pops notes; its seat is the other end of both rings. An inbox pops deliveries; its door
-//! pushes them. A seat and a door that are cut keep only what may be unread, and tell the other end by a mark, which then keeps no
-//! more either. An outlet has both ends of its ring, so that contracts see all that a struct gave away. Nothing above this crate
-//! sees a ring. Nothing here takes a lock; only `outcome` and `receive` wait, for so many turns at most.
+//! A client pushes submissions and pops notes; its seat is the other end of both rings. An inbox pops deliveries; its door pushes
+//! them. A seat and a door that are cut keep only what may be unread; by a mark the other end learns of it, and then keeps no more
+//! either. An outlet has both ends of its ring, so that contracts see all that a struct gave away. Nothing above this crate sees a
+//! ring. Nothing here takes a lock; only `outcome` and `receive` wait, for so many turns at most.
 #![tactic(auto)]
 
 mod buffer;

@@ -1,12 +1,12 @@
-//! The way by which values leave a struct, so that contracts see all that left.
+//! The way in which values leave a struct, so that contracts see all that left.
 use rtrb::{Consumer, Producer, RingBuffer};
 use std::alloc::{AllocError, Global};
 use std::marker::Model;
 
 /// Hands items out, one after another; contracts see all that were handed out, in order.
 ///
-/// A struct that gives values away so keeps no copy of them, and has a history of them in its contracts. It is a ring with one
-/// place, both of whose ends are inside: an item goes in and comes out at once. Only `new` takes memory; nothing here waits.
+/// So a struct that gives values away keeps no copy of them, and its contracts have a history of them. It is a ring with one
+/// place, and both its ends are inside: an item is pushed and popped at once. Only `new` takes memory; nothing here waits.
 #[derive(Drop)]
 pub struct Outlet<T> {
     producer: Producer<T>,

@@ -171,7 +171,7 @@ impl Seat {
         self.kept.reserve(count)
     }
 
-    /// Makes a note, for which there is room. It goes into the client's ring while submissions are taken, and is kept.
+    /// Makes a note. There is room for it. It goes into the client's ring while submissions are taken, and is kept.
     pub fn note(&mut self, note: Note)
         requires free { 0 < self.old.free }
         requires spare { 0 < self.old.spare }
@@ -205,7 +205,7 @@ impl Seat {
         self.kept.gone()
     }
 
-    /// Keeps no more the notes that its client is known to have read, and tells the client what it needn't keep any more: these
+    /// Drops the notes that its client is known to have read, and lets the client know what it needn't keep any more: these
     /// notes, and all submissions that were taken. It takes no memory and never waits.
     pub fn cut(&mut self)
         ensures { CutSeat self.old self.new }

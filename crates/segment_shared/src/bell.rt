@@ -26,7 +26,8 @@ impl Bell {
         self.rung.load(Ordering::SeqCst)
     }
 
-    // Who rests has counted itself before it compares: where nobody is counted, nobody sleeps any more without the new count.
+    // A worker that rests has counted itself before it compares: so if nobody is counted, nobody sleeps without the new
+    // count.
     pub(crate) fn ring(&self) {
         self.rung.fetch_add(1, Ordering::SeqCst);
         if self.resting.load(Ordering::SeqCst) > 0 {

@@ -1,8 +1,8 @@
-//! Clocks by which the clock of a segment goes.
+//! Clocks that the clock of a segment follows.
 use std::sync::atomic::{AtomicU64, Ordering};
 use std::time::Instant;
 
-/// A clock in ticks of 1 ms, on the scale of a segment's clock. A worker that goes by it brings the segment's clock forward to what it says, and never
+/// A clock in ticks of 1 ms, on the scale of a segment's clock. A worker that follows it brings the segment's clock forward to its tick, and never
 /// back.
 pub trait Clock {
     fn now(&self) -> u64;
@@ -28,7 +28,7 @@ impl<R> Drop for MachineClock<'_, R> {
 }
 
 impl<'a, R: std::time::Clock> MachineClock<'a, R> {
-    /// A clock that says `now` as it is made: the tick at which the segment stands. Where the machine's clock can't be read, it stands.
+    /// A clock that shows `now`, the tick of the segment, when it is made. If the machine's clock can't be read, it stands still.
     pub fn new(rt: &'a R, now: u64) -> MachineClock<'a, R> {
         MachineClock {
             rt,
@@ -38,7 +38,7 @@ impl<'a, R: std::time::Clock> MachineClock<'a, R> {
         }
     }
 
-    // How many ticks have passed since the start; none where the clock can't be read.
+    // How many ticks have passed since the start; none if the clock can't be read.
     fn passed(&self) -> Option<u64> {
         let time = self.start?.elapsed(self.rt).ok()?;
         Some(
@@ -50,7 +50,7 @@ impl<'a, R: std::time::Clock> MachineClock<'a, R> {
 }
 
 impl<R: std::time::Clock> Clock for MachineClock<'_, R> {
-    /// What was read last where the machine's clock can't be read.
+    /// The tick read now, or the last one if the machine's clock can't be read.
     fn now(&self) -> u64 {
         let Some(passed) = self.passed() else {
             return self.last.load(Ordering::SeqCst);

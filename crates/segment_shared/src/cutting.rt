@@ -9,18 +9,18 @@ use live_segment::{Live, MOST_CALLS, NotMade, Piece};
 /// How many calls a record has as a rule when it is cut: the threads of a program can still make 100,000 while memory for a cut is lacking.
 pub const CUT_AT: usize = 900_000;
 
-/// Who takes the pieces of a record: to keep them, to write them to a file, or to drop them.
+/// A keeper of the pieces of a record: it keeps them, writes them to a file, or drops them.
 pub trait PieceKeeper {
-    /// Takes a piece. The segment's lock is free meanwhile, so that another worker may hand in a later piece at the same time: each has its number.
-    /// The worker makes no turn until this returns.
+    /// Takes a piece. The segment's lock is free at that time, so another worker may hand in a later piece: each has its number. The worker makes
+    /// no turn until this returns.
     fn keep(&self, piece: Piece);
 }
 
-/// When a record is cut, and who takes its pieces.
+/// When a record is cut, and the keeper of its pieces.
 #[derive(Drop)]
 pub struct Cutting<'a, K> {
     pub keeper: &'a K,
-    /// How many calls the record has at least when it is cut: 1 to 1,000,000; what is less is taken as 1, what is more as 1,000,000.
+    /// How many calls the record has at least when it is cut: 1 to 1,000,000; a value below is taken as 1, one above as 1,000,000.
     pub at: usize,
 }
 
@@ -31,7 +31,7 @@ fn is_due(calls: usize, at: usize) -> bool
     calls > 0 && (calls >= at || calls >= MOST_CALLS)
 }
 
-/// Cuts the record where it has so many calls. That a cut is refused, or finds no memory, changes nothing.
+/// Cuts the record if it has so many calls. A cut that is refused, or finds no memory, changes nothing.
 pub(crate) fn cut_at(live: &mut Live, at: usize) -> Result<Option<Piece>, NotMade>
     ensures done { IfOk result (λ r. MatchOption r (live.new ≡ live.old) (λ p. CutAs live.old live.new p)) }
     ensures refused { IfErr result (λ e. IsCutCause live.old e) }

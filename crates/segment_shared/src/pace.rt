@@ -10,15 +10,15 @@ use pgn_ids::Address;
 use std::sync::Wait;
 use std::sync::atomic::{AtomicU64, Ordering};
 
-/// How often a worker looks by itself as a rule, in ticks of 1 ms: so long a submission waits at most of which nobody tells it.
+/// How often a worker looks by itself as a rule, in ticks of 1 ms: so long a submission waits at most if no `wake` follows it.
 pub const LOOK_TICKS: u64 = 50;
 
 /// How long a worker rests at most while others have something to do.
 const BUSY_TICKS: u64 = 5;
 
-/// The gate of one worker that goes by a clock: it sleeps at a gate of its own until there is something to do. A worker whose last turn made a call
-/// passes at once. Any other sleeps until another worker's turn gives it something to do, until something is due, until `SharedSegment::wake`, or until
-/// the next tick that `look` divides.
+/// The gate of one worker that follows a clock: it sleeps at a gate of its own until there is something to do. A worker whose last turn made a call
+/// passes at once. Any other sleeps until another worker's turn gives it something to do, until something is due, until `SharedSegment::wake`, or
+/// until the next tick that `look` divides.
 pub struct Pace<'a, R, C> {
     rt: &'a R,
     shared: &'a SharedSegment,
@@ -55,8 +55,9 @@ impl<'a, R, C> Pace<'a, R, C> {
     }
 }
 
-// How many ticks a worker rests at most that made no call in its turn: `is_kept`, whether something is there for it to do that it couldn't; `next`, the tick at
-// which some worker has something to do; where the segment's clock stands, and the other; how often it looks.
+// How many ticks a worker rests at most if it made no call in its turn. `is_kept` says whether it has something to do that it couldn't; `next` is the
+// tick at which some worker has something to do. The others are the tick of the segment's clock, that of the other clock, and how often the worker
+// looks.
 fn rest_for(is_kept: bool, next: Option<u64>, stands: u64, now: u64, look: u64) -> u64
     ensures value { result ≡ rest_ticks is_kept next stands now look }
     ensures some { 1 ≤ result }

@@ -1,4 +1,4 @@
-//! What a station does that finds no memory for what it takes.
+//! What a station does if it finds no memory for the frames that it takes.
 use live_segment::{Live, Reply, Turn, WorkerCall};
 use pgn_ids::Address;
 
@@ -8,7 +8,7 @@ pub const MEMORY_TRIES: u64 = 1_000;
 /// How many frames a station's queue holds: with so many it takes nothing.
 const QUEUE_LIMIT: usize = 64;
 
-/// Makes the clock go on by so many ticks; how many calls that was.
+/// Advances the clock by so many ticks, and returns how many calls that was.
 pub(crate) fn tick(live: &mut Live, n: u64) -> u64 {
     match live.apply(WorkerCall::Tick { n }) {
         Ok(Reply::Done(_)) => 1,
@@ -34,9 +34,10 @@ fn rests_but_for(live: &Live, station: Address) -> bool {
         && (address.0 == station.0 || segment.waiting(*address) == 0))
 }
 
-// The station misses what waits for it. If there is no memory for that either, the clock goes on by a tick if nothing else makes it go on: it doesn't
-// by itself while a frame waits, and the senders of messages to this station are told of it by their timers. If frames wait for another station too, that
-// one may have found no memory either, so the clock goes on once in `MEMORY_TRIES` turns: too slowly to end what the others are at.
+// The station misses the frames that wait for it. If there is no memory for that either, the clock must advance, so that timers end the messages to
+// this station: it advances by a tick if nothing else drives it, since it doesn't by itself while a frame waits. If frames wait for another station
+// too, that one may have found no memory either. So the clock then advances once in `MEMORY_TRIES` turns, too slowly to end what the others have
+// under way.
 fn miss(live: &mut Live, station: Address, tried: u64, is_timed: bool) -> (u64, bool) {
     let n = live.segment().waiting(station);
     match live.apply(WorkerCall::Overrun { station, n }) {
@@ -50,8 +51,8 @@ fn miss(live: &mut Live, station: Address, tried: u64, is_timed: bool) -> (u64, 
     (0, false)
 }
 
-/// A turn of a station's worker that has tried so many turns in vain to take a frame, and how many it has tried then. `is_timed`: the segment's clock
-/// goes by another.
+/// A turn of a station's worker that has tried so many turns in vain to take a frame. Returns also how many it has tried then. `is_timed`: the
+/// segment's clock follows another.
 pub(crate) fn relieved_turn(
     live: &mut Live,
     station: Address,

@@ -9,7 +9,7 @@ use pgn_ids::Address;
 use std::sync::Wait;
 use std::thread;
 
-/// Whose turns a worker makes.
+/// The turns that a worker makes: those of a station or of the bus.
 #[derive(Clone, Copy)]
 pub(crate) enum Whose {
     Station(Address),
@@ -25,7 +25,7 @@ impl Whose {
     }
 }
 
-/// A worker: whose turns it makes, the gate that it passes, and, where it cuts the record or goes by a clock, these.
+/// A worker: whose turns it makes, the gate that it passes, and, if it cuts the record or follows a clock, the keeper and the clock.
 pub(crate) struct Worker<'a, G, K, C> {
     pub(crate) whose: Whose,
     pub(crate) gate: &'a G,
@@ -44,7 +44,7 @@ impl<G, K, C> Drop for Worker<'_, G, K, C> {
     }
 }
 
-/// Keeps no pieces and says no time: of workers that neither cut nor go by a clock.
+/// A keeper and a clock for workers without one: it keeps no pieces and has no time.
 #[derive(Drop)]
 pub(crate) struct Nobody {}
 
@@ -58,8 +58,8 @@ impl Clock for Nobody {
     }
 }
 
-// What came of a turn: its calls, and those among them by which the clock went by another; how often in a row the station found no memory for what
-// it takes; whether the worker waits for others; why it ends, if it does; and what was cut.
+// The result of a turn: its calls, and those among them by which the clock followed another; how often in a row the station found no memory for
+// what it takes; whether the worker waits for others; why it ends, if it does; and what was cut.
 #[derive(Drop)]
 struct Turned {
     calls: u64,
@@ -85,7 +85,7 @@ impl Turned {
 }
 
 impl<G: Gate, K: PieceKeeper, C: Clock> Worker<'_, G, K, C> {
-    /// Makes so many turns at most. A worker with nothing to do lets other threads run: what it waits for is theirs to do.
+    /// Makes so many turns at most. A worker with nothing to do lets other threads run, since it waits for their work.
     pub(crate) fn work<R: Wait>(&self, rt: &R, shared: &SharedSegment, turns: u64) -> Tally {
         let mut calls = 0u64;
         let mut tried = 0u64;
@@ -117,7 +117,7 @@ impl<G: Gate, K: PieceKeeper, C: Clock> Worker<'_, G, K, C> {
         }
     }
 
-    // Hands a piece to who keeps it. The lock is free.
+    // Hands a piece to the keeper. The lock is free.
     fn hand_over(&self, piece: Option<Piece>) {
         if let Some(piece) = piece
             && let Some(cutting) = self.cutting
@@ -141,7 +141,7 @@ impl<G: Gate, K: PieceKeeper, C: Clock> Worker<'_, G, K, C> {
         turned
     }
 
-    // Cuts the record where that is due; and whether a count would pass its last value. Without memory it is tried again at the next turn.
+    // Cuts the record if that is due, and returns whether a count would pass its last value. If memory is refused, the next turn tries again.
     fn cut(&self, live: &mut Live) -> (Option<Piece>, bool) {
         let Some(cutting) = self.cutting else {
             return (None, false);
@@ -153,7 +153,7 @@ impl<G: Gate, K: PieceKeeper, C: Clock> Worker<'_, G, K, C> {
         }
     }
 
-    // Why a worker ends that finds the record full: who cuts doesn't, unless no cut can come.
+    // Why a worker ends that finds the record full: a worker that cuts doesn't, unless no cut is possible.
     fn end_if(&self, is_past: bool) -> Option<WorkerEnd> {
         if self.cutting.is_none() || is_past {
             return Some(WorkerEnd::RecordFull);
@@ -177,7 +177,7 @@ impl<G: Gate, K: PieceKeeper, C: Clock> Worker<'_, G, K, C> {
         }
     }
 
-    // Brings the segment's clock to the one that it goes by; how many calls that takes.
+    // Brings the segment's clock to the one that it follows; returns how many calls that takes.
     fn keep_time(&self, live: &mut Live) -> u64 {
         let Some(clock) = self.clock else {
             return 0;
@@ -196,7 +196,7 @@ impl<G: Gate, K: PieceKeeper, C: Clock> Worker<'_, G, K, C> {
         }
     }
 
-    // Where the clock goes by another, it doesn't go on by itself.
+    // A clock that follows another doesn't advance by itself.
     fn turn_of_bus(&self, live: &mut Live, is_timed: bool) -> Turn {
         if is_timed && live.lowest().is_none() {
             return Turn {

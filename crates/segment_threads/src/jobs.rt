@@ -18,9 +18,9 @@ pub struct Sender {
     pub messages: Vec<Submission>,
 }
 
-/// What the threads tell one another: whether all of them were made, which is locked until that is known; how many senders have
-/// submitted all their messages, and how many have all their outcomes; how many turns the workers have begun, and how many of
-/// them have ended; whether nothing comes of the first segment any more; and whether all are to end.
+/// What the threads let one another know: whether all of them were made, which is locked until that is known; how many senders
+/// have submitted all their messages, and how many have all their outcomes; how many turns the workers have begun, and how many
+/// of them have ended; whether the first segment gives nothing more; and whether all are to end.
 #[derive(Drop)]
 pub struct Board {
     pub made: Mutex<bool>,
@@ -58,7 +58,7 @@ impl Board {
     }
 }
 
-// Submits one message, again where the ring is full or memory is refused, until all are to end.
+// Submits one message, again while the ring is full or memory is refused, until all are to end.
 fn submit(client: &mut Client, board: &Board, message: Submission) -> bool {
     let Submission { to, pgn, bytes } = message;
     let mut bytes = bytes;
@@ -102,7 +102,7 @@ pub fn send_all<R: Wait>(rt: &R, sender: Sender, board: &Board) -> Client {
     client
 }
 
-/// Reads the outcomes of so many messages, and notes when all have been read. It ends before only where all are to end.
+/// Reads the outcomes of so many messages, and notes when all have been read. It ends earlier only if all are to end.
 pub fn read_all(client: &mut Client, board: &Board, waits: u64)
     ensures id { client.new.id ≡ client.old.id }
     ensures submitted { client.new.submitted ≡ client.old.submitted }
@@ -172,7 +172,7 @@ fn are_drained<R: Wait>(rt: &R, parties: &[Party<'_>]) -> bool {
     true
 }
 
-// Notes that nothing comes of the first segment any more, once its messages have their outcomes and its bus is drained.
+// Notes that the first segment gives nothing more, once its messages have their outcomes and its bus is drained.
 fn note_quiet<R: Wait>(rt: &R, parties: &[Party<'_>], board: &Board) {
     if let Some(party) = parties.first()
         && board.quiet.load(Ordering::SeqCst) == 0

@@ -10,10 +10,10 @@ const AHEAD: u64 = 16;
 /// How often a worker that is ahead looks again, at each turn.
 const MOST_LOOKS: u64 = 64;
 
-/// The gate that the workers pass, behind that of the caller: who is ahead of the senders or of the other workers lets them run. A
-/// turn with nothing to do takes next to no time, so that a worker would else be through all its turns before a thread that has to
-/// wait for a processor made its first. `senders` is how many threads submit messages, `relays` how many relays submit what others
-/// were given, and `workers` how many workers there are.
+/// The gate that the workers pass, behind that of the caller: a worker that is ahead of the senders or of the other workers lets
+/// them run. A turn with nothing to do takes next to no time, so a worker would otherwise use up all its turns before a thread
+/// that has to wait for a processor made its first. `senders` is how many threads submit messages, `relays` how many relays submit
+/// messages that others were given, and `workers` how many workers there are.
 #[derive(Drop)]
 pub struct Pace<'a, G> {
     pub gate: &'a G,

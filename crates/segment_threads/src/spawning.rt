@@ -9,9 +9,11 @@ use std::alloc::{AllocError, Global};
 use std::sync::Wait;
 use std::thread::{JoinHandle, Scope, Threads};
 
-/// A client of each station, with the messages that it is to submit. The clients are numbered in the order of the stations.
+/// A client of each station, with the messages that it is to submit. The clients are numbered in the order of the
+/// stations.
 ///
-/// `NotThisSegment` where one of them is no station of the segment, or has all its clients, `OutOfMemory` where memory was refused.
+/// `NotThisSegment` if one of them is no station of the segment, or has all its clients; `OutOfMemory` if memory was
+/// refused.
 pub fn senders_of(
     alloc: Global,
     live: &mut Live,
@@ -103,7 +105,7 @@ impl Ends {
     }
 }
 
-/// Waits for the threads, and puts what they hand back where there is room for it.
+/// Waits for the threads, and puts what they hand back into the room for it.
 pub fn gather<R: Threads>(rt: &R, room: Ends, running: Running) -> Result<Ends, AllocError> {
     let Running { sending, receiving } = running;
     let mut ends = room;

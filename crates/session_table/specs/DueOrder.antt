@@ -1,4 +1,4 @@
--- Which key of a table comes next: the least of those whose state passes a test.
+-- The next key of a table: the least of those whose state passes a test.
 use Rattle.std.specs.Prelude.{ℕ, ◌≡◌, Bool, true, false, Option, Some, find}
 use Rattle.std.specs.Option.{MatchOption, option_map, option_map_or}
 use Rattle.std.specs.Ordering.{is_gt}
@@ -11,19 +11,19 @@ use Rattle.session_table.specs.Incoming.{timer_of}
 use Rattle.session_table.specs.Sessions.{Sessions}
 
 module _ {T : Type 0} where
-  -- its timer is due at tick `now`
+  -- the timer of the state is due at tick `now`
   abbrev pub is_due_now : (now : ℕ) → Key → T × Incoming → Bool
   is_due_now now k v = is_due (timer_of v.1) now
 
-  -- it is above that key, where there is one
+  -- the key is above that bound, if there is one
   abbrev pub is_above_low : Option Key → Key → T × Incoming → Bool
   is_above_low low k v = is_above_key low k
 
-  -- a state stands at the key, and passes
+  -- the key has a state, which passes
   abbrev pub IsPicked : Sessions T → (Key → T × Incoming → Bool) → Key → Type 0
   IsPicked m pick k = (v : T × Incoming) × (map.get m k ≡ Some (Some v)) × (pick k v ≡ true)
 
-  -- the least of the keys that pass, or none where none passes
+  -- the least of the keys that pass, or none if none passes
   abbrev pub IsLeastPicked : Sessions T → (Key → T × Incoming → Bool) → Option Key → Type 0
   IsLeastPicked m pick r =
       MatchOption r

@@ -1,4 +1,4 @@
--- What is asked of an incoming session, whatever its kind.
+-- The readers of an incoming session, whatever its kind.
 use Rattle.std.specs.Prelude.{ℕ, Option, Some, None}
 use Rattle.bus_frame.specs.Frames.{CanFrame}
 use Rattle.tp_wire.specs.Reason.{reason_byte}
@@ -11,22 +11,22 @@ use Rattle.session_table.specs.declared.key.SessionKind.{SessionKind}
 use Rattle.session_table.specs.declared.incoming.Incoming.{Incoming}
 use Rattle.session_table.specs.declared.incoming.Incoming.TheVariants.{Broadcast, Connection}
 
--- its kind
+-- the kind of a session
 abbrev pub kind_of : Incoming → SessionKind
 kind_of (Broadcast s) = SessionKind.Broadcast
 kind_of (Connection s) = session_for (responder.unfinished_of s).kind
 
--- the PGN field that its BAM or RTS named, as it was received
+-- the PGN field of its BAM or RTS, as received
 abbrev pub pgn_of : Incoming → ℕ
 pgn_of (Broadcast s) = s.pgn
 pgn_of (Connection s) = (responder.unfinished_of s).peer.pgn
 
--- its timer
+-- the timer of a session
 abbrev pub timer_of : Incoming → Timer
 timer_of (Broadcast s) = s.timer
 timer_of (Connection s) = responder.timer_of s
 
--- what goes out where it ends before its message is whole: the abort of a connection
+-- the frame that is sent if it ends before its message is whole: the abort of a connection
 abbrev pub ending_frame : Incoming → AbortReason → Option CanFrame
 ending_frame (Broadcast s) reason = None
 ending_frame (Connection s) reason = Some (abort_frame (responder.unfinished_of s).kind (responder.unfinished_of s).peer (reason_byte reason))

@@ -8,7 +8,7 @@ use Rattle.session_table.specs.declared.key.Key.{Key}
 use Rattle.session_table.specs.declared.key.SessionKind.{SessionKind}
 use Rattle.session_table.specs.declared.key.SessionKind.TheVariants.{Broadcast, Tp, Etp}
 
--- the kind of the session by which a connection of a transport comes
+-- the kind of session for a connection of a transport
 abbrev pub session_for : Kind → SessionKind
 session_for kind.Tp = Tp
 session_for kind.Etp = Etp
@@ -19,23 +19,23 @@ kind_number Broadcast = 0
 kind_number Tp = 1
 kind_number Etp = 2
 
--- its number: three to a source
+-- the number of a key: three to a source
 abbrev pub key_number : Key → ℕ
 key_number k = 3 * k.source.0 + kind_number k.kind
 
--- by source
+-- keys are ordered by source
 abbrev pub by_source : Key → Key → Ordering
 by_source a b = nat_cmp a.source.0 b.source.0
 
--- by kind
+-- keys are ordered by kind
 abbrev pub by_kind : Key → Key → Ordering
 by_kind a b = nat_cmp (kind_number a.kind) (kind_number b.kind)
 
--- by source, then by kind
+-- keys are ordered by source, then by kind
 abbrev pub key_cmp : Key → Key → Ordering
 key_cmp = then_cmp by_source by_kind
 
--- the same key
+-- whether two keys are equal
 abbrev pub key_eq : Key → Key → Bool
 key_eq = eq_by_cmp key_cmp
 
@@ -44,7 +44,7 @@ abbrev pub lesser_of : Option Key → Key → Option Key
 lesser_of None k = Some k
 lesser_of (Some l) k = if is_lt (key_cmp k l) then Some k else Some l
 
--- it is above that key, where there is one
+-- whether the key is above that one, if there is one
 abbrev pub is_above_key : Option Key → Key → Bool
 is_above_key None k = true
 is_above_key (Some low) k = is_lt (key_cmp low k)

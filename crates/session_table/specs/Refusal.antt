@@ -5,6 +5,6 @@ use Rattle.session_table.specs.declared.incoming.Incoming.{Incoming}
 use Rattle.session_table.specs.declared.table.OpenRefused.{OpenRefused}
 use Rattle.session_table.specs.declared.table.OpenRefused.TheVariants.{TableFull, OutOfMemory}
 
--- the table is full, and else memory is refused; what was handed in comes back
+-- the table is full, or else memory is refused; the arguments are handed back
 abbrev pub refusal : {T : Type 0} → (len : ℕ) → T → Incoming → OpenRefused T
 refusal len bound state = if nat_lt len MAX_SESSIONS then OutOfMemory bound state else TableFull bound state

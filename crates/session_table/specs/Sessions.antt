@@ -1,4 +1,4 @@
--- A table of sessions: each of its keys with what stands there, which is nothing while the key is held.
+-- A table of sessions: its keys, each with its state, or with nothing while the key is held.
 use Rattle.std.specs.Prelude.{◌≡◌, Option, Some, None}
 use Rattle.std.specs.Option.{option_flatten}
 use Rattle.std.specs.FinMap as map
@@ -9,11 +9,11 @@ use Rattle.session_table.specs.contracts.key.Key as key
 use Rattle.session_table.specs.contracts.incoming.Incoming as incoming
 use Rattle.session_table.specs.Key.{key_cmp}
 
--- from keys to a state and what it is bound to
+-- a map from keys to a state and what it is bound to
 abbrev pub Sessions : Type 0 → Type 0
 Sessions T = map.FinMap key_cmp (Option (T × Incoming))
 
--- its values are told apart by their entries
+-- two values are equal if their entries are
 abbrev pub sessions_code : {T : Type 0} → Coded T → Coded (Sessions T)
 sessions_code code = map.code ((key.the_row).coded) (coded_option (coded× code ((incoming.the_row).coded)))
 
@@ -22,6 +22,6 @@ module _ {T : Type 0} where
   abbrev pub IsHeld : Sessions T → Key → Type 0
   IsHeld m k = map.get m k ≡ Some None
 
-  -- what stands at the key, if it is there and isn't held
+  -- the state at the key, if the key is there and isn't held
   abbrev pub state_at : Sessions T → Key → Option (T × Incoming)
   state_at m k = option_flatten (map.get m k)

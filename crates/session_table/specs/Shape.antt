@@ -1,4 +1,4 @@
--- How a table is kept: its places and the index that leads to them.
+-- The places of a table, and the index that leads to them.
 use Rattle.std.specs.Prelude.{ℕ, ◌≡◌, ◌≤◌, if◌then◌else◌, List, Option, Some, None, length, map as map_list}
 use Rattle.std.specs.Option.{option_and_then}
 use Rattle.std.specs.FinMap as map
@@ -13,7 +13,7 @@ use Rattle.session_table.specs.declared.incoming.Incoming.{Incoming}
 use Rattle.session_table.specs.Key.{key_eq}
 use Rattle.session_table.specs.Sessions.{Sessions}
 
--- the index leads this key there now, or nowhere, and every other key where it led
+-- the index leads this key to that place now, or nowhere, and every other key to its old place
 abbrev pub TurnsOnly : (old new : List (Key × ℕ)) → Key → Option ℕ → Type 0
 TurnsOnly old new k at =
     (q : Key) → lookup (key_eq q) new ≡ (if key_eq q k then at else lookup (key_eq q) old)

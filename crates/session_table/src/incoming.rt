@@ -37,7 +37,7 @@ impl Incoming {
         }
     }
 
-    /// The PGN field that its BAM or RTS named, as it was received.
+    /// The PGN field of its BAM or RTS, as received.
     pub fn pgn(&self) -> WirePgn
         ensures { result ≡ pgn_of self.now }
     {
@@ -67,10 +67,10 @@ impl Incoming {
         }
     }
 
-    /// Takes a frame of its source where it stands, at tick `now`, by the first row that fits (SAE J1939-21, TP.DT; ISO 11783-3,
-    /// ETP.DT, ETP.CM_DPO). What the step answers is queued behind the frames of a queue. With any answer but `Nothing` nothing
-    /// has changed yet: its message is complete, it is to be ended, or memory for a window is wanting. `room` and `flow` are asked
-    /// of a connection alone.
+    /// Takes a frame of its source at tick `now`, and changes in place, by the first row that fits (SAE J1939-21, TP.DT; ISO
+    /// 11783-3, ETP.DT, ETP.CM_DPO). The step's answer is queued behind the frames of a queue. If this returns anything but
+    /// `Nothing`, nothing has changed yet: its message is complete, it is to be ended, or memory for a window is missing. Only a
+    /// connection asks for `room` and `flow`.
     #[inline(always)]
     pub fn take(
         &mut self,
@@ -89,9 +89,9 @@ impl Incoming {
         }
     }
 
-    /// Its timer fires at tick `now` (SAE J1939-21, timers T1, T2 and Th): a connection on hold asks again or goes on, and what it
-    /// asks is queued behind the frames of a queue; any other session is to be ended. With any answer but `Nothing` nothing has
-    /// changed yet.
+    /// Its timer fires at tick `now` (SAE J1939-21, timers T1, T2 and Th): a connection on hold asks again or continues, and its
+    /// frame is queued behind the frames of a queue; any other session is to be ended. If this returns anything but `Nothing`,
+    /// nothing has changed yet.
     pub fn fire(&mut self, flow: Flow, now: u64, queue: &mut TxQueue) -> Left
         requires { length queue.old < queue_limit }
         ensures { by_timer flow now self.old result self.new queue.old queue.new }

@@ -18,7 +18,7 @@ pub enum SessionKind {
 }
 
 impl SessionKind {
-    /// That of the session by which a connection of a transport comes.
+    /// The kind of session for a connection of a transport.
     pub fn of(kind: Kind) -> SessionKind
         ensures { result ≡ session_for kind }
     {
@@ -43,7 +43,7 @@ impl SessionKind {
 /// How many keys there can be: three kinds from each of 256 sources.
 pub(crate) const KEY_NUMBERS: usize = 768;
 
-/// What tells the sessions of a station apart: a source sends at most one message of each kind at a time. Keys are
+/// What identifies a session of a station: a source sends at most one message of each kind at a time. Keys are
 /// ordered by source, then by kind.
 #[derive(Clone, Copy, Debug, PartialEq, Eq, PartialOrd, Ord, Hash)]
 pub struct Key {
@@ -70,7 +70,7 @@ impl Key {
         3 * usize::from(self.source.0) + self.kind.number()
     }
 
-    /// Whether it is above that key; where there is none, each key is.
+    /// Whether it is above that key; true if there is none.
     pub fn is_above(self, low: Option<Key>) -> bool
         ensures { result ≡ is_above_key low self }
     {

@@ -39,7 +39,7 @@ impl<T> Slot<T> {
         }
     }
 
-    /// Its state takes a frame at tick `now` where it stands; without one nothing is done.
+    /// Its state takes a frame at tick `now` and changes in place; without a state nothing is done.
     #[inline(always)]
     pub(crate) fn take(
         &mut self,
@@ -77,7 +77,7 @@ pub(crate) struct Place<T> {
     pub(crate) slot: Slot<T>,
 }
 
-/// What stands in a place, if there is one and it isn't empty.
+/// The content of a place, if there is one and it isn't empty.
 pub(crate) fn content<T>(places: &Slab<Place<T>>, at: usize) -> Option<(&T, &Incoming)>
     ensures { option_map deref_pair result ≡ content_at places.now at }
 {

@@ -101,8 +101,8 @@ impl<T> SessionTable<T> {
 
     /// Opens a session under a key that isn't there.
     ///
-    /// Refused as `TableFull` exactly where 32 keys are there, and else as `OutOfMemory` where memory is refused. A
-    /// refusal hands back what was handed in, and changes nothing.
+    /// Refused as `TableFull` exactly if 32 keys are there, and else as `OutOfMemory` if memory is refused. A refusal hands back
+    /// the arguments, and changes nothing.
     // Always inlined, as `take_out` is.
     #[inline(always)]
     pub fn open(&mut self, key: Key, bound: T, state: Incoming) -> Result<(), OpenRefused<T>>
@@ -126,10 +126,11 @@ impl<T> SessionTable<T> {
         Ok(())
     }
 
-    /// The state of a key takes a frame of its source at tick `now` where it stands (SAE J1939-21, TP.DT; ISO 11783-3, ETP.DT,
-    /// ETP.CM_DPO). What its step answers is queued behind the frames of a queue. With any answer but `Nothing` neither has changed
-    /// yet: the message is complete, the session is to be ended, or memory for a window is wanting. Where the key isn't there or
-    /// is held, nothing is to be done.
+    /// The state of a key takes a frame of its source at tick `now`, and changes in place (SAE J1939-21, TP.DT; ISO 11783-3,
+    /// ETP.DT, ETP.CM_DPO). The step's answer is queued behind the frames of a queue.
+    ///
+    /// If this returns anything but `Nothing`, neither has changed yet: the message is complete, the session is to be ended, or
+    /// memory for a window is missing. If the key isn't there or is held, nothing is to be done.
     // Always inlined: so a packet in the middle of a message passes without a call.
     #[inline(always)]
     pub fn take(
@@ -154,8 +155,9 @@ impl<T> SessionTable<T> {
     }
 
     /// The timer of the state of a key fires at tick `now` (SAE J1939-21, timers T1, T2 and Th): a connection on hold asks again or
-    /// goes on, and what it asks is queued behind the frames of a queue; any other session is to be ended. With any answer but
-    /// `Nothing` neither has changed yet. Where the key isn't there or is held, nothing is to be done.
+    /// continues, and its frame is queued behind the frames of a queue; any other session is to be ended.
+    ///
+    /// If this returns anything but `Nothing`, neither has changed yet. If the key isn't there or is held, nothing is to be done.
     pub fn fire(&mut self, key: Key, flow: Flow, now: u64, queue: &mut TxQueue) -> Left
         requires { length queue.old < queue_limit }
         ensures { LeadsAt (by_timer flow now) (state_at self.old key) result self.old key self.new queue.old queue.new }
@@ -169,8 +171,7 @@ impl<T> SessionTable<T> {
         found.slot.fire(flow, now, queue)
     }
 
-    /// Takes the state of a key out, and leaves the key, which is held from now on. None where the key isn't there or
-    /// is held.
+    /// Takes the state of a key out, and leaves the key, which is held from now on. None if the key isn't there or is held.
     // Always inlined, as what takes or gives a state by value is: a call would write it to memory in parts and read it as a whole.
     #[inline(always)]
     pub fn take_out(&mut self, key: Key) -> Option<(Held, T, Incoming)>
@@ -222,7 +223,7 @@ impl<T> SessionTable<T> {
         }
     }
 
-    /// Removes a key with its state. It takes no memory. None where the key isn't there or is held; then nothing changes.
+    /// Removes a key with its state. It takes no memory. None if the key isn't there or is held; then nothing changes.
     pub fn remove(&mut self, key: Key) -> Option<(T, Incoming)>
         ensures value { result ≡ state_at self.old key }
         ensures removed { OnSome result (self.new ≡ map.remove self.old key) }
@@ -240,7 +241,7 @@ impl<T> SessionTable<T> {
         find(&self.index, key).is_some()
     }
 
-    /// What stands at a key. None where the key isn't there or is held.
+    /// The state at a key. None if the key isn't there or is held.
     pub fn get(&self, key: Key) -> Option<(&T, &Incoming)>
         ensures { option_map deref_pair result ≡ state_at self.now key }
     {
@@ -261,7 +262,7 @@ impl<T> SessionTable<T> {
         least
     }
 
-    /// The least key above this one, or of all where there is none. Held keys are passed over.
+    /// The least key above this one, or the least of all if there is none. Held keys are passed over.
     pub fn next_key(&self, low: Option<Key>) -> Option<Key>
         ensures least { IsLeastPicked self.now (is_above_low low) result }
         ensures first { result ≡ first_above self.now low }

@@ -1,4 +1,4 @@
-//! The steps of a walk over the index of a table, in whatever order it stands.
+//! The steps of a walk over the index of a table, in any order.
 ghost use Rattle.std.specs.Prelude.{◌≡◌, false};
 ghost use Rattle.std.specs.Option.{option_map_or};
 ghost use Rattle.tick_timers.specs.Timers.{is_due};

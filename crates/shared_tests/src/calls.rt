@@ -1,5 +1,4 @@
-//! Calls of which a test only looks at the answer: their contracts are not carried through it. Want of memory is no answer, and ends the
-//! test.
+//! Calls whose result alone a test looks at: their contracts are not carried through it. Want of memory is no result, and ends the test.
 use crate::checks::got;
 pub(crate) use crate::messages::{FECA, bytes, feca};
 use message_events::Bytes;

@@ -11,7 +11,7 @@ pub(crate) fn feca(rt: &impl Abort) -> Pgn {
     got(rt, Pgn::new(FECA))
 }
 
-/// So many bytes, from this one on.
+/// So many bytes, counting up from this one.
 pub(crate) fn bytes(rt: &impl Abort, alloc: Global, first: u8, many: u8) -> Bytes {
     let mut all = Vec::new(alloc);
     for k in 0..many {

@@ -43,7 +43,7 @@ fn delivery(rt: &impl Abort, alloc: Global) -> Delivery {
     }
 }
 
-// The same delivery once more.
+// A copy of the delivery.
 fn again(rt: &impl Abort, alloc: Global, delivery: &Delivery) -> Delivery
     ensures { result ≡ delivery.now }
 {
@@ -62,7 +62,7 @@ fn submits(rt: &impl Abort, alloc: Global, client: &mut Client, ticket: u64) {
     same(rt, got(rt, answer), ticket);
 }
 
-// Submits bytes, which come back for this cause.
+// Submits bytes, which are handed back for this cause.
 fn is_refused(
     rt: &impl Abort,
     client: &mut Client,
@@ -78,7 +78,7 @@ fn is_refused(
     same(rt, refused.bytes.len(), len);
 }
 
-// Gives one delivery, where the ring has a place, and tells whether it had.
+// Gives one delivery if the ring has a place, and returns whether it had.
 fn give_one(rt: &impl Abort, alloc: Global, door: &mut Door) -> bool {
     let pushed = delivery(rt, alloc);
     let kept = again(rt, alloc, &pushed);
@@ -89,7 +89,7 @@ fn give_one(rt: &impl Abort, alloc: Global, door: &mut Door) -> bool {
     true
 }
 
-// Takes the front submission, where there is one.
+// Takes the front submission, if there is one.
 fn take_one(seat: &mut Seat) -> Option<Submission> {
     match seat.offer(0) {
         Offer::Ready => {
@@ -102,7 +102,7 @@ fn take_one(seat: &mut Seat) -> Option<Submission> {
     }
 }
 
-// Makes a note, where a submission waits and the ring of notes has a place.
+// Makes a note, if a submission waits and the ring of notes has a place.
 fn note_one(rt: &impl Abort, seat: &mut Seat, ticket: u64) -> bool {
     match seat.offer(0) {
         Offer::Ready => {
@@ -114,8 +114,8 @@ fn note_one(rt: &impl Abort, seat: &mut Seat, ticket: u64) -> bool {
     }
 }
 
-// A test's steps are functions of their own, which own nothing: what a test owns is carried through the proof of each of its steps, which
-// took twice as long where they stood in the test.
+// The steps of a test are functions of their own, which own nothing. What a test owns is carried through the proof of each step in the
+// test itself, which took twice as long.
 fn takes_nine(rt: &impl Abort, seat: &mut Seat) {
     let submission = got(rt, take_one(seat).ok_or("nothing waits"));
     is_submitted(rt, &submission);
@@ -199,7 +199,7 @@ fn a_note_after_the_end_goes_into_no_ring(rt: HostRuntime) {
     drop(client);
 }
 
-// To whom how many bytes aren't to be sent on which PGN, and why.
+// Messages that aren't to be sent: the destination, the PGN, how many bytes, and why.
 const UNSENDABLE: [(Address, u32, u8, Refusal); 4] = [
     (Address::NULL, 0xEC21, 9, Refusal::BadPgn),
     (Address::NULL, FECA, 9, Refusal::NoSuchStation),
@@ -356,7 +356,7 @@ fn inbox_keeps(rt: &impl Abort, inbox: &Inbox, gone: u64, kept: usize) {
     same(rt, inbox.received().len(), kept);
 }
 
-// Of three deliveries two are unread at the first cut, and none at the second.
+// Two of three deliveries are unread at the first cut, and none at the second.
 fn cut_a_door(rt: &(impl Abort + Wait), alloc: Global, door: &mut Door, inbox: &mut Inbox) {
     for _ in 0..3 {
         holds(rt, give_one(rt, alloc, door));
@@ -394,8 +394,8 @@ fn client_keeps(rt: &impl Abort, client: &Client, submitted: (u64, usize), read:
     same(rt, client.read().len(), read.1);
 }
 
-// Of two submissions one is taken, and of two notes one is read, before the cut. What the client keeps it looks up at its next calls,
-// and it counts on from all that it submitted.
+// One of two submissions is taken, and one of two notes is read, before the cut. The client looks up what it keeps at its next calls, and
+// it counts on from all that it submitted.
 fn cut_a_seat(rt: &impl Abort, alloc: Global, seat: &mut Seat, client: &mut Client) {
     submits(rt, alloc, client, 1);
     submits(rt, alloc, client, 2);

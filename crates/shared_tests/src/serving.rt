@@ -1,4 +1,4 @@
-//! Workers that serve for long: how they end, how they cut the record, and the clocks by which they go.
+//! Workers that serve for long: how they end, how they cut the record, and the clocks that they follow.
 mod clocks;
 mod records;
 mod stops;

@@ -109,7 +109,7 @@ fn what_is_left_is_reported(rt: HostRuntime) {
     drop(live);
 }
 
-// The calls by which 35 is given the message of 21 and 21 takes its end acknowledgement.
+// The calls that give 35 the message of 21, and let 21 take its end acknowledgement.
 const EXCHANGE: [WorkerCall; 16] = [
     WorkerCall::Pump { station: A, to: R },
     WorkerCall::Transmit { station: A },
@@ -193,8 +193,8 @@ impl Gate for Open {
     fn pass(&self, _worker: u8, _turn: u64) {}
 }
 
-// How many calls the bus's worker makes in one turn. One that finds no memory makes none and changes nothing, so it's asked once more
-// after none.
+// How many calls the bus's worker makes in one turn. A turn that finds no memory makes none and changes nothing, so after none it is
+// made again.
 fn calls_of_bus(rt: &impl Wait, shared: &SharedSegment) -> u64 {
     let calls = bus_worker(rt, shared, &Open {}, 1).calls;
     if calls > 0 {

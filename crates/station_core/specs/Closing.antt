@@ -10,7 +10,7 @@ use Rattle.station_sessions.specs.Opening.{key_of}
 use Rattle.station_sessions.specs.Receiving.{unbound_at}
 use Rattle.station_core.specs.Station.{Station}
 
--- a frame is queued where there is a place for it
+-- a frame is queued if there is a place for it
 abbrev pub if_free : List CanFrame → Option CanFrame → List CanFrame
 if_free queue None = queue
 if_free queue (Some frame) = if nat_lt (length queue) queue_limit then queue ++ frame ∷ [] else queue
@@ -21,12 +21,12 @@ unbound_session st source kind number =
     let r = unbound_at (key_of source kind) number st.sessions in
     record st { queue = if_free st.queue r.frame; sessions = r.sessions }
 
--- out of those of one source, the broadcast first
+-- the port is taken out of the sets of one source's sessions, the broadcast first
 abbrev pub unbound_source : Station → (source : Address) → (number : ℕ) → Station
 unbound_source st source number =
     unbound_session (unbound_session (unbound_session st source session.Broadcast number) source session.Tp number) source session.Etp number
 
--- out of those of all sources below n, by rising source
+-- the port is taken out of the sets of all sources below n, by rising source
 unfoldable pub closed_below : Station → (number : ℕ) → ℕ → Station
 closed_below st number zero = st
 closed_below st number (suc source) = unbound_source (closed_below st number source) (record { 0 = source }) number

@@ -1,4 +1,4 @@
--- When memory may be wanting for a frame that is taken: it opens a session, completes a message, or grants a window of ETP (SAE
+-- When memory may be missing for a frame that is taken: it opens a session, completes a message, or grants a window of ETP (SAE
 -- J1939-21, TP.CM_RTS, TP.CM_BAM, TP.DT; ISO 11783-3, ETP.CM_RTS, ETP.DT).
 use Rattle.std.specs.Prelude.{◌≡◌, ⊤, Bool, true, false, Option, Some, None}
 use Rattle.bus_frame.specs.Frames.{CanFrame}
@@ -15,11 +15,11 @@ use Rattle.station_sessions.specs.Memory.{wants_memory}
 use Rattle.station_core.specs.Station.{Station}
 use Rattle.station_core.specs.Taking.{packet_kind, looks_at}
 
--- for the step of the session of a key
+-- memory may be missing for the step of the session of a key
 abbrev pub SessionMayLackMemory : Station → Key → Wire → (room : Bool) → Type 0
 SessionMayLackMemory st key wire room = wants_memory st.ports key wire room st.sessions ≡ true
 
--- for a session that opens
+-- memory may be missing for a session that opens
 abbrev pub CmMayLackMemory : Station → CmFrame → (from : Address) → (room : Bool) → Type 0
 CmMayLackMemory st (Rts size packets most pgn) from room = ⊤
 CmMayLackMemory st (Bam size packets pgn) from room = ⊤
@@ -38,7 +38,7 @@ abbrev pub MeaningMayLackMemory : Station → Option (Wire × Address × Address
 MeaningMayLackMemory st None room = ⊥
 MeaningMayLackMemory st (Some m) room = WireMayLackMemory st m.0 m.1 m.2 room
 
--- nor does one that it doesn't look at
+-- a frame that the station doesn't look at asks for none
 abbrev pub LooksLackingMemory : (looks : Bool) → Station → CanFrame → (room : Bool) → Type 0
 LooksLackingMemory false st f room = ⊥
 LooksLackingMemory true st f room = MeaningMayLackMemory st (reading f) room

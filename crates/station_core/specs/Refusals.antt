@@ -18,7 +18,7 @@ use Rattle.station_core.specs.Timers.{is_due}
 use Rattle.station_core.specs.declared.refused.Refused.{Refused}
 use Rattle.station_core.specs.declared.refused.Refused.TheVariants.{NoSuchStation, SameStation, TooShort, TooLong, LaneFull, PortsFull, NoSuchPort, PortPaused, PortNotPaused, NothingToSend, NotYet, NothingDue, TxFull, OutOfMemory}
 
--- the cause that a call answers which takes memory: the first of its own; and only where there is none, want of memory
+-- the cause that a call which takes memory returns: the first of its own; want of memory only if there is none
 abbrev pub IsAnswered : (refusal answered : Option Refused) → Type 0
 IsAnswered refusal None = refusal ≡ None
 IsAnswered refusal (Some OutOfMemory) = refusal ≡ None
@@ -51,7 +51,7 @@ pausing_refusal st number = option_map by_ports (ports.pausing_refusal st.ports 
 abbrev pub resuming_refusal : Station → (number : ℕ) → Option Refused
 resuming_refusal st number = option_map by_ports (ports.resuming_refusal st.ports number)
 
--- a message of so many bytes isn't one from a station to a destination
+-- why a message of so many bytes isn't one from a station to a destination
 abbrev pub message_refusal : (from to : Address) → (len : ℕ) → Option Refused
 message_refusal from to len =
     if to.0 == null_address then Some NoSuchStation
@@ -60,7 +60,7 @@ message_refusal from to len =
     else if nat_lt (longest_to to.0) len then Some TooLong
     else None
 
--- a message isn't sent: that, and else its lane is full
+-- why a message isn't sent: it isn't such a one, or else its lane is full
 abbrev pub sending_refusal : Station → (to : Address) → (len : ℕ) → Option Refused
 sending_refusal st to len = option_or (message_refusal st.address to len) (if is_full (lane_of st to) then Some LaneFull else None)
 
@@ -73,24 +73,24 @@ by_lane of_lane.NotYet = NotYet
 abbrev pub pump_places : ℕ
 pump_places = 8
 
--- nothing is queued to a destination
+-- why nothing is queued to a destination
 abbrev pub pumping_refusal : Station → (to : Address) → (now : ℕ) → Option Refused
 pumping_refusal st to now =
     if to.0 == null_address then Some NoSuchStation
     else option_or (option_map by_lane (refusal_at st.lanes to.0 now)) (if nat_lt (free_places st.queue) pump_places then Some TxFull else None)
 
--- a frame isn't taken
+-- why a frame isn't taken
 abbrev pub taking_refusal : Station → Option Refused
 taking_refusal st = if is_queue_full st then Some TxFull else None
 
--- no timer fires
+-- why no timer fires
 abbrev pub firing_refusal : Station → (now : ℕ) → Option Refused
 firing_refusal st now =
     if not (is_due st now) then Some NothingDue
     else if is_queue_full st then Some TxFull
     else None
 
--- a message isn't cancelled
+-- why a message isn't cancelled
 abbrev pub cancelling_refusal : Station → (to : Address) → (number : ℕ) → Option Refused
 cancelling_refusal st to number =
     if to.0 == null_address then Some NoSuchStation

@@ -11,11 +11,11 @@ use Rattle.station_lanes.specs.LaneCalls.{lane_to}
 use Rattle.station_lanes.specs.LaneReaders.{pumping_lane, sight_at}
 use Rattle.station_core.specs.Station.{Station, StationStep, by_lane}
 
--- the lane to a destination; before the first message it is as a new one
+-- the lane to a destination; a new one before the first message
 abbrev pub lane_of : Station → (to : Address) → Lane
 lane_of st to = lane_to st.address st.lanes to.0
 
--- what is seen of it
+-- the sight of the lane to a destination
 abbrev pub lane_seen : Station → (to : Address) → LaneSight
 lane_seen st to = sight_at st.lanes to.0
 
@@ -23,7 +23,7 @@ lane_seen st to = sight_at st.lanes to.0
 abbrev pub sent : Station → (to : Address) → (pgn : ℕ) → List ℕ → Station
 sent st to pgn bytes = record st { lanes = map.insert st.lanes to.0 (pushed (lane_of st to) pgn bytes) }
 
--- what comes next is queued
+-- the lane's next frames are queued
 abbrev pub pumped : Station → (to : Address) → (now : ℕ) → StationStep
 pumped st to now = by_lane st to (λ l. lane-pump.pumped l now)
 
@@ -31,6 +31,6 @@ pumped st to now = by_lane st to (λ l. lane-pump.pumped l now)
 abbrev pub cancelled : Station → (to : Address) → (number : ℕ) → StationStep
 cancelled st to number = by_lane st to (λ l. lane-cancel.cancelled l number)
 
--- the lowest destination that is pumped, where eight frames have their places
+-- the lowest destination that is pumped, if eight frames have their places
 abbrev pub next_pump : Station → (now : ℕ) → Option ℕ
 next_pump st now = if nat_lt (free_places st.queue) 8 then None else pumping_lane st.lanes now

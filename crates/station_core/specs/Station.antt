@@ -29,12 +29,12 @@ pub record IsStation (st : Station) : Type 0 where
   pub own : is_one st.address.0 ≡ true
   pub ports : st.ports.station ≡ st.address
 
--- what a call leaves, and tells
+-- the station after a call, and the call's events
 pub record StationStep : Type 0 where
   pub station : Station
   pub events : List Event
 
--- nothing is told
+-- there is no event
 abbrev pub quietly : Station → StationStep
 quietly st = record { station = st; events = [] }
 

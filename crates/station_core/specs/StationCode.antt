@@ -1,4 +1,4 @@
--- How stations are told apart.
+-- When two stations are equal.
 use Rattle.std.specs.Prelude.{List, refl}
 use Rattle.std.specs.Coded.{Coded, code_by, coded×, coded_ℕ, coded_list}
 use Rattle.bus_frame.specs.Frames.{CanFrame}
@@ -15,7 +15,7 @@ use Rattle.station_core.specs.Station.{Station}
 abbrev Parts : Type 0
 Parts = Address × (List CanFrame × (Lanes × (Inbound × Ports)))
 
--- a station is told apart by its parts
+-- stations are equal if their parts are
 abbrev pub station_code : Coded Station
 station_code =
     code_by Parts

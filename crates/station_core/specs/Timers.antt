@@ -11,12 +11,12 @@ use Rattle.station_core.specs.Station.{Station, StationStep, quietly, by_session
 abbrev pub is_due : Station → (now : ℕ) → Bool
 is_due st now = is_some (first_due st.sessions now) || is_some (due_lane st.lanes now)
 
--- that of a lane fires
+-- the timer of a lane fires
 abbrev pub lane_fired : Station → (now : ℕ) → Option ℕ → StationStep
 lane_fired st now None = quietly st
 lane_fired st now (Some to) = by_lane st (record { 0 = to }) (λ l. lane-fire.fired l now)
 
--- the first that is due fires
+-- the first timer that is due fires
 abbrev pub fired : Station → (now : ℕ) → StationStep
 fired st now = elim (first_due st.sessions now) [
   | None ↦ lane_fired st now (due_lane st.lanes now)

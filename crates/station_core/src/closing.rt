@@ -11,10 +11,10 @@ use pgn_ids::Address;
 use session_table::{Key, SessionKind};
 use tx_queue::TxQueue;
 
-/// How many addresses there are of one node.
+/// How many addresses of one node there are.
 const NODES: u8 = 254;
 
-// Puts a frame, if there is one, behind the others where a place is free.
+// Queues a frame, if there is one and a place is free.
 fn enqueue_if_free(queue: &mut TxQueue, frame: Option<Frame>)
     ensures { queue.new ≡ if_free queue.old frame }
 {
@@ -36,10 +36,10 @@ impl Station {
         }
     }
 
-    /// Closes a port: it is taken out of each session's set. A session whose set is then empty ends, a connection by an
-    /// abort as far as the queue has places: by rising source, TP before ETP.
+    /// Closes a port, and removes it from each session's set. A session whose set is then empty ends, a connection by
+    /// an abort as far as the queue has places: by rising source, TP before ETP.
     ///
-    /// Refused as `NoSuchPort` exactly where no open port has this number; then nothing changes. It takes no memory.
+    /// Refused as `NoSuchPort` exactly if no open port has this number; then nothing changes. It takes no memory.
     #[inline]
     pub fn close(&mut self, number: u64) -> Result<(), Refused>
         ensures ok { OnOk result (self.new ≡ closed self.old number) }
@@ -48,7 +48,7 @@ impl Station {
     {
         match self.ports.close(number) {
             Ok(()) => {
-                // As a rule no session is under way.
+                // Usually no session is under way.
                 if !self.sessions.is_empty() {
                     self.unbind_all(number);
                 }

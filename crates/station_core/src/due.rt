@@ -7,7 +7,7 @@ use tick_timers::earlier;
 
 impl Station {
     /// The tick at which its next timer is due: the least at which `is_due` is true, and it is true from there on until a timer
-    /// fires or stops. None exactly where no timer runs that would be due up to the last tick of `u64`.
+    /// fires or stops. None exactly if no timer runs that would be due up to the last tick of `u64`.
     ///
     /// A broadcast under way has no timer that fires: see `missing`.
     #[tactic(auto, using(tick_timers::proofs::Dues::due_from_either))]

@@ -10,7 +10,7 @@ use std::alloc::AllocError;
 use std::marker::Model;
 use tx_queue::QueueImage;
 
-/// What a station was, as plain data: unlike it, this holds no state of a message under way.
+/// The value of a station, as plain data: it holds no state of a message under way.
 pub struct StationImage {
     address: Address,
     queue: QueueImage,
@@ -62,7 +62,7 @@ impl Station {
 }
 
 impl StationImage {
-    /// Whether it is that of a station. It takes no memory.
+    /// Whether this is the image of a station. It takes no memory.
     pub fn is_of(&self, station: &Station) -> bool
         ensures { IsTrue result ↔ (self.now ≡ station.now) }
     {

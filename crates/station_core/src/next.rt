@@ -10,8 +10,8 @@ use crate::station::Station;
 use tick_timers::{always, earlier, not_before};
 
 impl Station {
-    /// The tick from which on `next_pump` names a destination: 0 where it does at every tick, else that at which the first gap of a
-    /// broadcast has passed. None where less than eight places of the queue are free, or no lane has a frame to queue.
+    /// The tick from which on `next_pump` names a destination: 0 if it does at every tick, else the end of the first gap of a
+    /// broadcast. None if fewer than eight places of the queue are free, or no lane has a frame to queue.
     #[tactic(auto, using(crate::proofs::Nexts::work_laws))]
     pub fn next_pump_at(&self) -> Option<u64>
         ensures value { IsDueFrom (can_pump self.now) result }
@@ -24,7 +24,7 @@ impl Station {
         self.lanes.next_pump_at()
     }
 
-    /// The tick from which on `fire` isn't refused: that of `next_due_at`. None where no place of the queue is free, or no timer runs
+    /// The tick from which on `fire` isn't refused: that of `next_due_at`. None if no place of the queue is free, or no timer runs
     /// that would be due up to the last tick of `u64`.
     #[tactic(auto, using(crate::proofs::Nexts::work_laws))]
     pub fn next_fire_at(&self) -> Option<u64>
@@ -36,9 +36,9 @@ impl Station {
         self.next_due_at()
     }
 
-    /// The first tick from `now` on at which it has something to do by itself: a frame stands in its queue, a pump would not be
-    /// refused, or `fire` would not. So a program may sleep until then, unless a frame comes or it makes a call. None where there is
-    /// no such tick up to the last one of `u64`.
+    /// The first tick from `now` on at which it has something to do by itself: its queue has a frame, a pump would not be refused, or
+    /// `fire` would not. So a program may sleep until then, unless a frame arrives or it makes a call. None if there is no such tick
+    /// up to the last one of `u64`.
     pub fn next_at(&self, now: u64) -> Option<u64>
         ensures { IsNextFrom (has_work self.now) now result }
     {

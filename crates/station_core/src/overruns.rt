@@ -7,8 +7,8 @@ use message_events::Events;
 use std::alloc::AllocError;
 
 impl Station {
-    /// Frames were missed: each incoming session ends, and each connection under way with its outcome, which are told by
-    /// rising destination. Nothing is queued. Broadcasts under way and Requests go on.
+    /// Frames were missed: each incoming session ends, and so does each connection under way, with its outcome; the
+    /// outcomes are returned by rising destination. Nothing is queued. Broadcasts under way and Requests continue.
     ///
     /// Want of memory changes nothing.
     pub fn overrun(&mut self) -> Result<Events, AllocError>

@@ -17,7 +17,7 @@ pub enum Refused {
     /// The destination is the station itself.
     #[error("the destination is the station itself")]
     SameStation,
-    /// The message has less than 9 bytes.
+    /// The message has fewer than 9 bytes.
     #[error("a message has 9 bytes or more")]
     TooShort,
     /// The message has more than 1,785 bytes to all, or more than 117,440,505 to one node.
@@ -47,7 +47,7 @@ pub enum Refused {
     /// No timer is due.
     #[error("no timer is due")]
     NothingDue,
-    /// Too few places of the queue are free.
+    /// The queue has too few free places.
     #[error("too few places of the queue are free")]
     TxFull,
     /// There is no memory.

@@ -44,20 +44,20 @@ fn message_refusal(from: Address, to: Address, len: usize) -> Option<Refused>
 }
 
 impl Station {
-    /// What is seen of its lane to a destination.
+    /// The sight of its lane to a destination.
     pub fn lane(&self, to: Address) -> LaneSight
         ensures { result ≡ lane_seen self.now to }
     {
         self.lanes.sight(to)
     }
 
-    /// Sends a message: it stands behind the others of its lane, whose number of it is given. The lane is made with the
+    /// Sends a message: it is put behind the others of its lane, and its number in the lane is returned. The lane is made with the
     /// first message to its destination.
     ///
-    /// Refused for the first of these causes that holds: `NoSuchStation`, where the destination is 254, `SameStation`, where
-    /// it is the own address, `TooShort` below 9 bytes, `TooLong` above 1,785 bytes to all or 117,440,505 to one node,
-    /// `LaneFull`, where 32 messages of the lane have no outcome or no number is left, and `OutOfMemory`, where memory is
-    /// refused. A refusal hands the bytes back, and changes nothing.
+    /// Refused for the first of these causes that holds: `NoSuchStation` if the destination is 254; `SameStation` if it is the own
+    /// address; `TooShort` below 9 bytes; `TooLong` above 1,785 bytes to all or 117,440,505 to one node; `LaneFull` if 32 messages
+    /// of the lane have no outcome or no number is left; and `OutOfMemory` if memory is refused. A refusal hands the bytes back,
+    /// and changes nothing.
     pub fn send(&mut self, to: Address, pgn: Pgn, bytes: Bytes) -> Result<u64, SendingRefused>
         ensures number { IfOk result (λ n. n ≡ (lane_of self.old to).sent + 1) }
         ensures ok { OnOk result (self.new ≡ sent self.old to pgn bytes) }
@@ -112,8 +112,7 @@ impl Station {
         None
     }
 
-    /// The lowest destination that a pump queues a frame to at tick `now`; none where the queue has less than eight free
-    /// places.
+    /// The lowest destination that a pump queues a frame to at tick `now`; none if the queue has fewer than eight free places.
     pub fn next_pump(&self, now: u64) -> Option<Address>
         ensures value { option_map (λ to. to.0) result ≡ next_pump self.now now }
         ensures null { map.get self.now.lanes null_address ≡ None }
@@ -125,19 +124,19 @@ impl Station {
         self.lanes.next_pump(now)
     }
 
-    /// How many ticks are missing at tick `now` until the next frame of a broadcast to a destination may be queued, 0 where
-    /// none is under way.
+    /// How many ticks are missing at tick `now` until the next frame of a broadcast to a destination may be queued, 0 if none is
+    /// under way.
     pub fn missing(&self, to: Address, now: u64) -> u64
         ensures { result ≡ missing_at self.now.lanes to.0 now }
     {
         self.lanes.missing(to, now)
     }
 
-    /// Queues what comes next to a destination at tick `now`: at most eight frames. It takes no memory.
+    /// Queues the next frames to a destination at tick `now`: at most eight. It takes no memory.
     ///
-    /// Refused for the first of these causes that holds: `NoSuchStation`, where the destination is 254, `NothingToSend`,
-    /// where no message is pending or it awaits a frame, `NotYet`, where the next frame of a broadcast comes too soon, and
-    /// `TxFull`, where less than eight places of the queue are free. A refusal changes nothing.
+    /// Refused for the first of these causes that holds: `NoSuchStation` if the destination is 254; `NothingToSend` if no message
+    /// is pending or it awaits a frame; `NotYet` if it is too soon for the next frame of a broadcast; and `TxFull` if fewer than
+    /// eight places of the queue are free. A refusal changes nothing.
     pub fn pump(&mut self, to: Address, now: u64) -> Result<Events, Refused>
         ensures ok { IfOk result (λ events. pumped self.old to now ≡ record { station = self.new; events = events }) }
         ensures refused { result_err result ≡ pumping_refusal self.old to now }
@@ -148,8 +147,8 @@ impl Station {
         Ok(events)
     }
 
-    /// The same where what it tells, the outcome of a broadcast whose last packet is queued, is put down in a place that the caller
-    /// keeps, in which nothing was told yet.
+    /// `pump`, which puts its event, the outcome of a broadcast whose last packet is queued, into a place that the caller keeps,
+    /// and that has no event yet.
     #[inline(always)]
     pub fn pump_telling(&mut self, to: Address, now: u64, told: &mut Events) -> Result<(), Refused>
         requires { told.old ≡ [] }
@@ -204,9 +203,9 @@ impl Station {
     /// Cancels the message to a destination with this number: a connection under way ends by an abort, a broadcast under way
     /// without a frame. It takes no memory.
     ///
-    /// Refused for the first of these causes that holds: `NoSuchStation`, where the destination is 254, `NothingToSend`,
-    /// where no such message is without an outcome, and `TxFull`, where an abort is to be queued and no place is free for
-    /// it. A refusal changes nothing.
+    /// Refused for the first of these causes that holds: `NoSuchStation` if the destination is 254; `NothingToSend` if no such
+    /// message is without an outcome; and `TxFull` if an abort is to be queued and no place is free for it. A refusal changes
+    /// nothing.
     pub fn cancel(&mut self, to: Address, number: u64) -> Result<Events, Refused>
         ensures ok { IfOk result (λ events. cancelled self.old to number ≡ record { station = self.new; events = events }) }
         ensures refused { result_err result ≡ cancelling_refusal self.old to number }

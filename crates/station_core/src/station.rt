@@ -19,8 +19,8 @@ use tx_queue::TxQueue;
 
 /// One station of a segment: its transmit queue, its lanes, its incoming sessions and its ports.
 ///
-/// It doesn't know the bus: which frame it takes is handed in. What is under way when it is dropped ends without a frame
-/// or an outcome.
+/// It doesn't know the bus: the frames that it takes are handed in. If it is dropped, what is under way ends without a
+/// frame or an outcome.
 pub struct Station {
     pub(crate) alloc: Global,
     pub(crate) address: Address,
@@ -58,7 +58,7 @@ impl Drop for Station {
     }
 }
 
-/// Puts a frame behind the others, where there is a free place.
+/// Queues a frame behind the others, if there is a free place.
 pub(crate) fn enqueue(queue: &mut TxQueue, frame: Frame)
     requires { length queue.old < queue_limit }
     ensures { queue.new ≡ queue.old ++ frame ∷ [] }
@@ -69,7 +69,7 @@ pub(crate) fn enqueue(queue: &mut TxQueue, frame: Frame)
 impl Station {
     /// The station with this address, without a port. It makes the room of its queue, its lanes' places and its ports.
     ///
-    /// `NoSuchStation` where the address isn't that of one node, 0 to 253 (SAE J1939-81); `OutOfMemory`.
+    /// `NoSuchStation` if the address isn't that of one node, 0 to 253 (SAE J1939-81); `OutOfMemory`.
     pub fn new(alloc: Global, address: Address) -> Result<Station, Refused>
         ensures ok { IfOk result (λ station. station ≡ new_station address) }
         ensures refused { IsAnswered (making_refusal address) (result_err result) }
@@ -118,7 +118,7 @@ impl Station {
         self.queue.front()
     }
 
-    /// Takes the frame that it transmits out of its queue, or gives None where the queue is empty.
+    /// Takes the frame that it transmits out of its queue, or returns None if the queue is empty.
     pub fn pop(&mut self) -> Option<Frame>
         ensures frame { result ≡ front self.old.queue }
         ensures left { self.new ≡ record self.old { queue = behind self.old.queue } }
@@ -138,8 +138,8 @@ impl Station {
 
     /// Opens a port for messages of a PGN, of at most `max_len` bytes. Its number is the next one, from 1.
     ///
-    /// Refused as `PortsFull` exactly where 16 ports are open, or the next number would pass the end of `u64`; then
-    /// nothing changes. It takes no memory.
+    /// Refused as `PortsFull` exactly if 16 ports are open or the next number would pass the end of `u64`; then nothing
+    /// changes. It takes no memory.
     pub fn open(&mut self, pgn: Pgn, max_len: u32) -> Result<PortId, Refused>
         ensures id { IfOk result (λ id. id ≡ next_id self.old.ports) }
         ensures ok { OnOk result (self.new ≡ record self.old { ports = with_port self.old.ports pgn max_len }) }
@@ -159,7 +159,7 @@ impl Station {
         self.ports.is_open(number)
     }
 
-    /// Whether the open port with this number is paused; false where there is none.
+    /// Whether the open port with this number is paused; false if there is none.
     pub fn is_paused(&self, number: u64) -> bool
         ensures { result ≡ is_paused self.now.ports number }
     {
@@ -178,7 +178,7 @@ impl Station {
 
     /// Pauses a port: each session that gives to it is held, and grants no packet.
     ///
-    /// Refused as `NoSuchPort` exactly where no open port has this number, else as `PortPaused` where it is paused; then
+    /// Refused as `NoSuchPort` exactly if no open port has this number, else as `PortPaused` if it is paused; then
     /// nothing changes. It takes no memory.
     pub fn pause(&mut self, number: u64) -> Result<(), Refused>
         ensures ok { OnOk result (self.new ≡ record self.old { ports = with_paused self.old.ports number true }) }
@@ -203,8 +203,8 @@ impl Station {
 
     /// Ends the pause of a port.
     ///
-    /// Refused as `NoSuchPort` exactly where no open port has this number, else as `PortNotPaused` where it isn't paused;
-    /// then nothing changes. It takes no memory.
+    /// Refused as `NoSuchPort` exactly if no open port has this number, else as `PortNotPaused` if it isn't paused; then
+    /// nothing changes. It takes no memory.
     pub fn resume(&mut self, number: u64) -> Result<(), Refused>
         ensures ok { OnOk result (self.new ≡ record self.old { ports = with_paused self.old.ports number false }) }
         ensures refused { result_err result ≡ resuming_refusal self.old number }

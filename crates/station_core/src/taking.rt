@@ -70,12 +70,12 @@ fn wire_of(heard: &Heard<'_>) -> Wire
     }
 }
 
-/// What a station made of a frame.
+/// The result of a station's look at a frame.
 #[derive(Debug, Drop)]
 pub struct Taken {
     /// Whether it looked at the frame and found it malformed: of one of the frame table's PGNs without being a row of it.
     pub is_malformed: bool,
-    /// What it tells.
+    /// Its events.
     pub events: Events,
 }
 
@@ -96,8 +96,8 @@ impl Station {
             && (meaning.to == self.address || meaning.to == Address::GLOBAL)
     }
 
-    /// The ports that a `take` of this frame with room would give to, and the size of the message in bytes; no port and 0
-    /// where it would give nothing.
+    /// The ports that a `take` of this frame with room would give to, and the size of the message in bytes; no port and 0 if it would
+    /// give nothing.
     pub fn wants(&self, frame: &Frame) -> (PortSet, u32)
         ensures { result ≡ wanted self.now frame.now }
     {
@@ -110,7 +110,7 @@ impl Station {
         }
     }
 
-    /// The same of a frame with this meaning.
+    /// `wants`, for a frame with this meaning.
     fn wants_wire(&self, wire: &Wire, from: Address, to: Address) -> (PortSet, u32)
         ensures { result ≡ wire_wanted self.now wire.now from to }
     {
@@ -136,12 +136,12 @@ impl Station {
         None
     }
 
-    /// Takes a frame at tick `now`: the same call takes a frame again. `room` says whether each port of the set has room for
-    /// a message that the frame completes, and whether there is room to go on with one.
+    /// Takes a frame at tick `now`; a frame is taken again by the same call. `room` says whether each port of the set has room for a
+    /// message that the frame completes, and whether there is room to continue with one.
     ///
-    /// Refused as `TxFull` exactly where its queue has no free place, and else as `OutOfMemory` where memory is refused. A
-    /// refusal changes nothing. Memory is asked for only with room, and only by a frame that opens a session, completes a message
-    /// or grants a window of ETP.
+    /// Refused as `TxFull` exactly if its queue has no free place, and else as `OutOfMemory` if memory is refused. A refusal changes
+    /// nothing. It asks for memory only with room, and only for a frame that opens a session, completes a message or grants a window of
+    /// ETP.
     pub fn take(&mut self, frame: &Frame, room: bool, now: u64) -> Result<Taken, Refused>
         ensures ok { IfOk result (λ step. taken self.old frame.now room now ≡ record { station = self.new; events = step.events }) }
         ensures malformed { IfOk result (λ step. step.is_malformed ≡ is_malformed_for self.old frame.now) }
@@ -158,8 +158,8 @@ impl Station {
         })
     }
 
-    /// The same where what it tells is put down in a place that the caller keeps, in which nothing was told yet: whether the frame is
-    /// malformed. A value that is handed up instead is copied at each step of the way.
+    /// `take`, which puts its events into a place that the caller keeps, and that has none yet. Returns whether the frame is malformed.
+    /// Events returned by value would be copied at each level.
     #[inline(always)]
     #[tactic(auto, using(crate::proofs::Traffic::other_traffic))]
     pub fn take_telling(
@@ -193,8 +193,8 @@ impl Station {
         Ok(false)
     }
 
-    /// The same of a frame that it looks at and of which it was read what it means, as one is for many stations. Its queue has a free
-    /// place, as `take_refusal` tells.
+    /// `take_telling`, for a frame that the station looks at and that is read already, as one is for many stations. The station's queue
+    /// has a free place, as `take_refusal` says.
     #[inline(always)]
     pub fn hear_telling(
         &mut self,
@@ -220,8 +220,8 @@ impl Station {
                 sequence,
                 bytes,
             } => {
-                // A copy of what was read: of a value of its own the compiler keeps the parts in registers, where behind a reference it
-                // would read them from memory at each step. So it is with a management frame.
+                // A copy: the compiler keeps the parts of a local value in registers, whereas it would read them through a reference at
+                // each step. The same holds for a management frame.
                 let packet = Heard::Packet {
                     kind: *kind,
                     sequence: *sequence,
@@ -290,7 +290,7 @@ impl Station {
         }
     }
 
-    /// A frame that opens a session, an RTS or a BAM. It tells nothing.
+    /// Takes a frame that opens a session, an RTS or a BAM. It has no event.
     #[inline(never)]
     fn take_opening(
         &mut self,

@@ -33,8 +33,8 @@ impl Station {
     /// Fires one timer that is due at tick `now`: the first in the order of incoming sessions by rising source (broadcast,
     /// TP, ETP), then of lanes by rising destination.
     ///
-    /// Refused as `NothingDue` exactly where none is due, else as `TxFull` where the queue has no free place, and else as
-    /// `OutOfMemory` where memory is refused. A refusal changes nothing.
+    /// Refused as `NothingDue` exactly if none is due, else as `TxFull` if the queue has no free place, and else as
+    /// `OutOfMemory` if memory is refused. A refusal changes nothing.
     pub fn fire(&mut self, now: u64) -> Result<Events, Refused>
         ensures ok { IfOk result (λ events. fired self.old now ≡ record { station = self.new; events = events }) }
         ensures refused { IsAnswered (firing_refusal self.old now) (result_err result) }

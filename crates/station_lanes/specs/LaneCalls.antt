@@ -1,4 +1,4 @@
--- A step of the lane to a destination. Where no message was ever sent to it, there is nothing to do.
+-- A step of the lane to a destination. If no message was ever sent to it, there is nothing to do.
 use Rattle.std.specs.Prelude.{ℕ, List, [], ◌∷◌, Option, Some, None}
 use Rattle.std.specs.FinMap as map
 use Rattle.pgn_ids.specs.declared.address.Address.{Address}

@@ -1,4 +1,4 @@
--- What is asked of the lanes, their timers, and what an overrun makes of them.
+-- The readers of the lanes, their timers, and the lanes after an overrun.
 use Rattle.std.specs.Prelude.{◌≡◌, ℕ, zero, suc, Bool, true, false, if◌then◌else◌, ◌+◌, ◌^◌, ◌<◌, ◌≤◌, nat_lt, length, List, [], ◌++◌, Option, Some, None, is_none}
 use Rattle.std.specs.FinMap as map
 use Rattle.pgn_ids.specs.declared.address.Address.{Address}
@@ -57,7 +57,7 @@ is_timed_at lanes to = elim (map.get lanes to) [ None ↦ false | Some lane ↦ 
 abbrev pub NonePasses : (ℕ → Bool) → (from to : ℕ) → Type 0
 NonePasses test from to = (n : ℕ) → from ≤ n → n < to → test n ≡ false
 
--- the one that was found, or else this one where it passes
+-- the one that was found, or else this one if it passes
 abbrev pub found_or : Option ℕ → (passes : Bool) → ℕ → Option ℕ
 found_or (Some k) passes n = Some k
 found_or None passes n = if passes then Some n else None
@@ -96,12 +96,12 @@ missing_at lanes to now = elim (map.get lanes to) [ None ↦ 0 | Some lane ↦ m
 abbrev pub due_lane : Lanes → (now : ℕ) → Option ℕ
 due_lane lanes now = least_below (is_due_at lanes now) 256
 
--- after an overrun of the lanes to the destinations below n
+-- the lanes after an overrun of those to the destinations below n
 unfoldable pub overrun_lanes : Lanes → ℕ → Lanes
 overrun_lanes lanes zero = lanes
 overrun_lanes lanes (suc to) = stepped_lanes (overrun_lanes lanes to) to overrun
 
--- the outcomes that it told, by rising destination
+-- the outcomes of an overrun, by rising destination
 unfoldable pub overrun_events : Address → Lanes → ℕ → List Event
 overrun_events from lanes zero = []
 overrun_events from lanes (suc to) = overrun_events from lanes to ++ outcome_of from (record { 0 = to }) (step_at (overrun_lanes lanes to) to overrun).ended

@@ -29,8 +29,8 @@ lanes_below slots (suc to) = with_slot to (slot_at slots to) (lanes_below slots 
 abbrev pub lanes_value : Inside → Lanes
 lanes_value l = lanes_below l.slots.items (length l.slots.items)
 
--- there is a place for each address, a lane stands at its destination, which is a node or all, and is among those with a frame to queue, and among those with
--- a running timer, where it is one
+-- there is a place for each address; a lane is at its destination, which is a node or all; it is among those with a frame to queue, and among those with a
+-- running timer, if it is one
 pub record AreSlots (l : Inside) : Type 0 where
   pub places : length l.slots.items ≡ 256
   pub in_place : (to : ℕ) (lane : Lane) → slot_at l.slots.items to ≡ Some lane → lane.to ≡ to

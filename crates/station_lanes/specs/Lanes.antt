@@ -5,7 +5,7 @@ use Rattle.std.specs.Coded.{Coded, coded_ℕ}
 use Rattle.lane_core.specs.Lane.{Lane}
 use Rattle.lane_core.specs.contracts.lane.Lane as lane
 
--- from destinations to the lanes that a message was sent in
+-- a map from destinations to the lanes that a message was sent in
 abbrev pub Lanes : Type 0
 Lanes = map.FinMap nat_cmp Lane
 

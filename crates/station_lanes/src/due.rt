@@ -8,8 +8,8 @@ use pgn_ids::Address;
 use tick_timers::earlier;
 
 impl Lanes {
-    /// The tick from which on a lane's timer is due: that of the earliest. None where no connection and no Request is under way
-    /// that is due up to the last tick.
+    /// The tick from which on the earliest timer of a lane is due. None if no connection and no Request is under way that is
+    /// due up to the last tick.
     pub fn next_due_at(&self) -> Option<u64>
         ensures { IsDueFrom (λ now. is_some (due_lane self.now now)) result }
     {
@@ -25,15 +25,15 @@ impl Lanes {
         tick
     }
 
-    // The same of the lane to a destination.
+    // The tick from which on the timer of the lane to a destination is due.
     fn due_at(&self, to: Address) -> Option<u64>
         ensures { IsDueFrom (λ now. is_due_at self.now now to.0) result }
     {
         self.get(to)?.due_at()
     }
 
-    /// The tick from which on a pump queues a frame to some destination: 0 where one does at every tick, else that at which the
-    /// first gap of a broadcast has passed. None where no lane has a frame to queue up to the last tick.
+    /// The tick from which on a pump queues a frame to some destination: 0 if one does at every tick, else the end of the first
+    /// gap of a broadcast. None if no lane has a frame to queue up to the last tick.
     pub fn next_pump_at(&self) -> Option<u64>
         ensures { IsDueFrom (λ now. is_some (pumping_lane self.now now)) result }
     {
@@ -49,7 +49,7 @@ impl Lanes {
         tick
     }
 
-    // The same of the lane to a destination.
+    // The tick from which on a pump queues a frame to a destination.
     fn pump_due_at(&self, to: Address) -> Option<u64>
         ensures { IsDueFrom (λ now. is_pumping self.now now to.0) result }
     {

@@ -28,8 +28,8 @@ use tp_wire::Heard;
 use tx_queue::TxQueue;
 
 impl Lanes {
-    /// A frame of its destination is taken at tick `now`: the message that it ends is told, and its abort queued behind the frames
-    /// of a queue, if the sender aborts it.
+    /// Takes a frame of its destination at tick `now`. It returns the message that ends, and queues an abort behind the frames of
+    /// a queue if the sender aborts it.
     #[inline]
     pub fn hear(
         &mut self,
@@ -68,7 +68,7 @@ impl Lanes {
         mark(lane, &mut self.ready, &mut self.timed, to.0);
     }
 
-    /// The station missed frames: nothing is queued, and the message that this ends is told.
+    /// The station missed frames: nothing is queued, and the message that this ends is returned.
     pub fn overrun(&mut self, to: Address) -> Option<Ended>
         ensures lanes { self.new ≡ stepped_lanes self.old to.0 overrun_lane }
         ensures ended { result ≡ (step_at self.old to.0 overrun_lane).ended }
@@ -140,7 +140,7 @@ impl Lanes {
         Ok(number)
     }
 
-    /// Why the lane to a destination queues nothing at tick `now`, or `None` where a pump queues a frame.
+    /// Why the lane to a destination queues nothing at tick `now`, or `None` if a pump queues a frame.
     pub fn pump_refusal(&self, to: Address, now: u64) -> Option<PumpRefused>
         ensures { result ≡ refusal_at self.now to.0 now }
     {
@@ -150,7 +150,7 @@ impl Lanes {
         }
     }
 
-    /// The lowest destination whose lane queues a frame where it is pumped at tick `now`.
+    /// The lowest destination whose lane queues a frame if it is pumped at tick `now`.
     #[tactic(auto, using(crate::proofs::Counting::least_laws))]
     pub fn next_pump(&self, now: u64) -> Option<Address>
         ensures { option_map (λ to. to.0) result ≡ pumping_lane self.now now }
@@ -188,8 +188,8 @@ impl Lanes {
         }
     }
 
-    /// Queues what comes next to a destination at tick `now` behind the frames of a queue, where `pump_refusal` gives no cause;
-    /// the message that it ends is told.
+    /// Queues the next frames to a destination at tick `now` behind those of a queue, if `pump_refusal` gives no cause. It returns
+    /// the message that ends.
     #[inline(always)]
     pub fn pump(&mut self, to: Address, now: u64, queue: &mut TxQueue) -> Option<Ended>
         requires { length queue.old + most_frames ≤ queue_limit }
@@ -240,8 +240,8 @@ impl Lanes {
         None
     }
 
-    /// The timer of the lane to a destination fired at tick `now`, as `is_due` told: its frame is queued behind the frames of a
-    /// queue, and the message that it ends is told.
+    /// The timer of the lane to a destination fired at tick `now`, as `is_due` said. It queues the frame behind those of a queue,
+    /// and returns the message that ends.
     pub fn fire(&mut self, to: Address, now: u64, queue: &mut TxQueue) -> Option<Ended>
         requires { length queue.old < queue_limit }
         ensures lanes { self.new ≡ stepped_lanes self.old to.0 (λ lane. fired_lane lane now) }
@@ -280,9 +280,8 @@ impl Lanes {
         }
     }
 
-    /// The station missed frames: each connection under way ends, and its outcome is told, by rising destination. Want of
-    /// memory changes nothing. Memory is taken for as many outcomes as destinations have messages without one, less the
-    /// first.
+    /// The station missed frames: each connection under way ends, and the outcomes are returned by rising destination. Want of
+    /// memory changes nothing. Memory is taken for as many outcomes as destinations have messages without one, less the first.
     #[tactic(auto, using(crate::proofs::Told::overrun_all_laws))]
     pub fn overrun_all(&mut self, alloc: Global, from: Address) -> Result<Events, AllocError>
         ensures ok { OnOk result (self.new ≡ overrun_lanes self.old 256) }
@@ -323,8 +322,9 @@ impl Lanes {
         }
     }
 
-    /// Cancels the message to a destination with this number, and tells it; its abort is queued behind the frames of a queue, if
-    /// `queues_abort` told that there is one. None exactly where no such message is without an outcome, and then nothing changes.
+    /// Cancels the message to a destination with this number, and returns its outcome. Its abort is queued behind the frames of a
+    /// queue, if `queues_abort` said that there is one. None exactly if no such message is without an outcome; then nothing
+    /// changes.
     pub fn cancel(&mut self, to: Address, number: u64, queue: &mut TxQueue) -> Option<Ended>
         requires { queues_abort_at self.old to.0 number ≡ true → length queue.old < queue_limit }
         ensures pending { IsSome result ↔ IsTrue (is_pending_at self.old to.0 number) }

@@ -20,7 +20,7 @@ use std::marker::Model;
 /// One place for each address.
 pub(crate) const PLACES: usize = 256;
 
-/// Where the lane to one destination is kept, once there is one.
+/// The place of the lane to one destination, once there is one.
 #[derive(Drop)]
 pub(crate) struct Slot {
     lane: Option<Box<Lane>>,
@@ -53,7 +53,7 @@ impl Slot {
         }
     }
 
-    /// The lane, to be stepped where it stands.
+    /// The lane, to be stepped in place.
     #[inline(always)]
     pub(crate) fn get_mut(&mut self) -> Option<&mut Lane>
         ensures* stands { sem 𝓛 (LendsLane self.entry result) }
@@ -135,7 +135,7 @@ impl Lanes {
         requires { lane.value.to ≡ to.0 }
         ensures { self.new ≡ map.insert self.old to.0 lane.value }
     {
-        // A reader of it tells that no lane has the null address.
+        // Calling a reader states that no lane has the null address.
         let _to = lane.to();
         mark(&lane, &mut self.ready, &mut self.timed, to.0);
         put_at(&mut self.slots, to.0, lane);
@@ -177,15 +177,15 @@ pub(crate) fn mark(lane: &Lane, ready: &mut AddressSet, timed: &mut AddressSet, 
     ensures ready { IsMarked ready.old ready.new to (is_ready lane.now) }
     ensures timed { IsMarked timed.old timed.new to (is_timed lane.now) }
 {
-    // Both are asked for first: a store between them would have the second read what it asks for once more.
+    // Both are read first: after a store between them, the second would read its fields again.
     let is_ready = lane.is_ready();
     let is_timed = lane.is_timed();
     ready.set(to, is_ready);
     timed.set(to, is_timed);
 }
 
-/// The same after a step that may have ended a message. After one that ended none, which most are, it stands apart from the
-/// others, so that no outcome is handed past it.
+/// `mark`, after a step that may have ended a message. Most steps end none; they are kept apart, so that no outcome is copied for
+/// them.
 #[inline(always)]
 pub(crate) fn mark_after(
     has_ended: bool,

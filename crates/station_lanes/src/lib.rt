@@ -1,6 +1,6 @@
-//! The lanes of one station by destination, and the outcomes that their steps tell (SAE J1939-21; ISO 11783-3).
+//! The lanes of one station by destination, and the outcomes of their steps (SAE J1939-21; ISO 11783-3).
 //!
-//! A lane is made with the first message to its destination; every other call finds nothing to do where there is none.
+//! A lane is made with the first message to its destination; every other call finds nothing to do if there is none.
 #![tactic(auto)]
 
 mod due;

@@ -1,4 +1,4 @@
-//! The outcomes that the lanes tell.
+//! The outcomes of the lanes.
 ghost use Rattle.std.specs.Prelude.{◌≡◌, ◌+◌, ◌≤◌, ◌++◌, [], length, None, option_to_list, vec_capacity};
 ghost use Rattle.station_lanes.specs.LaneCalls.{outcome_of};
 
@@ -6,7 +6,7 @@ use lane_core::Ended;
 use message_events::Event;
 use pgn_ids::Address;
 
-/// An event, if there is one, behind those that are there already, of which the first stands apart.
+/// Puts an event, if there is one, behind those that are there, the first of which is apart.
 pub(crate) fn append(first: &mut Option<Event>, rest: &mut Vec<Event>, event: Option<Event>)
     requires room { length (option_to_list first.old ++ rest.old.items) + length (option_to_list event) ≤ vec_capacity rest.old + 1 }
     requires has_first { first.old ≡ None → rest.old.items ≡ [] }

@@ -1,4 +1,4 @@
--- What ends the session of a key, and what is asked of it.
+-- The ends of the session of a key, and its readers.
 use Rattle.std.specs.Prelude.{ℕ, ◌≡◌, ◌<◌, Bool, true, false, List, length, Option, Some, None, ⊤}
 use Rattle.bus_frame.specs.Frames.{CanFrame}
 use Rattle.tp_wire.specs.declared.reason.AbortReason.{AbortReason}
@@ -13,7 +13,7 @@ use Rattle.session_table.specs.declared.incoming.Incoming.TheVariants.{Broadcast
 use Rattle.station_sessions.specs.Steps.{completes}
 use Rattle.station_sessions.specs.Receiving.{flow_at}
 
--- its last packet is awaited
+-- the last packet of the session is awaited
 abbrev pub IsLastOf : Incoming → Type 0
 IsLastOf (Broadcast s) = wants_last s.join ≡ true
 IsLastOf (Connection s) = awaits_last s ≡ true
@@ -33,7 +33,7 @@ abbrev pub IsFlowOf : Option (List ℕ × Incoming) → Ports → Flow → Type 
 IsFlowOf None ports flow = ⊤
 IsFlowOf (Some v) ports flow = flow ≡ flow_at ports v.0
 
--- the frame completes the message of what stands at the key
+-- the frame completes the message of the session at the key
 abbrev pub completes_by : Option (List ℕ × Incoming) → Wire → Bool
 completes_by None wire = false
 completes_by (Some v) wire = completes v.1 wire

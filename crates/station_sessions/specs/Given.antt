@@ -5,10 +5,10 @@ use Rattle.station_sessions.specs.declared.copies.Message.{Message}
 use Rattle.message_events.specs.declared.event.Event.{Event}
 use Rattle.message_events.specs.declared.event.Event.TheVariants.{Given}
 
--- at one port of a station
+-- the message is given at one port of a station
 abbrev pub given_at : Address → (number : ℕ) → Message → Event
 given_at station number m = Given (record { station = station; number = number }) m.from m.to m.pgn m.bytes
 
--- at these ports, each with the whole message
+-- the message is given at these ports, whole at each
 abbrev pub given_to : Address → List ℕ → Message → List Event
 given_to station numbers m = map (λ number. given_at station number m) numbers

@@ -1,5 +1,5 @@
--- How an incoming session opens (SAE J1939-21, TP.CM_RTS, TP.CM_BAM; ISO 11783-3, ETP.CM_RTS). It takes the place of an
--- older one of its kind from the same source, which ends without an abort, also where the new one is refused.
+-- How an incoming session opens (SAE J1939-21, TP.CM_RTS, TP.CM_BAM; ISO 11783-3, ETP.CM_RTS). It replaces an older one
+-- of its kind from its source, which ends without an abort, even if the new one is refused.
 use Rattle.std.specs.Prelude.{ℕ, Bool, ◌&&◌, not, nat_le, ◌==◌, if◌then◌else◌, List, length, Option, Some, None}
 use Rattle.std.specs.FinMap as map
 use Rattle.pgn_ids.specs.declared.address.Address.{Address}
@@ -48,7 +48,7 @@ refusal is_size room set others =
     else if not room then Some Resources
     else None
 
--- nothing of the message has come, and there is room for it all
+-- no packet of the message has arrived, and there is room for it all
 abbrev pub whole_join : ℕ → Join
 whole_join size = with_room (empty_join size) (packet_count size)
 
@@ -74,14 +74,14 @@ connection_opened ports key set kind peer size most now sessions =
     let message = begun kind peer most (first_join kind size flow) in
     goes_on_at key set sessions (incoming.Connection (asking message flow now)) (Some (asked message flow))
 
--- an RTS of a kind, of which a CTS may grant so many packets: where the session doesn't open, an abort is queued
+-- an RTS of a kind, for which a CTS may grant so many packets: if the session doesn't open, an abort is queued
 abbrev pub rts_received : (own : Address) → Ports → Kind → (is_size : Bool) → (from : Address) → (size most pgn : ℕ) → (room : Bool) → (now : ℕ) → Inbound → Reception
 rts_received own ports kind is_size from size most pgn room now sessions = elim (refusal is_size room (set_for ports pgn size) (others_than sessions (key_of from (session_for kind)))) [
   | None ↦ connection_opened ports (key_of from (session_for kind)) (set_for ports pgn size) kind (peer_of own from pgn) size most now sessions
   | Some reason ↦ ended_at (key_of from (session_for kind)) sessions (Some (abort_frame kind (peer_of own from pgn) (reason_byte reason)))
 ]
 
--- a BAM: where the session doesn't open, nothing is queued
+-- a BAM: if the session doesn't open, nothing is queued
 abbrev pub bam_received : Ports → (from : Address) → (size packets pgn : ℕ) → (room : Bool) → (now : ℕ) → Inbound → Reception
 bam_received ports from size packets pgn room now sessions = elim (refusal (is_tp_size size packets) room (set_for ports pgn size) (others_than sessions (key_of from session.Broadcast))) [
   | None ↦ goes_on_at (key_of from session.Broadcast) (set_for ports pgn size) sessions (incoming.Broadcast (bam.announced from.0 pgn (whole_join size) now)) None

@@ -33,19 +33,19 @@ Inbound = Sessions (List ℕ)
 pub record NoneHeld (sessions : Inbound) : Type 0 where
   pub none : (k : Key) → ¬ IsHeld sessions k
 
--- what a step leaves: the sessions, the frame that is queued, and what is told
+-- the result of a step: the sessions, the frame that is queued, and the events
 pub record Reception : Type 0 where
   pub sessions : Inbound
   pub frame : Option CanFrame
   pub events : List Event
 
--- a step leaves these sessions, its frame stands behind those that were queued, and what it tells is told
+-- a step leaves these sessions, its frame is queued behind the others, and its events are these
 pub record Leaves (step : Reception) (left : Inbound) (before after : List CanFrame) (told : List Event) : Type 0 where
   pub sessions_left : left ≡ step.sessions
   pub queued : after ≡ before ++ option_to_list step.frame
   pub says : told ≡ step.events
 
--- the same of a step that tells nothing
+-- a step leaves these sessions, its frame is queued behind the others, and it has no event
 pub record LeavesQuietly (step : Reception) (left : Inbound) (before after : List CanFrame) : Type 0 where
   pub sessions_left : left ≡ step.sessions
   pub untold : step.events ≡ []
@@ -61,11 +61,11 @@ concluded station set room sessions given refused message =
     if room then record { sessions = sessions; frame = given; events = given_to station set message }
     else record { sessions = sessions; frame = refused; events = [] }
 
--- the session of a key goes on, and a frame is queued
+-- the session of a key continues, and a frame is queued
 abbrev pub goes_on_at : Key → (set : List ℕ) → Inbound → Incoming → Option CanFrame → Reception
 goes_on_at key set sessions state frame = record { sessions = map.insert sessions key (Some (set, state)); frame = frame; events = [] }
 
--- it has ended, and a frame is queued
+-- the session of a key has ended, and a frame is queued
 abbrev pub ended_at : Key → Inbound → Option CanFrame → Reception
 ended_at key sessions frame = record { sessions = map.remove sessions key; frame = frame; events = [] }
 
@@ -75,7 +75,7 @@ broadcast_settled station key set room sessions s (bam-steps.Awaits t) = goes_on
 broadcast_settled station key set room sessions s (bam-steps.Completes bytes) = concluded station set room (map.remove sessions key) None None (broadcast_message s bytes)
 broadcast_settled station key set room sessions s bam-steps.Drops = ended_at key sessions None
 
--- and of a connection, whose message is given with the end of message acknowledgement, or without room refused by an abort
+-- the message of a connection is given with the end of message acknowledgement, or without room refused by an abort
 abbrev pub connection_settled : Address → Key → (set : List ℕ) → (room : Bool) → Inbound → Received → Reception
 connection_settled station key set room sessions (On s frame) = goes_on_at key set sessions (Connection s) frame
 connection_settled station key set room sessions (Complete m) =
@@ -89,7 +89,7 @@ session_stepped station key set room sessions flow (Broadcast s) wire now =
 session_stepped station key set room sessions flow (Connection s) wire now =
     connection_settled station key set room sessions (stepped (prepared s wire room flow) wire room flow now)
 
--- its timer fires: a connection on hold asks again, any other session ends
+-- the timer of a session fires: a connection on hold asks again, any other session ends
 abbrev pub session_fired : Address → Key → (set : List ℕ) → Inbound → Flow → Incoming → (now : ℕ) → Reception
 session_fired station key set sessions flow (Broadcast s) now = ended_at key sessions None
 session_fired station key set sessions flow (Connection s) now =
@@ -123,7 +123,7 @@ aborted_at key pgn sessions = elim (state_at sessions key) [
   | Some v ↦ if clean (pgn_of v.1) == clean pgn then map.remove sessions key else sessions
 ]
 
--- a port is taken out of the set of the session of a key, which ends where it was the last
+-- a port is removed from the set of the session of a key, which ends if it was the last
 abbrev pub unbound_by : Option (List ℕ × Incoming) → Key → (number : ℕ) → Inbound → Reception
 unbound_by None key number sessions = unheard sessions
 unbound_by (Some v) key number sessions =

@@ -12,14 +12,14 @@ abbrev pub last_below : ℕ → Option Key
 last_below zero = None
 last_below (suc source) = Some (key_of (record { 0 = source }) session.Etp)
 
--- no session is of this source
+-- this source has no session
 abbrev pub HasNoneOf : Inbound → (source : ℕ) → Type 0
 HasNoneOf m source = (kind : SessionKind) → state_at m (key_of (record { 0 = source }) kind) ≡ None
 
--- nor of those from one source on, below another
+-- the sources from one on, below another, have no session
 abbrev pub HasNoneBetween : Inbound → (low high : ℕ) → Type 0
 HasNoneBetween m low high = (source : ℕ) → low ≤ source → source < high → HasNoneOf m source
 
--- a session is of this source
+-- this source has a session
 abbrev pub HasSomeOf : Inbound → (source : ℕ) → Type 0
 HasSomeOf m source = (kind : SessionKind) × IsSome (state_at m (key_of (record { 0 = source }) kind))

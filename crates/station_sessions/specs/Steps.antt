@@ -1,4 +1,4 @@
--- What is asked of an incoming session, whatever its kind, and what its message gives (SAE J1939-21, TP.DT; ISO 11783-3, ETP.DT).
+-- The readers of an incoming session, whatever its kind, and what its message gives (SAE J1939-21, TP.DT; ISO 11783-3, ETP.DT).
 use Rattle.std.specs.Prelude.{ℕ, Bool, if◌then◌else◌, List, Option, Some, None}
 use Rattle.bus_frame.specs.Frames.{CanFrame}
 use Rattle.pgn_ids.specs.Address.{global_address}
@@ -26,7 +26,7 @@ flow_of is_paused = if is_paused then Held else Open
 abbrev pub broadcast_message : bam.Incoming → (bytes : List ℕ) → Message
 broadcast_message s bytes = record { from = record { 0 = s.from }; to = record { 0 = global_address }; pgn = clean s.pgn; bytes = bytes }
 
--- and one of a connection
+-- the message of a connection
 abbrev pub connection_message : Finished → Message
 connection_message m = record { from = record { 0 = m.peer.from }; to = record { 0 = m.peer.to }; pgn = clean m.peer.pgn; bytes = m.bytes }
 
@@ -34,7 +34,7 @@ connection_message m = record { from = record { 0 = m.peer.from }; to = record {
 abbrev pub given_answer : Finished → CanFrame
 given_answer m = end_frame m.kind m.peer m.size
 
--- and when it isn't, for want of room: the abort
+-- the answer when the message isn't given, for want of room: the abort
 abbrev pub refused_answer : Finished → CanFrame
 refused_answer m = abort_frame m.kind m.peer (reason_byte Resources)
 

@@ -53,7 +53,7 @@ pub(crate) fn conclude(
     }
 }
 
-// Gives a message to all that is complete, or drops it where there is no room.
+// Gives a message to all that is complete, or drops it if there is no room.
 fn conclude_broadcast(
     station: Address,
     set: &PortSet,
@@ -81,7 +81,8 @@ fn conclude_broadcast(
     give(station, set, message, copies, told);
 }
 
-// Gives a message of a connection that is complete, or refuses it where there is no room, and queues the frame that answers it.
+// Gives a message of a connection that is complete, or refuses it if there is no room, and queues the frame that
+// answers it.
 fn conclude_connection(
     queue: &mut TxQueue,
     station: Address,
@@ -112,7 +113,7 @@ fn conclude_connection(
     give(station, set, message, copies, told);
 }
 
-/// Queues a frame, if there is one, where there is a free place.
+/// Queues a frame, if there is one and a free place.
 pub fn enqueue_option(queue: &mut TxQueue, frame: Option<Frame>)
     requires { length queue.old < queue_limit }
     ensures { queue.new ≡ queue.old ++ option_to_list frame }

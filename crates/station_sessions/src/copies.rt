@@ -34,7 +34,7 @@ impl Room {
         })
     }
 
-    /// The same bytes once more.
+    /// A copy of the bytes, in this memory.
     fn fill(self, bytes: &[u8]) -> Bytes
         requires { length bytes.now ≤ self }
         ensures { result ≡ bytes.now }
@@ -77,7 +77,7 @@ impl Copies {
         }
     }
 
-    /// Makes room for so many copies of a message of `size` bytes, where there is none yet.
+    /// Makes room for so many copies of a message of `size` bytes, if there is none yet.
     pub(crate) fn make(
         &mut self,
         alloc: Global,
@@ -163,8 +163,8 @@ impl Message {
     }
 }
 
-/// Gives a message at each port of a set of a station, by rising number, with the room that was made for the copies at all
-/// ports but one, which is told where nothing was told yet. It takes no memory.
+/// Gives a message at each port of a set of a station, by rising number, into `told`, which has no event yet. All ports but one
+/// use the room that was made for the copies. It takes no memory.
 pub(crate) fn give(
     station: Address,
     set: &PortSet,

@@ -36,10 +36,10 @@ use tx_queue::TxQueue;
 
 pub(crate) type Table = SessionTable<PortSet>;
 
-/// The incoming sessions of a station by source and kind, at most 32, each with the ports that it gives to: those that its
-/// opening found, less those that were closed since.
+/// The incoming sessions of a station by source and kind, at most 32, each with the ports that it gives to: those that its opening
+/// found, less those that were closed since.
 ///
-/// What is under way when they are dropped ends without a frame.
+/// If they are dropped, what is under way ends without a frame.
 pub struct Receivers {
     alloc: Global,
     table: Table,
@@ -111,8 +111,8 @@ impl Receivers {
         }
     }
 
-    /// Opens a session in the place of an older one of its key, which ends without a frame, where there are less than 32
-    /// others (`others`). It takes memory only where there is no older one, and want of it changes nothing.
+    /// Opens a session in the place of an older one of its key, which ends without a frame, if there are fewer than 32 others
+    /// (`others`). It takes memory only if there is no older one, and want of it changes nothing.
     // Always inlined, since it takes a state and a set by value.
     #[inline(always)]
     #[tactic(auto, using(crate::proofs::SessionMaps::session_maps))]
@@ -152,7 +152,7 @@ impl Receivers {
         }
     }
 
-    /// An abort with this PGN field is taken: it ends the session of its key, if that is of this PGN.
+    /// Takes an abort with this PGN field: it ends the session of its key, if that has this PGN.
     #[tactic(auto, using(crate::proofs::SessionMaps::session_maps))]
     pub fn abort(&mut self, key: Key, pgn: WirePgn)
         ensures { self.new ≡ aborted_at key pgn self.old }
@@ -183,8 +183,8 @@ impl Receivers {
         self.table.next_due(now)
     }
 
-    /// The ports that the session of a key would give to at the step with this frame, and the size of the message in bytes;
-    /// no port and 0 where it would give nothing.
+    /// The ports that the session of a key would give to at the step with this frame, and the size of the message in bytes; no port
+    /// and 0 if it would give nothing.
     pub fn wants(&self, key: Key, wire: &Wire) -> (PortSet, u32)
         ensures { result ≡ wanted_by (state_at self.now key) wire.now }
     {
@@ -253,7 +253,7 @@ impl Receivers {
         }
     }
 
-    // The same, by the ports that are paused.
+    // The flow of the session of a key, from the ports that are paused.
     #[inline(never)]
     fn flow_by(&self, ports: &PortTable, key: Key) -> Flow
         ensures { IsFlowOf (state_at self.now key) ports.now result }
@@ -319,11 +319,11 @@ impl Receivers {
         }
     }
 
-    /// The timer of the session of a key fires at tick `now`; without one nothing is done. A session on hold asks again or
-    /// goes on, any other ends, a connection by an abort (SAE J1939-21, timers T1, T2 and Th). Nothing is told.
+    /// The timer of the session of a key fires at tick `now`; without one nothing is done. A session on hold asks again or continues,
+    /// any other ends, a connection by an abort (SAE J1939-21, timers T1, T2 and Th). There is no event.
     ///
-    /// What it asks or ends with is queued behind the frames of a queue. All memory is taken first: want of it changes nothing. It is
-    /// asked for only where a hold of ETP ends.
+    /// Its frame is queued behind the frames of a queue. All memory is taken first, and only when a hold of ETP ends: want of it
+    /// changes nothing.
     pub fn fire(
         &mut self,
         ports: &PortTable,

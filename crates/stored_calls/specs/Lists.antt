@@ -1,4 +1,4 @@
--- Calls, most of which are kept in a short form.
+-- Calls; most of them are kept in a short form.
 use Rattle.std.specs.Prelude.{◌≡◌, ℕ, ◌<◌, Bool, true, false, List, [], ◌∷◌, None, slice_index_or}
 use Rattle.segment_law.specs.declared.call.Call.{Call}
 use Rattle.segment_law.specs.declared.call.Call.TheVariants as call
@@ -11,11 +11,11 @@ pub record CallsView : Type 0 where
   pub items : List Stored
   pub spare : ℕ
 
--- a call of nobody
+-- a call without an owner
 abbrev pub nobodys : Call → Stored
 nobodys c = record { by = None; call = c }
 
--- the call of a short form, where these are kept whole
+-- the call of a short form, looked up among the calls that are kept whole
 abbrev pub made_of : List Stored → Short → Stored
 made_of ws (Pump station to) = nobodys (call.Pump station to)
 made_of ws (Transmit station) = nobodys (call.Transmit station)
@@ -35,7 +35,7 @@ is_brief (call.Tick n) = true
 is_brief (call.Fire station) = true
 is_brief _ = false
 
--- such a call of nobody
+-- such a call without an owner
 pub record IsOfNobody (s : Stored) : Type 0 where
   pub by : s.by ≡ None
   pub brief : is_brief s.call ≡ true

@@ -1,11 +1,11 @@
--- How lists of calls are told apart.
+-- When two lists of calls are equal.
 use Rattle.std.specs.Prelude.{ℕ, List, refl}
 use Rattle.std.specs.Coded.{Coded, code_by, coded×, coded_ℕ, coded_list}
 use Rattle.stored_calls.specs.declared.stored.Stored.{Stored}
 use Rattle.stored_calls.specs.contracts.stored.Stored as stored
 use Rattle.stored_calls.specs.Lists.{CallsView}
 
--- they are told apart by their parts
+-- lists are equal if their parts are
 abbrev pub calls_code : Coded CallsView
 calls_code =
     code_by (List Stored × ℕ)

@@ -4,8 +4,8 @@ use crate::stored::Stored;
 use std::alloc::{AllocError, Global};
 use std::marker::Model;
 
-/// Calls in the order in which they were made. One of nobody that pumps, transmits, takes, fires, or ticks at most 4,294,967,295
-/// times takes eight bytes; any other 48 more, and a message its bytes.
+/// Calls in the order in which they were made. A call without an owner that pumps, transmits, takes, fires, or ticks at most
+/// 4,294,967,295 times takes eight bytes; any other 48 more, and a message its bytes.
 #[derive(Debug)]
 pub struct StoredCalls {
     shorts: Vec<Short>,
@@ -73,8 +73,8 @@ impl StoredCalls {
         self.shorts.reserve(1)
     }
 
-    /// Puts a call behind the others, where there is room for it and are fewer than 4,294,967,296. It takes no memory.
-    // As a rule its caller says which call it is: then it is known what is stored.
+    /// Puts a call behind the others. There must be room for it and fewer than 4,294,967,296 calls. It takes no memory.
+    // Inlined, since a caller usually knows which call it is, and so which form is stored.
     #[inline(always)]
     #[tactic(auto, using(crate::proofs::Places::within_short))]
     pub fn push_reserved(&mut self, call: Stored)
@@ -100,7 +100,7 @@ impl StoredCalls {
         self.wholes.push_reserved(call);
     }
 
-    /// The call at a place, where it is kept whole: each that has an owner, opens or closes a port or sends is.
+    /// The call at a place, if it is kept whole: each call that has an owner, opens or closes a port, or sends.
     pub fn whole(&self, at: usize) -> Option<&Stored>
         requires { at < length self.now.items }
         ensures whole { IfSome result (λ s. (x : StoredCall) → s.now ≡ slice_index_or self.now.items at x) }

@@ -7,7 +7,7 @@ use crate::stored::Stored;
 use pgn_ids::Address;
 use segment_law::Call;
 
-/// A call of nobody that names little, or the place of any other among those that are kept whole.
+/// A call without an owner that names little, or the place of any other among those that are kept whole.
 #[derive(Clone, Copy, Debug)]
 pub(crate) enum Short {
     Pump { station: Address, to: Address },
@@ -49,7 +49,7 @@ impl Short {
         }
     }
 
-    // So many ticks, where they have their place.
+    // A Tick of so many ticks, if they fit.
     #[inline(always)]
     fn ticks(n: u64) -> Option<Short>
         ensures made { IfSome result (λ s. (ws : List Stored) → made_of ws s ≡ nobodys (Tick n)) }
@@ -61,7 +61,7 @@ impl Short {
         Some(Short::Tick { n: n as u32 })
     }
 
-    /// The call, or the place where it is kept whole.
+    /// The call, or the place at which it is kept whole.
     pub(crate) fn call(self) -> Result<Call, usize>
         ensures made { IfOk result (λ call. (ws : List Stored) → made_of ws self ≡ nobodys call) }
         ensures brief { IfOk result (λ call. is_brief call ≡ true) }

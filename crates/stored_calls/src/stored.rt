@@ -1,4 +1,4 @@
-//! A call, and who made it.
+//! A call, and its owner.
 ghost use Rattle.std.specs.Prelude.{◌≡◌, IfOk};
 
 use segment_law::Call;
@@ -12,7 +12,7 @@ pub struct Stored {
 }
 
 impl Stored {
-    // The same stored call once more.
+    // A copy of the stored call.
     pub(crate) fn copy(&self, alloc: Global) -> Result<Stored, AllocError>
         ensures { IfOk result (λ s. s ≡ self.now) }
     {

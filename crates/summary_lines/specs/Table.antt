@@ -22,7 +22,7 @@ name_text iface = name_of iface ++ replicate (15 - length (name_of iface)) 32
 abbrev pub address_text : Address → List ℕ
 address_text a = codes "   " ++ digits 16 2 a.0
 
--- on which interface, of which PGN, from and to which address
+-- the columns of a row's interface, PGN and addresses
 abbrev pub way_text : Row → List ℕ
 way_text r = name_text r.iface ++ codes " " ++ digits 16 5 r.pgn ++ address_text r.from ++ address_text r.to
 

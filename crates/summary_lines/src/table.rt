@@ -23,7 +23,7 @@ fn put_blanks(out: &mut Vec<u8>, n: usize) -> Result<(), AllocError>
     Ok(())
 }
 
-/// A text behind a blank and, where it is shorter than its column, as many as it is shorter.
+/// A text behind a blank and, if it is shorter than its column, as many blanks as it is shorter.
 fn put_column(out: &mut Vec<u8>, width: usize, text: &[u8]) -> Result<(), AllocError>
     ensures { OnOk result (out.new.items ≡ out.old.items ++ column width text.now) }
 {
@@ -53,7 +53,7 @@ fn put_address(out: &mut Vec<u8>, address: Address) -> Result<(), AllocError>
     put_digits(out, 16, 2, u64::from(address.0))
 }
 
-/// What tells the row apart.
+/// The columns that identify the row.
 fn put_way(out: &mut Vec<u8>, row: &Row) -> Result<(), AllocError>
     ensures { OnOk result (out.new.items ≡ out.old.items ++ way_text row.now) }
 {

@@ -1,7 +1,7 @@
 //! Text behind what a buffer holds: words, decimal numbers, numbers in so many digits of a base, and bytes in hexadecimal digits. And the
 //! numbers and bytes that digits write.
 //!
-//! Each call that puts text fails only where memory is refused, and may have put a part of the text then.
+//! Each call that puts text fails only if memory is refused, and may have put a part of the text then.
 #![tactic(auto)]
 
 mod reading;

@@ -2,10 +2,11 @@
 ghost use Rattle.std.specs.Prelude.{◌≡◌, ◌≤◌, length, nat_lt, if◌then◌else◌, Some, None};
 ghost use Rattle.text_digits.specs.Numerals.{digit_of, put_digit, numeral_from, pair_of};
 
-/// What stands for no digit.
+/// The value of a byte that is no digit.
 const NONE: u8 = 16;
 
-// For each byte its value as a digit, or 16: a number is made without a branch, since which digits come next can't be foretold.
+// For each byte its value as a digit, or 16: a number is read without a branch, which digits at random would
+// mispredict.
 #[rattlefmt::skip]
 static VALUES: [u8; 256] = [
     16, 16, 16, 16, 16, 16, 16, 16, 16, 16, 16, 16, 16, 16, 16, 16,
@@ -26,7 +27,7 @@ static VALUES: [u8; 256] = [
     16, 16, 16, 16, 16, 16, 16, 16, 16, 16, 16, 16, 16, 16, 16, 16,
 ];
 
-/// The value of a digit, or 16 where it is none.
+/// The value of a digit, or 16 if it is none.
 #[inline(always)]
 fn value(byte: u8) -> u8
     ensures value { digit_of byte ≡ (if nat_lt result 16 then Some result else None) }

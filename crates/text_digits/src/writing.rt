@@ -27,7 +27,8 @@ fn digit_char(n: u8) -> u8
     if n < 10 { b'0' + n } else { b'A' + (n - 10) }
 }
 
-/// Puts a number in so many digits of a base, the last ones where it has more, behind what `out` holds. The base is 2 to 16.
+/// Puts a number in so many digits of a base, the last ones if it has more, behind what `out` holds. The base is 2 to
+/// 16.
 pub fn put_digits(out: &mut Vec<u8>, base: u64, width: u8, n: u64) -> Result<(), AllocError>
     requires least { 2 ≤ base }
     requires most { base ≤ 16 }
@@ -51,7 +52,7 @@ pub fn put_byte(out: &mut Vec<u8>, byte: u8) -> Result<(), AllocError>
     Ok(())
 }
 
-/// Puts a byte in two hexadecimal digits where there is room for them.
+/// Puts a byte in two hexadecimal digits if there is room for them.
 #[inline]
 fn put_byte_reserved(out: &mut Vec<u8>, byte: u8)
     requires { vec_len out.old + 2 ≤ vec_capacity out.old }

@@ -12,12 +12,12 @@ abbrev pub lines_of : List ℕ → List (List ℕ)
 lines_of [] = []
 lines_of (b ∷ bs) = if b == 10 then [] ∷ lines_of bs else before_lines b (lines_of bs)
 
--- how many bytes stand before the first line feed
+-- how many bytes precede the first line feed
 abbrev pub before_feed : List ℕ → ℕ
 before_feed [] = 0
 before_feed (b ∷ bs) = if b == 10 then 0 else before_feed bs + 1
 
--- the length of the first line of these bytes, where its line feed is among them and it has no more bytes than most
+-- the length of the first line of these bytes, if its line feed is among them and it has no more bytes than most
 abbrev pub held_line : ℕ → List ℕ → Option ℕ
 held_line most held = if nat_lt (before_feed held) (length held) && nat_le (before_feed held) most then Some (before_feed held) else None
 

@@ -1,4 +1,5 @@
-//! Lines of a reader, one held at a time or looked at where the reader has it, and text for a writer, written and flushed at once.
+//! Lines of a reader, one held at a time or looked at in the reader's buffer, and text for a writer, written and
+//! flushed at once.
 #![tactic(auto)]
 
 mod lines;

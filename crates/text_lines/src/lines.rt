@@ -39,7 +39,7 @@ impl From<AllocError> for ReadError {
 /// What was taken of a reader.
 #[derive(Clone, Copy, PartialEq, Eq)]
 pub(crate) enum Part {
-    /// Bytes of a line that goes on.
+    /// Bytes of a line that continues.
     More,
     /// The rest of a line, and its line feed.
     Feed,
@@ -49,7 +49,7 @@ pub(crate) enum Part {
     TooLong,
 }
 
-/// How many bytes stand before the first line feed.
+/// How many bytes precede the first line feed.
 #[inline]
 fn before_feed(bytes: &[u8]) -> usize
     ensures value { result ≡ before_feed bytes.now }
@@ -61,11 +61,11 @@ fn before_feed(bytes: &[u8]) -> usize
     }
 }
 
-/// How many bytes the next line has, if it lies whole in what a reader holds, and its line feed with it. The line has up to `most` bytes;
-/// if there is no such line, the next one goes on behind these bytes, is longer, or isn't there.
+/// How many bytes the next line has, if the whole line and its line feed are in what a reader holds. The line has up to `most` bytes; if
+/// there is no such line, the next one continues behind these bytes, is longer, or isn't there.
 ///
-/// So a line is looked at where it lies, and none is copied but one that goes over the end of the reader's buffer: what `fill_buf` shows is
-/// looked at, and the line consumed with its line feed.
+/// So a line is looked at in the reader's buffer, and copied only if it crosses the end of the buffer: look at what `fill_buf` shows, and
+/// consume the line with its line feed.
 #[inline]
 pub fn held_line(most: usize, held: &[u8]) -> Option<usize>
     ensures { result ≡ held_line most held.now }

@@ -6,7 +6,7 @@ ghost use Rattle.text_lines.specs.Known.{IsFront};
 use std::io;
 use std::io::Write;
 
-/// Writes all the bytes. Where that fails, it says how many of them were written, which aren't all.
+/// Writes all the bytes. If that fails, it returns how many of them were written, which aren't all.
 pub fn put_all<W: Write>(writer: &mut W, bytes: &[u8]) -> Result<(), usize>
     ensures written { MatchResult result (λ _. Appends (W.contents writer.old) (W.contents writer.new) bytes.now)
         (λ n. Appends (W.contents writer.old) (W.contents writer.new) (take n bytes.now)) }
@@ -33,8 +33,8 @@ pub fn put_all<W: Write>(writer: &mut W, bytes: &[u8]) -> Result<(), usize>
     Err(put)
 }
 
-/// Writes a text at once and flushes it, so that who reads it has it before anything else is done. Where that fails, a front of
-/// the text was written. A text without a byte never fails.
+/// Writes a text at once and flushes it, so that its reader has it before anything else is done. If that fails, a front of the
+/// text was written. A text without a byte never fails.
 #[tactic(auto, using(crate::proofs::Known::front_of_part, crate::proofs::Known::front_of_all, crate::proofs::Known::appends_keeps))]
 pub fn tell<W: Write>(writer: &mut W, text: &[u8]) -> Result<(), ()>
     ensures told { MatchResult result (λ _. Appends (W.contents writer.old) (W.contents writer.new) text.now)

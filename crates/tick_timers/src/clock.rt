@@ -41,7 +41,7 @@ impl Clock {
         Clock { ticks: 0 }
     }
 
-    /// The tick that it stands at.
+    /// The clock's tick.
     pub const fn now(&self) -> u64
         ensures value { result ≡ self.now }
         ensures bounded { self.now < 2 ^ 64 }
@@ -49,9 +49,9 @@ impl Clock {
         self.ticks
     }
 
-    /// Goes on by `n` ticks.
+    /// Advances the clock by `n` ticks.
     ///
-    /// Refused where that would pass the end of `u64`, and then unchanged.
+    /// Refused if that would pass the end of `u64`; the clock is then unchanged.
     pub fn advance(&mut self, n: u64) -> Result<(), ClockEnd>
         ensures fits { IsOk result ↔ (self.old + n < 2 ^ 64) }
         ensures past_end { IsErr result ↔ (2 ^ 64 ≤ self.old + n) }

@@ -10,7 +10,7 @@ pub const T2: u64 = 1250;
 /// A sender waits so long for a CTS or the end acknowledgement, after its RTS or the last packet of a window.
 pub const T3: u64 = 1250;
 
-/// A sender waits so long for the next CTS, after a CTS that told it to hold.
+/// A sender waits so long for the next CTS after a CTS that asked it to hold.
 pub const T4: u64 = 1050;
 
 /// A receiver repeats a hold after so long, before the sender's `T4` is due.

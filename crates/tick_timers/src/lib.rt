@@ -1,6 +1,6 @@
 //! The clock of a segment and the timers of its sessions, in ticks of 1 ms.
 //!
-//! No call takes memory, and nothing here looks at the time of the machine: the clock goes on only where it is told to.
+//! No call takes memory or reads the machine's time: only `advance` moves the clock.
 #![tactic(auto)]
 
 mod clock;

@@ -40,14 +40,14 @@ impl Timer {
         self.started <= now && self.ticks <= now - self.started
     }
 
-    /// The tick from which on it is due. None where that would be past the end of `u64`: then it never is.
+    /// The tick from which on it is due. None if that would be past the end of `u64`: then it never is.
     pub fn due_at(&self) -> Option<u64>
         ensures { IsDueFrom (is_due_at self.now) result }
     {
         self.started.checked_add(self.ticks)
     }
 
-    /// How many of its ticks are still to pass at tick `now`, which is not before its start: 0 where it is due.
+    /// How many of its ticks are left at tick `now`, which is not before its start: 0 if it is due.
     pub fn missing(&self, now: u64) -> u64
         ensures value { result ≡ missing_at self.now now }
         ensures due { self.now.started ≤ now → is_due_at self.now (now + result) ≡ true }

@@ -1,5 +1,5 @@
--- The receiver of TP (SAE J1939-21, connection mode data transfer): its states, and the rows of a packet, of which the first that
--- fits holds.
+-- The receiver of TP (SAE J1939-21, connection mode data transfer): its states, and the rows of a packet; the first that fits
+-- holds.
 use Rattle.std.specs.Prelude.{ℕ, ◌≡◌, ◌≤◌, Bool, ◌&&◌, not, nat_lt, if◌then◌else◌, List, None, ⊤}
 use Rattle.tp_wire.specs.declared.reason.AbortReason.TheVariants.{Resources, Other}
 use Rattle.tp_wire.specs.declared.wire.Kind.TheVariants.{Tp}
@@ -18,14 +18,14 @@ use Rattle.responder.specs.declared.in_state.InState.TheVariants as InState
 use Rattle.responder.specs.declared.received.Received.{Received}
 use Rattle.responder.specs.declared.received.Received.TheVariants.{On, Complete, Ended}
 
--- a message of TP of which packets are to come: there is no offset, and a CTS grants one packet at least
+-- a message of TP that lacks packets: there is no offset, and a CTS grants one packet at least
 pub record IsTpMessage (m : Unfinished) : Type 0 where
   pub kind : m.kind ≡ Tp
   pub offset : m.offset ≡ 0
   pub some : 1 ≤ m.most
   pub to_come : m.join.next ≤ packet_count m.join.size
 
--- packets are awaited: the next one is granted, and the packets up to the last one granted may come
+-- packets are awaited: the next one is granted, and packets are accepted up to the last one granted
 pub record IsAwaiting (s : AwaitPacket) : Type 0 where
   pub message : IsTpMessage s.message
   pub until : s.until ≡ s.granted
@@ -46,13 +46,13 @@ on_packet s number bytes room flow now =
     else if not (wants_last s.message.join) then aborted s.message Resources
     else Complete (finished (with_packet s.message bytes))
 
--- a frame comes: the sequence number of a packet is its number, and everything else leaves the state as it is
+-- a frame arrives: the sequence number of a packet is its number, and every other frame leaves the state unchanged
 abbrev pub tp_stepped : InState → Wire → (room : Bool) → Flow → (now : ℕ) → Received
 tp_stepped (InState.AwaitPacket s) (Packet Tp sequence bytes) room flow now = on_packet s sequence bytes room flow now
 tp_stepped (InState.Holding s) (Packet Tp sequence bytes) room flow now = on_packet_in_hold s sequence
 tp_stepped s _ room flow now = On s None
 
--- what goes on is a receiver of TP
+-- the state that follows is a receiver of TP
 abbrev pub GoesOnAsTp : Received → Type 0
 GoesOnAsTp (On s frame) = IsTp s
 GoesOnAsTp (Complete message) = message.kind ≡ Tp

@@ -1,9 +1,8 @@
 //! A TP connection as typed states (SAE J1939-21, connection mode data transfer): the sending side by the names of
 //! `originator`, the receiving side by those of `responder`, with the rows that are TP's.
 //!
-//! Each state must be spent, exactly once: a step takes it and gives what follows. No call takes memory: the room for
-//! the whole message that is received comes in with its join, and the bytes of a message that is sent stay with the
-//! caller.
+//! Each state must be spent, exactly once: a step takes it and gives what follows. No call takes memory: the join of
+//! a received message has room for all of it, and the bytes of a message that is sent stay with the caller.
 #![tactic(auto)]
 
 mod laws;

@@ -28,12 +28,11 @@ pub fn begin(from: Address, to: Address, pgn: Pgn, len: u32, now: u64) -> (Await
     originator::begin(Kind::Tp, from, to, pgn, len, now)
 }
 
-/// Accepts an RTS at tick `now`: the state, and the frame to be queued, which is the first CTS, or a hold where the
+/// Accepts an RTS at tick `now`: the state, and the frame to be queued, which is the first CTS, or a hold if the
 /// session is held (SAE J1939-21, TP.CM_CTS).
 ///
 /// `allowed` is the byte of the RTS that says how many packets a CTS may grant, 0 for any number. The join is that of a
-/// message of 9 to 1,785 bytes of which no packet has come, with room for all packets, so that no later call takes
-/// memory.
+/// message of 9 to 1,785 bytes that has no packet yet, with room for all packets, so that no later call takes memory.
 pub fn accept(peer: Peer, allowed: u8, join: Join, flow: Flow, now: u64) -> (InState, Frame)
     requires size { IsSizeOf Tp join.size }
     requires empty { join.next ≡ 1 }

@@ -34,7 +34,7 @@ abbrev pub of_five : (ℕ → ℕ → ℕ → ℕ → ℕ → ℕ → Option Wir
 of_five k (a ∷ b ∷ c ∷ d ∷ e ∷ p ∷ q ∷ r ∷ []) = field_of p q r >>= k a b c d e
 of_five k bytes = None
 
--- by the control byte
+-- a management frame of TP, by its control byte
 abbrev pub tp_cm_by : ℕ → ℕ → ℕ → ℕ → ℕ → ℕ → Option Wire
 tp_cm_by control b c d e pgn =
     if control == 16 then Some (Cm (Rts (number_2 b c) d e pgn))
@@ -64,7 +64,7 @@ unfoldable pub packet_of : Kind → List ℕ → Option Wire
 packet_of kind (sequence ∷ b ∷ c ∷ d ∷ e ∷ p ∷ q ∷ r ∷ []) = if sequence == 0 then None else Some (Packet kind sequence (b ∷ c ∷ d ∷ e ∷ p ∷ q ∷ r ∷ []))
 packet_of kind bytes = None
 
--- by the first three bytes
+-- a Request, by the first three bytes
 unfoldable pub request_of : List ℕ → Option Wire
 request_of (p ∷ q ∷ r ∷ rest) = field_of p q r >>= λ pgn. Some (Request pgn)
 request_of bytes = None
@@ -72,7 +72,7 @@ request_of bytes = None
 unfoldable pub ack_of : List ℕ → Option Wire
 ack_of bytes = of_five (λ control b c d address pgn. Some (Ack control (record { 0 = address }) pgn)) bytes
 
--- by the PGN
+-- the meaning of a frame's bytes, by the PGN
 unfoldable pub body_of : ℕ → List ℕ → Option Wire
 body_of pgn bytes =
     if pgn == tp_cm then tp_cm_of bytes
@@ -83,7 +83,7 @@ body_of pgn bytes =
     else if pgn == acknowledgement then ack_of bytes
     else None
 
--- what bytes mean from one address to another, where the table has it between them
+-- the meaning from one address to another, if the table allows it between them
 abbrev pub between : (from to : Address) → Option Wire → Option (Wire × Address × Address)
 between from to body = do
   wire ← body

@@ -63,7 +63,7 @@ priority_of (Packet kind sequence bytes) = 7
 priority_of (Request pgn) = 6
 priority_of (Ack control address pgn) = 6
 
--- to one node or to all
+-- whether an address is that of one node or of all
 abbrev pub one_or_all : ℕ → Bool
 one_or_all to = is_one to || to == global_address
 

@@ -9,7 +9,7 @@ abbrev pub is_size_of : Kind → ℕ → Bool
 is_size_of Tp size = nat_le MIN_SIZE size && nat_le size TP_MAX_SIZE
 is_size_of Etp size = nat_le (TP_MAX_SIZE + 1) size && nat_le size ETP_MAX_SIZE
 
--- the same as a fact
+-- the sizes of a kind, as a proposition
 abbrev pub IsSizeOf : Kind → ℕ → Type 0
 IsSizeOf Tp size = (MIN_SIZE ≤ size) × (size ≤ TP_MAX_SIZE)
 IsSizeOf Etp size = (TP_MAX_SIZE < size) × (size ≤ ETP_MAX_SIZE)

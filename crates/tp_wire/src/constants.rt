@@ -70,7 +70,7 @@ pub const TP_MAX_WINDOW: u8 = 16;
 /// How many packets an ETP receiver grants at once at most.
 pub const ETP_MAX_WINDOW: u8 = 64;
 
-/// The byte of an RTS by which a sender allows any number of packets per CTS.
+/// The byte with which a sender allows, in its RTS, any number of packets per CTS.
 pub const ANY_WINDOW: u8 = 255;
 
 /// A law: the sizes in bytes, and the windows in packets.

@@ -1,4 +1,4 @@
-//! What a frame that is taken means, where it stands.
+//! The meaning of a frame, with a packet's bytes left in the frame.
 ghost use Rattle.std.specs.Prelude.{◌≡◌, true, false, ◌==◌, IfSome};
 ghost use Rattle.std.specs.Option.{option_map};
 ghost use Rattle.pgn_ids.specs.Identifier.{meaning_of};
@@ -13,8 +13,8 @@ use crate::wire::{CmFrame, Kind, Wire};
 use bus_frame::Frame;
 use pgn_ids::{Address, IdMeaning, WirePgn};
 
-/// What a frame that is taken means. The bytes of a packet stay in their frame: packets are most of what comes, and
-/// their bytes are copied once, to the message.
+/// The meaning of a frame. The bytes of a packet stay in the frame: most frames are packets, and their bytes are copied
+/// once, to the message.
 #[derive(Clone, Copy, Debug)]
 pub enum Heard<'a> {
     /// A connection management frame.
@@ -37,7 +37,7 @@ pub enum Heard<'a> {
     },
 }
 
-// What a frame of TP.DT or ETP.DT means, where the table has it between these addresses.
+// The meaning of a TP.DT or ETP.DT frame, if the table allows it between these addresses.
 #[inline(always)]
 #[tactic(auto, unfolding(crate::specs::Reading::packet_of))]
 fn packet_between(
@@ -99,8 +99,8 @@ fn read_other(frame: &Frame) -> Option<(Heard<'_>, Address, Address)>
     Some((heard, from, to))
 }
 
-/// What a frame means whose identifier has this meaning, from whom and to whom: exactly where `read` has a meaning, and
-/// the same one, with a packet's bytes left where they stand.
+/// The meaning of a frame whose identifier is read already, with its source and destination. It is what `read` returns,
+/// with a packet's bytes left in the frame.
 #[inline(always)]
 #[tactic(auto, unfolding(crate::specs::Reading::reading, crate::specs::Reading::body_of))]
 pub fn read_in_place<'a>(

@@ -27,12 +27,12 @@ pub fn frames_have_one_meaning()
     ensures { (f : CanFrame) (wire other : Wire) (from to source destination : Address) → Reads f wire from.0 to.0 → Reads f other source.0 destination.0 → (wire ≡ other) × (from ≡ source) × (to ≡ destination) }
 {}
 
-/// A law: a frame is malformed exactly where its PGN is one of the six and it has no meaning.
+/// A law: a frame is malformed exactly if its PGN is one of the six and it has no meaning.
 pub fn malformed_frames_have_no_meaning()
     ensures { (f : CanFrame) → ((i : ℕ) → slice_index f.bytes i < 256) → (is_malformed f ≡ true) ↔ ((is_transport f ≡ true) × ((wire : Wire) (from to : Address) → ¬ (Reads f wire from.0 to.0))) }
 {}
 
-/// A law: a frame that has a meaning is of one of the six PGNs.
+/// A law: a frame that has a meaning has one of the six PGNs.
 pub fn meanings_are_of_transport_frames()
     ensures { (f : CanFrame) (wire : Wire) (from to : ℕ) → Reads f wire from to → is_transport f ≡ true }
 {}

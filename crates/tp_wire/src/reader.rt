@@ -208,7 +208,7 @@ fn comes_from(wire: &Wire, from: Address) -> bool
     }
 }
 
-// What bytes mean from one address to another, where the table has it between them.
+// The meaning from one address to another, if the table allows it between them.
 #[inline(always)]
 fn between(from: Address, to: Address, body: Option<Wire>) -> Option<(Wire, Address, Address)>
     ensures { result ≡ between from to body }
@@ -221,8 +221,8 @@ fn between(from: Address, to: Address, body: Option<Wire>) -> Option<(Wire, Addr
     }
 }
 
-// What a frame means, from whom and to whom. Nearly all frames are data packets: each of their kinds has an arm of its
-// own, so that its addresses are tested without asking once more which row it is.
+// The meaning of a frame, with its source and destination. Nearly all frames are data packets: each kind of them has an
+// arm of its own, so that its addresses are tested without a second match on the row.
 #[inline(always)]
 #[tactic(auto, unfolding(crate::specs::Reading::reading, crate::specs::Reading::body_of))]
 fn read_row(frame: &Frame) -> Option<(Wire, Address, Address)>
@@ -248,10 +248,12 @@ fn read_row(frame: &Frame) -> Option<(Wire, Address, Address)>
     }
 }
 
-/// What a frame means, from whom and to whom, exactly where it shows a row of the frame table. Its priority and the
-/// reserved bytes of the row may be any. None of other traffic and of malformed frames: another length (a Request
-/// has 3 to 8 bytes, read by its first three, all others 8), control byte, destination or source than the table's,
-/// sequence number 0, or a PGN field above 18 bits.
+/// The meaning of a frame, with its source and destination, if it shows a row of the frame table. Its priority and the
+/// row's reserved bytes may have any value.
+///
+/// None for other traffic and for malformed frames: another length, control byte, destination or source than the
+/// table's, sequence number 0, or a PGN field above 18 bits. A Request has 3 to 8 bytes, and the first three are read;
+/// all others have 8.
 #[inline(always)]
 pub fn read(frame: &Frame) -> Option<(Wire, Address, Address)>
     ensures meaning { result ≡ reading frame.now }

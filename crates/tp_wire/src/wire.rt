@@ -19,7 +19,7 @@ pub enum Kind {
 /// What a connection management frame means. A `pgn` is the field as it was received, or is to be written.
 #[derive(Clone, Copy, Debug, PartialEq, Eq)]
 pub enum CmFrame {
-    /// TP.CM_RTS: a message of `size` bytes in `packets`, of which a CTS may grant `most` at once.
+    /// TP.CM_RTS: a message of `size` bytes in `packets`; a CTS may grant `most` at once.
     Rts {
         size: u16,
         packets: u8,

@@ -95,7 +95,7 @@ fn numbered(control: u8, packets: u8, number: u32) -> [u8; 5]
     [control, packets, n0, n1, n2]
 }
 
-// The bytes of a connection management frame that stand before its PGN.
+// The bytes of a connection management frame before its PGN.
 #[inline(always)]
 fn bytes_before_pgn(frame: CmFrame) -> [u8; 5]
     requires { HasNumbers (Cm frame) }

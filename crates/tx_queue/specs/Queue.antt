@@ -10,7 +10,7 @@ queue_limit = 64
 abbrev pub free_places : List CanFrame → ℕ
 free_places queue = queue_limit - length queue
 
--- the frame that leaves next: the one that came in first
+-- the frame that leaves next: the first one queued
 abbrev pub front : List CanFrame → Option CanFrame
 front queue = slice_get queue 0
 
@@ -18,6 +18,6 @@ front queue = slice_get queue 0
 abbrev pub behind : List CanFrame → List CanFrame
 behind queue = drop 1 queue
 
--- a frame comes in behind all others
+-- a frame is queued behind all others
 abbrev pub queued : List CanFrame → CanFrame → List CanFrame
 queued queue frame = queue ++ frame ∷ []

@@ -51,7 +51,7 @@ impl QueueImage {
     }
 }
 
-// Whether two frames are the same.
+// Whether two frames are equal.
 fn is_same(a: &Frame, b: &Frame) -> bool
     ensures { IsTrue result ↔ (a.now ≡ b.now) }
 {

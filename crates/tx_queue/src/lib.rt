@@ -50,7 +50,7 @@ impl TxQueue {
         })
     }
 
-    /// Puts a frame behind all others, refused exactly where 64 are in the queue, which then stays as it was.
+    /// Queues a frame behind all others. Refused exactly if 64 are in the queue, which is then unchanged.
     pub fn push(&mut self, frame: Frame) -> Result<(), TxFull>
         ensures ok { OnOk result (self.new ≡ queued self.old frame) }
         ensures full { IsErr result ↔ (length self.old ≡ queue_limit) }
@@ -63,7 +63,7 @@ impl TxQueue {
         Ok(())
     }
 
-    /// Puts a frame behind all others, where there is a free place.
+    /// Queues a frame behind all others if there is a free place.
     #[inline]
     pub fn push_free(&mut self, frame: Frame)
         requires { length self.old < queue_limit }
@@ -72,7 +72,7 @@ impl TxQueue {
         self.frames.push_back_reserved(frame);
     }
 
-    /// Takes the frame that came in first, or gives None where there is none.
+    /// Takes the frame that was queued first, or None if the queue is empty.
     pub fn pop(&mut self) -> Option<Frame>
         ensures popped { result ≡ front self.old }
         ensures left { self.new ≡ behind self.old }

@@ -8,7 +8,7 @@ use std::alloc::{AllocError, Global};
 use std::marker::Model;
 use tick_timers::Timer;
 
-/// What a `BamIn` stands at, as plain data: unlike it, this needn't be spent.
+/// The value of a `BamIn`, as plain data, which needn't be spent.
 #[derive(Debug, Drop)]
 pub struct BamInImage {
     from: Address,
@@ -26,7 +26,7 @@ impl Model for BamInImage {
 }
 
 impl BamIn {
-    /// What it stands at, as plain data.
+    /// Its value, as plain data.
     pub fn image(&self, alloc: Global) -> Result<BamInImage, AllocError>
         ensures { IfOk result (λ image. image ≡ self.now) }
     {

@@ -19,7 +19,7 @@ fn put(log: &mut BusLog, frame: Frame) -> Result<(), PutError> {
     }
 }
 
-// Calls of which a test only looks at the answer: their contracts are not carried through it.
+// Calls whose result alone a test looks at: their contracts are not carried through it.
 fn next(rt: &impl Abort, log: &mut BusLog, cursor: usize) -> Option<Frame> {
     holds(rt, cursor < log.stations());
     log.next(cursor)
@@ -95,7 +95,7 @@ fn repeats(rt: &impl Abort, log: &BusLog, place: Option<u64>) {
     holds(rt, again(rt, log, 0) == expected);
 }
 
-// The frame at a place, where it is kept.
+// The frame at a place, if it is kept.
 fn keeps(rt: &impl Abort, log: &BusLog, place: u64, is_kept: bool) {
     let expected = match is_kept {
         true => Some(frame_of(rt, place)),
@@ -112,8 +112,8 @@ fn skips(rt: &impl Abort, log: &mut BusLog, frames: u64, done: bool) {
     holds(rt, skip(rt, log, 0, frames) == done);
 }
 
-// A test's steps are a function of their own, which owns nothing: where a step can end a test, what the test owns is dropped there, and each
-// such place takes its part of the proof.
+// The steps of a test are a function of their own, which owns nothing. A step that can end a test drops what the test owns, and each such
+// place takes its part of the proof.
 fn fill(rt: &impl Abort, log: &mut BusLog) {
     for place in 1..=4096u64 {
         puts(rt, log, place, Ok(()));

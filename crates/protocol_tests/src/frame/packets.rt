@@ -1,4 +1,4 @@
-//! Worked values, and that calls succeed, of which no clause speaks.
+//! Worked values, and the success of calls, which no clause states.
 use crate::checks::{got, holds, same};
 use seg_cut::*;
 use std::alloc::Global;
@@ -34,7 +34,7 @@ fn last_packet_is_filled_up(rt: HostRuntime) {
     same(&rt, packet(&MESSAGE, 2), LAST);
 }
 
-// Calls of which a test only looks at the answer: their contracts are not carried through it.
+// Calls whose result alone a test looks at: their contracts are not carried through it.
 fn new_join(alloc: Global, size: u32) -> Join {
     Join::new(alloc, size)
 }
@@ -54,7 +54,7 @@ fn puts_inner(rt: &impl Abort, join: &mut Join, bytes: &[u8; 7]) {
     join.put_inner(bytes);
 }
 
-// It isn't the packet that comes next.
+// It isn't the next packet.
 fn is_wrong(rt: &impl Abort, join: &mut Join, number: u32, bytes: [u8; 7]) {
     same(rt, join.put(number, bytes), Err(PutError::WrongPacket));
 }

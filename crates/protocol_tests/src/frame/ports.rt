@@ -16,7 +16,7 @@ fn shows(rt: &impl Abort, set: &PortSet, numbers: &[u64]) {
     }
 }
 
-// Calls of which a test only looks at the answer: their contracts are not carried through it.
+// Calls whose result alone a test looks at: their contracts are not carried through it.
 fn new_table(rt: &impl Abort, alloc: Global) -> PortTable {
     got(rt, PortTable::new(alloc, STATION))
 }
@@ -72,8 +72,8 @@ fn resumes(rt: &impl Abort, table: &mut PortTable, number: u64, answer: Result<(
     holds(rt, resume(table, number) == answer);
 }
 
-// A test's steps are a function of their own, which owns nothing: where a step can end a test, what the test owns is dropped there, and each
-// such place takes its part of the proof.
+// The steps of a test are a function of their own, which owns nothing. A step that can end a test drops what the test owns, and each such
+// place takes its part of the proof.
 fn find_several(rt: &impl Abort, table: &mut PortTable, pgn: Pgn) {
     opens(rt, table, pgn, 4000, Ok(1));
     opens(rt, table, pgn, 8, Ok(2));
@@ -84,7 +84,7 @@ fn find_several(rt: &impl Abort, table: &mut PortTable, pgn: Pgn) {
     finds(rt, table, got(rt, Pgn::new(0xFECB)), 9, &[]);
 }
 
-// What was found stays as it was found.
+// A set that was found doesn't change.
 fn close_first(rt: &impl Abort, table: &mut PortTable, pgn: Pgn) {
     let both = find(table, pgn, 9);
     shows(rt, &both, &[1, 3]);

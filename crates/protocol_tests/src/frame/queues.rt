@@ -4,7 +4,7 @@ use std::alloc::{AllocError, Global};
 use std::process::Abort;
 use tx_queue::*;
 
-// Made again where no memory is found, so that the test passes whichever one allocation is refused.
+// Made again if no memory is found, so that the test passes whichever one allocation is refused.
 fn new_queue(alloc: Global) -> Result<TxQueue, AllocError> {
     match TxQueue::new(alloc) {
         Ok(queue) => Ok(queue),
@@ -12,7 +12,7 @@ fn new_queue(alloc: Global) -> Result<TxQueue, AllocError> {
     }
 }
 
-// Calls of which a test only looks at the answer: their contracts are not carried through it.
+// Calls whose result alone a test looks at: their contracts are not carried through it.
 fn push(queue: &mut TxQueue, frame: Frame) -> Result<(), TxFull> {
     queue.push(frame)
 }
@@ -35,8 +35,8 @@ fn frame_of(rt: &impl Abort, number: u8) -> Frame {
     got(rt, Frame::new(id, &[number]))
 }
 
-// A test's steps are a function of their own, which owns nothing: where a step can end a test, what the test owns is dropped there, and each
-// such place takes its part of the proof.
+// The steps of a test are a function of their own, which owns nothing. A step that can end a test drops what the test owns, and each such
+// place takes its part of the proof.
 fn fill(rt: &impl Abort, queue: &mut TxQueue) {
     holds(rt, queue.is_empty() && queue.free() == 64);
     holds(rt, pop(queue).is_none());
@@ -66,7 +66,7 @@ fn sixty_four_frames_leave_in_order(rt: HostRuntime) {
     empty(&rt, &mut queue)
 }
 
-// Made again where no memory is found.
+// Made again if no memory is found.
 fn image_of(alloc: Global, queue: &TxQueue) -> Result<QueueImage, AllocError> {
     match queue.image(alloc) {
         Ok(image) => Ok(image),
@@ -88,7 +88,7 @@ fn show(rt: &impl Abort, alloc: Global, queue: &mut TxQueue) {
     holds(rt, push(queue, frame_of(rt, 2)).is_ok());
     holds(rt, !is_of(&one, queue));
     holds(rt, pop(queue) == Some(frame_of(rt, 1)));
-    // As many frames as then, but another one.
+    // As many frames as then, but one of them is different.
     holds(rt, !is_of(&one, queue));
 }
 

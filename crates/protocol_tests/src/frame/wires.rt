@@ -59,7 +59,7 @@ fn means(frame: &Frame, wire: &Wire, from: Address, to: Address) -> bool {
         && is_heard(frame, wire, from, to)
 }
 
-// Calls of which a test only looks at the answer: their contracts are not carried through it.
+// Calls whose result alone a test looks at: their contracts are not carried through it.
 fn is_of_transport(frame: &Frame) -> bool {
     is_transport(frame)
 }

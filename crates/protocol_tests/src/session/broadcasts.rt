@@ -167,7 +167,7 @@ fn nine_bytes_are_received(rt: HostRuntime) {
         (false, false),
     );
     let state = awaits(&rt, state.step(&FIRST, 100));
-    // A packet that comes again is ignored, and T1 runs on.
+    // A repeated packet is ignored, and T1 keeps running.
     let state = awaits(&rt, state.step(&FIRST, 700));
     falls_due(&rt, &state, 850);
     same(
@@ -191,7 +191,7 @@ fn completes(rt: &impl Abort, mut state: BamIn, now: u64) {
 fn nine_bytes_are_taken(rt: HostRuntime) {
     let mut state = receiver(&rt, rt.alloc());
     let went_on = state.take(&heard(&FIRST), 100);
-    // A packet that has come changes nothing, nor do one that is skipped and the last one.
+    // A repeated packet changes nothing, nor does one that is skipped, nor the last one.
     let again = state.take(&heard(&FIRST), 700);
     let skipped = state.take(&heard(&PAST), 700);
     let last = state.take(&heard(&LAST), 700);

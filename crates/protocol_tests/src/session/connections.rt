@@ -237,7 +237,7 @@ fn take_window(rt: &impl Abort, state: &mut Receiver, queue: &mut TxQueue) {
     for (k, room, flow, now, left) in [
         (1, true, Flow::Open, 100, Left::Nothing),
         (2, false, Flow::Held, 200, Left::Nothing),
-        // A packet that has come and one that is skipped change nothing, nor does the last of the window without room.
+        // A repeated packet and one that is skipped change nothing, nor does the last of the window without room.
         (2, true, Flow::Open, 300, Left::Nothing),
         (4, true, Flow::Open, 300, Left::Abort(AbortReason::Other)),
         (
@@ -261,7 +261,7 @@ fn take_window(rt: &impl Abort, state: &mut Receiver, queue: &mut TxQueue) {
     same(rt, (state.is_due(949), state.is_due(950)), (false, true));
 }
 
-// The last packet of a window of three is taken, of a message of four, where the session is open or held.
+// Takes the last packet of a window of three of a message of four, while the session is open or held.
 fn end_of_window(rt: &impl Abort, alloc: Global, queue: &mut TxQueue, flow: Flow) -> Receiver {
     let (state, _) = begun(rt, alloc, diagnostics(rt), 3, 28, Flow::Open);
     let mut state = state.into_receiver();
@@ -286,7 +286,7 @@ fn a_window_is_followed_by_the_next(rt: HostRuntime) {
     same(&rt, bytes.last(), Some(&28));
 }
 
-// Its timer fires, and this is queued.
+// The timer fires, and this frame is queued.
 fn fires(
     rt: &impl Abort,
     state: &mut Receiver,
@@ -324,7 +324,7 @@ fn a_hold_ends_where_the_receiver_stands(rt: HostRuntime) {
     shows(&rt, state.end(AbortReason::Timeout), CM_TO_21, abort(3));
 }
 
-// What packet `last` leads to at tick 200, after packet 1 of three at tick 100, in windows of two.
+// The step of packet `last` at tick 200, after packet 1 of three at tick 100, in windows of two.
 fn third_step(rt: &impl Abort, alloc: Global, last: u8, room: bool) -> Received {
     let (state, _) = begun(rt, alloc, diagnostics(rt), 2, 21, Flow::Open);
     let (state, _) = on(rt, step(rt, state, &packet(1), true, Flow::Open, 100));

@@ -53,14 +53,14 @@ fn begun(rt: &impl Abort, alloc: Global, size: u32, flow: Flow) -> (InState, Fra
     accept(peer, join, flow, 0)
 }
 
-// A message of 1,786 bytes, of which the first window is granted.
+// A message of 1,786 bytes whose first window is granted.
 fn begun_open(rt: &impl Abort, alloc: Global) -> InState {
     let (state, cts) = begun(rt, alloc, 1786, Flow::Open);
     same(rt, cts, from_35(rt, ETP_CTS, [0x40, 0x01, 0, 0]));
     state
 }
 
-// Prepares and takes. Where memory is refused the same call succeeds when it is made again.
+// Prepares and takes. If memory is refused, the call succeeds when it is made again.
 fn take(rt: &impl Abort, mut state: InState, wire: &Wire, flow: Flow) -> Received {
     if state.prepare(wire, true, flow).is_err() {
         got(rt, state.prepare(wire, true, flow));
@@ -68,8 +68,7 @@ fn take(rt: &impl Abort, mut state: InState, wire: &Wire, flow: Flow) -> Receive
     state.step(wire, true, flow, 0)
 }
 
-// Takes a frame where the receiver stands, with room. Where memory is refused nothing has changed, and the same call succeeds when it is
-// made again.
+// Takes a frame in place, with room. If memory is refused nothing has changed, and the call succeeds when it is made again.
 fn takes(
     rt: &impl Abort,
     state: &mut Receiver,
@@ -112,7 +111,7 @@ fn dpo_at(rt: &impl Abort, count: u32, k: u32) -> Wire {
     dpo(rt, count.saturating_sub(before).min(64) as u8, before)
 }
 
-// A packet is that which makes the message whole, or isn't.
+// A packet completes the message, or doesn't.
 fn completes(rt: &impl Abort, state: &Receiver, message: &[u8], packet: &Wire, is_last: bool) {
     same(rt, state.size() as usize, message.len());
     same(rt, state.completes(packet), is_last);
@@ -212,7 +211,7 @@ fn begins(rt: HostRuntime) {
     goes_on_after(&rt, rt.alloc(), &Wire::Cm(other));
 }
 
-// What the last packet of the first window leads to.
+// The step of the last packet of the first window.
 fn first_window(rt: &impl Abort, state: InState, flow: Flow) -> Received {
     let mut state = goes_on(rt, take(rt, state, &dpo(rt, 64, 0), flow));
     for sequence in 1..64 {
@@ -230,7 +229,7 @@ fn take_three(rt: &impl Abort, state: &mut Receiver, queue: &mut TxQueue) {
         (dpo(rt, 3, 0), 60, Left::Nothing),
         (data(1, [0; 7]), 100, Left::Nothing),
         (data(2, [0; 7]), 200, Left::Nothing),
-        // A packet that has come and one that is skipped change nothing.
+        // A repeated packet and one that is skipped change nothing.
         (data(2, [0; 7]), 300, Left::Nothing),
         (data(4, [0; 7]), 300, wrong),
     ] {
@@ -262,7 +261,7 @@ fn old_offset(rt: HostRuntime) {
     is_abort(&rt, aborted(&rt, ended), 250);
 }
 
-// What a timer leads to, where its step needs no more memory than there is at the second try.
+// What follows from a timer whose step needs no more memory than there is at the second try.
 fn fire(rt: &impl Abort, mut state: InState, flow: Flow, now: u64) -> Received {
     if state.prepare_expire(flow).is_err() {
         got(rt, state.prepare_expire(flow));
@@ -283,7 +282,7 @@ fn hold(rt: HostRuntime) {
     is_abort(&rt, state.close(), 2);
 }
 
-// Where memory is refused nothing has changed, and the hold ends once it is there.
+// If memory is refused nothing has changed, and the hold ends once it is there.
 #[test]
 fn hold_ends_where_the_receiver_stands(rt: HostRuntime) {
     let mut queue = got(&rt, TxQueue::new(rt.alloc()));

@@ -1,4 +1,4 @@
-//! Where a frame leads a receiver, where it stands or by value. A test ends where it leads elsewhere.
+//! What follows from a frame at a receiver, in place or by value. A test ends if something else follows.
 use crate::checks::holds;
 use crate::session::frames::heard;
 use bus_frame::Frame;
@@ -7,7 +7,8 @@ use std::process::Abort;
 use tp_wire::Wire;
 use tx_queue::TxQueue;
 
-/// What a frame leaves to do where a receiver stands, and what is queued, which is all that is.
+/// What is left to do after a frame that a receiver takes in place, and the frame that is queued, which is the only
+/// one.
 pub(crate) fn taken(
     rt: &impl Abort,
     state: &mut Receiver,
@@ -49,7 +50,7 @@ pub(crate) fn completed(
     }
 }
 
-/// The session goes on, whether a frame is queued or none.
+/// The session continues, whether a frame is queued or none.
 pub(crate) fn on(rt: &impl Abort, received: Received) -> (InState, Option<Frame>) {
     match received {
         Received::On(state, frame) => (state, frame),
@@ -57,7 +58,7 @@ pub(crate) fn on(rt: &impl Abort, received: Received) -> (InState, Option<Frame>
     }
 }
 
-/// The session goes on, and nothing is queued.
+/// The session continues, and nothing is queued.
 pub(crate) fn goes_on(rt: &impl Abort, received: Received) -> InState {
     match received {
         Received::On(state, None) => state,
@@ -65,7 +66,7 @@ pub(crate) fn goes_on(rt: &impl Abort, received: Received) -> InState {
     }
 }
 
-/// The session goes on, and a frame is queued.
+/// The session continues, and a frame is queued.
 pub(crate) fn answers(rt: &impl Abort, received: Received) -> (InState, Frame) {
     match received {
         Received::On(state, frame) => (state, frame.expect(rt, "a frame is queued")),

@@ -68,7 +68,7 @@ fn fill(alloc: Global, len: usize) -> Result<Vec<u8>, AllocError> {
     Ok(bytes)
 }
 
-/// What goes on after this frame.
+/// The message that continues after this frame.
 fn goes_on(rt: &impl Abort, state: OutState, wire: Wire) -> OutState {
     match state.step(&wire, 0) {
         Stepped::On(state) => state,

@@ -1,4 +1,4 @@
-//! Images of what a sender has under way, the same where nothing happened and no longer so after a step.
+//! Images of what a sender has under way: equal if nothing happened, and different after a step.
 use crate::checks::{got, same};
 use crate::session::frames::{pgn, wire_pgn};
 use bam_session::BamOut;

@@ -1,4 +1,4 @@
-//! Tables of sessions whose timers all start at tick 0. Where memory is refused once, the call is made again, so that
+//! Tables of sessions whose timers all start at tick 0. If memory is refused once, the call is made again, so that
 //! each test passes whichever allocation fails.
 ghost use Rattle.std.specs.Prelude.{◌≡◌, None};
 ghost use Rattle.session_table.specs.Sessions.{IsHeld, state_at};
@@ -42,7 +42,7 @@ fn key(source: u8, kind: SessionKind) -> Key {
     }
 }
 
-// Makes room for so many packets, at the second try where memory is refused.
+// Makes room for so many packets, at the second try if memory is refused.
 fn make_room(rt: &impl Abort, join: &mut Join, packets: u32)
     ensures { join.new ≡ with_room join.old packets }
 {
@@ -81,7 +81,7 @@ fn extended_connection(rt: &impl Abort, alloc: Global, pgn: WirePgn) -> Incoming
     Incoming::Connection(state.into_receiver())
 }
 
-// Opens a session. Where memory is refused nothing has changed, and the same call succeeds when it is made again.
+// Opens a session. If memory is refused nothing has changed, and the call succeeds when it is made again.
 fn open(rt: &impl Abort, alloc: Global, table: &mut SessionTable<u8>, key: Key) {
     let state = begun(rt, alloc, key.kind, FECA);
     let len = table.len();
@@ -103,7 +103,7 @@ fn is_open(rt: &impl Abort, opened: Result<(), OpenRefused<u8>>) {
     }
 }
 
-// Calls of which a test only looks at the answer: their contracts are not carried through it.
+// Calls whose result alone a test looks at: their contracts are not carried through it.
 fn new_table(alloc: Global) -> SessionTable<u8> {
     SessionTable::new(alloc)
 }
@@ -243,7 +243,7 @@ fn the_33rd_is_refused(rt: HostRuntime) {
     same(&rt, table.len(), 32);
 }
 
-// A queue, at the second try where memory is refused.
+// A queue, at the second try if memory is refused.
 fn new_queue(rt: &impl Abort, alloc: Global) -> TxQueue {
     match TxQueue::new(alloc) {
         Ok(queue) => queue,
@@ -328,7 +328,7 @@ fn a_new_session_takes_the_place(rt: HostRuntime) {
     same(&rt, there, Some((9, SessionKind::Tp, 0xEF00)));
 }
 
-// The image of what stands at a key, at the second try where memory is refused.
+// The image of the state at a key, at the second try if memory is refused.
 fn image_at(rt: &impl Abort, alloc: Global, table: &SessionTable<u8>, key: Key) -> IncomingImage {
     let Some((_bound, state)) = table.get(key) else {
         panic!(rt; "nothing at the key")

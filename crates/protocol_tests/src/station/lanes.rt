@@ -1,4 +1,4 @@
-//! Lanes of node 21, frame by frame. Where memory is refused, a test ends by it.
+//! Lanes of node 21, frame by frame. A test ends if memory is refused.
 mod broadcasts;
 mod connections;
 mod doubts;
@@ -88,7 +88,7 @@ fn pushes(rt: &impl Abort, alloc: Global, lane: &mut Lane, last: u64) {
     }
 }
 
-// Calls of which a test only looks at the answer: their contracts are not carried through it.
+// Calls whose result alone a test looks at: their contracts are not carried through it.
 fn overrun(lane: &mut Lane) -> Option<Ended> {
     lane.overrun()
 }

@@ -1,4 +1,4 @@
-//! Messages to all from 21, received at the ports 35.1 and 35.2. Where memory is refused, a test ends by it.
+//! Messages to all from 21, received at the ports 35.1 and 35.2. A test ends if memory is refused.
 use crate::checks::{got, holds, same};
 use crate::session::frames::heard;
 use crate::station::frames::{pgn, wire_pgn};
@@ -61,7 +61,7 @@ fn is_given(rt: &impl Abort, event: Option<&Event>, number: u64) {
     }
 }
 
-// Calls of which a test only looks at the answer: their contracts are not carried through it.
+// Calls whose result alone a test looks at: their contracts are not carried through it.
 fn receive(
     rt: &impl Abort,
     alloc: Global,
@@ -94,7 +94,7 @@ fn abort(rt: &impl Abort, sessions: &mut Receivers, pgn: u32) {
     sessions.abort(KEY, wire_pgn(rt, pgn));
 }
 
-// What the step tells: no frame, and no message.
+// The step has no frame, and gives no message.
 fn tells_nothing(
     rt: &impl Abort,
     alloc: Global,
@@ -122,7 +122,7 @@ fn gives(
     }
 }
 
-// A port is no more one of the session, which goes on or ends without a frame.
+// A port is removed from the session, which continues or ends without a frame.
 fn ends(rt: &impl Abort, sessions: &mut Receivers, number: u64) {
     same(rt, sessions.unbind(KEY, number), None);
 }

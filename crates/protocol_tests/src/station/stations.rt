@@ -1,5 +1,5 @@
-//! Station 35 takes frames of node 80, and station 21 sends. Where memory is refused as a frame is taken, it is taken again; elsewhere a test
-//! ends by it.
+//! Station 35 takes frames of node 80, and station 21 sends. If memory is refused as a frame is taken, it is taken again; anywhere else a
+//! test ends.
 mod images;
 mod receiving;
 mod sending;
@@ -45,7 +45,7 @@ fn sends(rt: &impl Abort, alloc: Global, station: &mut Station, to: Address) {
     same(rt, number, 1);
 }
 
-// What comes next to station 35 is queued, and nothing told.
+// The next frames to station 35 are queued, and there is no event.
 fn pumps(rt: &impl Abort, station: &mut Station) {
     let events = got(rt, station.pump(B, 0));
     same(rt, events.len(), 0);

@@ -8,7 +8,7 @@ use std::alloc::{AllocError, Global};
 use std::marker::Model;
 use tick_timers::Timer;
 
-/// What a `Receiver` stands at, as plain data: unlike it, this needn't be spent.
+/// The value of a `Receiver`, as plain data, which needn't be spent.
 #[derive(Debug, Drop)]
 pub struct ReceiverImage {
     message: UnfinishedImage,
@@ -27,7 +27,7 @@ impl Model for ReceiverImage {
 }
 
 impl Receiver {
-    /// What it stands at, as plain data.
+    /// Its value, as plain data.
     pub fn image(&self, alloc: Global) -> Result<ReceiverImage, AllocError>
         ensures { IfOk result (λ image. image ≡ self.now) }
     {

@@ -1,4 +1,4 @@
-//! A log, decoded: what is printed of it, with the exact text.
+//! A log, decoded, with the exact text that is printed.
 use crate::checks::{holds, same};
 use bus_decode::{Cause, Decoded, Options, Wanted, run_decode};
 use std::alloc::Global;
@@ -21,7 +21,7 @@ pub(crate) fn all(alloc: Global) -> Options {
     }
 }
 
-/// Reads a log; once more where memory was refused, of which the text printed until then is a front of the whole.
+/// Reads a log, and again if memory was refused: the text printed until then is a front of the whole.
 fn decoded(
     rt: &impl Abort,
     alloc: Global,
@@ -45,7 +45,7 @@ fn decoded(
     run_decode(alloc, options, &mut reader, out)
 }
 
-/// What is printed of a log, and what is counted.
+/// The printed text of a log, and its counts.
 pub(crate) fn prints(
     rt: &impl Abort,
     alloc: Global,

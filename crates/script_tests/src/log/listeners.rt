@@ -65,8 +65,8 @@ fn finishes(rt: &impl Abort, decoder: Decoder, told: &mut Vec<Told>) {
     same(rt, told.len(), 2);
 }
 
-// A test's steps are functions of their own, which own nothing: where a step can end a test, what the test owns is dropped there, and each
-// such place takes its part of the proof.
+// The steps of a test are functions of their own, which own nothing. A step that can end a test drops what the test owns, and each such
+// place takes its part of the proof.
 fn message_and_silence(
     rt: &impl Abort,
     alloc: Global,

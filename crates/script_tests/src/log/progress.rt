@@ -1,4 +1,4 @@
-//! How far a log is read, told beside it.
+//! The report on how far a log is read.
 use crate::checks::{got, same};
 use read_progress::Progress;
 use std::alloc::Global;
@@ -8,7 +8,7 @@ use std::io::{Error, ErrorKind, Read};
 use std::process::Abort;
 use std::time::{Clock, Duration};
 
-/// A clock that goes on by so many milliseconds each time that it is asked, and fails in the end.
+/// A clock that advances by so many milliseconds each time that it is read, and fails in the end.
 #[derive(Drop)]
 struct Steps<'a> {
     now: &'a Cell<u64>,
@@ -31,7 +31,7 @@ impl Clock for Steps<'_> {
     }
 }
 
-// What is told while six times 1,500,000 bytes are read of 9,000,000.
+// The reports while six times 1,500,000 bytes are read of 9,000,000.
 fn told(rt: &impl Abort, alloc: Global) -> Vec<u8> {
     let now = Cell::new(0);
     let clock = Steps {
@@ -57,13 +57,13 @@ fn told(rt: &impl Abort, alloc: Global) -> Vec<u8> {
 #[test]
 fn what_is_read_is_told(rt: HostRuntime) {
     let alloc = rt.alloc();
-    // Nothing is told before a second has passed, and nothing where the clock fails.
+    // Nothing is reported before a second has passed, and nothing if the clock fails.
     let expected = b"\rread 4 of 9 MB\rread 6 of 9 MB".as_slice();
     let first = told(&rt, alloc);
     if first.as_slice() == expected {
         return;
     }
-    // Where memory is refused, something isn't told.
+    // If memory is refused, a report is missing.
     let again = told(&rt, alloc);
     same(&rt, again.as_slice(), expected);
 }

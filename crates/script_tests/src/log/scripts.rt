@@ -27,7 +27,7 @@ const MESSAGES: &str = "\
 (0000000000.100000) bus0 given 21 FF 0FECA 9 010203040506070809\n\
 (0000000000.100000) bus0 given 21 35 0FECA 20 0102030405060708090A0B0C0D0E0F1011121314\n";
 
-/// Runs the script; once more where memory was refused.
+/// Runs the script, and again if memory was refused.
 fn logged(alloc: Global, log: &mut Vec<u8>, replies: &mut Vec<u8>) -> Ran {
     let mut reader = SCRIPT.as_bytes();
     let first = run_logged(alloc, &mut reader, log, replies);
@@ -56,7 +56,7 @@ fn all(alloc: Global) -> Options {
     }
 }
 
-/// Decodes the log; once more where memory was refused.
+/// Decodes the log, and again if memory was refused.
 fn decoded(alloc: Global, log: &[u8], messages: &mut Vec<u8>) -> Decoded {
     let mut reader = log;
     let first = run_decode(alloc, &all(alloc), &mut reader, messages);

@@ -1,4 +1,4 @@
-//! Readers and writers that fail, and a wrong line where memory is refused.
+//! Readers and writers that fail, and a wrong line at which memory is refused.
 use crate::checks::{got, same};
 use crate::readers::Breaking;
 use bus_node::{LineCounts, Node, run_node};

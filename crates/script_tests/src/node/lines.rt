@@ -1,4 +1,4 @@
-//! Lines with what they mean to a node. A test ends where memory is refused.
+//! Lines with their meaning to a node. A test ends if memory is refused.
 use crate::checks::got;
 use bus_frame::{CanId, Frame};
 use log_text::Iface;

@@ -6,7 +6,7 @@ use script_commands::Cause;
 use std::io::{BufRead, BufReader};
 use std::process::Abort;
 
-// The line of this number is this one. The test ends where memory is refused.
+// The line of this number is this one. The test ends if memory is refused.
 fn reads<R: BufRead>(
     rt: &impl Abort,
     number: u64,

@@ -16,7 +16,7 @@ fn words_of(alloc: Global, all: &[&str]) -> Result<Vec<String>, AllocError> {
     Ok(words)
 }
 
-// The text that answers these words; a test ends where it is that memory was refused.
+// The text that answers these words; a test ends if the answer is that memory was refused.
 fn answer(rt: &impl Abort, alloc: Global, all: &[&str]) -> String {
     let words = got(rt, words_of(alloc, all));
     let error = read_command_line(alloc, words.as_slice()).expect_err(rt, "a text");

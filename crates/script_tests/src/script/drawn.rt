@@ -43,7 +43,7 @@ const LOG: &str = "(1.000000) can0 1CECFF21#20090002FFCAFE00\n\
 const ANNOUNCED: &str =
     "sequenceDiagram\n  21->>all: (0000000001.000000) BAM 9 bytes in 2 packets\n";
 
-/// A log, of which each frame is drawn.
+/// A log whose frames are all drawn.
 fn draw<R: BufRead, W: Write, E: Write>(
     alloc: Global,
     reader: &mut R,

@@ -1,4 +1,4 @@
-//! A message of 100,000 bytes, of which byte i is i modulo 256, with the exact text that is printed, which is too long for a file. A piece of it
+//! A message of 100,000 bytes, in which byte i is i modulo 256, with the exact text that is printed, which is too long for a file. A piece of it
 //! that is refused memory is added again, so that the test passes whichever one allocation is refused.
 use crate::checks::got;
 use crate::script::scripts::shows;

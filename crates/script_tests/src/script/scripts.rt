@@ -9,7 +9,7 @@ use bus_script::{Cause, Ran, ScriptFault, run_script};
 use std::alloc::{AllocError, Global};
 use std::process::Abort;
 
-/// Runs a script; once more where memory was refused, of which the text printed until then may tell nothing false.
+/// Runs a script, and again if memory was refused: the text printed until then may say nothing false.
 fn ran(rt: &impl Abort, alloc: Global, script: &[u8], out: &mut Vec<u8>, text: &str) -> Ran {
     let mut reader = script;
     let first = run_script(alloc, &mut reader, out);
@@ -28,12 +28,12 @@ fn ran(rt: &impl Abort, alloc: Global, script: &[u8], out: &mut Vec<u8>, text: &
     run_script(alloc, &mut reader, out)
 }
 
-/// A script prints a text, and its fault is told by a line.
+/// A script prints a text, and its fault has this line.
 pub(crate) fn shows(rt: &impl Abort, alloc: Global, script: &[u8], text: &str, fault: &str) {
     let mut out = Vec::new(alloc);
     let ran = ran(rt, alloc, script, &mut out, text);
     same(rt, out.as_slice(), text.as_bytes());
-    // Who always reports refused memory promises nothing: this run was refused none.
+    // A run that always reports refused memory promises nothing: this run was refused none.
     holds(rt, !ran.memory_refused);
     match ran.fault {
         None => {
@@ -48,7 +48,7 @@ pub(crate) fn shows(rt: &impl Abort, alloc: Global, script: &[u8], text: &str, f
     }
 }
 
-/// The line of a fault, made again where memory was refused.
+/// The line of a fault, made again if memory was refused.
 fn fault_line(alloc: Global, fault: ScriptFault) -> Result<String, AllocError> {
     match format!(in alloc; "{fault}") {
         Ok(line) => Ok(line),
@@ -59,7 +59,7 @@ fn fault_line(alloc: Global, fault: ScriptFault) -> Result<String, AllocError> {
 /// The most bytes that a test puts behind those of `many`.
 const BEHIND: usize = 8193;
 
-/// So many bytes, each the same, with room for those that a test puts behind them.
+/// So many equal bytes, with room for those that a test puts behind them.
 fn many(alloc: Global, byte: u8, count: usize) -> Result<Vec<u8>, AllocError> {
     let mut bytes = Vec::new(alloc);
     let room = count.saturating_add(1 + BEHIND);

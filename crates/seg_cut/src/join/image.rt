@@ -5,7 +5,7 @@ use super::Join;
 use std::alloc::{AllocError, Global};
 
 impl Join {
-    /// Another join that stands as this one does, with as much room. It takes that memory in one block.
+    /// A copy of this join, with as much room. It takes that memory in one block.
     pub fn image(&self, alloc: Global) -> Result<Join, AllocError>
         ensures { IfOk result (λ image. image ≡ self.now) }
     {

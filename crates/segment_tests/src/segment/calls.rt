@@ -1,4 +1,5 @@
-//! Calls on a segment of stations 21 and 35 of which a test only looks at the answer: their contracts are not carried through it.
+//! Calls on a segment of stations 21 and 35, whose result alone a test looks at: their contracts are not carried
+//! through it.
 use crate::checks::{got, same};
 use crate::segment::replies::{is_opened, is_sent};
 pub(crate) use crate::stations::{A, B, PORT, pgn};
@@ -32,7 +33,7 @@ pub(crate) fn tried(segment: &mut Segment, call: Call) -> Result<Reply, AllocErr
     segment.apply(call)
 }
 
-// The same for a test that ends where a call finds no memory.
+// `tried`, for a test that ends if a call finds no memory.
 pub(crate) fn apply(rt: &impl Abort, segment: &mut Segment, call: Call) -> Reply {
     got(rt, tried(segment, call))
 }
@@ -41,7 +42,7 @@ pub(crate) fn drive(segment: &mut Segment, from: Address, to: Address, turns: u6
     segment.drive(from, to, turns)
 }
 
-// The same for a test that ends where a drive finds no memory: that is the error, and no drive that came to less.
+// `drive`, for a test that ends if a drive finds no memory: such a drive is an error, not a shorter one.
 pub(crate) fn driven(
     rt: &impl Abort,
     segment: &mut Segment,
@@ -65,7 +66,7 @@ pub(crate) fn run(segment: &mut Segment, calls: Vec<Call>) -> Ran {
     segment.run(calls)
 }
 
-// The same for a test that ends where a call of the list finds no memory.
+// `run`, for a test that ends if a call of the list finds no memory.
 pub(crate) fn ran(rt: &impl Abort, segment: &mut Segment, calls: Vec<Call>) -> Ran {
     let ran = run(segment, calls);
     if ran.end == RunEnd::OutOfMemory {
@@ -86,7 +87,8 @@ pub(crate) fn is_idle(segment: &Segment) -> bool {
     segment.is_idle()
 }
 
-// A segment of the two stations. It is asked for again where memory is refused, and so are the bytes below, for tests that go on then.
+// A segment of the two stations. It is asked for again if memory is refused, and so are the bytes below, for tests that
+// continue then.
 pub(crate) fn segment(rt: &impl Abort, alloc: Global) -> Segment {
     match Segment::new(alloc, &[B, A]) {
         Ok(segment) => segment,

@@ -1,4 +1,4 @@
-//! Lines with the commands that they mean. A test ends where memory is refused.
+//! Lines with the commands that they mean. A test ends if memory is refused.
 use crate::checks::{got, same};
 use crate::segment::calls::{A, B, PORT, frame, pgn};
 use message_events::Bytes;
@@ -160,7 +160,7 @@ const BAD_WORDS: [&str; 10] = [
     "inject 100000000 00",
 ];
 
-// Each line has this fault, which is told so.
+// Each line has this fault, which has its words.
 fn are_wrong(rt: &impl Abort, alloc: Global, lines: &[&str], fault: Fault, text: &str) {
     for line in lines {
         means(rt, alloc, line, &Err(fault));

@@ -37,7 +37,7 @@ fn begin(rt: &impl Abort, alloc: Global, pair: &mut Pair, len: u32) {
     is_sent(rt, both(rt, alloc, pair, send), 1);
 }
 
-// Puts the next frame: what comes next in the lane, where no queue has one.
+// Puts the next frame, and first queues the lane's next ones if no queue has one.
 fn put(rt: &impl Abort, alloc: Global, pair: &mut Pair) {
     if queue_len(&pair.one, A) == 0 && queue_len(&pair.one, B) == 0 {
         done(rt, alloc, pair, PUMP);
@@ -95,7 +95,7 @@ fn taken_twice(rt: &impl Abort, alloc: Global, pair: &mut Pair) {
     done(rt, alloc, pair, AGAIN_A);
 }
 
-// The repeated RTS is answered by a second CTS, which 21 takes before it goes on.
+// The repeated RTS is answered by a second CTS, which 21 takes before it continues.
 fn six_taken_twice(rt: &impl Abort, alloc: Global, pair: &mut Pair) {
     for _ in 0..6 {
         taken_twice(rt, alloc, pair);
@@ -123,7 +123,7 @@ fn close_on_the_way(rt: &impl Abort, alloc: Global, pair: &mut Pair) {
     open(rt, alloc, pair, next);
 }
 
-// The abort comes to 21.
+// 21 takes the abort.
 fn is_aborted(rt: &impl Abort, alloc: Global, pair: &mut Pair) {
     done(rt, alloc, pair, TAKE_B);
     done(rt, alloc, pair, TAKE_A);
@@ -171,7 +171,7 @@ fn all_calls(alloc: Global) -> Result<Vec<Call>, AllocError> {
     Ok(calls)
 }
 
-// The same without the first `from` of them.
+// The list without the first `from` calls.
 fn list(rt: &impl Abort, alloc: Global, from: usize) -> Vec<Call> {
     let mut calls = match all_calls(alloc) {
         Ok(calls) => calls,
@@ -182,13 +182,13 @@ fn list(rt: &impl Abort, alloc: Global, from: usize) -> Vec<Call> {
     calls
 }
 
-// What is left of the list is run: how that ended, and how many calls were done.
+// Runs the rest of the list; returns how that ended, and how many calls were done.
 fn run_from(rt: &impl Abort, alloc: Global, segment: &mut Segment, from: usize) -> (RunEnd, usize) {
     let ran = run(segment, list(rt, alloc, from));
     (ran.end, ran.replies.len())
 }
 
-// What is left of the list is run until no memory is refused.
+// Runs the rest of the list until no memory is refused.
 fn run_all(rt: &impl Abort, alloc: Global, segment: &mut Segment) {
     let (end, done) = run_from(rt, alloc, segment, 0);
     if end == RunEnd::OutOfMemory {
@@ -207,7 +207,7 @@ fn one_list_with_each_growth_refused(rt: HostRuntime) {
     ends(&rt, &pair, 6);
 }
 
-// Takes the frame that a drive put, where a station found no memory to take it.
+// Takes the frame that a drive put, if a station found no memory to take it.
 fn takes_rest(rt: &impl Abort, segment: &mut Segment) {
     if segment.waiting(A) > 0 {
         let _told = apply(rt, segment, TAKE_A);
@@ -224,7 +224,7 @@ fn drive_on(rt: &impl Abort, segment: &mut Segment) -> (DriveEnd, u64) {
     (driven.end, driven.turns)
 }
 
-// A drive goes on once more where it finds no memory.
+// Drives again if a drive finds no memory.
 fn drive_all(rt: &impl Abort, segment: &mut Segment) {
     let (end, turns) = drive_on(rt, segment);
     if end == DriveEnd::OutOfMemory {

@@ -12,7 +12,7 @@ fn done(rt: &impl Abort, segment: &mut Segment, call: Call) {
     let _events = is_done(rt, apply(rt, segment, call));
 }
 
-// Queues what comes next where no queue has a frame, and puts a frame; false where nothing is left to put.
+// Queues the next frames if no queue has one, and puts a frame; false if nothing is left to put.
 fn puts(rt: &impl Abort, segment: &mut Segment) -> bool {
     if queue_len(segment, A) > 0 {
         done(rt, segment, TRANSMIT_A);
@@ -34,7 +34,7 @@ fn puts(rt: &impl Abort, segment: &mut Segment) -> bool {
     }
 }
 
-// A message of 1,785 bytes, of which 35 misses one frame: that which it would have taken as its `missed`th.
+// A message of 1,785 bytes. 35 misses one frame: the one that would have been its `missed`th.
 fn miss_frame(rt: &impl Abort, alloc: Global, segment: &mut Segment, missed: u32) {
     open_and_send(rt, alloc, segment, B, 1785);
     for taken in 1..=274 {

@@ -24,7 +24,7 @@ fn take_frame(rt: &impl Abort, segment: &mut Segment) {
     is_quiet(rt, segment, TAKE_B);
 }
 
-// 21 announces nine bytes to all at tick 7, and its first packet may come 50 ticks later.
+// 21 announces nine bytes to all at tick 7, and its first packet may follow 50 ticks later.
 fn sleeps_until_the_packet(rt: &impl Abort, alloc: Global, segment: &mut Segment) {
     is_next_at(rt, segment, None);
     is_quiet(rt, segment, Call::Tick { n: 7 });

@@ -1,4 +1,4 @@
-//! Two segments that are asked the same. A call that finds no memory must leave every reader as it was and is made again: whichever one
+//! Two segments that get the same calls. A call that finds no memory must leave every reader unchanged and is made again: whichever one
 //! allocation is refused, one segment meets that refusal, the other meets none, and both answer alike.
 use crate::checks::{got, holds, same};
 use crate::segment::calls::*;
@@ -115,7 +115,7 @@ fn is_same_reply(one: &Reply, other: &Reply) -> bool {
     }
 }
 
-// The same call once more.
+// A copy of the call.
 fn copied(rt: &impl Abort, alloc: Global, call: &Call) -> Call {
     match call.copy(alloc) {
         Ok(copy) => copy,
@@ -123,7 +123,7 @@ fn copied(rt: &impl Abort, alloc: Global, call: &Call) -> Call {
     }
 }
 
-// A call is made, and again where it finds no memory, which changes nothing.
+// A call is made, and again if it finds no memory, which changes nothing.
 fn made(rt: &impl Abort, alloc: Global, segment: &mut Segment, call: &Call) -> Reply {
     let before = read(segment);
     match tried(segment, copied(rt, alloc, call)) {
@@ -135,14 +135,14 @@ fn made(rt: &impl Abort, alloc: Global, segment: &mut Segment, call: &Call) -> R
     }
 }
 
-// Two segments that are asked the same.
+// Two segments that get equal calls.
 #[derive(Drop)]
 pub(crate) struct Pair {
     pub(crate) one: Segment,
     pub(crate) other: Segment,
 }
 
-// Both make the call and answer alike; the answer.
+// Both make the call and answer alike; returns the answer.
 pub(crate) fn both(rt: &impl Abort, alloc: Global, pair: &mut Pair, call: Call) -> Reply {
     let reply = made(rt, alloc, &mut pair.one, &call);
     let other = made(rt, alloc, &mut pair.other, &call);

@@ -1,4 +1,4 @@
-//! What a call answers. A test ends where it answers something else.
+//! The reply of each call. A test ends if the reply is another one.
 use crate::checks::same;
 use crate::segment::calls::{A, PORT};
 use pgn_ids::Address;

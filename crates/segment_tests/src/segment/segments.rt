@@ -1,4 +1,4 @@
-//! Exchanges between stations 21 and 35. A test ends where a call finds no memory.
+//! Exchanges between stations 21 and 35. A test ends if a call finds no memory.
 use crate::checks::{got, holds, same};
 use crate::segment::calls::*;
 use crate::segment::replies::{
@@ -29,12 +29,12 @@ const PUMP: Call = Call::Pump {
     to: Address::GLOBAL,
 };
 
-// The call is done; what it tells.
+// The events of a call that is done.
 fn told(rt: &impl Abort, segment: &mut Segment, call: Call) -> Events {
     is_done(rt, apply(rt, segment, call))
 }
 
-// The call is done, and tells nothing.
+// The call is done, and has no event.
 pub(crate) fn is_quiet(rt: &impl Abort, segment: &mut Segment, call: Call) {
     same(rt, told(rt, segment, call).len(), 0);
 }
@@ -47,7 +47,7 @@ fn one_frame(rt: &impl Abort, segment: &mut Segment) {
     is_quiet(rt, segment, Call::Tick { n: 50 });
 }
 
-// The same of the last one: with it the message has its outcome and is given.
+// Moves the last frame: with it the message has its outcome and is given.
 fn last_frame(rt: &impl Abort, segment: &mut Segment) {
     tells_outcome(
         rt,
@@ -76,7 +76,7 @@ fn show_broadcast(rt: &impl Abort, segment: &Segment) {
     );
 }
 
-// The steps of a test are a function that owns nothing: what a test owns takes its part of the proof at each of them.
+// The steps of a test are a function that owns nothing: each step adds a part of the proof for all that a test owns.
 fn three_frames(rt: &impl Abort, segment: &mut Segment) {
     one_frame(rt, segment);
     one_frame(rt, segment);
@@ -104,7 +104,7 @@ fn are_frames(rt: &impl Abort, driven: &Driven, expected: &[(u32, [u8; 8])]) {
     }
 }
 
-// What the calls of a drive told, each of the two that told something.
+// The events of the two calls of a drive that had some.
 fn two_parts<'a>(rt: &impl Abort, driven: &'a Driven) -> (&'a Events, &'a Events) {
     match driven.events.parts() {
         [first, second] => (first, second),
@@ -311,7 +311,7 @@ fn is_left_behind(rt: &impl Abort, alloc: Global, segment: &mut Segment, other: 
     is_of(rt, segment, &new, false);
 }
 
-// It is that of another one on which the same calls were made.
+// The segment equals another one on which these calls were made.
 fn is_reached(rt: &impl Abort, alloc: Global, segment: &Segment, other: &mut Segment) {
     let midway = image(rt, segment);
     is_of(rt, segment, &midway, true);

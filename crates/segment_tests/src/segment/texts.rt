@@ -1,4 +1,4 @@
-//! Each line with its exact text. A test ends where memory is refused.
+//! Each line with its exact text. A test ends if memory is refused.
 use crate::checks::{got, same};
 use crate::segment::calls::*;
 use bus_frame::Frame;

@@ -1,5 +1,5 @@
-//! Calls on nodes of which a test only looks at the answer: their contracts are not carried through it. A call that finds no memory
-//! is made again, so a test comes to the same end whichever one allocation is refused.
+//! Calls on nodes, for tests that only look at the result: their contracts are not carried through the test. A call that finds no
+//! memory is made again, so a test has the same end whichever one allocation is refused.
 use crate::checks::{got, same};
 pub(crate) use crate::stations::{A, B, PORT, pgn};
 use bus_frame::{CanId, Frame};
@@ -101,7 +101,7 @@ pub(crate) fn next(node: &Node) -> Option<u64> {
     node.next_at()
 }
 
-// A frame that is looked at without room, or passed by, ends the test, which tells then that memory was refused.
+// A frame that is looked at without room, or passed by, ends the test, which then prints that memory was refused.
 pub(crate) fn feed(rt: &impl Abort, node: &mut Node, frame: Frame) -> Result<(), NodeError> {
     let fed = match node.feed(frame) {
         Err(NodeError::OutOfMemory) => node.feed(frame),
@@ -143,12 +143,12 @@ pub(crate) fn puts(rt: &impl Abort, node: &mut Node, shown: Shown) {
     same(rt, sent(node), Ok(()));
 }
 
-// A frame comes to a node.
+// A node takes a frame.
 pub(crate) fn takes(rt: &impl Abort, node: &mut Node, shown: Shown) {
     same(rt, feed(rt, node, frame_of(rt, shown)), Ok(()));
 }
 
-// The next frame of a node is this one, which comes to the other.
+// The next frame of a node is this one, and the other takes it.
 pub(crate) fn carries(rt: &impl Abort, from: &mut Node, to: &mut Node, shown: Shown) {
     puts(rt, from, shown);
     takes(rt, to, shown);
@@ -201,7 +201,7 @@ pub(crate) fn gives(rt: &impl Abort, node: &mut Node, expected: &[u8]) {
     same(rt, &room[9..], [0xAA; 3].as_slice());
 }
 
-// The port and the source of the message that is told next, and how many bytes it has.
+// The port and the source of the next message given, and how many bytes it has.
 fn given_len(node: &Node) -> Option<(PortId, Address, usize)> {
     match node.next_event() {
         Some(
@@ -216,7 +216,7 @@ fn given_len(node: &Node) -> Option<(PortId, Address, usize)> {
     }
 }
 
-// Nothing more is told.
+// There is no further event.
 pub(crate) fn is_quiet(rt: &impl Abort, node: &mut Node) {
     same(rt, node.take_bytes(&mut []), Err(TakeError::Nothing));
     same(rt, node.next_event().is_some(), false);

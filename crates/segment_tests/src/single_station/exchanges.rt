@@ -34,13 +34,14 @@ fn begins(rt: &impl Abort, a: &mut Node, b: &mut Node, to: Address) {
     same(rt, send(a, to, pgn(rt), &NINE), Ok(1));
 }
 
-// Nothing more is told by either.
+// Neither has a further event.
 fn are_quiet(rt: &impl Abort, a: &mut Node, b: &mut Node) {
     is_quiet(rt, a);
     is_quiet(rt, b);
 }
 
-// A test's steps are a function of their own, which owns nothing: what a test owns takes its part of the proof at each of them.
+// The steps of a test are a function of their own, which owns nothing: each step adds a part of the proof for all that
+// a test owns.
 fn broadcasts(rt: &impl Abort, a: &mut Node, b: &mut Node) {
     begins(rt, a, b, Address::GLOBAL);
     same(rt, next(a), Some(0));
@@ -65,7 +66,7 @@ fn broadcast(rt: HostRuntime) {
     broadcasts(&rt, &mut a, &mut b);
 }
 
-// The first packet comes once more: the message is given once.
+// The first packet is repeated: the message is given once.
 fn connects(rt: &impl Abort, a: &mut Node, b: &mut Node) {
     begins(rt, a, b, B);
     carries(rt, a, b, RTS);
@@ -87,7 +88,7 @@ fn connection(rt: HostRuntime) {
     connects(&rt, &mut a, &mut b);
 }
 
-// No CTS comes within T3.
+// No CTS arrives within T3.
 fn times_out(rt: &impl Abort, a: &mut Node) {
     same(rt, due(a), Some(1250));
     same(rt, next(a), Some(1250));

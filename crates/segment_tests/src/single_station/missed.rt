@@ -27,7 +27,7 @@ const MIXED: [u8; 20] = [1, 1, 1, 1, 1, 1, 1, 1, 1, 1, 1, 1, 1, 1, 2, 2, 2, 2, 2
 
 const TWO: [u8; 20] = [2; 20];
 
-// Of two messages of 21 three frames don't come: the last packet of the first, the second announcement, and the first packet of the
+// Three frames of two messages of 21 are lost: the last packet of the first, the second announcement, and the first packet of the
 // second.
 fn comes_before(rt: &impl Abort, node: &mut Node) {
     same(rt, open(rt, node, 20), PORT);
@@ -48,7 +48,7 @@ fn gives_twenty(rt: &impl Abort, node: &mut Node, expected: &[u8]) {
     same(rt, room.as_slice(), expected);
 }
 
-// The second message, sent once more, comes whole.
+// The second message, sent again, is received whole.
 fn comes_whole(rt: &impl Abort, node: &mut Node) {
     takes(rt, node, BAM);
     takes(rt, node, SECOND[0]);
@@ -57,14 +57,14 @@ fn comes_whole(rt: &impl Abort, node: &mut Node) {
     is_quiet(rt, node);
 }
 
-// A node that isn't told puts a message together that nobody sent.
+// A node that doesn't learn of the loss puts a message together that nobody sent.
 fn is_not_told(rt: &impl Abort, node: &mut Node) {
     comes_before(rt, node);
     comes_after(rt, node);
     gives_twenty(rt, node, &MIXED);
 }
 
-// One that is gives nothing of the two.
+// A node that learns of the loss gives neither message.
 fn is_told(rt: &impl Abort, node: &mut Node) {
     comes_before(rt, node);
     misses(rt, node);

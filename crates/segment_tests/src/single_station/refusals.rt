@@ -62,7 +62,7 @@ fn no_address_of_a_node(rt: HostRuntime) {
     same(&rt, refused, Some(NewRefused::BadAddresses));
 }
 
-// A message is cancelled, and then there is none any more.
+// A message is cancelled, and then there is no other.
 fn cancels(rt: &impl Abort, a: &mut Node) {
     same(rt, send(a, B, pgn(rt), &NINE), Ok(1));
     same(rt, cancel(a, B, 1), Ok(()));

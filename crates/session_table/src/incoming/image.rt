@@ -8,13 +8,13 @@ use responder::ReceiverImage;
 use std::alloc::{AllocError, Global};
 use std::marker::Model;
 
-/// What an `Incoming` stands at, as plain data: unlike it, this needn't be spent.
+/// The value of an `Incoming`, as plain data, which needn't be spent.
 #[derive(Debug, Drop)]
 pub struct IncomingImage {
     state: StateImage,
 }
 
-/// What the state of each kind stands at.
+/// The value of the state of each kind.
 #[derive(Debug, Drop)]
 enum StateImage {
     Broadcast(BamInImage),
@@ -32,7 +32,7 @@ impl Model for IncomingImage {
 }
 
 impl Incoming {
-    /// What it stands at, as plain data.
+    /// Its value, as plain data.
     pub fn image(&self, alloc: Global) -> Result<IncomingImage, AllocError>
         ensures { IfOk result (λ image. image ≡ self.now) }
     {

@@ -21,8 +21,8 @@ fn due_at<T>(places: &Slab<Place<T>>, at: usize) -> Option<u64>
 }
 
 impl<T> SessionTable<T> {
-    /// The tick from which on a timer is due: that of the earliest. None where there is no session, and where none is due up
-    /// to the last tick. Held keys are passed over.
+    /// The tick from which on the earliest timer is due. None if there is no session, or if no timer is due up to the last
+    /// tick. Held keys are passed over.
     pub fn next_due_at(&self) -> Option<u64>
         ensures { IsDueFrom (λ now. is_some (first_due self.now now)) result }
     {

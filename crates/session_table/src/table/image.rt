@@ -1,4 +1,4 @@
-//! What stands in a table as plain data.
+//! The content of a table as plain data.
 ghost use Rattle.std.specs.Prelude.{◌≡◌, IfOk};
 ghost use Rattle.std.specs.FinMap as map;
 ghost use Rattle.std.specs.List.{IsDistinct};
@@ -14,8 +14,7 @@ use slab::Slab;
 use std::alloc::{AllocError, Global};
 use std::marker::Model;
 
-/// What stands in a `SessionTable`, as plain data: its keys, each with what stands there, which is nothing while the key is
-/// held.
+/// The content of a `SessionTable`, as plain data: its keys, each with its state, or with nothing while the key is held.
 pub struct TableImage<T> {
     entries: Vec<(Key, Option<(T, IncomingImage)>)>,
 }
@@ -44,7 +43,7 @@ impl<T: Drop> Drop for TableImage<T> {
 }
 
 impl<T: Copy> SessionTable<T> {
-    /// What stands in it, as plain data.
+    /// Its content, as plain data.
     pub fn image(&self, alloc: Global) -> Result<TableImage<T>, AllocError>
         ensures { IfOk result (λ image. image ≡ self.now) }
     {
@@ -58,7 +57,7 @@ impl<T: Copy> SessionTable<T> {
 }
 
 impl<T> TableImage<T> {
-    /// The keys, each once, with what stands there, in whatever order.
+    /// The keys, each once, with their states, in whatever order.
     pub fn entries(&self) -> &[(Key, Option<(T, IncomingImage)>)]
         ensures value { map.from_entries result.now ≡ self.now }
         ensures distinct { IsDistinct key_eq (keys_of result.now) }
@@ -67,7 +66,7 @@ impl<T> TableImage<T> {
     }
 }
 
-// What stands in a place, as plain data.
+// The content of a place, as plain data.
 fn content_image<T: Copy>(
     alloc: Global,
     places: &Slab<Place<T>>,

@@ -59,7 +59,7 @@ fn go_by(rt: &impl Wait, shared: &SharedSegment, hand: &Hand, rounds: u64) {
     }
 }
 
-// The segment's clock stands there after some turns.
+// The segment's clock is at that tick after some turns.
 fn stands(rt: &(impl Abort + Wait), shared: &SharedSegment, hand: &Hand, at: u64) {
     go_by(rt, shared, hand, 3);
     same(rt, shared.lock(rt).segment().now(), at);
@@ -100,7 +100,8 @@ fn outcome(rt: &impl Abort, client: &mut Client) -> Option<Outcome> {
     got(rt, client.try_outcome()).map(|note| note.outcome)
 }
 
-/// More turns than a bus whose clock goes on by 50 ticks at rest takes for the 1,250 that the sender waits.
+/// More turns than the bus needs for the 1,250 ticks that the sender waits, if its clock advances by 50 ticks a turn at
+/// rest.
 const LONG: u64 = 40;
 
 // The foreign node answers when many turns of each worker have passed, and one tick before the sender's timer is due.
@@ -208,7 +209,8 @@ fn start_workers<'s, E, T: Threads + Wait + std::time::Clock + Sync>(
     Ok(())
 }
 
-// Wakes the workers for a message that was submitted, and looks for its outcome for a while; again where memory was refused meanwhile.
+// Wakes the workers for a message that was submitted, and looks for its outcome for a while; again if memory was
+// refused meanwhile.
 fn is_noted_after_a_wake<T: Wait + Abort + std::time::Clock>(
     rt: &T,
     shared: &SharedSegment,
@@ -226,7 +228,7 @@ fn is_noted_after_a_wake<T: Wait + Abort + std::time::Clock>(
     false
 }
 
-// The workers sleep already as the message is submitted, or come to it at their first turn.
+// The workers sleep already as the message is submitted, or find it at their first turn.
 fn submit_and_wake<T: Wait + Abort + std::time::Clock>(
     rt: &T,
     alloc: Global,

@@ -18,7 +18,8 @@ fn fill(rt: &impl Abort, live: &mut Live, calls: usize) {
     }
 }
 
-// Counts the pieces and their calls. It gets the lock as it is given one, for which it would wait for ever if a worker kept it.
+// Counts the pieces and their calls. It takes the lock when it is given one: if a worker kept the lock, it would wait
+// for ever.
 struct Counter<'a, T> {
     rt: &'a T,
     shared: &'a SharedSegment,
@@ -83,7 +84,7 @@ fn end_at_a_full_record(rt: &(impl Abort + Wait), shared: &SharedSegment) {
     same(rt, gate.passed(), passed.saturating_add(1));
 }
 
-// A worker that cuts hands all calls out, and goes on.
+// A worker that cuts hands all calls out, and continues.
 fn cut_a_full_record(rt: &(impl Abort + Wait), shared: &SharedSegment) {
     let gate = Open::new();
     let keeper = Counter::new(rt, shared);

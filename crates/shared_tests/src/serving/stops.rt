@@ -10,7 +10,7 @@ use std::process::Abort;
 use std::sync::Wait;
 use std::sync::atomic::{AtomicU64, Ordering};
 
-// Stops the segment at a turn of the worker that it holds meanwhile, and counts how many it lets pass.
+// Stops the segment at a turn of the worker that it holds at its gate, and counts how many it lets pass.
 struct Stopping<'a, T> {
     rt: &'a T,
     shared: &'a SharedSegment,
@@ -52,7 +52,7 @@ impl Clock for Nobody {
     }
 }
 
-// The worker that its gate holds ends in the turn for which the gate lets it go.
+// A worker that is held at its gate ends in the turn for which the gate lets it go.
 fn stop_from_a_gate(rt: &(impl Abort + Wait), shared: &SharedSegment) {
     let gate = Stopping {
         rt,

@@ -1,4 +1,4 @@
-//! Single steps of tests that go on where one allocation is refused: a step that finds no memory changes nothing, and is made again.
+//! Single steps of tests that continue when one allocation is refused: a step that finds no memory changes nothing, and is made again.
 use super::steps::*;
 use pgn_ids::Address;
 use segment_law::Counts;
@@ -65,7 +65,7 @@ fn tried_cut(live: &mut Live) -> Result<Piece, NotMade> {
     live.cut()
 }
 
-// How many calls pieces and the stored ones are, or the pieces, which come back.
+// How many calls pieces and the stored ones are; or the pieces, which are handed back.
 fn tried_join(live: &Live, pieces: Vec<Piece>) -> Result<usize, RejoinRefused> {
     match rejoin(pieces, live) {
         Ok(calls) => Ok(calls.len()),
@@ -127,7 +127,7 @@ fn told(rt: &impl Abort, reply: Reply) -> usize {
     }
 }
 
-// A call is made; how many events it tells.
+// A call is made; returns how many events it has.
 pub(super) fn made_again(rt: &impl Abort, live: &mut Live, call: &WorkerCall) -> usize {
     let before = read(live);
     match tried(live, *call) {
@@ -139,8 +139,7 @@ pub(super) fn made_again(rt: &impl Abort, live: &mut Live, call: &WorkerCall) ->
     }
 }
 
-// So many bytes are submitted, and those that come back once more where they come back for want of memory: the ticket, or why they are
-// refused.
+// Submits so many bytes, and submits them again if they are handed back for want of memory: the ticket, or why they are refused.
 pub(super) fn submitted_again(
     rt: &impl Abort,
     alloc: Global,
@@ -238,7 +237,7 @@ pub(super) fn both_again(
     pieces
 }
 
-// How many calls the pieces and the stored ones are. The pieces come back where memory is refused, and are joined then.
+// How many calls the pieces and the stored ones are. The pieces are handed back if memory is refused, and are joined then.
 pub(super) fn joined_again(rt: &impl Abort, live: &Live, pieces: Vec<Piece>) -> usize {
     match tried_join(live, pieces) {
         Ok(calls) => calls,

@@ -1,4 +1,4 @@
-//! What a segment and its ends keep after cuts: what was read is let go, and what wasn't is there still.
+//! What a segment and its ends keep after cuts: what was read is dropped, and what wasn't is still there.
 use super::steps::*;
 use super::{give_one, receive_one, refuse_client};
 use segment_shared::{Client, Inbox, Live, PortId, Refusal};
@@ -23,7 +23,7 @@ fn live_keeps(
     same(rt, live.notes_of(0).map(<[_]>::len), Some(notes.1));
 }
 
-// The same of a client's submissions and notes.
+// What a client keeps of its submissions and notes.
 fn client_keeps(rt: &impl Abort, client: &Client, submitted: (u64, usize), read: (u64, usize)) {
     same(rt, client.submitted_gone(), submitted.0);
     same(rt, client.submitted().len(), submitted.1);
@@ -31,7 +31,7 @@ fn client_keeps(rt: &impl Abort, client: &Client, submitted: (u64, usize), read:
     same(rt, client.read().len(), read.1);
 }
 
-// The same of an inbox.
+// What an inbox keeps of its deliveries.
 fn inbox_keeps(rt: &impl Abort, inbox: &Inbox, gone: u64, kept: usize) {
     same(rt, inbox.gone(), gone);
     same(rt, inbox.received().len(), kept);
@@ -42,7 +42,7 @@ fn read_one(rt: &impl Abort, inbox: &mut Inbox, sender: &mut Client) {
     holds(rt, note(rt, sender).is_some());
 }
 
-// Two messages are given, of which one is read before the cut.
+// Two messages are given, one of which is read before the cut.
 fn cut_first(
     rt: &impl Abort,
     alloc: Global,
@@ -97,7 +97,7 @@ fn what_was_read_is_let_go_after_a_cut(rt: HostRuntime) {
     drop(live);
 }
 
-// Of three deliveries one is received before the cut.
+// One of three deliveries is received before the cut.
 fn close_after(
     rt: &impl Abort,
     alloc: Global,

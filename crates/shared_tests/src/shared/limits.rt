@@ -214,14 +214,15 @@ fn no_more_calls_are_stored(rt: HostRuntime) {
     drop(live);
 }
 
-// Node 80, which is no station, asks to send 35 the nine bytes of a message in two packets: where no port takes it, 35 answers with an abort.
+// Node 80, which is no station, asks to send 35 the nine bytes of a message in two packets: if no port takes it, 35
+// answers with an abort.
 fn rts_of_80(rt: &impl Abort) -> WorkerCall {
     let id = got(rt, CanId::new(0x1CEC_3580));
     let frame = got(rt, Frame::new(id, &[16, 9, 0, 2, 0xFF, 0xCA, 0xFE, 0]));
     WorkerCall::Inject { frame }
 }
 
-// All three stations take as many requests as the queue of 35 holds frames, and 35 answers each.
+// All three stations take as many requests as 35's queue holds frames, and 35 answers each.
 fn fill_queue(rt: &impl Abort, live: &mut Live) {
     for _ in 0..64 {
         made(rt, live, rts_of_80(rt));

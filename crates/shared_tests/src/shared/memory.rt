@@ -1,4 +1,4 @@
-//! Exchanges by single calls on a shared segment, whichever one allocation is refused: they come to the same end.
+//! Exchanges by single calls on a shared segment, which have the same end whichever one allocation is refused.
 use super::EXCHANGE;
 use super::again::*;
 use super::steps::*;
@@ -8,7 +8,7 @@ use std::alloc::Global;
 use std::process::Abort;
 use tp_wire::Outcome;
 
-// The first message is given, and its outcome told.
+// The first message is given, and its outcome read.
 fn exchange_again(rt: &impl Abort, live: &mut Live) {
     let mut events = 0usize;
     for call in &EXCHANGE {
@@ -33,7 +33,7 @@ fn accepts(rt: &impl Abort, live: &mut Live, sender: &Client, expected: Accepted
     same(rt, accepted_again(rt, live, sender), expected);
 }
 
-// To whom how many bytes aren't to be sent, and why.
+// Messages that aren't to be sent: the destination, how many bytes, and why.
 const UNSENDABLE: [(Address, u8, Refusal); 3] = [
     (Address::NULL, 9, Refusal::NoSuchStation),
     (A, 9, Refusal::SameStation),
@@ -55,7 +55,8 @@ fn fill_ring(rt: &impl Abort, alloc: Global, sender: &mut Client) {
     submits(rt, alloc, sender, Err(Refusal::RingFull));
 }
 
-// As many messages are accepted as the lane holds: the Send of the one behind them is refused each time, and it stays in front.
+// As many messages are accepted as the lane holds: the Send of the one behind them is refused each time, and it stays
+// in front.
 fn fill_lane(rt: &impl Abort, live: &mut Live, sender: &Client) {
     for number in 1..33u64 {
         accepts(rt, live, sender, Accepted::Sent(number));
@@ -103,7 +104,7 @@ fn first_piece(rt: &impl Abort, alloc: Global, live: &mut Live, sender: &mut Cli
     cut_again(rt, live)
 }
 
-// The calls by which it is given and noted are stored, and then cut off.
+// The calls that give and note it are stored, and then cut off.
 fn second_piece(rt: &impl Abort, live: &mut Live) -> Piece {
     exchange_again(rt, live);
     same(rt, live.calls().len(), 16);

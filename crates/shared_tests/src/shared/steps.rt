@@ -1,4 +1,4 @@
-//! Single steps of tests: each ends the test where memory is refused, or where it isn't answered as it is meant to be.
+//! Single steps of tests: each ends the test if memory is refused, or if the answer isn't the expected one.
 pub(super) use crate::calls::*;
 pub(super) use crate::checks::{got, holds, same};
 use pgn_ids::Address;
@@ -32,8 +32,8 @@ pub(super) fn client(rt: &impl Abort, live: &mut Live, station: Address) -> Clie
     got(rt, live.attach(station))
 }
 
-// A test's steps are functions of their own, which own nothing: what a test owns is carried through the proof of each of its steps, which
-// took twice as long where they stood in the test. So a segment, its ends and the steps are of one function each.
+// The steps of a test are functions of their own, which own nothing. What a test owns is carried through the proof of each step in the
+// test itself, which took twice as long. So a segment, its ends and the steps have one function each.
 pub(super) fn port_and_client(rt: &impl Abort, live: &mut Live) -> (Inbox, Client) {
     let inbox = port(rt, live);
     let sender = client(rt, live, A);
@@ -49,7 +49,7 @@ pub(super) fn accept(rt: &impl Abort, live: &mut Live, client: &Client) -> Accep
     got(rt, live.accept(client.id()))
 }
 
-// A call is made; how many events it tells.
+// A call is made; returns how many events it has.
 pub(super) fn made(rt: &impl Abort, live: &mut Live, call: WorkerCall) -> usize {
     match got(rt, live.apply(call)) {
         Reply::Done(told) => told.len(),
@@ -83,12 +83,12 @@ fn handed_out(rt: &impl Abort, closed: Result<Closed, NotMade>) -> Result<usize,
     }
 }
 
-// The same of the closing of a port.
+// Closes a port; returns how many deliveries are handed out, or why it is refused.
 pub(super) fn close(rt: &impl Abort, live: &mut Live, inbox: &mut Inbox) -> Result<usize, Refusal> {
     handed_out(rt, live.close_on(inbox))
 }
 
-// The same of one that a thread asks for.
+// The result of a closing that a thread asked for, as `close` returns it.
 pub(super) fn closed(rt: &impl Abort, closed: Result<Closed, PortKept>) -> Result<usize, Refusal> {
     match closed {
         Ok(closed) => handed_out(rt, Ok(closed)),

@@ -20,8 +20,8 @@ const AHEAD: u64 = 16;
 /// How often a client or an inbox looks before it is asked whether the workers have ended.
 const LOOKS: u64 = 64;
 
-/// Holds each worker at its first turn until all have come, and at each later one while it is ahead of the others: a turn with nothing
-/// to do takes next to no time, so that a worker would else be through all its turns before one that has to wait for a processor made
+/// Holds each worker at its first turn until all are there, and at each later one while it is ahead of the others. A turn with nothing
+/// to do takes next to no time: without this gate a worker would use up all its turns before one that has to wait for a processor made
 /// its first. Once one has ended, or not all could be started, it lets all pass, so that none waits for a thread that isn't there.
 #[derive(Drop)]
 struct Pace {
@@ -96,7 +96,7 @@ struct Ends {
     inbox: Inbox,
 }
 
-// Whether a note came before the workers ended.
+// Whether a note arrived before the workers ended.
 fn is_noted(rt: &(impl Abort + Wait), pace: &Pace, client: &mut Client) -> bool {
     for _ in 0..u64::MAX {
         let last = pace.is_open();
@@ -110,7 +110,7 @@ fn is_noted(rt: &(impl Abort + Wait), pace: &Pace, client: &mut Client) -> bool 
     false
 }
 
-// Whether a delivery came before the workers ended.
+// Whether a delivery arrived before the workers ended.
 fn is_given(rt: &(impl Abort + Wait), pace: &Pace, inbox: &mut Inbox) -> bool {
     for _ in 0..u64::MAX {
         let last = pace.is_open();
@@ -124,7 +124,7 @@ fn is_given(rt: &(impl Abort + Wait), pace: &Pace, inbox: &mut Inbox) -> bool {
     false
 }
 
-// Both clients submit, and each of the notes and deliveries of it comes.
+// Both clients submit, and each of the notes and deliveries arrives.
 fn talk(rt: &(impl Abort + Wait), alloc: Global, pace: &Pace, ends: &mut Ends) {
     let one = bytes(rt, alloc, 1, 9);
     let other = bytes(rt, alloc, 0x11, 10);
@@ -152,7 +152,7 @@ fn start_workers<'s, E, T: Threads + Wait + Sync>(
     Ok(())
 }
 
-// The talk beside the workers. Where not all of their threads could be started there is none.
+// The talk beside the workers. If not all of their threads could be started there is none.
 fn talk_by_threads<T: Threads + Wait + Abort + Sync>(
     rt: &T,
     alloc: Global,
@@ -180,7 +180,7 @@ fn ends_of(rt: &impl Abort, live: &mut Live) -> Ends {
     }
 }
 
-// Each worker came to its first turn before any went on.
+// Each worker was at its first turn before any continued.
 fn has_crossed(rt: &impl Abort, pace: &Pace) {
     same(rt, pace.missed.load(Ordering::SeqCst), 0);
 }
@@ -208,7 +208,7 @@ fn leave_nothing(rt: &impl Abort, alloc: Global, live: &mut Live, ends: Ends) {
     leaves(rt, alloc, live, clients, inbox, nothing);
 }
 
-// The two clients talk by threads, and nothing is left; the segment, and what its workers came to.
+// The two clients talk by threads, and nothing is left. Returns the segment, and how its workers ended.
 fn talk_through<T: Threads + Wait + Abort + Sync>(rt: &T, alloc: Global) -> (Live, Pace) {
     let mut live = three(rt, alloc);
     let mut ends = ends_of(rt, &mut live);

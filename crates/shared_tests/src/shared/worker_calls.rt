@@ -1,4 +1,4 @@
-//! Calls of a worker that no turn makes: a port is paused and goes on, a frame is taken once more, and frames were missed.
+//! Calls of a worker that no turn makes: a port is paused and resumed, a frame is taken again, and frames were missed.
 use super::steps::*;
 use segment_shared::{Accepted, Client, Inbox, Live, PortId, Refusal, WorkerCall};
 use std::alloc::Global;
@@ -29,7 +29,7 @@ fn missed(n: u64) -> WorkerCall {
     WorkerCall::Overrun { station: R, n }
 }
 
-// These calls are made one after another; how many events they tell.
+// These calls are made one after another; returns how many events they have.
 fn all_made(rt: &impl Abort, live: &mut Live, calls: &[WorkerCall]) -> usize {
     let mut events = 0usize;
     for call in calls {

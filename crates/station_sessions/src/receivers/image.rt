@@ -9,7 +9,7 @@ use session_table::{Incoming, IncomingImage, Key, TableImage};
 use std::alloc::AllocError;
 use std::marker::Model;
 
-/// What the `Receivers` of a station stand at, as plain data.
+/// The value of the `Receivers` of a station, as plain data.
 pub struct ReceiversImage {
     table: TableImage<PortSet>,
 }
@@ -33,7 +33,7 @@ impl Drop for ReceiversImage {
 }
 
 impl Receivers {
-    /// What they stand at, as plain data.
+    /// Their value, as plain data.
     pub fn image(&self) -> Result<ReceiversImage, AllocError>
         ensures { IfOk result (λ image. image ≡ self.now) }
     {

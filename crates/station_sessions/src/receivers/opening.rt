@@ -94,7 +94,7 @@ fn first_join(alloc: Global, kind: Kind, size: u32, flow: Flow) -> Result<Join, 
     }
 }
 
-// What an RTS asks for: a session of a kind with its sender, of which a CTS may grant `most` packets.
+// The session that an RTS asks for: its kind, its sender, and how many packets a CTS may grant (`most`).
 struct Asked {
     kind: Kind,
     from: Address,
@@ -193,11 +193,10 @@ impl Receivers {
         }
     }
 
-    /// A frame that opens a session is taken by the station of address `own` at tick `now`: an RTS or a BAM of another node.
-    /// Any other is passed over. The new session takes the place of an older one of its kind from the same source, which ends
-    /// without an abort, also where the new one is refused. It opens for the ports that receive its message; a connection is
-    /// answered by a CTS, a hold or an abort, which is queued behind the frames of a queue. `room` says whether there is room for it.
-    /// Nothing is told.
+    /// The station of address `own` takes a frame that opens a session at tick `now`: an RTS or a BAM of another node. Any other is
+    /// passed over. The new session replaces an older one of its kind from its source, which ends without an abort, even if the new
+    /// one is refused. It opens for the ports that receive its message. A connection is answered by a CTS, a hold or an abort, which
+    /// is queued behind the frames of a queue. `room` says whether there is room for it. There is no event.
     ///
     /// Want of memory changes nothing. Without room none is asked for.
     pub fn open(

@@ -1,4 +1,4 @@
-//! What a run came to, and a gate that holds nobody.
+//! How a run ended, and a gate that holds nobody.
 use crate::checks::{got, holds, same};
 use bus_live::{Cause, Gate, LiveFault, LiveRan};
 use std::alloc::Global;

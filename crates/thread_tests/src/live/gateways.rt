@@ -55,8 +55,8 @@ fn run_once<T: Threads + Wait + Sync, G: Gate + Sync>(
     run_relay(rt, alloc, &mut reader, writer, gate, turns)
 }
 
-// Whether a run may have ended for want of memory, for which alone a vector refuses a write. A relay that finds none stops, and then not
-// all came that was to come, as where the turns ran out, which many turns don't.
+// Whether a run may have ended for want of memory, the only reason for which a vector refuses a write. A relay that finds none stops,
+// and then some messages are missing, as when the turns run out; but many turns don't run out.
 fn may_lack_memory(ran: RelayRan, turns: u64) -> bool {
     match ran.fault {
         Some(RelayFault::Script(fault)) => {
@@ -66,7 +66,7 @@ fn may_lack_memory(ran: RelayRan, turns: u64) -> bool {
     }
 }
 
-// Runs a script; once more where memory was refused.
+// Runs a script, and again if memory was refused.
 fn run_past<T: Threads + Wait + Sync>(
     rt: &T,
     alloc: Global,
@@ -113,7 +113,7 @@ fn crossed<T: Threads + Wait + Sync>(rt: &T, alloc: Global, text: &mut Vec<u8>) 
     (ran, gate.missed.load(Ordering::SeqCst))
 }
 
-// The same; once more where memory was refused.
+// `crossed`, and again if memory was refused.
 fn crossed_past<T: Threads + Wait + Sync>(
     rt: &T,
     alloc: Global,

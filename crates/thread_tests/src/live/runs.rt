@@ -41,7 +41,7 @@ const SCRIPT: &str =
 const TEXT: &str =
     "port 35.1\n  given 35.1 21 35 0FECA 9 010203040506070809\n  given 35.1 22 35 0FECA 10 1112131415161718191A\noutcome 21 35 1 Acknowledged\noutcome 22 35 1 Acknowledged\n";
 
-// A run, of which a test only looks at what it came to and wrote.
+// A run, for tests that only look at its end and its output.
 fn run_from<T: Threads + Wait + Sync, R: BufRead, W: Write, G: Gate + Sync>(
     rt: &T,
     alloc: Global,
@@ -65,7 +65,7 @@ fn run_once<T: Threads + Wait + Sync, W: Write, G: Gate + Sync>(
     run_from(rt, alloc, &mut reader, writer, gate, turns)
 }
 
-// Runs a script; once more where memory was refused, for want of which alone a vector refuses a write.
+// Runs a script, and again if memory was refused, the only reason for which a vector refuses a write.
 fn run_past<T: Threads + Wait + Sync, G: Gate + Sync>(
     rt: &T,
     alloc: Global,
@@ -202,7 +202,7 @@ impl Write for Full {
     }
 }
 
-// Runs the script into it; once more where memory was refused.
+// Runs the script into it, and again if memory was refused.
 fn run_full<T: Threads + Wait + Sync>(rt: &T, alloc: Global) -> LiveRan {
     let ran = run_once(rt, alloc, SCRIPT, &mut Full {}, &OpenGate {}, 1);
     if !ended_by(ran, Cause::OutOfMemory) {

@@ -1,5 +1,5 @@
-//! How a relay ends that has no end of turns: at its limit, with one of its sides, and where it is stopped. Each of these relays ends too
-//! where no second thread can be made, and comes to the same.
+//! The ends of a relay whose turns don't run out: at its limit, with one of its sides, and when it is stopped. Each of these relays also
+//! ends, in the same way, if no second thread can be made.
 use crate::checks::{got, holds, same};
 use crate::relay::ends::*;
 use message_events::Bytes;
@@ -51,7 +51,7 @@ fn carry<R: Threads + Wait + Abort + Sync, G: Gate + Sync>(
     got(rt, run_whole(rt, alloc, inbox, client, job, gate, stop))
 }
 
-// So many were pulled, pushed and left, and for these reasons the sides ended. Others are want of memory, where one of them lacked it.
+// So many were pulled, pushed and left, and for these reasons the sides ended, or for want of memory if one of them lacked it.
 fn is_ended(rt: &impl Abort, carried: &Relayed, meant: [u64; 3], pulling: Ended, pushing: Ended) {
     has_memory(rt, carried);
     got(rt, counts(carried, meant));
@@ -79,7 +79,7 @@ fn a_relay_ends_at_its_limit(rt: HostRuntime) {
     drop(ends);
 }
 
-// The only message is too short to be submitted, and no other comes: the receiving ends too.
+// The only message is too short to be submitted, and no other arrives: the receiving ends too.
 fn carry_a_short_one<R: Threads + Wait + Abort + Sync>(rt: &R, alloc: Global, ends: &mut Ends) {
     give_all(rt, alloc, ends, 1, 8);
     let carried = carry(rt, alloc, ends, &job(5, NO_END), &Open {}, None);
@@ -120,7 +120,7 @@ fn a_relay_ends_after_its_turns(rt: HostRuntime) {
     drop(ends);
 }
 
-/// How many turns a side has made where something else has ended the other one.
+/// The turn of a side by which something else must have ended the other one.
 const FAR_TOO_MANY: u64 = 100_000;
 
 // Sets it once the side that receives has filled the line, the other one has tried its message twice behind that, and the first has made
@@ -257,7 +257,7 @@ fn is_stopped(ended: Ended) -> bool {
     ended == Ended::Stopped || ended == Ended::OtherEnded
 }
 
-// Two messages come of three, so that nothing but the other thread ends the relay.
+// Two messages of three arrive, so that nothing but the other thread ends the relay.
 fn stop_beside<R: Threads + Wait + Abort + Sync>(rt: &R, alloc: Global, ends: &mut Ends) {
     give_all(rt, alloc, ends, 2, 9);
     let stop = Stop::new();
@@ -288,10 +288,10 @@ fn another_thread_stops_a_relay(rt: HostRuntime) {
     drop(ends);
 }
 
-/// How often a side looks at its first turn whether the other one has come.
+/// How often a side looks at its first turn whether the other one is there.
 const FIRST_LOOKS: u64 = 10_000_000;
 
-// Holds both sides at their first turns until both have come, or the looks are used up.
+// Holds both sides at their first turns until both are there, or the looks are used up.
 #[derive(Drop)]
 struct Meeting {
     come: AtomicU64,
@@ -314,7 +314,7 @@ impl Gate for Meeting {
     }
 }
 
-// Where no thread could be made for a side, one came after the other: want of memory too.
+// If no thread could be made for a side, the sides ran one after the other: want of memory too.
 fn has_crossed(meeting: &Meeting) -> Result<(), AllocError> {
     if meeting.missed.load(Ordering::SeqCst) > 0 {
         return Err(AllocError);

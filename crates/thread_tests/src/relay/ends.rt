@@ -23,7 +23,7 @@ pub(crate) const GATEWAY: Address = Address(0x40);
 
 pub(crate) const FAR: Address = Address(0x50);
 
-/// How many turns each worker has, where they are to suffice.
+/// How many turns each worker has, if they are to suffice.
 pub(crate) const TURNS: u64 = 2_000;
 
 const PORT: PortId = PortId {
@@ -93,7 +93,7 @@ fn route(rt: &impl Abort, to: Address) -> Route {
     got(rt, Route::new(to))
 }
 
-/// Where a relay of a test sends to, how many messages it receives at most, and how many turns each worker has.
+/// The destination of a test's relay, how many messages it receives at most, and how many turns each worker has.
 #[derive(Drop)]
 pub(crate) struct Job {
     pub(crate) to: Address,
@@ -119,7 +119,7 @@ fn run<R: Threads + Wait + Abort + Sync, G: Gate + Sync>(
     }
 }
 
-/// A relay by which no message is lost, whatever it came to, until it is stopped, where it can be.
+/// Runs a relay that loses no message, however it ends, until it is stopped, if it can be.
 pub(crate) fn run_whole<R: Threads + Wait + Abort + Sync, G: Gate + Sync>(
     rt: &R,
     alloc: Global,
@@ -148,20 +148,20 @@ pub(crate) fn relayed<R: Threads + Wait + Abort + Sync>(
 ) -> Result<Relayed, AllocError> {
     let pace = Pace::new();
     let relayed = run_whole(rt, alloc, inbox, client, job, &pace, None);
-    // Where no thread could be made for a worker, one came after the other: want of memory too.
+    // If no thread could be made for a worker, the workers ran one after the other: want of memory too.
     if job.turns > 0 && !pace.has_crossed() {
         return Err(AllocError);
     }
     relayed
 }
 
-// What stands behind so many.
+// The elements behind so many.
 fn behind<'a, T>(rt: &impl Abort, all: &'a [T], many: usize) -> &'a [T] {
     holds(rt, many <= all.len());
     &all[many..]
 }
 
-// What came is what went to a station, and then what is left.
+// What was received is what was sent to a station, and then what is left.
 fn is_whole(
     rt: &impl Abort,
     came: &[Delivery],

@@ -9,10 +9,11 @@ const AHEAD: u64 = 16;
 /// How often a worker that is ahead looks again, at each turn.
 const LOOKS: u64 = 2_000;
 
-/// How often a worker looks at its first turn whether the other has come.
+/// How often a worker looks at its first turn whether the other is there.
 const FIRST_LOOKS: u64 = 10_000_000;
 
-/// Holds each worker at its first turn until both have come, and at each later one for a while where it is ahead of the other.
+/// Holds each worker at its first turn until both are there, and at each later one for a while if it is ahead of the
+/// other.
 #[derive(Drop)]
 pub(crate) struct Pace {
     pulling: AtomicU64,
@@ -29,7 +30,7 @@ impl Pace {
         }
     }
 
-    /// Whether both workers came to their first turns before either of them went on.
+    /// Whether both workers were at their first turns before either of them continued.
     pub(crate) fn has_crossed(&self) -> bool {
         self.pulling.load(Ordering::SeqCst) > 0
             && self.pushing.load(Ordering::SeqCst) > 0
@@ -37,7 +38,7 @@ impl Pace {
     }
 }
 
-// Waits until the other worker has come to this turn, or the looks are used up; whether it has come.
+// Waits until the other worker is at this turn, or the looks are used up; returns whether it is.
 fn has_come(other: &AtomicU64, least: u64, looks: u64) -> bool {
     for _ in 0..looks {
         if other.load(Ordering::SeqCst) >= least {

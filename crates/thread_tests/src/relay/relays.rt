@@ -11,7 +11,7 @@ use std::process::Abort;
 use std::sync::Wait;
 use std::thread::Threads;
 
-// The first byte of a message, by which a test knows it.
+// The first byte of a message, which a test knows it by.
 fn starts_with(rt: &impl Abort, bytes: &Bytes, first: u8) {
     holds(rt, bytes.len() > 0);
     same(rt, bytes.as_slice()[0], first);
@@ -130,7 +130,7 @@ fn carry_up_to_a_short_one<R: Threads + Wait + Abort + Sync>(
     drop(carried);
 }
 
-// Two are submitted, and the third is left, with what was received behind it meanwhile.
+// Two are submitted, and the third is left, with those received behind it.
 fn is_up_to_a_short_one(carried: &Relayed) -> Result<(), AllocError> {
     if carried.pushed != 2 || carried.pulled < 3 {
         return Err(AllocError);
@@ -233,7 +233,7 @@ fn submit_all(rt: &impl Abort, client: &mut Client, left: Vec<Delivery>) {
     }
 }
 
-// Where memory is refused, the next relay goes on.
+// If memory is refused, the next relay continues.
 fn carry_in_parts<R: Threads + Wait + Abort + Sync>(rt: &R, alloc: Global, ends: &mut Ends) {
     give_nines(rt, alloc, ends, 3);
     for _ in 0..3 {

@@ -71,7 +71,7 @@ fn changes_nothing(rt: &impl Abort, alloc: Global, lane: &mut Lane, frame: CmFra
     is_still(rt, hear(rt, alloc, lane, frame, 0));
 }
 
-// An abort of another message, or of another protocol, is none of this one.
+// An abort of another message, or of another protocol, doesn't concern this one.
 #[test]
 fn an_abort_is_that_of_its_message(rt: HostRuntime) {
     let mut lane = lane_to(&rt, rt.alloc(), Address(0x35));

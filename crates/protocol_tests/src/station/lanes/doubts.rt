@@ -12,7 +12,7 @@ use std::alloc::Global;
 use std::process::Abort;
 use tp_wire::Outcome;
 
-// Takes a message that was begun to its last packet, from 21 to 35, and leaves the end acknowledgement to come.
+// Takes a message that was begun to its last packet, from 21 to 35; the end acknowledgement is still missing.
 fn sends_packets(rt: &impl Abort, alloc: Global, lane: &mut Lane, now: u64) {
     refuses(rt, lane, now, PumpRefused::NothingToSend);
     // An acknowledgement before its time is no CTS.
@@ -49,7 +49,7 @@ fn first_round(rt: &impl Abort, alloc: Global, lane: &mut Lane) {
     ends_by_abort(rt, left, CM_TO_35, 250, 2, Outcome::Cancelled);
 }
 
-// The answer to the second Request of the first round comes in the second one.
+// The answer to the second Request of the first round arrives in the second one.
 fn second_round(rt: &impl Abort, alloc: Global, lane: &mut Lane) {
     pumps(rt, alloc, lane, 2500, REQUEST_TO_35, &[0, 0xEB, 0]);
     answers(rt, lane, 0xEC00);
@@ -71,7 +71,7 @@ fn lane_settles_after_a_timeout(rt: HostRuntime) {
     times_out(&rt, rt.alloc(), &mut lane, CM_TO_35);
     first_round(&rt, rt.alloc(), &mut lane);
     second_round(&rt, rt.alloc(), &mut lane);
-    // It stays settled.
+    // The lane stays settled.
     push(&rt, rt.alloc(), &mut lane, 4);
     pumps(&rt, rt.alloc(), &mut lane, 2600, CM_TO_35, &RTS);
 }

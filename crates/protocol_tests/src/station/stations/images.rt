@@ -29,7 +29,7 @@ fn make(rt: &impl Abort, alloc: Global, station: &mut Station, change: Change) {
     }
 }
 
-// It is that of the image until it is changed.
+// The station equals its image until it is changed.
 fn until(rt: &impl Abort, alloc: Global, station: &mut Station, by: Change) {
     let image = image(rt, station);
     is_of(rt, station, &image, true);

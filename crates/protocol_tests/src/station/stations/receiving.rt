@@ -1,4 +1,4 @@
-//! What comes to station 35.
+//! What station 35 receives.
 use super::{B, new_station, open};
 use crate::checks::{got, holds, same};
 use crate::station::frames::frame;
@@ -23,7 +23,7 @@ fn station_35(rt: &impl Abort, alloc: Global) -> Station {
     station
 }
 
-// Takes a frame. Where memory is refused once, it is taken again.
+// Takes a frame. If memory is refused once, it is taken again.
 fn take(rt: &impl Abort, station: &mut Station, shown: &Shown) -> Events {
     let frame = frame_of(rt, shown);
     match station.take(&frame, true, 0) {
@@ -32,13 +32,13 @@ fn take(rt: &impl Abort, station: &mut Station, shown: &Shown) -> Events {
     }
 }
 
-// It answers a frame with this one, and tells nothing.
+// It answers a frame with this one, and has no event.
 fn answers(rt: &impl Abort, station: &mut Station, shown: &Shown, answer: &Shown) {
     same(rt, take(rt, station, shown).len(), 0);
     same(rt, station.pop(), Some(frame_of(rt, answer)));
 }
 
-// It doesn't answer a frame, and tells nothing.
+// It doesn't answer a frame, and has no event.
 fn is_silent(rt: &impl Abort, station: &mut Station, shown: &Shown) {
     same(rt, take(rt, station, shown).len(), 0);
     same(rt, station.pop(), None);
@@ -51,7 +51,7 @@ fn pops(rt: &impl Abort, station: &mut Station, shown: &Shown) {
     same(rt, station.pop(), Some(frame));
 }
 
-// A last packet is said to be one of nine bytes for port 1.
+// A last packet is reported as one of nine bytes for port 1.
 fn wants_nine(rt: &impl Abort, station: &Station, shown: &Shown) {
     let (ports, size) = station.wants(&frame_of(rt, shown));
     same(rt, ports.numbers(), [1].as_slice());
@@ -68,7 +68,7 @@ fn gives_nine(rt: &impl Abort, station: &mut Station, shown: &Shown) {
     }
 }
 
-// So it does where the packet was read before.
+// The station does so too if the packet was read before.
 fn hears_nine(rt: &impl Abort, alloc: Global, station: &mut Station, shown: &Shown) {
     let frame = frame_of(rt, shown);
     let mut told = Events::none(alloc);
@@ -89,7 +89,7 @@ fn is_malformed(rt: &impl Abort, station: &mut Station, shown: &Shown) {
     same(rt, (taken.is_malformed, taken.events.len()), (true, 0));
 }
 
-// Calls of which a test only looks at the answer: their contracts are not carried through it.
+// Calls whose result alone a test looks at: their contracts are not carried through it.
 fn overruns(rt: &impl Abort, station: &mut Station) {
     same(rt, got(rt, station.overrun()).len(), 0);
 }
@@ -106,7 +106,7 @@ fn is_resumed(station: &mut Station, number: u64) -> bool {
     station.resume(number).is_ok()
 }
 
-// It is due at this tick, and not at the one before, when it refuses to fire. It tells nothing.
+// It is due at this tick, and not at the one before, when it refuses to fire. It has no event.
 fn fires(rt: &impl Abort, station: &mut Station, now: u64) {
     let before = now.saturating_sub(1);
     same(
@@ -142,7 +142,7 @@ const NO_RESOURCES: Shown = (
     [0xFF, 0x02, 0xFF, 0xFF, 0xFF, 0xCA, 0xFE, 0x00],
 );
 
-/// A frame of node 80 that is of no transport.
+/// A frame of node 80 that belongs to no transport.
 const OTHER_TRAFFIC: Shown = (
     0x18FE_F180,
     [0x10, 0x09, 0x00, 0x02, 0xFF, 0xCA, 0xFE, 0x00],
@@ -188,7 +188,8 @@ const ABORT: Shown = (
     [0xFF, 0xFA, 0xFF, 0xFF, 0xFF, 0xCA, 0xFE, 0x00],
 );
 
-// A test's steps are a function of their own, which owns nothing: what a test owns takes its part of the proof at each of them.
+// The steps of a test are a function of their own, which owns nothing: each step adds a part of the proof for all that
+// a test owns.
 fn give_a_message(rt: &impl Abort, station: &mut Station) {
     is_silent(rt, station, &OTHER_TRAFFIC);
     is_malformed(rt, station, &NO_PACKET);

@@ -37,7 +37,7 @@ fn is_unsent(
     }
 }
 
-// What comes next to all is queued, or not yet: so many outcomes are told, and so many frames are then queued.
+// The next frames to all are queued, or not yet: there are so many outcomes, and so many frames are then queued.
 fn pumps_to_all(rt: &impl Abort, station: &mut Station, now: u64, told: Option<usize>, len: usize) {
     match station.pump(Address::GLOBAL, now) {
         Ok(events) => same(rt, Some(events.len()), told),

@@ -26,7 +26,7 @@ fn a_failed_read_ends_the_script(rt: HostRuntime) {
     }
 }
 
-/// Takes so many writes, and fails then; it holds what it took, for which it has the room beforehand.
+/// Takes so many writes, and fails then; the room for what it takes is made beforehand.
 #[derive(Drop)]
 struct Failing {
     writes: u64,
@@ -66,7 +66,7 @@ fn a_failed_write_ends_the_script(rt: HostRuntime) {
     }
 }
 
-/// Gives a line only where all replies to the lines before were flushed.
+/// Gives a line only if all replies to the lines before were flushed.
 #[derive(Drop)]
 struct Asking<'a> {
     text: &'a [u8],

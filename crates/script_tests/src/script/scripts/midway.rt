@@ -53,7 +53,7 @@ impl Read for FailsOnce<'_> {
     }
 }
 
-/// Runs the lines with one read that fails; once more where memory was refused.
+/// Runs the lines with one read that fails, and again if memory was refused.
 fn run_failing(alloc: Global, reads_before: u64, kind: ErrorKind, out: &mut Vec<u8>) -> Ran {
     for _ in 0..2 {
         out.clear();
@@ -128,7 +128,7 @@ impl Write for RefusesOnce {
     }
 }
 
-/// Runs the lines with one write or flush that fails; once more where memory was refused.
+/// Runs the lines with one write or flush that fails, and again if memory was refused.
 fn run_refused(alloc: Global, write: u64, flush: u64) -> Result<(Ran, RefusesOnce), AllocError> {
     let mut writer = RefusesOnce {
         writes: 0,
