@@ -199,8 +199,9 @@ impl Live {
         self.make(call, told)
     }
 
-    // `apply_telling`, if one more call can be stored. Room for all that follows it is found first.
-    #[inline(never)]
+    // `apply_telling`, if one more call can be stored. Room for all that follows it is found first. Inlined, since a turn names the
+    // call that it makes: only what that call does is left then.
+    #[inline(always)]
     fn make(&mut self, call: WorkerCall, told: &mut Events) -> Result<Made, AllocError>
         requires few { stored_calls self.old < 1000000 }
         requires silent { told.old ≡ [] }

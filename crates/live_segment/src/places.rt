@@ -7,7 +7,7 @@ ghost use Rattle.live_segment.specs.Places.{times, IsPlaceIn, RoomAt, LacksRoom,
 
 use crate::call::WorkerCall;
 use crate::calls::Calls;
-use crate::wanted::{Wanted, gives, wanted_of};
+use crate::wanted::{gives, wanted_of};
 use pgn_ids::Address;
 use segment_core::{PortId, Segment};
 use segment_rings::{Buffer, Door};
@@ -90,13 +90,19 @@ pub(crate) struct Found {
     pub(crate) buffers: Vec<Buffer>,
 }
 
-// A place for each delivery that is wanted, and memory for it.
+// A place for each delivery of a call, and memory for it. Few calls give a message.
 #[inline(never)]
-fn find_places(alloc: Global, doors: &mut Vec<Door>, wanted: &Wanted) -> Result<Found, AllocError>
+fn find_places(
+    alloc: Global,
+    segment: &Segment,
+    doors: &mut Vec<Door>,
+    call: &WorkerCall,
+) -> Result<Found, AllocError>
     requires { PortsApart doors.old.items }
     ensures same { SameDoors doors.old.items doors.new.items }
-    ensures found { IfOk result (λ r. IsFound wanted.now doors.new.items r.room r.buffers.items) }
+    ensures found { IfOk result (λ r. IsFound (wanted_by segment.now call.now) doors.new.items r.room r.buffers.items) }
 {
+    let wanted = wanted_of(segment, call);
     let numbers = wanted.ports.numbers();
     if !prepare_all(doors, wanted.station, numbers)? {
         return Ok(Found {
@@ -131,7 +137,7 @@ pub(crate) fn find_room(
 {
     calls.reserve()?;
     if gives(segment, call) {
-        return find_places(alloc, doors, &wanted_of(segment, call));
+        return find_places(alloc, segment, doors, call);
     }
     Ok(Found {
         room: true,

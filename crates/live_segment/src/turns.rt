@@ -79,7 +79,8 @@ impl Turn {
         }
     }
 
-    // Makes a call.
+    // Makes a call; each caller names which.
+    #[inline(always)]
     fn make(&mut self, live: &mut Live, call: WorkerCall)
         ensures { Makes call (point live.old self.old) (point live.new self.new) }
     {

@@ -51,8 +51,8 @@ pub(crate) fn gives(segment: &Segment, call: &WorkerCall) -> bool
     ensures { OnFalse result ((wanted_by segment.now call.now).ports ≡ []) }
 {
     match call {
-        WorkerCall::Take { station } => !segment.wants(*station, false).0.is_empty(),
-        WorkerCall::TakeAgain { station } => !segment.wants(*station, true).0.is_empty(),
+        WorkerCall::Take { station } => segment.gives(*station, false),
+        WorkerCall::TakeAgain { station } => segment.gives(*station, true),
         _ => false,
     }
 }

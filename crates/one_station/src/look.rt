@@ -137,10 +137,13 @@ fn tell(
     ensures untold { OnErr result (told.new ≡ told.old) }
     ensures sound { IsFrontFirst told.new }
 {
-    match segment.apply(Call::Take { station, room }) {
-        Ok(Reply::Done(events)) => {
-            *owed = owed.saturating_sub(ended(&events));
-            told.keep(events);
+    let mut events = Events::none(alloc);
+    match segment.apply_telling(Call::Take { station, room }, &mut events) {
+        Ok(Made::Done) => {
+            if !events.is_empty() {
+                *owed = owed.saturating_sub(ended(&events));
+                told.keep(events);
+            }
             Ok(())
         }
         Ok(_) => Ok(()),

@@ -117,6 +117,10 @@ impl Told {
         ensures rest { told_events self.new ≡ drop 1 (told_events self.old) }
         ensures sound { IsFrontFirst self.new }
     {
+        // As a rule nothing waits, and then nothing is moved.
+        if self.front.is_none() {
+            return None;
+        }
         let Some(part) = self.front.take() else {
             return None;
         };

@@ -1,5 +1,5 @@
 -- The readers of a segment. They find nothing at an address that is no station's.
-use Rattle.std.specs.Prelude.{ℕ, Bool, true, false, ◌&&◌, ◌==◌, if◌then◌else◌, List, [], ◌∷◌, length, Option, Some, None, is_none, is_ok}
+use Rattle.std.specs.Prelude.{ℕ, Bool, not, true, false, ◌&&◌, ◌==◌, if◌then◌else◌, List, [], ◌∷◌, length, Option, Some, None, is_none, is_ok}
 use Rattle.std.specs.List.{list_all}
 use Rattle.std.specs.Option.{option_map}
 use Rattle.bus_frame.specs.Frames.{CanFrame}
@@ -57,6 +57,13 @@ wanted_with _ _ = ([], 0)
 -- the ports that its next Take with room would give to, or its TakeAgain, and the message's length
 abbrev pub wanted : Segment → Address → (again : Bool) → List ℕ × ℕ
 wanted seg a again = elim (place_of seg a) [ None ↦ ([], 0) | Some i ↦ wanted_with (station_of seg a) (frame_for seg again i) ]
+
+-- whether it would give a message to any
+abbrev pub gives_with : Option Station → Option CanFrame → Bool
+gives_with st frame = not (length (wanted_with st frame).0 == 0)
+
+abbrev pub gives : Segment → Address → (again : Bool) → Bool
+gives seg a again = not (length (wanted seg a again).0 == 0)
 
 -- the ports that events give to; none if nothing is given
 abbrev pub ports_given : List Event → List ℕ

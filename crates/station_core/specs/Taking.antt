@@ -1,5 +1,5 @@
 -- What a station makes of a frame on the bus, row by row (SAE J1939-21; ISO 11783-3).
-use Rattle.std.specs.Prelude.{ℕ, Bool, ◌&&◌, ◌||◌, not, ◌==◌, if◌then◌else◌, List, [], ◌∷◌, Option, Some, None}
+use Rattle.std.specs.Prelude.{ℕ, Bool, ◌&&◌, ◌||◌, not, ◌==◌, if◌then◌else◌, List, [], ◌∷◌, length, Option, Some, None}
 use Rattle.bus_frame.specs.Frames.{CanFrame}
 use Rattle.pgn_ids.specs.Address.{global_address}
 use Rattle.pgn_ids.specs.Identifier.{meaning_of}
@@ -107,3 +107,7 @@ meaning_wanted st (Some m) = wire_wanted st m.0 m.1 m.2
 
 abbrev pub wanted : Station → CanFrame → List ℕ × ℕ
 wanted st f = if looks_at st f then meaning_wanted st (reading f) else ([], 0)
+
+-- whether there is any
+abbrev pub gives : Station → CanFrame → Bool
+gives st f = not (length (wanted st f).0 == 0)

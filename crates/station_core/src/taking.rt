@@ -10,7 +10,7 @@ ghost use Rattle.station_sessions.specs.Opening.{key_of};
 ghost use Rattle.station_core.specs.Station.{quietly};
 ghost use Rattle.station_core.specs.Refusals.{IsAnswered, taking_refusal};
 ghost use Rattle.station_core.specs.Memory.{MayLackMemory, WireMayLackMemory, CmMayLackMemory, SessionMayLackMemory};
-ghost use Rattle.station_core.specs.Taking.{packet_kind as packet_kind_of, in_opening, in_session as session_taken, in_lane as lane_taken, abort_taken, cm_taken, answer, request_taken, ack_taken, wire_taken, is_meant_for, looks_at as looks_at_frame, is_malformed_for, wanted, wire_wanted, taken};
+ghost use Rattle.station_core.specs.Taking.{packet_kind as packet_kind_of, in_opening, in_session as session_taken, in_lane as lane_taken, abort_taken, cm_taken, answer, request_taken, ack_taken, wire_taken, is_meant_for, looks_at as looks_at_frame, is_malformed_for, wanted, wire_wanted, gives as gives_frame, taken};
 
 use crate::refused::Refused;
 use crate::station::{Station, enqueue};
@@ -107,6 +107,42 @@ impl Station {
         match read(frame) {
             Some((wire, from, to)) => self.wants_wire(&wire, from, to),
             None => (PortSet::empty(), 0),
+        }
+    }
+
+    /// Whether a `take` of this frame with room would give a message to any port.
+    #[inline]
+    pub fn gives(&self, frame: &Frame) -> bool
+        ensures { result ≡ gives_frame self.now frame.now }
+    {
+        let meaning = read_id(frame.id());
+        if !self.is_meant(&meaning) {
+            return false;
+        }
+        match read_in_place(frame, &meaning) {
+            Some(
+                (
+                    Heard::Packet {
+                        kind,
+                        sequence,
+                        bytes,
+                    },
+                    from,
+                    to,
+                ),
+            ) => {
+                let key = Key {
+                    source: from,
+                    kind: packet_kind(kind, to),
+                };
+                let packet = Wire::Packet {
+                    kind,
+                    sequence,
+                    bytes: *bytes,
+                };
+                self.sessions.gives(key, &packet)
+            }
+            _ => false,
         }
     }
 

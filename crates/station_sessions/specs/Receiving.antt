@@ -1,5 +1,5 @@
 -- What a station makes of frames for its incoming sessions (SAE J1939-21, TP.DT; ISO 11783-3, ETP.DT, ETP.CM_DPO).
-use Rattle.std.specs.Prelude.{ℕ, ◌≡◌, Bool, true, ◌==◌, if◌then◌else◌, List, [], ◌++◌, length, Option, Some, None, option_to_list}
+use Rattle.std.specs.Prelude.{ℕ, ◌≡◌, Bool, not, true, ◌==◌, if◌then◌else◌, List, [], ◌++◌, length, Option, Some, None, option_to_list}
 use Rattle.std.specs.FinMap as map
 use Rattle.bus_frame.specs.Frames.{CanFrame}
 use Rattle.pgn_ids.specs.declared.address.Address.{Address}
@@ -137,3 +137,7 @@ unbound_at key number sessions = unbound_by (state_at sessions key) key number s
 abbrev pub wanted_by : Option (List ℕ × Incoming) → Wire → List ℕ × ℕ
 wanted_by None wire = ([], 0)
 wanted_by (Some v) wire = if completes v.1 wire then (v.0, size_of v.1) else ([], 0)
+
+-- whether there is any
+abbrev pub gives_by : Option (List ℕ × Incoming) → Wire → Bool
+gives_by session wire = not (length (wanted_by session wire).0 == 0)

@@ -12,7 +12,7 @@ ghost use Rattle.tp_wire.specs.declared.wire.Wire.TheVariants.{Packet};
 ghost use Rattle.tx_queue.specs.Queue.{queue_limit};
 ghost use Rattle.station_sessions.specs.Memory.{wants_memory, fires_wanting};
 ghost use Rattle.station_sessions.specs.Sources.{HasNoneBetween};
-ghost use Rattle.station_sessions.specs.Receiving.{Leaves, LeavesQuietly, flow_at, received, fired_at, aborted_at, unbound_at, wanted_by};
+ghost use Rattle.station_sessions.specs.Receiving.{Leaves, LeavesQuietly, flow_at, received, fired_at, aborted_at, unbound_at, wanted_by, gives_by};
 ghost use Rattle.station_sessions.specs.Ends.{IsFlowOf, IsGivenAtSeveral, IsLastAt, completes_by, ended_by};
 
 mod due;
@@ -191,6 +191,17 @@ impl Receivers {
         match self.table.get(key) {
             Some((set, state)) if completes(state, wire) => (*set, size(state)),
             _ => (PortSet::empty(), 0),
+        }
+    }
+
+    /// Whether the session of a key would give a message to any port at the step with this frame.
+    #[inline]
+    pub fn gives(&self, key: Key, wire: &Wire) -> bool
+        ensures { result ≡ gives_by (state_at self.now key) wire.now }
+    {
+        match self.table.get(key) {
+            Some((set, state)) => completes(state, wire) && !set.is_empty(),
+            None => false,
         }
     }
 
