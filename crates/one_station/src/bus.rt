@@ -65,7 +65,13 @@ impl Node {
             return Err(NodeError::Refused(cause));
         }
         let station = self.address;
-        Ok(look(&mut self.segment, &mut self.told, &mut self.owed, station))
+        Ok(look(
+            self.alloc,
+            &mut self.segment,
+            &mut self.told,
+            &mut self.owed,
+            station,
+        ))
     }
 
     /// The first frame of the transmit queue, or none if that is empty. It is what `front` returns then, and stays the first until

@@ -12,8 +12,8 @@ use crate::error::Fed;
 use crate::node::{ended, make_room};
 use crate::told::Told;
 use pgn_ids::Address;
-use segment_core::{Call, Refusal, Reply, Segment};
-use std::alloc::AllocError;
+use segment_core::{Call, Events, Made, Refusal, Reply, Segment};
+use std::alloc::{AllocError, Global};
 
 /// A frame is put on the bus, which has room for it: that of another node, or the first of the station's queue. Or the call is
 /// refused, and nothing changes.
@@ -51,6 +51,7 @@ pub(crate) fn pass(segment: &mut Segment, station: Address)
 /// The station takes the next frame, with room or, if that finds no memory, without.
 #[inline(always)]
 pub(crate) fn look(
+    alloc: Global,
     segment: &mut Segment,
     told: &mut Told,
     owed: &mut usize,
@@ -62,15 +63,16 @@ pub(crate) fn look(
     ensures looked { HasLooked segment.old (told_events told.old) station segment.new (told_events told.new) result }
     ensures sound { IsFrontFirst told.new }
 {
-    if look_with_room(segment, told, owed, station) {
+    if look_with_room(alloc, segment, told, owed, station) {
         return Fed::Taken;
     }
-    look_without_room(segment, told, owed, station)
+    look_without_room(alloc, segment, told, owed, station)
 }
 
 // It takes it with room, if there is memory for it.
 #[inline(always)]
 fn look_with_room(
+    alloc: Global,
     segment: &mut Segment,
     told: &mut Told,
     owed: &mut usize,
@@ -93,7 +95,7 @@ fn look_with_room(
         Ok(()) => {}
         Err(_) => return false,
     }
-    match tell(segment, told, owed, station, true) {
+    match tell(alloc, segment, told, owed, station, true) {
         Ok(()) => true,
         Err(_) => false,
     }
@@ -102,6 +104,7 @@ fn look_with_room(
 // It takes it without.
 #[inline(never)]
 fn look_without_room(
+    alloc: Global,
     segment: &mut Segment,
     told: &mut Told,
     owed: &mut usize,
@@ -113,7 +116,7 @@ fn look_without_room(
     ensures looked { HasLooked segment.old (told_events told.old) station segment.new (told_events told.new) result }
     ensures sound { IsFrontFirst told.new }
 {
-    match tell(segment, told, owed, station, false) {
+    match tell(alloc, segment, told, owed, station, false) {
         Ok(()) => Fed::WithoutRoom,
         Err(_) => unreachable!(),
     }
@@ -122,6 +125,7 @@ fn look_without_room(
 // It takes it with room or without, which isn't refused. There is a place for the events.
 #[inline(always)]
 fn tell(
+    alloc: Global,
     segment: &mut Segment,
     told: &mut Told,
     owed: &mut usize,

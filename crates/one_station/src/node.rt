@@ -14,7 +14,7 @@ use crate::error::NodeError;
 use crate::told::Told;
 use bus_frame::Frame;
 use pgn_ids::Address;
-use segment_core::{Call, Event, Events, NewRefused, Reply, Segment};
+use segment_core::{Call, Event, Events, Made, NewRefused, Segment};
 use std::alloc::{AllocError, Global};
 use std::marker::Model;
 
@@ -98,9 +98,10 @@ impl Node {
         ensures { IsAnswered self.old call self.new result }
     {
         make_room(&self.segment, &mut self.told, self.owed, &call)?;
-        match self.segment.apply(call) {
-            Ok(Reply::Refused(cause)) => Err(NodeError::Refused(cause)),
-            Ok(Reply::Done(events)) => {
+        let mut events = Events::none(self.alloc);
+        match self.segment.apply_telling(call, &mut events) {
+            Ok(Made::Refused(cause)) => Err(NodeError::Refused(cause)),
+            Ok(Made::Done) => {
                 self.owed = self.owed.saturating_sub(ended(&events));
                 self.told.keep(events);
                 Ok(())

@@ -23,8 +23,8 @@ use station_lanes::outcome;
 use std::alloc::AllocError;
 use tp_wire::{CmFrame, Heard, Kind, Wire, is_transport, read, read_in_place, write};
 
-/// The control byte of the Acknowledgement that a station sends: positive.
-const POSITIVE: u8 = 1;
+/// The control byte of the Acknowledgement that a station sends: negative, since it has no message to send for the PGN (SAE J1939-21).
+const NEGATIVE: u8 = 1;
 
 /// The kind of the session that a data packet belongs to.
 fn packet_kind(kind: Kind, to: Address) -> SessionKind
@@ -424,7 +424,7 @@ impl Station {
         ensures { result ≡ answer self.now asker pgn }
     {
         let wire = Wire::Ack {
-            control: POSITIVE,
+            control: NEGATIVE,
             address: asker,
             pgn,
         };
