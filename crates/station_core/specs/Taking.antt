@@ -58,7 +58,7 @@ cm_taken st (EtpDpo packets offset pgn) from room now = in_session st (key_of fr
 cm_taken st (EtpEoma size pgn) from room now = in_lane st from (Cm (EtpEoma size pgn)) now
 cm_taken st (EtpAbort reason pgn) from room now = abort_taken st from session.Etp pgn (Cm (EtpAbort reason pgn)) now
 
--- the Acknowledgement that answers each Request to the own address (SAE J1939-21, Acknowledgement, positive)
+-- the Acknowledgement that answers each Request to the own address (SAE J1939-21, Acknowledgement, negative)
 abbrev pub answer : Station → (asker : Address) → (pgn : ℕ) → CanFrame
 answer st asker pgn = written (Ack 1 asker pgn) st.address.0 global_address
 
