@@ -126,8 +126,8 @@ void bus_receive(void) {
     }
 }
 
-/* Puts the next frame if none is outstanding. What the interface's queue doesn't take is tried again after a time: the socket would show at
- * once that it can be written. */
+/* Puts the next frame if none is outstanding, also while one that came before it is to be fed yet. What the interface's queue doesn't take is tried
+ * again after a time: the socket would show at once that it can be written. */
 void bus_transmit(void) {
     struct fulwethi_frame frame;
     if ((!is_told() && *bus.tell != 'f') || now < bus.until || fulwethi_service_front(&service, &bus.station, &frame) != FULWETHI_DONE) return;

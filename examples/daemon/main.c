@@ -106,19 +106,20 @@ static uint64_t microseconds(clockid_t clock) {
     return (uint64_t)time.tv_sec * 1000000 + (uint64_t)time.tv_nsec / 1000;
 }
 
-/* Receives the next message of a port, and tells it as j1939bus decode does. Its bytes come behind where their digits have place. */
+/* Receives the next message of a port, and tells it as j1939bus decode does. Its bytes come so far behind that no digit is put over one before it
+ * is read: 256 are more than stand before the digits, and behind them. */
 static uint32_t take_message(struct port *port) {
     struct fulwethi_message of;
     uint64_t time = microseconds(CLOCK_REALTIME);
     uint32_t code = fulwethi_inbox_receive(&port->inbox, (uint8_t *)out.bytes, 0, &of);
     if (code != FULWETHI_TOO_LITTLE_ROOM) return code;
     if (!fit(&out, 2 * of.len + 512)) return FULWETHI_NO_MEMORY;
-    const uint8_t *byte = (uint8_t *)out.bytes + out.len + 256 + of.len, *end = byte + of.len;
-    code = fulwethi_inbox_receive(&port->inbox, (uint8_t *)out.bytes + out.len + 256 + of.len, of.len, &of);
+    uint8_t *bytes = (uint8_t *)out.bytes + out.len + 256 + of.len;
+    code = fulwethi_inbox_receive(&port->inbox, bytes, of.len, &of);
     if (code != FULWETHI_DONE) return code;
     if (is_json) tell("{\"data\":\"");
     else tell("(%010" PRIu64 ".%06" PRIu64 ") %s given %02X %02X %05X %" PRIu64 " ", time / 1000000, time % 1000000, interface, of.from, of.to, of.pgn, of.len);
-    for (; byte < end; byte++) {
+    for (const uint8_t *byte = bytes; byte < bytes + of.len; byte++) {
         out.bytes[out.len++] = HEXADECIMAL[*byte >> 4];
         out.bytes[out.len++] = HEXADECIMAL[*byte & 15];
     }
@@ -128,7 +129,7 @@ static uint32_t take_message(struct port *port) {
     return FULWETHI_DONE;
 }
 
-/* Reads the next outcome of a station, and tells it; 0 if there is none. */
+/* Reads the next outcome of a station, whose message is pending no more, and tells it; 0 if there is none. */
 static int take_outcome(size_t from) {
     static const char *const names[] = {"", "Acknowledged", "Broadcast", "Aborted", "TimedOut", "Overrun", "Cancelled", "Unreachable"};
     struct fulwethi_note of;
@@ -205,7 +206,7 @@ static uint32_t do_close(char **words) {
     return code;
 }
 
-/* Submits a message, and remembers that it has no outcome yet. Its bytes are read in the place of their digits. */
+/* Submits a message, whose bytes are put in the place of their digits, and remembers that it has no outcome yet. */
 static uint32_t do_send(char **words) {
     uint64_t from, to, pgn;
     size_t digits = strspn(words[4], HEXADECIMAL), in_lane = 0;
