@@ -165,7 +165,7 @@ static int take(void) {
             port->is_paused ^= !is_later(code);
         } else if (!port->is_open && code == FULWETHI_NOTHING) {
             fulwethi_inbox_free(&port->inbox);
-            ports[k--] = ports[--port_count];
+            ports[k--] = ports[--port_count]; /* the last one has its place, and is seen to next */
         }
     }
     return has;
