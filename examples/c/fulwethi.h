@@ -151,15 +151,15 @@ static inline uint32_t fulwethi_cancel(struct fulwethi *node, uint8_t to, uint64
     return fulwethi_raw_cancel(*node, to, number, node);
 }
 
-/* Frames of the bus were lost, by the driver or since they weren't fed: to be called before a later frame is fed. Messages that are
- * coming in end, and connections under way, with outcome OVERRUN: else a message could be put together of the packets of two.
+/* Reports that frames of the bus were lost, by the driver or since they weren't fed, before a later frame is fed. Incoming messages end,
+ * and connections under way, with outcome OVERRUN. Otherwise a message could be assembled from packets of two.
  * NOT_ENDED (several connections were under way, and there was no memory): the node remembers it, and each feed and sent tries it first. */
 static inline uint32_t fulwethi_missed(struct fulwethi *node) { return fulwethi_raw_missed(*node, node); }
 
-/* A frame of another node comes from the bus. STATION_ADDRESS (it has the own source: don't loop own frames back), TX_FULL (put
- * frames first), NO_MEMORY, ID_TOO_LARGE, DATA_TOO_LONG (len is above 8; its bytes aren't read): the node doesn't have it; it is fed
- * again before any other, or told by missed. WITHOUT_ROOM: the node has looked at it, and there was no memory for what it brings.
- * PASSED_BY: missed answered NOT_ENDED, and there is still no memory. The frame counts as missed, and isn't fed again. */
+/* A frame of another node comes from the bus. STATION_ADDRESS (don't loop own frames back), TX_FULL, NO_MEMORY, ID_TOO_LARGE,
+ * DATA_TOO_LONG (len above 8; no byte is read): the node doesn't have it. Feed it again before any other, or report it with missed.
+ * WITHOUT_ROOM: the node looked at it, without memory for what it brings. PASSED_BY: NOT_ENDED still holds. The frame counts as missed,
+ * and isn't fed again. */
 static inline uint32_t fulwethi_feed(struct fulwethi *node, const struct fulwethi_frame *frame) {
     if (frame->len > 8) return frame->id >> 29 ? FULWETHI_ID_TOO_LARGE : FULWETHI_DATA_TOO_LONG;
     return fulwethi_raw_feed(*node, frame->id, frame->bytes, frame->len, node);

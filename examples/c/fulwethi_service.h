@@ -120,17 +120,17 @@ static inline uint32_t fulwethi_service_resume(struct fulwethi_service *service,
     return fulwethi_raw_service_resume(*service, station, port, service);
 }
 
-/* Frames of the bus were lost, by the driver or since they weren't fed: to be called for each station before a later frame is fed. The
- * station misses those too that wait for it. Messages that are coming in end, and connections under way, with outcome OVERRUN: else a
- * message could be put together of the packets of two. NO_SUCH_STATION. TRACE_FULL (turn mends that), NO_MEMORY: to be called again. */
+/* Reports for a station that frames of the bus were lost, by the driver or since they weren't fed; to be called for each station before a
+ * later frame is fed. Frames that wait for the station are missed too. Incoming messages end, and connections under way, with outcome
+ * OVERRUN. Otherwise a message could be assembled from packets of two. NO_SUCH_STATION. TRACE_FULL (turn mends that), NO_MEMORY: to be
+ * called again. */
 static inline uint32_t fulwethi_service_missed(struct fulwethi_service *service, uint8_t station) {
     return fulwethi_raw_service_missed(*service, station, service);
 }
 
-/* A frame of a node that is no station of the service comes from the bus; the stations look at it in their turns. STATION_ADDRESS (it has
- * a station's source: don't loop own frames back), BUS_FULL (4,096 wait: make turns first), TRACE_FULL (turn mends that), NO_MEMORY,
- * ID_TOO_LARGE, DATA_TOO_LONG (len is above 8; its bytes aren't read): the stations don't have it; it is fed again before any other, or told
- * by missed. */
+/* A frame of a node that is no station of the service comes from the bus; the stations look at it in their turns. STATION_ADDRESS (don't
+ * loop own frames back), BUS_FULL (4,096 wait: make turns first), TRACE_FULL (turn mends that), NO_MEMORY, ID_TOO_LARGE, DATA_TOO_LONG
+ * (len above 8; no byte is read): the stations don't have it. Feed it again before any other, or report it with missed. */
 static inline uint32_t fulwethi_service_feed(struct fulwethi_service *service, const struct fulwethi_frame *frame) {
     if (frame->len > 8) return frame->id >> 29 ? FULWETHI_ID_TOO_LARGE : FULWETHI_DATA_TOO_LONG;
     return fulwethi_raw_service_feed(*service, frame->id, frame->bytes, frame->len, service);

@@ -1,7 +1,10 @@
-//! `j1939bus` reads a script, a file or standard input, and prints the replies to its lines, or with `--log` the frames that it puts, as the log of a
-//! bus; `j1939bus draw` draws it, or with `--log` a log, as a sequence diagram; `j1939bus live` runs it by threads and prints the result; `j1939bus
-//! relay` runs two segments so, with a relay between them; `j1939bus decode` reads logs of a bus and prints their messages; `j1939bus node` is a
-//! station on the bus whose log it reads while it runs (SAE J1939-21, ISO 11783-3).
+//! `j1939bus` runs scripts of stations on a bus, draws and decodes what a bus carried, and is a node in text (SAE J1939-21, ISO 11783-3).
+//!
+//! - `j1939bus` prints the replies to the lines of a script, or with `--log` the frames that it puts, as the log of a bus.
+//! - `j1939bus draw` draws a script, or with `--log` a log, as a sequence diagram.
+//! - `j1939bus live` runs a script by threads and prints the result. `j1939bus relay` runs two segments so, with a relay between them.
+//! - `j1939bus decode` reads logs of a bus and prints their messages.
+//! - `j1939bus node` is a station on the bus whose log it reads while it runs.
 //!
 //! Its status is 0 if the script, log or bus was read to its end, refused calls included. It is 1 if a line was wrong, if a file can't be opened, or
 //! at a read or write fault; standard error says which. It is 2 if the command line is refused or asks for help, and 3 if the turns of the threads

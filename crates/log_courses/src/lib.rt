@@ -1,8 +1,8 @@
-//! The courses of the messages of a log, beside a listener: from the announcement of each to the frame at which it is reported, which frame of the
-//! log is its first and which its last, how many it has, and how many packets its receiver asked for again; and the end acknowledgements of messages
-//! that were given (SAE J1939-21, transport protocol; ISO 11783-3, extended transport protocol).
+//! The courses of the messages of a log, beside a listener: the first and the last frame of each, how many it has, and how many packets its receiver
+//! asked for again (SAE J1939-21, transport protocol; ISO 11783-3, extended transport protocol).
 //!
-//! It holds one course for each message under way, and one note for each two nodes between which a message was given.
+//! A course goes from the announcement to the frame at which the message is reported. The end acknowledgements of messages that were given are awaited
+//! too. It holds one course for each message under way, and one note for each two nodes between which a message was given.
 #![tactic(auto)]
 
 mod awaited;
