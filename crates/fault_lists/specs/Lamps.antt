@@ -2,7 +2,7 @@
 use Rattle.std.specs.Prelude.{ℕ, ◌/◌, ◌%◌, List, ◌++◌, codes, ◌==◌, if◌then◌else◌}
 
 -- what two bits say of a lamp
-abbrev pub lamp_state : ℕ → List ℕ
+unfoldable pub lamp_state : ℕ → List ℕ
 lamp_state n =
     if n == 0 then codes "off"
     else if n == 1 then codes "on"
@@ -10,7 +10,7 @@ lamp_state n =
     else codes "not available"
 
 -- how a lamp flashes: slowly at 1 Hz, fast at 2 Hz or more
-abbrev pub flash_state : ℕ → List ℕ
+unfoldable pub flash_state : ℕ → List ℕ
 flash_state n =
     if n == 0 then codes "slow"
     else if n == 1 then codes "fast"

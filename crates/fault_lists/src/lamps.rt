@@ -7,6 +7,7 @@ use std::alloc::{AllocError, Global};
 use text_digits::put_text;
 
 /// What two bits say of a lamp.
+#[tactic(auto, unfolding(crate::specs::Lamps::lamp_state))]
 fn lamp_state(bits: u8) -> &'static str
     ensures { result.now ≡ lamp_state bits }
 {
@@ -19,6 +20,7 @@ fn lamp_state(bits: u8) -> &'static str
 }
 
 /// What two bits say of how a lamp flashes: slowly at 1 Hz, fast at 2 Hz or more.
+#[tactic(auto, unfolding(crate::specs::Lamps::flash_state))]
 fn flash_state(bits: u8) -> &'static str
     ensures { result.now ≡ flash_state bits }
 {
