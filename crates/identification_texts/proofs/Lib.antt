@@ -1,2 +1,3 @@
 pub mod FieldSteps
 pub mod FieldWalk
+mod Named
