@@ -1,5 +1,5 @@
 -- The segment that is kept, after a call of one station.
-use Rattle.std.proofs.Common.{◌≡◌, ℕ, ◌<◌, ◌≤◌, Bool, true, false, cond, nat_lt, List, [], length, set, get_or, Some, None, Result, Ok, Err, IsOk, refl, sym, ap, ◌∙◌, subst, arith, length-set}
+use Rattle.std.proofs.Common.{◌≡◌, ℕ, ◌<◌, ◌≤◌, Bool, true, false, not, cond, nat_lt, List, [], length, set, get_or, Some, None, ◌==◌, Result, Ok, Err, IsOk, refl, sym, ap, ◌∙◌, subst, arith, length-set}
 use Rattle.std.specs.Prelude.{slice_get}
 use Rattle.std.specs.Vec.{with_item}
 use Rattle.std.proofs.lemmas.List.{set-get_or}
@@ -16,7 +16,7 @@ use Rattle.station_core.specs.Taking.{is_malformed_for, taken}
 use Rattle.station_core.specs.Overruns.{overrun}
 use Rattle.station_core.specs.Refusals.{taking_refusal}
 use Rattle.station_core.specs.Taking as taking
-use Rattle.segment_law.specs.Readers.{frame_for, wanted_with}
+use Rattle.segment_law.specs.Readers.{frame_for, wanted_with, gives_with}
 use Rattle.segment_core.specs.Answers.{IsAnswer, IsAnswerBy}
 use Rattle.segment_core.specs.declared.stop.Stop.{Stop}
 use Rattle.segment_core.specs.declared.stop.Stop.TheVariants.{OutOfMemory}
@@ -120,6 +120,10 @@ place_there n st is some = by (no_place st) refl
     by : (b : Bool) → no_place st ≡ b → b ≡ false
     by true e = absurd (some (is ∙ eqb-true (free_places st.queue) 0 e))
     by false e = refl
+
+-- whether it would give a message to any port
+pub gives_is : (seg : Segment) (i : ℕ) (st : Station) (frame : CanFrame) (again : Bool) → slice_get seg.stations i ≡ Some st → frame_for seg again i ≡ Some frame → no_place st ≡ false → gives_with (slice_get seg.stations i) (frame_for seg again i) ≡ taking.gives st frame
+gives_is seg i st frame again there next place = ap (λ (w : List ℕ × ℕ). not (length w.0 == 0)) (wanted_is seg i st frame again there next place)
 
 -- a Take that is told and counted
 pub taken_view : (s : Inside) (seg : Segment) (i : ℕ) (st : Station) (frame : CanFrame) (new : Station) (events : List Event) (malformed : Bool) (moved left : bus.Bus) (after : Segment) (told : Reply) → segment_value s ≡ seg → malformed ≡ is_malformed_for st frame → moved ≡ bus.taken s.bus i → left ≡ bus.released moved
