@@ -216,7 +216,7 @@ impl Live {
             &mut self.doors,
             &call,
         ) else {
-            if let Some(refusal) = refusal_for(&self.segment, &call) {
+            if let Some(refusal) = refusal_for(&self.segment, call) {
                 return Ok(Made::Refused(refusal));
             }
             return Err(AllocError);

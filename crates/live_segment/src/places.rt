@@ -90,19 +90,20 @@ pub(crate) struct Found {
     pub(crate) buffers: Vec<Buffer>,
 }
 
-// A place for each delivery of a call, and memory for it. Few calls give a message.
+// A place for each delivery of a call, and memory for it. Few calls give a message. It takes a copy of the call, so that the
+// compiler still knows afterwards which call a turn makes.
 #[inline(never)]
 fn find_places(
     alloc: Global,
     segment: &Segment,
     doors: &mut Vec<Door>,
-    call: &WorkerCall,
+    call: WorkerCall,
 ) -> Result<Found, AllocError>
     requires { PortsApart doors.old.items }
     ensures same { SameDoors doors.old.items doors.new.items }
-    ensures found { IfOk result (λ r. IsFound (wanted_by segment.now call.now) doors.new.items r.room r.buffers.items) }
+    ensures found { IfOk result (λ r. IsFound (wanted_by segment.now call) doors.new.items r.room r.buffers.items) }
 {
-    let wanted = wanted_of(segment, call);
+    let wanted = wanted_of(segment, &call);
     let numbers = wanted.ports.numbers();
     if !prepare_all(doors, wanted.station, numbers)? {
         return Ok(Found {
@@ -137,7 +138,7 @@ pub(crate) fn find_room(
 {
     calls.reserve()?;
     if gives(segment, call) {
-        return find_places(alloc, segment, doors, call);
+        return find_places(alloc, segment, doors, *call);
     }
     Ok(Found {
         room: true,

@@ -43,8 +43,8 @@ pub(crate) fn make_telling(
 }
 
 /// Why the segment would refuse a call, whether there is room for what it gives or not. It takes no memory.
-pub(crate) fn refusal_for(segment: &Segment, call: &WorkerCall) -> Option<Refusal>
-    ensures { (room : Bool) → result ≡ refusal_of (called segment.now (call_of call.now room)) }
+pub(crate) fn refusal_for(segment: &Segment, call: WorkerCall) -> Option<Refusal>
+    ensures { (room : Bool) → result ≡ refusal_of (called segment.now (call_of call room)) }
 {
     segment.refusal(&call.with_room(true))
 }

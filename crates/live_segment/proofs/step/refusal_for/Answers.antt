@@ -6,4 +6,4 @@ use Rattle.live_segment.proofs.Refusing.{room_no_cause}
 use Rattle.live_segment.proofs.step.refusal_for.Goals as goal
 
 pub returns : goal.returns
-returns c room = c.refusal.ensures ∙ ap (λ (x : Call). refusal_of (called c.args.segment.now x)) c.with_room.ensures ∙ room_no_cause c.args.segment.now c.args.call.now true room
+returns c room = c.refusal.ensures ∙ ap (λ (x : Call). refusal_of (called c.args.segment.now x)) c.with_room.ensures ∙ room_no_cause c.args.segment.now c.args.call true room
