@@ -1,22 +1,22 @@
-/* Three stations, each with a clock of its own and a queue of what came from the bus, on a bus in memory that loses, repeats and delays frames for each.
+/* Three stations on a bus in memory, each with a clock of its own, and a queue of what came from the bus, which loses, repeats and delays frames.
  *
- *   lossy_bus COUNT                        so many messages, held to the README's sentence; each loss is reported (fulwethi_missed)
- *   lossy_bus COUNT unreported|early SEED  without the reports; or with `sent` called as a frame is handed to a controller that sends by identifier: until
- *                                          the sentence doesn't hold
- *   lossy_bus COUNT .. SEED events         the same, and prints its events, which are a script
- *   lossy_bus play SCRIPT                  plays a script, and prints what comes of each line
+ *   lossy_bus COUNT [RULE [SEED [events]]]    so many messages. RULE is `reported`, by which each loss is told (fulwethi_missed), or one that breaks what
+ *                                             the header asks, until the README's sentence doesn't hold: `unreported`, without that; or `early`, by which
+ *                                             a frame counts as sent once it is in a mailbox of a controller that sends by identifier.
+ *                                             `events` prints what happens, as a script
+ *   lossy_bus play SCRIPT                     plays a script, and prints what comes of each line
  *
  * Clocks drift by up to 5 %, and jump. Each message that a port is given must be one that was sent to its station or to all, byte for byte, behind those
- * of the same sender and destination that it was given before, and none after its closing. An acknowledged message must have been given by then, an
- * unreachable one never, and each has one outcome.
+ * of the same sender and destination that were given before, and none after its closing. An acknowledged message must have been given by then, an
+ * unreachable one never is, and each has one outcome.
  *
- * A line of a script is an event: its word, a station, and up to two numbers, all but addresses decimal. `unreported` and `early` stand alone. */
+ * A line of a script is a rule, an event (its word, a station, and up to two numbers, all but addresses decimal), or a remark. */
 #include "fulwethi.h"
 #include <stdio.h>
 #include <stdlib.h>
 #include <string.h>
 
-enum { STATIONS = 3, ALL = 255, PGN = 0xEF00, MOST = 6000, UNDER_WAY = 4, PORTS = 2, MAILBOXES = 3, PLACES = 512, ROOM = 300, FRAME_MICROS = 540, IDLE_MICROS = 8000 };
+enum { STATIONS = 3, ALL = 255, PGN = 0xEF00, MOST = 6000, UNDER_WAY = 4, PORTS = 2, MAILBOXES = 3, PLACES = 512, ROOM = 300, FRAME_MICROS = 540, IDLE_MICROS = 8000, MOST_MESSAGES = 1000000 };
 static const uint8_t ADDRESS[STATIONS] = {0x21, 0x35, 0x40};
 static const char *const OUTCOME[] = {"", "Acknowledged", "Broadcast", "Aborted", "TimedOut", "Overrun", "Cancelled", "Unreachable"};
 
@@ -46,7 +46,7 @@ struct station {
 static struct bus {
     struct station station[STATIONS];
     struct message *messages;
-    uint32_t most, count, given, lost, repeated, jumps, wrong, idle, outcomes[8];
+    uint32_t most, count, given, lost, repeated, extended, jumps, changes, wrong, idle, outcomes[8];
     int is_unreported, is_early, shows_events, shows_all;
 } bus;
 
@@ -84,7 +84,7 @@ static void show(const char *word, const struct fulwethi_frame *frame) {
 static const char *fault_of(struct station *it, const struct fulwethi_event *event, const uint8_t *bytes) {
     uint32_t message = bytes[0] | bytes[1] << 8 | bytes[2] << 16 | (uint32_t)bytes[3] << 24;
     int from = place_of(event->from), to_all = event->to == ALL, at = 0;
-    if (message < 1 || message > bus.count || from == STATIONS) return "nobody sent it";
+    if (message < 1 || message > bus.count || from == STATIONS || event->pgn != PGN) return "nobody sent it";
     struct message *sent = &bus.messages[message];
     if (sent->from != event->from || sent->to != event->to || sent->len != event->len) return "nobody sent it";
     if (!to_all && event->to != address_of(it)) return "it was sent to another";
@@ -92,6 +92,7 @@ static const char *fault_of(struct station *it, const struct fulwethi_event *eve
     while (at < PORTS && it->port[at].number != event->number) at++;
     if (at == PORTS || !it->port[at].is_open) return "its port is closed";
     if (message <= it->port[at].last[from][to_all] || message < it->last[from][to_all]) return "it was given before, or a later one was";
+    if (sent->outcome == FULWETHI_UNREACHABLE) return "it was unreachable";
     it->port[at].last[from][to_all] = it->last[from][to_all] = message;
     sent->is_given = 1;
     return NULL;
@@ -105,6 +106,8 @@ static void end(struct station *it, const struct fulwethi_event *event) {
     if (bus.shows_all) printf("  outcome %02X %02X %u %s\n", address_of(it), event->to, (uint32_t)event->number, OUTCOME[event->outcome]);
     if (message->outcome) wrong("it had an outcome before");
     if (event->outcome == FULWETHI_ACKNOWLEDGED && !message->is_given) wrong("it is acknowledged, and wasn't given");
+    if (event->outcome == FULWETHI_UNREACHABLE && message->is_given) wrong("it is unreachable, and was given");
+    bus.extended += event->outcome == FULWETHI_ACKNOWLEDGED && message->len > 1785;
     message->outcome = (uint8_t)event->outcome;
     bus.outcomes[event->outcome]++;
     it->waiting[to]--;
@@ -145,6 +148,12 @@ static int do_send(struct station *it, uint32_t address, uint32_t len) {
     it->waiting[to]++;
     bus.messages[message] = (struct message){.len = (uint16_t)len, .from = (uint8_t)address_of(it), .to = (uint8_t)address};
     return 1;
+}
+
+static int do_cancel(struct station *it, uint32_t address, uint32_t number) {
+    uint32_t code = fulwethi_cancel(&it->node, (uint8_t)address, number);
+    WANT(code == FULWETHI_DONE || code == FULWETHI_NOTHING_TO_SEND || code == FULWETHI_TX_FULL || code == FULWETHI_NO_SUCH_STATION);
+    return code == FULWETHI_DONE;
 }
 
 /* A port at a place, for messages of so many bytes. */
@@ -261,13 +270,14 @@ static int do_read(struct station *it) {
     return 1;
 }
 
-enum verb { SEND, OPEN, CLOSE, PAUSE, TICK, HAND, PUT, LOSE, AGAIN, READ, VERBS };
+enum verb { SEND, CANCEL, OPEN, CLOSE, PAUSE, TICK, HAND, PUT, LOSE, AGAIN, READ, VERBS };
 static const struct { const char *word; int numbers; } VERB[VERBS] = {
-    {"send", 2}, {"open", 2}, {"close", 1}, {"pause", 1}, {"tick", 1}, {"hand", 0}, {"put", 0}, {"lose", 0}, {"again", 0}, {"read", 0}};
+    {"send", 2}, {"cancel", 2}, {"open", 2}, {"close", 1}, {"pause", 1}, {"tick", 1}, {"hand", 0}, {"put", 0}, {"lose", 0}, {"again", 0}, {"read", 0}};
 
 static int make(struct station *it, enum verb verb, uint32_t a, uint32_t b) {
     switch (verb) {
     case SEND: return do_send(it, a, b);
+    case CANCEL: return do_cancel(it, a, b);
     case OPEN: return do_open(it, a, b);
     case CLOSE: return do_close(it, a);
     case PAUSE: return do_pause(it, a);
@@ -286,7 +296,7 @@ static int act(struct station *it, enum verb verb, uint32_t a, uint32_t b) {
     int is_done = make(it, verb, a, b);
     if (is_done && bus.shows_events) {
         printf("%s %02X", VERB[verb].word, address_of(it));
-        if (VERB[verb].numbers > 0) printf(verb == SEND ? " %02X" : " %u", a);
+        if (VERB[verb].numbers > 0) printf(verb <= CANCEL ? " %02X" : " %u", a);
         if (VERB[verb].numbers > 1) printf(" %u", b);
         printf("\n");
     }
@@ -300,13 +310,14 @@ static size_t any_length(int to_all) {
     uint32_t of = chance(1000);
     if (of < 600) return chance(2) ? 20 : 27;
     if (of < 960) return 9 + chance(60);
-    return to_all || of < 990 ? 9 + chance(to_all ? 300 : 1777) : 1786 + chance(MOST - 1786);
+    return to_all || of < 980 ? 9 + chance(to_all ? 300 : 1777) : 1786 + chance(MOST - 1786);
 }
 
 static void send_any(struct station *it) {
     int to = (int)chance(STATIONS + 1);
     if (&bus.station[to % STATIONS] == it && to < STATIONS) return;
     if (bus.count < bus.most && it->waiting[to] < UNDER_WAY) act(it, SEND, to == STATIONS ? ALL : ADDRESS[to], (uint32_t)any_length(to == STATIONS));
+    if (it->waiting[to] && !chance(500)) act(it, CANCEL, to == STATIONS ? ALL : ADDRESS[to], it->sent[to] - chance(2));
 }
 
 /* A station puts a frame, and each other one may lose it, or take it twice. */
@@ -317,7 +328,7 @@ static int put_any(void) {
     if (!act(from, PUT, 0, 0)) return 0;
     for (struct station *it = bus.station; it < bus.station + STATIONS; it++) {
         if (it == from) continue;
-        if (!it->losing && !chance(800)) it->losing = 1 + chance(6);
+        if (!it->losing && !chance(1500)) it->losing = 1 + chance(6);
         if (it->losing) it->losing--, act(it, LOSE, 0, 0);
         else if (!chance(200)) act(it, AGAIN, 0, 0);
     }
@@ -335,9 +346,9 @@ static void pass(struct station *it) {
 
 static void change_ports(struct station *it) {
     uint32_t at = chance(PORTS);
-    if (it->port[at].is_paused ? !chance(200) : !chance(4000)) act(it, PAUSE, at, 0);
-    if (!chance(4000)) act(it, CLOSE, at, 0);
-    if (!it->port[at].is_open && !chance(100)) act(it, OPEN, at, at ? MOST : 100);
+    if (it->port[at].is_paused ? !chance(200) : !chance(4000)) bus.changes += act(it, PAUSE, at, 0);
+    if (!chance(4000)) bus.changes += act(it, CLOSE, at, 0);
+    if (!it->port[at].is_open && !chance(100)) bus.changes += act(it, OPEN, at, at ? MOST : 100);
 }
 
 static void turn(void) {
@@ -387,24 +398,31 @@ static int run(uint32_t messages) {
     }
     while ((bus.count < messages || is_under_way()) && !bus.wrong) turn();
     if (!bus.shows_events) {
-        printf("messages %u given %u", bus.count, bus.given);
-        for (int of = 1; of < 8; of++) printf(" %s %u", OUTCOME[of], bus.outcomes[of]);
-        printf("; frames lost %u repeated %u; jumps %u; wrong %u\n", bus.lost, bus.repeated, bus.jumps, bus.wrong);
+        printf("messages %u given %u\n ", bus.count, bus.given);
+        for (int of = FULWETHI_ACKNOWLEDGED; of <= FULWETHI_UNREACHABLE; of++) printf(" %s %u", OUTCOME[of], bus.outcomes[of]);
+        printf("\n  acknowledged by ETP %u, frames lost %u, repeated %u, jumps of clocks %u, changes of ports %u, wrong %u\n", bus.extended, bus.lost, bus.repeated,
+            bus.jumps, bus.changes, bus.wrong);
     }
     finish();
     return (bus.is_unreported || bus.is_early) ? !bus.wrong : bus.wrong;
+}
+
+static int is_rule(const char *word) {
+    bus.is_unreported = !strcmp(word, "unreported");
+    bus.is_early = !strcmp(word, "early");
+    return bus.is_unreported || bus.is_early || !strcmp(word, "reported");
 }
 
 /* A line of a script: 0 if it isn't one. */
 static int play_line(const char *line) {
     char word[16];
     unsigned address, a = 0, b = 0;
-    if (!strcmp(line, "unreported")) return bus.is_unreported = 1;
-    if (!strcmp(line, "early")) return bus.is_early = 1;
-    if (sscanf(line, "%15s %2x", word, &address) != 2 || place_of(address) == STATIONS) return 0;
+    if (*line == '#') return 1;
+    if (sscanf(line, "%15s %2x", word, &address) != 2) return is_rule(line);
+    if (place_of(address) == STATIONS) return 0;
     for (int verb = 0; verb < VERBS; verb++) {
         if (strcmp(word, VERB[verb].word)) continue;
-        int numbers = sscanf(line, verb == SEND ? "%*s %*x %2x %u" : "%*s %*x %u %u", &a, &b);
+        int numbers = sscanf(line, verb <= CANCEL ? "%*s %*x %2x %u" : "%*s %*x %u %u", &a, &b);
         if ((numbers < 0 ? 0 : numbers) != VERB[verb].numbers) return 0;
         return act(&bus.station[place_of(address)], (enum verb)verb, a, b) || printf("  nothing\n") > 0;
     }
@@ -412,10 +430,10 @@ static int play_line(const char *line) {
 }
 
 static int play(const char *path) {
-    char line[64];
+    char line[256];
     FILE *file = fopen(path, "r");
     if (!file) return perror(path), 1;
-    begin(64);
+    begin(MOST_MESSAGES);
     bus.shows_all = 1;
     while (fgets(line, sizeof line, file)) {
         line[strcspn(line, "\n")] = 0;
@@ -430,12 +448,11 @@ static int play(const char *path) {
 int main(int count, char **words) {
     if (count == 3 && !strcmp(words[1], "play")) return play(words[2]);
     long messages = count > 1 ? atol(words[1]) : 0;
-    bus.is_unreported = count > 2 && !strcmp(words[2], "unreported");
-    bus.is_early = count > 2 && !strcmp(words[2], "early");
-    bus.shows_events = count > 4 && !strcmp(words[4], "events");
-    if (messages < 1 || messages > 1000000 || (count > 2 && !bus.is_unreported && !bus.is_early) || (count > 4 && !bus.shows_events) || count > 5) {
-        return fprintf(stderr, "usage: %s COUNT [unreported|early [SEED [events]]] | play SCRIPT\n", words[0]), 2;
+    bus.shows_events = count == 5 && !strcmp(words[4], "events");
+    if (messages < 1 || messages > MOST_MESSAGES || (count > 2 && !is_rule(words[2])) || (count > 4 && !bus.shows_events)) {
+        return fprintf(stderr, "usage: %s COUNT [reported|unreported|early [SEED [events]]] | play SCRIPT\n", words[0]), 2;
     }
     seed = count > 3 ? strtoull(words[3], NULL, 10) : 20;
+    if (bus.shows_events) puts(words[2]);
     return run((uint32_t)messages);
 }
