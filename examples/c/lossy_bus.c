@@ -16,7 +16,8 @@
 #include <stdlib.h>
 #include <string.h>
 
-enum { STATIONS = 3, ALL = 255, PGN = 0xEF00, MOST = 6000, UNDER_WAY = 4, PORTS = 2, MAILBOXES = 3, PLACES = 512, ROOM = 300, FRAME_MICROS = 540, IDLE_MICROS = 8000, MOST_MESSAGES = 1000000 };
+enum { STATIONS = 3, ALL = 255, PGN = 0xEF00, MOST = 6000, UNDER_WAY = 4, PORTS = 2, MAILBOXES = 3, PLACES = 512, ROOM = 300, MOST_MESSAGES = 1000000 };
+enum { FRAME_MICROS = 540, IDLE_MICROS = 8000 }; /* how long a turn takes: a frame at 250 kbit/s; and while nothing comes */
 static const uint8_t ADDRESS[STATIONS] = {0x21, 0x35, 0x40};
 static const char *const OUTCOME[] = {"", "Acknowledged", "Broadcast", "Aborted", "TimedOut", "Overrun", "Cancelled", "Unreachable"};
 
@@ -40,7 +41,8 @@ struct station {
     uint64_t tick, passed;           /* its clock, and what has passed of the next tick, in millionths */
     uint32_t *numbers[STATIONS + 1]; /* its messages by destination and number, the last place to all */
     uint32_t sent[STATIONS + 1], waiting[STATIONS + 1], last[STATIONS][2];
-    uint32_t rate, losing, stalled, held; /* its clock's, in thousandths of a tick; frames that it still loses; turns that it still misses */
+    uint32_t rate;                   /* of its clock, in thousandths */
+    uint32_t losing, stalled, held;  /* how many frames it still loses; and how many turns its program and its controller still miss */
 };
 
 static struct bus {
@@ -160,7 +162,8 @@ static int do_cancel(struct station *it, uint32_t address, uint32_t number) {
 static int do_open(struct station *it, uint32_t at, uint32_t most) {
     if (at >= PORTS || it->port[at].is_open) return 0;
     it->port[at] = (struct port){.is_open = 1};
-    return fulwethi_open(&it->node, PGN, most, &it->port[at].number) == FULWETHI_DONE;
+    WANT(fulwethi_open(&it->node, PGN, most, &it->port[at].number) == FULWETHI_DONE);
+    return 1;
 }
 
 static int do_close(struct station *it, uint32_t at) {
