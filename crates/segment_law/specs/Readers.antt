@@ -58,13 +58,6 @@ wanted_with _ _ = ([], 0)
 abbrev pub wanted : Segment → Address → (again : Bool) → List ℕ × ℕ
 wanted seg a again = elim (place_of seg a) [ None ↦ ([], 0) | Some i ↦ wanted_with (station_of seg a) (frame_for seg again i) ]
 
--- whether it would give a message to any
-abbrev pub gives_with : Option Station → Option CanFrame → Bool
-gives_with st frame = not (length (wanted_with st frame).0 == 0)
-
-abbrev pub gives : Segment → Address → (again : Bool) → Bool
-gives seg a again = not (length (wanted seg a again).0 == 0)
-
 -- the ports that events give to; none if nothing is given
 abbrev pub ports_given : List Event → List ℕ
 ports_given [] = []

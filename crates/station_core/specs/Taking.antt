@@ -107,7 +107,3 @@ meaning_wanted st (Some m) = wire_wanted st m.0 m.1 m.2
 
 abbrev pub wanted : Station → CanFrame → List ℕ × ℕ
 wanted st f = if looks_at st f then meaning_wanted st (reading f) else ([], 0)
-
--- whether there is any
-abbrev pub gives : Station → CanFrame → Bool
-gives st f = not (length (wanted st f).0 == 0)

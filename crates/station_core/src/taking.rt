@@ -1,5 +1,6 @@
 //! Frames that are taken, row by row (SAE J1939-21; ISO 11783-3).
-ghost use Rattle.std.specs.Prelude.{◌≡◌, ◌<◌, ◌+◌, ◌++◌, [], true, false, None, length, IfOk, OnOk, OnErr};
+ghost use Rattle.std.specs.Prelude.{◌≡◌, ◌<◌, ◌+◌, ◌++◌, [], true, false, None, length, IfOk, OnOk, OnErr, IfSome, OnSome, IfNone};
+ghost use Rattle.std.specs.Bool.{OnTrue, OnFalse};
 ghost use Rattle.std.specs.Result.{result_err};
 ghost use Rattle.pgn_ids.specs.Address.{is_one};
 ghost use Rattle.tp_wire.specs.Heard.{meant};
@@ -10,7 +11,7 @@ ghost use Rattle.station_sessions.specs.Opening.{key_of};
 ghost use Rattle.station_core.specs.Station.{quietly};
 ghost use Rattle.station_core.specs.Refusals.{IsAnswered, taking_refusal};
 ghost use Rattle.station_core.specs.Memory.{MayLackMemory, WireMayLackMemory, CmMayLackMemory, SessionMayLackMemory};
-ghost use Rattle.station_core.specs.Taking.{packet_kind as packet_kind_of, in_opening, in_session as session_taken, in_lane as lane_taken, abort_taken, cm_taken, answer, request_taken, ack_taken, wire_taken, is_meant_for, looks_at as looks_at_frame, is_malformed_for, wanted, wire_wanted, gives as gives_frame, taken};
+ghost use Rattle.station_core.specs.Taking.{packet_kind as packet_kind_of, in_opening, in_session as session_taken, in_lane as lane_taken, abort_taken, cm_taken, answer, request_taken, ack_taken, wire_taken, is_meant_for, looks_at as looks_at_frame, is_malformed_for, wanted, wire_wanted, taken};
 
 use crate::refused::Refused;
 use crate::station::{Station, enqueue};
@@ -110,42 +111,6 @@ impl Station {
         }
     }
 
-    /// Whether a `take` of this frame with room would give a message to any port.
-    #[inline]
-    pub fn gives(&self, frame: &Frame) -> bool
-        ensures { result ≡ gives_frame self.now frame.now }
-    {
-        let meaning = read_id(frame.id());
-        if !self.is_meant(&meaning) {
-            return false;
-        }
-        match read_in_place(frame, &meaning) {
-            Some(
-                (
-                    Heard::Packet {
-                        kind,
-                        sequence,
-                        bytes,
-                    },
-                    from,
-                    to,
-                ),
-            ) => {
-                let key = Key {
-                    source: from,
-                    kind: packet_kind(kind, to),
-                };
-                let packet = Wire::Packet {
-                    kind,
-                    sequence,
-                    bytes: *bytes,
-                };
-                self.sessions.gives(key, &packet)
-            }
-            _ => false,
-        }
-    }
-
     /// `wants`, for a frame with this meaning.
     fn wants_wire(&self, wire: &Wire, from: Address, to: Address) -> (PortSet, u32)
         ensures { result ≡ wire_wanted self.now wire.now from to }
@@ -227,6 +192,96 @@ impl Station {
         };
         self.hear_telling(&heard, from, to, room, now, told)?;
         Ok(false)
+    }
+
+    /// `take_telling` with room, unless the frame completes a message: then this returns None, and nothing has changed yet. So who has to
+    /// find places for a message first looks at its frame once.
+    #[inline(always)]
+    #[tactic(auto, using(crate::proofs::Traffic::other_traffic))]
+    pub fn take_part(
+        &mut self,
+        frame: &Frame,
+        now: u64,
+        told: &mut Events,
+    ) -> Result<Option<bool>, Refused>
+        requires { told.old ≡ [] }
+        ensures ok { IfOk result (λ part. OnSome part (taken self.old frame.now true now ≡ record { station = self.new; events = told.new })) }
+        ensures malformed { IfOk result (λ part. IfSome part (λ is_malformed. is_malformed ≡ is_malformed_for self.old frame.now)) }
+        ensures none { IfOk result (λ part. OnSome part (wanted self.old frame.now ≡ ([], 0))) }
+        ensures whole { IfOk result (λ part. IfNone part (self.new ≡ self.old)) }
+        ensures untold { IfOk result (λ part. IfNone part (told.new ≡ [])) }
+        ensures refused { IsAnswered (taking_refusal self.old) (result_err result) }
+        ensures err { OnErr result (self.new ≡ self.old) }
+        ensures silent { OnErr result (told.new ≡ []) }
+        ensures memory { taking_refusal self.old ≡ None → OnErr result (MayLackMemory self.old frame.now true) }
+    {
+        if let Some(cause) = self.take_refusal() {
+            return Err(cause);
+        }
+        let meaning = read_id(frame.id());
+        // Most of a bus's frames are other traffic: they are passed over without a call.
+        if !self.is_meant(&meaning) || !is_transport(frame) {
+            return Ok(Some(false));
+        }
+        let Some((heard, from, to)) = read_in_place(frame, &meaning) else {
+            return Ok(Some(true));
+        };
+        if self.hear_part(&heard, from, to, now, told)? {
+            return Ok(None);
+        }
+        Ok(Some(false))
+    }
+
+    // `hear_telling` with room, unless the frame completes a message: then this returns true, and nothing has changed yet.
+    #[inline(always)]
+    fn hear_part(
+        &mut self,
+        heard: &Heard<'_>,
+        from: Address,
+        to: Address,
+        now: u64,
+        told: &mut Events,
+    ) -> Result<bool, AllocError>
+        requires place { taking_refusal self.old ≡ None }
+        requires source { comes_from (meant heard.now) from.0 ≡ true }
+        requires before { told.old ≡ [] }
+        ensures ok { IfOk result (λ is_whole. OnFalse is_whole (wire_taken self.old (meant heard.now) from to true now ≡ record { station = self.new; events = told.new })) }
+        ensures none { IfOk result (λ is_whole. OnFalse is_whole (wire_wanted self.old (meant heard.now) from to ≡ ([], 0))) }
+        ensures whole { IfOk result (λ is_whole. OnTrue is_whole (self.new ≡ self.old)) }
+        ensures untold { IfOk result (λ is_whole. OnTrue is_whole (told.new ≡ [])) }
+        ensures err { OnErr result (self.new ≡ self.old) }
+        ensures silent { OnErr result (told.new ≡ []) }
+        ensures memory { OnErr result (WireMayLackMemory self.old (meant heard.now) from to true) }
+    {
+        match heard {
+            Heard::Packet {
+                kind,
+                sequence,
+                bytes,
+            } => {
+                let packet = Heard::Packet {
+                    kind: *kind,
+                    sequence: *sequence,
+                    bytes,
+                };
+                let key = Key {
+                    source: from,
+                    kind: packet_kind(*kind, to),
+                };
+                self.sessions.receive_part(
+                    &self.ports,
+                    key,
+                    &packet,
+                    true,
+                    now,
+                    &mut self.queue,
+                )
+            }
+            _ => {
+                self.hear_telling(heard, from, to, true, now, told)?;
+                Ok(false)
+            }
+        }
     }
 
     /// `take_telling`, for a frame that the station looks at and that is read already, as one is for many stations. The station's queue

@@ -137,7 +137,3 @@ unbound_at key number sessions = unbound_by (state_at sessions key) key number s
 abbrev pub wanted_by : Option (List ℕ × Incoming) → Wire → List ℕ × ℕ
 wanted_by None wire = ([], 0)
 wanted_by (Some v) wire = if completes v.1 wire then (v.0, size_of v.1) else ([], 0)
-
--- whether there is any
-abbrev pub gives_by : Option (List ℕ × Incoming) → Wire → Bool
-gives_by session wire = not (length (wanted_by session wire).0 == 0)

@@ -1,6 +1,6 @@
 //! The incoming sessions of a station.
-ghost use Rattle.std.specs.Prelude.{◌≡◌, ℕ, ◌<◌, ◌-◌, ◌++◌, ◌==◌, Some, None, [], IfErr, OnOk, OnErr, length, true, option_to_list};
-ghost use Rattle.std.specs.Bool.{OnTrue};
+ghost use Rattle.std.specs.Prelude.{◌≡◌, ℕ, ◌<◌, ◌-◌, ◌++◌, ◌==◌, Some, None, [], IfOk, IfErr, OnOk, OnErr, length, true, option_to_list};
+ghost use Rattle.std.specs.Bool.{OnTrue, OnFalse};
 ghost use Rattle.std.specs.FinMap as map;
 ghost use Rattle.session_table.specs.Sessions.{state_at};
 ghost use Rattle.session_table.specs.DueOrder.{first_due};
@@ -12,7 +12,7 @@ ghost use Rattle.tp_wire.specs.declared.wire.Wire.TheVariants.{Packet};
 ghost use Rattle.tx_queue.specs.Queue.{queue_limit};
 ghost use Rattle.station_sessions.specs.Memory.{wants_memory, fires_wanting};
 ghost use Rattle.station_sessions.specs.Sources.{HasNoneBetween};
-ghost use Rattle.station_sessions.specs.Receiving.{Leaves, LeavesQuietly, flow_at, received, fired_at, aborted_at, unbound_at, wanted_by, gives_by};
+ghost use Rattle.station_sessions.specs.Receiving.{Leaves, LeavesQuietly, flow_at, received, fired_at, aborted_at, unbound_at, wanted_by};
 ghost use Rattle.station_sessions.specs.Ends.{IsFlowOf, IsGivenAtSeveral, IsLastAt, completes_by, ended_by};
 
 mod due;
@@ -194,17 +194,6 @@ impl Receivers {
         }
     }
 
-    /// Whether the session of a key would give a message to any port at the step with this frame.
-    #[inline]
-    pub fn gives(&self, key: Key, wire: &Wire) -> bool
-        ensures { result ≡ gives_by (state_at self.now key) wire.now }
-    {
-        match self.table.get(key) {
-            Some((set, state)) => completes(state, wire) && !set.is_empty(),
-            None => false,
-        }
-    }
-
     /// A frame of its source is taken at tick `now` by the session of a key; without one nothing is done (SAE J1939-21,
     /// TP.DT; ISO 11783-3, ETP.DT, ETP.CM_DPO). A message that it completes is given at each port of the session's set, by
     /// rising number, with the end of message acknowledgement of a connection. `room` says whether each of them has room for
@@ -212,7 +201,6 @@ impl Receivers {
     ///
     /// What it answers is queued behind the frames of a queue. All memory is taken first: want of it changes nothing. It is asked
     /// for only with room, for a message that is given at two ports or more and for a window of ETP.
-    // Always inlined, and what ends a session out of line: so a packet in the middle of a message passes without a call.
     #[inline(always)]
     pub fn receive(
         &mut self,
@@ -233,20 +221,50 @@ impl Receivers {
         ensures room { OnErr result (room ≡ true) }
         ensures memory { OnErr result (wants_memory ports.now key (meant heard.now) room self.old ≡ true) }
     {
+        if !self.receive_part(ports, key, heard, room, now, queue)? {
+            return Ok(());
+        }
+        match heard {
+            Heard::Packet {
+                kind: _,
+                sequence: _,
+                bytes,
+            } => self.complete(ports, key, bytes, room, queue, told),
+            _ => unreachable!(),
+        }
+    }
+
+    /// `receive`, unless the frame completes the message of the session: then this returns true, and nothing has changed yet. So who
+    /// has to find places for a message first looks at its frame once.
+    // Always inlined, and what ends a session out of line: so a packet in the middle of a message passes without a call.
+    #[inline(always)]
+    pub fn receive_part(
+        &mut self,
+        ports: &PortTable,
+        key: Key,
+        heard: &Heard<'_>,
+        room: bool,
+        now: u64,
+        queue: &mut TxQueue,
+    ) -> Result<bool, AllocError>
+        requires place { length queue.old < queue_limit }
+        ensures value { IfOk result (λ is_whole. is_whole ≡ completes_by (state_at self.old key) (meant heard.now)) }
+        ensures part { IfOk result (λ is_whole. OnFalse is_whole (Leaves (received ports.now key (meant heard.now) room now self.old) self.new queue.old queue.new [])) }
+        ensures whole { IfOk result (λ is_whole. OnTrue is_whole (self.new ≡ self.old)) }
+        ensures waits { IfOk result (λ is_whole. OnTrue is_whole (queue.new ≡ queue.old)) }
+        ensures last { IfOk result (λ is_whole. OnTrue is_whole (IsLastAt (state_at self.old key))) }
+        ensures err { OnErr result (self.new ≡ self.old) }
+        ensures kept { OnErr result (queue.new ≡ queue.old) }
+        ensures room { OnErr result (room ≡ true) }
+        ensures memory { OnErr result (wants_memory ports.now key (meant heard.now) room self.old ≡ true) }
+    {
         let flow = self.flow_of(ports, key);
         match self.table.take(key, heard, room, flow, now, queue) {
-            Left::Nothing => Ok(()),
-            Left::Message => match heard {
-                Heard::Packet {
-                    kind: _,
-                    sequence: _,
-                    bytes,
-                } => self.complete(ports, key, bytes, room, queue, told),
-                _ => unreachable!(),
-            },
+            Left::Nothing => Ok(false),
+            Left::Message => Ok(true),
             Left::Abort(reason) => {
                 self.end_by(key, reason, queue);
-                Ok(())
+                Ok(false)
             }
             Left::NoMemory => Err(AllocError),
         }
