@@ -5,9 +5,9 @@ ghost use Rattle.live_segment.specs.LiveView.{is_station_of, clients_at, client_
 use crate::call::{Owed, WorkerCall};
 use crate::calls::Calls;
 use crate::offer::{Ready, make_ready, store};
-use crate::places::{Found, find_room};
+use crate::places::{Found, make_found};
 use crate::refused::{Accepted, NotMade};
-use crate::step::{make, make_telling, refusal_for};
+use crate::step::{make, refusal_for};
 use crate::tell::tell;
 use pgn_ids::{Address, Pgn};
 use segment_core::{Call, Events, Made, NewRefused, Refusal, Reply, Segment, the_headline_holds};
@@ -209,20 +209,25 @@ impl Live {
         ensures err { OnErr result (SameLive self.old self.new) }
         ensures not_refused { OnErr result (LacksMemory self.old call) }
     {
-        let Ok(found) = find_room(
+        let Ok(found) = make_found(
             self.alloc,
-            &self.segment,
+            &mut self.segment,
             &mut self.calls,
             &mut self.doors,
-            &call,
+            call,
+            told,
         ) else {
             if let Some(refusal) = refusal_for(&self.segment, call) {
                 return Ok(Made::Refused(refusal));
             }
             return Err(AllocError);
         };
-        let Found { room, buffers } = found;
-        match make_telling(&mut self.segment, call.with_room(room), told)? {
+        let Found {
+            room,
+            buffers,
+            made,
+        } = found;
+        match made {
             Made::Done => {
                 tell(
                     &mut self.doors,

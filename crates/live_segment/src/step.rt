@@ -1,10 +1,10 @@
 //! One call on the segment, and why it would be refused.
-ghost use Rattle.std.specs.Prelude.{◌≡◌, ◌++◌, ◌∷◌, [], Bool, List, IfOk, IsOk, OnErr};
+ghost use Rattle.std.specs.Prelude.{◌≡◌, ◌++◌, ◌∷◌, [], Bool, true, List, IfOk, IsOk, OnErr, IfSome, OnSome, IfNone};
 ghost use Rattle.pgn_ids.specs.declared.address.Address.{Address};
 ghost use Rattle.segment_law.specs.Calls.{called};
 ghost use Rattle.segment_law.specs.Record.{Record, StandsAt};
 ghost use Rattle.segment_core.specs.Answers.{refusal_of, reply_with};
-ghost use Rattle.live_segment.specs.Words.{call_of};
+ghost use Rattle.live_segment.specs.Words.{call_of, wanted_by};
 ghost use Rattle.reply_law.specs.Replies.{reply_of, left_by, Follows};
 
 use crate::call::WorkerCall;
@@ -40,6 +40,31 @@ pub(crate) fn make_telling(
     ensures follows { (addresses : List Address) (steps : Record) → StandsAt addresses steps segment.old → IfOk result (λ m. Follows segment.old call segment.new (reply_with m told.new)) }
 {
     segment.apply_telling(call, told)
+}
+
+/// `make_telling` with room, unless the call may give a message: then this returns None, and nothing has changed yet. A Take may give
+/// one exactly if its frame completes it; of a TakeAgain that isn't looked at.
+#[inline(always)]
+pub(crate) fn make_ungiven(
+    segment: &mut Segment,
+    call: WorkerCall,
+    told: &mut Events,
+) -> Result<Option<Made>, AllocError>
+    requires { told.old ≡ [] }
+    ensures reply { IfOk result (λ part. IfSome part (λ m. reply_with m told.new ≡ reply_of segment.old (call_of call true))) }
+    ensures after { IfOk result (λ part. OnSome part (segment.new ≡ left_by segment.old (call_of call true))) }
+    ensures none { IfOk result (λ part. OnSome part ((wanted_by segment.old call).ports ≡ [])) }
+    ensures same { IfOk result (λ part. IfNone part (segment.new ≡ segment.old)) }
+    ensures untold { IfOk result (λ part. IfNone part (told.new ≡ [])) }
+    ensures err { OnErr result (segment.new ≡ segment.old) }
+    ensures stands { (addresses : List Address) (steps : Record) → StandsAt addresses steps segment.old → IfOk result (λ part. IfSome part (λ m. StandsAt addresses (steps ++ (call_of call true, reply_with m told.new) ∷ []) segment.new)) }
+    ensures follows { (addresses : List Address) (steps : Record) → StandsAt addresses steps segment.old → IfOk result (λ part. IfSome part (λ m. Follows segment.old (call_of call true) segment.new (reply_with m told.new))) }
+{
+    match call {
+        WorkerCall::Take { station } => segment.take_unless_whole(station, told),
+        WorkerCall::TakeAgain { station: _ } => Ok(None),
+        _ => Ok(Some(make_telling(segment, call.with_room(true), told)?)),
+    }
 }
 
 /// Why the segment would refuse a call, whether there is room for what it gives or not. It takes no memory.

@@ -1,6 +1,5 @@
 //! What a call gives if there is room.
-ghost use Rattle.std.specs.Prelude.{◌≡◌, []};
-ghost use Rattle.std.specs.Bool.{OnFalse};
+ghost use Rattle.std.specs.Prelude.{◌≡◌};
 ghost use Rattle.live_segment.specs.Words.{wanted_by};
 
 use crate::call::WorkerCall;
@@ -42,17 +41,5 @@ pub(crate) fn wanted_of(segment: &Segment, call: &WorkerCall) -> Wanted
             ports: PortSet::empty(),
             len: 0,
         },
-    }
-}
-
-/// Whether a call gives anything, if there is room for it.
-#[inline(always)]
-pub(crate) fn gives(segment: &Segment, call: &WorkerCall) -> bool
-    ensures { OnFalse result ((wanted_by segment.now call.now).ports ≡ []) }
-{
-    match call {
-        WorkerCall::Take { station } => segment.gives(*station, false),
-        WorkerCall::TakeAgain { station } => segment.gives(*station, true),
-        _ => false,
     }
 }

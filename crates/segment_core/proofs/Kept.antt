@@ -1,6 +1,6 @@
 -- The segment that is kept, after a call of one station.
-use Rattle.std.proofs.Common.{◌≡◌, ℕ, ◌<◌, ◌≤◌, Bool, true, false, not, cond, nat_lt, List, [], length, set, get_or, Some, None, ◌==◌, Result, Ok, Err, IsOk, refl, sym, ap, ◌∙◌, subst, arith, length-set}
-use Rattle.std.specs.Prelude.{slice_get}
+use Rattle.std.proofs.Common.{◌≡◌, ℕ, ◌<◌, ◌≤◌, Bool, true, false, not, cond, nat_lt, List, [], length, set, get_or, Option, Some, None, ◌==◌, Result, Ok, Err, IsOk, refl, sym, ap, ◌∙◌, subst, arith, length-set}
+use Rattle.std.specs.Prelude.{slice_get, OnSome, IfSome, IfNone}
 use Rattle.std.specs.Vec.{with_item}
 use Rattle.std.proofs.lemmas.List.{set-get_or}
 use Rattle.std.proofs.lemmas.Option.{slice_get_read, same_Some}
@@ -15,12 +15,14 @@ use Rattle.station_core.specs.Station.{Station, StationStep}
 use Rattle.station_core.specs.Taking.{is_malformed_for, taken}
 use Rattle.station_core.specs.Overruns.{overrun}
 use Rattle.station_core.specs.Refusals.{taking_refusal}
+use Rattle.station_core.specs.declared.refused.Refused.{Refused as Cause}
+use Rattle.station_core.specs.declared.refused.Refused.TheVariants as cause
 use Rattle.station_core.specs.Taking as taking
-use Rattle.segment_law.specs.Readers.{frame_for, wanted_with, gives_with}
+use Rattle.segment_law.specs.Readers.{frame_for, wanted_with, wanted}
 use Rattle.segment_core.specs.Answers.{IsAnswer, IsAnswerBy}
 use Rattle.segment_core.specs.declared.stop.Stop.{Stop}
 use Rattle.segment_core.specs.declared.stop.Stop.TheVariants.{OutOfMemory}
-use Rattle.segment_law.specs.Segment.{Segment, place_of, with_station, counted, counted_look, counted_repeat}
+use Rattle.segment_law.specs.Segment.{Segment, place_of, station_of, with_station, counted, counted_look, counted_repeat}
 use Rattle.segment_law.specs.Calls.{Answer, at_address, stepped, no_place, takes, repeats, overruns}
 use Rattle.segment_law.specs.declared.reply.Reply.{Reply}
 use Rattle.segment_law.specs.declared.reply.Reply.TheVariants.{Done}
@@ -121,9 +123,27 @@ place_there n st is some = by (no_place st) refl
     by true e = absurd (some (is ∙ eqb-true (free_places st.queue) 0 e))
     by false e = refl
 
--- whether it would give a message to any port
-pub gives_is : (seg : Segment) (i : ℕ) (st : Station) (frame : CanFrame) (again : Bool) → slice_get seg.stations i ≡ Some st → frame_for seg again i ≡ Some frame → no_place st ≡ false → gives_with (slice_get seg.stations i) (frame_for seg again i) ≡ taking.gives st frame
-gives_is seg i st frame again there next place = ap (λ (w : List ℕ × ℕ). not (length w.0 == 0)) (wanted_is seg i st frame again there next place)
+-- clauses on an option, for the case that is there
+module _ {A : Type 0} where
+  pub when_some : (P : Type 0) (o : Option A) (x : A) → o ≡ Some x → OnSome o P → P
+  when_some P o x is h = subst (λ (p : Option A). OnSome p P) is h
+
+  pub when_this : (P : A → Type 0) (o : Option A) (x : A) → o ≡ Some x → IfSome o P → P x
+  when_this P o x is h = subst (λ (p : Option A). IfSome p P) is h
+
+  pub when_none : (P : Type 0) (o : Option A) → o ≡ None → IfNone o P → P
+  when_none P o is h = subst (λ (p : Option A). IfNone p P) is h
+
+-- what a station wants of its next frame, if it has a place for its answer
+pub wanted_next : (seg : Segment) (a : Address) (i : ℕ) (st : Station) (frame : CanFrame) → Some i ≡ place_of seg a → station_of seg a ≡ Some st → Some frame ≡ bus.next_frame seg.bus i → taking_refusal st ≡ None → wanted seg a false ≡ taking.wanted st frame
+wanted_next seg a i st frame here is next free =
+    ap (λ (o : Option ℕ). elim o as (λ (_ : Option ℕ). List ℕ × ℕ) [ None ↦ ([], 0) | Some j ↦ wanted_with (station_of seg a) (frame_for seg false j) ]) (sym here)
+    ∙ (λ k. wanted_with (is k) (sym next k))
+    ∙ ap (λ (b : Bool). cond b ([], 0) (taking.wanted st frame)) (by (no_place st) refl)
+  where
+    by : (b : Bool) → no_place st ≡ b → b ≡ false
+    by true e = absurd (let q : Some cause.TxFull ≡ None = ap (λ (b : Bool). cond {A = Option Cause} b (Some cause.TxFull) None) (sym e) ∙ free in cc)
+    by false e = refl
 
 -- a Take that is told and counted
 pub taken_view : (s : Inside) (seg : Segment) (i : ℕ) (st : Station) (frame : CanFrame) (new : Station) (events : List Event) (malformed : Bool) (moved left : bus.Bus) (after : Segment) (told : Reply) → segment_value s ≡ seg → malformed ≡ is_malformed_for st frame → moved ≡ bus.taken s.bus i → left ≡ bus.released moved

@@ -1,13 +1,13 @@
 -- How a record goes on with a call that the code makes.
-use Rattle.std.proofs.Common.{◌≡◌, ℕ, zero, suc, ◌<◌, true, ◌&&◌, List, [], ◌∷◌, ◌++◌, Ok, Err, refl, sym, ap, ◌∙◌, subst}
+use Rattle.std.proofs.Common.{◌≡◌, ℕ, zero, suc, ◌<◌, Bool, true, ◌&&◌, List, [], ◌∷◌, ◌++◌, Ok, Err, refl, sym, ap, ◌∙◌, subst}
 use Rattle.std.specs.Prelude.{slice_index}
 use Rattle.std.proofs.lemmas.Bool.{lt-ltb}
 use Rattle.pgn_ids.specs.declared.address.Address.{Address}
 use Rattle.segment_law.specs.Segment.{Segment}
-use Rattle.segment_law.specs.Calls.{are_bytes, is_call, at_address, opens, called, replied, applied}
+use Rattle.segment_law.specs.Calls.{are_bytes, is_call, at_address, opens, takes, called, replied, applied}
 use Rattle.segment_law.specs.Record.{Record, StandsAt}
 use Rattle.segment_law.specs.declared.call.Call.{Call}
-use Rattle.segment_law.specs.declared.call.Call.TheVariants.{Open}
+use Rattle.segment_law.specs.declared.call.Call.TheVariants.{Open, Take}
 use Rattle.segment_law.specs.declared.refusal.Refusal.{Refusal}
 use Rattle.segment_law.specs.declared.reply.Reply.{Reply}
 use Rattle.segment_law.specs.declared.reply.Reply.TheVariants as of_reply
@@ -38,6 +38,10 @@ refused_stands before after call cause ended fit is says =
     answered_stands before after call (of_reply.Refused cause) fit (ap (replied before) refused.0 ∙ ap (λ (seg : Segment). (seg, of_reply.Refused cause)) (sym refused.1))
 
 -- what is called of a station
+pub takes_called : (seg : Segment) (a : Address) (room : Bool) → called seg (Take a room) ≡ at_address seg a (takes seg room)
+unfolding called
+takes_called seg a room = refl
+
 pub opens_called : (seg : Segment) (a : Address) (pgn max_len : ℕ) → called seg (Open a pgn max_len) ≡ at_address seg a (opens seg pgn max_len)
 unfolding called
 opens_called seg a pgn max_len = refl

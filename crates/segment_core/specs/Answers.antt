@@ -27,6 +27,12 @@ abbrev pub IsAnswerBy : {T : Type 0} → (reply : T → Reply) → Answer → (b
 IsAnswerBy reply answer before after (Ok given) = answer ≡ Ok (after, reply given)
 IsAnswerBy reply answer before after (Err stop) = IsAnswer answer before after (Err stop)
 
+-- the law's answer to a call that has these events; or nothing has changed, since its frame completes a message
+abbrev pub IsPart : {T : Type 0} → (told : List Event) → Answer → (before after : Segment) → Result (Option T) Stop → Type 0
+IsPart told answer before after (Ok None) = after ≡ before
+IsPart told answer before after (Ok (Some given)) = answer ≡ Ok (after, Done told)
+IsPart told answer before after (Err stop) = IsAnswer answer before after (Err stop)
+
 -- the reply of a call that was answered so and has these events
 abbrev pub reply_with : Made → List Event → Reply
 reply_with (made.Opened port) events = Opened port

@@ -1,5 +1,7 @@
 //! One call on a segment.
-ghost use Rattle.std.specs.Prelude.{◌≡◌, ℕ, ◌<◌, ◌∷◌, ◌++◌, [], true, slice_index, List, IfOk, OnErr, IsErrOf, IsOk};
+ghost use Rattle.std.specs.Prelude.{◌≡◌, ℕ, ◌<◌, ◌∷◌, ◌++◌, [], true, false, slice_index, List, IfOk, OnErr, OnSome, IfSome, IfNone, IsErrOf, IsOk};
+ghost use Rattle.segment_law.specs.Readers.{wanted};
+ghost use Rattle.segment_law.specs.declared.call.Call.TheVariants.{Take};
 ghost use Rattle.segment_law.specs.Calls.{are_bytes, is_address, is_call, called, applied};
 ghost use Rattle.segment_law.specs.Record.{Record, StandsAt};
 ghost use Rattle.pgn_ids.specs.declared.address.Address.{Address as AddressValue};
@@ -113,6 +115,37 @@ impl Segment {
         match self.call(call, told) {
             Ok(made) => Ok(made),
             Err(Stop::Refused(cause)) => Ok(Made::Refused(cause)),
+            Err(Stop::OutOfMemory) => Err(AllocError),
+        }
+    }
+
+    /// Makes the Take of a station with room, as `apply_telling`, unless its frame completes a message: then this returns None, and
+    /// nothing has changed yet. So who has to find places for a message first looks at its frame once.
+    #[inline(never)]
+    #[tactic(auto, unfolding(segment_law::specs::Calls::called))]
+    pub fn take_unless_whole(
+        &mut self,
+        station: Address,
+        told: &mut Events,
+    ) -> Result<Option<Made>, AllocError>
+        requires { told.old ≡ [] }
+        ensures ok { IfOk result (λ part. IfSome part (λ made. applied self.old (Take station true) ≡ (self.new, reply_with made told.new))) }
+        ensures none { IfOk result (λ part. OnSome part ((wanted self.old station false).0 ≡ [])) }
+        ensures whole { IfOk result (λ part. IfNone part (self.new ≡ self.old)) }
+        ensures untold { IfOk result (λ part. IfNone part (told.new ≡ [])) }
+        ensures err { OnErr result (self.new ≡ self.old) }
+        ensures silent { OnErr result (told.new ≡ []) }
+        ensures not_refused { OnErr result (IsOk (called self.old (Take station true))) }
+        ensures memory { OnErr result (MayAskMemory self.old (Take station true)) }
+        ensures stands { (addresses : List AddressValue) (steps : Record) → StandsAt addresses steps self.old → IfOk result (λ part. IfSome part (λ made. StandsAt addresses (steps ++ (Take station true, reply_with made told.new) ∷ []) self.new)) }
+        ensures headline { KeepsPromise self.new }
+    {
+        // A law, for the last clause: the call does nothing.
+        the_headline_holds();
+        match self.take_part(station, told) {
+            Ok(Some(())) => Ok(Some(Made::Done)),
+            Ok(None) => Ok(None),
+            Err(Stop::Refused(cause)) => Ok(Some(Made::Refused(cause))),
             Err(Stop::OutOfMemory) => Err(AllocError),
         }
     }

@@ -4,7 +4,7 @@ ghost use Rattle.pgn_ids.specs.declared.address.Address.{Address as AddressValue
 ghost use Rattle.tx_queue.specs.Queue.{queue_limit};
 ghost use Rattle.bus_order.specs.Bus.{bus_len, frame_at};
 ghost use Rattle.segment_law.specs.Segment.{has_station, waiting_at};
-ghost use Rattle.segment_law.specs.Readers.{lane_seen, queue_len, front_at, next_pump, is_due, wanted, wanted_with, gives, gives_with, given_by_take, frame_for, rests, is_idle};
+ghost use Rattle.segment_law.specs.Readers.{lane_seen, queue_len, front_at, next_pump, is_due, wanted, wanted_with, given_by_take, frame_for, rests, is_idle};
 ghost use Rattle.segment_law.specs.Record.{Record, StandsAt};
 ghost use Rattle.record_law.specs.Counting.{counts_over};
 
@@ -128,40 +128,6 @@ impl Segment {
         match self.place_of(station) {
             None => (PortSet::empty(), 0),
             Some(place) => self.wants_at(place, again),
-        }
-    }
-
-    /// Whether the station's next Take with room, or with `again` its TakeAgain, would give a message to any port; false if the address
-    /// isn't a station's.
-    #[inline]
-    pub fn gives(&self, station: Address, again: bool) -> bool
-        ensures { result ≡ gives self.now station again }
-    {
-        match self.place_of(station) {
-            None => false,
-            Some(place) => self.gives_at(place, again),
-        }
-    }
-
-    // Whether the station at a place would.
-    #[inline]
-    fn gives_at(&self, place: usize, again: bool) -> bool
-        requires { place < length self.now.stations }
-        ensures { result ≡ gives_with (slice_get self.now.stations place) (frame_for self.now again place) }
-    {
-        let station = &self.stations[place];
-        if station.free() == 0 {
-            return false;
-        }
-        if again {
-            return match self.bus.again(place) {
-                Some(frame) => station.gives(&frame),
-                None => false,
-            };
-        }
-        match self.bus.peek(place) {
-            Some(frame) => station.gives(frame),
-            None => false,
         }
     }
 

@@ -3,9 +3,10 @@ ghost use Rattle.segment_law.specs.Calls.{at_address, takes, repeats, overruns};
 ghost use Rattle.segment_law.specs.Segment.{counted, counted_look};
 ghost use Rattle.segment_law.specs.declared.call.Call.TheVariants.{Take};
 ghost use Rattle.segment_law.specs.declared.reply.Reply.TheVariants.{Done};
-ghost use Rattle.segment_core.specs.Answers.{IsAnswerBy};
+ghost use Rattle.segment_law.specs.Readers.{wanted};
+ghost use Rattle.segment_core.specs.Answers.{IsAnswerBy, IsPart};
 ghost use Rattle.segment_core.specs.Memory.{MayAskMemory};
-ghost use Rattle.std.specs.Prelude.{◌≡◌, ◌<◌, [], length, OnErr, IsErrOf};
+ghost use Rattle.std.specs.Prelude.{◌≡◌, ◌<◌, [], true, false, length, IfOk, OnErr, IfNone, OnSome, IsErrOf};
 ghost use Rattle.bus_order.specs.Bus.{next_frame};
 
 use crate::counting::{count_look, count_repeat};
@@ -60,6 +61,37 @@ impl Segment {
         self.bus.pass(at);
         self.looked(is_malformed, told);
         Ok(())
+    }
+
+    /// `take_telling` with room, unless the frame completes a message: then this returns None, and nothing has changed yet.
+    #[inline(always)]
+    pub(crate) fn take_part(
+        &mut self,
+        station: Address,
+        told: &mut Events,
+    ) -> Result<Option<()>, Stop>
+        requires { told.old ≡ [] }
+        ensures answer { IsPart told.new (at_address self.old station (takes self.old true)) self.old self.new result }
+        ensures none { IfOk result (λ part. OnSome part (wanted self.old station false ≡ ([], 0))) }
+        ensures untold { IfOk result (λ part. IfNone part (told.new ≡ [])) }
+        ensures silent { OnErr result (told.new ≡ []) }
+        ensures memory { IsErrOf result Stop.OutOfMemory → MayAskMemory self.old (Take station true) }
+    {
+        let Some(at) = self.place_of(station) else {
+            return Err(Stop::Refused(Refusal::NoSuchStation));
+        };
+        let Some(frame) = self.bus.peek(at) else {
+            return Err(Stop::Refused(Refusal::NothingToTake));
+        };
+        let now = self.clock.now();
+        let is_malformed = match self.stations[at].take_part(frame, now, told) {
+            Ok(Some(is_malformed)) => is_malformed,
+            Ok(None) => return Ok(None),
+            Err(cause) => return Err(stop_of(cause)),
+        };
+        self.bus.pass(at);
+        self.looked(is_malformed, told);
+        Ok(Some(()))
     }
 
     /// A station takes again the frame that it took last, and puts its events into a place that has none yet.
