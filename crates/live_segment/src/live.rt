@@ -214,7 +214,7 @@ impl Live {
             &mut self.segment,
             &mut self.calls,
             &mut self.doors,
-            call,
+            &call,
             told,
         ) else {
             if let Some(refusal) = refusal_for(&self.segment, call) {

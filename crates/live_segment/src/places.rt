@@ -165,7 +165,7 @@ pub(crate) fn make_found(
     segment: &mut Segment,
     calls: &mut Calls,
     doors: &mut Vec<Door>,
-    call: WorkerCall,
+    call: &WorkerCall,
     told: &mut Events,
 ) -> Result<Found, AllocError>
     requires apart { PortsApart doors.old.items }
@@ -176,20 +176,20 @@ pub(crate) fn make_found(
     ensures same { SameDoors doors.old.items doors.new.items }
     ensures place { OnOk result (0 < calls.new.spare) }
     ensures few { count_since calls.old.pieces calls.old.items < 1000000 → length calls.old.items + 1 < 2 ^ 64 }
-    ensures found { IfOk result (λ r. IsFound (wanted_by segment.old call) doors.new.items r.room r.buffers.items) }
-    ensures reply { IfOk result (λ r. reply_with r.made told.new ≡ reply_of segment.old (call_of call r.room)) }
-    ensures after { IfOk result (λ r. segment.new ≡ left_by segment.old (call_of call r.room)) }
+    ensures found { IfOk result (λ r. IsFound (wanted_by segment.old call.now) doors.new.items r.room r.buffers.items) }
+    ensures reply { IfOk result (λ r. reply_with r.made told.new ≡ reply_of segment.old (call_of call.now r.room)) }
+    ensures after { IfOk result (λ r. segment.new ≡ left_by segment.old (call_of call.now r.room)) }
     ensures err { OnErr result (segment.new ≡ segment.old) }
-    ensures stands { (addresses : List Address) (steps : Record) → StandsAt addresses steps segment.old → IfOk result (λ r. StandsAt addresses (steps ++ (call_of call r.room, reply_with r.made told.new) ∷ []) segment.new) }
-    ensures follows { (addresses : List Address) (steps : Record) → StandsAt addresses steps segment.old → IfOk result (λ r. Follows segment.old (call_of call r.room) segment.new (reply_with r.made told.new)) }
+    ensures stands { (addresses : List Address) (steps : Record) → StandsAt addresses steps segment.old → IfOk result (λ r. StandsAt addresses (steps ++ (call_of call.now r.room, reply_with r.made told.new) ∷ []) segment.new) }
+    ensures follows { (addresses : List Address) (steps : Record) → StandsAt addresses steps segment.old → IfOk result (λ r. Follows segment.old (call_of call.now r.room) segment.new (reply_with r.made told.new)) }
 {
     calls.reserve()?;
-    match make_ungiven(segment, call, told)? {
+    match make_ungiven(segment, *call, told)? {
         Some(made) => Ok(Found {
             room: true,
             buffers: Vec::new(alloc),
             made,
         }),
-        None => make_giving(alloc, segment, doors, call, told),
+        None => make_giving(alloc, segment, doors, *call, told),
     }
 }
