@@ -1,5 +1,5 @@
 //! A set of addresses, with a bit for each.
-ghost use Rattle.std.specs.Prelude.{◌≡◌, ◌≢◌, ◌+◌, ◌<◌, ◌==◌, ℕ};
+ghost use Rattle.std.specs.Prelude.{◌≡◌, ◌≢◌, ◌+◌, ◌<◌, ◌==◌, ℕ, None, IsTrue};
 ghost use Rattle.std.specs.Int.{bit_at};
 ghost use Rattle.address_set.specs.Sets.{no_address, has, IsNext, IsLowest};
 
@@ -57,11 +57,23 @@ impl AddressSet {
         self.words[at / WIDTH] = with_bit(self.words[at / WIDTH], at % WIDTH, is_in);
     }
 
+    // Whether no address is in the set.
+    #[inline]
+    fn is_empty(&self) -> bool
+        ensures { IsTrue result → (from : ℕ) → IsNext self.now from None }
+    {
+        self.words[0] == 0 && self.words[1] == 0 && self.words[2] == 0 && self.words[3] == 0
+    }
+
     /// The lowest address of the set from one on, 0 to 256, if there is one.
     #[inline]
     pub fn next(&self, from: usize) -> Option<u8>
         ensures { IsNext self.now from result }
     {
+        // As a rule a set that is asked is empty.
+        if self.is_empty() {
+            return None;
+        }
         for place in from / WIDTH..WORDS {
             let word = self.words[place];
             if word == 0 {

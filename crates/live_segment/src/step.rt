@@ -8,7 +8,7 @@ ghost use Rattle.live_segment.specs.Words.{call_of, wanted_by};
 ghost use Rattle.reply_law.specs.Replies.{reply_of, left_by, Follows};
 
 use crate::call::WorkerCall;
-use segment_core::{Call, Events, Made, Refusal, Reply, Segment};
+use segment_core::{Call, Events, Made, Refusal, Reply, Segment, Tried};
 use std::alloc::AllocError;
 
 /// Makes one call. Want of memory changes nothing.
@@ -61,7 +61,11 @@ pub(crate) fn make_ungiven(
     ensures follows { (addresses : List Address) (steps : Record) → StandsAt addresses steps segment.old → IfOk result (λ part. IfSome part (λ m. Follows segment.old (call_of call true) segment.new (reply_with m told.new))) }
 {
     match call {
-        WorkerCall::Take { station } => segment.take_unless_whole(station, told),
+        WorkerCall::Take { station } => match segment.take_unless_whole(station, told)? {
+            Tried::Done => Ok(Some(Made::Done)),
+            Tried::Whole => Ok(None),
+            Tried::Refused(cause) => Ok(Some(Made::Refused(cause))),
+        },
         WorkerCall::TakeAgain { station: _ } => Ok(None),
         _ => Ok(Some(make_telling(segment, call.with_room(true), told)?)),
     }

@@ -13,6 +13,8 @@ use Rattle.segment_law.specs.declared.reply.Reply.TheVariants.{Opened, Sent, Don
 use Rattle.message_events.specs.declared.event.Event.{Event}
 use Rattle.segment_core.specs.declared.made.Made.{Made}
 use Rattle.segment_core.specs.declared.made.Made.TheVariants as made
+use Rattle.segment_core.specs.declared.made.Tried.{Tried}
+use Rattle.segment_core.specs.declared.made.Tried.TheVariants as tried
 use Rattle.segment_core.specs.declared.stop.Stop.{Stop}
 use Rattle.segment_core.specs.declared.stop.Stop.TheVariants.{Refused, OutOfMemory}
 
@@ -39,6 +41,12 @@ reply_with (made.Opened port) events = Opened port
 reply_with (made.Sent number) events = Sent number
 reply_with made.Done events = Done events
 reply_with (made.Refused cause) events = reply.Refused cause
+
+-- how such a Take is answered, if it is made or refused
+abbrev pub made_as : Tried → Option Made
+made_as tried.Done = Some made.Done
+made_as tried.Whole = None
+made_as (tried.Refused cause) = Some (made.Refused cause)
 
 -- as the law says, with its events put into a place of their own
 abbrev pub IsMade : Answer → (before after : Segment) → (told : List Event) → Result Made Stop → Type 0

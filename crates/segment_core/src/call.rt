@@ -5,11 +5,11 @@ ghost use Rattle.segment_law.specs.declared.call.Call.TheVariants.{Take};
 ghost use Rattle.segment_law.specs.Calls.{are_bytes, is_address, is_call, called, applied};
 ghost use Rattle.segment_law.specs.Record.{Record, StandsAt};
 ghost use Rattle.pgn_ids.specs.declared.address.Address.{Address as AddressValue};
-ghost use Rattle.segment_core.specs.Answers.{IsMade, IsSilent, done_unless, reply_with};
+ghost use Rattle.segment_core.specs.Answers.{IsMade, IsSilent, done_unless, made_as, reply_with};
 ghost use Rattle.segment_core.specs.Memory.{MayAskMemory};
 ghost use Rattle.segment_core.specs.Promise.{KeepsPromise};
 
-use crate::made::Made;
+use crate::made::{Made, Tried};
 use crate::segment::Segment;
 use crate::stop::Stop;
 use connection_law::the_headline_holds;
@@ -119,33 +119,33 @@ impl Segment {
         }
     }
 
-    /// Makes the Take of a station with room, as `apply_telling`, unless its frame completes a message: then this returns None, and
-    /// nothing has changed yet. So who has to find places for a message first looks at its frame once.
+    /// Makes the Take of a station with room, as `apply_telling`, unless its frame completes a message: then nothing has changed yet. So
+    /// who has to find places for a message first looks at its frame once.
     #[inline(never)]
     #[tactic(auto, unfolding(segment_law::specs::Calls::called))]
     pub fn take_unless_whole(
         &mut self,
         station: Address,
         told: &mut Events,
-    ) -> Result<Option<Made>, AllocError>
+    ) -> Result<Tried, AllocError>
         requires { told.old ≡ [] }
-        ensures ok { IfOk result (λ part. IfSome part (λ made. applied self.old (Take station true) ≡ (self.new, reply_with made told.new))) }
-        ensures none { IfOk result (λ part. OnSome part ((wanted self.old station false).0 ≡ [])) }
-        ensures whole { IfOk result (λ part. IfNone part (self.new ≡ self.old)) }
-        ensures untold { IfOk result (λ part. IfNone part (told.new ≡ [])) }
+        ensures ok { IfOk result (λ tried. IfSome (made_as tried) (λ made. applied self.old (Take station true) ≡ (self.new, reply_with made told.new))) }
+        ensures none { IfOk result (λ tried. OnSome (made_as tried) ((wanted self.old station false).0 ≡ [])) }
+        ensures whole { IfOk result (λ tried. IfNone (made_as tried) (self.new ≡ self.old)) }
+        ensures untold { IfOk result (λ tried. IfNone (made_as tried) (told.new ≡ [])) }
         ensures err { OnErr result (self.new ≡ self.old) }
         ensures silent { OnErr result (told.new ≡ []) }
         ensures not_refused { OnErr result (IsOk (called self.old (Take station true))) }
         ensures memory { OnErr result (MayAskMemory self.old (Take station true)) }
-        ensures stands { (addresses : List AddressValue) (steps : Record) → StandsAt addresses steps self.old → IfOk result (λ part. IfSome part (λ made. StandsAt addresses (steps ++ (Take station true, reply_with made told.new) ∷ []) self.new)) }
+        ensures stands { (addresses : List AddressValue) (steps : Record) → StandsAt addresses steps self.old → IfOk result (λ tried. IfSome (made_as tried) (λ made. StandsAt addresses (steps ++ (Take station true, reply_with made told.new) ∷ []) self.new)) }
         ensures headline { KeepsPromise self.new }
     {
         // A law, for the last clause: the call does nothing.
         the_headline_holds();
         match self.take_part(station, told) {
-            Ok(Some(())) => Ok(Some(Made::Done)),
-            Ok(None) => Ok(None),
-            Err(Stop::Refused(cause)) => Ok(Some(Made::Refused(cause))),
+            Ok(Some(())) => Ok(Tried::Done),
+            Ok(None) => Ok(Tried::Whole),
+            Err(Stop::Refused(cause)) => Ok(Tried::Refused(cause)),
             Err(Stop::OutOfMemory) => Err(AllocError),
         }
     }
@@ -173,14 +173,14 @@ impl Segment {
                 bytes,
             } => self.send(from, to, pgn, bytes),
             Call::Pump { station, to } => done(self.pump(station, to, told)),
-            Call::Transmit { station } => self.transmit(station),
+            Call::Transmit { station } => done(self.transmit(station)),
             Call::Take { station, room } => done(self.take(station, room, told)),
             Call::TakeAgain { station, room } => done(self.take_again(station, room, told)),
             Call::Overrun { station, n } => done(self.overrun(station, n, told)),
             Call::Tick { n } => self.tick(n),
             Call::Fire { station } => done(self.fire(station, told)),
             Call::Cancel { from, to, number } => done(self.cancel(from, to, number, told)),
-            Call::Inject { frame } => self.inject(frame),
+            Call::Inject { frame } => done(self.inject(frame)),
             Call::Pause { port } => self.pause(port),
             Call::Resume { port } => self.resume(port),
         }

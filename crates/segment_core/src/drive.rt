@@ -176,7 +176,7 @@ impl Segment {
         ensures stopped { IfErr result (λ stop. (start : State) (d : Drive) → IsCourse None start d self.old course.old → Went start (puts d station) self.new course.new (Err stop)) }
     {
         let front = self.front(station);
-        let _done = self.transmit(station)?;
+        self.transmit(station)?;
         course.put(front);
         Ok(self.take_abreast(course))
     }

@@ -2,11 +2,11 @@
 ghost use Rattle.std.specs.Prelude.{◌≡◌, ◌↔◌, [], OnOk, OnErr, IsErrOf, IsTrue};
 ghost use Rattle.bus_order.specs.Bus.{is_full};
 ghost use Rattle.segment_law.specs.Calls.{at_address, with_frame, transmits, injects};
-ghost use Rattle.segment_core.specs.Answers.{IsMade};
+ghost use Rattle.segment_law.specs.declared.reply.Reply.TheVariants.{Done};
+ghost use Rattle.segment_core.specs.Answers.{IsAnswerBy};
 ghost use Rattle.segment_core.specs.Memory.{KeepsTwo};
 
 use crate::counting::count_frame;
-use crate::made::Made;
 use crate::segment::Segment;
 use crate::stop::Stop;
 use bus_frame::Frame;
@@ -17,8 +17,8 @@ use segment_law::Refusal;
 impl Segment {
     /// Puts the first frame of a station's queue on the bus.
     #[inline(never)]
-    pub(crate) fn transmit(&mut self, station: Address) -> Result<Made, Stop>
-        ensures answer { IsMade (at_address self.old station (transmits self.old)) self.old self.new [] result }
+    pub(crate) fn transmit(&mut self, station: Address) -> Result<(), Stop>
+        ensures answer { IsAnswerBy (λ _. Done []) (at_address self.old station (transmits self.old)) self.old self.new result }
         ensures memory { IsErrOf result Stop.OutOfMemory → KeepsTwo self.old }
     {
         let Some(place) = self.place_of(station) else {
@@ -33,21 +33,21 @@ impl Segment {
             Err(PutError::OutOfMemory) => return Err(Stop::OutOfMemory),
         }
         let _transmitted = self.stations[place].pop();
-        Ok(Made::Done)
+        Ok(())
     }
 
     /// Puts the frame of a foreign node on the bus.
     #[inline]
     #[tactic(auto, using(crate::proofs::Stations::call_laws))]
-    pub(crate) fn inject(&mut self, frame: Frame) -> Result<Made, Stop>
-        ensures answer { IsMade (injects self.old frame) self.old self.new [] result }
+    pub(crate) fn inject(&mut self, frame: Frame) -> Result<(), Stop>
+        ensures answer { IsAnswerBy (λ _. Done []) (injects self.old frame) self.old self.new result }
         ensures memory { IsErrOf result Stop.OutOfMemory → KeepsTwo self.old }
     {
         if self.place_of(read_id(frame.id()).from).is_some() {
             return Err(Stop::Refused(Refusal::StationAddress));
         }
         match self.put(frame) {
-            Ok(()) => Ok(Made::Done),
+            Ok(()) => Ok(()),
             Err(PutError::BusFull) => Err(Stop::Refused(Refusal::BusFull)),
             Err(PutError::OutOfMemory) => Err(Stop::OutOfMemory),
         }

@@ -29,7 +29,7 @@ pub use connection_law::the_headline_holds;
 pub use driven::{Driven, EventList, FrameList};
 pub use image::{Image, equal_images_answer_alike};
 pub use lane_core::LaneSight;
-pub use made::Made;
+pub use made::{Made, Tried};
 pub use message_events::Bytes;
 pub use port_table::{PortId, PortSet};
 pub use run::Ran;

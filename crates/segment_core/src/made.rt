@@ -14,3 +14,14 @@ pub enum Made {
     /// It is refused, and nothing has changed.
     Refused(Refusal),
 }
+
+/// The answer to a Take that isn't made if its frame completes a message.
+#[derive(Clone, Copy, Debug, PartialEq, Eq)]
+pub enum Tried {
+    /// It was made.
+    Done,
+    /// Its frame completes a message, and nothing has changed.
+    Whole,
+    /// It is refused, and nothing has changed.
+    Refused(Refusal),
+}
