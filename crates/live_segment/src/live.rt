@@ -4,9 +4,10 @@ ghost use Rattle.live_segment.specs.LiveView.{is_station_of, clients_at, client_
 
 use crate::call::{Owed, WorkerCall};
 use crate::calls::Calls;
-use crate::offer::{Ready, make_ready, store};
+use crate::offer::Ready;
 use crate::places::{Found, find_room};
 use crate::refused::{Accepted, NotMade};
+use crate::seating::Seats;
 use crate::step::{make, make_telling, refusal_for};
 use crate::tell::tell;
 use pgn_ids::{Address, Pgn};
@@ -34,7 +35,7 @@ pub struct Live {
     pub(crate) segment: Segment,
     pub(crate) calls: Calls,
     pub(crate) owed: Vec<Owed>,
-    pub(crate) seats: Vec<Seat>,
+    pub(crate) seats: Seats,
     pub(crate) doors: Vec<Door>,
     pub(crate) stopped: bool,
 }
@@ -67,7 +68,7 @@ impl Drop for Live {
 }
 
 impl Live {
-    ghost use Rattle.std.specs.Prelude.{◌≡◌, ◌≤◌, ◌<◌, [], Bool, false, IfOk, OnErr, IfErr, Ok};
+    ghost use Rattle.std.specs.Prelude.{◌≡◌, ◌≤◌, ◌<◌, [], Bool, false, IfOk, OnErr, IfErr, Ok, IsFalse};
     ghost use Rattle.segment_core.specs.Answers.{reply_with};
     ghost use Rattle.segment_core.specs.declared.made.Made.TheVariants as made;
     ghost use Rattle.segment_law.specs.Headline.{Headline};
@@ -76,7 +77,7 @@ impl Live {
     ghost use Rattle.segment_law.specs.declared.refusal.Refusal.TheVariants.{TraceFull};
     ghost use Rattle.live_segment.specs.Record.{trail};
     ghost use Rattle.live_segment.specs.LiveView.{live_view, keep, stored_calls, since_cut, halted, SameLive, Applied, LacksMemory, Attached, Laws, OpenedFor, IsOpenCause};
-    ghost use Rattle.live_segment.specs.Offers.{AcceptedAs, LacksMemoryFor};
+    ghost use Rattle.live_segment.specs.Offers.{AcceptedAs, LacksMemoryFor, IsAtRest};
     ghost use Rattle.live_segment.specs.Refusals.{IsAnsweredBy, making_refusal, attaching_refusal};
     ghost use Rattle.std.specs.Result.{result_err};
 
@@ -97,6 +98,7 @@ impl Live {
             return Err(NotMade::OutOfMemory);
         };
         let calls = Calls::new(alloc)?;
+        let seats = Seats::new(alloc)?;
         Ok(Live {
             before: [0; WORDS_BEFORE],
             alloc,
@@ -104,7 +106,7 @@ impl Live {
             segment,
             calls,
             owed: Vec::new(alloc),
-            seats: Vec::new(alloc),
+            seats,
             doors: Vec::new(alloc),
             stopped: false,
         })
@@ -257,12 +259,11 @@ impl Live {
             return Ok(Accepted::Empty);
         }
         let k = client as usize;
-        match make_ready(
+        match self.seats.make_ready(
             self.alloc,
             &self.segment,
             &mut self.calls,
             &mut self.owed,
-            &mut self.seats,
             k,
         )? {
             Ready::Empty => Ok(Accepted::Empty),
@@ -271,7 +272,7 @@ impl Live {
             Ready::NotSent(refusal) => Ok(Accepted::Refused(refusal)),
             Ready::Send(call) => match make(&mut self.segment, call)? {
                 Reply::Sent(number) => {
-                    store(&mut self.calls, &mut self.owed, &mut self.seats, k, number);
+                    self.seats.store(&mut self.calls, &mut self.owed, k, number);
                     Ok(Accepted::Sent(number))
                 }
                 Reply::Refused(refusal) => Ok(Accepted::Refused(refusal)),
@@ -297,10 +298,27 @@ impl Live {
             return Err(NotMade::Refused(Refusal::ClientsFull));
         }
         let id = self.seats.len() as u64;
-        self.seats.reserve(1)?;
-        let (seat, client) = Seat::new(self.alloc, id, station)?;
+        self.seats.reserve()?;
+        let bell = self.seats.bell(self.alloc, station)?;
+        let (seat, client) = Seat::new(self.alloc, id, station, bell)?;
         self.seats.push_reserved(seat);
         Ok(client)
+    }
+
+    /// Whether a submission of a client of the station may wait: if not, none is seen.
+    #[inline(always)]
+    pub(crate) fn is_called(&mut self, station: Address) -> bool
+        ensures same { self.new ≡ self.old }
+        ensures rests { IsFalse result → IsAtRest station self.old }
+    {
+        self.seats.is_called(station)
+    }
+
+    /// Looks at no client of the station until one of them submits, if no submission of its clients is seen.
+    pub(crate) fn hush(&mut self, station: Address)
+        ensures { self.new ≡ self.old }
+    {
+        self.seats.hush(station);
     }
 
     /// Opens a port, and returns its inbox.
