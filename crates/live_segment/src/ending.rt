@@ -279,7 +279,7 @@ impl Live {
     }
 
     // No submission of a client is taken any more.
-    fn retire_client(&mut self, client: u64)
+    pub(crate) fn retire_client(&mut self, client: u64)
         ensures addresses { self.new.addresses ≡ self.old.addresses }
         ensures stopped { self.new.stopped ≡ self.old.stopped }
         ensures pieces { self.new.pieces ≡ self.old.pieces }
@@ -293,7 +293,7 @@ impl Live {
     }
 
     // Nothing is given to a port any more.
-    fn retire_port(&mut self, port: PortId)
+    pub(crate) fn retire_port(&mut self, port: PortId)
         ensures addresses { self.new.addresses ≡ self.old.addresses }
         ensures stopped { self.new.stopped ≡ self.old.stopped }
         ensures pieces { self.new.pieces ≡ self.old.pieces }

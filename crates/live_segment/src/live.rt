@@ -282,20 +282,30 @@ impl Live {
         }
     }
 
+    /// Why a station gets no client, except for want of memory.
+    pub fn attach_refusal(&self, station: Address) -> Option<Refusal>
+        ensures { result ≡ attaching_refusal self.now station }
+    {
+        if !is_station(self.addresses.as_slice(), station) {
+            return Some(Refusal::NoSuchStation);
+        }
+        if clients_of(self.seats.as_slice(), station) >= MOST_CLIENTS {
+            return Some(Refusal::ClientsFull);
+        }
+        None
+    }
+
     /// A new client of a station, with empty lists.
     ///
-    /// Refused as `NoSuchStation` exactly if no station has the address, else as `ClientsFull` if it has 16 clients, and else as
-    /// `OutOfMemory` if memory is refused. These change nothing.
+    /// Refused as `NoSuchStation` exactly if no station has the address, else as `ClientsFull` if it has 16 clients that aren't gone, and
+    /// else as `OutOfMemory` if memory is refused. These change nothing.
     pub fn attach(&mut self, station: Address) -> Result<Client, NotMade>
         ensures attached { IfOk result (λ c. Attached self.old self.new station c) }
         ensures refused { IsAnsweredBy (attaching_refusal self.old station) (result_err result) }
         ensures err { OnErr result (self.new ≡ self.old) }
     {
-        if !is_station(self.addresses.as_slice(), station) {
-            return Err(NotMade::Refused(Refusal::NoSuchStation));
-        }
-        if clients_of(self.seats.as_slice(), station) >= MOST_CLIENTS {
-            return Err(NotMade::Refused(Refusal::ClientsFull));
+        if let Some(refusal) = self.attach_refusal(station) {
+            return Err(NotMade::Refused(refusal));
         }
         let id = self.seats.len() as u64;
         self.seats.reserve()?;
@@ -387,13 +397,13 @@ fn is_station(addresses: &[Address], station: Address) -> bool
     addresses.iter().any(|address| address.0 == station.0)
 }
 
-// How many clients a station has.
+// How many clients a station has that aren't gone.
 fn clients_of(seats: &[Seat], station: Address) -> usize
     ensures { result ≡ clients_at station (map client_of seats.now) }
 {
     let mut count = 0;
     for seat in seats {
-        if seat.station().0 == station.0 {
+        if seat.station().0 == station.0 && seat.is_active() {
             count += 1;
         }
     }
