@@ -7,13 +7,13 @@
  *
  * Whose a call is:
  *   - fulwethi_service_..: of the thread that has the service. attach hands out a client, open an inbox; close wants the service and the
- *     inbox, so its thread hands the inbox over first;
+ *     inbox, so its thread hands the inbox over first; so it is with agrees, for clients and inboxes;
  *   - fulwethi_client_..: of the thread that has the client; fulwethi_inbox_..: of the thread that has the inbox.
  *
  * What a caller upholds:
  *   - each of the three handles starts as all zeros (`= {0}`), is made by new, attach or open, and ends by its free; only these take one
  *     that isn't made. They end in any order: what is left of a client or an inbox after its service gets nothing more, and a client that
- *     was freed still has its place at its station, one of 16;
+ *     was freed keeps its place at its station, one of 16, until it is detached;
  *   - a handle isn't copied: of two copies, the one that isn't passed is spent by the first call;
  *   - no two calls on one handle are made at the same time; any thread may make the next one, once it sees what the last one did (a mutex, a
  *     queue, an atomic or a join sees to that). Calls on different handles may be made at the same time;
@@ -53,7 +53,10 @@ struct fulwethi_message { uint32_t from, to, pgn, unused; uint64_t len; };
 
 /* Codes beside those of fulwethi.h. A call that isn't done changed nothing that any call shows. */
 enum {
-    FULWETHI_RING_FULL = 24, FULWETHI_TRACE_FULL = 25, FULWETHI_CLIENTS_FULL = 26, FULWETHI_NOT_THIS_SEGMENT = 30
+    FULWETHI_RING_FULL = 24, FULWETHI_TRACE_FULL = 25, FULWETHI_CLIENTS_FULL = 26, FULWETHI_NOT_THIS_SEGMENT = 30,
+    FULWETHI_NO_SUCH_CLIENT = 73, FULWETHI_CLIENT_GONE = 74,
+    /* No message is there, and none will come: the port was closed. */
+    FULWETHI_CLOSED = 75
 };
 
 /* The exports: a handle goes in by value, and comes back by `out`. */
@@ -62,6 +65,8 @@ void fulwethi_raw_service_free(struct fulwethi_service of);
 uint32_t fulwethi_raw_service_attach(struct fulwethi_service of, uint8_t station, struct fulwethi_client *client, struct fulwethi_service *out);
 uint32_t fulwethi_raw_service_open(struct fulwethi_service of, uint8_t station, uint32_t pgn, uint32_t max_len, uint64_t *port, struct fulwethi_inbox *inbox, struct fulwethi_service *out);
 uint32_t fulwethi_raw_service_close(struct fulwethi_service of, struct fulwethi_inbox inbox, struct fulwethi_service *out, struct fulwethi_inbox *inbox_out);
+uint32_t fulwethi_raw_service_close_port(struct fulwethi_service of, uint8_t station, uint64_t port, struct fulwethi_service *out);
+uint32_t fulwethi_raw_service_detach(struct fulwethi_service of, uint64_t client, struct fulwethi_service *out);
 uint32_t fulwethi_raw_service_pause(struct fulwethi_service of, uint8_t station, uint64_t port, struct fulwethi_service *out);
 uint32_t fulwethi_raw_service_resume(struct fulwethi_service of, uint8_t station, uint64_t port, struct fulwethi_service *out);
 uint32_t fulwethi_raw_service_feed(struct fulwethi_service of, uint32_t id, const uint8_t *bytes, size_t len, struct fulwethi_service *out);
@@ -73,7 +78,10 @@ uint32_t fulwethi_raw_service_next_due_at(struct fulwethi_service of, uint64_t *
 uint32_t fulwethi_raw_service_next_at(struct fulwethi_service of, uint64_t *tick, struct fulwethi_service *out);
 uint32_t fulwethi_raw_service_turn(struct fulwethi_service of, uint32_t most, uint64_t *made, struct fulwethi_service *out);
 uint32_t fulwethi_raw_service_counts(struct fulwethi_service of, struct fulwethi_counts *counts, struct fulwethi_service *out);
+uint32_t fulwethi_raw_service_compare_client(struct fulwethi_service of, struct fulwethi_client client, struct fulwethi_service *out, struct fulwethi_client *client_out);
+uint32_t fulwethi_raw_service_compare_inbox(struct fulwethi_service of, struct fulwethi_inbox inbox, struct fulwethi_service *out, struct fulwethi_inbox *inbox_out);
 uint32_t fulwethi_raw_client_submit(struct fulwethi_client of, uint8_t to, uint32_t pgn, const uint8_t *bytes, size_t len, uint64_t *ticket, struct fulwethi_client *out);
+uint32_t fulwethi_raw_client_number(struct fulwethi_client of, uint64_t *number, struct fulwethi_client *out);
 uint32_t fulwethi_raw_client_outcome(struct fulwethi_client of, struct fulwethi_note *note, struct fulwethi_client *out);
 void fulwethi_raw_client_free(struct fulwethi_client of);
 uint32_t fulwethi_raw_inbox_receive(struct fulwethi_inbox of, uint8_t *room, size_t len, struct fulwethi_message *message, struct fulwethi_inbox *out);
@@ -92,7 +100,7 @@ static inline void fulwethi_service_free(struct fulwethi_service *service) {
     service->ptr = NULL;
 }
 
-/* Makes a client of a station. NO_SUCH_STATION, CLIENTS_FULL (16 were made at it), NO_MEMORY. */
+/* Makes a client of a station. NO_SUCH_STATION, CLIENTS_FULL (16 are at it that weren't detached), NO_MEMORY. */
 static inline uint32_t fulwethi_service_attach(struct fulwethi_service *service, uint8_t station, struct fulwethi_client *client) {
     return fulwethi_raw_service_attach(*service, station, client, service);
 }
@@ -107,6 +115,19 @@ static inline uint32_t fulwethi_service_open(struct fulwethi_service *service, u
  * service's), TRACE_FULL (turn mends that), NO_MEMORY. */
 static inline uint32_t fulwethi_service_close(struct fulwethi_service *service, struct fulwethi_inbox *inbox) {
     return fulwethi_raw_service_close(*service, *inbox, service, inbox);
+}
+
+/* Detaches a client by its number: its place at its station is free for another one. No more of its messages are taken over, and it reads no more
+ * outcomes but those that are there; those under way go on, and their outcomes are in the record alone. Its rings stay in memory until the service is
+ * freed. NO_SUCH_CLIENT, CLIENT_GONE (it was detached). */
+static inline uint32_t fulwethi_service_detach(struct fulwethi_service *service, uint64_t client) {
+    return fulwethi_raw_service_detach(*service, client, service);
+}
+
+/* Closes a port of a station by its number, while another thread has its inbox: nothing more is given at it. The inbox receives what was given, and then
+ * answers CLOSED. NO_SUCH_PORT (it was never opened), TRACE_FULL (turn mends that), NO_MEMORY. */
+static inline uint32_t fulwethi_service_close_port(struct fulwethi_service *service, uint8_t station, uint64_t port) {
+    return fulwethi_raw_service_close_port(*service, station, port, service);
 }
 
 /* Pauses a port of a station: a connection that brings it a message is held, and goes on once the port is resumed. NO_SUCH_STATION,
@@ -179,6 +200,15 @@ static inline uint32_t fulwethi_service_counts(struct fulwethi_service *service,
     return fulwethi_raw_service_counts(*service, counts, service);
 }
 
+/* Whether these clients and inboxes are the service's, and submitted, read and received what its record says, byte by byte: since it was cut last, and before
+ * as far as is kept. The threads that have them hand them over for the call. NOT_THIS_SEGMENT: one isn't, or didn't. */
+static inline uint32_t fulwethi_service_agrees(struct fulwethi_service *service, struct fulwethi_client *clients, size_t client_count, struct fulwethi_inbox *inboxes, size_t inbox_count) {
+    uint32_t code = FULWETHI_DONE;
+    for (size_t k = 0; k < client_count && code == FULWETHI_DONE; k++) code = fulwethi_raw_service_compare_client(*service, clients[k], service, &clients[k]);
+    for (size_t k = 0; k < inbox_count && code == FULWETHI_DONE; k++) code = fulwethi_raw_service_compare_inbox(*service, inboxes[k], service, &inboxes[k]);
+    return code;
+}
+
 /* Clients */
 
 /* Submits a message of the client's station, whose bytes are copied, and writes its ticket: 1 for the client's first, and so on. The bus's
@@ -186,6 +216,11 @@ static inline uint32_t fulwethi_service_counts(struct fulwethi_service *service,
  * NO_MEMORY. */
 static inline uint32_t fulwethi_client_submit(struct fulwethi_client *client, uint8_t to, uint32_t pgn, const uint8_t *bytes, size_t len, uint64_t *ticket) {
     return fulwethi_raw_client_submit(*client, to, pgn, bytes, len, ticket, client);
+}
+
+/* Writes the number of a client among all that its service made, from 0, by which it is detached. */
+static inline uint32_t fulwethi_client_number(struct fulwethi_client *client, uint64_t *number) {
+    return fulwethi_raw_client_number(*client, number, client);
 }
 
 /* Reads what became of a message: each has one outcome, and those to one destination come in the order of their tickets. NOTHING: no
@@ -202,7 +237,8 @@ static inline void fulwethi_client_free(struct fulwethi_client *client) {
 
 /* Inboxes */
 
-/* Receives the next message, and writes its bytes to the front of the room. NOTHING: none is there. TOO_LITTLE_ROOM: `message` says how many
+/* Receives the next message, and writes its bytes to the front of the room. NOTHING: none is there. CLOSED: none is
+ * there, and its port was closed by its number: none will come. TOO_LITTLE_ROOM: `message` says how many
  * bytes it has, and it stays; so does it for NO_MEMORY. */
 static inline uint32_t fulwethi_inbox_receive(struct fulwethi_inbox *inbox, uint8_t *room, size_t len, struct fulwethi_message *message) {
     return fulwethi_raw_inbox_receive(*inbox, room, len, message, inbox);
@@ -221,6 +257,9 @@ static inline const char *fulwethi_service_code_name(uint32_t code) {
     case FULWETHI_TRACE_FULL: return "TRACE_FULL";
     case FULWETHI_CLIENTS_FULL: return "CLIENTS_FULL";
     case FULWETHI_NOT_THIS_SEGMENT: return "NOT_THIS_SEGMENT";
+    case FULWETHI_NO_SUCH_CLIENT: return "NO_SUCH_CLIENT";
+    case FULWETHI_CLIENT_GONE: return "CLIENT_GONE";
+    case FULWETHI_CLOSED: return "CLOSED";
     default: return fulwethi_code_name(code);
     }
 }
@@ -236,8 +275,11 @@ static inline const char *fulwethi_service_strerror(uint32_t code) {
     case FULWETHI_CLOCK_PASSED: return "the clock of the service stands later";
     case FULWETHI_RING_FULL: return "64 messages of the client weren't taken over yet";
     case FULWETHI_TRACE_FULL: return "the record of calls is full: make a turn first";
-    case FULWETHI_CLIENTS_FULL: return "16 clients were made at the station";
-    case FULWETHI_NOT_THIS_SEGMENT: return "the inbox is of another service";
+    case FULWETHI_CLIENTS_FULL: return "the station has 16 clients that were not detached";
+    case FULWETHI_NOT_THIS_SEGMENT: return "a client or an inbox is of another service, or had something else than its record says";
+    case FULWETHI_NO_SUCH_CLIENT: return "no client of the service has this number";
+    case FULWETHI_CLIENT_GONE: return "the client was detached";
+    case FULWETHI_CLOSED: return "no message is there, and the port was closed";
     default: return fulwethi_strerror(code);
     }
 }

@@ -46,6 +46,12 @@ public:
         static constexpr std::uint8_t nothing = 0;
         return ::fulwethi_client_submit(made(), to, pgn, of_message.size() ? of_message.data() : &nothing, of_message.size(), &ticket);
     }
+    /* Its number among all that its service made, by which it is detached. */
+    std::uint64_t number() noexcept {
+        std::uint64_t found = 0;
+        (void)::fulwethi_client_number(made(), &found);
+        return found;
+    }
     [[nodiscard]] code outcome(note &next) noexcept { return ::fulwethi_client_outcome(made(), &next); }
     /* The next outcome, if one is there. Without memory to read it, it stays. */
     std::optional<note> next_outcome() noexcept {
@@ -143,6 +149,17 @@ public:
         return ::fulwethi_service_open(made(), station, pgn, max_len, &port, &to_make.held_);
     }
     [[nodiscard]] code close(inbox &of_port) noexcept { return ::fulwethi_service_close(made(), of_port.made()); }
+    /* Whether a client, or an inbox, had what the service's record says. */
+    [[nodiscard]] code agrees(client &compared) noexcept {
+        ::fulwethi_inbox none{};
+        return ::fulwethi_service_agrees(made(), compared.made(), 1, &none, 0);
+    }
+    [[nodiscard]] code agrees(inbox &compared) noexcept {
+        ::fulwethi_client none{};
+        return ::fulwethi_service_agrees(made(), &none, 0, compared.made(), 1);
+    }
+    [[nodiscard]] code detach(std::uint64_t number) noexcept { return ::fulwethi_service_detach(made(), number); }
+    [[nodiscard]] code close_port(std::uint8_t station, std::uint64_t port) noexcept { return ::fulwethi_service_close_port(made(), station, port); }
     [[nodiscard]] code pause(std::uint8_t station, std::uint64_t port) noexcept { return ::fulwethi_service_pause(made(), station, port); }
     [[nodiscard]] code resume(std::uint8_t station, std::uint64_t port) noexcept { return ::fulwethi_service_resume(made(), station, port); }
 

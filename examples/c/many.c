@@ -405,6 +405,16 @@ static void run(void) {
     for (size_t t = 0; t < THREADS; t++) WANT(!pthread_join(threads[t], NULL));
 }
 
+/* Of each station some clients and inboxes had what the record of their service says. No other service has them. */
+static void compare_with_records(void) {
+    for (uint32_t number = 0; number < ENDS; number += 5) {
+        uint32_t own = service_of(station_of(number));
+        struct end *end = &ends[number];
+        WANT(fulwethi_service_agrees(&sides[own].service, &end->client, 1, &end->inbox, 1) == FULWETHI_DONE);
+        WANT(number % CLIENTS || own == 1 || fulwethi_service_agrees(&sides[1].service, &end->client, 0, &end->inbox, 1) == FULWETHI_NOT_THIS_SEGMENT);
+    }
+}
+
 /* Each inbox is closed, and what its closing handed out is received too. */
 static uint64_t close_all(void) {
     uint64_t received = 0;
@@ -458,7 +468,9 @@ static void free_all(void) {
 static void compare(void) {
     struct fulwethi_counts counts;
     uint32_t outcomes[OUTCOMES] = {0};
-    uint64_t received = close_all(), given = 0, lost = 0;
+    uint64_t received, given = 0, lost = 0;
+    compare_with_records();
+    received = close_all();
     for (uint32_t number = 0; number < ENDS; number++) compare_order(&ends[number]);
     compare_outcomes(outcomes);
     for (uint32_t s = 0; s < SERVICES; s++) {

@@ -99,7 +99,7 @@ static void receive(void) {
     static uint8_t room[MOST];
     struct fulwethi_message message;
     for (int i = 0; i < 2; i++) {
-        for (uint32_t code; (code = fulwethi_inbox_receive(&all.inboxes[i], room, MOST, &message)) != FULWETHI_NOTHING; ) {
+        for (uint32_t code; (code = fulwethi_inbox_receive(&all.inboxes[i], room, MOST, &message)) != FULWETHI_NOTHING && code != FULWETHI_CLOSED; ) {
             if (code == FULWETHI_NO_MEMORY) {
                 lack();
                 continue;
@@ -139,10 +139,16 @@ static void exchange(uint32_t k) {
 static void begin(void) {
     static const uint8_t first[2] = {0x21, 0x22}, second[1] = {0x35};
     struct fulwethi_client more = {0};
+    uint64_t number = 0;
     AGAIN(fulwethi_service_new(&all.services[0], first, 2));
     AGAIN(fulwethi_service_new(&all.services[1], second, 1));
     for (int c = 0; c < CLIENTS; c++) AGAIN(fulwethi_service_attach(&all.services[0], 0x21, &all.clients[c]));
     WANT(fulwethi_service_attach(&all.services[0], 0x21, &more) == FULWETHI_CLIENTS_FULL && !more.ptr);
+    WANT(fulwethi_client_number(&all.clients[CLIENTS - 1], &number) == FULWETHI_DONE && number == CLIENTS - 1);
+    WANT(fulwethi_service_detach(&all.services[0], number) == FULWETHI_DONE && fulwethi_service_detach(&all.services[0], number) == FULWETHI_CLIENT_GONE);
+    WANT(fulwethi_service_detach(&all.services[0], number + 1) == FULWETHI_NO_SUCH_CLIENT);
+    fulwethi_client_free(&all.clients[CLIENTS - 1]);
+    AGAIN(fulwethi_service_attach(&all.services[0], 0x21, &all.clients[CLIENTS - 1]));
     for (int i = 0; i < 2; i++) AGAIN(fulwethi_service_open(&all.services[i], i ? 0x35 : 0x22, PGN, MOST, &all.ports[i], &all.inboxes[i]));
     AGAIN(fulwethi_service_pause(&all.services[1], 0x35, all.ports[1]));
     AGAIN(fulwethi_service_resume(&all.services[1], 0x35, all.ports[1]));
@@ -150,10 +156,15 @@ static void begin(void) {
 
 static void run(void) {
     struct fulwethi_counts counts;
+    struct fulwethi_message message;
+    uint8_t byte;
     begin();
     for (uint32_t k = 1; k <= MESSAGES; k++) exchange(k);
-    for (int i = 0; i < 2; i++) AGAIN(fulwethi_service_close(&all.services[i], &all.inboxes[i]));
+    AGAIN(fulwethi_service_close(&all.services[0], &all.inboxes[0]));
+    WANT(fulwethi_service_close_port(&all.services[1], 0x35, all.ports[1] + 1) == FULWETHI_NO_SUCH_PORT);
+    AGAIN(fulwethi_service_close_port(&all.services[1], 0x35, all.ports[1]));
     receive();
+    WANT(fulwethi_inbox_receive(&all.inboxes[1], &byte, 1, &message) == FULWETHI_CLOSED && fulwethi_inbox_receive(&all.inboxes[0], &byte, 1, &message) == FULWETHI_NOTHING);
     WANT(all.frames > LOST && fulwethi_service_counts(&all.services[1], &counts) == FULWETHI_DONE && counts.given >= 3);
     for (int i = 0; i < 2; i++) WANT(all.last[i]);
 }

@@ -100,6 +100,8 @@ static void look_at_handles(service &tools) {
     want(kept.resume(0x41, port), FULWETHI_DONE, "resume");
     want(kept.missed(0x41), FULWETHI_DONE, "missed");
     want(second.submit(0x41, PGN, bytes, ticket), FULWETHI_DONE, "submit");
+    want(tools.agrees(box), FULWETHI_NOT_THIS_SEGMENT, "agrees with another service");
+    want(kept.agrees(box), FULWETHI_DONE, "agrees");
     want(tools.close(box), FULWETHI_NOT_THIS_SEGMENT, "close by another service");
     want(kept.clock(10), FULWETHI_DONE, "clock");
     want(kept.clock(9), FULWETHI_CLOCK_PASSED, "clock back");

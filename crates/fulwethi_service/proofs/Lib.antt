@@ -3,5 +3,4 @@ pub mod AsClient
 pub mod AsInbox
 pub mod Rounds
 pub mod Addresses
-pub mod Counting
 pub mod Same

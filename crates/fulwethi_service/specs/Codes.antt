@@ -34,5 +34,6 @@ note_code (Err _) = 64
 abbrev pub received_code : Received → ℕ
 received_code received.Taken = 0
 received_code received.Nothing = 65
+received_code received.Closed = 75
 received_code received.TooLittleRoom = 68
 received_code received.OutOfMemory = 64

@@ -32,6 +32,9 @@ IsReceived room room' message message' before after received.TooLittleRoom =
 IsReceived room room' message message' before after received.Nothing =
     (before.held ≡ None) × (after.held ≡ None) × (before.rest.items ≡ []) × (after.rest ≡ before.rest) × (room' ≡ room) × (message' ≡ message)
     × KeepsNoMore before.inbox after.inbox
+IsReceived room room' message message' before after received.Closed =
+    (before.held ≡ None) × (after.held ≡ None) × (before.rest.items ≡ []) × (after.rest ≡ before.rest) × (room' ≡ room) × (message' ≡ message)
+    × KeepsNoMore before.inbox after.inbox
 IsReceived room room' message message' before after received.OutOfMemory =
     (before.held ≡ None) × (after.held ≡ None) × (before.rest.items ≡ []) × (after.rest ≡ before.rest) × (room' ≡ room) × (message' ≡ message)
     × ((i : InboxEnd) × (gone spare : ℕ) × (before.inbox ≡ Some i) × (i.gone ≤ gone) × (after.inbox ≡ Some (lets_received_go i gone spare)))

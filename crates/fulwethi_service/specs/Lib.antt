@@ -10,3 +10,5 @@ pub mod Made
 pub mod Ends
 pub mod Clients
 pub mod Inboxes
+pub mod Compared
+pub mod Detached

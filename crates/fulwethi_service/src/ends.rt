@@ -1,7 +1,6 @@
 //! The ends of rings that go to applications: clients, and the inboxes of ports.
-ghost use Rattle.std.specs.Prelude.{◌≡◌, ◌<◌, ◌≤◌, ◌+◌, ℕ, Some, IsSome, MatchOption, length, drop};
-ghost use Rattle.live_segment.specs.LiveView.{IsOpenCause, clients_at};
-ghost use Rattle.live_segment.specs.Refusals.{attaching_refusal};
+ghost use Rattle.std.specs.Prelude.{◌≡◌, ℕ, Some, IsSome, MatchOption};
+ghost use Rattle.live_segment.specs.LiveView.{IsOpenCause};
 ghost use Rattle.live_segment.specs.declared.refused.NotMade.TheVariants.{OutOfMemory};
 ghost use Rattle.c_parts.specs.Codes.{value_code};
 ghost use Rattle.c_parts.specs.Reads.{read_pgn};
@@ -21,9 +20,6 @@ use live_segment::{Live, MOST_CALLS, NotMade, Refusal};
 use pgn_ids::{Address, Pgn};
 use std::alloc::Global;
 use std::collections::VecDeque;
-
-/// How many clients a station has at most, as `Live::attach` has it.
-const MOST_CLIENTS: u64 = 16;
 
 /// A new client of a station; `client` must own nothing.
 #[unsafe(no_mangle)]
@@ -52,7 +48,7 @@ fn attach(
 ) -> Result<(), NotMade>
     ensures { IsAttached station client.old.desk client.new.desk live.old live.new result }
 {
-    if let Some(cause) = attach_refusal(live, station) {
+    if let Some(cause) = live.attach_refusal(station) {
         return Err(NotMade::Refused(cause));
     }
     let Ok(mut held) = Box::new(alloc, Desk { client: None }) else {
@@ -62,42 +58,6 @@ fn attach(
     held.client = Some(made);
     *client = ClientHandle::of_box(held);
     Ok(())
-}
-
-// Why a station gets no client, except for want of memory.
-fn attach_refusal(live: &Live, station: Address) -> Option<Refusal>
-    ensures { result ≡ attaching_refusal live.now station }
-{
-    if !live.has_station(station) {
-        return Some(Refusal::NoSuchStation);
-    }
-    if clients_at(live, station) >= MOST_CLIENTS {
-        return Some(Refusal::ClientsFull);
-    }
-    None
-}
-
-// How many clients a station has.
-fn clients_at(live: &Live, station: Address) -> u64
-    ensures { result ≡ clients_at station live.now.clients }
-{
-    let mut count = 0;
-    for client in 0..live.clients() {
-        count += count_client(live, client, station);
-    }
-    count
-}
-
-// 1 for a client of the station, else 0.
-fn count_client(live: &Live, client: u64, station: Address) -> u64
-    requires { client < length live.now.clients }
-    ensures next { clients_at station (drop client live.now.clients) ≡ result + clients_at station (drop (client + 1) live.now.clients) }
-    ensures few { result ≤ 1 }
-{
-    let Some(other) = live.station_of(client) else {
-        return 0;
-    };
-    u64::from(other.0 == station.0)
 }
 
 /// Opens a port of a station, and writes its number; `inbox` must own nothing, and has its inbox then.

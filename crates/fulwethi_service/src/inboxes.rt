@@ -1,5 +1,5 @@
 //! Inboxes, each for one thread of an application at a time.
-ghost use Rattle.std.specs.Prelude.{◌≡◌, ◌≢◌, ◌≤◌, ◌<◌, ◌++◌, length, drop, Some, None, IsSome};
+ghost use Rattle.std.specs.Prelude.{◌≡◌, ◌≢◌, ◌≤◌, ◌<◌, ◌⊎◌, ◌++◌, length, drop, Some, None, IsSome};
 ghost use Rattle.c_parts.specs.Calls.{IsMadeOn};
 ghost use Rattle.fulwethi_service.specs.declared.inboxes.Received.TheVariants as received;
 ghost use Rattle.fulwethi_service.specs.Codes.{received_code};
@@ -12,6 +12,9 @@ use crate::shown::{CMessage, show_delivery};
 use c_parts::{DONE, NO_MEMORY, NOTHING, TOO_LITTLE_ROOM};
 use live_segment::Delivery;
 
+/// There is no message, and none will come.
+const CLOSED: u32 = 75;
+
 /// What became of a call to receive.
 #[derive(Clone, Copy)]
 pub enum Received {
@@ -19,6 +22,8 @@ pub enum Received {
     Taken,
     /// There is no message.
     Nothing,
+    /// There is no message, and the port is closed: none will come.
+    Closed,
     /// The message has more bytes than there is room for, and stays.
     TooLittleRoom,
     /// There was no memory, and it stays.
@@ -49,6 +54,7 @@ fn received_code(received: Received) -> u32
     match received {
         Received::Taken => DONE,
         Received::Nothing => NOTHING,
+        Received::Closed => CLOSED,
         Received::TooLittleRoom => TOO_LITTLE_ROOM,
         Received::OutOfMemory => NO_MEMORY,
     }
@@ -69,11 +75,23 @@ fn receive(post: &mut Post, room: &mut [u8], message: &mut CMessage) -> Received
     let Some(inbox) = &mut post.inbox else {
         return Received::Nothing;
     };
+    // Whether the port was closed is looked at first: nothing comes into the ring afterwards.
+    let is_shut = inbox.is_shut() && !inbox.is_closed();
     match inbox.try_receive() {
         Ok(Some(delivery)) => copy_out(&mut post.held, delivery, room, message),
-        Ok(None) => Received::Nothing,
+        Ok(None) => nothing(is_shut),
         Err(_) => Received::OutOfMemory,
     }
+}
+
+// No message is there; none will come if the port is known to be closed.
+fn nothing(is_shut: bool) -> Received
+    ensures { (result ≡ received.Nothing) ⊎ (result ≡ received.Closed) }
+{
+    if is_shut {
+        return Received::Closed;
+    }
+    Received::Nothing
 }
 
 // Copies a delivery out, or holds it.

@@ -6,7 +6,9 @@
 mod client_handle;
 mod clients;
 mod codes;
+mod compare;
 mod desk;
+mod detach;
 mod ends;
 mod frames;
 mod inbox_handle;

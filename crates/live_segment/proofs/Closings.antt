@@ -12,7 +12,7 @@ use Rattle.stored_calls.specs.declared.stored.Stored.{Stored}
 use Rattle.live_segment.specs.declared.closing.Closed.{Closed}
 use Rattle.live_segment.specs.Record.{trail}
 use Rattle.live_segment.specs.LiveView.{LiveView, live_view, stored_calls, client_of, port_of, stored, calls_after, told_clients, Kept}
-use Rattle.live_segment.specs.Reports.{HasPort, IsRest, CloseMade, ClosedFor, closing}
+use Rattle.live_segment.specs.Reports.{HasPort, IsRest, CloseMade, ClosedFor, PortClosed, closing}
 
 -- a Close was made, and answered so
 pub close_made : (keeps : Kept) (addresses : List Address) (st : Segment) (xs ys : List Stored) (ss ts : List SeatView) (ds gs : List DoorView) (p : PortId) (r : Reply) → st ≡ (trail addresses xs).state → r ≡ reply_of st (Close p)
@@ -44,4 +44,18 @@ closed_for a b keeps addresses xs ss ds gs i j p r made at few here e is rest in
   calls = ap (λ (v : LiveView). v.calls) at ∙ made.calls ∙ ap (λ (q : PortId). calls_after (reply_of (trail a.addresses a.calls).state (Close q)) a.calls (stored None (Close q))) e;
   clients = ap (λ (v : LiveView). v.clients) at ∙ made.clients ∙ ap (λ (q : PortId). told_clients a (reply_of (trail a.addresses a.calls).state (Close q))) e;
   ports = ports ∙ ap (λ (v : LiveView). map (closing p) v.ports) at ∙ ap (map (closing p)) made.ports ∙ ap (λ (q : PortId). map (closing q) a.ports) e;
+}
+
+-- the same without the inbox
+pub port_closed : (a m b : LiveView) (p : PortId) → stored_calls a < 1000000 → HasPort a.ports p → CloseMade a m p → b.addresses ≡ m.addresses → b.stopped ≡ m.stopped → b.pieces ≡ m.pieces → b.calls ≡ m.calls → b.clients ≡ m.clients
+    → b.ports ≡ map (closing p) m.ports → PortClosed a b p
+port_closed a m b p few here made addresses stopped pieces calls clients ports = record {
+  few = few;
+  within = here;
+  addresses = addresses ∙ made.addresses;
+  stopped = stopped ∙ made.stopped;
+  pieces = pieces ∙ made.pieces;
+  calls = calls ∙ made.calls;
+  clients = clients ∙ made.clients;
+  ports = ports ∙ ap (map (closing p)) made.ports;
 }

@@ -24,13 +24,13 @@ use Rattle.live_segment.proofs.Prefixes.{prefix_length}
 
 -- seat by seat, and door by door
 
-abbrev AllCut : List SeatView → List SeatView → Type 0
+abbrev pub AllCut : List SeatView → List SeatView → Type 0
 AllCut [] [] = Unit {0}
 AllCut [] (t ∷ ts) = ⊥
 AllCut (s ∷ ss) [] = ⊥
 AllCut (s ∷ ss) (t ∷ ts) = CutSeat s t × AllCut ss ts
 
-all_cut : (ss ts : List SeatView) → CutSeats ss ts → AllCut ss ts
+pub all_cut : (ss ts : List SeatView) → CutSeats ss ts → AllCut ss ts
 all_cut [] [] h = tt
 all_cut [] (t ∷ ts) h = absurd (omega (arith, h.0))
 all_cut (s ∷ ss) [] h = absurd (omega (arith, h.0))

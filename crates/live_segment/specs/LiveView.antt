@@ -1,5 +1,5 @@
 -- What a contract sees of a shared segment.
-use Rattle.std.specs.Prelude.{◌≡◌, ℕ, ◌+◌, ◌≤◌, ◌<◌, ◌==◌, Bool, true, false, cond, List, [], ◌∷◌, ◌++◌, length, map, Option, None, slice_index_or, slice_index, ◌⊎◌}
+use Rattle.std.specs.Prelude.{◌≡◌, ℕ, ◌+◌, ◌≤◌, ◌<◌, ◌==◌, ◌&&◌, Bool, true, false, cond, List, [], ◌∷◌, ◌++◌, length, map, Option, None, slice_index_or, slice_index, ◌⊎◌}
 use Rattle.std.specs.List.{list_any}
 use Rattle.pgn_ids.specs.declared.address.Address.{Address}
 use Rattle.port_table.specs.declared.port.PortId.{PortId}
@@ -180,10 +180,10 @@ new_client station = record { station = station; active = true; popped = []; not
 abbrev pub is_station_of : List Address → Address → Bool
 is_station_of addresses a = list_any (λ b. b.0 == a.0) addresses
 
--- how many clients a station has
+-- how many clients a station has that aren't gone
 abbrev pub clients_at : Address → List ClientView → ℕ
 clients_at a [] = 0
-clients_at a (c ∷ cs) = cond {A = ℕ} (c.station.0 == a.0) 1 0 + clients_at a cs
+clients_at a (c ∷ cs) = cond {A = ℕ} ((c.station.0 == a.0) && c.active) 1 0 + clients_at a cs
 
 -- one client more, whose id no other had
 pub record Attached (a b : LiveView) (station : Address) (c : ClientEnd) : Type 0 where

@@ -82,6 +82,14 @@ pub record IsStored (s : SeatView) (k number : ℕ) (x : Submission) (xs ys : Li
 abbrev pub IsEmptyAt : LiveView → ℕ → Type 0
 IsEmptyAt b c = (length b.clients ≤ c) ⊎ (((v : ClientView) → (slice_index_or b.clients c v).active ≡ false) ⊎ (length (slice_index_or b.seen c []) ≡ 0))
 
+-- there is a client of this number, and it is the station's
+abbrev pub IsClientOf : Address → ℕ → LiveView → Type 0
+IsClientOf station c v = (c < length v.clients) × ((d : ClientView) → (slice_index_or v.clients c d).station ≡ station)
+
+-- no submission of the station's clients is seen
+abbrev pub IsAtRest : Address → LiveView → Type 0
+IsAtRest station v = (c : ℕ) → IsClientOf station c v → IsEmptyAt v c
+
 -- a submission of the client is seen in front, and is taken
 pub record WaitsAt (b : LiveView) (c : ℕ) : Type 0 where
   pub within : c < length b.clients

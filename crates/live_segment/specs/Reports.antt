@@ -4,7 +4,7 @@ use mathlib.Core.List.{IsPrefix}
 use Rattle.port_table.specs.declared.port.PortId.{PortId}
 use Rattle.segment_law.specs.Told.{same_port}
 use Rattle.segment_law.specs.declared.call.Call.TheVariants.{Close}
-use Rattle.segment_law.specs.declared.refusal.Refusal.TheVariants.{NotThisSegment, TraceFull}
+use Rattle.segment_law.specs.declared.refusal.Refusal.TheVariants.{NotThisSegment, NoSuchPort, TraceFull}
 use Rattle.reply_law.specs.Replies.{reply_of}
 use Rattle.segment_rings.specs.declared.words.Submission.{Submission}
 use Rattle.segment_rings.specs.declared.words.Delivery.{Delivery}
@@ -141,6 +141,22 @@ pub record CloseMade (a b : LiveView) (port : PortId) : Type 0 where
 abbrev pub IsCloseCause : LiveView → InboxEnd → NotMade → Type 0
 IsCloseCause a i not_made.OutOfMemory = InboxAgrees a i × (stored_calls a < 1000000)
 IsCloseCause a i (not_made.Refused c) = ((c ≡ NotThisSegment) × (InboxAgrees a i → ⊥)) ⊎ ((c ≡ TraceFull) × InboxAgrees a i × (1000000 ≤ stored_calls a))
+
+-- the Close of a port was added, unless the port was closed already; and the port is closed, so that no later call gives to it
+pub record PortClosed (a b : LiveView) (port : PortId) : Type 0 where
+  pub few : stored_calls a < 1000000
+  pub within : HasPort a.ports port
+  pub addresses : b.addresses ≡ a.addresses
+  pub stopped : b.stopped ≡ a.stopped
+  pub pieces : b.pieces ≡ a.pieces
+  pub calls : b.calls ≡ calls_after (reply_of (trail a.addresses a.calls).state (Close port)) a.calls (stored None (Close port))
+  pub clients : b.clients ≡ told_clients a (reply_of (trail a.addresses a.calls).state (Close port))
+  pub ports : b.ports ≡ map (closing port) a.ports
+
+-- why a port isn't closed: it was never opened here, or else no more calls can be stored; or, if neither holds, for want of memory
+abbrev pub IsPortCause : LiveView → PortId → NotMade → Type 0
+IsPortCause a port not_made.OutOfMemory = HasPort a.ports port × (stored_calls a < 1000000)
+IsPortCause a port (not_made.Refused c) = ((c ≡ NoSuchPort) × (HasPort a.ports port → ⊥)) ⊎ ((c ≡ TraceFull) × HasPort a.ports port × (1000000 ≤ stored_calls a))
 
 -- the client of this number is gone
 abbrev pub gone : List ClientView → ℕ → List ClientView

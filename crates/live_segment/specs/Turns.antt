@@ -16,8 +16,8 @@ use Rattle.live_segment.specs.declared.refused.Accepted.{Accepted}
 use Rattle.live_segment.specs.declared.refused.Accepted.TheVariants as accepted
 use Rattle.live_segment.specs.declared.turns.Turn.{Turn}
 use Rattle.live_segment.specs.Record.{trail}
-use Rattle.live_segment.specs.LiveView.{ClientView, LiveView, SameLive, Applied, LacksMemory, stored_calls}
-use Rattle.live_segment.specs.Offers.{AcceptedAs, LacksMemoryFor}
+use Rattle.live_segment.specs.LiveView.{LiveView, SameLive, Applied, LacksMemory, stored_calls}
+use Rattle.live_segment.specs.Offers.{AcceptedAs, LacksMemoryFor, IsClientOf}
 
 abbrev pub state_of : LiveView → Segment
 state_of v = (trail v.addresses v.calls).state
@@ -87,10 +87,6 @@ Makes call p q = ((r : Reply) × IsAnswered p.live q.live call r × (q.turn ≡ 
 -- the front submission of client c is looked at once, in that way
 abbrev pub Accepts : ℕ → Point → Point → Type 0
 Accepts c p q = ((r : Accepted) × AcceptedAs p.live q.live c r × (q.turn ≡ after_accept p.turn r)) ⊎ (SameLive p.live q.live × LacksMemoryFor p.live q.live c × (q.turn ≡ p.turn))
-
--- there is a client of this number, and it is the station's
-abbrev pub IsClientOf : Address → ℕ → LiveView → Type 0
-IsClientOf station c v = (c < length v.clients) × ((d : ClientView) → (slice_index_or v.clients c d).station ≡ station)
 
 -- nothing is done for a client of another station
 abbrev pub AcceptsOne : Address → ℕ → Point → Point → Type 0

@@ -6,6 +6,7 @@ ghost use Rattle.segment_rings.specs.Views.{DoorView, closed_door};
 use crate::compare::copy_deliveries;
 use crate::ending::{inbox_agrees, report_inbox};
 use crate::live::Live;
+use crate::offer::MOST_CALLS;
 use crate::places::door_of;
 use crate::refused::NotMade;
 use crate::report::InboxReport;
@@ -39,7 +40,7 @@ impl Live {
     ghost use Rattle.std.specs.Prelude.{◌≡◌, ◌<◌, length, slice_index_or, IfOk, OnOk, IfErr, OnErr};
     ghost use Rattle.segment_rings.specs.Ends.{with_room_kept};
     ghost use Rattle.live_segment.specs.LiveView.{PortView, SameLive, stored_calls};
-    ghost use Rattle.live_segment.specs.Reports.{InboxAgrees, CloseMade, ClosedFor, IsCloseCause};
+    ghost use Rattle.live_segment.specs.Reports.{InboxAgrees, CloseMade, ClosedFor, IsCloseCause, PortClosed, IsPortCause};
 
     /// Closes the port of an inbox, and hands out what the port was given and the inbox did not receive. No later call gives to
     /// it.
@@ -66,6 +67,26 @@ impl Live {
             Ok(closed) => Ok(closed),
             Err(_) => Err(NotMade::OutOfMemory),
         }
+    }
+
+    /// Closes a port, without its inbox. No later call gives to it, and its inbox receives what it was given before.
+    ///
+    /// Refused as `NoSuchPort` if the port was never opened here, and then as `TraceFull` if no more calls can be stored. Want of memory
+    /// is returned only if neither holds. These change nothing but what is known of the rings.
+    pub fn close_port(&mut self, port: PortId) -> Result<(), NotMade>
+        ensures closed { OnOk result (PortClosed self.old self.new port) }
+        ensures refused { IfErr result (λ e. IsPortCause self.old port e) }
+        ensures err { OnErr result (SameLive self.old self.new) }
+    {
+        let Some(_gone) = self.given_gone(port) else {
+            return Err(NotMade::Refused(Refusal::NoSuchPort));
+        };
+        if self.calls().len() >= MOST_CALLS {
+            return Err(NotMade::Refused(Refusal::TraceFull));
+        }
+        self.make_close(port)?;
+        self.retire_port(port);
+        Ok(())
     }
 
     // `close_on`, for the inbox of the k-th port, if its list agrees.

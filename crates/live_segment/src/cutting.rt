@@ -11,8 +11,8 @@ use crate::refused::NotMade;
 use segment_core::{Refusal, Segment};
 use segment_rings::{Door, Seat};
 
-// Each client's notes that are known to be read are kept no more.
-fn cut_seats(seats: &mut Vec<Seat>)
+/// Each client's notes that are known to be read are kept no more.
+pub(crate) fn cut_seats(seats: &mut Vec<Seat>)
     ensures { CutSeats seats.old.items seats.new.items }
 {
     for k in 0..seats.len() {
@@ -49,7 +49,7 @@ impl Live {
             return Err(NotMade::Refused(Refusal::TraceFull));
         }
         let image = self.segment.image()?;
-        cut_seats(&mut self.seats);
+        self.seats.cut_seats();
         cut_doors(&mut self.doors);
         Ok(self.calls.cut(self.alloc, image))
     }

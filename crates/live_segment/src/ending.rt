@@ -36,8 +36,8 @@ pub fn pieces_begin(pieces: &[Piece], client: &Client) -> bool
     client.submitted_gone() == 0 && pieces_accepted_begin(pieces, client.id(), client.submitted())
 }
 
-// Whether a client belongs to this segment, and its lists begin and are begun as they are to.
-fn client_agrees(live: &Live, client: &Client) -> bool
+/// Whether a client belongs to this segment, and its lists begin and are begun as they are to: the question that `finish` asks of each.
+pub fn client_agrees(live: &Live, client: &Client) -> bool
     ensures { IsTrue result ↔ ClientAgrees live.now client.now }
 {
     let id = client.id();
@@ -87,8 +87,9 @@ fn received_since<'a>(live: &Live, inbox: &'a Inbox) -> Option<&'a [Delivery]>
     kept_from(inbox.received(), inbox.gone(), gone)
 }
 
-/// Whether an inbox belongs to this segment, and its deliveries are the first that its port was given.
-pub(crate) fn inbox_agrees(live: &Live, inbox: &Inbox) -> bool
+/// Whether an inbox belongs to this segment, and its deliveries are the first that its port was given: the question that `finish` asks of
+/// each.
+pub fn inbox_agrees(live: &Live, inbox: &Inbox) -> bool
     ensures { IsTrue result ↔ InboxAgrees live.now inbox.now }
 {
     let Some(given) = live.given_to(inbox.port()) else {
@@ -278,7 +279,7 @@ impl Live {
     }
 
     // No submission of a client is taken any more.
-    fn retire_client(&mut self, client: u64)
+    pub(crate) fn retire_client(&mut self, client: u64)
         ensures addresses { self.new.addresses ≡ self.old.addresses }
         ensures stopped { self.new.stopped ≡ self.old.stopped }
         ensures pieces { self.new.pieces ≡ self.old.pieces }
@@ -287,13 +288,12 @@ impl Live {
         ensures ports { self.new.ports ≡ self.old.ports }
     {
         if client < self.seats.len() as u64 {
-            let seat = &mut self.seats[client as usize];
-            seat.close();
+            self.seats.close(client as usize);
         }
     }
 
     // Nothing is given to a port any more.
-    fn retire_port(&mut self, port: PortId)
+    pub(crate) fn retire_port(&mut self, port: PortId)
         ensures addresses { self.new.addresses ≡ self.old.addresses }
         ensures stopped { self.new.stopped ≡ self.old.stopped }
         ensures pieces { self.new.pieces ≡ self.old.pieces }

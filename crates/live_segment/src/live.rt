@@ -4,9 +4,10 @@ ghost use Rattle.live_segment.specs.LiveView.{is_station_of, clients_at, client_
 
 use crate::call::{Owed, WorkerCall};
 use crate::calls::Calls;
-use crate::offer::{Ready, make_ready, store};
+use crate::offer::Ready;
 use crate::places::{Found, make_found};
 use crate::refused::{Accepted, NotMade};
+use crate::seating::Seats;
 use crate::step::{make, refusal_for};
 use crate::tell::tell;
 use pgn_ids::{Address, Pgn};
@@ -34,7 +35,7 @@ pub struct Live {
     pub(crate) segment: Segment,
     pub(crate) calls: Calls,
     pub(crate) owed: Vec<Owed>,
-    pub(crate) seats: Vec<Seat>,
+    pub(crate) seats: Seats,
     pub(crate) doors: Vec<Door>,
     pub(crate) stopped: bool,
 }
@@ -67,7 +68,7 @@ impl Drop for Live {
 }
 
 impl Live {
-    ghost use Rattle.std.specs.Prelude.{◌≡◌, ◌≤◌, ◌<◌, [], Bool, false, IfOk, OnErr, IfErr, Ok};
+    ghost use Rattle.std.specs.Prelude.{◌≡◌, ◌≤◌, ◌<◌, [], Bool, false, IfOk, OnErr, IfErr, Ok, IsFalse};
     ghost use Rattle.segment_core.specs.Answers.{reply_with};
     ghost use Rattle.segment_core.specs.declared.made.Made.TheVariants as made;
     ghost use Rattle.segment_law.specs.Headline.{Headline};
@@ -76,7 +77,7 @@ impl Live {
     ghost use Rattle.segment_law.specs.declared.refusal.Refusal.TheVariants.{TraceFull};
     ghost use Rattle.live_segment.specs.Record.{trail};
     ghost use Rattle.live_segment.specs.LiveView.{live_view, keep, stored_calls, since_cut, halted, SameLive, Applied, LacksMemory, Attached, Laws, OpenedFor, IsOpenCause};
-    ghost use Rattle.live_segment.specs.Offers.{AcceptedAs, LacksMemoryFor};
+    ghost use Rattle.live_segment.specs.Offers.{AcceptedAs, LacksMemoryFor, IsAtRest};
     ghost use Rattle.live_segment.specs.Refusals.{IsAnsweredBy, making_refusal, attaching_refusal};
     ghost use Rattle.std.specs.Result.{result_err};
 
@@ -97,6 +98,7 @@ impl Live {
             return Err(NotMade::OutOfMemory);
         };
         let calls = Calls::new(alloc)?;
+        let seats = Seats::new(alloc)?;
         Ok(Live {
             before: [0; WORDS_BEFORE],
             alloc,
@@ -104,7 +106,7 @@ impl Live {
             segment,
             calls,
             owed: Vec::new(alloc),
-            seats: Vec::new(alloc),
+            seats,
             doors: Vec::new(alloc),
             stopped: false,
         })
@@ -262,12 +264,11 @@ impl Live {
             return Ok(Accepted::Empty);
         }
         let k = client as usize;
-        match make_ready(
+        match self.seats.make_ready(
             self.alloc,
             &self.segment,
             &mut self.calls,
             &mut self.owed,
-            &mut self.seats,
             k,
         )? {
             Ready::Empty => Ok(Accepted::Empty),
@@ -276,7 +277,7 @@ impl Live {
             Ready::NotSent(refusal) => Ok(Accepted::Refused(refusal)),
             Ready::Send(call) => match make(&mut self.segment, call)? {
                 Reply::Sent(number) => {
-                    store(&mut self.calls, &mut self.owed, &mut self.seats, k, number);
+                    self.seats.store(&mut self.calls, &mut self.owed, k, number);
                     Ok(Accepted::Sent(number))
                 }
                 Reply::Refused(refusal) => Ok(Accepted::Refused(refusal)),
@@ -286,26 +287,53 @@ impl Live {
         }
     }
 
+    /// Why a station gets no client, except for want of memory.
+    pub fn attach_refusal(&self, station: Address) -> Option<Refusal>
+        ensures { result ≡ attaching_refusal self.now station }
+    {
+        if !is_station(self.addresses.as_slice(), station) {
+            return Some(Refusal::NoSuchStation);
+        }
+        if clients_of(self.seats.as_slice(), station) >= MOST_CLIENTS {
+            return Some(Refusal::ClientsFull);
+        }
+        None
+    }
+
     /// A new client of a station, with empty lists.
     ///
-    /// Refused as `NoSuchStation` exactly if no station has the address, else as `ClientsFull` if it has 16 clients, and else as
-    /// `OutOfMemory` if memory is refused. These change nothing.
+    /// Refused as `NoSuchStation` exactly if no station has the address, else as `ClientsFull` if it has 16 clients that aren't gone, and
+    /// else as `OutOfMemory` if memory is refused. These change nothing.
     pub fn attach(&mut self, station: Address) -> Result<Client, NotMade>
         ensures attached { IfOk result (λ c. Attached self.old self.new station c) }
         ensures refused { IsAnsweredBy (attaching_refusal self.old station) (result_err result) }
         ensures err { OnErr result (self.new ≡ self.old) }
     {
-        if !is_station(self.addresses.as_slice(), station) {
-            return Err(NotMade::Refused(Refusal::NoSuchStation));
-        }
-        if clients_of(self.seats.as_slice(), station) >= MOST_CLIENTS {
-            return Err(NotMade::Refused(Refusal::ClientsFull));
+        if let Some(refusal) = self.attach_refusal(station) {
+            return Err(NotMade::Refused(refusal));
         }
         let id = self.seats.len() as u64;
-        self.seats.reserve(1)?;
-        let (seat, client) = Seat::new(self.alloc, id, station)?;
+        self.seats.reserve()?;
+        let bell = self.seats.bell(self.alloc, station)?;
+        let (seat, client) = Seat::new(self.alloc, id, station, bell)?;
         self.seats.push_reserved(seat);
         Ok(client)
+    }
+
+    /// Whether a submission of a client of the station may wait: if not, none is seen.
+    #[inline(always)]
+    pub(crate) fn is_called(&mut self, station: Address) -> bool
+        ensures same { self.new ≡ self.old }
+        ensures rests { IsFalse result → IsAtRest station self.old }
+    {
+        self.seats.is_called(station)
+    }
+
+    /// Looks at no client of the station until one of them submits, if no submission of its clients is seen.
+    pub(crate) fn hush(&mut self, station: Address)
+        ensures { self.new ≡ self.old }
+    {
+        self.seats.hush(station);
     }
 
     /// Opens a port, and returns its inbox.
@@ -374,13 +402,13 @@ fn is_station(addresses: &[Address], station: Address) -> bool
     addresses.iter().any(|address| address.0 == station.0)
 }
 
-// How many clients a station has.
+// How many clients a station has that aren't gone.
 fn clients_of(seats: &[Seat], station: Address) -> usize
     ensures { result ≡ clients_at station (map client_of seats.now) }
 {
     let mut count = 0;
     for seat in seats {
-        if seat.station().0 == station.0 {
+        if seat.station().0 == station.0 && seat.is_active() {
             count += 1;
         }
     }

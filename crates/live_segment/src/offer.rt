@@ -4,6 +4,7 @@ ghost use Rattle.segment_rings.specs.Views.{SeatView, with_spare};
 ghost use Rattle.segment_rings.specs.declared.words.Submission.{Submission};
 ghost use Rattle.live_segment.specs.Record.{owed_by};
 ghost use Rattle.live_segment.specs.Facts.{SameSeats};
+ghost use Rattle.live_segment.specs.Homes.{OnlyAt};
 ghost use Rattle.live_segment.specs.Past.{count_since};
 ghost use Rattle.live_segment.specs.Offers.{IsFrontIn, IsSendOf, IsCauseFor, IsReadyToSend, LacksRoomToSend, HasSpace, IsStored};
 ghost use Rattle.live_segment.specs.declared.offer.Front.TheVariants as front;
@@ -48,6 +49,7 @@ pub(crate) enum Front {
 fn look(seats: &mut Vec<Seat>, k: usize, owed: usize, stored: usize) -> Front
     requires { k < length seats.old.items }
     ensures same { SameSeats seats.old.items seats.new.items }
+    ensures only { OnlyAt k seats.old.items seats.new.items }
     ensures front { IsFrontIn seats.new.items k owed stored result }
     ensures count { length seats.new.items ≡ length seats.old.items }
     ensures few { result ≡ front.Waits → owed + 1 < 2 ^ 64 }
@@ -80,6 +82,7 @@ fn front_refusal(segment: &Segment, seats: &[Seat], k: usize) -> Option<Refusal>
 fn keep_notes(seats: &mut Vec<Seat>, k: usize, count: usize) -> Result<(), AllocError>
     requires { k < length seats.old.items }
     ensures same { SameSeats seats.old.items seats.new.items }
+    ensures only { OnlyAt k seats.old.items seats.new.items }
     ensures kept { (s : SeatView) → slice_index_or seats.new.items k s ≡ with_spare (slice_index_or seats.old.items k s) (slice_index_or seats.new.items k s).spare }
     ensures ok { OnOk result ((s : SeatView) → count ≤ (slice_index_or seats.new.items k s).spare) }
     ensures count { length seats.new.items ≡ length seats.old.items }
@@ -119,6 +122,7 @@ pub(crate) enum Ready {
 fn has_nothing(seats: &mut Vec<Seat>, k: usize) -> bool
     requires { k < length seats.old.items }
     ensures same { SameSeats seats.old.items seats.new.items }
+    ensures only { OnlyAt k seats.old.items seats.new.items }
     ensures nothing { IsTrue result → (owed stored : ℕ) → IsFrontIn seats.new.items k owed stored front.Empty }
     ensures count { length seats.new.items ≡ length seats.old.items }
 {
@@ -131,7 +135,7 @@ fn has_nothing(seats: &mut Vec<Seat>, k: usize) -> bool
 }
 
 /// All that can fail before the front submission is sent. Memory is looked for only if nothing else prevents it.
-pub(crate) fn make_ready(
+pub(crate) fn find_ready(
     alloc: Global,
     segment: &Segment,
     calls: &mut Calls,
@@ -145,6 +149,7 @@ pub(crate) fn make_ready(
     ensures image { calls.new.image ≡ calls.old.image }
     ensures owed { owed.new.items ≡ owed.old.items }
     ensures seats { SameSeats seats.old.items seats.new.items }
+    ensures only { OnlyAt k seats.old.items seats.new.items }
     ensures ready { IfOk result (λ r. IsReadyToSend segment.now (count_since calls.old.pieces calls.old.items) owed.old.items seats.new.items k r) }
     ensures space { IfOk result (λ r. HasSpace 0 calls.new.spare r × HasSpace (vec_len owed.new) (vec_capacity owed.new) r) }
     ensures few { IfOk result (λ r. HasSpace (length calls.old.items + 1) (2 ^ 64) r) }
@@ -157,7 +162,7 @@ pub(crate) fn make_ready(
     make_front_ready(alloc, segment, calls, owed, seats, k)
 }
 
-// `make_ready`, for a client that may have a submission.
+// `find_ready`, for a client that may have a submission.
 fn make_front_ready(
     alloc: Global,
     segment: &Segment,
@@ -172,6 +177,7 @@ fn make_front_ready(
     ensures image { calls.new.image ≡ calls.old.image }
     ensures owed { owed.new.items ≡ owed.old.items }
     ensures seats { SameSeats seats.old.items seats.new.items }
+    ensures only { OnlyAt k seats.old.items seats.new.items }
     ensures ready { IfOk result (λ r. IsReadyToSend segment.now (count_since calls.old.pieces calls.old.items) owed.old.items seats.new.items k r) }
     ensures space { IfOk result (λ r. HasSpace 0 calls.new.spare r × HasSpace (vec_len owed.new) (vec_capacity owed.new) r) }
     ensures few { IfOk result (λ r. HasSpace (length calls.old.items + 1) (2 ^ 64) r) }

@@ -25,7 +25,7 @@ impl Live {
         if client >= self.seats.len() as u64 {
             return None;
         }
-        Some(self.seats[client as usize].station())
+        Some(self.seats.get(client as usize).station())
     }
 
     /// The notes of a client, if there is one with this number, without those that a cut kept no more.
@@ -35,7 +35,7 @@ impl Live {
         if client >= self.seats.len() as u64 {
             return None;
         }
-        Some(self.seats[client as usize].notes())
+        Some(self.seats.get(client as usize).notes())
     }
 
     /// How many of the first notes of a client are kept no more, if there is a client with this number.
@@ -45,7 +45,7 @@ impl Live {
         if client >= self.seats.len() as u64 {
             return None;
         }
-        Some(self.seats[client as usize].notes_gone())
+        Some(self.seats.get(client as usize).notes_gone())
     }
 
     // How many messages of a client were accepted.
@@ -53,7 +53,7 @@ impl Live {
         requires { client < length self.now.clients }
         ensures { result ≡ length (accepted client self.now.calls) }
     {
-        self.seats[client as usize].taken() as usize
+        self.seats.get(client as usize).taken() as usize
     }
 
     /// What a port was given, if it was opened here, without the deliveries that a cut kept no more.

@@ -6,16 +6,16 @@ ghost use Rattle.live_segment.specs.Places.{TakesAll, EnoughFor};
 
 use crate::call::Owed;
 use crate::hand::{hand_all, hand_one};
-use crate::settle::{settle, settle_event};
+use crate::seating::Seats;
 use segment_core::Events;
-use segment_rings::{Buffer, Door, Seat};
+use segment_rings::{Buffer, Door};
 
 /// Gives and notes events. It takes no memory.
 #[inline(always)]
 pub(crate) fn tell(
     doors: &mut Vec<Door>,
     owed: &mut Vec<Owed>,
-    seats: &mut Vec<Seat>,
+    seats: &mut Seats,
     buffers: Vec<Buffer>,
     events: &Events,
 )
@@ -44,7 +44,7 @@ pub(crate) fn tell(
 fn tell_some(
     doors: &mut Vec<Door>,
     owed: &mut Vec<Owed>,
-    seats: &mut Vec<Seat>,
+    seats: &mut Seats,
     buffers: Vec<Buffer>,
     events: &Events,
 )
@@ -67,6 +67,6 @@ fn tell_some(
     };
     hand_one(doors, &mut buffers, first);
     hand_all(doors, &mut buffers, events.rest());
-    settle_event(owed, seats, first);
-    settle(owed, seats, events.rest());
+    seats.settle_event(owed, first);
+    seats.settle(owed, events.rest());
 }

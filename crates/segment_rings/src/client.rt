@@ -1,4 +1,5 @@
 //! A client: what it submitted and the notes that it read, with its ends of the two rings.
+use crate::bell::Bell;
 use crate::kept::Kept;
 use crate::mark::Mark;
 use crate::words::{Note, Submission};
@@ -32,6 +33,7 @@ pub struct Client {
     read: Kept<Note>,
     submitted_mark: Mark,
     read_mark: Mark,
+    bell: Bell,
 }
 
 impl Model for Client {
@@ -58,6 +60,7 @@ impl Drop for Client {
             read: _,
             submitted_mark: _,
             read_mark: _,
+            bell: _,
         } = self;
     }
 }
@@ -107,6 +110,7 @@ impl Client {
         station: Address,
         submissions: (Producer<Submission>, Mark),
         notes: (Consumer<Note>, Mark),
+        bell: Bell,
     ) -> Client
         requires submissions { sent submissions.0 ≡ [] }
         requires free { known_free submissions.0 ≡ 64 }
@@ -123,6 +127,7 @@ impl Client {
             read: Kept::new(alloc),
             submitted_mark: submissions.1,
             read_mark: notes.1,
+            bell,
         }
     }
 
@@ -179,6 +184,7 @@ impl Client {
             pgn,
             bytes: copy,
         });
+        self.bell.ring();
         Ok(self.submitted.count())
     }
 

@@ -18,6 +18,7 @@ pub struct Inbox {
     deliveries: Consumer<Delivery>,
     taken: Kept<Delivery>,
     mark: Mark,
+    shut: Mark,
 }
 
 impl Model for Inbox {
@@ -42,6 +43,7 @@ impl Drop for Inbox {
             deliveries: _,
             taken: _,
             mark: _,
+            shut: _,
         } = self;
     }
 }
@@ -71,7 +73,7 @@ impl Inbox {
         alloc: Global,
         port: PortId,
         deliveries: Consumer<Delivery>,
-        mark: Mark,
+        marks: (Mark, Mark),
     ) -> Inbox
         requires { received deliveries ≡ [] }
         ensures { result ≡ new_inbox_end port result.spare }
@@ -82,7 +84,8 @@ impl Inbox {
             closed: false,
             deliveries,
             taken: Kept::new(alloc),
-            mark,
+            mark: marks.0,
+            shut: marks.1,
         }
     }
 
@@ -98,6 +101,12 @@ impl Inbox {
         ensures { result ≡ self.now.closed }
     {
         self.closed
+    }
+
+    /// Whether its port is known to be closed. Then nothing more comes into its ring, so what it doesn't find there afterwards will never
+    /// come. No contract speaks of what another thread did.
+    pub fn is_shut(&self) -> bool {
+        self.shut.look() != 0
     }
 
     /// Receives the next delivery, if there is one. A closed inbox gives none. Want of memory leaves it in the ring. Whatever it returns, an

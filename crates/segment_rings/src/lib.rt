@@ -7,6 +7,7 @@
 //! ring. Nothing here takes a lock; only `outcome` and `receive` wait, for so many turns at most.
 #![tactic(auto)]
 
+mod bell;
 mod buffer;
 mod client;
 mod door;
@@ -17,6 +18,7 @@ mod outlet;
 mod seat;
 mod words;
 
+pub use bell::Bell;
 pub use buffer::Buffer;
 pub use client::{Client, SubmitRefused, submit_refusal};
 pub use door::{Door, Doorway};

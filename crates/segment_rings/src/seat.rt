@@ -1,4 +1,5 @@
 //! What a segment keeps of one client: the far ends of its two rings, and the notes made for it.
+use crate::bell::Bell;
 use crate::client::Client;
 use crate::kept::Kept;
 use crate::mark::Mark;
@@ -69,8 +70,13 @@ impl Seat {
     ghost use Rattle.segment_rings.specs.Ends.{new_client_end, ring_places};
     ghost use Rattle.segment_rings.specs.declared.seat.Offer.TheVariants as offer;
 
-    /// A client of a station, and the seat that it has in the segment.
-    pub fn new(alloc: Global, id: u64, station: Address) -> Result<(Seat, Client), AllocError>
+    /// A client of a station, and the seat that it has in the segment. The client rings this bell whenever it has submitted.
+    pub fn new(
+        alloc: Global,
+        id: u64,
+        station: Address,
+        bell: Bell,
+    ) -> Result<(Seat, Client), AllocError>
         ensures seat { IfOk result (λ r. r.0 ≡ new_seat id station r.0.free r.0.spare) }
         ensures client { IfOk result (λ r. r.1 ≡ new_client_end id station) }
     {
@@ -95,6 +101,7 @@ impl Seat {
             station,
             (producer, submitted_mark),
             (consumer, read_mark),
+            bell,
         );
         Ok((seat, client))
     }
@@ -133,6 +140,13 @@ impl Seat {
         ensures value { IsTrue result ↔ (0 < length self.new.ahead) }
     {
         !self.submissions.is_empty()
+    }
+
+    /// Whether submissions are taken, and one is known to wait. It doesn't look at the ring.
+    pub fn sees(&self) -> bool
+        ensures { IsTrue result ↔ ((self.now.active ≡ true) × (0 < length self.now.ahead)) }
+    {
+        self.active && self.submissions.cached_slots() > 0
     }
 
     /// The submission in front.

@@ -8,7 +8,7 @@ use pgn_ids::Address;
 use port_table::PortId;
 use segment_law::Refusal;
 use segment_rings::{
-    Buffer, Client, Delivery, Door, Doorway, Inbox, Note, Offer, Seat, Submission,
+    Bell, Buffer, Client, Delivery, Door, Doorway, Inbox, Note, Offer, Seat, Submission,
 };
 use std::alloc::Global;
 use std::process::Abort;
@@ -89,6 +89,12 @@ fn give_one(rt: &impl Abort, alloc: Global, door: &mut Door) -> bool {
     true
 }
 
+// A client of the sender with this number, and its seat.
+fn seated(rt: &impl Abort, alloc: Global, id: u64) -> (Seat, Client) {
+    let bell = got(rt, Bell::new(alloc));
+    got(rt, Seat::new(alloc, id, SENDER, bell))
+}
+
 // Takes the front submission, if there is one.
 fn take_one(seat: &mut Seat) -> Option<Submission> {
     match seat.offer(0) {
@@ -166,10 +172,31 @@ fn take_and_read(rt: &(impl Abort + Wait), alloc: Global, seat: &mut Seat, clien
 
 #[test]
 fn a_submission_is_taken_and_its_note_is_read(rt: HostRuntime) {
-    let (mut seat, mut client) = got(&rt, Seat::new(rt.alloc(), 3, SENDER));
+    let (mut seat, mut client) = seated(&rt, rt.alloc(), 3);
     take_and_read(&rt, rt.alloc(), &mut seat, &mut client);
     drop(seat);
     drop(client);
+}
+
+// The seat knows of the submission once it has looked.
+fn rings_once(rt: &impl Abort, alloc: Global, bell: &Bell, seat: &mut Seat, client: &mut Client) {
+    same(rt, bell.count(), 0);
+    submits(rt, alloc, client, 1);
+    same(rt, bell.count(), 1);
+    holds(rt, !seat.sees());
+    holds(rt, seat.offer(0) == Offer::Ready);
+    holds(rt, seat.sees());
+}
+
+#[test]
+fn a_submission_rings_the_bell(rt: HostRuntime) {
+    let bell = got(&rt, Bell::new(rt.alloc()));
+    let other = got(&rt, bell.share());
+    let (mut seat, mut client) = got(&rt, Seat::new(rt.alloc(), 0, SENDER, other));
+    rings_once(&rt, rt.alloc(), &bell, &mut seat, &mut client);
+    drop(seat);
+    drop(client);
+    drop(bell);
 }
 
 // Closes a seat with room for a note and a submission waiting, and then makes the note.
@@ -193,7 +220,7 @@ fn close_and_note(rt: &impl Abort, alloc: Global, seat: &mut Seat, client: &mut 
 
 #[test]
 fn a_note_after_the_end_goes_into_no_ring(rt: HostRuntime) {
-    let (mut seat, mut client) = got(&rt, Seat::new(rt.alloc(), 0, SENDER));
+    let (mut seat, mut client) = seated(&rt, rt.alloc(), 0);
     close_and_note(&rt, rt.alloc(), &mut seat, &mut client);
     drop(seat);
     drop(client);
@@ -216,7 +243,7 @@ fn refuse(rt: &impl Abort, alloc: Global, client: &mut Client) {
 
 #[test]
 fn what_is_not_to_be_sent_comes_back(rt: HostRuntime) {
-    let (seat, mut client) = got(&rt, Seat::new(rt.alloc(), 0, SENDER));
+    let (seat, mut client) = seated(&rt, rt.alloc(), 0);
     refuse(&rt, rt.alloc(), &mut client);
     drop(seat);
     drop(client);
@@ -240,7 +267,7 @@ fn fill_submissions(rt: &impl Abort, alloc: Global, seat: &mut Seat, client: &mu
 
 #[test]
 fn a_full_ring_of_submissions_has_a_place_again(rt: HostRuntime) {
-    let (mut seat, mut client) = got(&rt, Seat::new(rt.alloc(), 0, SENDER));
+    let (mut seat, mut client) = seated(&rt, rt.alloc(), 0);
     fill_submissions(&rt, rt.alloc(), &mut seat, &mut client);
     drop(seat);
     drop(client);
@@ -258,7 +285,7 @@ fn fill_notes(rt: &impl Abort, alloc: Global, seat: &mut Seat, client: &mut Clie
 
 #[test]
 fn a_full_ring_of_notes_has_a_place_again(rt: HostRuntime) {
-    let (mut seat, mut client) = got(&rt, Seat::new(rt.alloc(), 0, SENDER));
+    let (mut seat, mut client) = seated(&rt, rt.alloc(), 0);
     fill_notes(&rt, rt.alloc(), &mut seat, &mut client);
     drop(seat);
     drop(client);
@@ -420,7 +447,7 @@ fn cut_a_closed_seat(rt: &impl Abort, seat: &mut Seat) {
 
 #[test]
 fn a_cut_keeps_the_unread_notes_and_the_submissions_in_the_ring(rt: HostRuntime) {
-    let (mut seat, mut client) = got(&rt, Seat::new(rt.alloc(), 0, SENDER));
+    let (mut seat, mut client) = seated(&rt, rt.alloc(), 0);
     cut_a_seat(&rt, rt.alloc(), &mut seat, &mut client);
     cut_a_closed_seat(&rt, &mut seat);
     drop(seat);

@@ -10,8 +10,8 @@ mod worker_calls;
 
 use pgn_ids::Address;
 use segment_shared::{
-    Accepted, Client, Gate, Inbox, Live, NotMade, Refusal, Reply, SharedSegment, WorkerCall,
-    bus_worker, finish,
+    Accepted, Client, Gate, Inbox, Live, NotDetached, NotMade, PortId, Refusal, Reply,
+    SharedSegment, WorkerCall, bus_worker, client_agrees, finish, inbox_agrees,
 };
 use std::alloc::Global;
 use std::process::Abort;
@@ -57,6 +57,74 @@ fn fill_both(rt: &impl Abort, alloc: Global, live: &mut Live) {
 fn clients_and_submissions_are_limited(rt: HostRuntime) {
     let mut live = three(&rt, rt.alloc());
     fill_both(&rt, rt.alloc(), &mut live);
+    drop(live);
+}
+
+// A client that is detached is looked at no more, but keeps what it had.
+fn detach(rt: &impl Abort, alloc: Global, live: &mut Live, first: &mut Client) {
+    submit(rt, first, R, alloc);
+    same(rt, live.detach(first.id()), Ok(()));
+    same(rt, live.detach(first.id()), Err(NotDetached::Gone));
+    same(rt, live.detach(16), Err(NotDetached::NoSuchClient));
+    same(rt, accept(rt, live, first), Accepted::Empty);
+    holds(rt, client_agrees(live, first));
+}
+
+fn take_its_place(rt: &impl Abort, alloc: Global, live: &mut Live) {
+    let mut first = client(rt, live, A);
+    fill_clients(rt, live);
+    detach(rt, alloc, live, &mut first);
+    drop(client(rt, live, A));
+    is_unattached(rt, live, A, Refusal::ClientsFull);
+    drop(first);
+}
+
+#[test]
+fn a_detached_client_makes_room_for_another(rt: HostRuntime) {
+    let mut live = three(&rt, rt.alloc());
+    take_its_place(&rt, rt.alloc(), &mut live);
+    drop(live);
+}
+
+// What the port was given is received after its closing.
+fn close_by_port(
+    rt: &impl Abort,
+    alloc: Global,
+    live: &mut Live,
+    inbox: &mut Inbox,
+    first: &mut Client,
+) {
+    submit(rt, first, R, alloc);
+    same(rt, accept(rt, live, first), Accepted::Sent(1));
+    exchange(rt, live);
+    holds(rt, !inbox.is_shut());
+    let other = PortId {
+        station: R,
+        number: 99,
+    };
+    same(
+        rt,
+        live.close_port(other),
+        Err(NotMade::Refused(Refusal::NoSuchPort)),
+    );
+    same(rt, live.close_port(inbox.port()), Ok(()));
+    holds(rt, inbox.is_shut());
+    holds(rt, receive(rt, inbox));
+    holds(rt, !receive(rt, inbox));
+    holds(rt, inbox_agrees(live, inbox));
+}
+
+fn open_and_close_by_port(rt: &impl Abort, alloc: Global, live: &mut Live) {
+    let (mut inbox, mut first) = port_and_client(rt, live);
+    close_by_port(rt, alloc, live, &mut inbox, &mut first);
+    drop(inbox);
+    drop(first);
+}
+
+#[test]
+fn a_port_is_closed_without_its_inbox(rt: HostRuntime) {
+    let mut live = three(&rt, rt.alloc());
+    open_and_close_by_port(&rt, rt.alloc(), &mut live);
     drop(live);
 }
 

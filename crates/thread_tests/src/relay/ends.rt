@@ -9,7 +9,7 @@ use message_events::Bytes;
 use pgn_ids::{Address, Pgn};
 use port_relay::{Gate, Relayed, Route, Stop, relay, relay_until};
 use port_table::PortId;
-use segment_rings::{Client, Delivery, Door, Doorway, Inbox, Seat, Submission};
+use segment_rings::{Bell, Client, Delivery, Door, Doorway, Inbox, Seat, Submission};
 use std::alloc::{AllocError, Global};
 use std::process::Abort;
 use std::sync::Wait;
@@ -43,7 +43,7 @@ pub(crate) struct Ends {
 impl Ends {
     pub(crate) fn new(rt: &impl Abort, alloc: Global) -> Ends {
         let (door, inbox) = got(rt, Doorway::new(alloc)).open(PORT);
-        let (seat, client) = got(rt, Seat::new(alloc, 0, GATEWAY));
+        let (seat, client) = got(rt, Seat::new(alloc, 0, GATEWAY, got(rt, Bell::new(alloc))));
         Ends {
             door,
             inbox,

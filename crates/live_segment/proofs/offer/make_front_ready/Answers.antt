@@ -6,6 +6,7 @@ use Rattle.live_segment.specs.Offers.{LacksRoomToSend}
 use Rattle.live_segment.specs.declared.offer.Front.TheVariants as front
 use Rattle.live_segment.proofs.Fronts.{front_at, found_at, lacks_kept, ready_at}
 use Rattle.live_segment.proofs.Holding.{no_ok, on_err}
+use Rattle.live_segment.proofs.Only.{only_trans}
 use Rattle.live_segment.proofs.SeatsSame.{same_seats-trans}
 use Rattle.live_segment.proofs.offer.make_front_ready.Goals as goal
 
@@ -22,6 +23,7 @@ returns-in-Empty c =
       image = refl;
       owed = refl;
       seats = c.look.ensures.same;
+      only = c.look.ensures.only;
       ready = front_at st m ws k c.as_slice.result.now ts c.count_owed-count.result c.len.result c.look.result front.Empty c.count_owed-count.ensures c.as_slice.ensures.value c.len.ensures c.look.ensures.front c.in-Empty.is;
       space = (tt, tt);
       few = tt;
@@ -42,6 +44,7 @@ returns-in-Owed c =
       image = refl;
       owed = refl;
       seats = c.look.ensures.same;
+      only = c.look.ensures.only;
       ready = front_at st m ws k c.as_slice.result.now ts c.count_owed-count.result c.len.result c.look.result front.Owed c.count_owed-count.ensures c.as_slice.ensures.value c.len.ensures c.look.ensures.front c.in-Owed.is;
       space = (tt, tt);
       few = tt;
@@ -62,6 +65,7 @@ returns-in-Full c =
       image = refl;
       owed = refl;
       seats = c.look.ensures.same;
+      only = c.look.ensures.only;
       ready = front_at st m ws k c.as_slice.result.now ts c.count_owed-count.result c.len.result c.look.result front.Full c.count_owed-count.ensures c.as_slice.ensures.value c.len.ensures c.look.ensures.front c.in-Full.is;
       space = (tt, tt);
       few = tt;
@@ -82,6 +86,7 @@ returns-in-Some c =
       image = refl;
       owed = refl {A = List Owed};
       seats = c.look.ensures.same;
+      only = c.look.ensures.only;
       ready = found_at st m ws k c.as_slice.result.now ts c.as_slice-in-Waits.result.now c.count_owed-count.result c.len.result c.look.result c.front_refusal.result (Some c.in-Some.refusal) c.count_owed-count.ensures c.as_slice.ensures.value c.len.ensures c.look.ensures.front c.in-Waits.is c.as_slice-in-Waits.ensures.value c.front_refusal.ensures c.in-Some.is;
       space = (tt, tt);
       few = tt;
@@ -103,6 +108,7 @@ returns-in_err-reserve-in-Waits c =
       image = c.reserve.ensures.image;
       owed = refl {A = List Owed};
       seats = c.look.ensures.same;
+      only = c.look.ensures.only;
       ready = no_ok _ _ c.from_residual.ensures.0;
       space = no_ok _ _ c.from_residual.ensures.0;
       few = no_ok _ _ c.from_residual.ensures.0;
@@ -124,6 +130,7 @@ returns-in_err-reserve-in-Waits-2 c =
       image = c.reserve.ensures.image;
       owed = c.reserve-in-Waits.ensures.items;
       seats = c.look.ensures.same;
+      only = c.look.ensures.only;
       ready = no_ok _ _ c.from_residual-in_err-reserve-in-Waits-2.ensures.0;
       space = no_ok _ _ c.from_residual-in_err-reserve-in-Waits-2.ensures.0;
       few = no_ok _ _ c.from_residual-in_err-reserve-in-Waits-2.ensures.0;
@@ -145,6 +152,7 @@ returns-in_err-keep_notes-in-Waits c =
       image = c.reserve.ensures.image;
       owed = c.reserve-in-Waits.ensures.items;
       seats = same_seats-trans c.args.seats.now.items ts c.keep_notes.new.seats.items c.look.ensures.same c.keep_notes.ensures.same;
+      only = only_trans k c.args.seats.now.items ts c.keep_notes.new.seats.items c.look.ensures.only c.keep_notes.ensures.only;
       ready = no_ok _ _ c.from_residual-in_err-keep_notes-in-Waits.ensures.0;
       space = no_ok _ _ c.from_residual-in_err-keep_notes-in-Waits.ensures.0;
       few = no_ok _ _ c.from_residual-in_err-keep_notes-in-Waits.ensures.0;
@@ -166,6 +174,7 @@ returns-in_err-call-in-Waits c =
       image = c.reserve.ensures.image;
       owed = c.reserve-in-Waits.ensures.items;
       seats = same_seats-trans c.args.seats.now.items ts c.keep_notes.new.seats.items c.look.ensures.same c.keep_notes.ensures.same;
+      only = only_trans k c.args.seats.now.items ts c.keep_notes.new.seats.items c.look.ensures.only c.keep_notes.ensures.only;
       ready = no_ok _ _ c.from_residual-in_err-call-in-Waits.ensures.0;
       space = no_ok _ _ c.from_residual-in_err-call-in-Waits.ensures.0;
       few = no_ok _ _ c.from_residual-in_err-call-in-Waits.ensures.0;
@@ -205,3 +214,6 @@ returns-in_ok-call-in-Waits-clause-count c = c.keep_notes.ensures.count ∙ c.lo
 
 pub returns-in_ok-call-in-Waits-clause-err : goal.returns-in_ok-call-in-Waits-clause-err
 returns-in_ok-call-in-Waits-clause-err c = tt
+
+pub returns-in_ok-call-in-Waits-clause-only : goal.returns-in_ok-call-in-Waits-clause-only
+returns-in_ok-call-in-Waits-clause-only c = only_trans c.args.k c.args.seats.now.items c.look.new.seats.items c.keep_notes.new.seats.items c.look.ensures.only c.keep_notes.ensures.only

@@ -1,4 +1,4 @@
-use Rattle.std.proofs.Common.{◌≡◌, List, [], ◌∷◌, ◌++◌, length, drop, refl, sym, ap, ◌∙◌, subst}
+use Rattle.std.proofs.Common.{◌≡◌, List, [], ◌∷◌, length, drop, refl, sym, ap, ◌∙◌, subst}
 use Rattle.std.specs.Option.{option_copied}
 use Rattle.message_events.specs.declared.event.Event.{Event}
 use Rattle.live_segment.specs.declared.call.Owed.{Owed}
@@ -68,8 +68,8 @@ returns-clause-seats c =
     let ss = c.args.seats.now.items in
     let e = c.in-Some.first.now in
     let at : c.args.events.now ≡ e ∷ rest = first_of c.args.events.now e (sym c.get.ensures ∙ ap (λ o. option_copied o) c.in-Some.is) in
-    c.settle.ensures.seats ∙ ap (λ (es : List Event). note_all (settle_notes c.settle_event.new.owed.items es) c.settle_event.new.seats.items) c.rest-2.ensures
-    ∙ ap (λ (vs : List Owed). note_all (settle_notes vs rest) c.settle_event.new.seats.items) c.settle_event.ensures.owed
+    c.settle.ensures.seats ∙ ap (λ (es : List Event). note_all (settle_notes c.settle_event.new.owed.items es) c.settle_event.new.self.items) c.rest-2.ensures
+    ∙ ap (λ (vs : List Owed). note_all (settle_notes vs rest) c.settle_event.new.self.items) c.settle_event.ensures.owed
     ∙ ap (note_all (settle_notes (owed_after ws e) rest)) c.settle_event.ensures.seats
     ∙ sym (note_all-append (notes_at ws e) (settle_notes (owed_after ws e) rest) ss)
     ∙ ap (λ (es : List Event). note_all (settle_notes ws es) ss) (sym at)

@@ -50,7 +50,7 @@ invariant_of-self c = stays _ _ _ _ _ _ _ _ _ _ _ _ _ _ _ refl c.make_ready.ensu
 pub returns-in_err-make_ready-clause-err : goal.returns-in_err-make_ready-clause-err
 returns-in_err-make_ready-clause-err c =
     let i = c.self.inside in
-    on_err _ (still _ i.stopped i.addresses.items i.calls.pieces c.make_ready.new.calls.pieces i.calls.items c.make_ready.new.calls.items i.seats.items c.make_ready.new.seats.items i.doors.items i.doors.items c.self.view_is c.make_ready.ensures.calls c.make_ready.ensures.pieces c.make_ready.ensures.seats (same_doors-refl _))
+    on_err _ (still _ i.stopped i.addresses.items i.calls.pieces c.make_ready.new.calls.pieces i.calls.items c.make_ready.new.calls.items i.seats.items c.make_ready.new.self.items i.doors.items i.doors.items c.self.view_is c.make_ready.ensures.calls c.make_ready.ensures.pieces c.make_ready.ensures.seats (same_doors-refl _))
 
 pub returns-in_err-make_ready-clause-not_refused : goal.returns-in_err-make_ready-clause-not_refused
 returns-in_err-make_ready-clause-not_refused c =
@@ -59,10 +59,10 @@ returns-in_err-make_ready-clause-not_refused c =
     let xs = c.self.inside.calls.items in
     let ws = c.self.inside.owed.items in
     let ss = c.self.inside.seats.items in
-    let ts = c.make_ready.new.seats.items in
+    let ts = c.make_ready.new.self.items in
     let ds = c.self.inside.doors.items in
     let k = c.args.client in
-    let l' : k < length ts = within k c.len.result _ _ (length ts) c.if-client-len.false c.len.ensures c.self.inside.seats.ok.0 c.make_ready.ensures.count in
+    let l' : k < length ts = within k c.len.result _ _ (length ts) c.if-client-len.false c.len.ensures refl c.make_ready.ensures.count in
     let lacks : LacksRoomToSend st (count_since c.self.inside.calls.pieces xs) ws ts k = c.in_err-make_ready.ensures.err in
     on_err _ (viewed (λ (u v : LiveView). LacksMemoryFor u v k) _ c.self.inside.stopped addrs c.self.inside.calls.pieces c.make_ready.new.calls.pieces xs xs c.make_ready.new.calls.items ss ts ts ds ds c.self.view_is c.make_ready.ensures.calls c.make_ready.ensures.pieces refl (lacks_memory_for (keep c.self.inside.stopped c.self.inside.calls.pieces) addrs st xs ws ss ts ds ds k nobody c.self.invariant.0.at c.self.invariant.0.owes l' (clients-same ss ts c.make_ready.ensures.seats) lacks))
 
@@ -73,11 +73,11 @@ returns-in_err-number-in-Send-clause-not_refused c =
     let xs = c.self.inside.calls.items in
     let ws = c.self.inside.owed.items in
     let ss = c.self.inside.seats.items in
-    let ts = c.make_ready.new.seats.items in
+    let ts = c.make_ready.new.self.items in
     let ds = c.self.inside.doors.items in
     let k = c.args.client in
     let d = nobody in
-    let l' : k < length ts = within k c.len.result _ _ (length ts) c.if-client-len.false c.len.ensures c.self.inside.seats.ok.0 c.make_ready.ensures.count in
+    let l' : k < length ts = within k c.len.result _ _ (length ts) c.if-client-len.false c.len.ensures refl c.make_ready.ensures.count in
     let r = subst (λ (u : Ready). IsReadyToSend st (count_since c.self.inside.calls.pieces xs) ws ts k u) c.in-Send.is c.in_ok-make_ready.ensures.ready in
     let passes : IsOk (called st c.in-Send.call) = c.in_err-number-in-Send.ensures.not_refused in
     let cause : (s : SeatView) → IsCauseFor st (get_or ts k s) None = λ s. let q = r.1 s in (q.0, q.1, no_cause (called st (send_call (get_or ts k s).station q.0)) (subst (λ (u : Call). IsOk (called st u)) q.2 passes)) in
@@ -99,7 +99,7 @@ invariant_of-self-in_err-number-in-Send c = stays _ _ _ _ _ _ _ _ _ _ _ _ _ _ _ 
 pub returns-in_err-number-in-Send-clause-err : goal.returns-in_err-number-in-Send-clause-err
 returns-in_err-number-in-Send-clause-err c =
     let i = c.self.inside in
-    on_err _ (still _ i.stopped i.addresses.items i.calls.pieces c.make_ready.new.calls.pieces i.calls.items c.make_ready.new.calls.items i.seats.items c.make_ready.new.seats.items i.doors.items i.doors.items c.self.view_is c.make_ready.ensures.calls c.make_ready.ensures.pieces c.make_ready.ensures.seats (same_doors-refl _))
+    on_err _ (still _ i.stopped i.addresses.items i.calls.pieces c.make_ready.new.calls.pieces i.calls.items c.make_ready.new.calls.items i.seats.items c.make_ready.new.self.items i.doors.items i.doors.items c.self.view_is c.make_ready.ensures.calls c.make_ready.ensures.pieces c.make_ready.ensures.seats (same_doors-refl _))
 
 pub invariant_of-self-in-Refused : goal.invariant_of-self-in-Refused
 invariant_of-self-in-Refused c =
@@ -114,10 +114,10 @@ returns-in-Empty-clause-accepted c =
     let xs = c.self.inside.calls.items in
     let ws = c.self.inside.owed.items in
     let ss = c.self.inside.seats.items in
-    let ts = c.make_ready.new.seats.items in
+    let ts = c.make_ready.new.self.items in
     let ds = c.self.inside.doors.items in
     let d = nobody in
-    let l' : k < length ts = within k c.len.result _ _ (length ts) c.if-client-len.false c.len.ensures c.self.inside.seats.ok.0 c.make_ready.ensures.count in
+    let l' : k < length ts = within k c.len.result _ _ (length ts) c.if-client-len.false c.len.ensures refl c.make_ready.ensures.count in
     let r = subst (λ (u : Ready). IsReadyToSend c.self.inside.segment (count_since c.self.inside.calls.pieces xs) ws ts k u) c.in-Empty.is c.in_ok-make_ready.ensures.ready in
     viewed (λ (u v : LiveView). AcceptedAs u v k accepted.Empty) _ c.self.inside.stopped addrs c.self.inside.calls.pieces c.make_ready.new.calls.pieces xs xs c.make_ready.new.calls.items ss ts ts ds ds c.self.view_is c.make_ready.ensures.calls c.make_ready.ensures.pieces refl (same_live _ _ _ _ _ _ _ c.make_ready.ensures.seats (same_doors-refl _), empty_at (keep c.self.inside.stopped c.self.inside.calls.pieces) addrs xs ts ds k d l' (r d))
 
@@ -128,10 +128,10 @@ returns-in-Owed-clause-accepted c =
     let xs = c.self.inside.calls.items in
     let ws = c.self.inside.owed.items in
     let ss = c.self.inside.seats.items in
-    let ts = c.make_ready.new.seats.items in
+    let ts = c.make_ready.new.self.items in
     let ds = c.self.inside.doors.items in
     let d = nobody in
-    let l' : k < length ts = within k c.len.result _ _ (length ts) c.if-client-len.false c.len.ensures c.self.inside.seats.ok.0 c.make_ready.ensures.count in
+    let l' : k < length ts = within k c.len.result _ _ (length ts) c.if-client-len.false c.len.ensures refl c.make_ready.ensures.count in
     let r = subst (λ (u : Ready). IsReadyToSend c.self.inside.segment (count_since c.self.inside.calls.pieces xs) ws ts k u) c.in-Owed.is c.in_ok-make_ready.ensures.ready in
     let f : get_or (map seat_free ts) k 0 ≡ (get_or ts k d).free = free_is (keep c.self.inside.stopped c.self.inside.calls.pieces) addrs xs ts ds k d l' in
     let o : owed_by k ws ≡ owed_by k (trail addrs xs).owed = ap (owed_by k) c.self.invariant.0.owes in
@@ -144,10 +144,10 @@ returns-in-Full-clause-accepted c =
     let xs = c.self.inside.calls.items in
     let ws = c.self.inside.owed.items in
     let ss = c.self.inside.seats.items in
-    let ts = c.make_ready.new.seats.items in
+    let ts = c.make_ready.new.self.items in
     let ds = c.self.inside.doors.items in
     let d = nobody in
-    let l' : k < length ts = within k c.len.result _ _ (length ts) c.if-client-len.false c.len.ensures c.self.inside.seats.ok.0 c.make_ready.ensures.count in
+    let l' : k < length ts = within k c.len.result _ _ (length ts) c.if-client-len.false c.len.ensures refl c.make_ready.ensures.count in
     let r = subst (λ (u : Ready). IsReadyToSend c.self.inside.segment (count_since c.self.inside.calls.pieces xs) ws ts k u) c.in-Full.is c.in_ok-make_ready.ensures.ready in
     let f : get_or (map seat_free ts) k 0 ≡ (get_or ts k d).free = free_is (keep c.self.inside.stopped c.self.inside.calls.pieces) addrs xs ts ds k d l' in
     let o : owed_by k ws ≡ owed_by k (trail addrs xs).owed = ap (owed_by k) c.self.invariant.0.owes in
@@ -160,10 +160,10 @@ returns-in-Refused-clause-accepted c =
     let xs = c.self.inside.calls.items in
     let ws = c.self.inside.owed.items in
     let ss = c.self.inside.seats.items in
-    let ts = c.make_ready.new.seats.items in
+    let ts = c.make_ready.new.self.items in
     let ds = c.self.inside.doors.items in
     let d = nobody in
-    let l' : k < length ts = within k c.len.result _ _ (length ts) c.if-client-len.false c.len.ensures c.self.inside.seats.ok.0 c.make_ready.ensures.count in
+    let l' : k < length ts = within k c.len.result _ _ (length ts) c.if-client-len.false c.len.ensures refl c.make_ready.ensures.count in
     let r = subst (λ (u : Ready). IsReadyToSend c.self.inside.segment (count_since c.self.inside.calls.pieces xs) ws ts k u) c.in-Send.is c.in_ok-make_ready.ensures.ready in
     let f : get_or (map seat_free ts) k 0 ≡ (get_or ts k d).free = free_is (keep c.self.inside.stopped c.self.inside.calls.pieces) addrs xs ts ds k d l' in
     let o : owed_by k ws ≡ owed_by k (trail addrs xs).owed = ap (owed_by k) c.self.invariant.0.owes in
@@ -183,16 +183,16 @@ pub store-requires-clause-few : goal.store-requires-clause-few
 store-requires-clause-few c s =
     let k = c.args.client in
     let xs = c.self.inside.calls.items in
-    let ts = c.make_ready.new.seats.items in
+    let ts = c.make_ready.new.self.items in
     let h : Holds _ _ xs _ ts _ = holds-same _ _ _ _ _ _ _ _ c.make_ready.ensures.seats (same_doors-refl _) c.self.invariant.0 in
-    let l' : k < length ts = within k c.len.result _ _ (length ts) c.if-client-len.false c.len.ensures c.self.inside.seats.ok.0 c.make_ready.ensures.count in
+    let l' : k < length ts = within k c.len.result _ _ (length ts) c.if-client-len.false c.len.ensures refl c.make_ready.ensures.count in
     let e = ap length (popped_at 0 k xs ts s l' h.ids h.pops) in
     let fits : length xs + 1 < 2 ^ 64 = subst (λ (u : Ready). HasSpace (length xs + 1) (2 ^ 64) u) c.in-Send.is c.in_ok-make_ready.ensures.few in
     omega (arith, e, accepted_le (0 + k) xs, fits)
 
 pub unreachable-requires : goal.unreachable-requires
 unreachable-requires c =
-    let r = subst (λ (u : Ready). IsReadyToSend c.self.inside.segment (count_since c.self.inside.calls.pieces c.self.inside.calls.items) c.self.inside.owed.items c.make_ready.new.seats.items c.args.client u) c.in-Send.is c.in_ok-make_ready.ensures.ready in
+    let r = subst (λ (u : Ready). IsReadyToSend c.self.inside.segment (count_since c.self.inside.calls.pieces c.self.inside.calls.items) c.self.inside.owed.items c.make_ready.new.self.items c.args.client u) c.in-Send.is c.in_ok-make_ready.ensures.ready in
     let q = r.1 nobody in
     let f = c.in_ok-number-in-Send.ensures.follows c.self.inside.addresses.items (trail c.self.inside.addresses.items c.self.inside.calls.items).steps c.self.invariant.0.stands in
     let k = subst (λ (x : Call). IsAnsweredBy x (Opened c.in-Opened.field-0)) q.2 (subst (IsAnsweredBy c.in-Send.call) c.in-Opened.is f.kind) in
@@ -205,12 +205,12 @@ invariant_of-self-in-Sent c =
     let st = c.self.inside.segment in
     let xs = c.self.inside.calls.items in
     let ws = c.self.inside.owed.items in
-    let ts = c.make_ready.new.seats.items in
+    let ts = c.make_ready.new.self.items in
     let ds = c.self.inside.doors.items in
     let d = nobody in
     let s = get_or ts k d in
     let h : Holds addrs st xs ws ts ds = holds-same _ _ _ _ _ _ _ _ c.make_ready.ensures.seats (same_doors-refl _) c.self.invariant.0 in
-    let l' : k < length ts = within k c.len.result _ _ (length ts) c.if-client-len.false c.len.ensures c.self.inside.seats.ok.0 c.make_ready.ensures.count in
+    let l' : k < length ts = within k c.len.result _ _ (length ts) c.if-client-len.false c.len.ensures refl c.make_ready.ensures.count in
     let r = subst (λ (u : Ready). IsReadyToSend c.self.inside.segment (count_since c.self.inside.calls.pieces xs) ws ts k u) c.in-Send.is c.in_ok-make_ready.ensures.ready in
     let q = r.1 d in
     let e = c.store.ensures.stored d in
@@ -241,11 +241,11 @@ returns-in-Sent-clause-accepted c =
     let xs = c.self.inside.calls.items in
     let ws = c.self.inside.owed.items in
     let ss = c.self.inside.seats.items in
-    let ts = c.make_ready.new.seats.items in
+    let ts = c.make_ready.new.self.items in
     let ds = c.self.inside.doors.items in
     let d = nobody in
     let s = get_or ts k d in
-    let l' : k < length ts = within k c.len.result _ _ (length ts) c.if-client-len.false c.len.ensures c.self.inside.seats.ok.0 c.make_ready.ensures.count in
+    let l' : k < length ts = within k c.len.result _ _ (length ts) c.if-client-len.false c.len.ensures refl c.make_ready.ensures.count in
     let r = subst (λ (u : Ready). IsReadyToSend c.self.inside.segment (count_since c.self.inside.calls.pieces xs) ws ts k u) c.in-Send.is c.in_ok-make_ready.ensures.ready in
     let q = r.1 d in
     let e = c.store.ensures.stored d in
@@ -255,11 +255,11 @@ returns-in-Sent-clause-accepted c =
     let rep : reply_of st (send_call s.station x) ≡ Sent c.in-Sent.number = ap (reply_of st) (sym call) ∙ sym c.in_ok-number-in-Send.ensures.reply ∙ c.in-Sent.is in
     let at : s ≡ get_or ts k s = get_or_default ts k d s l' in
     let more : List Stored = stored (Some k) (send_call s.station x) ∷ [] in
-    viewed (λ (u v : LiveView). AcceptedAs u v k (accepted.Sent c.in-Sent.number)) _ c.self.inside.stopped addrs c.self.inside.calls.pieces c.store.new.calls.pieces xs (xs ++ more) c.store.new.calls.items ss (set ts k (popped_one s x e.1.rest)) c.store.new.seats.items ds ds c.self.view_is (e.1.calls ∙ ap (λ (u : List Stored). u ++ more) c.make_ready.ensures.calls) (c.store.ensures.pieces ∙ c.make_ready.ensures.pieces) e.1.seats (x, sent_for (keep c.self.inside.stopped c.self.inside.calls.pieces) addrs st xs ss ts ds ds k c.in-Sent.number x e.1.rest s c.self.invariant.0.at l' at (clients-same ss ts c.make_ready.ensures.seats) refl (r.0.1 d).0.0 rep)
+    viewed (λ (u v : LiveView). AcceptedAs u v k (accepted.Sent c.in-Sent.number)) _ c.self.inside.stopped addrs c.self.inside.calls.pieces c.store.new.calls.pieces xs (xs ++ more) c.store.new.calls.items ss (set ts k (popped_one s x e.1.rest)) c.store.new.self.items ds ds c.self.view_is (e.1.calls ∙ ap (λ (u : List Stored). u ++ more) c.make_ready.ensures.calls) (c.store.ensures.pieces ∙ c.make_ready.ensures.pieces) e.1.seats (x, sent_for (keep c.self.inside.stopped c.self.inside.calls.pieces) addrs st xs ss ts ds ds k c.in-Sent.number x e.1.rest s c.self.invariant.0.at l' at (clients-same ss ts c.make_ready.ensures.seats) refl (r.0.1 d).0.0 rep)
 
 pub unreachable-requires-in-Done : goal.unreachable-requires-in-Done
 unreachable-requires-in-Done c =
-    let r = subst (λ (u : Ready). IsReadyToSend c.self.inside.segment (count_since c.self.inside.calls.pieces c.self.inside.calls.items) c.self.inside.owed.items c.make_ready.new.seats.items c.args.client u) c.in-Send.is c.in_ok-make_ready.ensures.ready in
+    let r = subst (λ (u : Ready). IsReadyToSend c.self.inside.segment (count_since c.self.inside.calls.pieces c.self.inside.calls.items) c.self.inside.owed.items c.make_ready.new.self.items c.args.client u) c.in-Send.is c.in_ok-make_ready.ensures.ready in
     let q = r.1 nobody in
     let f = c.in_ok-number-in-Send.ensures.follows c.self.inside.addresses.items (trail c.self.inside.addresses.items c.self.inside.calls.items).steps c.self.invariant.0.stands in
     let k = subst (λ (x : Call). IsAnsweredBy x (Done c.in-Done.field-0)) q.2 (subst (IsAnsweredBy c.in-Send.call) c.in-Done.is f.kind) in
@@ -276,10 +276,10 @@ returns-in-NotSent-clause-accepted c =
     let xs = c.self.inside.calls.items in
     let ws = c.self.inside.owed.items in
     let ss = c.self.inside.seats.items in
-    let ts = c.make_ready.new.seats.items in
+    let ts = c.make_ready.new.self.items in
     let ds = c.self.inside.doors.items in
     let d = nobody in
-    let l' : k < length ts = within k c.len.result _ _ (length ts) c.if-client-len.false c.len.ensures c.self.inside.seats.ok.0 c.make_ready.ensures.count in
+    let l' : k < length ts = within k c.len.result _ _ (length ts) c.if-client-len.false c.len.ensures refl c.make_ready.ensures.count in
     let r = subst (λ (u : Ready). IsReadyToSend st (count_since c.self.inside.calls.pieces xs) ws ts k u) c.in-NotSent.is c.in_ok-make_ready.ensures.ready in
     let f : get_or (map seat_free ts) k 0 ≡ (get_or ts k d).free = free_is (keep c.self.inside.stopped c.self.inside.calls.pieces) addrs xs ts ds k d l' in
     let o : owed_by k ws ≡ owed_by k (trail addrs xs).owed = ap (owed_by k) c.self.invariant.0.owes in
@@ -295,11 +295,11 @@ returns-in-NotSent-clause-accepted c =
     )
 
 pub store-requires-clause-within : goal.store-requires-clause-within
-store-requires-clause-within c = within c.args.client c.len.result _ _ (length c.make_ready.new.seats.items) c.if-client-len.false c.len.ensures c.self.inside.seats.ok.0 c.make_ready.ensures.count
+store-requires-clause-within c = within c.args.client c.len.result _ _ (length c.make_ready.new.self.items) c.if-client-len.false c.len.ensures refl c.make_ready.ensures.count
 
 pub store-requires-clause-waits : goal.store-requires-clause-waits
 store-requires-clause-waits c s =
-    let r = subst (λ (u : Ready). IsReadyToSend c.self.inside.segment (count_since c.self.inside.calls.pieces c.self.inside.calls.items) c.self.inside.owed.items c.make_ready.new.seats.items c.args.client u) c.in-Send.is c.in_ok-make_ready.ensures.ready in
+    let r = subst (λ (u : Ready). IsReadyToSend c.self.inside.segment (count_since c.self.inside.calls.pieces c.self.inside.calls.items) c.self.inside.owed.items c.make_ready.new.self.items c.args.client u) c.in-Send.is c.in_ok-make_ready.ensures.ready in
     (r.0.1 s).0.1
 
 pub store-requires-clause-calls : goal.store-requires-clause-calls
@@ -312,7 +312,7 @@ pub store-requires-clause-stored : goal.store-requires-clause-stored
 store-requires-clause-stored c =
     let i = c.self.inside in
     let n = c.make_ready.new.calls in
-    let r = subst (λ (u : Ready). IsReadyToSend i.segment (count_since i.calls.pieces i.calls.items) i.owed.items c.make_ready.new.seats.items c.args.client u) c.in-Send.is c.in_ok-make_ready.ensures.ready in
+    let r = subst (λ (u : Ready). IsReadyToSend i.segment (count_since i.calls.pieces i.calls.items) i.owed.items c.make_ready.new.self.items c.args.client u) c.in-Send.is c.in_ok-make_ready.ensures.ready in
     let few : count_since n.pieces i.calls.items < 1000000 = subst (λ (u : List Piece). count_since u i.calls.items < 1000000) (sym c.make_ready.ensures.pieces) r.0.0 in
     subst (λ (u : List Stored). count_since n.pieces u < 1000000) (sym c.make_ready.ensures.calls) few
 
@@ -320,5 +320,5 @@ pub returns-then-client-len-clause-accepted : goal.returns-then-client-len-claus
 returns-then-client-len-clause-accepted c =
     let i = c.self.inside in
     let keeps = keep i.stopped i.calls.pieces in
-    let none : length i.seats.items ≤ c.args.client = subst (λ (m : ℕ). m ≤ c.args.client) (c.len.ensures ∙ i.seats.ok.0) c.if-client-len.true in
+    let none : length i.seats.items ≤ c.args.client = subst (λ (m : ℕ). m ≤ c.args.client) c.len.ensures c.if-client-len.true in
     subst (λ (v : LiveView). AcceptedAs v v c.args.client accepted.Empty) c.self.view_is (same_live keeps i.addresses.items i.calls.items i.seats.items i.seats.items i.doors.items i.doors.items (same_seats-refl _) (same_doors-refl _), none_at keeps i.addresses.items i.calls.items i.seats.items i.doors.items c.args.client none)

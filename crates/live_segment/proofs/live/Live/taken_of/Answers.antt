@@ -12,7 +12,7 @@ returns c =
     let ss = c.self.inside.seats.items in
     let xs = c.self.inside.calls.items in
     let l : k < length ss = rw length-map at (subst (λ (u : LiveView). k < length u.clients) (sym c.self.view_is) c.requires) in
-    let s = c.index.result.now in
+    let s = c.get.result.now in
     let z : 0 + k ≡ k = omega arith in
-    let e = c.taken.ensures ∙ ap (λ (x : SeatView). length x.popped) c.index.ensures ∙ ap length (popped_at 0 k xs ss s l c.self.invariant.0.ids c.self.invariant.0.pops) ∙ ap (λ (n : ℕ). length (accepted n xs)) z in
+    let e = c.taken.ensures ∙ ap (λ (x : SeatView). length x.popped) (c.get.ensures s) ∙ ap length (popped_at 0 k xs ss s l c.self.invariant.0.ids c.self.invariant.0.pops) ∙ ap (λ (n : ℕ). length (accepted n xs)) z in
     rw (← c.self.view_is) e

@@ -1,0 +1,250 @@
+//! The seats of all clients, and which stations have none with a submission that is seen.
+//!
+//! Nobody looks at the clients of a station that is marked as quiet until one of them rings its bell.
+use crate::call::Owed;
+use crate::calls::Calls;
+use crate::cutting::cut_seats as cut_each;
+use crate::home::Home;
+use crate::offer::{Ready, find_ready, store as store_front};
+use crate::settle::{settle as settle_all, settle_event as settle_first};
+use pgn_ids::Address;
+use segment_core::{Event, Segment};
+use segment_rings::{Bell, Seat};
+use std::alloc::{AllocError, Global};
+use std::marker::Model;
+
+/// How many values an address has.
+const ADDRESSES: usize = 256;
+
+/// The seats by the numbers of their clients, and what is known of the clients of each address.
+#[derive(Drop)]
+pub(crate) struct Seats {
+    seats: Vec<Seat>,
+    homes: Vec<Home>,
+}
+
+impl Model for Seats {
+    ghost use Rattle.std.specs.Prelude.{◌-◌, vec_len, vec_capacity};
+    ghost use Rattle.live_segment.specs.Homes.{SeatsView, AreQuiet};
+
+    ghost Value = { SeatsView };
+
+    ghost view = { λ s. record { items = s.seats.items; spare = vec_capacity s.seats - vec_len s.seats } };
+
+    ghost invariant = { λ s. AreQuiet s.homes.items s.seats.items };
+}
+
+ghost use Rattle.std.specs.Prelude.{◌≡◌, List, true, false, IsTrue, IsFalse, slice_index_or};
+ghost use Rattle.segment_rings.specs.Views.{SeatView};
+ghost use Rattle.live_segment.specs.Homes.{AreSilent, AreQuiet};
+
+// Whether nothing of the clients of an address is seen.
+fn are_silent(seats: &[Seat], station: Address) -> bool
+    ensures { IsTrue result → AreSilent station.0 seats.now }
+{
+    for seat in seats {
+        if seat.station().0 == station.0 && seat.sees() {
+            return false;
+        }
+    }
+    true
+}
+
+// Marks a station as quiet or not.
+fn mark(homes: &mut Vec<Home>, station: Address, quiet: bool)
+    ensures kept { (ss : List SeatView) → AreQuiet homes.old.items ss → (quiet ≡ true → AreSilent station.0 ss) → AreQuiet homes.new.items ss }
+    ensures off { quiet ≡ false → slice_index_or homes.new.items station.0 false ≡ false }
+{
+    if let Some(home) = homes.get_mut(station.0 as usize) {
+        home.mark(quiet);
+    }
+}
+
+// Whether a submission of a station's client may wait: it isn't marked as quiet, or its bell was rung.
+#[inline(always)]
+fn listen(homes: &mut Vec<Home>, station: Address) -> bool
+    ensures kept { (ss : List SeatView) → AreQuiet homes.old.items ss → AreQuiet homes.new.items ss }
+    ensures silent { IsFalse result → (ss : List SeatView) → AreQuiet homes.old.items ss → AreSilent station.0 ss }
+{
+    let Some(home) = homes.get_mut(station.0 as usize) else {
+        return true;
+    };
+    home.listen()
+}
+
+impl Seats {
+    ghost use Rattle.std.specs.Prelude.{◌≡◌, ◌<◌, ◌≤◌, ◌+◌, ◌-◌, ◌^◌, ℕ, [], ◌∷◌, ◌++◌, length, true, false, Option, Some, None, IfOk, OnOk, OnErr, IsFalse, slice_index_or, slice_set, vec_len, vec_capacity};
+    ghost use Rattle.segment_rings.specs.Views.{SeatView, closed_seat};
+    ghost use Rattle.segment_rings.specs.declared.words.Submission.{Submission};
+    ghost use Rattle.live_segment.specs.Record.{settle_notes, settle_owed, notes_at, owed_after};
+    ghost use Rattle.live_segment.specs.Past.{count_since};
+    ghost use Rattle.live_segment.specs.Facts.{IdsFrom, HaveRoom, OwedWithin, SameSeats, CutSeats, note_all};
+    ghost use Rattle.live_segment.specs.Offers.{IsReadyToSend, LacksRoomToSend, HasSpace, IsStored};
+    ghost use Rattle.live_segment.specs.Homes.{AreSilent};
+    ghost use Rattle.message_events.specs.declared.event.Event.{Event as EventValue};
+
+    /// No seats.
+    pub(crate) fn new(alloc: Global) -> Result<Seats, AllocError>
+        ensures { IfOk result (λ s. s.items ≡ []) }
+    {
+        let mut homes = Vec::with_capacity(alloc, ADDRESSES)?;
+        for _ in 0..ADDRESSES {
+            homes.push(Home::new())?;
+        }
+        Ok(Seats {
+            seats: Vec::new(alloc),
+            homes,
+        })
+    }
+
+    /// How many there are.
+    pub(crate) fn len(&self) -> usize
+        ensures { result ≡ length self.now.items }
+    {
+        self.seats.len()
+    }
+
+    /// All of them.
+    pub(crate) fn as_slice(&self) -> &[Seat]
+        ensures { result.now ≡ self.now.items }
+    {
+        self.seats.as_slice()
+    }
+
+    /// The seat of a client.
+    pub(crate) fn get(&self, k: usize) -> &Seat
+        requires { k < length self.now.items }
+        ensures { (s : SeatView) → result.now ≡ slice_index_or self.now.items k s }
+    {
+        &self.seats[k]
+    }
+
+    /// Makes room for one more.
+    pub(crate) fn reserve(&mut self) -> Result<(), AllocError>
+        ensures items { self.new.items ≡ self.old.items }
+        ensures ok { OnOk result (0 < self.new.spare) }
+    {
+        self.seats.reserve(1)
+    }
+
+    /// Puts one more, of which nothing is seen. There is room for it.
+    pub(crate) fn push_reserved(&mut self, seat: Seat)
+        requires spare { 0 < self.old.spare }
+        requires silent { seat.ahead ≡ [] }
+        ensures items { self.new.items ≡ self.old.items ++ seat ∷ [] }
+    {
+        self.seats.push_reserved(seat);
+    }
+
+    /// The bell of a station's clients.
+    pub(crate) fn bell(&mut self, alloc: Global, station: Address) -> Result<Bell, AllocError>
+        ensures { self.new ≡ self.old }
+    {
+        let Some(home) = self.homes.get_mut(station.0 as usize) else {
+            return Bell::new(alloc);
+        };
+        home.bell(alloc)
+    }
+
+    /// Whether a submission of a station's client may wait: if not, none is seen.
+    #[inline(always)]
+    pub(crate) fn is_called(&mut self, station: Address) -> bool
+        ensures same { self.new ≡ self.old }
+        ensures silent { IsFalse result → AreSilent station.0 self.old.items }
+    {
+        listen(&mut self.homes, station)
+    }
+
+    /// Marks a station as quiet if no submission of its clients is seen.
+    pub(crate) fn hush(&mut self, station: Address)
+        ensures { self.new ≡ self.old }
+    {
+        let quiet = are_silent(self.seats.as_slice(), station);
+        mark(&mut self.homes, station, quiet);
+    }
+
+    /// All that can fail before the front submission of a client is sent, as `find_ready` says.
+    pub(crate) fn make_ready(
+        &mut self,
+        alloc: Global,
+        segment: &Segment,
+        calls: &mut Calls,
+        owed: &mut Vec<Owed>,
+        k: usize,
+    ) -> Result<Ready, AllocError>
+        requires { k < length self.old.items }
+        ensures calls { calls.new.items ≡ calls.old.items }
+        ensures pieces { calls.new.pieces ≡ calls.old.pieces }
+        ensures image { calls.new.image ≡ calls.old.image }
+        ensures owed { owed.new.items ≡ owed.old.items }
+        ensures seats { SameSeats self.old.items self.new.items }
+        ensures ready { IfOk result (λ r. IsReadyToSend segment.now (count_since calls.old.pieces calls.old.items) owed.old.items self.new.items k r) }
+        ensures space { IfOk result (λ r. HasSpace 0 calls.new.spare r × HasSpace (vec_len owed.new) (vec_capacity owed.new) r) }
+        ensures few { IfOk result (λ r. HasSpace (length calls.old.items + 1) (2 ^ 64) r) }
+        ensures count { length self.new.items ≡ length self.old.items }
+        ensures err { OnErr result (LacksRoomToSend segment.now (count_since calls.old.pieces calls.old.items) owed.old.items self.new.items k) }
+    {
+        let station = self.seats[k].station();
+        mark(&mut self.homes, station, false);
+        find_ready(alloc, segment, calls, owed, &mut self.seats, k)
+    }
+
+    /// Takes the front submission of a client and stores its Send, for which there is space.
+    pub(crate) fn store(&mut self, calls: &mut Calls, owed: &mut Vec<Owed>, k: usize, number: u64)
+        requires within { k < length self.old.items }
+        requires waits { (s : SeatView) → 0 < length (slice_index_or self.old.items k s).ahead }
+        requires few { (s : SeatView) → length (slice_index_or self.old.items k s).popped + 1 < 2 ^ 64 }
+        requires calls { 0 < calls.old.spare }
+        requires stored { count_since calls.old.pieces calls.old.items < 1000000 }
+        requires owed { vec_len owed.old < vec_capacity owed.old }
+        ensures stored { (s : SeatView) → (x : Submission) × IsStored (slice_index_or self.old.items k s) k number x calls.old.items calls.new.items owed.old.items owed.new.items self.old.items self.new.items }
+        ensures pieces { calls.new.pieces ≡ calls.old.pieces }
+        ensures image { calls.new.image ≡ calls.old.image }
+    {
+        let station = self.seats[k].station();
+        mark(&mut self.homes, station, false);
+        store_front(calls, owed, &mut self.seats, k, number);
+    }
+
+    /// Makes the note of one event, if it is an outcome.
+    pub(crate) fn settle_event(&mut self, owed: &mut Vec<Owed>, event: &Event)
+        requires ids { IdsFrom 0 self.old.items }
+        requires room { HaveRoom owed.old.items self.old.items }
+        requires within { OwedWithin (length self.old.items) owed.old.items }
+        ensures owed { owed.new.items ≡ owed_after owed.old.items event.now }
+        ensures seats { self.new.items ≡ note_all (notes_at owed.old.items event.now) self.old.items }
+    {
+        settle_first(owed, &mut self.seats, event);
+    }
+
+    /// Makes the notes of all outcomes among the events.
+    pub(crate) fn settle(&mut self, owed: &mut Vec<Owed>, events: &[Event])
+        requires ids { IdsFrom 0 self.old.items }
+        requires room { HaveRoom owed.old.items self.old.items }
+        requires within { OwedWithin (length self.old.items) owed.old.items }
+        ensures owed { owed.new.items ≡ settle_owed owed.old.items events.now }
+        ensures seats { self.new.items ≡ note_all (settle_notes owed.old.items events.now) self.old.items }
+        ensures ids { IdsFrom 0 self.new.items }
+        ensures room { HaveRoom owed.new.items self.new.items }
+        ensures within { OwedWithin (length self.new.items) owed.new.items }
+        ensures count { length self.new.items ≡ length self.old.items }
+    {
+        settle_all(owed, &mut self.seats, events);
+    }
+
+    /// Each client's notes that are known to be read are kept no more.
+    pub(crate) fn cut_seats(&mut self)
+        ensures { CutSeats self.old.items self.new.items }
+    {
+        cut_each(&mut self.seats);
+    }
+
+    /// Takes no more submissions of a client, and puts no more notes into its ring.
+    pub(crate) fn close(&mut self, k: usize)
+        requires { k < length self.old.items }
+        ensures { (s : SeatView) → self.new.items ≡ slice_set self.old.items k (closed_seat (slice_index_or self.old.items k s)) }
+    {
+        let seat = &mut self.seats[k];
+        seat.close();
+    }
+}
