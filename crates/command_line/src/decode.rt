@@ -43,8 +43,8 @@ const ADDRESS_MOST: u32 = 0xFF;
 const DECODE_HELP: &str =
     "A log has the lines that candump writes, (SECONDS.MICROS) IFACE ID#HEX, or those
 that it shows on a screen. Several logs are read as one. If a file can't be
-opened, nothing is read. Each message that was sent in packets is printed once
-its end is known, with the time of that frame and the interface:
+opened, nothing is read. Each message that was sent in packets is printed at the
+frame that shows how it ended, with that frame's time and the interface:
   (TIME) IFACE given FROM TO PGN LENGTH HEX
   (TIME) IFACE aborted FROM TO PGN REASON WHO
   (TIME) IFACE lost FROM TO PGN HAVE OF CAUSE
