@@ -15,8 +15,8 @@
 
 static const char usage[] =
     "usage: j1939d INTERFACE --station ADDRESS.. [--port ADDRESS:PGN[:MAX]].. [--json] [--wait]\n"
-    "1 to 32 stations, and ports of theirs for messages of a PGN, of at most MAX bytes. --json tells by objects; --wait waits for the interface.\n"
-    "Lines of standard input: open A PGN MAX, close A.N, send A TO PGN HEX. Addresses and PGNs are hexadecimal.\n";
+    "It has 1 to 32 stations, and ports that receive messages of a PGN, of at most MAX bytes. --json prints objects of JSON. --wait waits for the interface.\n"
+    "Lines of standard input are open A PGN MAX, close A.N and send A TO PGN HEX. Addresses and PGNs are hexadecimal.\n";
 
 #define DECIMAL "0123456789"
 #define HEXADECIMAL DECIMAL "ABCDEFabcdef"

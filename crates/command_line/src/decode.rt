@@ -41,32 +41,32 @@ pub(crate) const PGN_MOST: u32 = 0x3_FFFF;
 const ADDRESS_MOST: u32 = 0xFF;
 
 const DECODE_HELP: &str =
-    "A log has lines as candump writes them, (SECONDS.MICROS) IFACE ID#HEX, or shows
-them on a screen, and several logs are read one after another as if they were
-one. If a file can't be opened, nothing is read. Each message that was sent in
-packets is printed with the time and the interface of the frame at which it is
-known:
+    "A log has the lines that candump writes, (SECONDS.MICROS) IFACE ID#HEX, or those
+that it shows on a screen. Several logs are read as one. If a file can't be
+opened, nothing is read. Each message that was sent in packets is printed at the
+frame that shows how it ended, with that frame's time and the interface:
   (TIME) IFACE given FROM TO PGN LENGTH HEX
   (TIME) IFACE aborted FROM TO PGN REASON WHO
   (TIME) IFACE lost FROM TO PGN HAVE OF CAUSE
-A wrong line is told by its number, in its place. What was counted is told on
-standard error at the end. With --json each line is an object, with times in
-microseconds. With --frames the frames of a message follow its line, but for
+A wrong line is reported in its place, by its number. Standard error has the
+counts at the end. With --json each line is an object, with times in
+microseconds. With --frames the frames of a message follow its line, except
 packets:
   (TIME) NUMBER announcement
   (TIME) NUMBER window FIRST LAST
   (TIME) NUMBER again FIRST LAST
   (TIME) NUMBER hold
   (TIME) NUMBER end
-With --explain the lamps and faults of DM1 and DM2 (PGN FECA, FECB) follow, and
-the texts of a vehicle's, component's, ECU's and software's identification
-(FEEC, FEEB, FDC5, FEDA), each on a line of its own; and frames of these PGNs
-are printed as with --all.
-With --summary a table follows where the log ends, of a row for each interface,
-PGN, sender and destination between which there was a message: how many were
-given, their bytes, mean and longest time in microseconds, packets asked for
-again, and the share of the interface's frames in parts per thousand; behind it
-what messages were aborted and lost for. With --quiet there is the table alone.
+With --explain messages of six PGNs are followed by their meaning in words: the
+lamps and faults of DM1 and DM2 (FECA, FECB), and the identification of vehicle,
+component, ECU and software (FEEC, FEEB, FDC5, FEDA). Single frames of these
+PGNs are printed too, as with --all.
+With --summary a table is printed at the end. It has a row for each interface,
+PGN, sender and destination of a message: how many messages were given, their
+bytes, their mean and longest time in microseconds, the packets asked for again,
+and the share of the interface's frames in thousandths. Lines below a row count
+the messages that were aborted or lost, by reason. With --quiet neither messages
+nor frames are printed.
 
 Examples:
   j1939bus decode can0.log can0.log.1
@@ -92,7 +92,7 @@ fn most_arg<'a>(alloc: Global) -> Arg<'a> {
         "max-bytes",
         "N",
         ArgAction::Set,
-        "Longest message that is put together [default: 117440505]",
+        "Longest message that is reassembled, in bytes [default: 117440505]",
     );
     of_numbers(most, value_parser!(u32).range(1..=117_440_505))
 }
@@ -101,7 +101,7 @@ fn all_arg<'a>(alloc: Global) -> Arg<'a> {
     flag(
         alloc,
         "all",
-        "Prints frames that carry nothing of a message too, as frame FROM TO PGN LENGTH HEX",
+        "Also prints frames that belong to no message, as frame FROM TO PGN LENGTH HEX",
     )
 }
 
@@ -121,7 +121,7 @@ fn explain_arg<'a>(alloc: Global) -> Arg<'a> {
     flag(
         alloc,
         "explain",
-        "Shows fault lists and identifications in words too, also those of a single frame",
+        "Also shows fault lists and identifications in words, single frames included",
     )
 }
 
@@ -129,7 +129,7 @@ fn summary_arg<'a>(alloc: Global) -> Arg<'a> {
     flag(
         alloc,
         "summary",
-        "Ends with what came of the messages: a row for each interface, PGN, sender and destination",
+        "Ends with a table of the messages: a row for each interface, PGN, sender and destination",
     )
 }
 
@@ -138,7 +138,7 @@ fn quiet_arg<'a>(alloc: Global) -> Arg<'a> {
 }
 
 fn strict_arg<'a>(alloc: Global) -> Arg<'a> {
-    flag(alloc, "strict", "Ends at a wrong line")
+    flag(alloc, "strict", "Ends at the first wrong line")
 }
 
 /// The arguments of `decode`, in the order of the help.
@@ -174,7 +174,7 @@ pub(crate) fn decode_command<'a>(alloc: Global) -> Result<Command<'a>, AllocErro
     described(
         alloc,
         "decode",
-        "Prints the messages of logs, put together of their packets",
+        "Prints the messages of logs, reassembled from their packets",
         DECODE_HELP,
         decode_args(alloc),
     )

@@ -32,17 +32,16 @@ const SECOND: u64 = 1_000_000;
 /// The most digits behind the point of a time.
 const MICROS: usize = 6;
 
-const DRAW_HELP: &str = "What each line of the script puts on the bus is written to standard output
-before the next line is read, as the text of a Mermaid sequence diagram, as
-GitHub draws it: the stations as participants, an arrow for each frame, with one
-for packets that follow on one another, and a note for each message that a port
-is given and for each outcome. Replies aren't drawn. What ends the run before
-the script's end, such as a wrong line, is told on standard error.
-With --log the files are logs as decode reads them, and the frames of their
-transports are drawn, each with its time. The other options want --log: A and B
-are hexadecimal, and SECONDS as the log has them, with up to six digits behind
-the point. A wrong line, and at the end what was counted, is told on standard
-error.
+const DRAW_HELP: &str = "The script is drawn as the text of a Mermaid sequence diagram, which GitHub
+shows as a picture. The stations are its participants. Each frame that a line
+puts on the bus is an arrow, and packets that follow on one another share one.
+Each message that a port is given is a note, and so is each outcome. Replies
+aren't drawn. Each line of the script is drawn before the next one is read. If
+something ends the run early, such as a wrong line, standard error says what.
+With --log the files are logs as decode reads them. The frames of their
+transports are drawn, each with its time. The other options need --log. A and B
+are hexadecimal. SECONDS are those of the log, with up to six digits after the
+point. Standard error has the wrong lines, and the counts at the end.
 
 Examples:
   printf '%s\\n' 'stations 21 35' 'open 35 FECA 1785' \\
@@ -78,7 +77,7 @@ fn draw_args<'a>(alloc: Global) -> Result<Vec<Arg<'a>>, AllocError> {
     let from = "No frame before this time";
     let to = "No frame after this time";
     let interface = "Interface whose frames are drawn [default: that of the first frame]";
-    let all = "Draws frames that carry nothing of a message too";
+    let all = "Also draws frames that belong to no message";
     let read = "Script, or logs in the order of their times, - for standard input [default: -]";
     list(
         alloc,
@@ -89,7 +88,7 @@ fn draw_args<'a>(alloc: Global) -> Result<Vec<Arg<'a>>, AllocError> {
             log_arg(alloc, "to", "SECONDS", to)?,
             log_arg(alloc, "interface", "NAME", interface)?,
             log_flag(alloc, "all", all)?,
-            log_flag(alloc, "strict", "Ends at a wrong line")?,
+            log_flag(alloc, "strict", "Ends at the first wrong line")?,
             files(alloc, read).action(ArgAction::Append),
         ],
     )
@@ -100,7 +99,7 @@ pub(crate) fn draw_command<'a>(alloc: Global) -> Result<Command<'a>, AllocError>
     described(
         alloc,
         "draw",
-        "Runs a script, and draws it as a sequence diagram, or draws a log",
+        "Runs a script and draws it as a sequence diagram, or draws a log",
         DRAW_HELP,
         draw_args(alloc),
     )
@@ -135,7 +134,7 @@ fn time_of(alloc: Global, matches: &ArgMatches, name: &str) -> Result<Option<u64
     match time(word) {
         Some(time) => Ok(Some(time)),
         None => Err(Refused::Word(format!(in alloc;
-            "invalid value '{word}' for '--{name}': not seconds with up to six digits behind the point"
+            "invalid value '{word}' for '--{name}': not seconds with up to six digits after the point"
         )?)),
     }
 }

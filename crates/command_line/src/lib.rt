@@ -54,12 +54,12 @@ const TURNS: u64 = 1_000_000;
 /// What is read and written, an example, and the statuses: the end of the program's help.
 const PROGRAM_HELP: &str =
     "The reply to each line is written to standard output before the next line is
-read. What ends the run before the script's end, such as a wrong line or a file
-that can't be opened, is told on standard error. A script that is named as one
-of the commands is ./NAME.
-With --log, standard output has only the frames that are put, in lines
-(SECONDS.MICROS) bus0 ID#HEX as candump -l writes them, at the time of the
-script's clock. Replies and events are written to standard error.
+read. If something ends the run early, such as a wrong line or a file that
+can't be opened, standard error says what. A script that has the name of a
+command is written ./NAME.
+With --log, standard output has only the frames that are put, as lines
+(SECONDS.MICROS) bus0 ID#HEX in the form of candump -l. Their times are those of
+the script's clock. Replies and events are written to standard error.
 
 Examples:
   printf '%s\\n' 'stations 21 35' 'open 35 FECA 1785' \\
@@ -75,12 +75,14 @@ Status:
 docs/SCRIPTS.md describes the language, docs/LOGS.md what decode reads.";
 
 /// The end of the help of `live`.
-const LIVE_HELP: &str = "The script is read to its end: one line of 1 to 8 stations, lines that open
-ports, and at most 64 lines that send. A thread for each station submits its
-messages, one for each port receives, and a worker for each station and one for
-the bus move the frames. The refusals of lines are written to standard output
-first, and at the end each port with what it was given, and the outcome of each
-message. A wrong line is told on standard error, and no thread runs.
+const LIVE_HELP: &str =
+    "The script is read to its end first. It has one line of 1 to 8 stations, lines
+that open ports, and at most 64 lines that send. A thread for each station
+submits its messages, and one for each port receives. A worker for each station
+and one for the bus move the frames. Standard output has the refusals of lines
+first. At the end it has each port with the messages that it was given, and the
+outcome of each message. If a line is wrong, standard error says so, and no
+thread runs.
 
 Example:
   printf '%s\\n' 'stations 21 35' 'open 35 FECA 1785' \\
@@ -96,13 +98,13 @@ docs/SCRIPTS.md describes the language, and this in its last part.";
 
 /// The end of the help of `relay`.
 const RELAY_HELP: &str =
-    "The script is read to its end: lines of a first segment as live reads them, a
-second line of stations, lines that open ports on the second segment, and one
-last line, route PORT A B. Both segments run by threads, and each message that
-PORT is given a client of A sends on to B. The refusals of lines are written to
-standard output first, and at the end each port of the second segment with what
-it was given, how many messages the relay received, submitted and left, and the
-outcomes of the first segment and of the second.
+    "The script is read to its end first. It has the lines of a first segment, as
+live reads them, a second line of stations, lines that open ports on the second
+segment, and one last line, route PORT A B. Both segments run by threads. Each
+message that PORT is given is sent on from A to B. Standard output has the
+refusals of lines first. At the end it has each port of the second segment with
+the messages that it was given, how many messages the relay received, submitted
+and left, and the outcomes of the first segment and of the second.
 
 Example:
   printf '%s\\n' 'stations 21 35' 'open 35 FECA 1785' \\
@@ -143,7 +145,7 @@ fn live_command<'a>(alloc: Global) -> Result<Command<'a>, AllocError> {
     threads_command(
         alloc,
         "live",
-        "Runs a script by threads, and prints what came of it",
+        "Runs a script by threads, and prints its messages and outcomes",
         LIVE_HELP,
     )
 }
@@ -171,7 +173,7 @@ fn without_commands<'a>(alloc: Global) -> Result<Command<'a>, AllocError> {
     let log = flag(
         alloc,
         "log",
-        "Prints the frames alone, as a log, and the replies on standard error",
+        "Prints only the frames, as a log, and the replies on standard error",
     );
     described(
         alloc,

@@ -36,18 +36,19 @@ const ADDRESS_MOST: u32 = 0xFD;
 const QUIET: u64 = 700;
 
 const NODE_HELP: &str =
-    "One station on a real bus, whose frames are read from standard input as lines
-(SECONDS.MICROS) IFACE ID#HEX, as candump -L writes them while it runs, between
-lines of these commands:
-  now SECONDS.MICROS   time goes on without a frame
-  open PGN MAX         messages of this PGN, of at most MAX bytes, are taken
-  send TO PGN HEX      a message is sent, also as send TO PGN fill N
+    "The frames of the bus are read from standard input, as the lines that candump -L
+writes, (SECONDS.MICROS) IFACE ID#HEX. Between them stand lines of these
+commands:
+  now SECONDS.MICROS   time passes without a frame
+  open PGN MAX         opens a port for messages of this PGN, up to MAX bytes
+  send TO PGN HEX      sends a message, also as send TO PGN fill N
   close N, pause N, resume N, cancel TO N, missed, counts, state
-What a line makes the station put on the bus is written as put and a line of a
-log, what it is given and how its messages end as in a script, before the next
-line is read. A port of --port is open before the first line. Frames of other
-interfaces are passed over. A wrong line is told by its number, in its place,
-and passed over; if there were any, standard error tells at the end how many.
+Each line is answered before the next one is read. A frame for the bus is
+printed as put and a line of a log. Messages that are given, and outcomes, are
+printed as in a script. The ports of --port are open before the first line.
+Frames of other interfaces are passed over. A wrong line is reported in its
+place, by its number, and passed over. If there were any, standard error has
+their count at the end.
 
 Example:
   printf '%s\\n' 'open FECA 1785' 'send 21 FECA 010203040506070809' \\
@@ -73,7 +74,7 @@ fn interface_arg<'a>(alloc: Global) -> Arg<'a> {
         "interface",
         "NAME",
         ArgAction::Set,
-        "Interface whose frames alone are taken [default: that of the first frame]",
+        "Interface of the station [default: that of the first frame]",
     )
 }
 
@@ -83,7 +84,7 @@ fn port_arg<'a>(alloc: Global) -> Arg<'a> {
         "port",
         "PGN[:MAX]",
         ArgAction::Append,
-        "Opens a port first, as the line open PGN MAX does [default MAX: 117440505]",
+        "Opens a port at the start, as open PGN MAX does [default MAX: 117440505]",
     )
 }
 
@@ -99,7 +100,7 @@ fn quiet_arg<'a>(alloc: Global) -> Arg<'a> {
 }
 
 fn strict_arg<'a>(alloc: Global) -> Arg<'a> {
-    flag(alloc, "strict", "Ends at a wrong line")
+    flag(alloc, "strict", "Ends at the first wrong line")
 }
 
 /// The arguments of `node`, in the order of the help.
@@ -121,7 +122,7 @@ pub(crate) fn node_command<'a>(alloc: Global) -> Result<Command<'a>, AllocError>
     described(
         alloc,
         "node",
-        "Is one station on a real bus, whose frames are read from standard input",
+        "Runs one station on a real bus, whose frames are read from standard input",
         NODE_HELP,
         node_args(alloc),
     )
@@ -146,7 +147,7 @@ fn port_of(alloc: Global, word: &str) -> Result<OfPort, Refused> {
     match port(word) {
         Some(port) => Ok(port),
         None => Err(Refused::Word(format!(in alloc;
-            "invalid value '{word}' for '--port': not a PGN of up to 3FFFF, hexadecimal, with :MAX bytes or without"
+            "invalid value '{word}' for '--port': not a hexadecimal PGN up to 3FFFF, with or without :MAX bytes"
         )?)),
     }
 }

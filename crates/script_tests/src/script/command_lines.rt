@@ -163,28 +163,28 @@ Usage: j1939bus [OPTIONS] [FILE]
        j1939bus <COMMAND>
 
 Commands:
-  live    Runs a script by threads, and prints what came of it
+  live    Runs a script by threads, and prints its messages and outcomes
   relay   Runs two segments by threads, and relays from a port of the first to the second
-  decode  Prints the messages of logs, put together of their packets
-  draw    Runs a script, and draws it as a sequence diagram, or draws a log
-  node    Is one station on a real bus, whose frames are read from standard input
+  decode  Prints the messages of logs, reassembled from their packets
+  draw    Runs a script and draws it as a sequence diagram, or draws a log
+  node    Runs one station on a real bus, whose frames are read from standard input
   help    Print this message or the help of the given subcommand(s)
 
 Arguments:
   [FILE]  Script, - for standard input [default: -]
 
 Options:
-      --log      Prints the frames alone, as a log, and the replies on standard error
+      --log      Prints only the frames, as a log, and the replies on standard error
   -h, --help     Print help
   -V, --version  Print version
 
 The reply to each line is written to standard output before the next line is
-read. What ends the run before the script's end, such as a wrong line or a file
-that can't be opened, is told on standard error. A script that is named as one
-of the commands is ./NAME.
-With --log, standard output has only the frames that are put, in lines
-(SECONDS.MICROS) bus0 ID#HEX as candump -l writes them, at the time of the
-script's clock. Replies and events are written to standard error.
+read. If something ends the run early, such as a wrong line or a file that
+can't be opened, standard error says what. A script that has the name of a
+command is written ./NAME.
+With --log, standard output has only the frames that are put, as lines
+(SECONDS.MICROS) bus0 ID#HEX in the form of candump -l. Their times are those of
+the script's clock. Replies and events are written to standard error.
 
 Examples:
   printf '%s\\n' 'stations 21 35' 'open 35 FECA 1785' \\
@@ -200,7 +200,7 @@ Status:
 docs/SCRIPTS.md describes the language, docs/LOGS.md what decode reads.
 ";
 
-const LIVE_HELP: &str = "Runs a script by threads, and prints what came of it
+const LIVE_HELP: &str = "Runs a script by threads, and prints its messages and outcomes
 
 Usage: j1939bus live [OPTIONS] [FILE]
 
@@ -211,12 +211,13 @@ Options:
       --turns <turns>  Most turns of a worker, 1 to 1000000000 [default: 1000000]
   -h, --help           Print help
 
-The script is read to its end: one line of 1 to 8 stations, lines that open
-ports, and at most 64 lines that send. A thread for each station submits its
-messages, one for each port receives, and a worker for each station and one for
-the bus move the frames. The refusals of lines are written to standard output
-first, and at the end each port with what it was given, and the outcome of each
-message. A wrong line is told on standard error, and no thread runs.
+The script is read to its end first. It has one line of 1 to 8 stations, lines
+that open ports, and at most 64 lines that send. A thread for each station
+submits its messages, and one for each port receives. A worker for each station
+and one for the bus move the frames. Standard output has the refusals of lines
+first. At the end it has each port with the messages that it was given, and the
+outcome of each message. If a line is wrong, standard error says so, and no
+thread runs.
 
 Example:
   printf '%s\\n' 'stations 21 35' 'open 35 FECA 1785' \\

@@ -99,7 +99,7 @@ fn other_numbers_are_refused(rt: HostRuntime) {
     )
 }
 
-const DECODE_HELP: &str = "Prints the messages of logs, put together of their packets
+const DECODE_HELP: &str = "Prints the messages of logs, reassembled from their packets
 
 Usage: j1939bus decode [OPTIONS] [FILE]...
 
@@ -110,42 +110,42 @@ Options:
       --pgn <PGN>      Only messages of this PGN, hexadecimal
       --from <A>       Only messages from this address, hexadecimal
       --to <A>         Only messages to this address, FF for those to all
-      --max-bytes <N>  Longest message that is put together [default: 117440505]
-      --all            Prints frames that carry nothing of a message too, as frame FROM TO PGN LENGTH HEX
-      --strict         Ends at a wrong line
+      --max-bytes <N>  Longest message that is reassembled, in bytes [default: 117440505]
+      --all            Also prints frames that belong to no message, as frame FROM TO PGN LENGTH HEX
+      --strict         Ends at the first wrong line
       --json           Prints each line as a JSON object
       --frames         Lists the announcement, windows and end of each message, with time and number
-      --explain        Shows fault lists and identifications in words too, also those of a single frame
-      --summary        Ends with what came of the messages: a row for each interface, PGN, sender and destination
+      --explain        Also shows fault lists and identifications in words, single frames included
+      --summary        Ends with a table of the messages: a row for each interface, PGN, sender and destination
       --quiet          Prints neither messages nor frames
   -h, --help           Print help
 
-A log has lines as candump writes them, (SECONDS.MICROS) IFACE ID#HEX, or shows
-them on a screen, and several logs are read one after another as if they were
-one. If a file can't be opened, nothing is read. Each message that was sent in
-packets is printed with the time and the interface of the frame at which it is
-known:
+A log has the lines that candump writes, (SECONDS.MICROS) IFACE ID#HEX, or those
+that it shows on a screen. Several logs are read as one. If a file can't be
+opened, nothing is read. Each message that was sent in packets is printed at the
+frame that shows how it ended, with that frame's time and the interface:
   (TIME) IFACE given FROM TO PGN LENGTH HEX
   (TIME) IFACE aborted FROM TO PGN REASON WHO
   (TIME) IFACE lost FROM TO PGN HAVE OF CAUSE
-A wrong line is told by its number, in its place. What was counted is told on
-standard error at the end. With --json each line is an object, with times in
-microseconds. With --frames the frames of a message follow its line, but for
+A wrong line is reported in its place, by its number. Standard error has the
+counts at the end. With --json each line is an object, with times in
+microseconds. With --frames the frames of a message follow its line, except
 packets:
   (TIME) NUMBER announcement
   (TIME) NUMBER window FIRST LAST
   (TIME) NUMBER again FIRST LAST
   (TIME) NUMBER hold
   (TIME) NUMBER end
-With --explain the lamps and faults of DM1 and DM2 (PGN FECA, FECB) follow, and
-the texts of a vehicle's, component's, ECU's and software's identification
-(FEEC, FEEB, FDC5, FEDA), each on a line of its own; and frames of these PGNs
-are printed as with --all.
-With --summary a table follows where the log ends, of a row for each interface,
-PGN, sender and destination between which there was a message: how many were
-given, their bytes, mean and longest time in microseconds, packets asked for
-again, and the share of the interface's frames in parts per thousand; behind it
-what messages were aborted and lost for. With --quiet there is the table alone.
+With --explain messages of six PGNs are followed by their meaning in words: the
+lamps and faults of DM1 and DM2 (FECA, FECB), and the identification of vehicle,
+component, ECU and software (FEEC, FEEB, FDC5, FEDA). Single frames of these
+PGNs are printed too, as with --all.
+With --summary a table is printed at the end. It has a row for each interface,
+PGN, sender and destination of a message: how many messages were given, their
+bytes, their mean and longest time in microseconds, the packets asked for again,
+and the share of the interface's frames in thousandths. Lines below a row count
+the messages that were aborted or lost, by reason. With --quiet neither messages
+nor frames are printed.
 
 Examples:
   j1939bus decode can0.log can0.log.1
