@@ -2,7 +2,6 @@
 #![tactic(auto)]
 
 mod choosing;
-mod choosing;
 mod course;
 mod drained;
 mod draining;
