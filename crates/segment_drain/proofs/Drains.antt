@@ -21,7 +21,7 @@ use Rattle.segment_core.specs.Joined.{joined}
 use Rattle.segment_core.specs.Transmits.{put_by}
 use Rattle.record_law.proofs.Tests.{equal_or_not}
 use Rattle.segment_drain.specs.Chosen.{is_hold, or_else, makes_room, waits_until, lowest, next_tick, unblocked, next_of}
-use Rattle.segment_drain.specs.Drains.{Drain, end_by, makes, IsSame, frame_put, timed_by, goes_on_by, turn_by, turn, turns_from, end_at, last_look, undrained, drained, Shows, IsCourse, Makes, HasNext, Goes, IsDrained, HasBegun}
+use Rattle.segment_drain.specs.Drains.{Drain, times_of, end_by, makes, IsSame, frame_put, timed_by, goes_on_by, turn_by, turn, turns_from, end_at, last_look, undrained, drained, Shows, IsCourse, Makes, HasNext, Goes, IsDrained, HasBegun}
 use Rattle.segment_drain.specs.declared.course.Course.{Course}
 use Rattle.segment_drain.specs.declared.drained.Drained as ran
 use Rattle.segment_drain.specs.declared.end.DrainEnd.{DrainEnd}
@@ -97,7 +97,7 @@ goes_by_end d why seg course is on h = by why is (subst EndsWell is (ends_well d
     same why is = sym (turn_on d on ∙ ap (turn_by d) is)
 
     shown : (why : DrainEnd) → IsCourse (record d { ended = Some why }) seg course
-    shown why = record { segment = h.segment; turns = h.turns; frames = h.frames; events = h.events }
+    shown why = record { segment = h.segment; turns = h.turns; frames = h.frames; times = h.times; events = h.events }
 
     stops : (why : DrainEnd) → next_of d.segment ≡ End why → IsCourse (turn d) seg course × ((turn d).ended ≡ Some why)
     stops why is = subst (λ (x : Drain). IsCourse x seg course × (x.ended ≡ Some why)) (same why is) (shown why, refl)
@@ -152,6 +152,7 @@ pub record Draining (start : Segment) (i : ℕ) (seg : Segment) (course : Course
 pub record Copies (course : Course) (why : DrainEnd) (done : ran.Drained) : Type 0 where
   pub turns : done.turns ≡ course.turns
   pub frames : done.frames.items ≡ course.frames.items
+  pub times : done.times.items ≡ course.times.items
   pub parts : done.parts.items ≡ course.parts.items
   pub end : done.end ≡ why
 
@@ -171,8 +172,8 @@ fair why apart is q = true≢false (ap is_want (sym q ∙ is) ∙ apart)
 pub rest_is_fair : {e : DrainEnd} → e ≡ end.Rest → e ≡ end.OutOfMemory → ⊥
 rest_is_fair is q = fair end.Rest refl is q
 
-copied : (d : Drain) (seg : Segment) (course : Course) (why : DrainEnd) (done : ran.Drained) → IsCourse d seg course → Copies course why done → Shows d seg done.turns done.frames.items (joined done.parts.items)
-copied d seg course why done h c = record { segment = h.segment; turns = c.turns ∙ h.turns; frames = c.frames ∙ h.frames; events = ap joined c.parts ∙ h.events }
+copied : (d : Drain) (seg : Segment) (course : Course) (why : DrainEnd) (done : ran.Drained) → IsCourse d seg course → Copies course why done → Shows d seg done.turns done.frames.items done.times.items (joined done.parts.items)
+copied d seg course why done h c = record { segment = h.segment; turns = c.turns ∙ h.turns; frames = c.frames ∙ h.frames; times = c.times ∙ h.times; events = ap joined c.parts ∙ h.events }
 
 pub counted : (start : Segment) (i : ℕ) (seg : Segment) (course : Course) → Draining start i seg course → course.turns ≡ i
 counted start i seg course h = h.shown.turns ∙ calls_made (undrained start) refl i h.on
@@ -183,9 +184,9 @@ last_on d e = ap (λ (o : Option DrainEnd). elim o as (λ (_ : Option DrainEnd).
 pub last_off : (d : Drain) (why : DrainEnd) → d.ended ≡ Some why → last_look d ≡ d
 last_off d why e = ap (λ (o : Option DrainEnd). elim o as (λ (_ : Option DrainEnd). Drain) [ None ↦ record d { ended = Some (end_at (next_of d.segment)) } | Some end ↦ d ]) e
 
-pub draining_begins : (start : Segment) (course : Course) → course.turns ≡ 0 → course.frames.items ≡ [] → course.parts.items ≡ [] → Draining start 0 start course
+pub draining_begins : (start : Segment) (course : Course) → course.turns ≡ 0 → course.frames.items ≡ [] → course.times.items ≡ [] → course.parts.items ≡ [] → Draining start 0 start course
 unfolding turns_from
-draining_begins start course turns frames parts = record { on = refl; shown = record { segment = refl; turns = turns; frames = frames; events = ap joined parts } }
+draining_begins start course turns frames times parts = record { on = refl; shown = record { segment = refl; turns = turns; frames = frames; times = times; events = ap joined parts } }
 
 pub draining_goes : (start : Segment) (i : ℕ) (seg : Segment) (course : Course) → Goes (Ok tt) (turns_from i (undrained start)) seg course → Draining start (i + 1) seg course
 unfolding turns_from
@@ -216,12 +217,12 @@ module _ (start : Segment) (turns i : ℕ) (seg : Segment) (course : Course) (do
     done_is = λ q. absurd (q c.end);
     begun_is = λ q. record {
       few = omega (arith, below, count);
-      shown = subst (λ (x : Drain). Shows x seg done.turns done.frames.items (joined done.parts.items)) (sym all) (record { segment = k.segment; turns = k.turns; frames = k.frames; events = k.events });
+      shown = subst (λ (x : Drain). Shows x seg done.turns done.frames.items done.times.items (joined done.parts.items)) (sym all) (record { segment = k.segment; turns = k.turns; frames = k.frames; times = k.times; events = k.events });
       more = ap (λ (x : Drain). x.ended) all;
     };
   }
     where
-      k : Shows d seg done.turns done.frames.items (joined done.parts.items)
+      k : Shows d seg done.turns done.frames.items done.times.items (joined done.parts.items)
       k = copied d seg course end.OutOfMemory done g.0 c
 
       count : done.turns ≡ i
@@ -242,7 +243,7 @@ pub last_says : (start : Segment) (turns : ℕ) (seg : Segment) (course : Course
 unfolding drained
 last_says start turns seg course done h c = record {
   done_is = λ q. subst (λ (y : Drain). IsDrained y seg done) (sym all) (record {
-    shown = record { segment = k.segment; turns = k.turns; frames = k.frames; events = k.events };
+    shown = record { segment = k.segment; turns = k.turns; frames = k.frames; times = k.times; events = k.events };
     end = ap (λ (y : DrainEnd). Some y) (ap (λ (s : Segment). end_at (next_of s)) (sym k.segment) ∙ sym c.end);
   });
   begun_is = λ q. absurd (well (next_of seg) (ends_well seg) c.end q);
@@ -251,7 +252,7 @@ last_says start turns seg course done h c = record {
     d : Drain
     d = turns_from turns (undrained start)
 
-    k : Shows d seg done.turns done.frames.items (joined done.parts.items)
+    k : Shows d seg done.turns done.frames.items done.times.items (joined done.parts.items)
     k = copied d seg course (end_at (next_of seg)) done h.shown c
 
     all : drained start turns ≡ record d { ended = Some (end_at (next_of d.segment)) }
@@ -294,11 +295,12 @@ module _ (d : Drain) (call : Call) (seg new : Segment) (old with_room noted : Co
   answer : (reply : Reply) → applied seg call ≡ (new, reply) → applied d.segment call ≡ (new, reply)
   answer reply says = ap (λ (s : Segment). applied s call) (sym h.segment) ∙ says
 
-  shown_by : (reply : Reply) → applied seg call ≡ (new, reply) → noted.turns ≡ with_room.turns + 1 → noted.frames.items ≡ with_room.frames.items ++ put_by seg call reply → joined noted.parts.items ≡ joined with_room.parts.items ++ events_of reply → IsCourse next new noted
-  shown_by reply says turns frames told = subst (λ (p : Segment × Reply). IsCourse (makes d call p) new noted) (sym (answer reply says)) (record {
+  shown_by : (reply : Reply) → applied seg call ≡ (new, reply) → noted.turns ≡ with_room.turns + 1 → noted.frames.items ≡ with_room.frames.items ++ put_by seg call reply → noted.times.items ≡ with_room.times.items ++ times_of seg (put_by seg call reply) → joined noted.parts.items ≡ joined with_room.parts.items ++ events_of reply → IsCourse next new noted
+  shown_by reply says turns frames times told = subst (λ (p : Segment × Reply). IsCourse (makes d call p) new noted) (sym (answer reply says)) (record {
     segment = refl;
     turns = (let more : length (d.calls ++ (call, reply) ∷ []) ≡ length d.calls + 1 = length-append d.calls ((call, reply) ∷ []) in let a = h.turns in let b = same.turns in omega (arith, more, a, b, turns));
     frames = frames ∙ ap (λ (fs : List CanFrame). fs ++ put_by seg call reply) (same.frames ∙ h.frames) ∙ ap (λ (s : Segment). d.frames ++ put_by s call reply) h.segment;
+    times = times ∙ ap (λ (ts : List ℕ). ts ++ times_of seg (put_by seg call reply)) (same.times ∙ h.times) ∙ ap (λ (s : Segment). d.times ++ times_of s (put_by s call reply)) h.segment;
     events = told ∙ ap (λ (es : List Event). es ++ events_of reply) (ap joined same.parts ∙ h.events) ∙ sym (events_push d.calls (call, reply));
   })
 
@@ -307,11 +309,14 @@ module _ (d : Drain) (call : Call) (seg new : Segment) (old with_room noted : Co
 
   -- it is done
   pub done_makes : (events : List Event) (put : Option CanFrame) (r : Result (Unit {0}) DrainEnd) → applied seg call ≡ (new, reply.Done events) → put ≡ frame_put seg call → r ≡ goes_on_by new (timed_by call)
-      → noted.turns ≡ with_room.turns + 1 → noted.frames.items ≡ with_room.frames.items ++ option_to_list put → joined noted.parts.items ≡ joined with_room.parts.items ++ events → Makes r d call new noted
-  done_makes events put r says is r_is turns frames told = subst (λ (x : Result (Unit {0}) DrainEnd). Makes x d call new noted) (sym r_is) (by (timed_by call) (ended_by (reply.Done events) says ∙ end_done call new events))
+      → noted.turns ≡ with_room.turns + 1 → noted.frames.items ≡ with_room.frames.items ++ option_to_list put → noted.times.items ≡ with_room.times.items ++ times_of seg (option_to_list put) → joined noted.parts.items ≡ joined with_room.parts.items ++ events → Makes r d call new noted
+  done_makes events put r says is r_is turns frames times told = subst (λ (x : Result (Unit {0}) DrainEnd). Makes x d call new noted) (sym r_is) (by (timed_by call) (ended_by (reply.Done events) says ∙ end_done call new events))
     where
+      put_is : option_to_list put ≡ put_by seg call (reply.Done events)
+      put_is = ap (λ (o : Option CanFrame). option_to_list o) is ∙ sym (put_done call seg events)
+
       shown : IsCourse next new noted
-      shown = shown_by (reply.Done events) says turns (frames ∙ ap (λ (o : Option CanFrame). with_room.frames.items ++ option_to_list o) is ∙ ap (λ (fs : List CanFrame). with_room.frames.items ++ fs) (sym (put_done call seg events))) told
+      shown = shown_by (reply.Done events) says turns (frames ∙ ap (λ (fs : List CanFrame). with_room.frames.items ++ fs) put_is) (times ∙ ap (λ (fs : List CanFrame). with_room.times.items ++ times_of seg fs) put_is) told
 
       by : (o : Option Address) → next.ended ≡ ended_of (goes_on_by new o) → Makes (goes_on_by new o) d call new noted
       by None e = (shown, e)
@@ -325,6 +330,7 @@ module _ (d : Drain) (call : Call) (seg new : Segment) (old with_room noted : Co
   plain_shown : (reply : Reply) → put_by seg call reply ≡ [] → events_of reply ≡ [] → applied seg call ≡ (new, reply) → noted ≡ record with_room { turns = with_room.turns + 1 } → IsCourse next new noted
   plain_shown reply no_frame no_event says is = shown_by reply says (ap (λ (c : Course). c.turns) is)
       (ap (λ (c : Course). c.frames.items) is ∙ sym (append-nil with_room.frames.items) ∙ ap (λ (fs : List CanFrame). with_room.frames.items ++ fs) (sym no_frame))
+      (ap (λ (c : Course). c.times.items) is ∙ sym (append-nil with_room.times.items) ∙ ap (λ (fs : List CanFrame). with_room.times.items ++ times_of seg fs) (sym no_frame))
       (ap (λ (c : Course). joined c.parts.items) is ∙ sym (append-nil (joined with_room.parts.items)) ∙ ap (λ (es : List Event). joined with_room.parts.items ++ es) (sym no_event))
 
   pub refused_makes : (cause : Refusal) → applied seg call ≡ (new, reply.Refused cause) → noted ≡ record with_room { turns = with_room.turns + 1 } → Makes (Err (end.Refused cause)) d call new noted

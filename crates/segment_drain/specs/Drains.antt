@@ -1,5 +1,5 @@
 -- A drain: one call a turn.
-use Rattle.std.specs.Prelude.{◌≡◌, ℕ, zero, suc, ◌<◌, Bool, true, false, if◌then◌else◌, List, [], ◌∷◌, ◌++◌, length, Option, Some, None, Result, Ok, Err, vec_len, vec_capacity}
+use Rattle.std.specs.Prelude.{◌≡◌, ℕ, map, zero, suc, ◌<◌, Bool, true, false, if◌then◌else◌, List, [], ◌∷◌, ◌++◌, length, Option, Some, None, Result, Ok, Err, vec_len, vec_capacity}
 use Rattle.bus_frame.specs.Frames.{CanFrame}
 use Rattle.message_events.specs.declared.event.Event.{Event}
 use Rattle.pgn_ids.specs.declared.address.Address.{Address}
@@ -22,11 +22,13 @@ use Rattle.segment_drain.specs.declared.end.DrainEnd.TheVariants as end
 use Rattle.segment_drain.specs.declared.choosing.Next.{Next}
 use Rattle.segment_drain.specs.declared.choosing.Next.TheVariants.{Make, End}
 
--- the segment, the calls so far with their replies, the frames that they put, and the end once there is one
+-- the segment, the calls so far with their replies, the frames that they put, the clock at which each was put, and the end once there
+-- is one
 pub record Drain : Type 0 where
   pub segment : Segment
   pub calls : Record
   pub frames : List CanFrame
+  pub times : List ℕ
   pub ended : Option DrainEnd
 
 -- a timer that only asks a sender to wait again ends the drain, and so would a refusal
@@ -35,12 +37,17 @@ end_by after call (Refused cause) = Some (end.Refused cause)
 end_by after (Fire a) (Done events) = if is_hold (front_at after a) then Some end.Held else None
 end_by after call reply = None
 
+-- frames are put at the segment's clock
+abbrev pub times_of : Segment → List CanFrame → List ℕ
+times_of seg frames = map (λ (frame : CanFrame). seg.now) frames
+
 -- a call is made
 abbrev pub makes : Drain → Call → Segment × Reply → Drain
 makes d call step = record {
   segment = step.0;
   calls = d.calls ++ (call, step.1) ∷ [];
   frames = d.frames ++ put_by d.segment call step.1;
+  times = d.times ++ times_of d.segment (put_by d.segment call step.1);
   ended = end_by step.0 call step.1;
 }
 
@@ -66,7 +73,7 @@ last_look d = elim d.ended [ None ↦ record d { ended = Some (end_at (next_of d
 
 -- nothing was done yet
 abbrev pub undrained : Segment → Drain
-undrained seg = record { segment = seg; calls = []; frames = []; ended = None }
+undrained seg = record { segment = seg; calls = []; frames = []; times = []; ended = None }
 
 -- a drain of at most so many turns
 unfoldable pub drained : Segment → (turns : ℕ) → Drain
@@ -84,22 +91,25 @@ is_drain_call _ = false
 
 -- The code
 
--- the segment, the number of calls, the frames and the events are those of a drain
-pub record Shows (d : Drain) (seg : Segment) (count : ℕ) (put : List CanFrame) (told : List Event) : Type 0 where
+-- the segment, the number of calls, the frames with their times, and the events are those of a drain
+pub record Shows (d : Drain) (seg : Segment) (count : ℕ) (put : List CanFrame) (at : List ℕ) (told : List Event) : Type 0 where
   pub segment : seg ≡ d.segment
   pub turns : count ≡ length d.calls
   pub frames : put ≡ d.frames
+  pub times : at ≡ d.times
   pub events : told ≡ events_in d.calls
 
 -- there is room for one frame more, and for the events of one call more
 pub record HasRoom (course : Course) : Type 0 where
   pub frame : vec_len course.frames < vec_capacity course.frames
+  pub time : vec_len course.times < vec_capacity course.times
   pub part : vec_len course.parts < vec_capacity course.parts
 
 -- two courses hold the same
 pub record IsSame (old new : Course) : Type 0 where
   pub turns : new.turns ≡ old.turns
   pub frames : new.frames.items ≡ old.frames.items
+  pub times : new.times.items ≡ old.times.items
   pub parts : new.parts.items ≡ old.parts.items
 
 -- the frame that a call puts if it is done
@@ -119,7 +129,7 @@ goes_on_by seg (Some a) = if is_hold (front_at seg a) then Err end.Held else Ok 
 
 -- these are the lists that the code keeps
 abbrev pub IsCourse : Drain → Segment → Course → Type 0
-IsCourse d seg course = Shows d seg course.turns course.frames.items (joined course.parts.items)
+IsCourse d seg course = Shows d seg course.turns course.frames.items course.times.items (joined course.parts.items)
 
 -- the drain is not at its end, and this is the next call
 abbrev pub HasNext : Drain → Next → Type 0
@@ -142,11 +152,11 @@ Goes (Err why) d seg course = IsCourse (turn d) seg course × ((turn d).ended �
 
 -- the turns, frames, events and end of the drain, and the segment that it leaves
 pub record IsDrained (d : Drain) (seg : Segment) (done : ran.Drained) : Type 0 where
-  pub shown : Shows d seg done.turns done.frames.items (joined done.parts.items)
+  pub shown : Shows d seg done.turns done.frames.items done.times.items (joined done.parts.items)
   pub end : d.ended ≡ Some done.end
 
 -- what was done before a call found no memory: all of a drain of fewer turns, which wasn't at its end
 pub record HasBegun (before seg : Segment) (turns : ℕ) (done : ran.Drained) : Type 0 where
   pub few : done.turns < turns
-  pub shown : Shows (drained before done.turns) seg done.turns done.frames.items (joined done.parts.items)
+  pub shown : Shows (drained before done.turns) seg done.turns done.frames.items done.times.items (joined done.parts.items)
   pub more : (drained before done.turns).ended ≡ Some end.Turns

@@ -1,5 +1,6 @@
 //! What a drain did so far.
-ghost use Rattle.std.specs.Prelude.{◌≡◌, ◌<◌, ◌+◌, ◌++◌, ◌^◌, [], List, OnOk, OnErr, option_to_list, vec_len, vec_capacity};
+ghost use Rattle.std.specs.Prelude.{◌≡◌, ◌<◌, ◌+◌, ◌++◌, ◌^◌, [], List, OnOk, OnErr, map, option_to_list, vec_len, vec_capacity};
+ghost use Rattle.bus_frame.specs.Frames.{CanFrame};
 ghost use Rattle.segment_core.specs.Joined.{joined};
 ghost use Rattle.segment_drain.specs.Drains.{HasRoom, IsSame};
 
@@ -9,11 +10,13 @@ use bus_frame::Frame;
 use segment_core::Events;
 use std::alloc::{AllocError, Global};
 
-/// How many calls were made, the frames that they put, and their events, one part for each call that had some.
+/// How many calls were made, the frames that they put, the clock at which each was put, and their events, one part for each call that
+/// had some.
 #[derive(Drop)]
 pub(crate) struct Course {
     pub(crate) turns: u64,
     pub(crate) frames: Vec<Frame>,
+    pub(crate) times: Vec<u64>,
     pub(crate) parts: Vec<Events>,
 }
 
@@ -22,11 +25,13 @@ impl Course {
     pub(crate) fn new(alloc: Global) -> Course
         ensures turns { result.turns ≡ 0 }
         ensures frames { result.frames.items ≡ [] }
+        ensures times { result.times.items ≡ [] }
         ensures parts { result.parts.items ≡ [] }
     {
         Course {
             turns: 0,
             frames: Vec::new(alloc),
+            times: Vec::new(alloc),
             parts: Vec::new(alloc),
         }
     }
@@ -37,6 +42,7 @@ impl Course {
         ensures same { IsSame self.old self.new }
     {
         self.frames.reserve(1)?;
+        self.times.reserve(1)?;
         self.parts.reserve(1)
     }
 
@@ -48,18 +54,20 @@ impl Course {
         self.turns += 1;
     }
 
-    /// Notes the frame that a call put and its events. There is room for them.
+    /// Notes the frame that a call put at this tick, and its events. There is room for them.
     #[tactic(auto, using(segment_core::proofs::Joining::joined_push))]
-    pub(crate) fn note(&mut self, put: Option<Frame>, events: Events)
+    pub(crate) fn note(&mut self, now: u64, put: Option<Frame>, events: Events)
         requires room { HasRoom self.old }
         requires few { self.old.turns + 1 < 2 ^ 64 }
         ensures turns { self.new.turns ≡ self.old.turns + 1 }
         ensures frames { self.new.frames.items ≡ self.old.frames.items ++ option_to_list put }
+        ensures times { self.new.times.items ≡ self.old.times.items ++ map (λ (frame : CanFrame). now) (option_to_list put) }
         ensures told { joined self.new.parts.items ≡ joined self.old.parts.items ++ events }
     {
         self.turns += 1;
         if let Some(frame) = put {
             self.frames.push_reserved(frame);
+            self.times.push_reserved(now);
         }
         if !events.is_empty() {
             self.parts.push_reserved(events);
@@ -70,17 +78,20 @@ impl Course {
     pub(crate) fn ended(self, end: DrainEnd) -> Drained
         ensures turns { result.turns ≡ self.turns }
         ensures frames { result.frames.items ≡ self.frames.items }
+        ensures times { result.times.items ≡ self.times.items }
         ensures parts { result.parts.items ≡ self.parts.items }
         ensures end { result.end ≡ end }
     {
         let Course {
             turns,
             frames,
+            times,
             parts,
         } = self;
         Drained {
             turns,
             frames,
+            times,
             parts,
             end,
         }

@@ -11,6 +11,8 @@ pub struct Drained {
     pub turns: u64,
     /// The frames that they put, in their order.
     pub frames: Vec<Frame>,
+    /// The clock's tick at which each of them was put.
+    pub times: Vec<u64>,
     /// The events of the calls in their order: one part for each call that had some.
     pub parts: Vec<Events>,
     /// How the drain ended.

@@ -80,11 +80,12 @@ fn make(segment: &mut Segment, call: Call, course: &mut Course) -> Result<(), Dr
     if let Err(_) = course.make_room() {
         return Err(DrainEnd::OutOfMemory);
     }
+    let now = segment.now();
     let put = frame_put(segment, &call);
     let timed = timed_by(&call);
     match segment.apply(call) {
         Ok(Reply::Done(events)) => {
-            course.note(put, events);
+            course.note(now, put, events);
             goes_on(segment, timed)
         }
         Ok(Reply::Refused(cause)) => {
