@@ -12,7 +12,9 @@ use bus_frame::Frame;
 use line_runs::Told;
 use pgn_ids::Address;
 use script_commands::LineError;
-use script_text::{print_counts, print_events, print_frames, print_put, print_refused, print_reply, print_text};
+use script_text::{
+    print_counts, print_events, print_frames, print_put, print_refused, print_reply, print_text,
+};
 use segment_core::{Counts, Refusal, Reply, Segment};
 use segment_drain::Drained;
 use std::alloc::{AllocError, Global};
