@@ -1,4 +1,5 @@
 pub mod Telling
 pub mod Turns
+pub mod Draining
 pub mod Script
 pub mod Driving

@@ -24,6 +24,8 @@ use Rattle.script_text.specs.Replies.{reply_line, drove_line}
 use Rattle.script_commands.specs.Words.{is_ascii}
 use Rattle.bus_script.specs.Telling.{Telling, reply_alone, made_of, refused_by, counted}
 use Rattle.bus_script.specs.Turns.{turn_times}
+use Rattle.bus_script.specs.Draining.{telling_of}
+use Rattle.segment_drain.specs.Drains.{drained}
 use Rattle.line_runs.specs.Limits.{script_limits}
 use Rattle.line_runs.specs.Outcome as lines
 use Rattle.line_runs.specs.declared.running.Told.{Told}
@@ -62,11 +64,15 @@ drove s from to turns =
     let d = driven s from to turns in
     Ok (Some d.segment, record { reply = drove_line d.turns (end_of d); stations = []; frames = d.frames; times = turn_times turns from to s; events = events_in d.calls })
 
+abbrev pub drains : Segment → (turns : ℕ) → Step
+drains s turns = Ok (Some (drained s turns).segment, telling_of (drained s turns))
+
 -- a command to a segment that is there
 abbrev pub on_segment : Segment → Command → Step
 on_segment s (commands.Stations addresses) = Err StationsTwice
 on_segment s (commands.Call call) = called s call
 on_segment s (commands.Drive from to turns) = drove s from to turns
+on_segment s (commands.Drain turns) = drains s turns
 on_segment s commands.Counts = Ok (Some s, counted s.counts)
 on_segment s (commands.Refused cause) = Ok (Some s, refused_by cause)
 

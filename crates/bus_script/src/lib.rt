@@ -2,6 +2,7 @@
 //! before the next line is read. The frames that are put are printed below the replies, or as a log of their own.
 #![tactic(auto)]
 
+mod draining;
 mod driven;
 mod driving;
 mod logging;

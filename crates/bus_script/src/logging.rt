@@ -1,6 +1,7 @@
 //! Frames in a log.
-ghost use Rattle.std.specs.Prelude.{◌≡◌, ◌++◌, OnOk, option_to_list};
-ghost use Rattle.bus_script.specs.Telling.{log_line, log_at};
+ghost use Rattle.std.specs.Prelude.{◌≡◌, ◌++◌, OnOk, flat_map, option_to_list};
+ghost use Rattle.std.specs.List.{zip};
+ghost use Rattle.bus_script.specs.Telling.{log_line, log_at, put_at};
 
 use bus_frame::Frame;
 use log_text::{Iface, put_log_line};
@@ -26,6 +27,20 @@ pub(crate) fn print_logged(log: &mut Vec<u8>, now: u64, frames: &[Frame]) -> Res
 {
     for frame in frames {
         print_log(log, now, frame)?;
+    }
+    Ok(())
+}
+
+/// The lines of frames that were put each at its tick.
+pub(crate) fn print_timed(
+    log: &mut Vec<u8>,
+    times: &[u64],
+    frames: &[Frame],
+) -> Result<(), AllocError>
+    ensures { OnOk result (log.new.items ≡ log.old.items ++ flat_map put_at (zip times.now frames.now)) }
+{
+    for (now, frame) in times.iter().zip(frames.iter()) {
+        print_log(log, *now, frame)?;
     }
     Ok(())
 }

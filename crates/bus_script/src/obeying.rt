@@ -1,8 +1,9 @@
 //! What a line does, and its telling.
 ghost use Rattle.std.specs.Prelude.{◌≡◌, Some, None};
 ghost use Rattle.script_commands.specs.Words.{texts};
-ghost use Rattle.bus_script.specs.Script.{Obeyed, frame_put, made, called, on_segment, perform, obey_words, obey_line};
+ghost use Rattle.bus_script.specs.Script.{Obeyed, frame_put, made, called, drains, on_segment, perform, obey_words, obey_line};
 
+use crate::draining::told_as;
 use crate::sheet::Sheet;
 use bus_frame::Frame;
 use line_runs::Told;
@@ -61,8 +62,24 @@ fn call<S: Sheet>(segment: &mut Segment, call: Call, sheet: &mut S) -> Result<To
     Ok(Told::Answered)
 }
 
+/// The segment is drained.
+fn drain<S: Sheet>(
+    alloc: Global,
+    segment: &mut Segment,
+    turns: u64,
+    sheet: &mut S,
+) -> Result<Told, LineError>
+    ensures text { Obeyed S.in_text result (Some segment.new) (S.text_shown sheet.old) (S.text_shown sheet.new) (drains segment.old turns) }
+    ensures log { Obeyed S.in_log result (Some segment.new) (S.log_shown sheet.old) (S.log_shown sheet.new) (drains segment.old turns) }
+{
+    let done = segment_drain::drain(alloc, segment, turns);
+    sheet.show_drained(&done)?;
+    Ok(told_as(done.end))
+}
+
 /// A command to a segment that is there.
 fn on_segment<S: Sheet>(
+    alloc: Global,
     segment: &mut Segment,
     command: Command,
     sheet: &mut S,
@@ -74,6 +91,7 @@ fn on_segment<S: Sheet>(
         Command::Stations(_) => Err(LineError::Fault(Fault::StationsTwice)),
         Command::Call(asked) => call(segment, asked, sheet),
         Command::Drive { from, to, turns } => sheet.drive(segment, from, to, turns),
+        Command::Drain { turns } => drain(alloc, segment, turns, sheet),
         Command::Counts => {
             sheet.show_counts(segment.counts())?;
             Ok(Told::Answered)
@@ -96,7 +114,7 @@ fn perform<S: Sheet>(
     ensures log { Obeyed S.in_log result segment.new (S.log_shown sheet.old) (S.log_shown sheet.new) (perform segment.old command) }
 {
     if let Some(made) = segment {
-        return on_segment(made, command, sheet);
+        return on_segment(alloc, made, command, sheet);
     }
     match command {
         Command::Stations(addresses) => make(alloc, segment, &addresses, sheet),

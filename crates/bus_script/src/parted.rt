@@ -5,8 +5,10 @@ ghost use Rattle.script_text.specs.Replies.{event_lines};
 ghost use Rattle.bus_script.specs.Telling.{log_at};
 ghost use Rattle.bus_script.specs.Script.{frames_put};
 
+use crate::draining::print_drained;
+use crate::driven::print_parts;
 use crate::driving::drive_logged;
-use crate::logging::log_optional;
+use crate::logging::{log_optional, print_timed};
 use crate::sheet::Sheet;
 use bus_frame::Frame;
 use line_runs::Told;
@@ -14,6 +16,7 @@ use pgn_ids::Address;
 use script_commands::LineError;
 use script_text::{print_counts, print_events, print_refused, print_reply, print_text};
 use segment_core::{Counts, Refusal, Reply, Segment};
+use segment_drain::Drained;
 use std::alloc::{AllocError, Global};
 
 /// A text and a log.
@@ -109,6 +112,12 @@ impl Sheet for Parted {
         turns: u64,
     ) -> Result<Told, LineError> {
         drive_logged(segment, from, to, turns, self)
+    }
+
+    fn show_drained(&mut self, done: &Drained) -> Result<(), AllocError> {
+        print_drained(&mut self.text, done.turns, done.end)?;
+        print_timed(&mut self.log, done.times.as_slice(), done.frames.as_slice())?;
+        print_parts(&mut self.text, done.parts.as_slice())
     }
 
     ghost blank_text = { refl };

@@ -1,6 +1,7 @@
 //! Sheets, on which the tellings of a script's lines are shown.
 ghost use Rattle.std.specs.Prelude.{◌≡◌, ◌++◌, [], List, ℕ, Some, OnOk};
 ghost use Rattle.bus_script.specs.Telling.{Telling, reply_alone, made_of, refused_by, counted, without_memory};
+ghost use Rattle.bus_script.specs.Draining.{telling_done};
 ghost use Rattle.bus_script.specs.Script.{Obeyed, told_of, drove};
 
 use bus_frame::Frame;
@@ -8,6 +9,7 @@ use line_runs::Told;
 use pgn_ids::Address;
 use script_commands::LineError;
 use segment_core::{Counts, Refusal, Reply, Segment};
+use segment_drain::Drained;
 use std::alloc::AllocError;
 
 /// A text and a log, which hold the telling of a line, or parts of it.
@@ -68,6 +70,11 @@ pub trait Sheet {
     ) -> Result<Told, LineError>
         ensures text { Obeyed in_text result (Some segment.new) (text_shown self.old) (text_shown self.new) (drove segment.old from to turns) }
         ensures log { Obeyed in_log result (Some segment.new) (log_shown self.old) (log_shown self.new) (drove segment.old from to turns) };
+
+    /// What a drain did.
+    fn show_drained(&mut self, done: &Drained) -> Result<(), AllocError>
+        ensures text { OnOk result (text_shown self.new ≡ text_shown self.old ++ in_text (telling_done done.now)) }
+        ensures log { OnOk result (log_shown self.new ≡ log_shown self.old ++ in_log (telling_done done.now)) };
 
     // An empty telling shows nothing.
     ghost blank_text: { in_text (reply_alone []) ≡ [] };

@@ -4,15 +4,19 @@ ghost use Rattle.segment_law.specs.Calls.{events_of};
 ghost use Rattle.script_text.specs.Replies.{put_lines, event_lines};
 ghost use Rattle.bus_script.specs.Script.{frames_put};
 
-use crate::driven::print_driven;
+use crate::draining::print_drained;
+use crate::driven::{print_driven, print_parts};
 use crate::driving::told_at;
 use crate::sheet::Sheet;
 use bus_frame::Frame;
 use line_runs::Told;
 use pgn_ids::Address;
 use script_commands::LineError;
-use script_text::{print_counts, print_events, print_put, print_refused, print_reply, print_text};
+use script_text::{
+    print_counts, print_events, print_frames, print_put, print_refused, print_reply, print_text,
+};
 use segment_core::{Counts, Refusal, Reply, Segment};
+use segment_drain::Drained;
 use std::alloc::{AllocError, Global};
 
 /// A text with the replies, the frames that are put, and the events.
@@ -115,6 +119,12 @@ impl Sheet for Whole {
         let told = told_at(driven.end);
         print_driven(&mut self.text, driven)?;
         Ok(told)
+    }
+
+    fn show_drained(&mut self, done: &Drained) -> Result<(), AllocError> {
+        print_drained(&mut self.text, done.turns, done.end)?;
+        print_frames(&mut self.text, done.frames.as_slice())?;
+        print_parts(&mut self.text, done.parts.as_slice())
     }
 
     ghost blank_text = { refl };

@@ -8,7 +8,7 @@ use Rattle.script_commands.specs.Values.{◌>>=◌, address_of, addresses_of, nu
 use Rattle.script_commands.specs.declared.fault.Fault.{Fault}
 use Rattle.script_commands.specs.declared.fault.Fault.TheVariants.{WrongNumberOfWords, UnknownCommand}
 use Rattle.script_commands.specs.declared.command.Command.{Command}
-use Rattle.script_commands.specs.declared.command.Command.TheVariants.{Stations, Call, Drive, Counts, Refused}
+use Rattle.script_commands.specs.declared.command.Command.TheVariants.{Stations, Call, Drive, Drain, Counts, Refused}
 
 abbrev pub Meaning : Type 0
 Meaning = Result Command Fault
@@ -125,6 +125,12 @@ drive_of (a ∷ b ∷ n ∷ []) = do
   Ok (Drive from to turns)
 drive_of words = Err WrongNumberOfWords
 
+unfoldable pub drain_of : List (List ℕ) → Meaning
+drain_of (n ∷ []) = do
+  turns ← number_of (2 ^ 64 - 1) n
+  Ok (Drain turns)
+drain_of words = Err WrongNumberOfWords
+
 unfoldable pub counts_of : List (List ℕ) → Meaning
 counts_of [] = Ok Counts
 counts_of words = Err WrongNumberOfWords
@@ -139,6 +145,7 @@ later_command_of name words =
     else if bytes_eq name (codes "resume") then resume_of words
     else if bytes_eq name (codes "inject") then inject_of words
     else if bytes_eq name (codes "drive") then drive_of words
+    else if bytes_eq name (codes "drain") then drain_of words
     else if bytes_eq name (codes "counts") then counts_of words
     else Err UnknownCommand
 

@@ -1,7 +1,7 @@
 //! What a line of a script asks for.
 ghost use Rattle.script_commands.specs.Words.{texts};
 ghost use Rattle.script_commands.specs.Values.{Gives};
-ghost use Rattle.script_commands.specs.Commands.{stations_of, open_of, close_of, send_of, pump_of, transmit_of, fire_of, tick_of, take_of, again_of, overrun_of, cancel_of, pause_of, resume_of, inject_of, drive_of, counts_of, command_of, later_command_of};
+ghost use Rattle.script_commands.specs.Commands.{stations_of, open_of, close_of, send_of, pump_of, transmit_of, fire_of, tick_of, take_of, again_of, overrun_of, cancel_of, pause_of, resume_of, inject_of, drive_of, drain_of, counts_of, command_of, later_command_of};
 
 use crate::addresses::Addresses;
 use crate::fault::{Fault, LineError};
@@ -24,6 +24,10 @@ pub enum Command {
     Drive {
         from: Address,
         to: Address,
+        turns: u64,
+    },
+    /// The segment is drained for so many turns.
+    Drain {
         turns: u64,
     },
     /// What the segment counted.
@@ -251,6 +255,17 @@ fn drive(words: &[&[u8]]) -> Result<Command, LineError>
     Ok(Command::Drive { from, to, turns })
 }
 
+#[tactic(auto, unfolding(crate::specs::Commands::drain_of))]
+fn drain(words: &[&[u8]]) -> Result<Command, LineError>
+    ensures { Gives (λ c. c) result (drain_of (texts words.now)) }
+{
+    let [turns] = words else {
+        return Err(WRONG_NUMBER);
+    };
+    let turns = number(*turns)?;
+    Ok(Command::Drain { turns })
+}
+
 #[tactic(auto, unfolding(crate::specs::Commands::counts_of))]
 fn counts(words: &[&[u8]]) -> Result<Command, LineError>
     ensures { Gives (λ c. c) result (counts_of (texts words.now)) }
@@ -326,6 +341,9 @@ fn read_later_command(alloc: Global, name: &[u8], words: &[&[u8]]) -> Result<Com
     }
     if is(name, "drive") {
         return drive(words);
+    }
+    if is(name, "drain") {
+        return drain(words);
     }
     if is(name, "counts") {
         return counts(words);

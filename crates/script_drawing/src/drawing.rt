@@ -1,5 +1,7 @@
 //! The drawing of a line's telling.
 ghost use Rattle.std.specs.Prelude.{◌≡◌, ◌++◌, OnOk, option_to_list};
+ghost use Rattle.segment_core.specs.Joined.{joined};
+ghost use Rattle.bus_drawing.specs.Notes.{notes};
 ghost use Rattle.frame_arrows.specs.Runs.{arrows};
 
 use bus_drawing::{draw_each_told, draw_told};
@@ -8,7 +10,8 @@ use bus_script::{Sheet, Told};
 use frame_arrows::{draw_frames, draw_opening};
 use pgn_ids::Address;
 use script_commands::LineError;
-use segment_core::{Counts, DriveEnd, Refusal, Reply, Segment};
+use segment_core::{Counts, DriveEnd, Events, Refusal, Reply, Segment};
+use segment_drain::Drained;
 use std::alloc::{AllocError, Global};
 
 /// The stations, the frames that are put, and the events. Replies aren't drawn.
@@ -33,6 +36,16 @@ fn draw_put(out: &mut Vec<u8>, put: Option<Frame>) -> Result<(), AllocError>
         Some(frame) => draw_frames(out, [frame].as_slice()),
         None => Ok(()),
     }
+}
+
+/// The notes of the events of several calls, in their order: one part for each call that had some.
+fn draw_parts(out: &mut Vec<u8>, parts: &[Events]) -> Result<(), AllocError>
+    ensures { OnOk result (out.new.items ≡ out.old.items ++ notes (joined parts.now)) }
+{
+    for part in parts {
+        draw_told(out, part)?;
+    }
+    Ok(())
 }
 
 impl Sheet for Drawing {
@@ -107,6 +120,11 @@ impl Sheet for Drawing {
         draw_frames(&mut self.text, driven.frames.as_slice())?;
         draw_each_told(&mut self.text, &driven.events)?;
         Ok(Told::Answered)
+    }
+
+    fn show_drained(&mut self, done: &Drained) -> Result<(), AllocError> {
+        draw_frames(&mut self.text, done.frames.as_slice())?;
+        draw_parts(&mut self.text, done.parts.as_slice())
     }
 
     ghost blank_text = { refl };

@@ -103,6 +103,7 @@ performs p (commands.Stations addresses) n h = made p addresses n h
 performs p (commands.Call call) n h = called p call n h
 performs p (commands.Refused cause) n h = refuses p cause n h
 performs p (commands.Drive from to turns) n h = tt
+performs p (commands.Drain turns) n h = tt
 performs p commands.Counts n h = tt
 
 counts : (p : Plan) (b : Bool) (command : Command) (n : ℕ) → CallsBelow p.made n → StepBelow (counted_by p b command) (n + 1)

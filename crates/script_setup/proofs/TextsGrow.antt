@@ -105,6 +105,7 @@ performs p (commands.Stations addresses) = made p addresses
 performs p (commands.Call call) = called p call
 performs p (commands.Refused cause) = refuses p cause
 performs p (commands.Drive from to turns) = tt
+performs p (commands.Drain turns) = tt
 performs p commands.Counts = tt
 
 -- with one line more that asks for a message

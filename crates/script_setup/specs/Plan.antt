@@ -114,6 +114,7 @@ performed_by p (commands.Stations addresses) = made_by p addresses
 performed_by p (commands.Call call) = called_by p call
 performed_by p (commands.Refused cause) = value_refused p cause
 performed_by p (commands.Drive from to turns) = Err UnknownCommand
+performed_by p (commands.Drain turns) = Err UnknownCommand
 performed_by p commands.Counts = Err UnknownCommand
 
 -- at most 64 lines ask for a message

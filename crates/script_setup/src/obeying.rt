@@ -132,6 +132,7 @@ fn perform(alloc: Global, setup: &mut Setup, command: Command) -> Result<(), Lin
         Command::Call(asked) => call(alloc, setup, asked),
         Command::Refused(cause) => refuse_value(alloc, setup, cause),
         Command::Drive { .. } => Err(LineError::Fault(Fault::UnknownCommand)),
+        Command::Drain { .. } => Err(LineError::Fault(Fault::UnknownCommand)),
         Command::Counts => Err(LineError::Fault(Fault::UnknownCommand)),
     }
 }

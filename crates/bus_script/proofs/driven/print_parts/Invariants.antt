@@ -1,7 +1,7 @@
 use Rattle.std.proofs.Common.{◌≡◌, ◌++◌, take}
 use Rattle.std.specs.List.{flat_map}
 use Rattle.script_text.specs.Replies.{event_lines}
-use Rattle.bus_script.proofs.driven.print_told.Given as goal
+use Rattle.bus_script.proofs.driven.print_parts.Given as goal
 
 abbrev pub invariant-loop-part : goal.invariant-loop-part
-invariant-loop-part l = l.out.items ≡ l.fn.out.items ++ flat_map event_lines (take l.part-index l.part-items)
+invariant-loop-part l = l.out.items ≡ l.fn.out.items ++ flat_map event_lines (take l.part-index l.parts)

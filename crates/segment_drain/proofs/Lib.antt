@@ -1,0 +1,4 @@
+pub mod Lowests
+pub mod Drains
+pub mod Rests
+pub mod Wholes
