@@ -329,7 +329,8 @@ impl Live {
         self.seats.is_called(station)
     }
 
-    /// Looks at no client of the station until one of them submits, if no submission of its clients is seen.
+    /// Looks at no client of the station until one of them submits, if no submission of its clients is seen. It is to be called only if
+    /// each was looked at since `is_called` and none was accepted: a ring that was not looked at again may have more.
     pub(crate) fn hush(&mut self, station: Address)
         ensures { self.new ≡ self.old }
     {

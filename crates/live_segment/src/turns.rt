@@ -114,14 +114,18 @@ impl Turn {
         self.accept(live, client);
     }
 
-    // Accepts once for each client of a station. Nobody looks at them while none has news.
+    // Accepts once for each client of a station. Nobody looks at them while none has news. If a submission was accepted, more may be
+    // in its ring that were announced already, so the clients are looked at again.
     #[inline(always)]
     fn accept_all(&mut self, live: &mut Live, station: Address)
         ensures { AcceptsBelow (length live.old.clients) station (point live.old self.old) (point live.new self.new) }
     {
         if live.is_called(station) {
+            let before = self.calls;
             self.accept_each(live, station);
-            live.hush(station);
+            if self.calls == before {
+                live.hush(station);
+            }
         }
     }
 

@@ -86,6 +86,30 @@ fn a_detached_client_makes_room_for_another(rt: HostRuntime) {
     drop(live);
 }
 
+// The third one comes while the second one is known, and waits to be seen.
+fn submit_between_turns(rt: &impl Abort, alloc: Global, live: &mut Live, first: &mut Client) {
+    submit(rt, first, R, alloc);
+    submit(rt, first, R, alloc);
+    live.station_turn(A);
+    submit(rt, first, R, alloc);
+    live.station_turn(A);
+    live.station_turn(A);
+    same(rt, accept(rt, live, first), Accepted::Empty);
+}
+
+fn attach_and_submit(rt: &impl Abort, alloc: Global, live: &mut Live) {
+    let mut first = client(rt, live, A);
+    submit_between_turns(rt, alloc, live, &mut first);
+    drop(first);
+}
+
+#[test]
+fn each_submission_is_accepted_in_some_turn(rt: HostRuntime) {
+    let mut live = three(&rt, rt.alloc());
+    attach_and_submit(&rt, rt.alloc(), &mut live);
+    drop(live);
+}
+
 // What the port was given is received after its closing.
 fn close_by_port(
     rt: &impl Abort,
