@@ -268,14 +268,8 @@ impl Station {
                     source: from,
                     kind: packet_kind(*kind, to),
                 };
-                self.sessions.receive_part(
-                    &self.ports,
-                    key,
-                    &packet,
-                    true,
-                    now,
-                    &mut self.queue,
-                )
+                self.sessions
+                    .receive_part(&self.ports, key, &packet, true, now, &mut self.queue)
             }
             _ => {
                 self.hear_telling(heard, from, to, true, now, told)?;

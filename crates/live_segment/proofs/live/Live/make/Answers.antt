@@ -211,4 +211,3 @@ returns-in_default-clause-not_refused c =
     let i = c.self.inside in
     let few : count_since i.calls.pieces i.calls.items < 1000000 = subst (λ (v : LiveView). stored_calls v < 1000000) (sym c.self.view_is) c.requires.few in
     subst (λ (v : LiveView). LacksMemory v c.args.call) c.self.view_is (lacks_memory (keep i.stopped i.calls.pieces) i.addresses.items i.segment i.calls.items i.seats.items i.doors.items c.args.call c.refusal_for.result c.self.invariant.0.at few c.in_default-refusal_for.is (λ room. c.refusal_for.ensures room ∙ ap (λ (x : Segment). refusal_of (called x (call_of c.args.call room))) c.in_default.ensures.err))
-
