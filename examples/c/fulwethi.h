@@ -11,7 +11,9 @@
  *     queue or a join sees to that);
  *   - no pointer is null, but that to the bytes of fulwethi_send and to the room of fulwethi_take if its length is 0; a pointer to n bytes has
  *     n bytes behind it;
- *   - where frames of the bus were lost, fulwethi_missed is called before a later frame is fed.
+ *   - where frames of the bus were lost, fulwethi_missed is called before a later frame is fed;
+ *   - a program that starts again at its address sends no message for 1,250 ticks: what others answer to its earlier ones may be under way, and
+ *     could acknowledge a new one that wasn't given.
  *
  * Memory comes from three functions, over malloc, that a program may define itself: examples/c/heap.c.
  *

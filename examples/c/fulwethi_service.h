@@ -19,6 +19,7 @@
  *     queue, an atomic or a join sees to that). Calls on different handles may be made at the same time;
  *   - no pointer is null, also where its length is 0; a pointer to room for n bytes has n bytes behind it;
  *   - where frames of the bus were lost, fulwethi_service_missed is called for each station before a later frame is fed;
+ *   - a program that starts again at its addresses submits no message for 1,250 ms (fulwethi.h says why);
  *   - malloc, realloc and free, or what stands for them, may be called by several threads at once.
  *
  * Rings: a client has 64 places for messages that its station didn't take over yet, and 64 for outcomes that it didn't read yet: while those

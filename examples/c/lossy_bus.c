@@ -1,8 +1,9 @@
 /* Three stations on a bus in memory, each with a clock of its own, and a queue of what came from the bus, which loses, repeats and delays frames.
  *
- *   lossy_bus COUNT [RULE [SEED [events]]]    so many messages. RULE is `reported`, by which each loss is told (fulwethi_missed), or one that breaks what
- *                                             the header asks, until the README's sentence doesn't hold: `unreported`, without that; or `early`, by which
- *                                             a frame counts as sent once it is in a mailbox of a controller that sends by identifier.
+ *   lossy_bus COUNT [RULE [SEED [events]]]    so many messages. RULE is `reported`, by which each loss is told (fulwethi_missed); `quiet`, by which programs also
+ *                                             start again, and send nothing for QUIET ticks; or one that breaks what the header asks, until the README's sentence
+ *                                             doesn't hold: `unreported`, without reports; `early`, by which a frame counts as sent once it is in a mailbox of a
+ *                                             controller that sends by identifier; or `restarted`, by which programs start again and send at once.
  *                                             `events` prints what happens, as a script
  *   lossy_bus play SCRIPT                     plays a script, and prints what comes of each line
  *
@@ -16,7 +17,7 @@
 #include <stdlib.h>
 #include <string.h>
 
-enum { STATIONS = 3, ALL = 255, PGN = 0xEF00, MOST = 6000, UNDER_WAY = 4, PORTS = 2, MAILBOXES = 3, PLACES = 512, ROOM = 300, MOST_MESSAGES = 1000000 };
+enum { STATIONS = 3, ALL = 255, PGN = 0xEF00, MOST = 6000, UNDER_WAY = 4, PORTS = 2, MAILBOXES = 3, PLACES = 512, ROOM = 300, QUIET = 1250, MOST_MESSAGES = 1000000 };
 enum { FRAME_MICROS = 540, IDLE_MICROS = 8000 }; /* how long a turn takes: a frame at 250 kbit/s; and while nothing comes */
 static const uint8_t ADDRESS[STATIONS] = {0x21, 0x35, 0x40};
 static const char *const OUTCOME[] = {"", "Acknowledged", "Broadcast", "Aborted", "TimedOut", "Overrun", "Cancelled", "Unreachable"};
@@ -41,6 +42,8 @@ struct station {
     uint64_t tick, passed;           /* its clock, and what has passed of the next tick, in millionths */
     uint32_t *numbers[STATIONS + 1]; /* its messages by destination and number, the last place to all */
     uint32_t sent[STATIONS + 1], waiting[STATIONS + 1], last[STATIONS][2];
+    uint32_t before[STATIONS + 1];   /* so many messages its program had sent before it started again */
+    uint64_t quiet_until;            /* it sends no message before this tick */
     uint32_t rate;                   /* of its clock, in thousandths */
     uint32_t losing, stalled, held;  /* how many frames it still loses; and how many turns its program and its controller still miss */
 };
@@ -48,8 +51,8 @@ struct station {
 static struct bus {
     struct station station[STATIONS];
     struct message *messages;
-    uint32_t most, count, given, lost, repeated, extended, jumps, changes, wrong, idle, outcomes[8];
-    int is_unreported, is_early, shows_events, shows_all;
+    uint32_t most, count, given, lost, repeated, extended, jumps, changes, restarts, wrong, idle, outcomes[8];
+    int is_unreported, is_early, is_restarted, is_quiet, shows_events, shows_all;
 } bus;
 
 static uint64_t seed;
@@ -103,7 +106,7 @@ static const char *fault_of(struct station *it, const struct fulwethi_event *eve
 static void end(struct station *it, const struct fulwethi_event *event) {
     int to = place_of(event->to);
     WANT(event->number >= 1 && event->number <= it->sent[to]);
-    struct message *message = &bus.messages[it->numbers[to][event->number]];
+    struct message *message = &bus.messages[it->numbers[to][it->before[to] + event->number]];
     WANT(event->outcome >= FULWETHI_ACKNOWLEDGED && event->outcome <= FULWETHI_UNREACHABLE);
     if (bus.shows_all) printf("  outcome %02X %02X %u %s\n", address_of(it), event->to, (uint32_t)event->number, OUTCOME[event->outcome]);
     if (message->outcome) wrong("it had an outcome before");
@@ -141,12 +144,12 @@ static int do_send(struct station *it, uint32_t address, uint32_t len) {
     static uint8_t bytes[MOST];
     uint64_t number;
     int to = place_of(address);
-    if (bus.count == bus.most || len < 9 || len > MOST || (to == STATIONS && address != ALL)) return 0;
+    if (bus.count == bus.most || it->tick < it->quiet_until || len < 9 || len > MOST || (to == STATIONS && address != ALL)) return 0;
     uint32_t message = bus.count + 1;
     for (size_t i = 0; i < len; i++) bytes[i] = byte_of(message, i);
     if (fulwethi_send(&it->node, (uint8_t)address, PGN, bytes, len, &number)) return 0;
     WANT(number == ++it->sent[to]);
-    it->numbers[to][number] = bus.count = message;
+    it->numbers[to][it->before[to] + number] = bus.count = message;
     it->waiting[to]++;
     bus.messages[message] = (struct message){.len = (uint16_t)len, .from = (uint8_t)address_of(it), .to = (uint8_t)address};
     return 1;
@@ -179,6 +182,19 @@ static int do_pause(struct station *it, uint32_t at) {
     struct port *port = &it->port[at];
     WANT((port->is_paused ? fulwethi_resume : fulwethi_pause)(&it->node, port->number) == FULWETHI_DONE);
     port->is_paused = !port->is_paused;
+    return 1;
+}
+
+/* Its program starts again: what it had is gone, the frame in its controller too unless it is on the bus. Its messages have no outcome any more. */
+static int do_restart(struct station *it) {
+    fulwethi_free(&it->node);
+    WANT(fulwethi_new(&it->node, (uint8_t)address_of(it)) == FULWETHI_DONE);
+    WANT(fulwethi_clock(&it->node, it->tick) == FULWETHI_DONE);
+    for (int at = 0; at < PORTS; at++) it->port[at] = (struct port){0};
+    for (int at = 0; at < MAILBOXES; at++) it->holds[at] = EMPTY;
+    for (int to = 0; to <= STATIONS; to++) it->before[to] += it->sent[to], it->sent[to] = it->waiting[to] = 0;
+    it->read = it->written = 0;
+    it->quiet_until = it->tick + (bus.is_quiet ? QUIET : 0);
     return 1;
 }
 
@@ -273,9 +289,9 @@ static int do_read(struct station *it) {
     return 1;
 }
 
-enum verb { SEND, CANCEL, OPEN, CLOSE, PAUSE, TICK, HAND, PUT, LOSE, AGAIN, READ, VERBS };
+enum verb { SEND, CANCEL, OPEN, CLOSE, PAUSE, TICK, RESTART, HAND, PUT, LOSE, AGAIN, READ, VERBS };
 static const struct { const char *word; int numbers; } VERB[VERBS] = {
-    {"send", 2}, {"cancel", 2}, {"open", 2}, {"close", 1}, {"pause", 1}, {"tick", 1}, {"hand", 0}, {"put", 0}, {"lose", 0}, {"again", 0}, {"read", 0}};
+    {"send", 2}, {"cancel", 2}, {"open", 2}, {"close", 1}, {"pause", 1}, {"tick", 1}, {"restart", 0}, {"hand", 0}, {"put", 0}, {"lose", 0}, {"again", 0}, {"read", 0}};
 
 static int make(struct station *it, enum verb verb, uint32_t a, uint32_t b) {
     switch (verb) {
@@ -285,6 +301,7 @@ static int make(struct station *it, enum verb verb, uint32_t a, uint32_t b) {
     case CLOSE: return do_close(it, a);
     case PAUSE: return do_pause(it, a);
     case TICK: return do_tick(it, a);
+    case RESTART: return do_restart(it);
     case HAND: return do_hand(it);
     case PUT: return do_put(it);
     case LOSE: return do_lose(it);
@@ -366,6 +383,7 @@ static void turn(void) {
         if (chance(2)) act(it, HAND, 0, 0);
         if (!chance(4)) send_any(it);
         change_ports(it);
+        if ((bus.is_restarted || bus.is_quiet) && !chance(300)) bus.restarts += act(it, RESTART, 0, 0);
     }
 }
 
@@ -403,17 +421,19 @@ static int run(uint32_t messages) {
     if (!bus.shows_events) {
         printf("messages %u given %u\n ", bus.count, bus.given);
         for (int of = FULWETHI_ACKNOWLEDGED; of <= FULWETHI_UNREACHABLE; of++) printf(" %s %u", OUTCOME[of], bus.outcomes[of]);
-        printf("\n  acknowledged by ETP %u, frames lost %u, repeated %u, jumps of clocks %u, changes of ports %u, wrong %u\n", bus.extended, bus.lost, bus.repeated,
-            bus.jumps, bus.changes, bus.wrong);
+        printf("\n  acknowledged by ETP %u, frames lost %u, repeated %u, jumps of clocks %u, changes of ports %u, restarts %u, wrong %u\n", bus.extended, bus.lost,
+            bus.repeated, bus.jumps, bus.changes, bus.restarts, bus.wrong);
     }
     finish();
-    return (bus.is_unreported || bus.is_early) ? !bus.wrong : bus.wrong;
+    return (bus.is_unreported || bus.is_early || bus.is_restarted) ? !bus.wrong : bus.wrong;
 }
 
 static int is_rule(const char *word) {
     bus.is_unreported = !strcmp(word, "unreported");
     bus.is_early = !strcmp(word, "early");
-    return bus.is_unreported || bus.is_early || !strcmp(word, "reported");
+    bus.is_restarted = !strcmp(word, "restarted");
+    bus.is_quiet = !strcmp(word, "quiet");
+    return bus.is_unreported || bus.is_early || bus.is_restarted || bus.is_quiet || !strcmp(word, "reported");
 }
 
 /* A line of a script: 0 if it isn't one. */
@@ -453,7 +473,7 @@ int main(int count, char **words) {
     long messages = count > 1 ? atol(words[1]) : 0;
     bus.shows_events = count == 5 && !strcmp(words[4], "events");
     if (messages < 1 || messages > MOST_MESSAGES || (count > 2 && !is_rule(words[2])) || (count > 4 && !bus.shows_events)) {
-        return fprintf(stderr, "usage: %s COUNT [reported|unreported|early [SEED [events]]] | play SCRIPT\n", words[0]), 2;
+        return fprintf(stderr, "usage: %s COUNT [reported|quiet|unreported|early|restarted [SEED [events]]] | play SCRIPT\n", words[0]), 2;
     }
     seed = count > 3 ? strtoull(words[3], NULL, 10) : 20;
     if (bus.shows_events) puts(words[2]);

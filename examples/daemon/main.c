@@ -29,6 +29,7 @@ enum {
     MOST_WORDS = 5,
     CHUNK = 65536,                      /* so much is read at once; above half of it the text that nobody reads gets no more */
     END_WAIT = 1000,                    /* ms: so long it goes on once it is to end */
+    QUIET = 1250,                       /* ms: before it sends, so that what peers answer to a daemon before it is over */
     /* What a line may come to, beside the service's codes. */
     BAD_WORD = 1000, WRONG_NUMBER, UNKNOWN_COMMAND, TOO_LONG, NO_ROOM, CUT_OFF, ANSWERED
 };
@@ -39,6 +40,7 @@ uint8_t addresses[MOST_STATIONS];
 size_t station_count;
 uint64_t now;
 static uint64_t due, ends_at; /* when there is something to do by itself; when it ends at the latest, or 0 if it isn't to end */
+static uint64_t begins_at;    /* when it reads the first command */
 static int signals, signal_fd, waits, is_json;
 
 /* A port, which may have messages in its inbox after it was closed; and a message that has no outcome yet. */
@@ -332,7 +334,8 @@ static void turn(void) {
     due = ends_at ? ends_at : UINT64_MAX;
     is_later(fulwethi_service_clock(&service, now));
     bus_receive();
-    if (!ends_at) read_commands();
+    if (now < begins_at) wake(begins_at);
+    else if (!ends_at) read_commands();
     do {
         if (is_later(fulwethi_service_turn(&service, 16, &made))) made = 0;
         bus_transmit();
@@ -352,7 +355,7 @@ static int await(void) {
     for (size_t k = 0; k < port_count; k++) is_busy |= ports[k].is_open;
     if (ends_at && (!is_busy || signals > 1 || now >= ends_at)) return 0;
     struct pollfd from[] = {
-        {.fd = bus_wait(), .events = POLLIN}, {.fd = has_ended || ends_at || !has_room() ? -1 : STDIN_FILENO, .events = POLLIN},
+        {.fd = bus_wait(), .events = POLLIN}, {.fd = has_ended || ends_at || now < begins_at || !has_room() ? -1 : STDIN_FILENO, .events = POLLIN},
         {.fd = closed ? -1 : STDOUT_FILENO, .events = out.at < out.len ? POLLOUT : 0}, {.fd = signal_fd, .events = POLLIN}};
     uint64_t left = due > now ? due - now : 0;
     if (poll(from, 4, left > INT_MAX ? -1 : (int)left) < 0 && errno != EINTR && errno != ENOMEM) abort();
@@ -405,6 +408,7 @@ int main(int count, char **words) {
     for (int fd = 0; fd < 2; fd++)
         if ((flags[fd] = fcntl(fd, F_GETFL)) < 0 || fcntl(fd, F_SETFL, flags[fd] | O_NONBLOCK) < 0) return say("j1939d: %s\n", strerror(errno)), 1;
     now = microseconds(CLOCK_MONOTONIC) / 1000;
+    begins_at = now + QUIET;
     line = 1;
     do turn();
     while (await());
