@@ -5,7 +5,7 @@ use Rattle.segment_law.specs.declared.call.Call.TheVariants.{Transmit}
 use Rattle.segment_law.proofs.Drifting.{stands_drifts}
 use Rattle.one_station.proofs.Own.{own_passed}
 use Rattle.one_station.proofs.Resting.{room_on_bus, looked_own}
-use Rattle.one_station.proofs.node.Node.pass_own.Goals as goal
+use Rattle.one_station.proofs.node.Node.pass_apart.Goals as goal
 
 pub put-requires-clause-room : goal.put-requires-clause-room
 put-requires-clause-room c = room_on_bus c.self.inside.address c.self.inside.segment (Transmit c.self.inside.address) refl c.self.invariant.stood c.self.invariant.looked
