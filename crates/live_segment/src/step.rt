@@ -39,7 +39,7 @@ pub(crate) fn make_telling(
     ensures stands { (addresses : List Address) (steps : Record) → StandsAt addresses steps segment.old → IfOk result (λ m. StandsAt addresses (steps ++ (call, reply_with m told.new) ∷ []) segment.new) }
     ensures follows { (addresses : List Address) (steps : Record) → StandsAt addresses steps segment.old → IfOk result (λ m. Follows segment.old call segment.new (reply_with m told.new)) }
 {
-    segment.apply_telling(call, told)
+    segment.apply_apart(call, told)
 }
 
 /// `make_telling` with room, unless the call may give a message: then this returns None, and nothing has changed yet. A Take may give

@@ -4,3 +4,4 @@ pub mod Alone
 pub mod Own
 pub mod Resting
 pub mod Fronts
+pub mod AtOnce

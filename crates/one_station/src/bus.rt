@@ -1,5 +1,7 @@
 //! Frames from the bus and for the bus.
-ghost use Rattle.std.specs.Prelude.{◌≡◌, None, IfOk, IfErr, OnOk, OnErr};
+ghost use Rattle.std.specs.Prelude.{◌≡◌, None, Ok, IfOk, IfErr, OnOk, OnErr};
+ghost use Rattle.std.specs.Bool.{OnTrue, OnFalse};
+ghost use Rattle.one_station.specs.declared.error.Fed.TheVariants.{Taken};
 ghost use Rattle.segment_law.specs.Readers.{front_at, next_pump};
 ghost use Rattle.one_station.specs.declared.error.NodeError.TheVariants.{OutOfMemory};
 ghost use Rattle.segment_law.specs.declared.call.Call.TheVariants.{Pump};
@@ -8,11 +10,12 @@ ghost use Rattle.one_station.specs.Answers.{IsAnswered, IsFed, IsTakenIn, IsSent
 
 use crate::error::{Fed, NodeError};
 use crate::look::{look, pass, put};
-use crate::node::{Node, make_one};
+use crate::node::{Node, ended, make_one};
 use broadcast_law::stations_queue_their_own;
 use bus_frame::Frame;
 use pgn_ids::{Address, read_id};
-use segment_core::{Call, Refusal};
+use segment_core::{Call, Events, Refusal};
+use std::alloc::AllocError;
 
 /// How many frames the transmit queue holds.
 const QUEUE_LIMIT: usize = 64;
@@ -52,8 +55,50 @@ impl Node {
         None
     }
 
-    // Any other frame is put on the inner bus, unless that refuses it, and the station takes it.
+    // Any other frame is put on the inner bus, unless that refuses it, and the station takes it. Usually both are done at once.
+    #[inline(always)]
     fn take_in(&mut self, frame: Frame) -> Result<Fed, NodeError>
+        requires { first_cause self.old frame None ≡ None }
+        ensures { IsTakenIn self.old frame self.new result }
+    {
+        match self.take_at_once(&frame) {
+            Ok(true) => Ok(Fed::Taken),
+            Ok(false) => self.take_apart(frame, true),
+            Err(_) => self.take_apart(frame, false),
+        }
+    }
+
+    // It is put and taken at once, with room, if there is a place for its events, and the bus does that. False if not; then, and if memory
+    // is refused, nothing changes.
+    #[inline(always)]
+    fn take_at_once(&mut self, frame: &Frame) -> Result<bool, AllocError>
+        requires { first_cause self.old frame.now None ≡ None }
+        ensures taken { IfOk result (λ is_taken. OnTrue is_taken (IsTakenIn self.old frame.now self.new (Ok Taken))) }
+        ensures other { IfOk result (λ is_taken. OnFalse is_taken (self.new ≡ self.old)) }
+        ensures err { OnErr result (self.new ≡ self.old) }
+    {
+        if !self.told.has_place_to_give(self.owed) {
+            return Ok(false);
+        }
+        let mut events = Events::none(self.alloc);
+        match self
+            .segment
+            .inject_and_take(self.address, frame, &mut events)
+        {
+            Ok(true) => {}
+            Ok(false) => return Ok(false),
+            Err(error) => return Err(error),
+        }
+        if !events.is_empty() {
+            self.owed = self.owed.saturating_sub(ended(&events));
+            self.told.keep(events);
+        }
+        Ok(true)
+    }
+
+    // It is put, and then taken: with room, if it is to be tried, or without.
+    #[inline(never)]
+    fn take_apart(&mut self, frame: Frame, room: bool) -> Result<Fed, NodeError>
         requires { first_cause self.old frame None ≡ None }
         ensures { IsTakenIn self.old frame self.new result }
     {
@@ -71,6 +116,7 @@ impl Node {
             &mut self.told,
             &mut self.owed,
             station,
+            room,
         ))
     }
 
@@ -140,8 +186,20 @@ impl Node {
         self.pass_own()
     }
 
-    // The first frame of the transmit queue is put on the inner bus. It is the station's own, which passes it by.
+    // The first frame of the transmit queue is put on the inner bus. It is the station's own, which passes it by: usually at once.
+    #[inline(always)]
     fn pass_own(&mut self) -> Result<(), NodeError>
+        ensures { IsPassedBy self.old self.new result }
+    {
+        if self.segment.transmit_and_take(self.address) {
+            return Ok(());
+        }
+        self.pass_apart()
+    }
+
+    // It is put, and then passed by.
+    #[inline(never)]
+    fn pass_apart(&mut self) -> Result<(), NodeError>
         ensures { IsPassedBy self.old self.new result }
     {
         // A law: the frame is the station's own. The call does nothing.

@@ -48,7 +48,7 @@ pub(crate) fn pass(segment: &mut Segment, station: Address)
     }
 }
 
-/// The station takes the next frame, with room or, if that finds no memory, without.
+/// The station takes the next frame: with room, if that is to be tried and finds memory, or without.
 #[inline(always)]
 pub(crate) fn look(
     alloc: Global,
@@ -56,6 +56,7 @@ pub(crate) fn look(
     told: &mut Told,
     owed: &mut usize,
     station: Address,
+    room: bool,
 ) -> Fed
     requires passes { (room : Bool) → IsOk (called segment.old (Take station room)) }
     requires sound { IsFrontFirst told.old }
@@ -63,6 +64,9 @@ pub(crate) fn look(
     ensures looked { HasLooked segment.old (told_events told.old) station segment.new (told_events told.new) result }
     ensures sound { IsFrontFirst told.new }
 {
+    if !room {
+        return look_without_room(alloc, segment, told, owed, station);
+    }
     if look_with_room(alloc, segment, told, owed, station) {
         return Fed::Taken;
     }

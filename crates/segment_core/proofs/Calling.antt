@@ -7,7 +7,7 @@ use Rattle.std.proofs.lemmas.Option.{slice_get_read, slice_get-get_or}
 use Rattle.bus_frame.specs.Frames.{CanFrame}
 use Rattle.bus_order.specs.Bus as bus
 use Rattle.bus_order.specs.declared.log.PutError.{PutError}
-use Rattle.bus_order.specs.declared.log.PutError.TheVariants.{BusFull, OutOfMemory}
+use Rattle.bus_order.specs.declared.log.PutError.TheVariants.{BusFull}
 use Rattle.message_events.specs.declared.event.Event.{Event}
 use Rattle.pgn_ids.specs.declared.address.Address.{Address}
 use Rattle.tx_queue.specs.Queue.{front, behind}

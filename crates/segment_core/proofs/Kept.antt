@@ -1,5 +1,5 @@
 -- The segment that is kept, after a call of one station.
-use Rattle.std.proofs.Common.{◌≡◌, ℕ, ◌<◌, ◌≤◌, Bool, true, false, not, cond, nat_lt, List, [], length, set, get_or, Option, Some, None, ◌==◌, Result, Ok, Err, IsOk, refl, sym, ap, ◌∙◌, subst, arith, length-set}
+use Rattle.std.proofs.Common.{◌≡◌, ℕ, ◌<◌, ◌≤◌, Bool, true, false, cond, nat_lt, List, [], length, set, get_or, Option, Some, None, Result, Ok, Err, IsOk, refl, sym, ap, ◌∙◌, subst, arith, length-set}
 use Rattle.std.specs.Prelude.{slice_get, OnSome, IfSome, IfNone}
 use Rattle.std.specs.Vec.{with_item}
 use Rattle.std.proofs.lemmas.List.{set-get_or}
@@ -19,7 +19,7 @@ use Rattle.station_core.specs.declared.refused.Refused.{Refused as Cause}
 use Rattle.station_core.specs.declared.refused.Refused.TheVariants as cause
 use Rattle.station_core.specs.Taking as taking
 use Rattle.segment_law.specs.Readers.{frame_for, wanted_with, wanted}
-use Rattle.segment_core.specs.Answers.{IsAnswer, IsAnswerBy}
+use Rattle.segment_core.specs.Answers.{IsAnswerBy}
 use Rattle.segment_core.specs.declared.stop.Stop.{Stop}
 use Rattle.segment_core.specs.declared.stop.Stop.TheVariants.{OutOfMemory}
 use Rattle.segment_law.specs.Segment.{Segment, place_of, station_of, with_station, counted, counted_look, counted_repeat}

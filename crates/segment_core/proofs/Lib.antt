@@ -18,3 +18,4 @@ pub mod Together
 pub mod Undisturbed
 pub mod Dues
 pub mod Nexts
+pub mod AtOnce

@@ -14,3 +14,4 @@ pub mod Undisturbed
 pub mod Due
 pub mod Promise
 pub mod Next
+pub mod PutTaken

@@ -1,7 +1,7 @@
 //! One call on a segment.
 ghost use Rattle.std.specs.Prelude.{◌≡◌, ℕ, ◌<◌, ◌∷◌, ◌++◌, [], true, false, slice_index, List, IfOk, OnErr, OnSome, IfSome, IfNone, IsErrOf, IsOk};
 ghost use Rattle.segment_law.specs.Readers.{wanted};
-ghost use Rattle.segment_law.specs.declared.call.Call.TheVariants.{Take};
+ghost use Rattle.segment_law.specs.declared.call.Call.TheVariants.{Inject, Take};
 ghost use Rattle.segment_law.specs.Calls.{are_bytes, is_address, is_call, called, applied};
 ghost use Rattle.segment_law.specs.Record.{Record, StandsAt};
 ghost use Rattle.pgn_ids.specs.declared.address.Address.{Address as AddressValue};
@@ -12,6 +12,7 @@ ghost use Rattle.segment_core.specs.Promise.{KeepsPromise};
 use crate::made::{Made, Tried};
 use crate::segment::Segment;
 use crate::stop::Stop;
+use bus_frame::Frame;
 use connection_law::the_headline_holds;
 use pgn_ids::Address;
 use segment_law::{Call, Reply};
@@ -36,8 +37,16 @@ pub(crate) fn one_byte(address: Address)
     ensures { is_address address ≡ true }
 {}
 
-// What a call names has values of its types.
-fn fits(call: &Call)
+/// A frame that is put has values of its types.
+pub(crate) fn fits_frame(frame: &Frame)
+    ensures { is_call (Inject frame.now) ≡ true }
+{
+    let _in_range = frame.id();
+    octets(frame.bytes());
+}
+
+/// What a call names has values of its types.
+pub(crate) fn fits(call: &Call)
     ensures { is_call call.now ≡ true }
 {
     match call {
@@ -52,17 +61,14 @@ fn fits(call: &Call)
         Call::Pump { to, .. } => {
             one_byte(*to);
         }
-        Call::Inject { frame } => {
-            let _in_range = frame.id();
-            octets(frame.bytes());
-        }
+        Call::Inject { frame } => fits_frame(frame),
         _ => {}
     }
 }
 
-// A call that may have events is done unless it is stopped.
+/// A call that may have events is done unless it is stopped.
 #[inline(always)]
-fn done(made: Result<(), Stop>) -> Result<Made, Stop>
+pub(crate) fn done(made: Result<(), Stop>) -> Result<Made, Stop>
     ensures { result ≡ done_unless made }
 {
     match made {
@@ -150,10 +156,11 @@ impl Segment {
         }
     }
 
-    // The call, or why it isn't done. What a call does is made apart, so that the room for its values is taken by that call alone.
+    /// The call, or why it isn't done. The usual three are inlined, since who makes one names it; what any other does is made apart, so that
+    /// the room for its values is taken by that call alone.
     #[inline(always)]
     #[tactic(auto, unfolding(segment_law::specs::Calls::called))]
-    fn call(&mut self, call: Call, told: &mut Events) -> Result<Made, Stop>
+    pub(crate) fn call(&mut self, call: Call, told: &mut Events) -> Result<Made, Stop>
         requires { told.old ≡ [] }
         ensures answer { IsMade (called self.old call) self.old self.new told.new result }
         ensures silent { IsSilent told.new result }
@@ -172,9 +179,9 @@ impl Segment {
                 pgn,
                 bytes,
             } => self.send(from, to, pgn, bytes),
-            Call::Pump { station, to } => done(self.pump(station, to, told)),
-            Call::Transmit { station } => done(self.transmit(station)),
-            Call::Take { station, room } => done(self.take(station, room, told)),
+            Call::Pump { station, to } => done(self.pump_telling(station, to, told)),
+            Call::Transmit { station } => done(self.transmit_here(station)),
+            Call::Take { station, room } => done(self.take_telling(station, room, told)),
             Call::TakeAgain { station, room } => done(self.take_again(station, room, told)),
             Call::Overrun { station, n } => done(self.overrun(station, n, told)),
             Call::Tick { n } => self.tick(n),

@@ -21,6 +21,15 @@ impl Segment {
         ensures answer { IsAnswerBy (λ _. Done []) (at_address self.old station (transmits self.old)) self.old self.new result }
         ensures memory { IsErrOf result Stop.OutOfMemory → KeepsTwo self.old }
     {
+        self.transmit_here(station)
+    }
+
+    /// `transmit`, for a caller that knows which call it makes.
+    #[inline(always)]
+    pub(crate) fn transmit_here(&mut self, station: Address) -> Result<(), Stop>
+        ensures answer { IsAnswerBy (λ _. Done []) (at_address self.old station (transmits self.old)) self.old self.new result }
+        ensures memory { IsErrOf result Stop.OutOfMemory → KeepsTwo self.old }
+    {
         let Some(place) = self.place_of(station) else {
             return Err(Stop::Refused(Refusal::NoSuchStation));
         };

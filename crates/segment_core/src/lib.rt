@@ -4,6 +4,8 @@
 #![tactic(auto)]
 
 mod abreast;
+mod apart;
+mod at_once;
 mod call;
 mod clock;
 mod counting;

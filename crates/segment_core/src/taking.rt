@@ -159,9 +159,9 @@ impl Segment {
         self.bus.frame(self.bus.len() - waiting + 1)
     }
 
-    // Counts the result of a station's look at a frame.
+    /// Counts the result of a station's look at a frame.
     #[inline(always)]
-    fn looked(&mut self, is_malformed: bool, told: &Events)
+    pub(crate) fn looked(&mut self, is_malformed: bool, told: &Events)
         ensures { self.new ≡ record self.old { counts = counted (counted_look self.old.counts is_malformed) told.now } }
     {
         count_look(&mut self.counts, is_malformed);

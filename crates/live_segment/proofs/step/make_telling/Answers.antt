@@ -13,8 +13,8 @@ use Rattle.live_segment.proofs.step.make_telling.Goals as goal
 pub returns-clause-follows : goal.returns-clause-follows
 returns-clause-follows c addresses steps h =
     let old = c.args.segment.now in
-    let new = c.apply_telling.new.self in
+    let new = c.apply_apart.new.self in
     let call = c.args.call in
-    let told = c.apply_telling.new.told in
-    on_ok (λ (m : Made). applied old call ≡ (new, reply_with m told)) (λ (m : Made). Follows old call new (reply_with m told)) c.apply_telling.result
-    (λ m e. subst (λ (x : Segment × Reply). Follows old call x.0 x.1) e (follows addresses steps old (stands_drifts addresses steps old h) call)) c.apply_telling.ensures.ok
+    let told = c.apply_apart.new.told in
+    on_ok (λ (m : Made). applied old call ≡ (new, reply_with m told)) (λ (m : Made). Follows old call new (reply_with m told)) c.apply_apart.result
+    (λ m e. subst (λ (x : Segment × Reply). Follows old call x.0 x.1) e (follows addresses steps old (stands_drifts addresses steps old h) call)) c.apply_apart.ensures.ok

@@ -3,7 +3,7 @@ use Rattle.std.specs.Prelude.{is_err}
 use Rattle.bus_order.specs.Bus.{is_full}
 use Rattle.segment_core.proofs.Kept.{inside_kept, said}
 use Rattle.segment_core.proofs.Calling.{had_room, transmits_here}
-use Rattle.segment_core.proofs.segment.Segment.transmit.Goals as goal
+use Rattle.segment_core.proofs.segment.Segment.transmit_here.Goals as goal
 
 pub invariant_of-self : goal.invariant_of-self
 invariant_of-self c =

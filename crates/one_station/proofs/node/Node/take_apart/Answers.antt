@@ -5,7 +5,7 @@ use Rattle.one_station.specs.Told.{told_events}
 use Rattle.one_station.specs.Answers.{as_error}
 use Rattle.one_station.proofs.Made.{took_in}
 use Rattle.one_station.proofs.Resting.{may_feed, none_of, room_on_bus, comes_to_take, looked_in}
-use Rattle.one_station.proofs.node.Node.take_in.Goals as goal
+use Rattle.one_station.proofs.node.Node.take_apart.Goals as goal
 
 pub put-requires-clause-room : goal.put-requires-clause-room
 put-requires-clause-room c = room_on_bus c.self.inside.address c.self.inside.segment (Inject c.args.frame) refl c.self.invariant.stood c.self.invariant.looked
