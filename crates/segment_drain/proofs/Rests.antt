@@ -46,7 +46,7 @@ use Rattle.segment_drain.specs.declared.kind.Kind.TheVariants as kind
 
 -- Lists
 
-any_at : {A : Type 0} (test : A → Bool) (xs : List A) (i : ℕ) (x : A) → slice_get xs i ≡ Some x → test x ≡ true → list_any test xs ≡ true
+pub any_at : {A : Type 0} (test : A → Bool) (xs : List A) (i : ℕ) (x : A) → slice_get xs i ≡ Some x → test x ≡ true → list_any test xs ≡ true
 any_at test xs i x at e = list_any_at test xs i x (slice_get_within xs i x at) (subst (λ y. test y ≡ true) (sym (get_or_from_slice_get xs i x x at)) e)
 
 each_at : {A : Type 0} (P : A → Type 0) (xs : List A) (i : ℕ) (x : A) → All P xs → slice_get xs i ≡ Some x → P x
@@ -65,7 +65,7 @@ is_done : Reply → Bool
 is_done (Done events) = true
 is_done reply = false
 
-done_ok : (seg : Segment) (call : Call) (events : List Event) → (applied seg call).1 ≡ Done events → is_ok (called seg call) ≡ true
+pub done_ok : (seg : Segment) (call : Call) (events : List Event) → (applied seg call).1 ≡ Done events → is_ok (called seg call) ≡ true
 unfolding is_done
 done_ok seg call events e = by (called seg call) e
   where
@@ -245,10 +245,10 @@ or_ends : (o : Option Address) (call : Address → Call) (other : Next) (why : D
 or_ends None call other why e = (refl, e)
 or_ends (Some a) call other why e = absurd (makes_or_ends (call a) why e)
 
-none_can : (seg : Segment) (kind : Kind) (n : ℕ) → lowest seg kind ≡ None → n < 254 → can seg kind (node n) ≡ false
+pub none_can : (seg : Segment) (kind : Kind) (n : ℕ) → lowest seg kind ≡ None → n < 254 → can seg kind (node n) ≡ false
 none_can seg kind n e l = none_found (λ k. can seg kind (node k)) 254 n (none_of node (least_below (λ k. can seg kind (node k)) 254) e) l
 
-puts_or_blocked : (b : Bool) (y : Segment × Reply) → is_none (refusal_of (cond b (Err refusal.BusFull) (Ok y))) ≡ false → is_for_bus (refusal_of (cond b (Err refusal.BusFull) (Ok y))) ≡ false → ⊥
+pub puts_or_blocked : (b : Bool) (y : Segment × Reply) → is_none (refusal_of (cond b (Err refusal.BusFull) (Ok y))) ≡ false → is_for_bus (refusal_of (cond b (Err refusal.BusFull) (Ok y))) ≡ false → ⊥
 puts_or_blocked true y e q = true≢false q
 puts_or_blocked false y e q = true≢false e
 
