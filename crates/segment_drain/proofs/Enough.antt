@@ -125,13 +125,13 @@ module _ (falls : WorkFalls) (overruns_fall : OverrunsFall) (addresses : List Ad
   -- a turn ends it as none, as at rest, as held, or since the last place of the bus is used
   abbrev Fair : Segment → Option DrainEnd → Type 0
   Fair seg None = Unit {0}
-  Fair seg (Some end.Rest) = Unit {0}
+  Fair seg (Some end.Rest) = bus_len seg.bus + work (paid hold) seg ≤ bus_len start.bus + work (paid hold) start
   Fair seg (Some end.Held) = Unit {0}
   Fair seg (Some (end.Refused cause)) = IsOut seg
   Fair seg (Some why) = ⊥
 
   end_fair : (n : ℕ) → (at_turn n).ended ≡ None → (why : DrainEnd) → Goes hold (at_turn n).segment (End why) → Fair (at_turn n).segment (Some why)
-  end_fair n on end.Rest g = tt
+  end_fair n on end.Rest g = (turns_lessen n).places on
   end_fair n on (end.Refused cause) g = record { last = g; before = (turns_lessen n).places on }
   end_fair n on end.Held g = absurd g
   end_fair n on end.Turns g = absurd g
@@ -191,6 +191,22 @@ module _ (falls : WorkFalls) (overruns_fall : OverrunsFall) (addresses : List Ad
       by : (o : Option DrainEnd) → d.ended ≡ o → IsOut (last_look d).segment
       by None q = subst (λ (x : Drain). IsOut x.segment) (sym (last_on d q)) (looked_fair n q (next_of d.segment) cause (goes_at n (turns_lessen n).stations) (ap (λ (x : Drain). x.ended) (sym (last_on d q)) ∙ e))
       by (Some why) q = subst (λ (x : Drain). IsOut x.segment) (sym (last_off d why q)) (ended_fair n why (end.Refused cause) q e)
+
+  looked_within : (n : ℕ) → (at_turn n).ended ≡ None → (x : Next) → Goes hold (at_turn n).segment x → Some (end_at x) ≡ Some end.Rest → bus_len (at_turn n).segment.bus + work (paid hold) (at_turn n).segment ≤ bus_len start.bus + work (paid hold) start
+  looked_within n on (Make call) g e = absurd (cc)
+  looked_within n on (End why) g e = subst (Fair (at_turn n).segment) e (end_fair n on why g)
+
+  -- at rest there are places for what is left
+  pub rest_within : (n : ℕ) → (drained start n).ended ≡ Some end.Rest → bus_len (drained start n).segment.bus + work (paid hold) (drained start n).segment ≤ bus_len start.bus + work (paid hold) start
+  unfolding drained
+  rest_within n e = by (at_turn n).ended refl
+    where
+      d : Drain
+      d = at_turn n
+
+      by : (o : Option DrainEnd) → d.ended ≡ o → bus_len (last_look d).segment.bus + work (paid hold) (last_look d).segment ≤ bus_len start.bus + work (paid hold) start
+      by None q = subst (λ (x : Drain). bus_len x.segment.bus + work (paid hold) x.segment ≤ bus_len start.bus + work (paid hold) start) (sym (last_on d q)) (looked_within n q (next_of d.segment) (goes_at n (turns_lessen n).stations) (ap (λ (x : Drain). x.ended) (sym (last_on d q)) ∙ e))
+      by (Some why) q = subst (λ (x : Drain). bus_len x.segment.bus + work (paid hold) x.segment ≤ bus_len start.bus + work (paid hold) start) (sym (last_off d why q)) (ended_fair n why end.Rest q e)
 
   -- Without a paused port and a session on hold
 

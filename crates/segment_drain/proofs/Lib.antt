@@ -6,3 +6,4 @@ pub mod Calm
 pub mod Timely
 pub mod Falling
 pub mod Enough
+pub mod Healing
