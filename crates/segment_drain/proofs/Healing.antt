@@ -50,7 +50,6 @@ use Rattle.segment_drain.specs.Chosen.{next_tick, next_of}
 use Rattle.segment_drain.specs.Drains.{drained, IsDrained}
 use Rattle.segment_drain.specs.Enough.{HasEnough}
 use Rattle.segment_drain.specs.Rested.{IsLate, IsAtRest}
-use Rattle.segment_drain.specs.Timely.{IsTimely, IsTimelyUnder, IsTimelyStanding, IsTimelyLane, IsTimelyStation, AreTimely}
 use Rattle.segment_drain.specs.declared.choosing.Next.TheVariants.{End}
 use Rattle.segment_drain.specs.declared.drained.Drained as ran
 use Rattle.segment_drain.specs.declared.end.DrainEnd.{DrainEnd}
@@ -58,8 +57,8 @@ use Rattle.segment_drain.specs.declared.end.DrainEnd.TheVariants as end
 use Rattle.segment_drain.proofs.Drains.{rest_is_fair}
 use Rattle.segment_drain.proofs.Enough.{rest_end, rest_within}
 use Rattle.segment_drain.proofs.Rests.{done_ok, works_ok, rest_parts, none_of}
-use Rattle.segment_drain.proofs.Timely.{AreSoon}
-use Rattle.segment_drain.proofs.Wholes.{drain_rests, drained_rests, drained_timely}
+use Rattle.segment_drain.proofs.Timely.{IsTimely, IsTimelyUnder, IsTimelyStanding, IsTimelyLane, IsTimelyStation, AreTimely, AreSoon, always_timely}
+use Rattle.segment_drain.proofs.Wholes.{drain_stands, drain_rests, drained_rests}
 
 get_of : (m : Inbound) (key : Key) (v : List ℕ × Incoming) → state_at m key ≡ Some v → finmap.get m key ≡ Some (Some v)
 get_of m key v e = by (finmap.get m key) e
@@ -218,8 +217,8 @@ never_late seg h none l late =
 
 module _ (falls : WorkFalls) (overruns_fall : OverrunsFall) (rests_law : Rests) (ends_law : Ends) (addresses : List Address) (steps : Record) (start : Segment) (h : StandsAt addresses steps start) where
   -- what the code returns
-  pub healed_end : (turns : ℕ) (done : ran.Drained) (seg : Segment) → (done.end ≢ end.OutOfMemory → IsDrained (drained start turns) seg done) → HasEnough start turns → AreTimely start → done.end ≢ end.OutOfMemory → seg.now + 1250 < 2 ^ 64 → HasRested seg × AllEnded (steps ++ (drained start turns).calls)
-  healed_end turns done seg is enough timely some last = by (drain_rests rests_law ends_law addresses steps start seg turns done h shown rest)
+  pub healed_end : (turns : ℕ) (done : ran.Drained) (seg : Segment) → (done.end ≢ end.OutOfMemory → IsDrained (drained start turns) seg done) → HasEnough start turns → done.end ≢ end.OutOfMemory → seg.now + 1250 < 2 ^ 64 → HasRested seg × AllEnded (steps ++ (drained start turns).calls)
+  healed_end turns done seg is enough some last = by (drain_rests rests_law ends_law addresses steps start seg turns done h shown rest)
     where
       shown : IsDrained (drained start turns) seg done
       shown = is some
@@ -234,7 +233,7 @@ module _ (falls : WorkFalls) (overruns_fall : OverrunsFall) (rests_law : Rests) 
       same = sym shown.shown.segment
 
       soon : AreTimely seg
-      soon = subst AreTimely same (drained_timely start timely turns)
+      soon = subst AreTimely same (always_timely addresses (steps ++ (drained start turns).calls) (drained start turns).segment (drain_stands addresses steps start h turns))
 
       none : next_tick seg ≡ None
       none = subst (λ (s : Segment). next_tick s ≡ None) same (rest_parts (drained start turns).segment (drained_rests start turns ended)).tick

@@ -1,11 +1,14 @@
--- No call of a drain starts a timer that isn't due soon.
+-- Every timer is due soon, at every record.
 use Rattle.std.proofs.Common.{◌≡◌, ◌⊎◌, inl, inr, ℕ, zero, suc, ◌+◌, ◌-◌, ◌^◌, ◌<◌, ◌≤◌, min, max, ◌==◌, nat_lt, nat_le, Bool, true, false, cond, not, ◌&&◌, ◌||◌, List, [], ◌∷◌, ◌++◌, length, set, Option, Some, None, Ok, Err, refl, sym, ap, ◌∙◌, subst, arith, true≢false}
 use Rattle.std.specs.Prelude.{slice_get}
 use Rattle.std.proofs.lemmas.Option.{same_Some, none-some}
+use Rattle.std.specs.Ordering.{nat_cmp}
 use Rattle.std.specs.FinMap as finmap
+use Rattle.std.specs.FinMap.{get-empty}
 use Rattle.bus_frame.specs.Frames.{CanFrame}
 use Rattle.pgn_ids.specs.Address.{null_address}
 use Rattle.pgn_ids.specs.Pgn.{clean}
+use Rattle.pgn_ids.specs.Identifier.{meaning_of}
 use Rattle.pgn_ids.specs.declared.address.Address.{Address}
 use Rattle.tick_timers.specs.Timers.{Timer, is_due as is_timer_due}
 use Rattle.tick_timers.specs.declared.durations.TheConstants.{T3, T4, PROBE}
@@ -13,7 +16,7 @@ use Rattle.tx_queue.specs.Queue.{free_places, front, behind}
 use Rattle.bus_order.specs.Bus as bus
 use Rattle.tp_wire.specs.Kinds.{is_same_kind}
 use Rattle.tp_wire.specs.Reading.{reading}
-use Rattle.tp_wire.specs.declared.constants.TheConstants.{ETP_MAX_WINDOW}
+use Rattle.tp_wire.specs.declared.constants.TheConstants.{MIN_SIZE, ETP_MAX_WINDOW}
 use Rattle.tp_wire.specs.declared.outcome.Outcome.{Outcome}
 use Rattle.tp_wire.specs.declared.outcome.Outcome.TheVariants as outcome
 use Rattle.tp_wire.specs.declared.wire.Kind.{Kind}
@@ -24,7 +27,8 @@ use Rattle.tp_wire.specs.declared.wire.Wire.{Wire}
 use Rattle.tp_wire.specs.declared.wire.Wire.TheVariants.{Cm, Packet, Request, Ack}
 use Rattle.seg_cut.specs.Join.{wants_last}
 use Rattle.seg_cut.specs.Packets.{packet_count}
-use Rattle.port_table.specs.Ports.{Ports}
+use Rattle.port_table.specs.PortSet.{without_number}
+use Rattle.port_table.specs.Ports.{Ports, are_full, with_port, without_port, is_open, is_paused, with_paused}
 use Rattle.responder.specs.Unfinished.{Unfinished, begun as unfinished_begun, number_of, is_of_another}
 use Rattle.responder.specs.Window.{most_of}
 use Rattle.responder.specs.Asking.{asking}
@@ -58,11 +62,12 @@ use Rattle.originator.specs.declared.states.OutState.{OutState}
 use Rattle.originator.specs.declared.states.OutState.TheVariants.{AwaitCts, Sending, AwaitEnd}
 use Rattle.originator.specs.declared.states.Stepped.{Stepped}
 use Rattle.originator.specs.declared.states.Stepped.TheVariants.{On, Over}
+use Rattle.lane_core.specs.Cancel as lane-cancel
 use Rattle.lane_core.specs.Answer.{answered, answered_by}
 use Rattle.lane_core.specs.Endings.{over, is_acknowledged, after_step, ended_lane}
 use Rattle.lane_core.specs.Fire as lane-fire
 use Rattle.lane_core.specs.Hear.{connection_heard, heard, heard_by}
-use Rattle.lane_core.specs.Lane.{Lane, link_for, with_under_way}
+use Rattle.lane_core.specs.Lane.{Lane, new_lane, pushed, is_full, longest_to, link_for, with_under_way}
 use Rattle.lane_core.specs.Overrun as lane-overrun
 use Rattle.lane_core.specs.Probe.{is_token, other_token, most_requests, probes}
 use Rattle.lane_core.specs.Pump as lane-pump
@@ -85,24 +90,59 @@ use Rattle.session_table.specs.declared.incoming.Incoming.{Incoming}
 use Rattle.session_table.specs.declared.incoming.Incoming.TheVariants as incoming
 use Rattle.station_lanes.specs.Lanes.{Lanes}
 use Rattle.station_lanes.specs.LaneCalls.{stepped_lanes}
-use Rattle.station_lanes.specs.LaneReaders.{refusal_at, due_lane, overrun_lanes}
+use Rattle.station_lanes.specs.LaneReaders.{refusal_at, is_pending_at, queues_abort_at, due_lane, overrun_lanes}
 use Rattle.station_sessions.specs.Opening.{key_of, refusal, is_tp_size, is_etp_size, set_for, others_than, peer_of, rts_received, bam_received, opening_received}
-use Rattle.station_sessions.specs.Receiving.{Inbound, Reception, broadcast_settled, connection_settled, session_stepped, session_fired, flow_at, received_by, received as frame_received, fired_by, fired_at, aborted_at}
+use Rattle.station_sessions.specs.Receiving.{Inbound, Reception, broadcast_settled, connection_settled, session_stepped, session_fired, flow_at, received_by, received as frame_received, fired_by, fired_at, aborted_at, unbound_by, unbound_at}
 use Rattle.station_core.specs.Station.{Station, StationStep, by_session, by_lane}
-use Rattle.station_core.specs.Sending.{pumped}
+use Rattle.station_core.specs.Sending.{lane_of, sent, pumped, cancelled}
+use Rattle.station_core.specs.Closing.{unbound_session, closed_below, closed}
 use Rattle.station_core.specs.Taking.{packet_kind, cm_taken, wire_taken, looks_at, meaning_taken, taken}
 use Rattle.station_core.specs.Overruns.{overrun}
 use Rattle.station_core.specs.Timers.{is_due, lane_fired, fired}
-use Rattle.segment_law.specs.Segment.{Segment, place_of}
-use Rattle.segment_law.specs.Calls.{Answer, no_place, pump_places, takes_by, takes, transmits_by, transmits, overruns, fires, pumps_by, pumps, at_station, at_place, called, replied, applied}
+use Rattle.segment_law.specs.Segment.{Segment, place_of, has_station, new_segment, rising}
+use Rattle.segment_law.specs.Calls.{Answer, no_place, pump_places, takes_by, takes, transmits_by, transmits, overruns, fires, pumps_by, pumps, opens, closes, sends, repeats_by, repeats, cancels, pauses, resumes, at_station, at_place, called, replied, applied}
 use Rattle.segment_law.specs.declared.call.Call.{Call}
 use Rattle.segment_law.specs.declared.call.Call.TheVariants as ask
 use Rattle.segment_law.specs.declared.refusal.Refusal.{Refusal}
+use Rattle.segment_law.specs.Record.{Record, StandsAt}
+use Rattle.record_law.proofs.AlongRecords.{at_record}
+use Rattle.record_law.proofs.Segments.{new_at}
 use Rattle.segment_law.proofs.Reaching.{slice_get_same, slice_get_other}
 use Rattle.record_law.proofs.Maps.{lane_here, lane_else, of_each_put, of_each_dropped, of_each_none}
 use Rattle.record_law.proofs.Tests.{either, by_option, equal_or_not}
-use Rattle.segment_drain.specs.Timely.{IsTimely, IsTimelyOut, IsTimelyUnder, IsTimelyStanding, IsTimelyLane, IsTimelyStation, AreTimely}
-use Rattle.segment_drain.specs.Drains.{is_drain_call}
+use Rattle.segment_drain.specs.Enough.{longest_time}
+
+-- it is due after that time at the latest
+abbrev pub IsTimely : (now : ℕ) → Timer → Type 0
+IsTimely now timer = timer.started + timer.ticks ≤ now + longest_time
+
+abbrev pub IsTimelyOut : (now : ℕ) → OutState → Type 0
+IsTimelyOut now (AwaitCts s) = IsTimely now s.timer
+IsTimelyOut now (Sending s) = Unit {0}
+IsTimelyOut now (AwaitEnd s) = IsTimely now s.timer
+
+-- the gap of a broadcast, or the timer of a connection
+abbrev pub IsTimelyUnder : (now : ℕ) → UnderWay → Type 0
+IsTimelyUnder now Nothing = Unit {0}
+IsTimelyUnder now (Broadcast s) = IsTimely now s.gap
+IsTimelyUnder now (Connection o) = IsTimelyOut now o
+
+-- the timer of a Request
+abbrev pub IsTimelyStanding : (now : ℕ) → Standing → Type 0
+IsTimelyStanding now (Probing count timer) = IsTimely now timer
+IsTimelyStanding now _ = Unit {0}
+
+pub record IsTimelyLane (now : ℕ) (lane : Lane) : Type 0 where
+  pub under_way : IsTimelyUnder now lane.under_way
+  pub standing : IsTimelyStanding now lane.standing
+
+-- so are all timers of a station
+pub record IsTimelyStation (now : ℕ) (st : Station) : Type 0 where
+  pub sessions : (key : Key) (v : List ℕ × Incoming) → state_at st.sessions key ≡ Some v → IsTimely now (timer_of v.1)
+  pub lanes : (to : ℕ) (lane : Lane) → finmap.get st.lanes to ≡ Some lane → IsTimelyLane now lane
+
+abbrev pub AreTimely : Segment → Type 0
+AreTimely seg = (i : ℕ) (st : Station) → slice_get seg.stations i ≡ Some st → IsTimelyStation seg.now st
 
 module _ (now : ℕ) where
   -- Sessions
@@ -469,8 +509,57 @@ module _ (now : ℕ) where
     pub overrun_keeps : Keeps st (overrun st).station
     overrun_keeps = record { address = refl; timely = record { sessions = of_each_none (λ k w. IsTimely now (timer_of w.1)); lanes = overrun_soon st.lanes 256 h.lanes } }
 
+    cancelled_lane : (lane : Lane) (number : ℕ) → IsTimelyLane now lane → IsTimelyLane now (lane-cancel.cancelled lane number).0
+    cancelled_lane lane number k = by lane.under_way
+      where
+        withdrawn : IsTimelyLane now (lane-cancel.withdrawn lane number).0
+        withdrawn = record { under_way = k.under_way; standing = k.standing }
+
+        by : (u : UnderWay) → IsTimelyLane now (lane-cancel.cancelled_by u lane number).0
+        by Nothing = withdrawn
+        by (Broadcast s) = either (λ (x : Lane × LaneStep). IsTimelyLane now x.0) (lane-cancel.is_front lane.pending number) _ _ (over_soon lane k outcome.Cancelled None) withdrawn
+        by (Connection s) = either (λ (x : Lane × LaneStep). IsTimelyLane now x.0) (lane-cancel.is_front lane.pending number) _ _ (over_soon lane k (out.cancelled (link_of s)).outcome (out.cancelled (link_of s)).frame) withdrawn
+
+    pub cancelled_keeps : (to : Address) (number : ℕ) → Keeps st (cancelled st to number).station
+    cancelled_keeps to number = lane_steps st refl h.sessions refl to (λ lane. lane-cancel.cancelled lane number) (λ lane k. cancelled_lane lane number k)
+
+    pub sent_keeps : (to : Address) (pgn : ℕ) (bytes : List ℕ) → Keeps st (sent st to pgn bytes)
+    sent_keeps to pgn bytes = record { address = refl; timely = record { sessions = h.sessions; lanes = lane_put st.lanes to.0 (pushed (lane_of st to) pgn bytes) h.lanes (by (finmap.get st.lanes to.0) refl) } }
+      where
+        by : (o : Option Lane) → finmap.get st.lanes to.0 ≡ o → IsTimelyLane now (pushed (elim o as (λ (_ : Option Lane). Lane) [ None ↦ new_lane st.address.0 to.0 | Some lane ↦ lane ]) pgn bytes)
+        by None e = record { under_way = tt; standing = tt }
+        by (Some lane) e = record { under_way = (h.lanes to.0 lane e).under_way; standing = (h.lanes to.0 lane e).standing }
+
     pub queue_keeps : (queue : List CanFrame) → Keeps st (record st { queue = queue })
     queue_keeps queue = stays (record st { queue = queue }) refl refl refl
+
+-- A port closes
+
+module _ (now : ℕ) where
+  record Closes (st new : Station) : Type 0 where
+    address : new.address ≡ st.address
+    lanes : new.lanes ≡ st.lanes
+    sessions : AreSoon now new.sessions
+
+  unbound_soon : (m : Inbound) (each : AreSoon now m) (key : Key) (number : ℕ) → AreSoon now (unbound_at key number m).sessions
+  unbound_soon m each key number = by (state_at m key) refl
+    where
+      by : (o : Option (List ℕ × Incoming)) → state_at m key ≡ o → AreSoon now (unbound_by o key number m).sessions
+      by None e = each
+      by (Some v) e = either (λ (r : Reception). AreSoon now r.sessions) (length (without_number v.0 number) == 0) _ _ (dropped_soon now m key each) (put_soon now m key (without_number v.0 number, v.1) (each key v e) each)
+
+  closes_session : (st new : Station) (source : Address) (kind : SessionKind) (number : ℕ) → Closes st new → Closes st (unbound_session new source kind number)
+  closes_session st new source kind number h = record { address = h.address; lanes = h.lanes; sessions = unbound_soon new.sessions h.sessions (key_of source kind) number }
+
+  closes_below : (st new : Station) (number n : ℕ) → Closes st new → Closes st (closed_below new number n)
+  unfolding closed_below
+  closes_below st new number zero h = h
+  closes_below st new number (suc n) h = closes_session st _ (record { 0 = n }) session.Etp number (closes_session st _ (record { 0 = n }) session.Tp number (closes_session st _ (record { 0 = n }) session.Broadcast number (closes_below st new number n h)))
+
+  pub closed_keeps : (st : Station) → IsTimelyStation now st → (number : ℕ) → Keeps now st (closed st number)
+  closed_keeps st h number =
+      let k : Closes st (closed st number) = closes_below st (record st { ports = without_port st.ports number }) number 254 (record { address = refl; lanes = refl; sessions = h.sessions }) in
+      record { address = k.address; timely = record { sessions = k.sessions; lanes = subst (AreTimelyLanes now) (sym k.lanes) h.lanes } }
 
 -- Calls
 
@@ -539,26 +628,51 @@ module _ (seg : Segment) (h : AreTimely seg) where
     pump_timely to (Some pump.NotYet) = tt
     pump_timely to None = or_timely (nat_lt (free_places st.queue) pump_places) _ _ (next_timely (pumped st to seg.now).station (pumped_keeps seg.now st here_timely to))
 
-  call_timely : (call : Call) → is_drain_call call ≡ true → Timely (called seg call)
-  unfolding called
-  call_timely (ask.Take a room) is = at_timely a (takes seg room) (λ i st at. take_timely i st at room (bus.next_frame seg.bus i))
-  call_timely (ask.Transmit a) is = at_timely a (transmits seg) (λ i st at. put_timely i st at (front st.queue))
-  call_timely (ask.Overrun a n) is = at_timely a (overruns seg n) (λ i st at. or_timely (nat_lt (bus.waiting seg.bus i) n) _ _ (next_timely i st at (overrun st).station (overrun_keeps seg.now st (here_timely i st at))))
-  call_timely (ask.Pump a to) is = at_timely a (pumps seg to) (λ i st at. or_timely (to.0 == null_address) _ _ (pump_timely i st at to (refusal_at st.lanes to.0 seg.now)))
-  call_timely (ask.Fire a) is = at_timely a (fires seg) (λ i st at. or_timely (not (is_due st seg.now)) _ _ (or_timely (no_place st) _ _ (next_timely i st at (fired st seg.now).station (fired_keeps seg.now st (here_timely i st at)))))
-  call_timely (ask.Tick n) is = or_timely (not (nat_lt (seg.now + n) (2 ^ 64))) _ _ (λ i st at. later_station seg.now (seg.now + n) (omega arith) st (h i st at))
-  call_timely (ask.Open a pgn max_len) is = absurd (true≢false (sym is))
-  call_timely (ask.Close port) is = absurd (true≢false (sym is))
-  call_timely (ask.Send from to pgn bytes) is = absurd (true≢false (sym is))
-  call_timely (ask.TakeAgain a room) is = absurd (true≢false (sym is))
-  call_timely (ask.Cancel from to number) is = absurd (true≢false (sym is))
-  call_timely (ask.Inject f) is = absurd (true≢false (sym is))
-  call_timely (ask.Pause port) is = absurd (true≢false (sym is))
-  call_timely (ask.Resume port) is = absurd (true≢false (sym is))
+  module _ (i : ℕ) (st : Station) (at : slice_get seg.stations i ≡ Some st) where
+    stays_timely : (new : Station) → new.address ≡ st.address → new.sessions ≡ st.sessions → new.lanes ≡ st.lanes → (j : ℕ) (u : Station) → slice_get (set seg.stations i new) j ≡ Some u → IsTimelyStation seg.now u
+    stays_timely new a s l = next_timely i st at new (stays seg.now st (h i st at) new a s l)
 
-  pub timely_call : (call : Call) → is_drain_call call ≡ true → AreTimely (applied seg call).0
-  timely_call call is = by (called seg call) (call_timely call is)
+    again_timely : (room : Bool) (o : Option CanFrame) → Timely (repeats_by seg room i st o)
+    again_timely room None = tt
+    again_timely room (Some f) = or_timely (no_place st) _ _ (next_timely i st at (taken st f room seg.now).station (taken_keeps seg.now st (h i st at) f room))
+
+    send_timely : (to : Address) (pgn : ℕ) (bytes : List ℕ) → Timely (sends seg to pgn bytes i st)
+    send_timely to pgn bytes =
+        or_timely (to.0 == null_address) _ _
+        (or_timely (st.address.0 == to.0) _ _
+        (or_timely (nat_lt (length bytes) MIN_SIZE) _ _
+        (or_timely (nat_lt (longest_to to.0) (length bytes)) _ _
+        (or_timely (is_full (lane_of st to)) _ _ (next_timely i st at (sent st to pgn bytes) (sent_keeps seg.now st (h i st at) to pgn bytes))))))
+
+  call_timely : (call : Call) → Timely (called seg call)
+  unfolding called
+  call_timely (ask.Take a room) = at_timely a (takes seg room) (λ i st at. take_timely i st at room (bus.next_frame seg.bus i))
+  call_timely (ask.Transmit a) = at_timely a (transmits seg) (λ i st at. put_timely i st at (front st.queue))
+  call_timely (ask.Overrun a n) = at_timely a (overruns seg n) (λ i st at. or_timely (nat_lt (bus.waiting seg.bus i) n) _ _ (next_timely i st at (overrun st).station (overrun_keeps seg.now st (h i st at))))
+  call_timely (ask.Pump a to) = at_timely a (pumps seg to) (λ i st at. or_timely (to.0 == null_address) _ _ (pump_timely i st at to (refusal_at st.lanes to.0 seg.now)))
+  call_timely (ask.Fire a) = at_timely a (fires seg) (λ i st at. or_timely (not (is_due st seg.now)) _ _ (or_timely (no_place st) _ _ (next_timely i st at (fired st seg.now).station (fired_keeps seg.now st (h i st at)))))
+  call_timely (ask.Tick n) = or_timely (not (nat_lt (seg.now + n) (2 ^ 64))) _ _ (λ i st at. later_station seg.now (seg.now + n) (omega arith) st (h i st at))
+  call_timely (ask.Open a pgn max_len) = at_timely a (opens seg pgn max_len) (λ i st at. or_timely (are_full st.ports) _ _ (stays_timely i st at (record st { ports = with_port st.ports pgn max_len }) refl refl refl))
+  call_timely (ask.Close port) = at_timely port.station (closes seg port.number) (λ i st at. or_timely (not (is_open st.ports port.number)) _ _ (next_timely i st at (closed st port.number) (closed_keeps seg.now st (h i st at) port.number)))
+  call_timely (ask.Send from to pgn bytes) = at_timely from (sends seg to pgn bytes) (λ i st at. send_timely i st at to pgn bytes)
+  call_timely (ask.TakeAgain a room) = at_timely a (repeats seg room) (λ i st at. again_timely i st at room (bus.frame_again seg.bus i))
+  call_timely (ask.Cancel from to number) = at_timely from (cancels seg to number) (λ i st at.
+      or_timely (to.0 == null_address) _ _
+      (or_timely (not (is_pending_at st.lanes to.0 number)) _ _
+      (or_timely (queues_abort_at st.lanes to.0 number && no_place st) _ _ (next_timely i st at (cancelled st to number).station (cancelled_keeps seg.now st (h i st at) to number)))))
+  call_timely (ask.Inject f) = or_timely (has_station seg (meaning_of f.id).from) _ _ (or_timely (bus.is_full seg.bus) _ _ h)
+  call_timely (ask.Pause port) = at_timely port.station (pauses seg port.number) (λ i st at. or_timely (not (is_open st.ports port.number)) _ _ (or_timely (is_paused st.ports port.number) _ _ (stays_timely i st at (record st { ports = with_paused st.ports port.number true }) refl refl refl)))
+  call_timely (ask.Resume port) = at_timely port.station (resumes seg port.number) (λ i st at. or_timely (not (is_open st.ports port.number)) _ _ (or_timely (not (is_paused st.ports port.number)) _ _ (stays_timely i st at (record st { ports = with_paused st.ports port.number false }) refl refl refl)))
+
+  timely_call : (call : Call) → AreTimely (applied seg call).0
+  timely_call call = by (called seg call) (call_timely call)
     where
       by : (x : Answer) → Timely x → AreTimely (replied seg x).0
       by (Err cause) k = h
       by (Ok step) k = k
+
+new_timely : (addresses : List Address) → AreTimely (new_segment addresses)
+new_timely addresses i st e = subst (IsTimelyStation 0) (sym (new_at (rising addresses) i st e)) (record { sessions = of_each_none (λ k w. IsTimely 0 (timer_of w.1)); lanes = λ to lane q. absurd (none-some lane (sym (get-empty {X = Lane} nat_cmp to) ∙ q)) })
+
+pub always_timely : (addresses : List Address) (steps : Record) (seg : Segment) → StandsAt addresses steps seg → AreTimely seg
+always_timely addresses steps seg h = at_record (λ _ s. AreTimely s) (λ steps s call r is k. timely_call s k call) addresses steps seg h (new_timely addresses)

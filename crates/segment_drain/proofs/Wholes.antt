@@ -24,8 +24,6 @@ use Rattle.work_law.proofs.StationCalls.{least_found}
 use Rattle.segment_drain.specs.Chosen.{node, can, lowest, furthest, next_tick, is_hold, or_else, pump_of, makes_room, waits_until, unblocked, untaken, next_of}
 use Rattle.segment_drain.specs.Drains.{Drain, end_by, makes, turn_by, turn, turns_from, end_at, last_look, undrained, drained, is_drain_call, IsDrained}
 use Rattle.segment_drain.specs.Rested.{IsAtRest}
-use Rattle.segment_drain.specs.Timely.{AreTimely}
-use Rattle.segment_drain.proofs.Timely.{timely_call}
 use Rattle.segment_drain.specs.declared.choosing.Next.{Next}
 use Rattle.segment_drain.specs.declared.choosing.Next.TheVariants.{Make, End}
 use Rattle.segment_drain.specs.declared.drained.Drained as ran
@@ -132,10 +130,6 @@ module _ (addresses : List Address) (steps : Record) where
 
   pub drain_stands : (seg : Segment) → StandsAt addresses steps seg → (n : ℕ) → StandsAt addresses (steps ++ (drained seg n).calls) (drained seg n).segment
   drain_stands seg h n = drained_keeps Stands stands_more (λ d why k. k) seg (stands_first seg h) n
-
--- without a timer that isn't due soon it leaves none
-pub drained_timely : (seg : Segment) → AreTimely seg → (n : ℕ) → AreTimely (drained seg n).segment
-drained_timely = drained_keeps (λ d. AreTimely d.segment) (λ d call e k. timely_call d.segment k call (subst Fits e (next_fits d.segment)).1) (λ d why k. k)
 
 -- each of them is one of the six
 all_push : (test : Step → Bool) (xs : Record) (x : Step) → list_all test xs ≡ true → test x ≡ true → list_all test (xs ++ x ∷ []) ≡ true

@@ -1,10 +1,15 @@
 -- How many turns are enough, and when a drain with so many ends at rest.
 use Rattle.std.specs.Prelude.{ℕ, ◌+◌, ◌*◌, ◌^◌, ◌<◌, ◌≤◌}
+use Rattle.tick_timers.specs.declared.durations.TheConstants.{T3}
 use Rattle.bus_order.specs.Bus.{bus_len}
 use Rattle.segment_law.specs.Segment.{Segment}
 use Rattle.work_law.specs.Work.{work}
 use Rattle.work_law.specs.Course.{each_turn}
 use Rattle.segment_drain.specs.Calm.{AreCalm}
+
+-- no timer is longer than that of a sender for a CTS
+abbrev pub longest_time : ℕ
+longest_time = T3
 
 -- how many calls may be left
 abbrev pub calls_left : Segment → ℕ

@@ -1,5 +1,4 @@
 pub mod Calm
-pub mod Timely
 pub mod Chosen
 pub mod Drains
 pub mod Enough

@@ -8,9 +8,8 @@ ghost use Rattle.segment_law.specs.declared.refusal.Refusal.{Refusal as RefusalV
 ghost use Rattle.segment_core.specs.Promise.{KeepsPromise};
 ghost use Rattle.segment_drain.specs.Drains.{Drain, IsCourse, Goes, Makes, IsDrained, HasBegun, drained, end_at, is_drain_call, frame_put, timed_by, goes_on_by};
 ghost use Rattle.segment_drain.specs.Calm.{AreCalm};
-ghost use Rattle.segment_drain.specs.Enough.{enough_turns, HasEnough};
+ghost use Rattle.segment_drain.specs.Enough.{enough_turns, longest_time, HasEnough};
 ghost use Rattle.segment_drain.specs.Rested.{IsAtRest};
-ghost use Rattle.segment_drain.specs.Timely.{AreTimely, longest_time};
 ghost use Rattle.work_law.specs.Rest.{HasRested, AllEnded};
 ghost use Rattle.segment_drain.specs.declared.end.DrainEnd.TheVariants as end;
 
@@ -53,7 +52,7 @@ pub fn drain(alloc: Global, segment: &mut Segment, turns: u64) -> Drained
     ensures held { (addresses : List AddressValue) (steps : Record) → StandsAt addresses steps segment.old → AreCalm segment.old → result.end ≢ end.Held }
     ensures heals { (addresses : List AddressValue) (steps : Record) → StandsAt addresses steps segment.old → HasEnough segment.old turns
         → result.end ≢ end.OutOfMemory → result.end ≡ end.Rest }
-    ensures healed { (addresses : List AddressValue) (steps : Record) → StandsAt addresses steps segment.old → HasEnough segment.old turns → AreTimely segment.old
+    ensures healed { (addresses : List AddressValue) (steps : Record) → StandsAt addresses steps segment.old → HasEnough segment.old turns
         → result.end ≢ end.OutOfMemory → segment.new.now + longest_time < 2 ^ 64
         → HasRested segment.new × AllEnded (steps ++ (drained segment.old turns).calls) }
     ensures headline { KeepsPromise segment.new }
