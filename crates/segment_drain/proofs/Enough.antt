@@ -32,7 +32,7 @@ use Rattle.segment_drain.specs.declared.end.DrainEnd.{DrainEnd}
 use Rattle.segment_drain.specs.declared.end.DrainEnd.TheVariants as end
 use Rattle.segment_drain.proofs.Drains.{turn_on, turn_off, last_on, last_off}
 use Rattle.segment_drain.proofs.Wholes.{Fits, next_fits, turns_stand}
-use Rattle.segment_drain.proofs.Calm.{calm_call}
+use Rattle.segment_drain.proofs.Calm.{calm_call, no_pause}
 use Rattle.segment_drain.proofs.Rests.{done_ok}
 use Rattle.segment_drain.proofs.Falling.{calm_fire, IsMade, Advances, WorksOff, GoesOn, IsHeld, Turns, Goes, next_goes}
 
@@ -234,7 +234,7 @@ module _ (falls : WorkFalls) (overruns_fall : OverrunsFall) (addresses : List Ad
         reached = stands_reached addresses (steps ++ d.calls) d.segment (turns_stand addresses steps start h n)
 
         next : (x : Next) → next_of d.segment ≡ x → Goes hold d.segment x → StaysCalm (turn_by d x)
-        next (Make call) is g = record { segment = calm_call d.segment k.segment call (subst Fits is (next_fits d.segment)).1; never = never_held call d.segment reached k.segment g }
+        next (Make call) is g = record { segment = calm_call d.segment k.segment call (no_pause call (subst Fits is (next_fits d.segment)).1); never = never_held call d.segment reached k.segment g }
         next (End why) is g = record { segment = k.segment; never = end_unheld d.segment why g }
 
         by : (o : Option DrainEnd) → d.ended ≡ o → StaysCalm (turn d)

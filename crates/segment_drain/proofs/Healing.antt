@@ -1,6 +1,7 @@
 -- A drain that ends at rest leaves nothing that could be done later, as long as the clock isn't at its end.
 use Rattle.std.proofs.Common.{◌≡◌, ◌≢◌, ◌⊎◌, inl, inr, ℕ, ◌+◌, ◌-◌, ◌^◌, ◌<◌, ◌≤◌, ◌==◌, nat_lt, Bool, true, false, cond, not, ◌||◌, List, [], ◌++◌, Option, Some, None, Ok, Err, refl, sym, ap, ◌∙◌, subst, arith, true≢false, ltb-true, le-leb}
 use Rattle.std.specs.Prelude.{is_some, is_ok, slice_get}
+use Rattle.std.specs.Bool.{OnTrue}
 use Rattle.std.specs.Option.{option_flatten, option_map}
 use Rattle.std.proofs.lemmas.Option.{same_Some, none-some}
 use Rattle.std.specs.FinMap as finmap
@@ -35,6 +36,7 @@ use Rattle.station_core.specs.Timers.{is_due, fired}
 use Rattle.segment_law.specs.Segment.{Segment, place_of}
 use Rattle.segment_law.specs.Calls.{Answer, stepped, no_place, transmits, transmits_by, takes, takes_by, fires, pumps, pumps_by, pump_places, at_station, at_place, called, replied, applied}
 use Rattle.segment_law.specs.Drift.{at_tick}
+use Rattle.segment_law.specs.Readers.{is_idle}
 use Rattle.segment_law.specs.Record.{Record, StandsAt}
 use Rattle.segment_law.specs.declared.call.Call.{Call}
 use Rattle.segment_law.specs.declared.call.Call.TheVariants as ask
@@ -56,7 +58,9 @@ use Rattle.segment_drain.specs.declared.end.DrainEnd.{DrainEnd}
 use Rattle.segment_drain.specs.declared.end.DrainEnd.TheVariants as end
 use Rattle.segment_drain.proofs.Drains.{rest_is_fair}
 use Rattle.segment_drain.proofs.Enough.{rest_end, rest_within}
-use Rattle.segment_drain.proofs.Rests.{done_ok, works_ok, rest_parts, none_of}
+use Rattle.segment_drain.specs.Calm.{AreCalm, AreUnpaused}
+use Rattle.segment_drain.proofs.Calm.{rested_calm}
+use Rattle.segment_drain.proofs.Rests.{idle_rests, done_ok, works_ok, rest_parts, none_of}
 use Rattle.segment_drain.proofs.Timely.{IsTimely, IsTimelyUnder, IsTimelyStanding, IsTimelyLane, IsTimelyStation, AreTimely, AreSoon, always_timely}
 use Rattle.segment_drain.proofs.Wholes.{drain_stands, drain_rests, drained_rests}
 
@@ -214,6 +218,25 @@ never_late seg h none l late =
     let ok : is_ok (called (at_tick seg (seg.now + 1250)) late.call) ≡ true = soon_ok seg h late.tick late.call late.turn (done_ok (at_tick seg late.tick) late.call late.events late.done) in
     let works : any_work seg (seg.now + 1250) ≡ true = works_ok seg (seg.now + 1250) late.call late.turn ok in
     true≢false (sym works ∙ none_found (λ k. any_work seg (seg.now + k)) (2 ^ 64 - seg.now) 1250 (none_of (λ k. seg.now + k) (least_below (λ k. any_work seg (seg.now + k)) (2 ^ 64 - seg.now)) none) (omega (arith, l)))
+
+-- where nothing is left
+pub idle_all : (rests_law : Rests) (ends_law : Ends) (seg : Segment) (b : Bool) (tick : Option ℕ) → is_idle seg ≡ true → tick ≡ next_tick seg → is_some tick ≡ not b → (addresses : List Address) (steps : Record) → StandsAt addresses steps seg → seg.now + 1250 < 2 ^ 64 → bus_len seg.bus + 1 < 2 ^ 64 → OnTrue b (HasRested seg × AllEnded steps)
+idle_all rests_law ends_law seg false tick idle is e addresses steps h last places = tt
+idle_all rests_law ends_law seg true tick idle is e addresses steps h last places = by (idle_rests rests_law ends_law seg true tick idle is e addresses steps h)
+  where
+    none : (o : Option ℕ) → is_some o ≡ false → o ≡ None
+    none None q = refl
+    none (Some t) q = absurd (true≢false q)
+
+    by : IsAtRest steps seg → HasRested seg × AllEnded steps
+    by (inl q) = q
+    by (inr (inl late)) = absurd (never_late seg (always_timely addresses steps seg h) (sym is ∙ none tick e) last late)
+    by (inr (inr full)) = absurd (omega (arith, full, places))
+
+-- and no port is paused
+pub idle_calm : (rests_law : Rests) (ends_law : Ends) (seg : Segment) (b : Bool) (tick : Option ℕ) → is_idle seg ≡ true → tick ≡ next_tick seg → is_some tick ≡ not b → (addresses : List Address) (steps : Record) → StandsAt addresses steps seg → seg.now + 1250 < 2 ^ 64 → bus_len seg.bus + 1 < 2 ^ 64 → AreUnpaused seg → OnTrue b (AreCalm seg)
+idle_calm rests_law ends_law seg false tick idle is e addresses steps h last places unpaused = tt
+idle_calm rests_law ends_law seg true tick idle is e addresses steps h last places unpaused = rested_calm seg (idle_all rests_law ends_law seg true tick idle is e addresses steps h last places).0 unpaused
 
 module _ (falls : WorkFalls) (overruns_fall : OverrunsFall) (rests_law : Rests) (ends_law : Ends) (addresses : List Address) (steps : Record) (start : Segment) (h : StandsAt addresses steps start) where
   -- what the code returns

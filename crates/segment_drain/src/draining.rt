@@ -7,7 +7,7 @@ ghost use Rattle.segment_law.specs.Record.{Record, StandsAt};
 ghost use Rattle.segment_law.specs.declared.refusal.Refusal.{Refusal as RefusalValue};
 ghost use Rattle.segment_core.specs.Promise.{KeepsPromise};
 ghost use Rattle.segment_drain.specs.Drains.{Drain, IsCourse, Goes, Makes, IsDrained, HasBegun, drained, end_at, is_drain_call, frame_put, timed_by, goes_on_by};
-ghost use Rattle.segment_drain.specs.Calm.{AreCalm};
+ghost use Rattle.segment_drain.specs.Calm.{AreCalm, never_paused};
 ghost use Rattle.segment_drain.specs.Enough.{enough_turns, longest_time, HasEnough};
 ghost use Rattle.segment_drain.specs.Rested.{IsAtRest};
 ghost use Rattle.work_law.specs.Rest.{HasRested, AllEnded};
@@ -35,7 +35,8 @@ use work_law::{overruns_fall, what_has_stopped_rests, work_falls};
 /// lacks memory, which then wasn't made.
 ///
 /// It doesn't end after its turns if there are enough: twice as many as calls may be left, and two. If no port is paused, no session
-/// is on hold and the bus has places for what may come, it then ends at rest, unless a call lacks memory.
+/// is on hold and the bus has places for what may come, it then ends at rest, unless a call lacks memory; and if 1,250 ticks of the
+/// clock are left, each message that was sent has its outcome.
 pub fn drain(alloc: Global, segment: &mut Segment, turns: u64) -> Drained
     ensures done { result.end ≢ end.OutOfMemory → IsDrained (drained segment.old turns) segment.new result }
     ensures begun { result.end ≡ end.OutOfMemory → HasBegun segment.old segment.new turns result }
@@ -50,6 +51,7 @@ pub fn drain(alloc: Global, segment: &mut Segment, turns: u64) -> Drained
     ensures refused { (addresses : List AddressValue) (steps : Record) → StandsAt addresses steps segment.old
         → (cause : RefusalValue) → result.end ≡ end.Refused cause → 2 ^ 64 ≤ bus_len segment.new.bus + 1 }
     ensures held { (addresses : List AddressValue) (steps : Record) → StandsAt addresses steps segment.old → AreCalm segment.old → result.end ≢ end.Held }
+    ensures calm { (addresses : List AddressValue) (steps : Record) → StandsAt addresses steps segment.old → never_paused steps ≡ true → AreCalm segment.old }
     ensures heals { (addresses : List AddressValue) (steps : Record) → StandsAt addresses steps segment.old → HasEnough segment.old turns
         → result.end ≢ end.OutOfMemory → result.end ≡ end.Rest }
     ensures healed { (addresses : List AddressValue) (steps : Record) → StandsAt addresses steps segment.old → HasEnough segment.old turns
