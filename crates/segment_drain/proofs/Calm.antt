@@ -1,7 +1,7 @@
 -- Without a paused port and a session on hold, no call but a Pause leaves one, and no timer asks a sender to wait.
-use Rattle.std.proofs.Common.{◌≡◌, ◌⊎◌, inl, inr, ℕ, zero, suc, ◌+◌, ◌^◌, ◌<◌, ◌==◌, nat_lt, Bool, true, false, cond, not, ◌&&◌, ◌||◌, List, [], ◌∷◌, ◌++◌, map, length, set, Option, Some, None, Ok, Err, refl, sym, ap, ◌∙◌, subst, true≢false}
+use Rattle.std.proofs.Common.{◌≡◌, ◌⊎◌, inl, inr, ℕ, zero, suc, ◌+◌, ◌^◌, ◌==◌, nat_lt, Bool, true, false, cond, not, ◌&&◌, ◌||◌, List, [], ◌∷◌, ◌++◌, map, length, set, Option, Some, None, Ok, Err, refl, sym, ap, ◌∙◌, subst, true≢false}
 use Rattle.std.specs.Prelude.{slice_get, option_to_list}
-use Rattle.std.specs.List.{list_any, list_all}
+use Rattle.std.specs.List.{list_any}
 use Rattle.std.proofs.lemmas.Option.{same_Some, none-some}
 use Rattle.std.specs.FinMap as finmap
 use Rattle.bus_frame.specs.Frames.{CanFrame}
@@ -17,7 +17,6 @@ use Rattle.tp_wire.specs.Reason.{reason_byte}
 use Rattle.tp_wire.specs.Reading.{reading}
 use Rattle.tp_wire.specs.Rows.{written}
 use Rattle.tp_wire.specs.declared.constants.TheConstants.{MIN_SIZE, ETP_MAX_WINDOW}
-use Rattle.tp_wire.specs.declared.reason.AbortReason.{AbortReason}
 use Rattle.tp_wire.specs.declared.reason.AbortReason.TheVariants as reason
 use Rattle.tp_wire.specs.declared.wire.Kind.{Kind}
 use Rattle.tp_wire.specs.declared.wire.Kind.TheVariants.{Tp, Etp}
@@ -29,17 +28,15 @@ use Rattle.seg_cut.specs.Join.{wants_last}
 use Rattle.port_table.specs.Ports.{Ports, has_paused, marked, less_port, are_full, with_port, without_port, is_open, is_paused, with_paused}
 use Rattle.port_table.specs.PortSet.{has_number, without_number}
 use Rattle.port_table.specs.declared.port.Port.{Port}
-use Rattle.responder.specs.Peer.{Peer}
-use Rattle.responder.specs.Answers.{abort_frame}
 use Rattle.responder.specs.Unfinished.{Unfinished, begun, number_of, is_of_another}
 use Rattle.responder.specs.Window.{most_of}
 use Rattle.responder.specs.Asking.{asking}
 use Rattle.responder.specs.States as states
 use Rattle.responder.specs.AwaitPacket.{is_wrong_dpo, on_dpo, on_packet}
-use Rattle.responder.specs.Steps.{awaiting_stepped, stepped, expired}
-use Rattle.responder.specs.Room.{first_join, prepared, prepared_wait, prepared_to_expire}
+use Rattle.responder.specs.Steps.{awaiting_stepped}
+use Rattle.responder.specs.Room.{first_join, prepared_wait}
 use Rattle.responder.specs.declared.flow.Flow.{Flow}
-use Rattle.responder.specs.declared.flow.Flow.TheVariants.{Open, Held}
+use Rattle.responder.specs.declared.flow.Flow.TheVariants.{Open}
 use Rattle.responder.specs.declared.in_state.InState.TheVariants.{AwaitPacket, Holding}
 use Rattle.responder.specs.declared.received.Received.{Received}
 use Rattle.responder.specs.declared.received.Received.TheVariants.{On, Complete, Ended}
@@ -49,10 +46,8 @@ use Rattle.originator.specs.Link.{Link, abort_frame as link_abort}
 use Rattle.originator.specs.Readers.{link_of}
 use Rattle.lane_core.specs.Lane.{Lane, is_full, longest_to}
 use Rattle.lane_core.specs.Step.{LaneStep, nothing_to_do}
-use Rattle.lane_core.specs.Hear.{heard}
 use Rattle.lane_core.specs.Fire as lane-fire
-use Rattle.lane_core.specs.Probe.{most_requests, request_frame, probes}
-use Rattle.lane_core.specs.Endings.{over}
+use Rattle.lane_core.specs.Probe.{most_requests, request_frame}
 use Rattle.lane_core.specs.declared.place.UnderWay.{UnderWay}
 use Rattle.lane_core.specs.declared.place.UnderWay.TheVariants.{Nothing, Broadcast, Connection}
 use Rattle.lane_core.specs.declared.probe.Standing.{Standing}
@@ -72,10 +67,10 @@ use Rattle.station_lanes.specs.LaneReaders.{refusal_at, is_pending_at, queues_ab
 use Rattle.station_sessions.specs.Steps.{flow_of}
 use Rattle.station_sessions.specs.Opening.{key_of, refusal, is_tp_size, is_etp_size, set_for, others_than, peer_of, rts_received, bam_received, opening_received}
 use Rattle.station_sessions.specs.Receiving.{Inbound, Reception, broadcast_settled, connection_settled, session_stepped, session_fired, flow_at, received_by, received, fired_by, fired_at, aborted_at, unbound_by, unbound_at}
-use Rattle.station_core.specs.Station.{Station, StationStep, by_session, by_lane}
+use Rattle.station_core.specs.Station.{Station, StationStep, by_session}
 use Rattle.station_core.specs.Sending.{lane_of, sent, pumped, cancelled}
 use Rattle.station_core.specs.Closing.{unbound_session, closed_below, closed}
-use Rattle.station_core.specs.Taking.{packet_kind, in_session, cm_taken, request_taken, ack_taken, wire_taken, looks_at, meaning_taken, taken}
+use Rattle.station_core.specs.Taking.{packet_kind, cm_taken, wire_taken, looks_at, meaning_taken, taken}
 use Rattle.station_core.specs.Overruns.{overrun}
 use Rattle.station_core.specs.Timers.{is_due, lane_fired, fired}
 use Rattle.segment_law.specs.Segment.{Segment, place_of, has_station, new_segment, rising}
@@ -88,7 +83,7 @@ use Rattle.record_law.proofs.AlongRecords.{at_record}
 use Rattle.record_law.proofs.Segments.{new_at}
 use Rattle.work_law.specs.Rest.{HasRested}
 use Rattle.segment_law.proofs.Reaching.{slice_get_same, slice_get_other}
-use Rattle.record_law.proofs.Maps.{OfEach, of_each_put, of_each_dropped, of_each_none}
+use Rattle.record_law.proofs.Maps.{of_each_put, of_each_dropped, of_each_none}
 use Rattle.record_law.proofs.Tests.{either, by_option, equal_or_not}
 use Rattle.segment_drain.specs.Calm.{is_on_hold, IsCalm, AreCalm, AreUnpaused, is_pause, never_paused}
 use Rattle.segment_drain.specs.Chosen.{is_hold}

@@ -1,5 +1,5 @@
 -- Enough turns end a drain.
-use Rattle.std.proofs.Common.{◌≡◌, ◌≢◌, ◌⊎◌, ℕ, zero, suc, ◌+◌, ◌*◌, ◌^◌, ◌<◌, ◌≤◌, Bool, true, false, cond, List, [], ◌∷◌, ◌++◌, length, Option, Some, None, refl, sym, ap, ◌∙◌, subst, arith, true≢false, append-nil}
+use Rattle.std.proofs.Common.{◌≡◌, ◌≢◌, ℕ, zero, suc, ◌+◌, ◌*◌, ◌^◌, ◌≤◌, Bool, true, false, cond, List, ◌++◌, length, Option, Some, None, refl, sym, ap, ◌∙◌, subst, arith}
 use Rattle.std.proofs.lemmas.Option.{same_Some, none-some}
 use Rattle.pgn_ids.specs.declared.address.Address.{Address}
 use Rattle.bus_order.specs.Bus.{bus_len}
@@ -11,14 +11,13 @@ use Rattle.segment_law.specs.declared.call.Call.{Call}
 use Rattle.segment_law.specs.declared.call.Call.TheVariants.{Fire}
 use Rattle.segment_law.specs.declared.refusal.Refusal.{Refusal}
 use Rattle.segment_law.specs.declared.reply.Reply.{Reply}
-use Rattle.segment_law.specs.declared.reply.Reply.TheVariants.{Refused, Done}
+use Rattle.segment_law.specs.declared.reply.Reply.TheVariants.{Done}
 use Rattle.segment_law.specs.Reached.{IsReached}
 use Rattle.segment_law.proofs.Records.{stands_reached}
 use Rattle.segment_law.proofs.Drifting.{stands_drifts}
 use Rattle.message_events.specs.declared.event.Event.{Event}
 use Rattle.segment_core.specs.Next.{any_work}
 use Rattle.work_law.specs.Work.{work}
-use Rattle.work_law.specs.Course.{each_turn}
 use Rattle.work_law.specs.Storm.{WorkFalls, OverrunsFall}
 use Rattle.work_law.proofs.Ending.{paid}
 use Rattle.segment_drain.specs.Chosen.{is_hold, next_of}

@@ -1,6 +1,6 @@
 -- Each call of a drain is done. It works something off, or lets the clock go on to where something can be done, or ends the drain as held.
-use Rattle.std.proofs.Common.{◌≡◌, ◌⊎◌, inl, inr, ℕ, zero, suc, ◌+◌, ◌-◌, ◌*◌, ◌^◌, max, ◌<◌, ◌≤◌, ◌==◌, nat_lt, Bool, true, false, cond, not, ◌||◌, List, [], ◌∷◌, ◌++◌, length, Option, Some, None, Ok, Err, refl, sym, ap, ◌∙◌, subst, arith, eqb-true, ltb-true, ltb-false, true≢false, get_or, length-set}
-use Rattle.std.specs.Prelude.{All, is_some, is_none, is_ok, slice_get, unwrap_or, option_to_list}
+use Rattle.std.proofs.Common.{◌≡◌, ◌⊎◌, inl, inr, ℕ, zero, suc, ◌+◌, ◌-◌, ◌^◌, max, ◌<◌, ◌≤◌, ◌==◌, nat_lt, Bool, true, false, cond, not, ◌||◌, List, [], ◌∷◌, ◌++◌, length, Option, Some, None, Ok, Err, refl, sym, ap, ◌∙◌, subst, arith, eqb-true, ltb-true, ltb-false, true≢false, get_or, length-set}
+use Rattle.std.specs.Prelude.{is_some, is_none, is_ok, slice_get, unwrap_or}
 use Rattle.std.specs.Option.{option_map}
 use Rattle.std.proofs.lemmas.Bool.{cases_lt, lt-ltb, eq-eqb}
 use Rattle.std.proofs.lemmas.List.{length-append}
@@ -35,14 +35,14 @@ use Rattle.station_sessions.specs.Receiving.{flow_at, session_fired, fired_by, f
 use Rattle.message_events.specs.declared.event.Event.{Event}
 use Rattle.station_core.specs.Station.{Station, StationStep, new_station, by_session}
 use Rattle.station_core.specs.Sending.{pumped}
-use Rattle.station_core.specs.Taking.{taken, is_malformed_for}
+use Rattle.station_core.specs.Taking.{taken}
 use Rattle.station_core.specs.Overruns.{overrun}
 use Rattle.station_core.specs.Timers.{is_due, lane_fired, fired}
-use Rattle.segment_law.specs.Segment.{Segment, place_of, station_of, station_at, waiting_at, with_station, counted_look}
-use Rattle.segment_law.specs.Calls.{Answer, is_call, stepped, no_place, pump_places, looks, takes_by, takes, transmits_by, transmits, overruns, ticks, fires, pumps_by, pumps, at_station, at_place, called, replied, applied}
+use Rattle.segment_law.specs.Segment.{Segment, place_of, station_at, waiting_at}
+use Rattle.segment_law.specs.Calls.{Answer, is_call, stepped, no_place, pump_places, takes_by, takes, transmits_by, transmits, overruns, fires, pumps_by, pumps, at_station, at_place, called, replied, applied}
 use Rattle.segment_law.specs.Reached.{IsReached}
 use Rattle.segment_law.specs.Readers.{pumps_to, next_pump, front_at}
-use Rattle.segment_law.specs.Record.{Record, StandsAt}
+use Rattle.segment_law.specs.Record.{Record}
 use Rattle.segment_law.specs.Drift.{DriftsTo}
 use Rattle.segment_law.specs.declared.call.Call.{Call}
 use Rattle.segment_law.specs.declared.call.Call.TheVariants as ask
@@ -64,7 +64,7 @@ use Rattle.work_law.proofs.Ending.{paid, plain_is}
 use Rattle.work_law.proofs.Resting.{rear, waits_there}
 use Rattle.work_law.proofs.StationCalls.{least_found}
 use Rattle.segment_drain.specs.Calm.{AreCalm}
-use Rattle.segment_drain.specs.Chosen.{node, nodes, can, lowest, most_waiting, furthest, next_tick, is_hold, is_for_bus, or_else, pump_of, makes_room, waits_until, unblocked, untaken, next_of}
+use Rattle.segment_drain.specs.Chosen.{node, can, lowest, most_waiting, furthest, next_tick, is_hold, is_for_bus, or_else, pump_of, makes_room, waits_until, unblocked, untaken, next_of}
 use Rattle.segment_drain.specs.Drains.{end_by, is_drain_call}
 use Rattle.segment_drain.specs.declared.choosing.Next.{Next}
 use Rattle.segment_drain.specs.declared.choosing.Next.TheVariants.{Make, End}

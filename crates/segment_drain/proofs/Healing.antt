@@ -1,9 +1,9 @@
 -- A drain that ends at rest leaves nothing that could be done later, as long as the clock isn't at its end.
-use Rattle.std.proofs.Common.{◌≡◌, ◌≢◌, ◌⊎◌, inl, inr, ℕ, ◌+◌, ◌-◌, ◌^◌, ◌<◌, ◌≤◌, ◌==◌, nat_lt, Bool, true, false, cond, not, ◌||◌, List, [], ◌++◌, Option, Some, None, Ok, Err, refl, sym, ap, ◌∙◌, subst, arith, true≢false, ltb-true, le-leb}
+use Rattle.std.proofs.Common.{◌≡◌, ◌≢◌, inl, inr, ℕ, ◌+◌, ◌-◌, ◌^◌, ◌<◌, ◌==◌, nat_lt, Bool, true, false, cond, not, ◌||◌, List, ◌++◌, Option, Some, None, Err, refl, sym, ap, ◌∙◌, subst, arith, true≢false, le-leb}
 use Rattle.std.specs.Prelude.{is_some, is_ok, slice_get}
 use Rattle.std.specs.Bool.{OnTrue}
-use Rattle.std.specs.Option.{option_flatten, option_map}
-use Rattle.std.proofs.lemmas.Option.{same_Some, none-some}
+use Rattle.std.specs.Option.{option_flatten}
+use Rattle.std.proofs.lemmas.Option.{none-some}
 use Rattle.std.specs.FinMap as finmap
 use Rattle.bus_frame.specs.Frames.{CanFrame}
 use Rattle.pgn_ids.specs.Address.{null_address}
@@ -11,8 +11,6 @@ use Rattle.pgn_ids.specs.declared.address.Address.{Address}
 use Rattle.tick_timers.specs.Timers.{Timer, is_due as is_timer_due}
 use Rattle.tx_queue.specs.Queue.{free_places, front}
 use Rattle.bus_order.specs.Bus.{bus_len, is_full, next_frame}
-use Rattle.originator.specs.Readers.{is_state_due}
-use Rattle.originator.specs.declared.states.OutState.{OutState}
 use Rattle.originator.specs.declared.states.OutState.TheVariants.{AwaitCts, Sending, AwaitEnd}
 use Rattle.lane_core.specs.Lane.{Lane}
 use Rattle.lane_core.specs.Pump.{pump_refusal, refusal_by}
@@ -34,7 +32,7 @@ use Rattle.station_core.specs.Station.{Station}
 use Rattle.station_core.specs.Sending.{pumped}
 use Rattle.station_core.specs.Timers.{is_due, fired}
 use Rattle.segment_law.specs.Segment.{Segment, place_of}
-use Rattle.segment_law.specs.Calls.{Answer, stepped, no_place, transmits, transmits_by, takes, takes_by, fires, pumps, pumps_by, pump_places, at_station, at_place, called, replied, applied}
+use Rattle.segment_law.specs.Calls.{Answer, stepped, no_place, transmits, transmits_by, takes, takes_by, fires, pumps, pumps_by, pump_places, at_station, at_place, called}
 use Rattle.segment_law.specs.Drift.{at_tick}
 use Rattle.segment_law.specs.Readers.{is_idle}
 use Rattle.segment_law.specs.Record.{Record, StandsAt}
@@ -48,15 +46,13 @@ use Rattle.work_law.specs.Storm.{WorkFalls, OverrunsFall}
 use Rattle.work_law.proofs.Choosing.{found_below}
 use Rattle.work_law.proofs.Resting.{none_found, some_due}
 use Rattle.work_law.proofs.StationCalls.{least_found, due_there}
-use Rattle.segment_drain.specs.Chosen.{next_tick, next_of}
+use Rattle.segment_drain.specs.Chosen.{next_tick}
 use Rattle.segment_drain.specs.Drains.{drained, IsDrained}
 use Rattle.segment_drain.specs.Enough.{HasEnough}
 use Rattle.segment_drain.specs.Rested.{IsLate, IsAtRest}
-use Rattle.segment_drain.specs.declared.choosing.Next.TheVariants.{End}
 use Rattle.segment_drain.specs.declared.drained.Drained as ran
 use Rattle.segment_drain.specs.declared.end.DrainEnd.{DrainEnd}
 use Rattle.segment_drain.specs.declared.end.DrainEnd.TheVariants as end
-use Rattle.segment_drain.proofs.Drains.{rest_is_fair}
 use Rattle.segment_drain.proofs.Enough.{rest_end, rest_within}
 use Rattle.segment_drain.specs.Calm.{AreCalm, AreUnpaused}
 use Rattle.segment_drain.proofs.Calm.{rested_calm}

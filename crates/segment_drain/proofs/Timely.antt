@@ -1,5 +1,5 @@
 -- Every timer is due soon, at every record.
-use Rattle.std.proofs.Common.{◌≡◌, ◌⊎◌, inl, inr, ℕ, zero, suc, ◌+◌, ◌-◌, ◌^◌, ◌<◌, ◌≤◌, min, max, ◌==◌, nat_lt, nat_le, Bool, true, false, cond, not, ◌&&◌, ◌||◌, List, [], ◌∷◌, ◌++◌, length, set, Option, Some, None, Ok, Err, refl, sym, ap, ◌∙◌, subst, arith, true≢false}
+use Rattle.std.proofs.Common.{◌≡◌, ◌⊎◌, inl, inr, ℕ, zero, suc, ◌+◌, ◌-◌, ◌^◌, ◌≤◌, min, max, ◌==◌, nat_lt, nat_le, Bool, true, false, cond, not, ◌&&◌, ◌||◌, List, [], ◌∷◌, length, set, Option, Some, None, Ok, Err, refl, sym, ap, ◌∙◌, subst, arith}
 use Rattle.std.specs.Prelude.{slice_get}
 use Rattle.std.proofs.lemmas.Option.{same_Some, none-some}
 use Rattle.std.specs.Ordering.{nat_cmp}
@@ -11,7 +11,7 @@ use Rattle.pgn_ids.specs.Pgn.{clean}
 use Rattle.pgn_ids.specs.Identifier.{meaning_of}
 use Rattle.pgn_ids.specs.declared.address.Address.{Address}
 use Rattle.tick_timers.specs.Timers.{Timer, is_due as is_timer_due}
-use Rattle.tick_timers.specs.declared.durations.TheConstants.{T3, T4, PROBE}
+use Rattle.tick_timers.specs.declared.durations.TheConstants.{T3, T4}
 use Rattle.tx_queue.specs.Queue.{free_places, front, behind}
 use Rattle.bus_order.specs.Bus as bus
 use Rattle.tp_wire.specs.Kinds.{is_same_kind}
@@ -36,11 +36,10 @@ use Rattle.responder.specs.States as states
 use Rattle.responder.specs.Readers as responder
 use Rattle.responder.specs.AwaitPacket.{is_wrong_dpo, announced, on_dpo, on_packet}
 use Rattle.responder.specs.Holding.{holding_stepped}
-use Rattle.responder.specs.Steps.{awaiting_stepped, stepped, expired}
-use Rattle.responder.specs.Room.{first_join, prepared, prepared_wait, prepared_hold, prepared_to_expire, grants_next}
+use Rattle.responder.specs.Steps.{awaiting_stepped, expired}
+use Rattle.responder.specs.Room.{first_join, prepared_wait, prepared_hold, grants_next}
 use Rattle.responder.specs.declared.flow.Flow.{Flow}
 use Rattle.responder.specs.declared.flow.Flow.TheVariants.{Open, Held}
-use Rattle.responder.specs.declared.in_state.InState.{InState}
 use Rattle.responder.specs.declared.in_state.InState.TheVariants.{AwaitPacket, Holding}
 use Rattle.responder.specs.declared.received.Received.{Received}
 use Rattle.responder.specs.declared.received.Received.TheVariants as received
@@ -49,7 +48,6 @@ use Rattle.bam_session.specs.Receiving as bam-steps
 use Rattle.bam_session.specs.Frames.{next_packet}
 use Rattle.bam_session.specs.Sending as bam-out
 use Rattle.bam_session.specs.declared.outgoing.BamPumped.{BamPumped}
-use Rattle.bam_session.specs.declared.outgoing.BamPumped.TheVariants as pumping
 use Rattle.originator.specs.Link.{Link, packets_of}
 use Rattle.originator.specs.Cts.{cts_without_window, is_equal_cts, has_unsent, on_cts}
 use Rattle.originator.specs.Endings as out
@@ -64,12 +62,12 @@ use Rattle.originator.specs.declared.states.Stepped.{Stepped}
 use Rattle.originator.specs.declared.states.Stepped.TheVariants.{On, Over}
 use Rattle.lane_core.specs.Cancel as lane-cancel
 use Rattle.lane_core.specs.Answer.{answered, answered_by}
-use Rattle.lane_core.specs.Endings.{over, is_acknowledged, after_step, ended_lane}
+use Rattle.lane_core.specs.Endings.{over, is_acknowledged, after_step}
 use Rattle.lane_core.specs.Fire as lane-fire
 use Rattle.lane_core.specs.Hear.{connection_heard, heard, heard_by}
 use Rattle.lane_core.specs.Lane.{Lane, new_lane, pushed, is_full, longest_to, link_for, with_under_way}
 use Rattle.lane_core.specs.Overrun as lane-overrun
-use Rattle.lane_core.specs.Probe.{is_token, other_token, most_requests, probes}
+use Rattle.lane_core.specs.Probe.{is_token, most_requests, probes}
 use Rattle.lane_core.specs.Pump as lane-pump
 use Rattle.lane_core.specs.Step.{LaneStep, nothing_to_do}
 use Rattle.lane_core.specs.declared.message.Pending.{Pending}
