@@ -46,7 +46,7 @@ use Rattle.segment_drain.specs.declared.kind.Kind.TheVariants as kind
 
 -- Lists
 
-any_at : {A : Type 0} (test : A → Bool) (xs : List A) (i : ℕ) (x : A) → slice_get xs i ≡ Some x → test x ≡ true → list_any test xs ≡ true
+pub any_at : {A : Type 0} (test : A → Bool) (xs : List A) (i : ℕ) (x : A) → slice_get xs i ≡ Some x → test x ≡ true → list_any test xs ≡ true
 any_at test xs i x at e = list_any_at test xs i x (slice_get_within xs i x at) (subst (λ y. test y ≡ true) (sym (get_or_from_slice_get xs i x x at)) e)
 
 each_at : {A : Type 0} (P : A → Type 0) (xs : List A) (i : ℕ) (x : A) → All P xs → slice_get xs i ≡ Some x → P x
@@ -55,7 +55,7 @@ each_at P xs i x all at = subst P (get_or_from_slice_get xs i x x at) (all i x (
 all_at : {A : Type 0} (test : A → Bool) (xs : List A) (i : ℕ) (x : A) → list_all test xs ≡ true → slice_get xs i ≡ Some x → test x ≡ true
 all_at test xs i x h at = each_at (λ y. test y ≡ true) xs i x (AllPass-from_list_all test xs h) at
 
-none_of : {A B : Type 0} (f : A → B) (o : Option A) → option_map f o ≡ None → is_some o ≡ false
+pub none_of : {A B : Type 0} (f : A → B) (o : Option A) → option_map f o ≡ None → is_some o ≡ false
 none_of f None e = refl
 none_of f (Some x) e = absurd (true≢false (ap is_some e))
 
@@ -65,7 +65,7 @@ is_done : Reply → Bool
 is_done (Done events) = true
 is_done reply = false
 
-done_ok : (seg : Segment) (call : Call) (events : List Event) → (applied seg call).1 ≡ Done events → is_ok (called seg call) ≡ true
+pub done_ok : (seg : Segment) (call : Call) (events : List Event) → (applied seg call).1 ≡ Done events → is_ok (called seg call) ≡ true
 unfolding is_done
 done_ok seg call events e = by (called seg call) e
   where
@@ -138,30 +138,25 @@ module _ (seg : Segment) (tick : ℕ) where
   abbrev fires_it : Address → Bool
   fires_it a = is_ok (called now (Fire a))
 
-  works : (call : Call) (events : List Event) → is_turn call ≡ true → (applied now call).1 ≡ Done events → any_work seg tick ≡ true
+  pub works_ok : (call : Call) → is_turn call ≡ true → is_ok (called now call) ≡ true → any_work seg tick ≡ true
   unfolding called
-  works (Transmit a) events t e =
-      let ok : puts a ≡ true = done_ok now (Transmit a) events e in
-      has a (or_left (puts a || gets a) (pumps_it a || fires_it a) (or_left (puts a) (gets a) ok)) (there now a (transmits now) ok)
-  works (Take a room) events t e =
-      let ok : is_ok (called now (Take a room)) ≡ true = done_ok now (Take a room) events e in
-      has a (or_left (puts a || gets a) (pumps_it a || fires_it a) (or_right (puts a) (gets a) (take_room now a room ok))) (there now a (takes now room) ok)
-  works (Pump a to) events t e =
-      let ok : is_ok (called now (Pump a to)) ≡ true = done_ok now (Pump a to) events e in
-      has a (or_right (puts a || gets a) (pumps_it a || fires_it a) (or_left (pumps_it a) (fires_it a) (pumps_somewhere now a to (ltb-true to.0 256 t) ok))) (there now a (pumps now to) ok)
-  works (Fire a) events t e =
-      let ok : fires_it a ≡ true = done_ok now (Fire a) events e in
-      has a (or_right (puts a || gets a) (pumps_it a || fires_it a) (or_right (pumps_it a) (fires_it a) ok)) (there now a (fires now) ok)
-  works (Open a pgn max_len) events t e = absurd (true≢false (sym t))
-  works (Close port) events t e = absurd (true≢false (sym t))
-  works (Send from to pgn bytes) events t e = absurd (true≢false (sym t))
-  works (TakeAgain a room) events t e = absurd (true≢false (sym t))
-  works (Overrun a n) events t e = absurd (true≢false (sym t))
-  works (Tick n) events t e = absurd (true≢false (sym t))
-  works (Cancel from to number) events t e = absurd (true≢false (sym t))
-  works (Inject f) events t e = absurd (true≢false (sym t))
-  works (Pause port) events t e = absurd (true≢false (sym t))
-  works (Resume port) events t e = absurd (true≢false (sym t))
+  works_ok (Transmit a) t ok = has a (or_left (puts a || gets a) (pumps_it a || fires_it a) (or_left (puts a) (gets a) ok)) (there now a (transmits now) ok)
+  works_ok (Take a room) t ok = has a (or_left (puts a || gets a) (pumps_it a || fires_it a) (or_right (puts a) (gets a) (take_room now a room ok))) (there now a (takes now room) ok)
+  works_ok (Pump a to) t ok = has a (or_right (puts a || gets a) (pumps_it a || fires_it a) (or_left (pumps_it a) (fires_it a) (pumps_somewhere now a to (ltb-true to.0 256 t) ok))) (there now a (pumps now to) ok)
+  works_ok (Fire a) t ok = has a (or_right (puts a || gets a) (pumps_it a || fires_it a) (or_right (pumps_it a) (fires_it a) ok)) (there now a (fires now) ok)
+  works_ok (Open a pgn max_len) t ok = absurd (true≢false (sym t))
+  works_ok (Close port) t ok = absurd (true≢false (sym t))
+  works_ok (Send from to pgn bytes) t ok = absurd (true≢false (sym t))
+  works_ok (TakeAgain a room) t ok = absurd (true≢false (sym t))
+  works_ok (Overrun a n) t ok = absurd (true≢false (sym t))
+  works_ok (Tick n) t ok = absurd (true≢false (sym t))
+  works_ok (Cancel from to number) t ok = absurd (true≢false (sym t))
+  works_ok (Inject f) t ok = absurd (true≢false (sym t))
+  works_ok (Pause port) t ok = absurd (true≢false (sym t))
+  works_ok (Resume port) t ok = absurd (true≢false (sym t))
+
+  works : (call : Call) (events : List Event) → is_turn call ≡ true → (applied now call).1 ≡ Done events → any_work seg tick ≡ true
+  works call events t e = works_ok call t (done_ok now call events e)
 
 -- without a next tick, what can be done is late
 only_late : (seg : Segment) → next_tick seg ≡ None → CanGo seg → IsLate seg
@@ -245,10 +240,10 @@ or_ends : (o : Option Address) (call : Address → Call) (other : Next) (why : D
 or_ends None call other why e = (refl, e)
 or_ends (Some a) call other why e = absurd (makes_or_ends (call a) why e)
 
-none_can : (seg : Segment) (kind : Kind) (n : ℕ) → lowest seg kind ≡ None → n < 254 → can seg kind (node n) ≡ false
+pub none_can : (seg : Segment) (kind : Kind) (n : ℕ) → lowest seg kind ≡ None → n < 254 → can seg kind (node n) ≡ false
 none_can seg kind n e l = none_found (λ k. can seg kind (node k)) 254 n (none_of node (least_below (λ k. can seg kind (node k)) 254) e) l
 
-puts_or_blocked : (b : Bool) (y : Segment × Reply) → is_none (refusal_of (cond b (Err refusal.BusFull) (Ok y))) ≡ false → is_for_bus (refusal_of (cond b (Err refusal.BusFull) (Ok y))) ≡ false → ⊥
+pub puts_or_blocked : (b : Bool) (y : Segment × Reply) → is_none (refusal_of (cond b (Err refusal.BusFull) (Ok y))) ≡ false → is_for_bus (refusal_of (cond b (Err refusal.BusFull) (Ok y))) ≡ false → ⊥
 puts_or_blocked true y e q = true≢false q
 puts_or_blocked false y e q = true≢false e
 
@@ -274,16 +269,16 @@ unblocked_flows seg none blocked r j = by st.queue refl
         (ap (λ (x : Answer). is_for_bus (refusal_of x)) (sym here) ∙ none_can seg kind.Blocked st.address.0 blocked below)
 
 -- what holds where a drain ends as at rest
-record RestParts (seg : Segment) : Type 0 where
-  none : lowest seg kind.Transmit ≡ None
-  blocked : lowest seg kind.Blocked ≡ None
-  tick : next_tick seg ≡ None
+pub record RestParts (seg : Segment) : Type 0 where
+  pub none : lowest seg kind.Transmit ≡ None
+  pub blocked : lowest seg kind.Blocked ≡ None
+  pub tick : next_tick seg ≡ None
 
 is_refused : Next → Bool
 is_refused (End (end.Refused cause)) = true
 is_refused other = false
 
-rest_parts : (seg : Segment) → next_of seg ≡ End end.Rest → RestParts seg
+pub rest_parts : (seg : Segment) → next_of seg ≡ End end.Rest → RestParts seg
 unfolding next_of is_refused
 rest_parts seg e =
     let untaken_is : untaken seg ≡ End end.Rest = (or_ends (lowest seg kind.Take) (λ a. Take a true) (untaken seg) end.Rest e).1 in

@@ -44,7 +44,7 @@ or_fits : (o : Option Address) (call : Address → Call) (other : Next) → ((a 
 or_fits (Some a) call other h k = h a refl
 or_fits None call other h k = k
 
-lowest_small : (seg : Segment) (kind : Kind) (a : Address) → lowest seg kind ≡ Some a → a.0 < 254
+pub lowest_small : (seg : Segment) (kind : Kind) (a : Address) → lowest seg kind ≡ Some a → a.0 < 254
 lowest_small seg kind a e = by (least_below test 254) refl e
   where
     test : ℕ → Bool
@@ -54,7 +54,7 @@ lowest_small seg kind a e = by (least_below test 254) refl e
     by None q is = absurd (none-some a is)
     by (Some k) q is = subst (λ (x : Address). x.0 < 254) (same_Some (node k) a is) (least_found test 254 k q).1
 
-pump_fits : (seg : Segment) (a : Address) → a.0 < 254 → Fits (Make (pump_of seg a))
+pub pump_fits : (seg : Segment) (a : Address) → a.0 < 254 → Fits (Make (pump_of seg a))
 pump_fits seg a small = by (least_below (pumps_to seg a) 256) refl
   where
     by : (o : Option ℕ) → least_below (pumps_to seg a) 256 ≡ o → Fits (Make (Pump a (unwrap_or (option_map node o) a)))
@@ -73,7 +73,7 @@ until_fits : (now : ℕ) (o : Option ℕ) → Fits (waits_until now o)
 until_fits now None = tt
 until_fits now (Some t) = (refl, refl)
 
-next_fits : (seg : Segment) → Fits (next_of seg)
+pub next_fits : (seg : Segment) → Fits (next_of seg)
 unfolding next_of
 next_fits seg =
     or_fits (lowest seg kind.Take) (λ a. Take a true) (untaken seg) (λ a e. (refl, refl))
@@ -105,24 +105,31 @@ module _ (P : Drain → Type 0)
       by None e = subst P (sym (last_on d e)) (over d (end_at (next_of d.segment)) h)
       by (Some why) e = subst P (sym (last_off d why e)) h
 
-  turns_keep : (start : Drain) → P start → (n : ℕ) → P (turns_from n start)
+  pub turns_keep : (start : Drain) → P start → (n : ℕ) → P (turns_from n start)
   unfolding turns_from
   turns_keep start h zero = h
   turns_keep start h (suc n) = turn_keeps (turns_from n start) (turns_keep start h n)
 
-  drained_keeps : (seg : Segment) → P (undrained seg) → (n : ℕ) → P (drained seg n)
+  pub drained_keeps : (seg : Segment) → P (undrained seg) → (n : ℕ) → P (drained seg n)
   unfolding drained
   drained_keeps seg h n = last_keeps (turns_from n (undrained seg)) (turns_keep (undrained seg) h n)
 
 -- its calls go on where the record stopped
-pub drain_stands : (addresses : List Address) (steps : Record) (seg : Segment) → StandsAt addresses steps seg → (n : ℕ) → StandsAt addresses (steps ++ (drained seg n).calls) (drained seg n).segment
-drain_stands addresses steps seg h = drained_keeps Stands more (λ d why k. k) seg (subst (λ (all : Record). StandsAt addresses all seg) (sym (append-nil steps)) h)
-  where
-    Stands : Drain → Type 0
-    Stands d = StandsAt addresses (steps ++ d.calls) d.segment
+module _ (addresses : List Address) (steps : Record) where
+  abbrev Stands : Drain → Type 0
+  Stands d = StandsAt addresses (steps ++ d.calls) d.segment
 
-    more : (d : Drain) (call : Call) → next_of d.segment ≡ Make call → Stands d → Stands (makes d call (applied d.segment call))
-    more d call e k = subst (λ (all : Record). StandsAt addresses all (applied d.segment call).0) (append_assoc steps d.calls ((call, (applied d.segment call).1) ∷ [])) (call_goes_on addresses (steps ++ d.calls) d.segment call k (subst Fits e (next_fits d.segment)).0)
+  stands_more : (d : Drain) (call : Call) → next_of d.segment ≡ Make call → Stands d → Stands (makes d call (applied d.segment call))
+  stands_more d call e k = subst (λ (all : Record). StandsAt addresses all (applied d.segment call).0) (append_assoc steps d.calls ((call, (applied d.segment call).1) ∷ [])) (call_goes_on addresses (steps ++ d.calls) d.segment call k (subst Fits e (next_fits d.segment)).0)
+
+  stands_first : (seg : Segment) → StandsAt addresses steps seg → Stands (undrained seg)
+  stands_first seg h = subst (λ (all : Record). StandsAt addresses all seg) (sym (append-nil steps)) h
+
+  pub turns_stand : (seg : Segment) → StandsAt addresses steps seg → (n : ℕ) → StandsAt addresses (steps ++ (turns_from n (undrained seg)).calls) (turns_from n (undrained seg)).segment
+  turns_stand seg h n = turns_keep Stands stands_more (λ d why k. k) (undrained seg) (stands_first seg h) n
+
+  pub drain_stands : (seg : Segment) → StandsAt addresses steps seg → (n : ℕ) → StandsAt addresses (steps ++ (drained seg n).calls) (drained seg n).segment
+  drain_stands seg h n = drained_keeps Stands stands_more (λ d why k. k) seg (stands_first seg h) n
 
 -- each of them is one of the six
 all_push : (test : Step → Bool) (xs : Record) (x : Step) → list_all test xs ≡ true → test x ≡ true → list_all test (xs ++ x ∷ []) ≡ true
@@ -215,7 +222,7 @@ unfolding turns_from
 turns_rest seg zero = λ q. absurd (none-some end.Rest q)
 turns_rest seg (suc n) = turn_rests (turns_from n (undrained seg)) (turns_rest seg n)
 
-drained_rests : (seg : Segment) (n : ℕ) → RestsWell (drained seg n)
+pub drained_rests : (seg : Segment) (n : ℕ) → RestsWell (drained seg n)
 unfolding drained
 drained_rests seg n = by d.ended refl
   where

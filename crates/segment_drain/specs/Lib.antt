@@ -1,3 +1,5 @@
+pub mod Calm
 pub mod Chosen
 pub mod Drains
+pub mod Enough
 pub mod Rested

@@ -2,10 +2,15 @@
 ghost use Rattle.std.specs.Prelude.{◌≡◌, ◌≢◌, ℕ, ◌<◌, ◌≤◌, ◌+◌, ◌++◌, ◌^◌, None, List, length, true};
 ghost use Rattle.std.specs.List.{list_all};
 ghost use Rattle.pgn_ids.specs.declared.address.Address.{Address as AddressValue};
+ghost use Rattle.bus_order.specs.Bus.{bus_len};
 ghost use Rattle.segment_law.specs.Record.{Record, StandsAt};
+ghost use Rattle.segment_law.specs.declared.refusal.Refusal.{Refusal as RefusalValue};
 ghost use Rattle.segment_core.specs.Promise.{KeepsPromise};
 ghost use Rattle.segment_drain.specs.Drains.{Drain, IsCourse, Goes, Makes, IsDrained, HasBegun, drained, end_at, is_drain_call, frame_put, timed_by, goes_on_by};
+ghost use Rattle.segment_drain.specs.Calm.{AreCalm, never_paused};
+ghost use Rattle.segment_drain.specs.Enough.{enough_turns, longest_time, HasEnough};
 ghost use Rattle.segment_drain.specs.Rested.{IsAtRest};
+ghost use Rattle.work_law.specs.Rest.{HasRested, AllEnded};
 ghost use Rattle.segment_drain.specs.declared.end.DrainEnd.TheVariants as end;
 
 use crate::choosing::{Next, next_of};
@@ -17,7 +22,7 @@ use bus_frame::Frame;
 use pgn_ids::Address;
 use segment_core::{Call, Reply, Segment, the_headline_holds};
 use std::alloc::Global;
-use work_law::what_has_stopped_rests;
+use work_law::{overruns_fall, what_has_stopped_rests, work_falls};
 
 /// Drains a segment for at most so many turns, and returns the frames put and the events.
 ///
@@ -26,8 +31,12 @@ use work_law::what_has_stopped_rests;
 /// something can be done.
 ///
 /// It ends as at rest if there is none of them, and after its turns. It ends as held if a timer only asked a sender to wait again, as
-/// a session on hold does while its port is paused. It ends as refused if the last place of the bus is used; and at a call that
+/// a session on hold does while its port is paused. It ends as refused only if the last place of the bus is used; and at a call that
 /// lacks memory, which then wasn't made.
+///
+/// It doesn't end after its turns if there are enough: twice as many as calls may be left, and two. If no port is paused, no session
+/// is on hold and the bus has places for what may come, it then ends at rest, unless a call lacks memory; and if 1,250 ticks of the
+/// clock are left, each message that was sent has its outcome.
 pub fn drain(alloc: Global, segment: &mut Segment, turns: u64) -> Drained
     ensures done { result.end ≢ end.OutOfMemory → IsDrained (drained segment.old turns) segment.new result }
     ensures begun { result.end ≡ end.OutOfMemory → HasBegun segment.old segment.new turns result }
@@ -37,10 +46,23 @@ pub fn drain(alloc: Global, segment: &mut Segment, turns: u64) -> Drained
         → (n : ℕ) → StandsAt addresses (steps ++ (drained segment.old n).calls) (drained segment.old n).segment }
     ensures rest { (addresses : List AddressValue) (steps : Record) → StandsAt addresses steps segment.old → result.end ≡ end.Rest
         → IsAtRest (steps ++ (drained segment.old turns).calls) segment.new }
+    ensures enough { (addresses : List AddressValue) (steps : Record) → StandsAt addresses steps segment.old → enough_turns segment.old ≤ turns
+        → result.end ≢ end.Turns }
+    ensures refused { (addresses : List AddressValue) (steps : Record) → StandsAt addresses steps segment.old
+        → (cause : RefusalValue) → result.end ≡ end.Refused cause → 2 ^ 64 ≤ bus_len segment.new.bus + 1 }
+    ensures held { (addresses : List AddressValue) (steps : Record) → StandsAt addresses steps segment.old → AreCalm segment.old → result.end ≢ end.Held }
+    ensures calm { (addresses : List AddressValue) (steps : Record) → StandsAt addresses steps segment.old → never_paused steps ≡ true → AreCalm segment.old }
+    ensures heals { (addresses : List AddressValue) (steps : Record) → StandsAt addresses steps segment.old → HasEnough segment.old turns
+        → result.end ≢ end.OutOfMemory → result.end ≡ end.Rest }
+    ensures healed { (addresses : List AddressValue) (steps : Record) → StandsAt addresses steps segment.old → HasEnough segment.old turns
+        → result.end ≢ end.OutOfMemory → segment.new.now + longest_time < 2 ^ 64
+        → HasRested segment.new × AllEnded (steps ++ (drained segment.old turns).calls) }
     ensures headline { KeepsPromise segment.new }
 {
     // Laws, for the last clauses: these calls do nothing.
     what_has_stopped_rests();
+    work_falls();
+    overruns_fall();
     the_headline_holds();
     let mut course = Course::new(alloc);
     for _ in 0..turns {

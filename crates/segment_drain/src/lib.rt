@@ -14,4 +14,4 @@ mod waits;
 pub use drained::Drained;
 pub use draining::drain;
 pub use end::DrainEnd;
-pub use rest::has_rested;
+pub use rest::{calm_stays, has_rested};

@@ -2,6 +2,9 @@ use Rattle.std.proofs.Common.{◌≡◌, ◌<◌, ◌^◌, ap, ◌∙◌, subst,
 use Rattle.segment_drain.specs.Drains.{end_at, turns_from, undrained}
 use Rattle.segment_drain.proofs.Drains.{Says, Draining, rest_is_fair, counted, draining_begins, draining_goes, turn_says, last_says}
 use Rattle.segment_drain.proofs.Wholes.{drain_calls, drain_few, drain_stands, drain_rests}
+use Rattle.segment_drain.proofs.Calm.{never_calm}
+use Rattle.segment_drain.proofs.Healing.{healed_end}
+use Rattle.segment_drain.proofs.Enough.{enough_end, refused_end, held_end, rest_end}
 use Rattle.segment_drain.proofs.draining.drain.Goals as goal
 
 pub loop-init : goal.loop-init
@@ -29,6 +32,12 @@ returns-in-Err c =
       few = drain_few c.args.segment.now;
       stands = λ addresses steps h. drain_stands addresses steps c.args.segment.now h;
       rest = λ addresses steps h e. drain_rests c.what_has_stopped_rests.ensures.rests c.what_has_stopped_rests.ensures.ends addresses steps c.args.segment.now c.turn.new.segment c.args.turns c.ended.result h (says.done_is (rest_is_fair e)) e;
+      enough = λ addresses steps h. enough_end c.work_falls.ensures c.overruns_fall.ensures addresses steps c.args.segment.now h c.args.turns c.ended.result c.turn.new.segment says.done_is;
+      refused = λ addresses steps h. refused_end c.work_falls.ensures c.overruns_fall.ensures addresses steps c.args.segment.now h c.args.turns c.ended.result c.turn.new.segment says.done_is;
+      held = λ addresses steps h. held_end c.work_falls.ensures c.overruns_fall.ensures addresses steps c.args.segment.now h c.args.turns c.ended.result c.turn.new.segment says.done_is;
+      calm = λ addresses steps h. never_calm addresses steps c.args.segment.now h;
+      heals = λ addresses steps h. rest_end c.work_falls.ensures c.overruns_fall.ensures addresses steps c.args.segment.now h c.args.turns c.ended.result c.turn.new.segment says.done_is;
+      healed = λ addresses steps h. healed_end c.work_falls.ensures c.overruns_fall.ensures c.what_has_stopped_rests.ensures.rests c.what_has_stopped_rests.ensures.ends addresses steps c.args.segment.now h c.args.turns c.ended.result c.turn.new.segment says.done_is;
       headline = λ addresses steps. c.the_headline_holds.ensures addresses steps c.turn.new.segment;
     }
 
@@ -45,5 +54,11 @@ returns c =
       few = drain_few c.args.segment.now;
       stands = λ addresses steps h. drain_stands addresses steps c.args.segment.now h;
       rest = λ addresses steps h e. drain_rests c.what_has_stopped_rests.ensures.rests c.what_has_stopped_rests.ensures.ends addresses steps c.args.segment.now c.loop.segment c.args.turns c.ended-2.result h (says.done_is (rest_is_fair e)) e;
+      enough = λ addresses steps h. enough_end c.work_falls.ensures c.overruns_fall.ensures addresses steps c.args.segment.now h c.args.turns c.ended-2.result c.loop.segment says.done_is;
+      refused = λ addresses steps h. refused_end c.work_falls.ensures c.overruns_fall.ensures addresses steps c.args.segment.now h c.args.turns c.ended-2.result c.loop.segment says.done_is;
+      held = λ addresses steps h. held_end c.work_falls.ensures c.overruns_fall.ensures addresses steps c.args.segment.now h c.args.turns c.ended-2.result c.loop.segment says.done_is;
+      calm = λ addresses steps h. never_calm addresses steps c.args.segment.now h;
+      heals = λ addresses steps h. rest_end c.work_falls.ensures c.overruns_fall.ensures addresses steps c.args.segment.now h c.args.turns c.ended-2.result c.loop.segment says.done_is;
+      healed = λ addresses steps h. healed_end c.work_falls.ensures c.overruns_fall.ensures c.what_has_stopped_rests.ensures.rests c.what_has_stopped_rests.ensures.ends addresses steps c.args.segment.now h c.args.turns c.ended-2.result c.loop.segment says.done_is;
       headline = λ addresses steps. c.the_headline_holds.ensures addresses steps c.loop.segment;
     }
