@@ -1,6 +1,6 @@
 -- A message to all ends as broadcast, unless it is cancelled.
 use Rattle.std.proofs.Common.{◌≡◌, ◌⊎◌, inl, inr, ℕ, zero, suc, ◌+◌, ◌^◌, ◌<◌, ◌≤◌, ◌==◌, nat_lt, Bool, true, false, cond, not, ◌&&◌, ◌||◌, List, [], ◌∷◌, ◌++◌, length, Option, Some, None, Ok, Err, refl, sym, ap, ◌∙◌, subst, arith, true≢false, ne_eqb, ltb-true}
-use Rattle.std.specs.Prelude.{is_some, slice_get}
+use Rattle.std.specs.Prelude.{slice_get}
 use Rattle.std.specs.List.{list_all}
 use Rattle.std.proofs.lemmas.List.Folds.{list_all-append}
 use Rattle.std.specs.FinMap as finmap
@@ -60,12 +60,11 @@ use Rattle.station_lanes.specs.Lanes.{Lanes}
 use Rattle.station_lanes.specs.LaneCalls.{stepped_lanes, step_at, outcome_of}
 use Rattle.station_lanes.specs.LaneReaders.{refusal_at, is_due_at, due_lane, overrun_lanes, overrun_events}
 use Rattle.station_sessions.specs.Given.{given_to}
-use Rattle.station_sessions.specs.Opening.{key_of, refusal, is_tp_size, is_etp_size, set_for, others_than, rts_received, bam_received, opening_received}
+use Rattle.station_sessions.specs.Opening.{key_of, refusal, is_tp_size, is_etp_size, set_for, others_than, rts_received, bam_received}
 use Rattle.station_sessions.specs.Receiving.{Inbound, Reception, broadcast_settled, connection_settled, session_stepped, session_fired, flow_at, received_by, received as frame_received, fired_by, fired_at}
 use Rattle.station_core.specs.Station.{Station, StationStep, by_session}
 use Rattle.station_core.specs.Sending.{lane_of, pumped}
 use Rattle.station_core.specs.Taking.{packet_kind, cm_taken, wire_taken, looks_at, meaning_taken, taken}
-use Rattle.station_core.specs.Overruns.{overrun}
 use Rattle.station_core.specs.Timers.{is_due, lane_fired, fired}
 use Rattle.segment_law.specs.Segment.{Segment, place_of, has_station}
 use Rattle.segment_law.specs.Calls.{Answer, no_place, pump_places, takes_by, takes, repeats_by, repeats, transmits_by, transmits, overruns, fires, pumps_by, pumps, sends, opens, closes, pauses, resumes, at_station, at_place, called, replied, applied, events_of}
@@ -74,7 +73,7 @@ use Rattle.segment_law.specs.declared.call.Call.TheVariants as ask
 use Rattle.segment_law.specs.declared.refusal.Refusal.{Refusal}
 use Rattle.record_law.proofs.Maps.{lane_else}
 use Rattle.record_law.proofs.Readings.{GivesBack, ReadsBack}
-use Rattle.record_law.proofs.Tests.{either, by_option, on_test, equal_or_not}
+use Rattle.record_law.proofs.Tests.{either, by_option, equal_or_not}
 use Rattle.broadcast_law.proofs.Carried.{IsRead, reading_tells}
 use Rattle.broadcast_law.proofs.LaneSteps.{FitsUnderWay, IsLaneOf}
 use Rattle.broadcast_law.proofs.Places.{AllOwn}
