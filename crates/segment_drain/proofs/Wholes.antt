@@ -5,20 +5,25 @@ use Rattle.std.specs.List.{list_all}
 use Rattle.std.specs.Option.{option_map}
 use Rattle.std.proofs.lemmas.Bool.{lt-ltb}
 use Rattle.std.proofs.lemmas.List.{length-append}
+use Rattle.std.proofs.lemmas.List.Folds.{list_all-append}
 use Rattle.std.proofs.lemmas.Option.{none-some, same_Some}
 use Rattle.pgn_ids.specs.declared.address.Address.{Address}
 use Rattle.station_lanes.specs.LaneReaders.{least_below}
 use Rattle.bus_order.specs.Bus.{bus_len}
 use Rattle.segment_law.specs.Segment.{Segment, waiting_at}
-use Rattle.segment_law.specs.Calls.{is_call, applied}
+use Rattle.segment_law.specs.Calls.{is_call, applied, events_of}
 use Rattle.segment_law.specs.Readers.{pumps_to, front_at}
 use Rattle.segment_law.specs.Record.{Step, Record, StandsAt}
 use Rattle.segment_law.specs.declared.call.Call.{Call}
-use Rattle.segment_law.specs.declared.call.Call.TheVariants.{Pump, Transmit, Take, Overrun, Fire}
+use Rattle.segment_law.specs.declared.call.Call.TheVariants.{Pump, Transmit, Take, Overrun, Fire, Cancel}
 use Rattle.segment_law.specs.declared.refusal.Refusal.TheVariants as refusal
 use Rattle.segment_law.specs.declared.reply.Reply.{Reply}
 use Rattle.segment_law.specs.declared.reply.Reply.TheVariants.{Refused, Done}
+use Rattle.segment_law.proofs.Booleans.{both_pass}
+use Rattle.segment_law.proofs.Drifting.{stands_drifts}
 use Rattle.segment_law.proofs.Records.{call_goes_on}
+use Rattle.segment_law.specs.Drive.{events_in}
+use Rattle.work_law.specs.ToAll.{ends_well, is_cancel, BroadcastsEnd}
 use Rattle.work_law.specs.Rest.{Rests, Ends}
 use Rattle.work_law.proofs.StationCalls.{least_found}
 use Rattle.segment_drain.specs.Chosen.{node, can, lowest, furthest, next_tick, is_hold, or_else, pump_of, makes_room, waits_until, unblocked, untaken, next_of}
@@ -130,6 +135,28 @@ module _ (addresses : List Address) (steps : Record) where
 
   pub drain_stands : (seg : Segment) → StandsAt addresses steps seg → (n : ℕ) → StandsAt addresses (steps ++ (drained seg n).calls) (drained seg n).segment
   drain_stands seg h n = drained_keeps Stands stands_more (λ d why k. k) seg (stands_first seg h) n
+
+-- only a Cancel ends a message to all otherwise than as broadcast, and it makes none
+events_push : (xs : Record) (x : Step) → list_all ends_well (events_in xs) ≡ true → list_all ends_well (events_of x.1) ≡ true → list_all ends_well (events_in (xs ++ x ∷ [])) ≡ true
+events_push [] x h k = ap (list_all ends_well) (append-nil (events_of x.1)) ∙ k
+events_push (y ∷ ys) x h k =
+    let q = both_pass (list_all ends_well (events_of y.1)) (list_all ends_well (events_in ys)) (sym (list_all-append ends_well (events_of y.1) (events_in ys)) ∙ h) in
+    list_all-append ends_well (events_of y.1) (events_in (ys ++ x ∷ [])) ∙ (λ i. q.0 i && events_push ys x q.1 k i)
+
+not_cancel : (call : Call) → is_drain_call call ≡ true → is_cancel call ≡ false
+not_cancel (Cancel from to number) is = absurd (true≢false (sym is))
+not_cancel call is = refl
+
+pub drain_to_all : BroadcastsEnd → (addresses : List Address) (steps : Record) (seg : Segment) → StandsAt addresses steps seg → (n : ℕ) → list_all ends_well (events_in (drained seg n).calls) ≡ true
+drain_to_all broadcasts addresses steps seg h n = (drained_keeps Both more (λ d why k. k) seg (stands_first addresses steps seg h, refl) n).1
+  where
+    Both : Drain → Type 0
+    Both d = StandsAt addresses (steps ++ d.calls) d.segment × (list_all ends_well (events_in d.calls) ≡ true)
+
+    more : (d : Drain) (call : Call) → next_of d.segment ≡ Make call → Both d → Both (makes d call (applied d.segment call))
+    more d call e k =
+        let fits = subst Fits e (next_fits d.segment) in
+        (stands_more addresses steps d call e k.0, events_push d.calls (call, (applied d.segment call).1) k.1 (broadcasts addresses (steps ++ d.calls) d.segment call (stands_drifts addresses (steps ++ d.calls) d.segment k.0) fits.0 (not_cancel call fits.1)))
 
 -- each of them is one of the six
 all_push : (test : Step → Bool) (xs : Record) (x : Step) → list_all test xs ≡ true → test x ≡ true → list_all test (xs ++ x ∷ []) ≡ true

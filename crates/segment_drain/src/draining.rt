@@ -10,7 +10,9 @@ ghost use Rattle.segment_drain.specs.Drains.{Drain, IsCourse, Goes, Makes, IsDra
 ghost use Rattle.segment_drain.specs.Calm.{AreCalm, never_paused};
 ghost use Rattle.segment_drain.specs.Enough.{enough_turns, longest_time, HasEnough};
 ghost use Rattle.segment_drain.specs.Rested.{IsAtRest};
+ghost use Rattle.segment_law.specs.Drive.{events_in};
 ghost use Rattle.work_law.specs.Rest.{HasRested, AllEnded};
+ghost use Rattle.work_law.specs.ToAll.{ends_well};
 ghost use Rattle.segment_drain.specs.declared.end.DrainEnd.TheVariants as end;
 
 use crate::choosing::{Next, next_of};
@@ -22,7 +24,7 @@ use bus_frame::Frame;
 use pgn_ids::Address;
 use segment_core::{Call, Reply, Segment, the_headline_holds};
 use std::alloc::Global;
-use work_law::{overruns_fall, what_has_stopped_rests, work_falls};
+use work_law::{broadcasts_end_as_such, overruns_fall, what_has_stopped_rests, work_falls};
 
 /// Drains a segment for at most so many turns, and returns the frames put and the events.
 ///
@@ -36,7 +38,7 @@ use work_law::{overruns_fall, what_has_stopped_rests, work_falls};
 ///
 /// It doesn't end after its turns if there are enough: twice as many as calls may be left, and two. If no port is paused, no session
 /// is on hold and the bus has places for what may come, it then ends at rest, unless a call lacks memory; and if 1,250 ticks of the
-/// clock are left, each message that was sent has its outcome.
+/// clock are left, each message that was sent has its outcome. One to all ends as broadcast in every drain.
 pub fn drain(alloc: Global, segment: &mut Segment, turns: u64) -> Drained
     ensures done { result.end ≢ end.OutOfMemory → IsDrained (drained segment.old turns) segment.new result }
     ensures begun { result.end ≡ end.OutOfMemory → HasBegun segment.old segment.new turns result }
@@ -57,12 +59,15 @@ pub fn drain(alloc: Global, segment: &mut Segment, turns: u64) -> Drained
     ensures healed { (addresses : List AddressValue) (steps : Record) → StandsAt addresses steps segment.old → HasEnough segment.old turns
         → result.end ≢ end.OutOfMemory → segment.new.now + longest_time < 2 ^ 64
         → HasRested segment.new × AllEnded (steps ++ (drained segment.old turns).calls) }
+    ensures to_all { (addresses : List AddressValue) (steps : Record) → StandsAt addresses steps segment.old
+        → (n : ℕ) → list_all ends_well (events_in (drained segment.old n).calls) ≡ true }
     ensures headline { KeepsPromise segment.new }
 {
     // Laws, for the last clauses: these calls do nothing.
     what_has_stopped_rests();
     work_falls();
     overruns_fall();
+    broadcasts_end_as_such();
     the_headline_holds();
     let mut course = Course::new(alloc);
     for _ in 0..turns {

@@ -1,7 +1,7 @@
 use Rattle.std.proofs.Common.{◌≡◌, ◌<◌, ◌^◌, ap, ◌∙◌, subst, arith}
 use Rattle.segment_drain.specs.Drains.{end_at, turns_from, undrained}
 use Rattle.segment_drain.proofs.Drains.{Says, Draining, rest_is_fair, counted, draining_begins, draining_goes, turn_says, last_says}
-use Rattle.segment_drain.proofs.Wholes.{drain_calls, drain_few, drain_stands, drain_rests}
+use Rattle.segment_drain.proofs.Wholes.{drain_calls, drain_few, drain_to_all, drain_stands, drain_rests}
 use Rattle.segment_drain.proofs.Calm.{never_calm}
 use Rattle.segment_drain.proofs.Healing.{healed_end}
 use Rattle.segment_drain.proofs.Enough.{enough_end, refused_end, held_end, rest_end}
@@ -38,6 +38,7 @@ returns-in-Err c =
       calm = λ addresses steps h. never_calm addresses steps c.args.segment.now h;
       heals = λ addresses steps h. rest_end c.work_falls.ensures c.overruns_fall.ensures addresses steps c.args.segment.now h c.args.turns c.ended.result c.turn.new.segment says.done_is;
       healed = λ addresses steps h. healed_end c.work_falls.ensures c.overruns_fall.ensures c.what_has_stopped_rests.ensures.rests c.what_has_stopped_rests.ensures.ends addresses steps c.args.segment.now h c.args.turns c.ended.result c.turn.new.segment says.done_is;
+      to_all = λ addresses steps h n. drain_to_all c.broadcasts_end_as_such.ensures addresses steps c.args.segment.now h n;
       headline = λ addresses steps. c.the_headline_holds.ensures addresses steps c.turn.new.segment;
     }
 
@@ -60,5 +61,6 @@ returns c =
       calm = λ addresses steps h. never_calm addresses steps c.args.segment.now h;
       heals = λ addresses steps h. rest_end c.work_falls.ensures c.overruns_fall.ensures addresses steps c.args.segment.now h c.args.turns c.ended-2.result c.loop.segment says.done_is;
       healed = λ addresses steps h. healed_end c.work_falls.ensures c.overruns_fall.ensures c.what_has_stopped_rests.ensures.rests c.what_has_stopped_rests.ensures.ends addresses steps c.args.segment.now h c.args.turns c.ended-2.result c.loop.segment says.done_is;
+      to_all = λ addresses steps h n. drain_to_all c.broadcasts_end_as_such.ensures addresses steps c.args.segment.now h n;
       headline = λ addresses steps. c.the_headline_holds.ensures addresses steps c.loop.segment;
     }
