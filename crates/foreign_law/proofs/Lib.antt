@@ -1,0 +1,6 @@
+pub mod Later
+pub mod Courses
+pub mod Connections
+pub mod Broadcasts
+pub mod Sessions
+pub mod Stations
