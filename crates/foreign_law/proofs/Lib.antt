@@ -4,3 +4,5 @@ pub mod Connections
 pub mod Broadcasts
 pub mod Sessions
 pub mod Stations
+pub mod Messages
+pub mod Runs

@@ -1,7 +1,7 @@
 -- What a frame makes of the sessions of a station: each is still that of a transfer whose opening it took, and what it gives was put
 -- together.
 use Rattle.std.proofs.Common.{◌≡◌, ◌⊎◌, inl, inr, ℕ, zero, suc, ◌+◌, ◌<◌, ◌≤◌, ◌==◌, Bool, true, false, cond, not, ◌&&◌, ◌||◌, List, [], ◌∷◌, ◌++◌, map, filter_map, length, Option, Some, None, refl, sym, ap, ◌∙◌, subst, arith, eqb-true, eq-eqb, ltb-true, leb-true, ne_eqb, append-nil, ⊎_elim}
-use Rattle.std.specs.Prelude.{Contains, nat_le}
+use Rattle.std.specs.Prelude.{Contains, nat_le, option_to_list}
 use Rattle.std.specs.FinMap as finmap
 use Rattle.std.proofs.lemmas.Bool.{and_parts, lt-leb}
 use Rattle.std.proofs.lemmas.List.Elements.{Contains-append_cases, Contains-append_right, Contains-push, Contains-push_cases}
@@ -33,9 +33,13 @@ use Rattle.bam_session.specs.States as bam
 use Rattle.lane_core.specs.Lane.{Lane}
 use Rattle.lane_core.specs.Step.{LaneStep}
 use Rattle.lane_core.specs.Hear.{heard}
+use Rattle.lane_core.specs.Fire.{fired as lane_fires}
 use Rattle.lane_core.specs.Overrun.{overrun as lane_overrun}
 use Rattle.lane_core.specs.declared.step.Ended.{Ended}
 use Rattle.message_events.specs.declared.event.Event.{Event}
+use Rattle.message_events.specs.declared.event.Event.TheVariants as event
+use Rattle.port_table.specs.Ports.{without_port}
+use Rattle.session_table.specs.DueOrder.{first_due}
 use Rattle.session_table.specs.Key.{session_for}
 use Rattle.session_table.specs.declared.TheConstants.{MAX_SESSIONS}
 use Rattle.session_table.specs.declared.key.Key.{Key}
@@ -43,20 +47,28 @@ use Rattle.session_table.specs.declared.key.SessionKind.{SessionKind}
 use Rattle.session_table.specs.declared.key.SessionKind.TheVariants.{Broadcast, Tp, Etp}
 use Rattle.session_table.specs.declared.incoming.Incoming.{Incoming}
 use Rattle.session_table.specs.declared.incoming.Incoming.TheVariants as incoming
+use Rattle.station_lanes.specs.Lanes.{Lanes}
 use Rattle.station_lanes.specs.LaneCalls.{step_at, outcome_of}
-use Rattle.station_sessions.specs.Receiving.{Reception, flow_at, received}
+use Rattle.station_lanes.specs.LaneReaders.{overrun_lanes, overrun_events, due_lane}
+use Rattle.station_sessions.specs.Receiving.{Reception, flow_at, received, fired_at}
 use Rattle.station_sessions.specs.Opening.{key_of, refusal, is_tp_size, is_etp_size, set_for, others_than, whole_join, peer_of, rts_received, bam_received}
-use Rattle.station_core.specs.Station.{Station, StationStep, quietly, by_session, by_lane}
+use Rattle.station_core.specs.Closing.{closed_below, closed}
+use Rattle.station_core.specs.Overruns.{overrun}
+use Rattle.station_core.specs.Timers.{lane_fired, fired}
+use Rattle.station_core.specs.Station.{Station, StationStep, new_station, quietly, by_session, by_lane}
 use Rattle.station_core.specs.Taking.{packet_kind, abort_taken, cm_taken, request_taken, ack_taken, wire_taken, looks_at, meaning_taken, taken}
 use Rattle.segment_law.specs.Told.{Placed}
 use Rattle.record_law.proofs.Tests.{on_test, either, not_fails}
+use Rattle.record_law.proofs.Lists.{Each, each_append}
+use Rattle.record_law.proofs.Maps.{OfEach, of_each_none}
 use Rattle.record_law.proofs.readers.Filled.{IsSeven}
-use Rattle.foreign_law.specs.Taken.{Heard, Message, message_at}
+use Rattle.record_law.proofs.readers.Sessions.{MeansSeven, reading_seven}
+use Rattle.foreign_law.specs.Taken.{Heard, Message, message_at, heard_by}
 use Rattle.foreign_law.specs.Assembled.{Transfer, kind_for, Announces}
 use Rattle.foreign_law.proofs.Later.{AreNext, HasNoOffset}
 use Rattle.foreign_law.proofs.Courses.{course_begins}
 use Rattle.foreign_law.proofs.Connections.{asks_for}
-use Rattle.foreign_law.proofs.Sessions.{told, in_none, GoesTo, IsFromOpening, AreFromOpenings, IsQuiet, Settles, settles_none, settles_aborted, settles_ended, settles_on, settles_received}
+use Rattle.foreign_law.proofs.Sessions.{told, in_none, GoesTo, IsFromOpening, AreFromOpenings, IsQuiet, Settles, settles_none, settles_aborted, settles_ended, settles_on, settles_received, settles_fired, unbound_keeps}
 
 -- What a frame says of its addresses
 
@@ -69,6 +81,16 @@ between_goes from to (Some w) m e = on_test (λ b. (goes_to w to.0 && comes_from
 pub reading_goes : (f : CanFrame) (m : Heard) → reading f ≡ Some m → goes_to m.0 m.2.0 ≡ true
 unfolding reading
 reading_goes f m e = between_goes (meaning_of f.id).from (meaning_of f.id).to (body_of (meaning_of f.id).pgn f.bytes) m e
+
+between_to : (from to : Address) (o : Option Wire) (m : Heard) → between from to o ≡ Some m → m.2 ≡ to
+between_to from to None m e = absurd (none-some m e)
+between_to from to (Some w) m e = on_test (λ b. cond {A = Option Heard} b (Some (w, from, to)) None ≡ Some m → m.2 ≡ to) (goes_to w to.0 && comes_from w from.0)
+    (λ t q. sym (ap (λ (x : Heard). x.2) (same_Some (w, from, to) m q)))
+    (λ t q. absurd (none-some m q)) e
+
+reading_to : (f : CanFrame) (m : Heard) → reading f ≡ Some m → m.2 ≡ (meaning_of f.id).to
+unfolding reading
+reading_to f m e = between_to (meaning_of f.id).from (meaning_of f.id).to (body_of (meaning_of f.id).pgn f.bytes) m e
 
 -- Sizes
 
@@ -88,6 +110,24 @@ sized false room set others e = absurd (cc)
 pub outcome_gives : (a : Address) (place : ℕ) (from to : Address) (o : Option Ended) → told a place (outcome_of from to o) ≡ []
 outcome_gives a place from to None = refl
 outcome_gives a place from to (Some e) = refl
+
+abbrev IsOutcome : Event → Type 0
+IsOutcome (event.Given port from to pgn bytes) = ⊥
+IsOutcome (event.Outcome from to number outcome) = Unit {0}
+
+outcomes_give : (a : Address) (place : ℕ) (es : List Event) → Each IsOutcome es → told a place es ≡ []
+outcomes_give a place [] h = refl
+outcomes_give a place (event.Given port from to pgn bytes ∷ es) h = absurd h.0
+outcomes_give a place (event.Outcome from to number outcome ∷ es) h = outcomes_give a place es h.1
+
+one_outcome : (from to : Address) (o : Option Ended) → Each IsOutcome (outcome_of from to o)
+one_outcome from to None = tt
+one_outcome from to (Some e) = (tt, tt)
+
+overrun_outcomes : (from : Address) (lanes : Lanes) (n : ℕ) → Each IsOutcome (overrun_events from lanes n)
+unfolding overrun_events
+overrun_outcomes from lanes zero = tt
+overrun_outcomes from lanes (suc n) = each_append IsOutcome (overrun_events from lanes n) _ (overrun_outcomes from lanes n) (one_outcome from (record { 0 = n }) (step_at (overrun_lanes lanes n) n lane_overrun).ended)
 
 module _ (a : Address) (n : ℕ) (before : List (Placed Heard)) (within : (x : Placed Heard) → Contains before x → x.0 ≤ n) (given : List (Placed Message)) (ended : (g : Placed Message) → Contains given g → g.0 ≤ n)
     (st : Station) (address : st.address.0 ≡ a.0) (each : AreFromOpenings a before given n st.sessions) where
@@ -283,3 +323,76 @@ module _ (a : Address) (n : ℕ) (before : List (Placed Heard)) (within : (x : P
     wire_acts (Ack control address pgn) goes seven =
         let h : ActsBy (more (Ack control address pgn) from to goes meant room now) (quietly st) = acts_none (more (Ack control address pgn) from to goes meant room now) (next (Ack control address pgn) from to goes meant room now) (quiet_frame (Ack control address pgn) from to goes meant room now (λ x y z e. cc)) in
         either (λ (x : Station). ActsBy (more (Ack control address pgn) from to goes meant room now) (quietly x)) (address.0 == st.address.0 || to.0 == st.address.0) _ _ h h
+
+  -- A frame that is taken
+
+  abbrev pub heard_now : Option Heard → List (Placed Heard)
+  heard_now o = map (λ (x : Heard). (n + 1, x)) (option_to_list o)
+
+  pub next_none : AreNext n before []
+  next_none = record { before = within; now = λ x c. absurd (in_none x c) }
+
+  pub quiet_none : (q : Key) → IsQuiet a n before [] given q
+  quiet_none q t k f e place offset o = absurd (in_none _ o.2)
+
+  meaning_acts : (o : Option Heard) → ((m : Heard) → o ≡ Some m → (goes_to m.0 m.2.0 ≡ true) × ((m.2.0 == a.0 || m.2.0 == global_address) ≡ true) × IsSeven m.0) → (room : Bool) (now : ℕ) → ActsBy (heard_now o) (meaning_taken st o room now)
+  meaning_acts None h room now = acts_none [] next_none quiet_none
+  meaning_acts (Some m) h room now = let it = h m refl in wire_acts m.1 m.2 it.1 room now m.0 it.0 it.2
+
+  pub taken_acts : (f : CanFrame) (room : Bool) (now : ℕ) → ActsBy (heard_now (heard_by a f)) (taken st f room now)
+  taken_acts f room now =
+      let same : looks_at st f ≡ looks_at (new_station a) f = ap (λ (x : ℕ). not ((meaning_of f.id).from.0 == x) && ((meaning_of f.id).to.0 == x || (meaning_of f.id).to.0 == global_address)) address in
+      subst (λ b. ActsBy (heard_now (heard_by a f)) (cond b (meaning_taken st (reading f) room now) (quietly st))) (sym same) (by (looks_at (new_station a) f) refl)
+    where
+      facts : looks_at (new_station a) f ≡ true → (m : Heard) → reading f ≡ Some m → (goes_to m.0 m.2.0 ≡ true) × ((m.2.0 == a.0 || m.2.0 == global_address) ≡ true) × IsSeven m.0
+      facts looks m e = (
+        reading_goes f m e,
+        subst (λ (x : Address). (x.0 == a.0 || x.0 == global_address) ≡ true) (sym (reading_to f m e)) (and_parts (not ((meaning_of f.id).from.0 == a.0)) ((meaning_of f.id).to.0 == a.0 || (meaning_of f.id).to.0 == global_address) looks).1,
+        subst MeansSeven e (reading_seven f),
+      )
+
+      by : (b : Bool) → looks_at (new_station a) f ≡ b → ActsBy (heard_now (cond b (reading f) None)) (cond b (meaning_taken st (reading f) room now) (quietly st))
+      by true e = meaning_acts (reading f) (facts e) room now
+      by false e = acts_none [] next_none quiet_none
+
+  -- Timers, missed frames and ports
+
+  pub lane_acts : (to : Address) (step : Lane → Lane × LaneStep) → ActsBy [] (by_lane st to step)
+  lane_acts to step = acts_lane [] next_none quiet_none to step
+
+  lane_fired_acts : (now : ℕ) (o : Option ℕ) → ActsBy [] (lane_fired st now o)
+  lane_fired_acts now None = acts_none [] next_none quiet_none
+  lane_fired_acts now (Some to) = lane_acts (record { 0 = to }) (λ l. lane_fires l now)
+
+  pub fired_acts : (now : ℕ) → ActsBy [] (fired st now)
+  fired_acts now = by (first_due st.sessions now)
+    where
+      by : (o : Option Key) → ActsBy [] (elim o as (λ (_ : Option Key). StationStep) [ None ↦ lane_fired st now (due_lane st.lanes now) | Some key ↦ by_session st (fired_at st.ports key now st.sessions) ])
+      by None = lane_fired_acts now (due_lane st.lanes now)
+      by (Some key) = settles_fired a n before [] next_none given st.sessions each key (λ q _. quiet_none q) st.ports now
+
+  pub overrun_acts : ActsBy [] (overrun st)
+  overrun_acts = acts_quietly [] next_none (overrun st) (outcomes_give a (n + 1) (overrun_events st.address st.lanes 256) (overrun_outcomes st.address st.lanes 256))
+      (record { gives = inl refl; leaves = of_each_none (λ q v. IsFromOpening a (before ++ []) (given ++ []) (n + 1) q v.1) })
+
+  -- its sessions are as they were, or fewer
+  pub stays_as : AreFromOpenings a (before ++ []) (given ++ []) (n + 1) st.sessions
+  stays_as = (settles_none a n before [] next_none given st.sessions each quiet_none).leaves
+
+  pub closed_acts : (number : ℕ) → AreFromOpenings a (before ++ []) (given ++ []) (n + 1) (closed st number).sessions
+  unfolding closed_below
+  closed_acts number = below 254
+    where
+      P : Key → Incoming → Type 0
+      P q s = IsFromOpening a (before ++ []) (given ++ []) (n + 1) q s
+
+      begin : Station
+      begin = record st { ports = without_port st.ports number }
+
+      below : (k : ℕ) → OfEach (λ q v. P q v.1) (closed_below begin number k).sessions
+      below zero = stays_as
+      below (suc k) =
+          let source : Address = record { 0 = k } in
+          let one = unbound_keeps P (closed_below begin number k).sessions (below k) (key_of source Broadcast) number in
+          let two = unbound_keeps P _ one (key_of source Tp) number in
+          unbound_keeps P _ two (key_of source Etp) number
