@@ -1,17 +1,15 @@
 -- What a frame makes of a broadcast under way: its packets so far are the ones that were taken since its BAM, and with the last packet
 -- its message was put together.
-use Rattle.std.proofs.Common.{◌≡◌, ℕ, ◌+◌, ◌≤◌, nat_lt, Bool, true, false, cond, not, List, [], ◌∷◌, ◌++◌, length, refl, sym, ap, ◌∙◌, subst, arith, ltb-false}
+use Rattle.std.proofs.Common.{◌≡◌, ℕ, ◌+◌, ◌≤◌, nat_lt, Bool, true, false, cond, not, List, [], ◌∷◌, ◌++◌, length, refl, subst, arith, ltb-false}
 use Rattle.std.specs.Prelude.{Contains}
 use Rattle.std.proofs.lemmas.Bool.{cond_both}
 use Rattle.std.proofs.lemmas.List.Elements.{Contains-append_right}
 use Rattle.pgn_ids.specs.Address.{global_address}
 use Rattle.pgn_ids.specs.Pgn.{clean}
-use Rattle.pgn_ids.specs.declared.address.Address.{Address}
 use Rattle.tp_wire.specs.declared.wire.Kind.TheVariants.{Tp, Etp}
 use Rattle.tp_wire.specs.declared.wire.Wire.{Wire}
 use Rattle.tp_wire.specs.declared.wire.Wire.TheVariants.{Cm, Packet, Request, Ack}
 use Rattle.seg_cut.specs.Join.{joined, wants_last}
-use Rattle.session_table.specs.declared.key.SessionKind.{SessionKind}
 use Rattle.session_table.specs.declared.key.SessionKind.TheVariants as session
 use Rattle.bam_session.specs.States as bam
 use Rattle.bam_session.specs.Receiving.{Received, Awaits, Completes, Drops, received, stepped}
@@ -69,9 +67,10 @@ module _ (n : ℕ) (taken more : List (Placed Heard)) (next : AreNext n taken mo
         ends last =
             let w : Message = message_to_all s (joined s.join bytes).bytes in
             let from : w.from ≡ t.from = (λ i. record { 0 = h.is.from i }) in
-            let to : w.to ≡ t.to = (λ i. record { 0 = h.is.to i }) in
-            (its_transfer n taken more next t opening packets s.join h.course bytes le packet_is last w refl from to h.is.pgn size,
-            course_ends n taken more next t opening packets s.join h.course bytes le packet_is last w refl from to h.is.pgn size)
+            let to : w.to ≡ t.to = (λ i. record { 0 = h.is.to i }) in (
+              its_transfer n taken more next t opening packets s.join h.course bytes le packet_is last w refl from to h.is.pgn size,
+              course_ends n taken more next t opening packets s.join h.course bytes le packet_is last w refl from to h.is.pgn size,
+            )
 
         next_goes : (b : Bool) → wants_last s.join ≡ b → Goes (cond (not b) (Awaits (bam.accepted s bytes now)) (Completes (joined s.join bytes).bytes))
         next_goes true e = ends e

@@ -1,31 +1,28 @@
 -- What a frame makes of a connection under way: its packets so far are the ones that were taken since its opening, its offset is that
 -- of the last DPO, and with the last packet its message was put together.
-use Rattle.std.proofs.Common.{◌≡◌, ◌⊎◌, inl, inr, ℕ, ◌+◌, ◌-◌, ◌<◌, ◌≤◌, ◌==◌, nat_lt, Bool, true, false, cond, not, ◌&&◌, ◌||◌, List, [], ◌∷◌, ◌++◌, length, Option, Some, None, refl, sym, ap, ◌∙◌, subst, arith, ltb-true, ltb-false, eqb-true, eq-eqb, true≢false, ⊎_elim}
+use Rattle.std.proofs.Common.{◌≡◌, ◌⊎◌, inl, inr, ℕ, ◌+◌, ◌-◌, ◌<◌, ◌≤◌, ◌==◌, nat_lt, Bool, true, false, cond, not, ◌&&◌, ◌||◌, List, [], ◌∷◌, ◌++◌, length, None, refl, sym, ap, ◌∙◌, subst, arith, ltb-false, eqb-true, eq-eqb}
 use Rattle.std.specs.Prelude.{nat_le, Contains}
 use Rattle.std.proofs.lemmas.Bool.{or_parts, cond_both}
 use Rattle.std.proofs.lemmas.List.Elements.{Contains-append_right}
-use Rattle.bus_frame.specs.Frames.{CanFrame}
 use Rattle.pgn_ids.specs.Pgn.{clean}
-use Rattle.pgn_ids.specs.declared.address.Address.{Address}
 use Rattle.tp_wire.specs.Kinds.{is_same_kind}
-use Rattle.tp_wire.specs.declared.reason.AbortReason.TheVariants.{Resources, Other}
+use Rattle.tp_wire.specs.declared.reason.AbortReason.TheVariants.{Resources}
 use Rattle.tp_wire.specs.declared.wire.Kind.{Kind}
 use Rattle.tp_wire.specs.declared.wire.Kind.TheVariants.{Tp, Etp}
 use Rattle.tp_wire.specs.declared.wire.CmFrame.{CmFrame}
 use Rattle.tp_wire.specs.declared.wire.CmFrame.TheVariants.{Rts, Cts, EndOfMsgAck, Bam, Abort, EtpRts, EtpCts, EtpDpo, EtpEoma, EtpAbort}
 use Rattle.tp_wire.specs.declared.wire.Wire.{Wire}
 use Rattle.tp_wire.specs.declared.wire.Wire.TheVariants.{Cm, Packet, Request, Ack}
-use Rattle.seg_cut.specs.Join.{Join, joined, wants_last}
+use Rattle.seg_cut.specs.Join.{joined, wants_last}
 use Rattle.session_table.specs.Key.{session_for}
-use Rattle.session_table.specs.declared.key.SessionKind.{SessionKind}
 use Rattle.session_table.specs.declared.key.SessionKind.TheVariants as session
 use Rattle.responder.specs.Unfinished.{Unfinished, number_of, is_of_another, with_offset, with_packet, finished}
 use Rattle.responder.specs.Finished.{Finished}
 use Rattle.responder.specs.States as states
 use Rattle.responder.specs.Readers.{unfinished_of}
-use Rattle.responder.specs.AwaitPacket.{aborted, accepted, on_packet, on_dpo, announced, is_wrong_dpo}
-use Rattle.responder.specs.Holding.{on_dpo_in_hold, on_packet_in_hold, holding_stepped}
-use Rattle.responder.specs.Asking.{asking, asked, asks}
+use Rattle.responder.specs.AwaitPacket.{aborted, accepted, on_packet, on_dpo, is_wrong_dpo}
+use Rattle.responder.specs.Holding.{on_dpo_in_hold, holding_stepped}
+use Rattle.responder.specs.Asking.{asking, asks}
 use Rattle.responder.specs.Room.{grants_next, needed, with_room_for, prepared, prepared_to_expire}
 use Rattle.responder.specs.Window.{window}
 use Rattle.responder.specs.Steps.{awaiting_stepped, stepped, expired}
@@ -191,9 +188,10 @@ module _ (n : ℕ) (taken more : List (Placed Heard)) (next : AreNext n taken mo
         ends last =
             let w : Message = message_of (finished (with_packet m bytes)) in
             let from : w.from ≡ t.from = (λ i. record { 0 = h.is.from i }) in
-            let to : w.to ≡ t.to = (λ i. record { 0 = h.is.to i }) in
-            (its_transfer n taken more next t opening packets m.join h.course bytes le packet_is last w refl from to h.is.pgn size,
-            course_ends n taken more next t opening packets m.join h.course bytes le packet_is last w refl from to h.is.pgn size)
+            let to : w.to ≡ t.to = (λ i. record { 0 = h.is.to i }) in (
+              its_transfer n taken more next t opening packets m.join h.course bytes le packet_is last w refl from to h.is.pgn size,
+              course_ends n taken more next t opening packets m.join h.course bytes le packet_is last w refl from to h.is.pgn size,
+            )
 
         abbrev rest : Bool → Received
         rest b = cond (not b && nat_lt number s.until) (On (AwaitPacket (accepted s bytes now)) None) (cond (not b && room) (asks (with_packet m bytes) flow now) (cond (not b) (aborted m Resources) (Complete (finished (with_packet m bytes)))))
@@ -246,11 +244,14 @@ module _ (n : ℕ) (taken more : List (Placed Heard)) (next : AreNext n taken mo
           cond_both (is_of_another s.message.peer pgn) _ _ Goes
           (λ other. (packets, connection_stays (λ _. of_another announces offset pgn only s.message h.is other) (Holding s) h))
           (λ own. cond_both (is_wrong_dpo s.message.join.next (s.message.join.next - 1) announces offset) _ _ Goes (λ _. tt)
-          (λ _. (packets, record {
-            is = record { kind = h.is.kind; from = h.is.from; to = h.is.to; pgn = h.is.pgn };
-            course = course_on n taken more next t opening packets s.message.join h.course;
-            offset = offset_set offset _ s.message.kind e (its_offset s.message h.is own);
-          })))
+          (λ _. (
+            packets,
+            record {
+              is = record { kind = h.is.kind; from = h.is.from; to = h.is.to; pgn = h.is.pgn };
+              course = course_on n taken more next t opening packets s.message.join h.course;
+              offset = offset_set offset _ s.message.kind e (its_offset s.message h.is own);
+            },
+          )))
 
     abbrev Here : Wire → Type 0
     Here wire = Contains more (n + 1, (wire, t.from, t.to))

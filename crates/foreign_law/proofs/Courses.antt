@@ -1,5 +1,5 @@
 -- A transfer under way: its opening, its packets so far, and the join that they made.
-use Rattle.std.proofs.Common.{◌≡◌, ◌⊎◌, inl, inr, ℕ, zero, suc, ◌+◌, ◌-◌, ◌*◌, ◌<◌, ◌≤◌, true, List, [], ◌∷◌, ◌++◌, length, take, refl, sym, ap, ◌∙◌, subst, arith, eqb-true, append_assoc, append-nil}
+use Rattle.std.proofs.Common.{◌≡◌, ℕ, zero, suc, ◌+◌, ◌-◌, ◌*◌, ◌≤◌, true, List, [], ◌∷◌, ◌++◌, length, take, refl, sym, ap, ◌∙◌, subst, arith, eqb-true, append_assoc, append-nil}
 use Rattle.std.proofs.lemmas.List.{length-append, length-take-le}
 use Rattle.seg_cut.specs.Join.{Join, joined, wants_last}
 use Rattle.seg_cut.specs.Packets.{packet_count}

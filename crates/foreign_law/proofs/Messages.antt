@@ -1,11 +1,11 @@
 -- What a station was given stays put together, and apart, when one more call gives a message or none.
-use Rattle.std.proofs.Common.{◌≡◌, ◌⊎◌, inl, inr, ℕ, ◌+◌, ◌<◌, ◌≤◌, ◌==◌, Bool, true, false, cond, List, [], ◌++◌, refl, sym, ap, ◌∙◌, subst, arith, eq-eqb, ne_eqb, ⊎_elim}
+use Rattle.std.proofs.Common.{◌≡◌, ◌⊎◌, inl, inr, ℕ, ◌+◌, ◌<◌, ◌≤◌, ◌==◌, cond, List, [], ◌++◌, sym, ap, ◌∙◌, subst, arith, eq-eqb, ne_eqb, ⊎_elim}
 use Rattle.std.specs.Prelude.{Contains}
 use Rattle.std.proofs.lemmas.List.Elements.{Contains-append_cases}
 use Rattle.pgn_ids.specs.declared.address.Address.{Address}
 use Rattle.segment_law.specs.Told.{Placed}
 use Rattle.foreign_law.specs.Taken.{Heard, Message}
-use Rattle.foreign_law.specs.Assembled.{transfer_of, IsAssembled, AreOfOneKind, AreAssembled}
+use Rattle.foreign_law.specs.Assembled.{IsAssembled, AreOfOneKind, AreAssembled}
 use Rattle.foreign_law.proofs.Later.{AreNext, assembled_on}
 use Rattle.foreign_law.proofs.Sessions.{in_none, IsOne}
 

@@ -1,15 +1,13 @@
 -- Along every run, call by call: the sessions of each station with an address are from openings that it took, and what it was given was
 -- put together.
-use Rattle.std.proofs.Common.{◌≡◌, ◌⊎◌, inl, inr, ℕ, ◌+◌, ◌≤◌, ◌==◌, Bool, true, false, cond, List, [], ◌∷◌, ◌++◌, map, filter_map, set, Option, Some, None, refl, sym, ap, ◌∙◌, subst, arith, append-nil, append_assoc, eq-eqb, ne_eqb, ⊎_elim}
+use Rattle.std.proofs.Common.{◌≡◌, ◌⊎◌, inl, inr, ℕ, ◌+◌, ◌≤◌, ◌==◌, Bool, true, false, cond, List, [], ◌∷◌, ◌++◌, map, filter_map, set, Option, Some, None, refl, sym, ap, ◌∙◌, subst, append-nil, append_assoc, eq-eqb, ne_eqb, ⊎_elim}
 use Rattle.std.specs.Prelude.{Contains, slice_get, option_to_list, option_and_then}
 use Rattle.std.specs.List.{list_all, cons_option}
-use Rattle.std.specs.FinMap as finmap
 use Rattle.std.proofs.lemmas.Option.{same_Some}
 use Rattle.bus_frame.specs.Frames.{CanFrame}
 use Rattle.pgn_ids.specs.declared.address.Address.{Address}
 use Rattle.tx_queue.specs.Queue.{behind}
-use Rattle.bus_order.specs.Bus as bus
-use Rattle.port_table.specs.Ports.{Ports, no_ports, with_port, with_paused, next_id}
+use Rattle.port_table.specs.Ports.{Ports, no_ports, with_port, with_paused}
 use Rattle.port_table.specs.declared.port.PortId.{PortId}
 use Rattle.lane_core.specs.Pump as lane-pump
 use Rattle.lane_core.specs.Cancel as lane-cancel
@@ -18,7 +16,7 @@ use Rattle.message_events.specs.declared.event.Event.TheVariants as event
 use Rattle.lane_core.specs.Lane.{Lane}
 use Rattle.lane_core.specs.Step.{LaneStep}
 use Rattle.station_core.specs.Station.{Station, StationStep, new_station, by_lane}
-use Rattle.station_core.specs.Sending.{sent, pumped, cancelled}
+use Rattle.station_core.specs.Sending.{sent}
 use Rattle.station_core.specs.Timers.{fired}
 use Rattle.station_core.specs.Taking.{taken}
 use Rattle.station_core.specs.Overruns.{overrun}
@@ -29,12 +27,9 @@ use Rattle.segment_law.specs.Readers.{frame_for}
 use Rattle.segment_law.specs.Record.{Step, Record, calls_of}
 use Rattle.segment_law.specs.Drift.{at_tick, Drift, DriftsTo}
 use Rattle.segment_law.specs.Reached.{IsReached}
-use Rattle.segment_law.specs.Told.{Placed, told_from, opened_by, closed_by}
+use Rattle.segment_law.specs.Told.{Placed, told_from}
 use Rattle.segment_law.specs.declared.call.Call.{Call}
-use Rattle.segment_law.specs.declared.call.Call.TheVariants.{Open, Close, Send, Pump, Transmit, Take, TakeAgain, Overrun, Tick, Fire, Cancel, Inject, Pause, Resume}
-use Rattle.segment_law.specs.declared.refusal.Refusal.{Refusal}
 use Rattle.segment_law.specs.declared.reply.Reply.{Reply}
-use Rattle.segment_law.specs.declared.reply.Reply.TheVariants.{Done, Refused}
 use Rattle.segment_law.proofs.Booleans.{both_pass}
 use Rattle.segment_law.proofs.Drifting.{reached_at}
 use Rattle.segment_law.proofs.New.{new_reached}
@@ -44,7 +39,7 @@ use Rattle.record_law.proofs.Lists.{Each}
 use Rattle.record_law.proofs.Maps.{of_each_none}
 use Rattle.record_law.proofs.Segments.{has_address, same_address, new_each}
 use Rattle.record_law.proofs.Tests.{equal_or_not}
-use Rattle.record_law.proofs.ports.Calls.{IsSound, HasLife, Good, placed}
+use Rattle.record_law.proofs.ports.Calls.{IsSound, HasLife, Good}
 use Rattle.record_law.proofs.ports.Every.{goes_call}
 use Rattle.record_law.proofs.ports.Lives.{Openings, Closings, lives_first}
 use Rattle.record_law.proofs.ports.Ports.{IsAllowed}
@@ -55,8 +50,8 @@ use Rattle.foreign_law.specs.Taken.{Heard, Message, heard_by, frame_at, taken_by
 use Rattle.foreign_law.specs.Assembled.{AreAssembled}
 use Rattle.foreign_law.proofs.Later.{AreNext, within}
 use Rattle.foreign_law.proofs.Messages.{still_assembled, still_ended}
-use Rattle.foreign_law.proofs.Sessions.{told, in_none, in_first, IsFromOpening, AreFromOpenings, IsOne, Settles}
-use Rattle.foreign_law.proofs.Stations.{ActsBy, heard_now, next_none, taken_acts, lane_acts, fired_acts, overrun_acts, stays_as, closed_acts}
+use Rattle.foreign_law.proofs.Sessions.{told, in_none, in_first, IsFromOpening, AreFromOpenings, Settles}
+use Rattle.foreign_law.proofs.Stations.{taken_acts, lane_acts, fired_acts, overrun_acts, stays_as, closed_acts}
 
 -- a station with another address gives nothing at this one
 none_elsewhere : (a : Address) (place : ℕ) (ports : Ports) → (ports.station.0 ≡ a.0 → ⊥) → (es : List Event) → Each (IsAllowed ports) es → told a place es ≡ []
@@ -190,9 +185,9 @@ module _ (a : Address) where
             by : (st.address.0 ≡ a.0) ⊎ (st.address.0 ≡ a.0 → ⊥) → Holds (n + 1) (before ++ looked_at) (given ++ told a (n + 1) step.events) (set seg.stations i step.station)
             by (inl own) =
                 let here : looked_at ≡ shown (Some f) =
-                    ap (λ t. shown (cond t (frame_at seg again (place_of seg b)) None)) (eq-eqb b.0 a.0 (sym it_is ∙ own))
-                    ∙ ap (λ p. shown (frame_at seg again p)) place
-                    ∙ ap shown frame in
+                ap (λ t. shown (cond t (frame_at seg again (place_of seg b)) None)) (eq-eqb b.0 a.0 (sym it_is ∙ own))
+                ∙ ap (λ p. shown (frame_at seg again p)) place
+                ∙ ap shown frame in
                 subst (λ xs. Holds (n + 1) (before ++ xs) (given ++ told a (n + 1) step.events) (set seg.stations i step.station)) (sym here)
                 (holds_own own (shown (Some f)) (record { before = h.within_n; now = λ x c. all_now (n + 1) (option_to_list (heard_by a f)) x c }) (told a (n + 1) step.events) step.station goes.address
                 (taken_acts a n before h.within_n given h.ended st own (h.sessions i st at own) f room seg.now))
@@ -243,11 +238,11 @@ module _ (a : Address) where
       let more : List (Placed Heard) = takes n now step in
       let gs : List (Placed Message) = gives n step in
       let held : Holds (n + 1) (before ++ more) (given ++ gs) (applied now step.0).0.stations =
-          subst (λ (reply : Reply). Holds (n + 1) (before ++ takes n now (step.0, reply)) (given ++ gives n (step.0, reply)) (applied now step.0).0.stations) run.1
-          (holds_call n before given now here h (λ j st e. (good j st e).0) step.0) in
+      subst (λ (reply : Reply). Holds (n + 1) (before ++ takes n now (step.0, reply)) (given ++ gives n (step.0, reply)) (applied now step.0).0.stations) run.1
+      (holds_call n before given now here h (λ j st e. (good j st e).0) step.0) in
       let g = goes_call some_port n os cs now here good step.0 in
       let rest : AreAssembled ((before ++ more) ++ taken_from a (n + 1 + 1) (applied now step.0).0 steps last run.2) ((given ++ gs) ++ told_from (given_by a) (n + 1 + 1) steps) =
-          along steps (applied now step.0).0 last (reached_call now here step.0 f.0) f.1 run.2 (n + 1) (before ++ more) (given ++ gs) _ _ g.next held in
+      along steps (applied now step.0).0 last (reached_call now here step.0 f.0) f.1 run.2 (n + 1) (before ++ more) (given ++ gs) _ _ g.next held in
       subst (λ xs. AreAssembled xs (given ++ (gs ++ told_from (given_by a) (n + 1 + 1) steps))) (append_assoc before more (taken_from a (n + 1 + 1) (applied now step.0).0 steps last run.2))
       (subst (λ xs. AreAssembled ((before ++ more) ++ taken_from a (n + 1 + 1) (applied now step.0).0 steps last run.2) xs) (append_assoc given gs (told_from (given_by a) (n + 1 + 1) steps)) rest)
 

@@ -1,8 +1,7 @@
 -- What a frame makes of the sessions of a station: each is still that of a transfer whose opening it took, and what it gives was put
 -- together.
-use Rattle.std.proofs.Common.{◌≡◌, ◌⊎◌, inl, inr, ℕ, zero, suc, ◌+◌, ◌<◌, ◌≤◌, ◌==◌, Bool, true, false, cond, not, ◌&&◌, ◌||◌, List, [], ◌∷◌, ◌++◌, map, filter_map, length, Option, Some, None, refl, sym, ap, ◌∙◌, subst, arith, eqb-true, eq-eqb, ltb-true, leb-true, ne_eqb, append-nil, ⊎_elim}
+use Rattle.std.proofs.Common.{◌≡◌, inl, ℕ, zero, suc, ◌+◌, ◌<◌, ◌≤◌, ◌==◌, Bool, true, false, cond, not, ◌&&◌, ◌||◌, List, [], ◌∷◌, ◌++◌, map, Option, Some, None, refl, sym, ap, ◌∙◌, subst, arith, eqb-true, eq-eqb, ltb-true, leb-true, ne_eqb, ⊎_elim}
 use Rattle.std.specs.Prelude.{Contains, nat_le, option_to_list}
-use Rattle.std.specs.FinMap as finmap
 use Rattle.std.proofs.lemmas.Bool.{and_parts, lt-leb}
 use Rattle.std.proofs.lemmas.List.Elements.{Contains-append_cases, Contains-append_right, Contains-push, Contains-push_cases}
 use Rattle.std.proofs.lemmas.Option.{same_Some, none-some}
@@ -16,7 +15,6 @@ use Rattle.tp_wire.specs.Rows.{goes_to, comes_from}
 use Rattle.tp_wire.specs.Sizes.{is_size_of}
 use Rattle.tp_wire.specs.declared.constants.TheConstants.{MIN_SIZE, TP_MAX_SIZE, ETP_MAX_SIZE, ETP_MAX_WINDOW}
 use Rattle.tp_wire.specs.declared.reason.AbortReason.{AbortReason}
-use Rattle.tp_wire.specs.declared.reason.AbortReason.TheVariants.{NoFurtherSession, Resources, Other}
 use Rattle.tp_wire.specs.declared.wire.Kind.{Kind}
 use Rattle.tp_wire.specs.declared.wire.Kind.TheVariants as kind
 use Rattle.tp_wire.specs.declared.wire.CmFrame.{CmFrame}
@@ -41,7 +39,6 @@ use Rattle.message_events.specs.declared.event.Event.TheVariants as event
 use Rattle.port_table.specs.Ports.{without_port}
 use Rattle.session_table.specs.DueOrder.{first_due}
 use Rattle.session_table.specs.Key.{session_for}
-use Rattle.session_table.specs.declared.TheConstants.{MAX_SESSIONS}
 use Rattle.session_table.specs.declared.key.Key.{Key}
 use Rattle.session_table.specs.declared.key.SessionKind.{SessionKind}
 use Rattle.session_table.specs.declared.key.SessionKind.TheVariants.{Broadcast, Tp, Etp}
@@ -56,16 +53,16 @@ use Rattle.station_core.specs.Closing.{closed_below, closed}
 use Rattle.station_core.specs.Overruns.{overrun}
 use Rattle.station_core.specs.Timers.{lane_fired, fired}
 use Rattle.station_core.specs.Station.{Station, StationStep, new_station, quietly, by_session, by_lane}
-use Rattle.station_core.specs.Taking.{packet_kind, abort_taken, cm_taken, request_taken, ack_taken, wire_taken, looks_at, meaning_taken, taken}
+use Rattle.station_core.specs.Taking.{packet_kind, abort_taken, cm_taken, wire_taken, looks_at, meaning_taken, taken}
 use Rattle.segment_law.specs.Told.{Placed}
-use Rattle.record_law.proofs.Tests.{on_test, either, not_fails}
+use Rattle.record_law.proofs.Tests.{on_test, either}
 use Rattle.record_law.proofs.Lists.{Each, each_append}
 use Rattle.record_law.proofs.Maps.{OfEach, of_each_none}
 use Rattle.record_law.proofs.readers.Filled.{IsSeven}
 use Rattle.record_law.proofs.readers.Sessions.{MeansSeven, reading_seven}
-use Rattle.foreign_law.specs.Taken.{Heard, Message, message_at, heard_by}
+use Rattle.foreign_law.specs.Taken.{Heard, Message, heard_by}
 use Rattle.foreign_law.specs.Assembled.{Transfer, kind_for, Announces}
-use Rattle.foreign_law.proofs.Later.{AreNext, HasNoOffset}
+use Rattle.foreign_law.proofs.Later.{AreNext}
 use Rattle.foreign_law.proofs.Courses.{course_begins}
 use Rattle.foreign_law.proofs.Connections.{asks_for}
 use Rattle.foreign_law.proofs.Sessions.{told, in_none, GoesTo, IsFromOpening, AreFromOpenings, IsQuiet, Settles, settles_none, settles_aborted, settles_ended, settles_on, settles_received, settles_fired, unbound_keeps}
@@ -285,17 +282,20 @@ module _ (a : Address) (n : ℕ) (before : List (Placed Heard)) (within : (x : P
     cm_acts (Rts size packets most pgn) goes = acts_rts (Cm (Rts size packets most pgn)) from to goes meant room now (λ x y z e. cc) kind.Tp (is_tp_size size packets) size (most_of kind.Tp most) pgn
         (λ e.
         let s = and_parts (is_size_of kind.Tp size) (packets == packet_count size) e in
-        let count : packets ≡ packet_count size = eqb-true packets (packet_count size) s.1 in
-        ((most, pgn, ap (λ p. Cm (Rts size p most pgn)) count, refl),
-        ap (λ b. cond b Broadcast (cond (is_size_of kind.Etp size) Etp Tp)) (not_all (Cm (Rts size packets most pgn)) from to goes meant room now goes) ∙ ap (λ b. cond b Etp Tp) (tp_size size s.0)))
+        let count : packets ≡ packet_count size = eqb-true packets (packet_count size) s.1 in (
+          (most, pgn, ap (λ p. Cm (Rts size p most pgn)) count, refl),
+          ap (λ b. cond b Broadcast (cond (is_size_of kind.Etp size) Etp Tp)) (not_all (Cm (Rts size packets most pgn)) from to goes meant room now goes) ∙ ap (λ b. cond b Etp Tp) (tp_size size s.0),
+        ))
         (to_own (Cm (Rts size packets most pgn)) from to goes meant room now goes) (to_own (Cm (Rts size packets most pgn)) from to goes meant room now goes)
     cm_acts (Cts granted number pgn) goes = cm_lane (Cts granted number pgn) goes (λ x y z e. cc)
     cm_acts (EndOfMsgAck size packets pgn) goes = cm_lane (EndOfMsgAck size packets pgn) goes (λ x y z e. cc)
     cm_acts (Bam size packets pgn) goes = acts_bam (Cm (Bam size packets pgn)) from to goes meant room now (λ x y z e. cc) size packets pgn refl (eqb-true to.0 global_address goes)
     cm_acts (Abort reason pgn) goes = cm_abort (Abort reason pgn) goes (λ x y z e. cc) Tp pgn
     cm_acts (EtpRts size pgn) goes = acts_rts (Cm (EtpRts size pgn)) from to goes meant room now (λ x y z e. cc) kind.Etp (is_etp_size size) size ETP_MAX_WINDOW pgn
-        (λ e. ((pgn, refl, refl),
-        ap (λ b. cond b Broadcast (cond (is_size_of kind.Etp size) Etp Tp)) (not_all (Cm (EtpRts size pgn)) from to goes meant room now goes) ∙ ap (λ b. cond b Etp Tp) e))
+        (λ e. (
+          (pgn, refl, refl),
+          ap (λ b. cond b Broadcast (cond (is_size_of kind.Etp size) Etp Tp)) (not_all (Cm (EtpRts size pgn)) from to goes meant room now goes) ∙ ap (λ b. cond b Etp Tp) e,
+        ))
         (to_own (Cm (EtpRts size pgn)) from to goes meant room now goes) (to_own (Cm (EtpRts size pgn)) from to goes meant room now goes)
     cm_acts (EtpCts granted number pgn) goes = cm_lane (EtpCts granted number pgn) goes (λ x y z e. cc)
     cm_acts (EtpDpo packets offset pgn) goes = acts_in_session (Cm (EtpDpo packets offset pgn)) from to goes meant room now Etp (λ x y z e. refl) (to_own (Cm (EtpDpo packets offset pgn)) from to goes meant room now goes) tt

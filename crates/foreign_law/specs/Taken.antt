@@ -16,7 +16,6 @@ use Rattle.segment_law.specs.Record.{Step, Record}
 use Rattle.segment_law.specs.Told.{Placed, told}
 use Rattle.segment_law.specs.declared.call.Call.{Call}
 use Rattle.segment_law.specs.declared.call.Call.TheVariants.{Take, TakeAgain}
-use Rattle.segment_law.specs.declared.reply.Reply.{Reply}
 use Rattle.record_law.specs.Counting.{is_done}
 
 -- Frames
