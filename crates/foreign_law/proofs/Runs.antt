@@ -6,7 +6,6 @@ use Rattle.std.specs.List.{list_all, cons_option}
 use Rattle.std.proofs.lemmas.Option.{same_Some}
 use Rattle.bus_frame.specs.Frames.{CanFrame}
 use Rattle.pgn_ids.specs.declared.address.Address.{Address}
-use Rattle.tx_queue.specs.Queue.{behind}
 use Rattle.port_table.specs.Ports.{Ports, no_ports, with_port, with_paused}
 use Rattle.port_table.specs.declared.port.PortId.{PortId}
 use Rattle.lane_core.specs.Pump as lane-pump
@@ -209,7 +208,7 @@ module _ (a : Address) where
         closes = λ port q is. quiet (closed st port.number) (closes st port.number (sound i st at).sessions).address (λ own. closed_acts a n before h.within_n given h.ended st own (h.sessions i st at own) port.number);
         sends = λ from to pgn bytes q other long short. unchanged (sent st to pgn bytes) refl refl;
         pumps = λ b to q. lane_holds to (λ l. lane-pump.pumped l seg.now);
-        transmits = λ b f q e free. unchanged (record st { queue = behind st.queue }) refl refl;
+        transmits = λ b f q e free. unchanged _ refl refl;
         takes = λ b room f q e free. frame_holds b q false f e room;
         repeats = λ b room f q e free. frame_holds b q true f e room;
         overruns = λ b k q few. step_holds (overrun st) refl (acts_overrun st (sound i st at).own (sound i st at).sessions).events (λ own. overrun_acts a n before h.within_n given h.ended st own (h.sessions i st at own));
