@@ -17,7 +17,7 @@ use Rattle.segment_law.specs.Told.{Placed}
 use Rattle.record_law.proofs.readers.Filled.{IsSeven}
 use Rattle.foreign_law.specs.Taken.{Heard, Message}
 use Rattle.foreign_law.specs.Assembled.{Transfer, transfer_of, transport_of, kind_for, IsNumber, IsPacket, IsAssembled}
-use Rattle.foreign_law.proofs.Later.{AreNext}
+use Rattle.foreign_law.proofs.Later.{AreNext, IsNewest}
 use Rattle.foreign_law.proofs.Courses.{Course, course_on, course_next, its_transfer, course_ends}
 
 -- a broadcast is that of a transfer
@@ -49,7 +49,7 @@ module _ (n : ℕ) (taken more : List (Placed Heard)) (next : AreNext n taken mo
   pub broadcast_stays : IsToAll all t opening packets s
   broadcast_stays = record { is = h.is; course = course_on n taken more next t opening packets s.join h.course }
 
-  module _ (le : opening ≤ n) (size : kind_for t.to t.size ≡ t.kind) where
+  module _ (le : opening ≤ n) (size : kind_for t.to t.size ≡ t.kind) (newest : IsNewest (taken ++ more) t opening) where
     module _ (sequence : ℕ) (bytes : List ℕ) (now : ℕ) (is_here : Contains more (n + 1, (Packet Tp sequence bytes, t.from, t.to))) (seven : length bytes ≡ 7) where
       module _ (is_next : sequence ≡ s.join.next) where
         packet_is : IsPacket all t opening s.join.next (n + 1, bytes)
@@ -68,8 +68,8 @@ module _ (n : ℕ) (taken more : List (Placed Heard)) (next : AreNext n taken mo
             let w : Message = message_to_all s (joined s.join bytes).bytes in
             let from : w.from ≡ t.from = (λ i. record { 0 = h.is.from i }) in
             let to : w.to ≡ t.to = (λ i. record { 0 = h.is.to i }) in (
-              its_transfer n taken more next t opening packets s.join h.course bytes le packet_is last w refl from to h.is.pgn size,
-              course_ends n taken more next t opening packets s.join h.course bytes le packet_is last w refl from to h.is.pgn size,
+              its_transfer n taken more next t opening packets s.join h.course bytes le packet_is last w refl from to h.is.pgn size newest,
+              course_ends n taken more next t opening packets s.join h.course bytes le packet_is last w refl from to h.is.pgn size newest,
             )
 
         next_goes : (b : Bool) → wants_last s.join ≡ b → Goes (cond (not b) (Awaits (bam.accepted s bytes now)) (Completes (joined s.join bytes).bytes))

@@ -38,7 +38,7 @@ use Rattle.record_law.proofs.Tests.{either, not_fails}
 use Rattle.record_law.proofs.readers.Filled.{IsSeven}
 use Rattle.foreign_law.specs.Taken.{Heard, Message}
 use Rattle.foreign_law.specs.Assembled.{Transfer, transfer_of, transport_of, kind_for, IsOffsetAt, IsLastOffset, IsNumber, IsPacket, IsAssembled}
-use Rattle.foreign_law.proofs.Later.{AreNext, HasNoOffset, last_on, last_stays, last_new}
+use Rattle.foreign_law.proofs.Later.{AreNext, HasNoOffset, IsNewest, last_on, last_stays, last_new}
 use Rattle.foreign_law.proofs.Courses.{Course, course_on, course_same, course_next, its_transfer, course_ends}
 
 -- a connection is that of a transfer
@@ -132,7 +132,7 @@ module _ (n : ℕ) (taken more : List (Placed Heard)) (next : AreNext n taken mo
   Goes (Complete m) = (transfer_of (message_of m) ≡ t) × IsAssembled all opening (n + 1, message_of m)
   Goes (Ended frame) = Unit {0}
 
-  module _ (le : opening ≤ n) (size : kind_for t.to t.size ≡ t.kind) where
+  module _ (le : opening ≤ n) (size : kind_for t.to t.size ≡ t.kind) (newest : IsNewest (taken ++ more) t opening) where
     -- A packet
 
     module _ (s : states.AwaitPacket) (h : Was (AwaitPacket s)) (sequence : ℕ) (bytes : List ℕ) (room : Bool) (flow : Flow) (now : ℕ)
@@ -189,8 +189,8 @@ module _ (n : ℕ) (taken more : List (Placed Heard)) (next : AreNext n taken mo
             let w : Message = message_of (finished (with_packet m bytes)) in
             let from : w.from ≡ t.from = (λ i. record { 0 = h.is.from i }) in
             let to : w.to ≡ t.to = (λ i. record { 0 = h.is.to i }) in (
-              its_transfer n taken more next t opening packets m.join h.course bytes le packet_is last w refl from to h.is.pgn size,
-              course_ends n taken more next t opening packets m.join h.course bytes le packet_is last w refl from to h.is.pgn size,
+              its_transfer n taken more next t opening packets m.join h.course bytes le packet_is last w refl from to h.is.pgn size newest,
+              course_ends n taken more next t opening packets m.join h.course bytes le packet_is last w refl from to h.is.pgn size newest,
             )
 
         abbrev rest : Bool → Received

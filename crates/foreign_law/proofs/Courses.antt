@@ -1,13 +1,13 @@
 -- A transfer under way: its opening, its packets so far, and the join that they made.
-use Rattle.std.proofs.Common.{◌≡◌, ℕ, zero, suc, ◌+◌, ◌-◌, ◌*◌, ◌≤◌, true, List, [], ◌∷◌, ◌++◌, length, take, refl, sym, ap, ◌∙◌, subst, arith, eqb-true, append_assoc, append-nil}
+use Rattle.std.proofs.Common.{◌≡◌, inl, ℕ, zero, suc, ◌+◌, ◌-◌, ◌*◌, ◌≤◌, true, List, [], ◌∷◌, ◌++◌, length, take, refl, sym, ap, ◌∙◌, subst, arith, eqb-true, append_assoc, append-nil}
 use Rattle.std.proofs.lemmas.List.{length-append, length-take-le}
 use Rattle.seg_cut.specs.Join.{Join, joined, wants_last}
 use Rattle.seg_cut.specs.Packets.{packet_count}
 use Rattle.segment_law.specs.Told.{Placed}
 use Rattle.record_law.proofs.Lists.{take_more}
 use Rattle.foreign_law.specs.Taken.{Heard, Message}
-use Rattle.foreign_law.specs.Assembled.{Transfer, transfer_of, kind_for, bytes_of, IsOpenedAt, IsPacket, ArePackets, IsAssembled}
-use Rattle.foreign_law.proofs.Later.{AreNext, opened_on, packets_on, packets_next}
+use Rattle.foreign_law.specs.Assembled.{Transfer, transfer_of, kind_for, bytes_of, IsOpenedAt, IsLastOpening, IsPacket, ArePackets, IsAssembled}
+use Rattle.foreign_law.proofs.Later.{AreNext, IsNewest, opened_on, packets_on, packets_next}
 
 pub record Course (taken : List (Placed Heard)) (t : Transfer) (opening : ℕ) (packets : List (Placed (List ℕ))) (j : Join) : Type 0 where
   pub opened : IsOpenedAt taken t opening
@@ -67,7 +67,7 @@ module _ (n : ℕ) (taken more : List (Placed Heard)) (next : AreNext n taken mo
     }
 
     -- with the last packet it is a message
-    module _ (last : wants_last j ≡ true) (m : Message) (bytes : m.bytes ≡ (joined j packet).bytes) (from : m.from ≡ t.from) (to : m.to ≡ t.to) (pgn : m.pgn ≡ t.pgn) (kind : kind_for t.to t.size ≡ t.kind) where
+    module _ (last : wants_last j ≡ true) (m : Message) (bytes : m.bytes ≡ (joined j packet).bytes) (from : m.from ≡ t.from) (to : m.to ≡ t.to) (pgn : m.pgn ≡ t.pgn) (kind : kind_for t.to t.size ≡ t.kind) (newest : IsNewest (taken ++ more) t opening) where
       whole : length m.bytes ≡ t.size
       whole =
           let it : Course all t opening with_it (joined j packet) = course_next in
@@ -86,6 +86,7 @@ module _ (n : ℕ) (taken more : List (Placed Heard)) (next : AreNext n taken mo
           let now : j.next ≡ length packets + 1 = c.next in
           record {
             opened = subst (λ (u : Transfer). IsOpenedAt all u opening) (sym its_transfer) it.opened;
+            latest = subst (λ (u : Transfer). IsLastOpening all u opening (n + 1)) (sym its_transfer) (λ place wire taken_at e. inl (newest place wire taken_at e));
             earlier = packets;
             last = packet;
             in_turn = subst (λ (u : Transfer). ArePackets all u opening opening 1 with_it) (sym its_transfer) it.in_turn;

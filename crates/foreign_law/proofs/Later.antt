@@ -1,5 +1,5 @@
 -- What was put together from the frames taken so far is so when a call takes more.
-use Rattle.std.proofs.Common.{◌≡◌, ◌⊎◌, inl, inr, ℕ, ◌+◌, ◌<◌, ◌≤◌, List, [], ◌∷◌, ◌++◌, length, subst, arith, ⊎_elim}
+use Rattle.std.proofs.Common.{◌≡◌, ◌⊎◌, inl, inr, ℕ, ◌+◌, ◌<◌, ◌≤◌, List, [], ◌∷◌, ◌++◌, length, Some, subst, arith, ⊎_elim}
 use Rattle.std.specs.Prelude.{Contains}
 use Rattle.std.proofs.lemmas.List.Elements.{Contains-append_left, Contains-append_right, Contains-append_cases}
 use Rattle.tp_wire.specs.declared.wire.Wire.{Wire}
@@ -7,7 +7,7 @@ use Rattle.session_table.specs.declared.key.SessionKind.{SessionKind}
 use Rattle.session_table.specs.declared.key.SessionKind.TheVariants.{Broadcast, Tp, Etp}
 use Rattle.segment_law.specs.Told.{Placed}
 use Rattle.foreign_law.specs.Taken.{Heard, Message}
-use Rattle.foreign_law.specs.Assembled.{Transfer, transfer_of, IsTaken, IsOpenedAt, IsOffsetAt, IsLastOffset, IsNumber, IsPacket, ArePackets, IsAssembled}
+use Rattle.foreign_law.specs.Assembled.{Transfer, transfer_of, opened_by, IsTaken, IsOpenedAt, IsOffsetAt, IsLastOffset, IsNumber, IsPacket, ArePackets, IsAssembled}
 
 -- the frames of n calls, and those of the next one
 pub record AreNext (n : ℕ) (taken more : List (Placed Heard)) : Type 0 where
@@ -17,6 +17,14 @@ pub record AreNext (n : ℕ) (taken more : List (Placed Heard)) : Type 0 where
 -- the frames have no DPO of the transfer
 abbrev pub HasNoOffset : List (Placed Heard) → Transfer → Type 0
 HasNoOffset more t = (place offset : ℕ) → IsOffsetAt more t place offset → ⊥
+
+-- they have no opening of its source and kind
+abbrev pub HasNoOpening : List (Placed Heard) → Transfer → Type 0
+HasNoOpening more t = (place : ℕ) (wire : Wire) → IsTaken more t place wire → opened_by wire ≡ Some t.kind → ⊥
+
+-- the opening is the last one that was taken
+abbrev pub IsNewest : List (Placed Heard) → Transfer → (opening : ℕ) → Type 0
+IsNewest taken t opening = (place : ℕ) (wire : Wire) → IsTaken taken t place wire → opened_by wire ≡ Some t.kind → place ≤ opening
 
 module _ (n : ℕ) (taken more : List (Placed Heard)) (next : AreNext n taken more) where
   abbrev all : List (Placed Heard)
@@ -31,6 +39,9 @@ module _ (n : ℕ) (taken more : List (Placed Heard)) (next : AreNext n taken mo
 
     pub opened_on : (place : ℕ) → IsOpenedAt taken t place → IsOpenedAt all t place
     opened_on place o = (o.0, taken_on place o.0 o.1, o.2)
+
+    pub newest_on : (opening : ℕ) → HasNoOpening more t → IsNewest taken t opening → IsNewest all t opening
+    newest_on opening none h place wire c e = ⊎_elim (λ old. h place wire old e) (λ new. absurd (none place wire new e)) (Contains-append_cases taken more _ c)
 
     -- a DPO is one of those before, or a new one
     offset_is : (place offset : ℕ) → IsOffsetAt all t place offset → IsOffsetAt taken t place offset ⊎ IsOffsetAt more t place offset
@@ -118,9 +129,13 @@ module _ (n : ℕ) (taken more : List (Placed Heard)) (next : AreNext n taken mo
         (h.0, packet_on opening k p h.1, packets_next opening p.0 (k + 1) j ps packet h.2 (packet_place opening k p h.1) (omega (arith, e)) is)
 
   -- a message that was put together
-  pub assembled_on : (opening : ℕ) (g : Placed Message) → IsAssembled taken opening g → IsAssembled all opening g
-  assembled_on opening g h = record {
+  pub assembled_on : (opening : ℕ) (g : Placed Message) → g.0 ≤ n → IsAssembled taken opening g → IsAssembled all opening g
+  assembled_on opening g le h = record {
     opened = opened_on (transfer_of g.1) opening h.opened;
+    latest = λ place wire c e. ⊎_elim
+        (λ old. h.latest place wire old e)
+        (λ new. let now : place ≡ n + 1 = next.now _ new in inr (omega (arith, now, le)))
+        (Contains-append_cases taken more _ c);
     earlier = h.earlier;
     last = h.last;
     in_turn = packets_on (transfer_of g.1) opening opening 1 (h.earlier ++ (g.0, h.last) ∷ []) h.in_turn;

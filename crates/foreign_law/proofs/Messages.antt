@@ -20,7 +20,7 @@ module _ (a : Address) (n : ℕ) (taken more : List (Placed Heard)) (next : AreN
   with_none : AreAssembled all (given ++ [])
   with_none = record {
     opening = h.opening;
-    each = λ g c. assembled_on n taken more next (h.opening g.0) g (h.each g (old_alone g c));
+    each = λ g c. assembled_on n taken more next (h.opening g.0) g (ended g (old_alone g c)) (h.each g (old_alone g c));
     apart = λ g k c d same l. h.apart g k (old_alone g c) (old_alone k d) same l;
     one = λ g k c d e. h.one g k (old_alone g c) (old_alone k d) e;
   }
@@ -40,7 +40,7 @@ module _ (a : Address) (n : ℕ) (taken more : List (Placed Heard)) (next : AreN
     new_place g c = ap (λ (x : Placed Message). x.0) (it.same g c)
 
     each_is : (g : Placed Message) → Contains given g ⊎ Contains gs g → IsAssembled all (opening g.0) g
-    each_is g (inl old) = subst (λ o. IsAssembled all o g) (sym (opening_before g.0 (ended g old))) (assembled_on n taken more next (h.opening g.0) g (h.each g old))
+    each_is g (inl old) = subst (λ o. IsAssembled all o g) (sym (opening_before g.0 (ended g old))) (assembled_on n taken more next (h.opening g.0) g (ended g old) (h.each g old))
     each_is g (inr new) = subst (λ o. IsAssembled all o g) (sym (opening_now g.0 (new_place g new))) (subst (λ (x : Placed Message). IsAssembled all it.opening x) (sym (it.same g new)) it.assembled)
 
     apart_are : (g k : Placed Message) → Contains given g ⊎ Contains gs g → Contains given k ⊎ Contains gs k → AreOfOneKind g.1 k.1 → g.0 < k.0 → g.0 < opening k.0

@@ -35,7 +35,7 @@ use Rattle.record_law.proofs.Tests.{on_test, either}
 use Rattle.record_law.proofs.readers.Filled.{IsSeven}
 use Rattle.foreign_law.specs.Taken.{Heard, Message, message_at}
 use Rattle.foreign_law.specs.Assembled.{Transfer, transfer_of, kind_for, IsAssembled, AreOfOneKind}
-use Rattle.foreign_law.proofs.Later.{AreNext, HasNoOffset}
+use Rattle.foreign_law.proofs.Later.{AreNext, HasNoOffset, HasNoOpening, IsNewest, newest_on}
 use Rattle.foreign_law.proofs.Connections.{IsUnderWay, connection_stays, connection_goes, connection_expires, message_of}
 use Rattle.foreign_law.proofs.Connections as connections
 use Rattle.foreign_law.proofs.Broadcasts.{IsToAll, broadcast_stays, broadcast_goes, message_to_all}
@@ -83,6 +83,7 @@ module _ (a : Address) where
     pub to : GoesTo transfer.kind transfer.to
     pub size : kind_for transfer.to transfer.size ≡ transfer.kind
     pub begun : opening ≤ n
+    pub latest : IsNewest taken transfer opening
     pub state : IsStateOf taken transfer opening (n + 1) packets s
     pub apart : (g : Placed Message) → Contains given g → g.1.from ≡ transfer.from → (transfer_of g.1).kind ≡ transfer.kind → g.0 < opening
 
@@ -103,9 +104,9 @@ module _ (a : Address) where
       pub gives : (gs ≡ []) ⊎ IsOne gs
       pub leaves : AreFromOpenings (taken ++ more) (given ++ gs) (n + 1) sessions
 
-    -- no DPO for the session of a key
+    -- no DPO for the session of a key, and no opening of its source and kind
     abbrev pub IsQuiet : Key → Type 0
-    IsQuiet q = (t : Transfer) → t.kind ≡ q.kind → t.from ≡ q.source → t.kind ≡ Etp → HasNoOffset more t
+    IsQuiet q = (t : Transfer) → t.kind ≡ q.kind → t.from ≡ q.source → (t.kind ≡ Etp → HasNoOffset more t) × HasNoOpening more t
 
     -- the messages are of no such source and kind
     abbrev pub AreOfOthers : List (Placed Message) → Key → Type 0
@@ -129,8 +130,8 @@ module _ (a : Address) where
 
     module _ (gs : List (Placed Message)) (q : Key) (others : Others gs q) (s : Incoming) (h : IsFromOpening taken given n q s) where
       -- the session goes on
-      goes_on : (u : Incoming) (packets : List (Placed (List ℕ))) → IsStateOf all h.transfer h.opening (n + 1 + 1) packets u → IsFromOpening all (given ++ gs) (n + 1) q u
-      goes_on u packets state = record {
+      goes_on : HasNoOpening more h.transfer → (u : Incoming) (packets : List (Placed (List ℕ))) → IsStateOf all h.transfer h.opening (n + 1 + 1) packets u → IsFromOpening all (given ++ gs) (n + 1) q u
+      goes_on fresh u packets state = record {
         transfer = h.transfer;
         opening = h.opening;
         packets = packets;
@@ -139,6 +140,7 @@ module _ (a : Address) where
         to = h.to;
         size = h.size;
         begun = (let l : h.opening ≤ n = h.begun in omega (arith, l));
+        latest = newest_on n taken more next h.transfer h.opening fresh h.latest;
         state = state;
         apart = λ g c from kind. ⊎_elim
             (λ (old : Contains given g). h.apart g old from kind)
@@ -148,11 +150,11 @@ module _ (a : Address) where
 
       -- it isn't concerned
       stays_so : Quiet q → IsFromOpening all (given ++ gs) (n + 1) q s
-      stays_so quiet = goes_on s h.packets (by s h.state)
+      stays_so quiet = goes_on (quiet h.transfer h.kind h.from).1 s h.packets (by s h.state)
         where
           by : (u : Incoming) → IsStateOf taken h.transfer h.opening (n + 1) h.packets u → IsStateOf all h.transfer h.opening (n + 1 + 1) h.packets u
           by (incoming.Broadcast u) w = broadcast_stays n taken more next h.transfer h.opening h.packets u w
-          by (incoming.Connection u) w = connection_stays n taken more next h.transfer h.opening h.packets (λ e. quiet h.transfer h.kind h.from e) u w
+          by (incoming.Connection u) w = connection_stays n taken more next h.transfer h.opening h.packets (quiet h.transfer h.kind h.from).0 u w
 
     module _ (m : Inbound) (each : AreFromOpenings taken given n m) where
       -- no session is concerned
@@ -225,53 +227,54 @@ module _ (a : Address) where
 
         -- A step of the session
 
-        abbrev SettledBy : Reception → Type 0
-        SettledBy r = Done (told a (n + 1) r.events) r.sessions
+        module _ (fresh : (t : Transfer) → t.kind ≡ key.kind → t.from ≡ key.source → HasNoOpening more t) where
+          abbrev SettledBy : Reception → Type 0
+          SettledBy r = Done (told a (n + 1) r.events) r.sessions
 
-        module _ (station : Address) (set : List ℕ) (room : Bool) where
-          connection_settles : (s : Incoming) (h : IsFromOpening taken given n key s) (r : Received) → connections.Goes n taken more next h.transfer h.opening h.packets r → SettledBy (connection_settled station key set room m r)
-          connection_settles s h (On u frame) g = settles_on set (incoming.Connection u) (goes_on [] key (none_so key) s h (incoming.Connection u) g.0 g.1)
-          connection_settles s h (Complete w) g = settles_concluded station set (message_of n taken more next h.transfer h.opening h.packets w) h.transfer h.opening g.0 g.1 h.kind h.from h.apart room _ _
-          connection_settles s h (Ended frame) g = settles_ended
+          module _ (station : Address) (set : List ℕ) (room : Bool) where
+            connection_settles : (s : Incoming) (h : IsFromOpening taken given n key s) (r : Received) → connections.Goes n taken more next h.transfer h.opening h.packets r → SettledBy (connection_settled station key set room m r)
+            connection_settles s h (On u frame) g = settles_on set (incoming.Connection u) (goes_on [] key (none_so key) s h (fresh h.transfer h.kind h.from) (incoming.Connection u) g.0 g.1)
+            connection_settles s h (Complete w) g = settles_concluded station set (message_of n taken more next h.transfer h.opening h.packets w) h.transfer h.opening g.0 g.1 h.kind h.from h.apart room _ _
+            connection_settles s h (Ended frame) g = settles_ended
 
-          broadcast_settles : (s : bam.Incoming) (h : IsFromOpening taken given n key (incoming.Broadcast s)) (r : bam-steps.Received) → broadcasts.Goes n taken more next h.transfer h.opening h.packets s h.state r → SettledBy (broadcast_settled station key set room m s r)
-          broadcast_settles s h (bam-steps.Awaits u) g = settles_on set (incoming.Broadcast u) (goes_on [] key (none_so key) (incoming.Broadcast s) h (incoming.Broadcast u) g.0 g.1)
-          broadcast_settles s h (bam-steps.Completes bytes) g = settles_concluded station set (message_to_all s bytes) h.transfer h.opening g.0 g.1 h.kind h.from h.apart room None None
-          broadcast_settles s h bam-steps.Drops g = settles_ended
+            broadcast_settles : (s : bam.Incoming) (h : IsFromOpening taken given n key (incoming.Broadcast s)) (r : bam-steps.Received) → broadcasts.Goes n taken more next h.transfer h.opening h.packets s h.state r → SettledBy (broadcast_settled station key set room m s r)
+            broadcast_settles s h (bam-steps.Awaits u) g = settles_on set (incoming.Broadcast u) (goes_on [] key (none_so key) (incoming.Broadcast s) h (fresh h.transfer h.kind h.from) (incoming.Broadcast u) g.0 g.1)
+            broadcast_settles s h (bam-steps.Completes bytes) g = settles_concluded station set (message_to_all s bytes) h.transfer h.opening g.0 g.1 h.kind h.from h.apart room None None
+            broadcast_settles s h bam-steps.Drops g = settles_ended
 
-          step_settles : (wire : Wire) (to : Address) → Contains more (n + 1, (wire, key.source, to)) → ((y : Placed Heard) → Contains more y → y.1.0 ≡ wire) → GoesTo key.kind to → IsSeven wire
-              → (s : Incoming) → IsFromOpening taken given n key s → (flow : Flow) (now : ℕ) → SettledBy (session_stepped station key set room m flow s wire now)
-          step_settles wire to here only goes seven s h flow now = by s h
+            step_settles : (wire : Wire) (to : Address) → Contains more (n + 1, (wire, key.source, to)) → ((y : Placed Heard) → Contains more y → y.1.0 ≡ wire) → GoesTo key.kind to → IsSeven wire
+                → (s : Incoming) → IsFromOpening taken given n key s → (flow : Flow) (now : ℕ) → SettledBy (session_stepped station key set room m flow s wire now)
+            step_settles wire to here only goes seven s h flow now = by s h
+              where
+                its_own : (t : Transfer) → t.kind ≡ key.kind → t.from ≡ key.source → GoesTo t.kind t.to → Contains more (n + 1, (wire, t.from, t.to))
+                its_own t kind from it =
+                    let same : t.to ≡ to = one_destination t.kind t.to to it (subst (λ k. GoesTo k to) (sym kind) goes) in
+                    subst (λ (x : Address). Contains more (n + 1, (wire, x, t.to))) (sym from) (subst (λ (x : Address). Contains more (n + 1, (wire, key.source, x))) (sym same) here)
+
+                by : (s : Incoming) → IsFromOpening taken given n key s → SettledBy (session_stepped station key set room m flow s wire now)
+                by (incoming.Broadcast s) h = broadcast_settles s h (bam-steps.stepped s wire now) (broadcast_goes n taken more next h.transfer h.opening h.packets s h.state h.begun h.size (newest_on n taken more next h.transfer h.opening (fresh h.transfer h.kind h.from) h.latest) wire (its_own h.transfer h.kind h.from h.to) seven now)
+                by (incoming.Connection s) h = connection_settles (incoming.Connection s) h (stepped (prepared s wire room flow) wire room flow now)
+                    (connection_goes n taken more next h.transfer h.opening h.packets h.begun h.size (newest_on n taken more next h.transfer h.opening (fresh h.transfer h.kind h.from) h.latest) s h.state wire (its_own h.transfer h.kind h.from h.to) only seven room flow now)
+
+          fire_settles : (station : Address) (set : List ℕ) (s : Incoming) → IsFromOpening taken given n key s → (flow : Flow) (now : ℕ) → SettledBy (session_fired station key set m flow s now)
+          fire_settles station set (incoming.Broadcast s) h flow now = settles_ended
+          fire_settles station set (incoming.Connection s) h flow now =
+              connection_settles station set true (incoming.Connection s) h (expired (prepared_to_expire s flow) flow now) (connection_expires n taken more next h.transfer h.opening h.packets s h.state flow now)
+
+          pub settles_fired : (ports : Ports) (now : ℕ) → SettledBy (fired_at ports key now m)
+          settles_fired ports now = by (state_at m key) refl
             where
-              its_own : (t : Transfer) → t.kind ≡ key.kind → t.from ≡ key.source → GoesTo t.kind t.to → Contains more (n + 1, (wire, t.from, t.to))
-              its_own t kind from it =
-                  let same : t.to ≡ to = one_destination t.kind t.to to it (subst (λ k. GoesTo k to) (sym kind) goes) in
-                  subst (λ (x : Address). Contains more (n + 1, (wire, x, t.to))) (sym from) (subst (λ (x : Address). Contains more (n + 1, (wire, key.source, x))) (sym same) here)
+              by : (o : Option State) → state_at m key ≡ o → SettledBy (fired_by o ports key now m)
+              by None e = settles_unheard e
+              by (Some v) e = fire_settles ports.station v.0 v.1 (each key v e) (flow_at ports v.0) now
 
-              by : (s : Incoming) → IsFromOpening taken given n key s → SettledBy (session_stepped station key set room m flow s wire now)
-              by (incoming.Broadcast s) h = broadcast_settles s h (bam-steps.stepped s wire now) (broadcast_goes n taken more next h.transfer h.opening h.packets s h.state h.begun h.size wire (its_own h.transfer h.kind h.from h.to) seven now)
-              by (incoming.Connection s) h = connection_settles (incoming.Connection s) h (stepped (prepared s wire room flow) wire room flow now)
-                  (connection_goes n taken more next h.transfer h.opening h.packets h.begun h.size s h.state wire (its_own h.transfer h.kind h.from h.to) only seven room flow now)
-
-        fire_settles : (station : Address) (set : List ℕ) (s : Incoming) → IsFromOpening taken given n key s → (flow : Flow) (now : ℕ) → SettledBy (session_fired station key set m flow s now)
-        fire_settles station set (incoming.Broadcast s) h flow now = settles_ended
-        fire_settles station set (incoming.Connection s) h flow now =
-            connection_settles station set true (incoming.Connection s) h (expired (prepared_to_expire s flow) flow now) (connection_expires n taken more next h.transfer h.opening h.packets s h.state flow now)
-
-        pub settles_fired : (ports : Ports) (now : ℕ) → SettledBy (fired_at ports key now m)
-        settles_fired ports now = by (state_at m key) refl
-          where
-            by : (o : Option State) → state_at m key ≡ o → SettledBy (fired_by o ports key now m)
-            by None e = settles_unheard e
-            by (Some v) e = fire_settles ports.station v.0 v.1 (each key v e) (flow_at ports v.0) now
-
-        pub settles_received : (ports : Ports) (wire : Wire) (to : Address) → Contains more (n + 1, (wire, key.source, to)) → ((y : Placed Heard) → Contains more y → y.1.0 ≡ wire) → GoesTo key.kind to → IsSeven wire
-            → (room : Bool) (now : ℕ) → SettledBy (received ports key wire room now m)
-        settles_received ports wire to here only goes seven room now = by (state_at m key) refl
-          where
-            by : (o : Option State) → state_at m key ≡ o → SettledBy (received_by o ports key wire room now m)
-            by None e = settles_unheard e
-            by (Some v) e = step_settles ports.station v.0 room wire to here only goes seven v.1 (each key v e) (flow_at ports v.0) now
+          pub settles_received : (ports : Ports) (wire : Wire) (to : Address) → Contains more (n + 1, (wire, key.source, to)) → ((y : Placed Heard) → Contains more y → y.1.0 ≡ wire) → GoesTo key.kind to → IsSeven wire
+              → (room : Bool) (now : ℕ) → SettledBy (received ports key wire room now m)
+          settles_received ports wire to here only goes seven room now = by (state_at m key) refl
+            where
+              by : (o : Option State) → state_at m key ≡ o → SettledBy (received_by o ports key wire room now m)
+              by None e = settles_unheard e
+              by (Some v) e = step_settles ports.station v.0 room wire to here only goes seven v.1 (each key v e) (flow_at ports v.0) now
 
 -- A port that is taken out of the set of a session changes no more than the set
 

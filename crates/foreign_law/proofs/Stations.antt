@@ -61,8 +61,9 @@ use Rattle.record_law.proofs.Maps.{OfEach, of_each_none}
 use Rattle.record_law.proofs.readers.Filled.{IsSeven}
 use Rattle.record_law.proofs.readers.Sessions.{MeansSeven, reading_seven}
 use Rattle.foreign_law.specs.Taken.{Heard, Message, heard_by}
-use Rattle.foreign_law.specs.Assembled.{Transfer, kind_for, Announces}
-use Rattle.foreign_law.proofs.Later.{AreNext}
+use Rattle.foreign_law.specs.Assembled.{Transfer, kind_for, Announces, opened_by}
+use Rattle.foreign_law.proofs.Later.{AreNext, HasNoOpening}
+use Rattle.foreign_law.proofs.Later as later
 use Rattle.foreign_law.proofs.Courses.{course_begins}
 use Rattle.foreign_law.proofs.Connections.{asks_for}
 use Rattle.foreign_law.proofs.Sessions.{told, in_none, GoesTo, IsFromOpening, AreFromOpenings, IsQuiet, Settles, settles_none, settles_aborted, settles_ended, settles_on, settles_received, settles_fired, unbound_keeps}
@@ -180,21 +181,39 @@ module _ (a : Address) (n : ℕ) (before : List (Placed Heard)) (within : (x : P
     not_all : is_one to.0 ≡ true → (to.0 == global_address) ≡ false
     not_all one = ne_eqb to.0 255 (λ e. let l : to.0 < 254 = ltb-true to.0 254 one in omega (arith, e, l))
 
+    -- a frame that opens nothing
+    no_opening : opened_by wire ≡ None → (t : Transfer) → HasNoOpening more t
+    no_opening opens_none t place w c e = absurd (let f : None ≡ Some t.kind = sym opens_none ∙ ap opened_by (sym (only _ c)) ∙ e in none-some t.kind f)
+
     -- a frame that is no DPO
-    quiet_frame : ((packets offset field : ℕ) → wire ≡ Cm (EtpDpo packets offset field) → ⊥) → (q : Key) → Quiet q
-    quiet_frame none q t k f etp place offset o = none o.0 offset o.1 (sym (only _ o.2))
+    quiet_frame : opened_by wire ≡ None → ((packets offset field : ℕ) → wire ≡ Cm (EtpDpo packets offset field) → ⊥) → (q : Key) → Quiet q
+    quiet_frame opens_none none q t k f = (λ etp place offset o. none o.0 offset o.1 (sym (only _ o.2)), no_opening opens_none t)
+
+    -- an opening is for the session of its source and kind
+    quiet_opening : (kind : SessionKind) → opened_by wire ≡ Some kind → ((packets offset field : ℕ) → wire ≡ Cm (EtpDpo packets offset field) → ⊥) → (q : Key) → (q ≡ key_of from kind → ⊥) → Quiet q
+    quiet_opening kind opens none q apart t k f = (λ etp place offset o. none o.0 offset o.1 (sym (only _ o.2)), others)
+      where
+        others : HasNoOpening more t
+        others place w c e =
+            let g : (n + 1, (wire, from, to)) ≡ (place, (w, t.from, t.to)) = is_it _ c in
+            let source : q.source ≡ from = sym f ∙ sym (ap (λ (y : Placed Heard). y.1.1) g) in
+            let same_kind : q.kind ≡ kind = sym k ∙ same_Some t.kind kind (sym e ∙ sym (ap (λ (y : Placed Heard). opened_by y.1.0) g) ∙ opens) in
+            apart (λ i. record { source = source i; kind = same_kind i })
 
     -- a DPO is for the session of ETP of its source
-    quiet_else : (kind : SessionKind) → ((packets offset field : ℕ) → wire ≡ Cm (EtpDpo packets offset field) → kind ≡ Etp) → (q : Key) → (q ≡ key_of from kind → ⊥) → Quiet q
-    quiet_else kind is_etp q apart t k f etp place offset o =
-        let e : (n + 1, (wire, from, to)) ≡ (place, (Cm (EtpDpo o.0 offset o.1), t.from, t.to)) = is_it _ o.2 in
-        let source : q.source ≡ from = sym f ∙ sym (ap (λ (y : Placed Heard). y.1.1) e) in
-        let same_kind : q.kind ≡ kind = sym k ∙ etp ∙ sym (is_etp o.0 offset o.1 (ap (λ (y : Placed Heard). y.1.0) e)) in
-        apart (λ i. record { source = source i; kind = same_kind i })
+    quiet_else : opened_by wire ≡ None → (kind : SessionKind) → ((packets offset field : ℕ) → wire ≡ Cm (EtpDpo packets offset field) → kind ≡ Etp) → (q : Key) → (q ≡ key_of from kind → ⊥) → Quiet q
+    quiet_else opens_none kind is_etp q apart t k f = (
+      λ etp place offset o.
+          let e : (n + 1, (wire, from, to)) ≡ (place, (Cm (EtpDpo o.0 offset o.1), t.from, t.to)) = is_it _ o.2 in
+          let source : q.source ≡ from = sym f ∙ sym (ap (λ (y : Placed Heard). y.1.1) e) in
+          let same_kind : q.kind ≡ kind = sym k ∙ etp ∙ sym (is_etp o.0 offset o.1 (ap (λ (y : Placed Heard). y.1.0) e)) in
+          apart (λ i. record { source = source i; kind = same_kind i }),
+      no_opening opens_none t,
+    )
 
-    acts_in_session : (kind : SessionKind) → ((packets offset field : ℕ) → wire ≡ Cm (EtpDpo packets offset field) → kind ≡ Etp) → GoesTo a kind to → IsSeven wire
+    acts_in_session : opened_by wire ≡ None → (kind : SessionKind) → ((packets offset field : ℕ) → wire ≡ Cm (EtpDpo packets offset field) → kind ≡ Etp) → GoesTo a kind to → IsSeven wire
         → Does (by_session st (received st.ports (key_of from kind) wire room now st.sessions))
-    acts_in_session kind is_etp own seven = settles_received a n before more next given st.sessions each (key_of from kind) (quiet_else kind is_etp) st.ports wire to here only own seven room now
+    acts_in_session opens_none kind is_etp own seven = settles_received a n before more next given st.sessions each (key_of from kind) (quiet_else opens_none kind is_etp) (λ t _ _. no_opening opens_none t) st.ports wire to here only own seven room now
 
     -- An opening
 
@@ -209,9 +228,9 @@ module _ (a : Address) (n : ℕ) (before : List (Placed Heard)) (within : (x : P
       by_refusal None x y h k = h refl
       by_refusal (Some reason) x y h k = k reason
 
-      acts_rts : (k : Kind) (is_size : Bool) (size most pgn : ℕ) → (is_size ≡ true → Announces (session_for k) size (clean pgn) wire × (kind_for to size ≡ session_for k)) → to.0 ≡ a.0 → GoesTo a (session_for k) to
+      acts_rts : (k : Kind) → opened_by wire ≡ Some (session_for k) → (is_size : Bool) (size most pgn : ℕ) → (is_size ≡ true → Announces (session_for k) size (clean pgn) wire × (kind_for to size ≡ session_for k)) → to.0 ≡ a.0 → GoesTo a (session_for k) to
           → Does (by_session st (rts_received st.address st.ports k is_size from size most pgn room now st.sessions))
-      acts_rts k is_size size most pgn announces own goes_there =
+      acts_rts k opens is_size size most pgn announces own goes_there =
           let key : Key = key_of from (session_for k) in
           let set : List ℕ = set_for st.ports pgn size in
           let flow : Flow = flow_at st.ports set in
@@ -220,7 +239,7 @@ module _ (a : Address) (n : ℕ) (before : List (Placed Heard)) (within : (x : P
           by_refusal (refusal is_size room set (others_than st.sessions key)) _ _
           (λ e.
           let s : Announces (session_for k) size (clean pgn) wire × (kind_for to size ≡ session_for k) = announces (sized is_size room set (others_than st.sessions key) e) in
-          settles_on a n before more next given st.sessions each key (λ q _. quiet_frame none q) set (incoming.Connection (asking m flow now)) (record {
+          settles_on a n before more next given st.sessions each key (quiet_opening (session_for k) opens none) set (incoming.Connection (asking m flow now)) (record {
             transfer = t;
             opening = n + 1;
             packets = [];
@@ -229,13 +248,14 @@ module _ (a : Address) (n : ℕ) (before : List (Placed Heard)) (within : (x : P
             to = goes_there;
             size = s.1;
             begun = omega arith;
+            latest = λ place w c _. later.within n before more next (place, (w, from, to)) c;
             state = asks_for (before ++ more) t (n + 1) (n + 1 + 1) [] m flow now
                 (record { kind = refl; from = refl; to = address ∙ sym own; pgn = refl })
                 (course_begins (before ++ more) t (n + 1) (first_join k size flow) (wire, opened_here, s.0) refl refl refl)
                 (λ _. refl);
             apart = λ g c _ _. begins_apart g c;
           }))
-          (λ reason. settles_ended a n before more next given st.sessions each key (λ q _. quiet_frame none q))
+          (λ reason. settles_ended a n before more next given st.sessions each key (quiet_opening (session_for k) opens none))
 
       acts_bam : (size packets pgn : ℕ) → wire ≡ Cm (Bam size packets pgn) → to.0 ≡ global_address → Does (by_session st (bam_received st.ports from size packets pgn room now st.sessions))
       acts_bam size packets pgn is all =
@@ -246,7 +266,7 @@ module _ (a : Address) (n : ℕ) (before : List (Placed Heard)) (within : (x : P
           (λ e.
           let s = and_parts (is_size_of kind.Tp size) (packets == packet_count size) (sized (is_tp_size size packets) room set (others_than st.sessions key) e) in
           let count : packets ≡ packet_count size = eqb-true packets (packet_count size) s.1 in
-          settles_on a n before more next given st.sessions each key (λ q _. quiet_frame none q) set (incoming.Broadcast (bam.announced from.0 pgn (whole_join size) now)) (record {
+          settles_on a n before more next given st.sessions each key (quiet_opening Broadcast (ap opened_by is) none) set (incoming.Broadcast (bam.announced from.0 pgn (whole_join size) now)) (record {
             transfer = t;
             opening = n + 1;
             packets = [];
@@ -255,31 +275,32 @@ module _ (a : Address) (n : ℕ) (before : List (Placed Heard)) (within : (x : P
             to = all;
             size = ap (λ b. cond b Broadcast (cond (is_size_of kind.Etp size) Etp Tp)) (eq-eqb to.0 global_address all);
             begun = omega arith;
+            latest = λ place w c _. later.within n before more next (place, (w, from, to)) c;
             state = record {
               is = record { kind = refl; from = refl; to = sym all; pgn = refl };
               course = course_begins (before ++ more) t (n + 1) (whole_join size) (wire, opened_here, (pgn, is ∙ ap (λ p. Cm (Bam size p pgn)) count, refl)) refl refl refl;
             };
             apart = λ g c _ _. begins_apart g c;
           }))
-          (λ reason. settles_ended a n before more next given st.sessions each key (λ q _. quiet_frame none q))
+          (λ reason. settles_ended a n before more next given st.sessions each key (quiet_opening Broadcast (ap opened_by is) none))
 
   -- Each frame, in the table's order
 
   module _ (from to : Address) (meant : (to.0 == a.0 || to.0 == global_address) ≡ true) (room : Bool) (now : ℕ) where
-    module _ (frame : CmFrame) (goes : goes_to (Cm frame) to.0 ≡ true) (none : (packets offset field : ℕ) → Cm frame ≡ Cm (EtpDpo packets offset field) → ⊥) where
+    module _ (frame : CmFrame) (goes : goes_to (Cm frame) to.0 ≡ true) (opens_none : opened_by (Cm frame) ≡ None) (none : (packets offset field : ℕ) → Cm frame ≡ Cm (EtpDpo packets offset field) → ⊥) where
       abbrev By : StationStep → Type 0
       By step = ActsBy (more (Cm frame) from to goes meant room now) step
 
       cm_lane : By (by_lane st from (λ lane. heard lane (Cm frame) now))
-      cm_lane = acts_lane (more (Cm frame) from to goes meant room now) (next (Cm frame) from to goes meant room now) (quiet_frame (Cm frame) from to goes meant room now none) from (λ lane. heard lane (Cm frame) now)
+      cm_lane = acts_lane (more (Cm frame) from to goes meant room now) (next (Cm frame) from to goes meant room now) (quiet_frame (Cm frame) from to goes meant room now opens_none none) from (λ lane. heard lane (Cm frame) now)
 
       cm_abort : (k : SessionKind) (pgn : ℕ) → By (abort_taken st from k pgn (Cm frame) now)
       cm_abort k pgn = acts_quietly (more (Cm frame) from to goes meant room now) (next (Cm frame) from to goes meant room now) (abort_taken st from k pgn (Cm frame) now)
           (outcome_gives a (n + 1) st.address from (step_at st.lanes from.0 (λ lane. heard lane (Cm frame) now)).ended)
-          (settles_aborted a n before (more (Cm frame) from to goes meant room now) (next (Cm frame) from to goes meant room now) given st.sessions each (quiet_frame (Cm frame) from to goes meant room now none) (key_of from k) pgn)
+          (settles_aborted a n before (more (Cm frame) from to goes meant room now) (next (Cm frame) from to goes meant room now) given st.sessions each (quiet_frame (Cm frame) from to goes meant room now opens_none none) (key_of from k) pgn)
 
     cm_acts : (frame : CmFrame) (goes : goes_to (Cm frame) to.0 ≡ true) → ActsBy (more (Cm frame) from to goes meant room now) (cm_taken st frame from room now)
-    cm_acts (Rts size packets most pgn) goes = acts_rts (Cm (Rts size packets most pgn)) from to goes meant room now (λ x y z e. cc) kind.Tp (is_tp_size size packets) size (most_of kind.Tp most) pgn
+    cm_acts (Rts size packets most pgn) goes = acts_rts (Cm (Rts size packets most pgn)) from to goes meant room now (λ x y z e. cc) kind.Tp refl (is_tp_size size packets) size (most_of kind.Tp most) pgn
         (λ e.
         let s = and_parts (is_size_of kind.Tp size) (packets == packet_count size) e in
         let count : packets ≡ packet_count size = eqb-true packets (packet_count size) s.1 in (
@@ -287,20 +308,20 @@ module _ (a : Address) (n : ℕ) (before : List (Placed Heard)) (within : (x : P
           ap (λ b. cond b Broadcast (cond (is_size_of kind.Etp size) Etp Tp)) (not_all (Cm (Rts size packets most pgn)) from to goes meant room now goes) ∙ ap (λ b. cond b Etp Tp) (tp_size size s.0),
         ))
         (to_own (Cm (Rts size packets most pgn)) from to goes meant room now goes) (to_own (Cm (Rts size packets most pgn)) from to goes meant room now goes)
-    cm_acts (Cts granted number pgn) goes = cm_lane (Cts granted number pgn) goes (λ x y z e. cc)
-    cm_acts (EndOfMsgAck size packets pgn) goes = cm_lane (EndOfMsgAck size packets pgn) goes (λ x y z e. cc)
+    cm_acts (Cts granted number pgn) goes = cm_lane (Cts granted number pgn) goes refl (λ x y z e. cc)
+    cm_acts (EndOfMsgAck size packets pgn) goes = cm_lane (EndOfMsgAck size packets pgn) goes refl (λ x y z e. cc)
     cm_acts (Bam size packets pgn) goes = acts_bam (Cm (Bam size packets pgn)) from to goes meant room now (λ x y z e. cc) size packets pgn refl (eqb-true to.0 global_address goes)
-    cm_acts (Abort reason pgn) goes = cm_abort (Abort reason pgn) goes (λ x y z e. cc) Tp pgn
-    cm_acts (EtpRts size pgn) goes = acts_rts (Cm (EtpRts size pgn)) from to goes meant room now (λ x y z e. cc) kind.Etp (is_etp_size size) size ETP_MAX_WINDOW pgn
+    cm_acts (Abort reason pgn) goes = cm_abort (Abort reason pgn) goes refl (λ x y z e. cc) Tp pgn
+    cm_acts (EtpRts size pgn) goes = acts_rts (Cm (EtpRts size pgn)) from to goes meant room now (λ x y z e. cc) kind.Etp refl (is_etp_size size) size ETP_MAX_WINDOW pgn
         (λ e. (
           (pgn, refl, refl),
           ap (λ b. cond b Broadcast (cond (is_size_of kind.Etp size) Etp Tp)) (not_all (Cm (EtpRts size pgn)) from to goes meant room now goes) ∙ ap (λ b. cond b Etp Tp) e,
         ))
         (to_own (Cm (EtpRts size pgn)) from to goes meant room now goes) (to_own (Cm (EtpRts size pgn)) from to goes meant room now goes)
-    cm_acts (EtpCts granted number pgn) goes = cm_lane (EtpCts granted number pgn) goes (λ x y z e. cc)
-    cm_acts (EtpDpo packets offset pgn) goes = acts_in_session (Cm (EtpDpo packets offset pgn)) from to goes meant room now Etp (λ x y z e. refl) (to_own (Cm (EtpDpo packets offset pgn)) from to goes meant room now goes) tt
-    cm_acts (EtpEoma size pgn) goes = cm_lane (EtpEoma size pgn) goes (λ x y z e. cc)
-    cm_acts (EtpAbort reason pgn) goes = cm_abort (EtpAbort reason pgn) goes (λ x y z e. cc) Etp pgn
+    cm_acts (EtpCts granted number pgn) goes = cm_lane (EtpCts granted number pgn) goes refl (λ x y z e. cc)
+    cm_acts (EtpDpo packets offset pgn) goes = acts_in_session (Cm (EtpDpo packets offset pgn)) from to goes meant room now refl Etp (λ x y z e. refl) (to_own (Cm (EtpDpo packets offset pgn)) from to goes meant room now goes) tt
+    cm_acts (EtpEoma size pgn) goes = cm_lane (EtpEoma size pgn) goes refl (λ x y z e. cc)
+    cm_acts (EtpAbort reason pgn) goes = cm_abort (EtpAbort reason pgn) goes refl (λ x y z e. cc) Etp pgn
 
     own_or_all : GoesTo a (packet_kind kind.Tp to) to
     own_or_all = by (to.0 == global_address) refl meant
@@ -315,13 +336,13 @@ module _ (a : Address) (n : ℕ) (before : List (Placed Heard)) (within : (x : P
 
     wire_acts : (wire : Wire) (goes : goes_to wire to.0 ≡ true) → IsSeven wire → ActsBy (more wire from to goes meant room now) (wire_taken st wire from to room now)
     wire_acts (Cm frame) goes seven = cm_acts frame goes
-    wire_acts (Packet kind.Tp sequence bytes) goes seven = acts_in_session (Packet kind.Tp sequence bytes) from to goes meant room now (packet_kind kind.Tp to) (λ x y z e. cc) own_or_all seven
-    wire_acts (Packet kind.Etp sequence bytes) goes seven = acts_in_session (Packet kind.Etp sequence bytes) from to goes meant room now Etp (λ x y z e. cc) (to_own (Packet kind.Etp sequence bytes) from to goes meant room now goes) seven
+    wire_acts (Packet kind.Tp sequence bytes) goes seven = acts_in_session (Packet kind.Tp sequence bytes) from to goes meant room now refl (packet_kind kind.Tp to) (λ x y z e. cc) own_or_all seven
+    wire_acts (Packet kind.Etp sequence bytes) goes seven = acts_in_session (Packet kind.Etp sequence bytes) from to goes meant room now refl Etp (λ x y z e. cc) (to_own (Packet kind.Etp sequence bytes) from to goes meant room now goes) seven
     wire_acts (Request pgn) goes seven =
-        let h : ActsBy (more (Request pgn) from to goes meant room now) (quietly st) = acts_none (more (Request pgn) from to goes meant room now) (next (Request pgn) from to goes meant room now) (quiet_frame (Request pgn) from to goes meant room now (λ x y z e. cc)) in
+        let h : ActsBy (more (Request pgn) from to goes meant room now) (quietly st) = acts_none (more (Request pgn) from to goes meant room now) (next (Request pgn) from to goes meant room now) (quiet_frame (Request pgn) from to goes meant room now refl (λ x y z e. cc)) in
         either (λ (x : Station). ActsBy (more (Request pgn) from to goes meant room now) (quietly x)) (to.0 == st.address.0) _ _ h h
     wire_acts (Ack control address pgn) goes seven =
-        let h : ActsBy (more (Ack control address pgn) from to goes meant room now) (quietly st) = acts_none (more (Ack control address pgn) from to goes meant room now) (next (Ack control address pgn) from to goes meant room now) (quiet_frame (Ack control address pgn) from to goes meant room now (λ x y z e. cc)) in
+        let h : ActsBy (more (Ack control address pgn) from to goes meant room now) (quietly st) = acts_none (more (Ack control address pgn) from to goes meant room now) (next (Ack control address pgn) from to goes meant room now) (quiet_frame (Ack control address pgn) from to goes meant room now refl (λ x y z e. cc)) in
         either (λ (x : Station). ActsBy (more (Ack control address pgn) from to goes meant room now) (quietly x)) (address.0 == st.address.0 || to.0 == st.address.0) _ _ h h
 
   -- A frame that is taken
@@ -333,7 +354,7 @@ module _ (a : Address) (n : ℕ) (before : List (Placed Heard)) (within : (x : P
   next_none = record { before = within; now = λ x c. absurd (in_none x c) }
 
   pub quiet_none : (q : Key) → IsQuiet a n before [] given q
-  quiet_none q t k f e place offset o = absurd (in_none _ o.2)
+  quiet_none q t k f = (λ e place offset o. absurd (in_none _ o.2), λ place w c e. absurd (in_none _ c))
 
   meaning_acts : (o : Option Heard) → ((m : Heard) → o ≡ Some m → (goes_to m.0 m.2.0 ≡ true) × ((m.2.0 == a.0 || m.2.0 == global_address) ≡ true) × IsSeven m.0) → (room : Bool) (now : ℕ) → ActsBy (heard_now o) (meaning_taken st o room now)
   meaning_acts None h room now = acts_none [] next_none quiet_none
@@ -369,7 +390,7 @@ module _ (a : Address) (n : ℕ) (before : List (Placed Heard)) (within : (x : P
     where
       by : (o : Option Key) → ActsBy [] (elim o as (λ (_ : Option Key). StationStep) [ None ↦ lane_fired st now (due_lane st.lanes now) | Some key ↦ by_session st (fired_at st.ports key now st.sessions) ])
       by None = lane_fired_acts now (due_lane st.lanes now)
-      by (Some key) = settles_fired a n before [] next_none given st.sessions each key (λ q _. quiet_none q) st.ports now
+      by (Some key) = settles_fired a n before [] next_none given st.sessions each key (λ q _. quiet_none q) (λ t _ _ place w c e. absurd (in_none _ c)) st.ports now
 
   pub overrun_acts : ActsBy [] (overrun st)
   overrun_acts = acts_quietly [] next_none (overrun st) (outcomes_give a (n + 1) (overrun_events st.address st.lanes 256) (overrun_outcomes st.address st.lanes 256))

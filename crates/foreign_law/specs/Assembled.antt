@@ -1,6 +1,6 @@
 -- What it is that a message was put together from frames that a station took (SAE J1939-21, broadcast announce message and
 -- connection mode data transfer; ISO 11783-3).
-use Rattle.std.specs.Prelude.{◌≡◌, ℕ, ◌+◌, ◌<◌, ◌≤◌, ◌⊎◌, ◌==◌, if◌then◌else◌, List, [], ◌∷◌, ◌++◌, length, take, Contains}
+use Rattle.std.specs.Prelude.{◌≡◌, ℕ, ◌+◌, ◌<◌, ◌≤◌, ◌⊎◌, ◌==◌, if◌then◌else◌, List, [], ◌∷◌, ◌++◌, length, take, Option, Some, None, Contains}
 use Rattle.pgn_ids.specs.Address.{global_address}
 use Rattle.pgn_ids.specs.Pgn.{clean}
 use Rattle.pgn_ids.specs.declared.address.Address.{Address}
@@ -43,6 +43,13 @@ Announces Broadcast size pgn wire = (field : ℕ) × (wire ≡ Cm (Bam size (pac
 Announces Tp size pgn wire = (most field : ℕ) × (wire ≡ Cm (Rts size (packet_count size) most field)) × (clean field ≡ pgn)
 Announces Etp size pgn wire = (field : ℕ) × (wire ≡ Cm (EtpRts size field)) × (clean field ≡ pgn)
 
+-- the kind of transfer that a frame opens, whatever it announces
+abbrev pub opened_by : Wire → Option SessionKind
+opened_by (Cm (Bam size packets field)) = Some Broadcast
+opened_by (Cm (Rts size packets most field)) = Some Tp
+opened_by (Cm (EtpRts size field)) = Some Etp
+opened_by _ = None
+
 -- the bytes of packets, one behind the other
 abbrev pub bytes_of : List (Placed (List ℕ)) → List ℕ
 bytes_of [] = []
@@ -57,6 +64,10 @@ module _ (taken : List (Placed Heard)) (t : Transfer) where
   -- the opening of the transfer
   abbrev pub IsOpenedAt : (place : ℕ) → Type 0
   IsOpenedAt place = (wire : Wire) × IsTaken place wire × Announces t.kind t.size t.pgn wire
+
+  -- up to a place, no other opening of its source and kind was taken behind this one
+  abbrev pub IsLastOpening : (opening end : ℕ) → Type 0
+  IsLastOpening opening end = (place : ℕ) (wire : Wire) → IsTaken place wire → opened_by wire ≡ Some t.kind → (place ≤ opening) ⊎ (end < place)
 
   -- a DPO of the transfer, with this offset
   abbrev pub IsOffsetAt : (place offset : ℕ) → Type 0
@@ -87,10 +98,11 @@ module _ (taken : List (Placed Heard)) (t : Transfer) where
   ArePackets opening after k [] = Unit {0}
   ArePackets opening after k (packet ∷ packets) = (after < packet.0) × IsPacket opening k packet × ArePackets opening packet.0 (k + 1) packets
 
--- the message was put together from what a station took from its opening on: its packets, all of them in order, the last one by the
--- call that gave the message
+-- the message was put together from what a station took from its opening on, with no other opening between: its packets, all of them in
+-- order, the last one by the call that gave the message
 pub record IsAssembled (taken : List (Placed Heard)) (opening : ℕ) (given : Placed Message) : Type 0 where
   pub opened : IsOpenedAt taken (transfer_of given.1) opening
+  pub latest : IsLastOpening taken (transfer_of given.1) opening given.0
   pub earlier : List (Placed (List ℕ))
   pub last : List ℕ
   pub in_turn : ArePackets taken (transfer_of given.1) opening opening 1 (earlier ++ (given.0, last) ∷ [])

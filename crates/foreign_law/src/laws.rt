@@ -10,9 +10,10 @@ ghost use Rattle.foreign_law.specs.Assembled.{AreAssembled};
 /// A law: each message that a station is given was put together from frames that this station took, whoever sent them (SAE J1939-21,
 /// broadcast announce message and connection mode data transfer; ISO 11783-3).
 ///
-/// It had taken an RTS or a BAM of the message's source, with its size and its PGN: an RTS to itself, or a BAM to all. After it, it took
-/// the packets 1 to P in this order, whose bytes are the message's, the last one by the call that gave the message. In ETP the number of
-/// a packet is the offset of the session's last DPO before it, plus the packet's sequence number.
+/// It had taken an RTS or a BAM of the message's source, with its size and its PGN: an RTS to itself, or a BAM to all. After it, and with
+/// no other opening of that source and kind between, it took the packets 1 to P in this order, whose bytes are the message's, the last
+/// one by the call that gave the message. In ETP the number of a packet is the offset of the session's last DPO before it, plus the
+/// packet's sequence number.
 ///
 /// No packet serves two messages: what was taken from the opening of one to its end lies apart from that of any other message of the
 /// same source and kind.
