@@ -1,6 +1,6 @@
 -- What a frame makes of a broadcast under way: its packets so far are the ones that were taken since its BAM, and with the last packet
 -- its message was put together.
-use Rattle.std.proofs.Common.{◌≡◌, ℕ, ◌+◌, ◌≤◌, nat_lt, Bool, true, false, cond, not, List, [], ◌∷◌, ◌++◌, length, refl, subst, arith, ltb-false}
+use Rattle.std.proofs.Common.{◌≡◌, ℕ, ◌+◌, ◌≤◌, nat_lt, Bool, true, false, cond, not, List, [], ◌∷◌, ◌++◌, length, Some, refl, subst, arith, ltb-false}
 use Rattle.std.specs.Prelude.{Contains}
 use Rattle.std.proofs.lemmas.Bool.{cond_both}
 use Rattle.std.proofs.lemmas.List.Elements.{Contains-append_right}
@@ -15,7 +15,7 @@ use Rattle.bam_session.specs.States as bam
 use Rattle.bam_session.specs.Receiving.{Received, Awaits, Completes, Drops, received, stepped}
 use Rattle.segment_law.specs.Told.{Placed}
 use Rattle.record_law.proofs.readers.Filled.{IsSeven}
-use Rattle.foreign_law.specs.Taken.{Heard, Message}
+use Rattle.foreign_law.specs.Taken.{Seen, Message}
 use Rattle.foreign_law.specs.Assembled.{Transfer, transfer_of, transport_of, kind_for, IsNumber, IsPacket, IsAssembled}
 use Rattle.foreign_law.proofs.Later.{AreNext, IsNewest}
 use Rattle.foreign_law.proofs.Courses.{Course, course_on, course_next, its_transfer, course_ends}
@@ -28,7 +28,7 @@ pub record IsBroadcast (t : Transfer) (s : bam.Incoming) : Type 0 where
   pub pgn : clean s.pgn ≡ t.pgn
 
 -- the broadcast of a transfer, with these packets so far
-pub record IsToAll (taken : List (Placed Heard)) (t : Transfer) (opening : ℕ) (packets : List (Placed (List ℕ))) (s : bam.Incoming) : Type 0 where
+pub record IsToAll (taken : List (Placed Seen)) (t : Transfer) (opening : ℕ) (packets : List (Placed (List ℕ))) (s : bam.Incoming) : Type 0 where
   pub is : IsBroadcast t s
   pub course : Course taken t opening packets s.join
 
@@ -36,8 +36,8 @@ pub record IsToAll (taken : List (Placed Heard)) (t : Transfer) (opening : ℕ) 
 abbrev pub message_to_all : bam.Incoming → (bytes : List ℕ) → Message
 message_to_all s bytes = record { from = record { 0 = s.from }; to = record { 0 = global_address }; pgn = clean s.pgn; bytes = bytes }
 
-module _ (n : ℕ) (taken more : List (Placed Heard)) (next : AreNext n taken more) (t : Transfer) (opening : ℕ) (packets : List (Placed (List ℕ))) (s : bam.Incoming) (h : IsToAll taken t opening packets s) where
-  abbrev all : List (Placed Heard)
+module _ (n : ℕ) (taken more : List (Placed Seen)) (next : AreNext n taken more) (t : Transfer) (opening : ℕ) (packets : List (Placed (List ℕ))) (s : bam.Incoming) (h : IsToAll taken t opening packets s) where
+  abbrev all : List (Placed Seen)
   all = taken ++ more
 
   -- it goes on, its message was put together, or it is dropped
@@ -50,12 +50,12 @@ module _ (n : ℕ) (taken more : List (Placed Heard)) (next : AreNext n taken mo
   broadcast_stays = record { is = h.is; course = course_on n taken more next t opening packets s.join h.course }
 
   module _ (le : opening ≤ n) (size : kind_for t.to t.size ≡ t.kind) (newest : IsNewest (taken ++ more) t opening) where
-    module _ (sequence : ℕ) (bytes : List ℕ) (now : ℕ) (is_here : Contains more (n + 1, (Packet Tp sequence bytes, t.from, t.to))) (seven : length bytes ≡ 7) where
+    module _ (sequence : ℕ) (bytes : List ℕ) (now : ℕ) (is_here : Contains more (n + 1, Some (Packet Tp sequence bytes, t.from, t.to))) (seven : length bytes ≡ 7) where
       module _ (is_next : sequence ≡ s.join.next) where
         packet_is : IsPacket all t opening s.join.next (n + 1, bytes)
         packet_is = record {
           sequence = sequence;
-          is_taken = subst (λ k. Contains all (n + 1, (Packet (transport_of k) sequence bytes, t.from, t.to))) h.is.kind (Contains-append_right taken more _ is_here);
+          is_taken = subst (λ k. Contains all (n + 1, Some (Packet (transport_of k) sequence bytes, t.from, t.to))) h.is.kind (Contains-append_right taken more _ is_here);
           number = subst (λ k. IsNumber all t k opening (n + 1) sequence s.join.next) h.is.kind is_next;
           seven = seven;
         }
@@ -84,7 +84,7 @@ module _ (n : ℕ) (taken more : List (Placed Heard)) (next : AreNext n taken mo
           (λ _. tt)
           (λ not_above. next_goes (omega (arith, ltb-false sequence s.join.next not_below, ltb-false s.join.next sequence not_above)) (wants_last s.join) refl))
 
-    pub broadcast_goes : (wire : Wire) → Contains more (n + 1, (wire, t.from, t.to)) → IsSeven wire → (now : ℕ) → Goes (stepped s wire now)
+    pub broadcast_goes : (wire : Wire) → Contains more (n + 1, Some (wire, t.from, t.to)) → IsSeven wire → (now : ℕ) → Goes (stepped s wire now)
     broadcast_goes (Packet Tp sequence bytes) here seven now = packet_goes sequence bytes now here seven
     broadcast_goes (Packet Etp sequence bytes) here seven now = (packets, broadcast_stays)
     broadcast_goes (Cm frame) here seven now = (packets, broadcast_stays)

@@ -1,8 +1,9 @@
 -- What a frame makes of a connection under way: its packets so far are the ones that were taken since its opening, its offset is that
 -- of the last DPO, and with the last packet its message was put together.
-use Rattle.std.proofs.Common.{◌≡◌, ◌⊎◌, inl, inr, ℕ, ◌+◌, ◌-◌, ◌<◌, ◌≤◌, ◌==◌, nat_lt, Bool, true, false, cond, not, ◌&&◌, ◌||◌, List, [], ◌∷◌, ◌++◌, length, None, refl, sym, ap, ◌∙◌, subst, arith, ltb-false, eqb-true, eq-eqb}
+use Rattle.std.proofs.Common.{◌≡◌, ◌⊎◌, inl, inr, ℕ, ◌+◌, ◌-◌, ◌<◌, ◌≤◌, ◌==◌, nat_lt, Bool, true, false, cond, not, ◌&&◌, ◌||◌, List, [], ◌∷◌, ◌++◌, length, Option, Some, None, refl, sym, ap, ◌∙◌, subst, arith, ltb-false, eqb-true, eq-eqb}
 use Rattle.std.specs.Prelude.{nat_le, Contains}
 use Rattle.std.proofs.lemmas.Bool.{or_parts, cond_both}
+use Rattle.std.proofs.lemmas.Option.{same_Some}
 use Rattle.std.proofs.lemmas.List.Elements.{Contains-append_right}
 use Rattle.pgn_ids.specs.Pgn.{clean}
 use Rattle.tp_wire.specs.Kinds.{is_same_kind}
@@ -36,10 +37,15 @@ use Rattle.responder.proofs.Rows.{same_kinds, by_timer}
 use Rattle.segment_law.specs.Told.{Placed}
 use Rattle.record_law.proofs.Tests.{either, not_fails}
 use Rattle.record_law.proofs.readers.Filled.{IsSeven}
-use Rattle.foreign_law.specs.Taken.{Heard, Message}
+use Rattle.foreign_law.specs.Taken.{Seen, Message}
 use Rattle.foreign_law.specs.Assembled.{Transfer, transfer_of, transport_of, kind_for, IsOffsetAt, IsLastOffset, IsNumber, IsPacket, IsAssembled}
 use Rattle.foreign_law.proofs.Later.{AreNext, HasNoOffset, IsNewest, last_on, last_stays, last_new}
 use Rattle.foreign_law.proofs.Courses.{Course, course_on, course_same, course_next, its_transfer, course_ends}
+
+-- the frame of what was seen
+abbrev pub wire_of : Seen → Option Wire
+wire_of None = None
+wire_of (Some m) = Some m.0
 
 -- a connection is that of a transfer
 pub record IsConnection (t : Transfer) (m : Unfinished) : Type 0 where
@@ -53,7 +59,7 @@ abbrev pub IsUnannounced : InState → Type 0
 IsUnannounced (AwaitPacket s) = s.until < s.message.join.next
 IsUnannounced (Holding s) = Unit {0}
 
-module _ (taken : List (Placed Heard)) (t : Transfer) (opening : ℕ) where
+module _ (taken : List (Placed Seen)) (t : Transfer) (opening : ℕ) where
   -- the offset of a connection is that of the last DPO before a place, or the next packet is still to be announced; in TP it is 0
   abbrev pub KeepsOffset : Kind → (before offset : ℕ) → (Unannounced : Type 0) → Type 0
   KeepsOffset Tp before offset Unannounced = offset ≡ 0
@@ -95,11 +101,11 @@ module _ (taken : List (Placed Heard)) (t : Transfer) (opening : ℕ) where
       by Etp e = inr (let l : m.join.next ≡ length packets + 1 = course.next in subst (λ k. states.announced_at_first k m.join.next (states.window_end m) < m.join.next) (sym e) (omega (arith, l)))
 
 -- in TP the offset is 0
-tp_offset : (taken : List (Placed Heard)) (t : Transfer) (opening before : ℕ) (packets : List (Placed (List ℕ))) (s : InState) → IsUnderWay taken t opening before packets s → (unfinished_of s).kind ≡ Tp → (unfinished_of s).offset ≡ 0
+tp_offset : (taken : List (Placed Seen)) (t : Transfer) (opening before : ℕ) (packets : List (Placed (List ℕ))) (s : InState) → IsUnderWay taken t opening before packets s → (unfinished_of s).kind ≡ Tp → (unfinished_of s).offset ≡ 0
 tp_offset taken t opening before packets s h e = subst (λ k. KeepsOffset taken t opening k before (unfinished_of s).offset (IsUnannounced s)) e h.offset
 
-module _ (n : ℕ) (taken more : List (Placed Heard)) (next : AreNext n taken more) (t : Transfer) (opening : ℕ) (packets : List (Placed (List ℕ))) where
-  abbrev all : List (Placed Heard)
+module _ (n : ℕ) (taken more : List (Placed Seen)) (next : AreNext n taken more) (t : Transfer) (opening : ℕ) (packets : List (Placed (List ℕ))) where
+  abbrev all : List (Placed Seen)
   all = taken ++ more
 
   -- it is under way, as far as n calls go; and so after one more
@@ -136,7 +142,7 @@ module _ (n : ℕ) (taken more : List (Placed Heard)) (next : AreNext n taken mo
     -- A packet
 
     module _ (s : states.AwaitPacket) (h : Was (AwaitPacket s)) (sequence : ℕ) (bytes : List ℕ) (room : Bool) (flow : Flow) (now : ℕ)
-        (is_here : Contains more (n + 1, (Packet s.message.kind sequence bytes, t.from, t.to))) (seven : length bytes ≡ 7) (quiet : HasNoOffset more t) where
+        (is_here : Contains more (n + 1, Some (Packet s.message.kind sequence bytes, t.from, t.to))) (seven : length bytes ≡ 7) (quiet : HasNoOffset more t) where
       abbrev m : Unfinished
       m = s.message
 
@@ -159,7 +165,7 @@ module _ (n : ℕ) (taken more : List (Placed Heard)) (next : AreNext n taken mo
         packet_is : IsPacket all t opening to_come (n + 1, bytes)
         packet_is = record {
           sequence = sequence;
-          is_taken = subst (λ k. Contains all (n + 1, (Packet k sequence bytes, t.from, t.to))) (sym (carried m.kind) ∙ ap transport_of h.is.kind) (Contains-append_right taken more _ is_here);
+          is_taken = subst (λ k. Contains all (n + 1, Some (Packet k sequence bytes, t.from, t.to))) (sym (carried m.kind) ∙ ap transport_of h.is.kind) (Contains-append_right taken more _ is_here);
           number = subst (λ k. IsNumber all t k opening (n + 1) sequence to_come) h.is.kind (its_number m.kind refl h.offset);
           seven = seven;
         }
@@ -211,9 +217,9 @@ module _ (n : ℕ) (taken more : List (Placed Heard)) (next : AreNext n taken mo
 
     -- A frame of its source
 
-    of_another : (announces offset pgn : ℕ) → ((y : Placed Heard) → Contains more y → y.1.0 ≡ Cm (EtpDpo announces offset pgn)) → (m : Unfinished) → IsConnection t m → is_of_another m.peer pgn ≡ true → HasNoOffset more t
+    of_another : (announces offset pgn : ℕ) → ((y : Placed Seen) → Contains more y → wire_of y.1 ≡ Some (Cm (EtpDpo announces offset pgn))) → (m : Unfinished) → IsConnection t m → is_of_another m.peer pgn ≡ true → HasNoOffset more t
     of_another announces offset pgn only m is other place o k =
-        let e : Cm (EtpDpo k.0 o k.1) ≡ Cm (EtpDpo announces offset pgn) = only _ k.2 in
+        let e : Cm (EtpDpo k.0 o k.1) ≡ Cm (EtpDpo announces offset pgn) = same_Some _ _ (only _ k.2) in
         let f : k.1 ≡ pgn = cc in
         let g : clean pgn ≡ clean m.peer.pgn = ap clean (sym f) ∙ k.3 ∙ sym is.pgn in
         let b : (clean pgn == clean m.peer.pgn) ≡ true = eq-eqb (clean pgn) (clean m.peer.pgn) g in
@@ -223,7 +229,7 @@ module _ (n : ℕ) (taken more : List (Placed Heard)) (next : AreNext n taken mo
     offset_set offset Unannounced Tp e o = absurd (cc)
     offset_set offset Unannounced Etp e o = inl (last_new n taken more next t opening offset le o)
 
-    module _ (announces offset pgn : ℕ) (is_here : Contains more (n + 1, (Cm (EtpDpo announces offset pgn), t.from, t.to))) (only : (y : Placed Heard) → Contains more y → y.1.0 ≡ Cm (EtpDpo announces offset pgn)) where
+    module _ (announces offset pgn : ℕ) (is_here : Contains more (n + 1, Some (Cm (EtpDpo announces offset pgn), t.from, t.to))) (only : (y : Placed Seen) → Contains more y → wire_of y.1 ≡ Some (Cm (EtpDpo announces offset pgn))) where
       its_offset : (m : Unfinished) → IsConnection t m → is_of_another m.peer pgn ≡ false → IsOffsetAt more t (n + 1) offset
       its_offset m is own = (announces, pgn, is_here, eqb-true (clean pgn) (clean m.peer.pgn) (not_fails (clean pgn == clean m.peer.pgn) own) ∙ is.pgn)
 
@@ -254,13 +260,13 @@ module _ (n : ℕ) (taken more : List (Placed Heard)) (next : AreNext n taken mo
           )))
 
     abbrev Here : Wire → Type 0
-    Here wire = Contains more (n + 1, (wire, t.from, t.to))
+    Here wire = Contains more (n + 1, Some (wire, t.from, t.to))
 
     abbrev Only : Wire → Type 0
-    Only wire = (y : Placed Heard) → Contains more y → y.1.0 ≡ wire
+    Only wire = (y : Placed Seen) → Contains more y → wire_of y.1 ≡ Some wire
 
     same : (s : InState) → Was s → (wire : Wire) → Only wire → ((announces offset field : ℕ) → wire ≡ Cm (EtpDpo announces offset field) → ⊥) → Goes (On s None)
-    same s h wire only none = (packets, connection_stays (λ _ place offset o. none o.0 offset o.1 (sym (only _ o.2))) s h)
+    same s h wire only none = (packets, connection_stays (λ _ place offset o. none o.0 offset o.1 (sym (same_Some _ _ (only _ o.2)))) s h)
 
     cm_same : (s : InState) → Was s → (frame : CmFrame) → Only (Cm frame) → ((announces offset field : ℕ) → frame ≡ EtpDpo announces offset field → ⊥) → Goes (On s None)
     cm_same s h frame only none = same s h (Cm frame) only (λ announces offset field e. none announces offset field (cc))
@@ -303,7 +309,7 @@ module _ (n : ℕ) (taken more : List (Placed Heard)) (next : AreNext n taken mo
     step_goes : (s : InState) → Was s → (wire : Wire) → Here wire → Only wire → IsSeven wire → (room : Bool) (flow : Flow) (now : ℕ) → Goes (stepped s wire room flow now)
     step_goes (AwaitPacket s) h (Cm frame) here only seven room flow now = awaiting_cm s h frame here only room flow now
     step_goes (AwaitPacket s) h (Packet kind sequence bytes) here only seven room flow now = cond_both (is_same_kind s.message.kind kind) _ _ Goes
-        (λ e. packet_goes s h sequence bytes room flow now (subst (λ k. Here (Packet k sequence bytes)) (sym (same_kinds s.message.kind kind e)) here) seven (λ place offset o. absurd (let f : Cm (EtpDpo o.0 offset o.1) ≡ Packet kind sequence bytes = only _ o.2 in cc)))
+        (λ e. packet_goes s h sequence bytes room flow now (subst (λ k. Here (Packet k sequence bytes)) (sym (same_kinds s.message.kind kind e)) here) seven (λ place offset o. absurd (let f : Cm (EtpDpo o.0 offset o.1) ≡ Packet kind sequence bytes = same_Some _ _ (only _ o.2) in cc)))
         (λ e. same (AwaitPacket s) h (Packet kind sequence bytes) only (λ x y z f. cc))
     step_goes (AwaitPacket s) h (Request pgn) here only seven room flow now = same (AwaitPacket s) h (Request pgn) only (λ x y z f. cc)
     step_goes (AwaitPacket s) h (Ack control address pgn) here only seven room flow now = same (AwaitPacket s) h (Ack control address pgn) only (λ x y z f. cc)

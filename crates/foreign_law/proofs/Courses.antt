@@ -5,11 +5,11 @@ use Rattle.seg_cut.specs.Join.{Join, joined, wants_last}
 use Rattle.seg_cut.specs.Packets.{packet_count}
 use Rattle.segment_law.specs.Told.{Placed}
 use Rattle.record_law.proofs.Lists.{take_more}
-use Rattle.foreign_law.specs.Taken.{Heard, Message}
+use Rattle.foreign_law.specs.Taken.{Seen, Message}
 use Rattle.foreign_law.specs.Assembled.{Transfer, transfer_of, kind_for, bytes_of, IsOpenedAt, IsLastOpening, IsPacket, ArePackets, IsAssembled}
 use Rattle.foreign_law.proofs.Later.{AreNext, IsNewest, opened_on, packets_on, packets_next}
 
-pub record Course (taken : List (Placed Heard)) (t : Transfer) (opening : ℕ) (packets : List (Placed (List ℕ))) (j : Join) : Type 0 where
+pub record Course (taken : List (Placed Seen)) (t : Transfer) (opening : ℕ) (packets : List (Placed (List ℕ))) (j : Join) : Type 0 where
   pub opened : IsOpenedAt taken t opening
   pub in_turn : ArePackets taken t opening opening 1 packets
   pub next : j.next ≡ length packets + 1
@@ -25,15 +25,15 @@ bytes_more [] p = append-nil p.1
 bytes_more (q ∷ ps) p = ap (λ xs. q.1 ++ xs) (bytes_more ps p) ∙ sym (append_assoc q.1 (bytes_of ps) p.1)
 
 -- it begins
-pub course_begins : (taken : List (Placed Heard)) (t : Transfer) (opening : ℕ) (j : Join) → IsOpenedAt taken t opening → j.next ≡ 1 → j.size ≡ t.size → j.bytes ≡ [] → Course taken t opening [] j
+pub course_begins : (taken : List (Placed Seen)) (t : Transfer) (opening : ℕ) (j : Join) → IsOpenedAt taken t opening → j.next ≡ 1 → j.size ≡ t.size → j.bytes ≡ [] → Course taken t opening [] j
 course_begins taken t opening j o next size bytes = record { opened = o; in_turn = tt; next = next; size = size; bytes = bytes ∙ none_taken t.size }
 
 -- nothing but the room changes
-pub course_same : (taken : List (Placed Heard)) (t : Transfer) (opening : ℕ) (packets : List (Placed (List ℕ))) (j k : Join) → k.next ≡ j.next → k.size ≡ j.size → k.bytes ≡ j.bytes → Course taken t opening packets j → Course taken t opening packets k
+pub course_same : (taken : List (Placed Seen)) (t : Transfer) (opening : ℕ) (packets : List (Placed (List ℕ))) (j k : Join) → k.next ≡ j.next → k.size ≡ j.size → k.bytes ≡ j.bytes → Course taken t opening packets j → Course taken t opening packets k
 course_same taken t opening packets j k next size bytes c = record { opened = c.opened; in_turn = c.in_turn; next = next ∙ c.next; size = size ∙ c.size; bytes = bytes ∙ c.bytes }
 
 -- the packets have seven bytes each
-all_bytes : (taken : List (Placed Heard)) (t : Transfer) (opening after k : ℕ) (ps : List (Placed (List ℕ))) → ArePackets taken t opening after k ps → length (bytes_of ps) ≡ 7 * length ps
+all_bytes : (taken : List (Placed Seen)) (t : Transfer) (opening after k : ℕ) (ps : List (Placed (List ℕ))) → ArePackets taken t opening after k ps → length (bytes_of ps) ≡ 7 * length ps
 all_bytes taken t opening after k [] h = refl
 all_bytes taken t opening after k (p ∷ ps) h =
     let rest : length (bytes_of ps) ≡ 7 * length ps = all_bytes taken t opening p.0 (k + 1) ps h.2 in
@@ -41,8 +41,8 @@ all_bytes taken t opening after k (p ∷ ps) h =
     let both : length (p.1 ++ bytes_of ps) ≡ length p.1 + length (bytes_of ps) = length-append p.1 (bytes_of ps) in
     omega (arith, rest, first, both)
 
-module _ (n : ℕ) (taken more : List (Placed Heard)) (next : AreNext n taken more) (t : Transfer) (opening : ℕ) (packets : List (Placed (List ℕ))) (j : Join) (c : Course taken t opening packets j) where
-  abbrev all : List (Placed Heard)
+module _ (n : ℕ) (taken more : List (Placed Seen)) (next : AreNext n taken more) (t : Transfer) (opening : ℕ) (packets : List (Placed (List ℕ))) (j : Join) (c : Course taken t opening packets j) where
+  abbrev all : List (Placed Seen)
   all = taken ++ more
 
   pub course_on : Course all t opening packets j
@@ -86,7 +86,8 @@ module _ (n : ℕ) (taken more : List (Placed Heard)) (next : AreNext n taken mo
           let now : j.next ≡ length packets + 1 = c.next in
           record {
             opened = subst (λ (u : Transfer). IsOpenedAt all u opening) (sym its_transfer) it.opened;
-            latest = subst (λ (u : Transfer). IsLastOpening all u opening (n + 1)) (sym its_transfer) (λ place wire taken_at e. inl (newest place wire taken_at e));
+            latest = subst (λ (u : Transfer). IsLastOpening all u opening (n + 1)) (sym its_transfer) (λ place wire c e. inl (newest.0 place wire c e));
+            unbroken = λ place c. inl (newest.1 place c);
             earlier = packets;
             last = packet;
             in_turn = subst (λ (u : Transfer). ArePackets all u opening opening 1 with_it) (sym its_transfer) it.in_turn;

@@ -1,47 +1,50 @@
 -- What was put together from the frames taken so far is so when a call takes more.
-use Rattle.std.proofs.Common.{◌≡◌, ◌⊎◌, inl, inr, ℕ, ◌+◌, ◌<◌, ◌≤◌, List, [], ◌∷◌, ◌++◌, length, Some, subst, arith, ⊎_elim}
+use Rattle.std.proofs.Common.{◌≡◌, ◌⊎◌, inl, inr, ℕ, ◌+◌, ◌<◌, ◌≤◌, List, [], ◌∷◌, ◌++◌, length, Some, None, subst, arith, ⊎_elim}
 use Rattle.std.specs.Prelude.{Contains}
 use Rattle.std.proofs.lemmas.List.Elements.{Contains-append_left, Contains-append_right, Contains-append_cases}
 use Rattle.tp_wire.specs.declared.wire.Wire.{Wire}
 use Rattle.session_table.specs.declared.key.SessionKind.{SessionKind}
 use Rattle.session_table.specs.declared.key.SessionKind.TheVariants.{Broadcast, Tp, Etp}
 use Rattle.segment_law.specs.Told.{Placed}
-use Rattle.foreign_law.specs.Taken.{Heard, Message}
+use Rattle.foreign_law.specs.Taken.{Seen, Message}
 use Rattle.foreign_law.specs.Assembled.{Transfer, transfer_of, opened_by, IsTaken, IsOpenedAt, IsOffsetAt, IsLastOffset, IsNumber, IsPacket, ArePackets, IsAssembled}
 
 -- the frames of n calls, and those of the next one
-pub record AreNext (n : ℕ) (taken more : List (Placed Heard)) : Type 0 where
-  pub before : (x : Placed Heard) → Contains taken x → x.0 ≤ n
-  pub now : (x : Placed Heard) → Contains more x → x.0 ≡ n + 1
+pub record AreNext (n : ℕ) (taken more : List (Placed Seen)) : Type 0 where
+  pub before : (x : Placed Seen) → Contains taken x → x.0 ≤ n
+  pub now : (x : Placed Seen) → Contains more x → x.0 ≡ n + 1
 
 -- the frames have no DPO of the transfer
-abbrev pub HasNoOffset : List (Placed Heard) → Transfer → Type 0
+abbrev pub HasNoOffset : List (Placed Seen) → Transfer → Type 0
 HasNoOffset more t = (place offset : ℕ) → IsOffsetAt more t place offset → ⊥
 
--- they have no opening of its source and kind
-abbrev pub HasNoOpening : List (Placed Heard) → Transfer → Type 0
-HasNoOpening more t = (place : ℕ) (wire : Wire) → IsTaken more t place wire → opened_by wire ≡ Some t.kind → ⊥
+-- they have no opening of its source and kind, and no frames were missed
+abbrev pub HasNoOpening : List (Placed Seen) → Transfer → Type 0
+HasNoOpening more t = ((place : ℕ) (wire : Wire) → IsTaken more t place wire → opened_by wire ≡ Some t.kind → ⊥) × ((place : ℕ) → Contains more (place, None) → ⊥)
 
--- the opening is the last one that was taken
-abbrev pub IsNewest : List (Placed Heard) → Transfer → (opening : ℕ) → Type 0
-IsNewest taken t opening = (place : ℕ) (wire : Wire) → IsTaken taken t place wire → opened_by wire ≡ Some t.kind → place ≤ opening
+-- the opening is the last one that was taken, and no frames were missed since
+abbrev pub IsNewest : List (Placed Seen) → Transfer → (opening : ℕ) → Type 0
+IsNewest taken t opening = ((place : ℕ) (wire : Wire) → IsTaken taken t place wire → opened_by wire ≡ Some t.kind → place ≤ opening) × ((place : ℕ) → Contains taken (place, None) → place ≤ opening)
 
-module _ (n : ℕ) (taken more : List (Placed Heard)) (next : AreNext n taken more) where
-  abbrev all : List (Placed Heard)
+module _ (n : ℕ) (taken more : List (Placed Seen)) (next : AreNext n taken more) where
+  abbrev all : List (Placed Seen)
   all = taken ++ more
 
-  pub within : (x : Placed Heard) → Contains all x → x.0 ≤ n + 1
+  pub within : (x : Placed Seen) → Contains all x → x.0 ≤ n + 1
   within x c = ⊎_elim (λ (old : Contains taken x). let l : x.0 ≤ n = next.before x old in omega (arith, l)) (λ (new : Contains more x). let e : x.0 ≡ n + 1 = next.now x new in omega (arith, e)) (Contains-append_cases taken more x c)
 
   module _ (t : Transfer) where
     taken_on : (place : ℕ) (wire : Wire) → IsTaken taken t place wire → IsTaken all t place wire
-    taken_on place wire c = Contains-append_left taken more (place, (wire, t.from, t.to)) c
+    taken_on place wire c = Contains-append_left taken more (place, Some (wire, t.from, t.to)) c
 
     pub opened_on : (place : ℕ) → IsOpenedAt taken t place → IsOpenedAt all t place
     opened_on place o = (o.0, taken_on place o.0 o.1, o.2)
 
     pub newest_on : (opening : ℕ) → HasNoOpening more t → IsNewest taken t opening → IsNewest all t opening
-    newest_on opening none h place wire c e = ⊎_elim (λ old. h place wire old e) (λ new. absurd (none place wire new e)) (Contains-append_cases taken more _ c)
+    newest_on opening none h = (
+      λ place wire c e. ⊎_elim (λ old. h.0 place wire old e) (λ new. absurd (none.0 place wire new e)) (Contains-append_cases taken more _ c),
+      λ place c. ⊎_elim (λ old. h.1 place old) (λ new. absurd (none.1 place new)) (Contains-append_cases taken more _ c),
+    )
 
     -- a DPO is one of those before, or a new one
     offset_is : (place offset : ℕ) → IsOffsetAt all t place offset → IsOffsetAt taken t place offset ⊎ IsOffsetAt more t place offset
@@ -98,7 +101,7 @@ module _ (n : ℕ) (taken more : List (Placed Heard)) (next : AreNext n taken mo
       no_later = λ later other k. let l : later ≤ n + 1 = within _ k.2 in inl l;
     }
       where
-        behind : {x : Placed Heard} → Contains more x → Contains all x
+        behind : {x : Placed Seen} → Contains more x → Contains all x
         behind {x} c = Contains-append_right taken more x c
 
     number_on : (kind : SessionKind) (opening place sequence k : ℕ) → place ≤ n + 1 → IsNumber taken t kind opening place sequence k → IsNumber all t kind opening place sequence k
@@ -134,6 +137,10 @@ module _ (n : ℕ) (taken more : List (Placed Heard)) (next : AreNext n taken mo
     opened = opened_on (transfer_of g.1) opening h.opened;
     latest = λ place wire c e. ⊎_elim
         (λ old. h.latest place wire old e)
+        (λ new. let now : place ≡ n + 1 = next.now _ new in inr (omega (arith, now, le)))
+        (Contains-append_cases taken more _ c);
+    unbroken = λ place c. ⊎_elim
+        (λ old. h.unbroken place old)
         (λ new. let now : place ≡ n + 1 = next.now _ new in inr (omega (arith, now, le)))
         (Contains-append_cases taken more _ c);
     earlier = h.earlier;

@@ -4,13 +4,13 @@ use Rattle.std.specs.Prelude.{Contains}
 use Rattle.std.proofs.lemmas.List.Elements.{Contains-append_cases}
 use Rattle.pgn_ids.specs.declared.address.Address.{Address}
 use Rattle.segment_law.specs.Told.{Placed}
-use Rattle.foreign_law.specs.Taken.{Heard, Message}
+use Rattle.foreign_law.specs.Taken.{Seen, Message}
 use Rattle.foreign_law.specs.Assembled.{IsAssembled, AreOfOneKind, AreAssembled}
 use Rattle.foreign_law.proofs.Later.{AreNext, assembled_on}
 use Rattle.foreign_law.proofs.Sessions.{in_none, IsOne}
 
-module _ (a : Address) (n : ℕ) (taken more : List (Placed Heard)) (next : AreNext n taken more) (given : List (Placed Message)) (ended : (g : Placed Message) → Contains given g → g.0 ≤ n) (h : AreAssembled taken given) where
-  abbrev all : List (Placed Heard)
+module _ (a : Address) (n : ℕ) (taken more : List (Placed Seen)) (next : AreNext n taken more) (given : List (Placed Message)) (ended : (g : Placed Message) → Contains given g → g.0 ≤ n) (h : AreAssembled taken given) where
+  abbrev all : List (Placed Seen)
   all = taken ++ more
 
   -- none more

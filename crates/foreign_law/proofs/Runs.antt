@@ -1,7 +1,7 @@
 -- Along every run, call by call: the sessions of each station with an address are from openings that it took, and what it was given was
 -- put together.
-use Rattle.std.proofs.Common.{◌≡◌, ◌⊎◌, inl, inr, ℕ, ◌+◌, ◌≤◌, ◌==◌, Bool, true, false, cond, List, [], ◌∷◌, ◌++◌, map, filter_map, set, Option, Some, None, refl, sym, ap, ◌∙◌, subst, append-nil, append_assoc, eq-eqb, ne_eqb, ⊎_elim}
-use Rattle.std.specs.Prelude.{Contains, slice_get, option_to_list, option_and_then}
+use Rattle.std.proofs.Common.{◌≡◌, ◌⊎◌, inl, inr, ℕ, ◌+◌, ◌≤◌, ◌==◌, Bool, true, false, cond, List, [], ◌∷◌, ◌++◌, map, filter_map, set, Some, None, refl, sym, ap, ◌∙◌, subst, append-nil, append_assoc, eq-eqb, ne_eqb, ⊎_elim}
+use Rattle.std.specs.Prelude.{Contains, slice_get}
 use Rattle.std.specs.List.{list_all, cons_option}
 use Rattle.std.proofs.lemmas.Option.{same_Some}
 use Rattle.bus_frame.specs.Frames.{CanFrame}
@@ -45,12 +45,12 @@ use Rattle.record_law.proofs.ports.Ports.{IsAllowed}
 use Rattle.record_law.proofs.ports.Receptions.{IsBound}
 use Rattle.record_law.proofs.ports.Closing.{closes}
 use Rattle.record_law.proofs.ports.Stations.{Acts, acts_taken, acts_lane, acts_fired, acts_overrun}
-use Rattle.foreign_law.specs.Taken.{Heard, Message, heard_by, frame_at, taken_by, taken_from, taken_in, message_at, given_by, given_at}
+use Rattle.foreign_law.specs.Taken.{Message, Seen, frame_at, seen_of, seen_by, seen_from, seen_in, message_at, given_by, given_at}
 use Rattle.foreign_law.specs.Assembled.{AreAssembled}
 use Rattle.foreign_law.proofs.Later.{AreNext, within}
 use Rattle.foreign_law.proofs.Messages.{still_assembled, still_ended}
 use Rattle.foreign_law.proofs.Sessions.{told, in_none, in_first, IsFromOpening, AreFromOpenings, Settles}
-use Rattle.foreign_law.proofs.Stations.{taken_acts, lane_acts, fired_acts, overrun_acts, stays_as, closed_acts}
+use Rattle.foreign_law.proofs.Stations.{taken_acts, lane_acts, fired_acts, missed_now, next_missed, overrun_acts, stays_as, closed_acts}
 
 -- a station with another address gives nothing at this one
 none_elsewhere : (a : Address) (place : ℕ) (ports : Ports) → (ports.station.0 ≡ a.0 → ⊥) → (es : List Event) → Each (IsAllowed ports) es → told a place es ≡ []
@@ -67,20 +67,20 @@ all_now {A} place (y ∷ ys) x c = ⊎_elim (λ (e : (place, y) ≡ x). sym (ap 
 
 module _ (a : Address) where
   -- after n calls
-  pub record Holds (n : ℕ) (before : List (Placed Heard)) (given : List (Placed Message)) (stations : List Station) : Type 0 where
-    pub within_n : (x : Placed Heard) → Contains before x → x.0 ≤ n
+  pub record Holds (n : ℕ) (before : List (Placed Seen)) (given : List (Placed Message)) (stations : List Station) : Type 0 where
+    pub within_n : (x : Placed Seen) → Contains before x → x.0 ≤ n
     pub ended : (g : Placed Message) → Contains given g → g.0 ≤ n
     pub assembled : AreAssembled before given
     pub sessions : (j : ℕ) (st : Station) → slice_get stations j ≡ Some st → st.address.0 ≡ a.0 → AreFromOpenings a before given n st.sessions
 
   -- what a call takes and gives at the station with the address
-  abbrev takes : ℕ → Segment → Step → List (Placed Heard)
-  takes n seg step = map (λ (x : Heard). (n + 1, x)) (taken_by a seg step)
+  abbrev takes : ℕ → Segment → Step → List (Placed Seen)
+  takes n seg step = map (λ (x : Seen). (n + 1, x)) (seen_by a seg step)
 
   abbrev gives : ℕ → Step → List (Placed Message)
   gives n step = told a (n + 1) (events_of step.1)
 
-  module _ (n : ℕ) (before : List (Placed Heard)) (given : List (Placed Message)) (seg : Segment) (r : IsReached seg) (h : Holds n before given seg.stations)
+  module _ (n : ℕ) (before : List (Placed Seen)) (given : List (Placed Message)) (seg : Segment) (r : IsReached seg) (h : Holds n before given seg.stations)
       (sound : (j : ℕ) (st : Station) → slice_get seg.stations j ≡ Some st → IsSound st) where
     abbrev HoldsBy : Call → Segment × Reply → Type 0
     HoldsBy call step = Holds (n + 1) (before ++ takes n seg (call, step.1)) (given ++ gives n (call, step.1)) step.0.stations
@@ -119,7 +119,7 @@ module _ (a : Address) where
         abbrev mine : AreFromOpenings a before given n st.sessions
         mine = h.sessions i st at own
 
-        holds_own : (more : List (Placed Heard)) → AreNext n before more → (gs : List (Placed Message)) (new : Station) → new.address ≡ st.address → Settles a n before more given gs new.sessions → Holds (n + 1) (before ++ more) (given ++ gs) (set seg.stations i new)
+        holds_own : (more : List (Placed Seen)) → AreNext n before more → (gs : List (Placed Message)) (new : Station) → new.address ≡ st.address → Settles a n before more given gs new.sessions → Holds (n + 1) (before ++ more) (given ++ gs) (set seg.stations i new)
         holds_own more next gs new address s = record {
           within_n = within n before more next;
           ended = still_ended a n before more next given h.ended h.assembled gs s.gives;
@@ -162,8 +162,8 @@ module _ (a : Address) where
 
       -- A frame is taken
 
-      abbrev shown : Option CanFrame → List (Placed Heard)
-      shown o = map (λ (x : Heard). (n + 1, x)) (option_to_list (option_and_then (heard_by a) o))
+      abbrev shown : List Seen → List (Placed Seen)
+      shown xs = map (λ (x : Seen). (n + 1, x)) xs
 
       module _ (b : Address) (place : place_of seg b ≡ Some i) (again : Bool) (f : CanFrame) (frame : frame_for seg again i ≡ Some f) (room : Bool) where
         abbrev step : StationStep
@@ -172,8 +172,8 @@ module _ (a : Address) where
         abbrev goes : Acts st step
         goes = acts_taken st (sound i st at).own (sound i st at).sessions f room seg.now
 
-        abbrev looked_at : List (Placed Heard)
-        looked_at = shown (cond (b.0 == a.0) (frame_at seg again (place_of seg b)) None)
+        abbrev looked_at : List (Placed Seen)
+        looked_at = shown (cond (b.0 == a.0) (seen_of a (frame_at seg again (place_of seg b))) [])
 
         it_is : st.address.0 ≡ b.0
         it_is = has_address seg b i st place at
@@ -183,18 +183,36 @@ module _ (a : Address) where
           where
             by : (st.address.0 ≡ a.0) ⊎ (st.address.0 ≡ a.0 → ⊥) → Holds (n + 1) (before ++ looked_at) (given ++ told a (n + 1) step.events) (set seg.stations i step.station)
             by (inl own) =
-                let here : looked_at ≡ shown (Some f) =
-                ap (λ t. shown (cond t (frame_at seg again (place_of seg b)) None)) (eq-eqb b.0 a.0 (sym it_is ∙ own))
-                ∙ ap (λ p. shown (frame_at seg again p)) place
-                ∙ ap shown frame in
+                let here : looked_at ≡ shown (seen_of a (Some f)) =
+                ap (λ t. shown (cond t (seen_of a (frame_at seg again (place_of seg b))) [])) (eq-eqb b.0 a.0 (sym it_is ∙ own))
+                ∙ ap (λ p. shown (seen_of a (frame_at seg again p))) place
+                ∙ ap (λ o. shown (seen_of a o)) frame in
                 subst (λ xs. Holds (n + 1) (before ++ xs) (given ++ told a (n + 1) step.events) (set seg.stations i step.station)) (sym here)
-                (holds_own own (shown (Some f)) (record { before = h.within_n; now = λ x c. all_now (n + 1) (option_to_list (heard_by a f)) x c }) (told a (n + 1) step.events) step.station goes.address
+                (holds_own own (shown (seen_of a (Some f))) (record { before = h.within_n; now = λ x c. all_now (n + 1) (seen_of a (Some f)) x c }) (told a (n + 1) step.events) step.station goes.address
                 (taken_acts a n before h.within_n given h.ended st own (h.sessions i st at own) f room seg.now))
             by (inr other) =
-                let none : looked_at ≡ [] = ap (λ t. shown (cond t (frame_at seg again (place_of seg b)) None)) (ne_eqb b.0 a.0 (λ e. other (it_is ∙ e))) in
+                let none : looked_at ≡ [] = ap (λ t. shown (cond t (seen_of a (frame_at seg again (place_of seg b))) [])) (ne_eqb b.0 a.0 (λ e. other (it_is ∙ e))) in
                 let nothing : told a (n + 1) step.events ≡ [] = none_elsewhere a (n + 1) st.ports (λ e. other (sym (ap (λ (x : Address). x.0) (sound i st at).own) ∙ e)) step.events goes.events in
                 subst (λ xs. Holds (n + 1) (before ++ xs) (given ++ told a (n + 1) step.events) (set seg.stations i step.station)) (sym none)
                 (subst (λ gs. Holds (n + 1) (before ++ []) (given ++ gs) (set seg.stations i step.station)) (sym nothing) (holds_other step.station goes.address other))
+
+      -- Frames are missed
+
+      overrun_holds : (b : Address) → place_of seg b ≡ Some i → Holds (n + 1) (before ++ shown (cond (b.0 == a.0) (None ∷ []) [])) (given ++ told a (n + 1) (overrun st).events) (set seg.stations i (overrun st).station)
+      overrun_holds b place = by (equal_or_not st.address.0 a.0)
+        where
+          it_is : st.address.0 ≡ b.0
+          it_is = has_address seg b i st place at
+
+          by : (st.address.0 ≡ a.0) ⊎ (st.address.0 ≡ a.0 → ⊥) → Holds (n + 1) (before ++ shown (cond (b.0 == a.0) (None ∷ []) [])) (given ++ told a (n + 1) (overrun st).events) (set seg.stations i (overrun st).station)
+          by (inl own) = subst (λ t. Holds (n + 1) (before ++ shown (cond t (None ∷ []) [])) (given ++ told a (n + 1) (overrun st).events) (set seg.stations i (overrun st).station)) (sym (eq-eqb b.0 a.0 (sym it_is ∙ own)))
+              (holds_own own (missed_now a n before h.within_n given h.ended st own mine_at) (next_missed a n before h.within_n given h.ended st own mine_at) (told a (n + 1) (overrun st).events) (overrun st).station refl
+              (overrun_acts a n before h.within_n given h.ended st own mine_at))
+            where
+              mine_at : AreFromOpenings a before given n st.sessions
+              mine_at = h.sessions i st at own
+          by (inr other) = subst (λ t. Holds (n + 1) (before ++ shown (cond t (None ∷ []) [])) (given ++ told a (n + 1) (overrun st).events) (set seg.stations i (overrun st).station)) (sym (ne_eqb b.0 a.0 (λ e. other (it_is ∙ e))))
+              (step_holds (overrun st) refl (acts_overrun st (sound i st at).own (sound i st at).sessions).events (λ own. absurd (other own)))
 
       -- Each call of the station
 
@@ -211,7 +229,7 @@ module _ (a : Address) where
         transmits = λ b f q e free. unchanged _ refl refl;
         takes = λ b room f q e free. frame_holds b q false f e room;
         repeats = λ b room f q e free. frame_holds b q true f e room;
-        overruns = λ b k q few. step_holds (overrun st) refl (acts_overrun st (sound i st at).own (sound i st at).sessions).events (λ own. overrun_acts a n before h.within_n given h.ended st own (h.sessions i st at own));
+        overruns = λ b k q few. overrun_holds b q;
         fires = λ b q. step_holds (fired st seg.now) (acts_fired st (sound i st at).own (sound i st at).sessions seg.now).address (acts_fired st (sound i st at).own (sound i st at).sessions seg.now).events
             (λ own. fired_acts a n before h.within_n given h.ended st own (h.sessions i st at own) seg.now);
         cancels = λ from to number q pending. lane_holds to (λ l. lane-cancel.cancelled l number);
@@ -227,23 +245,23 @@ module _ (a : Address) where
   abbrev some_port : PortId
   some_port = record { station = a; number = 0 }
 
-  along : (steps : Record) (seg last : Segment) → IsReached seg → list_all is_call (calls_of steps) ≡ true → (run : Drift seg steps last) → (n : ℕ) (before : List (Placed Heard)) (given : List (Placed Message)) (os : Openings) (cs : Closings)
-      → Good some_port n os cs seg.stations → Holds n before given seg.stations → AreAssembled (before ++ taken_from a (n + 1) seg steps last run) (given ++ told_from (given_by a) (n + 1) steps)
+  along : (steps : Record) (seg last : Segment) → IsReached seg → list_all is_call (calls_of steps) ≡ true → (run : Drift seg steps last) → (n : ℕ) (before : List (Placed Seen)) (given : List (Placed Message)) (os : Openings) (cs : Closings)
+      → Good some_port n os cs seg.stations → Holds n before given seg.stations → AreAssembled (before ++ seen_from a (n + 1) seg steps last run) (given ++ told_from (given_by a) (n + 1) steps)
   along [] seg last r fit run n before given os cs good h = subst (λ xs. AreAssembled xs (given ++ [])) (sym (append-nil before)) (subst (λ xs. AreAssembled before xs) (sym (append-nil given)) h.assembled)
   along (step ∷ steps) seg last r fit run n before given os cs good h =
       let f : (is_call step.0 ≡ true) × (list_all is_call (calls_of steps) ≡ true) = both_pass (is_call step.0) (list_all is_call (calls_of steps)) fit in
       let now : Segment = at_tick seg run.0 in
       let here : IsReached now = reached_at seg r run.0 in
-      let more : List (Placed Heard) = takes n now step in
+      let more : List (Placed Seen) = takes n now step in
       let gs : List (Placed Message) = gives n step in
       let held : Holds (n + 1) (before ++ more) (given ++ gs) (applied now step.0).0.stations =
       subst (λ (reply : Reply). Holds (n + 1) (before ++ takes n now (step.0, reply)) (given ++ gives n (step.0, reply)) (applied now step.0).0.stations) run.1
       (holds_call n before given now here h (λ j st e. (good j st e).0) step.0) in
       let g = goes_call some_port n os cs now here good step.0 in
-      let rest : AreAssembled ((before ++ more) ++ taken_from a (n + 1 + 1) (applied now step.0).0 steps last run.2) ((given ++ gs) ++ told_from (given_by a) (n + 1 + 1) steps) =
+      let rest : AreAssembled ((before ++ more) ++ seen_from a (n + 1 + 1) (applied now step.0).0 steps last run.2) ((given ++ gs) ++ told_from (given_by a) (n + 1 + 1) steps) =
       along steps (applied now step.0).0 last (reached_call now here step.0 f.0) f.1 run.2 (n + 1) (before ++ more) (given ++ gs) _ _ g.next held in
-      subst (λ xs. AreAssembled xs (given ++ (gs ++ told_from (given_by a) (n + 1 + 1) steps))) (append_assoc before more (taken_from a (n + 1 + 1) (applied now step.0).0 steps last run.2))
-      (subst (λ xs. AreAssembled ((before ++ more) ++ taken_from a (n + 1 + 1) (applied now step.0).0 steps last run.2) xs) (append_assoc given gs (told_from (given_by a) (n + 1 + 1) steps)) rest)
+      subst (λ xs. AreAssembled xs (given ++ (gs ++ told_from (given_by a) (n + 1 + 1) steps))) (append_assoc before more (seen_from a (n + 1 + 1) (applied now step.0).0 steps last run.2))
+      (subst (λ xs. AreAssembled ((before ++ more) ++ seen_from a (n + 1 + 1) (applied now step.0).0 steps last run.2) xs) (append_assoc given gs (told_from (given_by a) (n + 1 + 1) steps)) rest)
 
   none_assembled : AreAssembled [] []
   none_assembled = record {
@@ -259,7 +277,7 @@ module _ (a : Address) where
   new_sessions : (b : Address) → b.0 ≡ a.0 → AreFromOpenings a [] [] 0 (new_station b).sessions
   new_sessions b own = of_each_none (λ q v. IsFromOpening a [] [] 0 q v.1)
 
-pub messages_are_assembled : (addresses : List Address) (steps : Record) (seg : Segment) → (run : DriftsTo addresses steps seg) → (a : Address) → AreAssembled (taken_in run a) (given_at steps a)
+pub messages_are_assembled : (addresses : List Address) (steps : Record) (seg : Segment) → (run : DriftsTo addresses steps seg) → (a : Address) → AreAssembled (seen_in run a) (given_at steps a)
 messages_are_assembled addresses steps seg run a = along a steps (new_segment addresses) seg (new_reached addresses run.addresses_fit) run.calls_fit run.drift 0 [] [] [] []
     (new_each (λ (st : Station). IsSound st × HasLife (some_port a) 0 [] [] st) (new_sound a) (rising addresses))
     (record {

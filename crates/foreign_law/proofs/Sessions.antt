@@ -33,10 +33,10 @@ use Rattle.record_law.proofs.Maps.{State, OfEach, key_cases, put_of_each, droppe
 use Rattle.record_law.proofs.Segments.{same_address}
 use Rattle.record_law.proofs.Tests.{on_test, either}
 use Rattle.record_law.proofs.readers.Filled.{IsSeven}
-use Rattle.foreign_law.specs.Taken.{Heard, Message, message_at}
+use Rattle.foreign_law.specs.Taken.{Seen, Message, message_at}
 use Rattle.foreign_law.specs.Assembled.{Transfer, transfer_of, kind_for, IsAssembled, AreOfOneKind}
 use Rattle.foreign_law.proofs.Later.{AreNext, HasNoOffset, HasNoOpening, IsNewest, newest_on}
-use Rattle.foreign_law.proofs.Connections.{IsUnderWay, connection_stays, connection_goes, connection_expires, message_of}
+use Rattle.foreign_law.proofs.Connections.{wire_of, IsUnderWay, connection_stays, connection_goes, connection_expires, message_of}
 use Rattle.foreign_law.proofs.Connections as connections
 use Rattle.foreign_law.proofs.Broadcasts.{IsToAll, broadcast_stays, broadcast_goes, message_to_all}
 use Rattle.foreign_law.proofs.Broadcasts as broadcasts
@@ -69,12 +69,12 @@ module _ (a : Address) where
   one_destination Etp to other h g = same_address to other (h ∙ sym g)
 
   -- what is kept of a transfer with these packets
-  abbrev pub IsStateOf : List (Placed Heard) → Transfer → (opening before : ℕ) → List (Placed (List ℕ)) → Incoming → Type 0
+  abbrev pub IsStateOf : List (Placed Seen) → Transfer → (opening before : ℕ) → List (Placed (List ℕ)) → Incoming → Type 0
   IsStateOf taken t opening before packets (incoming.Broadcast s) = IsToAll taken t opening packets s
   IsStateOf taken t opening before packets (incoming.Connection s) = IsUnderWay taken t opening before packets s
 
   -- as far as n calls go
-  pub record IsFromOpening (taken : List (Placed Heard)) (given : List (Placed Message)) (n : ℕ) (key : Key) (s : Incoming) : Type 0 where
+  pub record IsFromOpening (taken : List (Placed Seen)) (given : List (Placed Message)) (n : ℕ) (key : Key) (s : Incoming) : Type 0 where
     pub transfer : Transfer
     pub opening : ℕ
     pub packets : List (Placed (List ℕ))
@@ -87,10 +87,10 @@ module _ (a : Address) where
     pub state : IsStateOf taken transfer opening (n + 1) packets s
     pub apart : (g : Placed Message) → Contains given g → g.1.from ≡ transfer.from → (transfer_of g.1).kind ≡ transfer.kind → g.0 < opening
 
-  abbrev pub AreFromOpenings : List (Placed Heard) → List (Placed Message) → ℕ → Inbound → Type 0
+  abbrev pub AreFromOpenings : List (Placed Seen) → List (Placed Message) → ℕ → Inbound → Type 0
   AreFromOpenings taken given n m = OfEach (λ q v. IsFromOpening taken given n q v.1) m
 
-  module _ (n : ℕ) (taken more : List (Placed Heard)) (given : List (Placed Message)) where
+  module _ (n : ℕ) (taken more : List (Placed Seen)) (given : List (Placed Message)) where
     -- all that is given is one message, which was put together behind the others of its source and kind
     pub record IsOne (gs : List (Placed Message)) : Type 0 where
       pub message : Message
@@ -112,8 +112,8 @@ module _ (a : Address) where
     abbrev pub AreOfOthers : List (Placed Message) → Key → Type 0
     AreOfOthers gs q = (g : Placed Message) → Contains gs g → g.1.from ≡ q.source → (transfer_of g.1).kind ≡ q.kind → ⊥
 
-  module _ (n : ℕ) (taken more : List (Placed Heard)) (next : AreNext n taken more) (given : List (Placed Message)) where
-    abbrev all : List (Placed Heard)
+  module _ (n : ℕ) (taken more : List (Placed Seen)) (next : AreNext n taken more) (given : List (Placed Message)) where
+    abbrev all : List (Placed Seen)
     all = taken ++ more
 
     abbrev Done : List (Placed Message) → Inbound → Type 0
@@ -242,14 +242,14 @@ module _ (a : Address) where
             broadcast_settles s h (bam-steps.Completes bytes) g = settles_concluded station set (message_to_all s bytes) h.transfer h.opening g.0 g.1 h.kind h.from h.apart room None None
             broadcast_settles s h bam-steps.Drops g = settles_ended
 
-            step_settles : (wire : Wire) (to : Address) → Contains more (n + 1, (wire, key.source, to)) → ((y : Placed Heard) → Contains more y → y.1.0 ≡ wire) → GoesTo key.kind to → IsSeven wire
+            step_settles : (wire : Wire) (to : Address) → Contains more (n + 1, Some (wire, key.source, to)) → ((y : Placed Seen) → Contains more y → wire_of y.1 ≡ Some wire) → GoesTo key.kind to → IsSeven wire
                 → (s : Incoming) → IsFromOpening taken given n key s → (flow : Flow) (now : ℕ) → SettledBy (session_stepped station key set room m flow s wire now)
             step_settles wire to here only goes seven s h flow now = by s h
               where
-                its_own : (t : Transfer) → t.kind ≡ key.kind → t.from ≡ key.source → GoesTo t.kind t.to → Contains more (n + 1, (wire, t.from, t.to))
+                its_own : (t : Transfer) → t.kind ≡ key.kind → t.from ≡ key.source → GoesTo t.kind t.to → Contains more (n + 1, Some (wire, t.from, t.to))
                 its_own t kind from it =
                     let same : t.to ≡ to = one_destination t.kind t.to to it (subst (λ k. GoesTo k to) (sym kind) goes) in
-                    subst (λ (x : Address). Contains more (n + 1, (wire, x, t.to))) (sym from) (subst (λ (x : Address). Contains more (n + 1, (wire, key.source, x))) (sym same) here)
+                    subst (λ (x : Address). Contains more (n + 1, Some (wire, x, t.to))) (sym from) (subst (λ (x : Address). Contains more (n + 1, Some (wire, key.source, x))) (sym same) here)
 
                 by : (s : Incoming) → IsFromOpening taken given n key s → SettledBy (session_stepped station key set room m flow s wire now)
                 by (incoming.Broadcast s) h = broadcast_settles s h (bam-steps.stepped s wire now) (broadcast_goes n taken more next h.transfer h.opening h.packets s h.state h.begun h.size (newest_on n taken more next h.transfer h.opening (fresh h.transfer h.kind h.from) h.latest) wire (its_own h.transfer h.kind h.from h.to) seven now)
@@ -268,7 +268,7 @@ module _ (a : Address) where
               by None e = settles_unheard e
               by (Some v) e = fire_settles ports.station v.0 v.1 (each key v e) (flow_at ports v.0) now
 
-          pub settles_received : (ports : Ports) (wire : Wire) (to : Address) → Contains more (n + 1, (wire, key.source, to)) → ((y : Placed Heard) → Contains more y → y.1.0 ≡ wire) → GoesTo key.kind to → IsSeven wire
+          pub settles_received : (ports : Ports) (wire : Wire) (to : Address) → Contains more (n + 1, Some (wire, key.source, to)) → ((y : Placed Seen) → Contains more y → wire_of y.1 ≡ Some wire) → GoesTo key.kind to → IsSeven wire
               → (room : Bool) (now : ℕ) → SettledBy (received ports key wire room now m)
           settles_received ports wire to here only goes seven room now = by (state_at m key) refl
             where

@@ -60,12 +60,12 @@ use Rattle.record_law.proofs.Lists.{Each, each_append}
 use Rattle.record_law.proofs.Maps.{OfEach, of_each_none}
 use Rattle.record_law.proofs.readers.Filled.{IsSeven}
 use Rattle.record_law.proofs.readers.Sessions.{MeansSeven, reading_seven}
-use Rattle.foreign_law.specs.Taken.{Heard, Message, heard_by}
+use Rattle.foreign_law.specs.Taken.{Heard, Seen, Message, heard_by}
 use Rattle.foreign_law.specs.Assembled.{Transfer, kind_for, Announces, opened_by}
 use Rattle.foreign_law.proofs.Later.{AreNext, HasNoOpening}
 use Rattle.foreign_law.proofs.Later as later
 use Rattle.foreign_law.proofs.Courses.{course_begins}
-use Rattle.foreign_law.proofs.Connections.{asks_for}
+use Rattle.foreign_law.proofs.Connections.{asks_for, wire_of}
 use Rattle.foreign_law.proofs.Sessions.{told, in_none, GoesTo, IsFromOpening, AreFromOpenings, IsQuiet, Settles, settles_none, settles_aborted, settles_ended, settles_on, settles_received, settles_fired, unbound_keeps}
 
 -- What a frame says of its addresses
@@ -127,13 +127,13 @@ unfolding overrun_events
 overrun_outcomes from lanes zero = tt
 overrun_outcomes from lanes (suc n) = each_append IsOutcome (overrun_events from lanes n) _ (overrun_outcomes from lanes n) (one_outcome from (record { 0 = n }) (step_at (overrun_lanes lanes n) n lane_overrun).ended)
 
-module _ (a : Address) (n : ℕ) (before : List (Placed Heard)) (within : (x : Placed Heard) → Contains before x → x.0 ≤ n) (given : List (Placed Message)) (ended : (g : Placed Message) → Contains given g → g.0 ≤ n)
+module _ (a : Address) (n : ℕ) (before : List (Placed Seen)) (within : (x : Placed Seen) → Contains before x → x.0 ≤ n) (given : List (Placed Message)) (ended : (g : Placed Message) → Contains given g → g.0 ≤ n)
     (st : Station) (address : st.address.0 ≡ a.0) (each : AreFromOpenings a before given n st.sessions) where
   -- what the station gives and leaves by a step at which it takes these frames
-  abbrev pub ActsBy : List (Placed Heard) → StationStep → Type 0
+  abbrev pub ActsBy : List (Placed Seen) → StationStep → Type 0
   ActsBy more step = Settles a n before more given (told a (n + 1) step.events) step.station.sessions
 
-  module _ (more : List (Placed Heard)) (next : AreNext n before more) where
+  module _ (more : List (Placed Seen)) (next : AreNext n before more) where
     abbrev Acts : StationStep → Type 0
     Acts step = ActsBy more step
 
@@ -149,20 +149,20 @@ module _ (a : Address) (n : ℕ) (before : List (Placed Heard)) (within : (x : P
   -- A frame
 
   module _ (wire : Wire) (from to : Address) (goes : goes_to wire to.0 ≡ true) (meant : (to.0 == a.0 || to.0 == global_address) ≡ true) (room : Bool) (now : ℕ) where
-    abbrev more : List (Placed Heard)
-    more = (n + 1, (wire, from, to)) ∷ []
+    abbrev more : List (Placed Seen)
+    more = (n + 1, Some (wire, from, to)) ∷ []
 
-    is_it : (y : Placed Heard) → Contains more y → (n + 1, (wire, from, to)) ≡ y
-    is_it y c = ⊎_elim (λ none. absurd (in_none y none)) (λ e. e) (Contains-push_cases [] (n + 1, (wire, from, to)) y c)
+    is_it : (y : Placed Seen) → Contains more y → (n + 1, Some (wire, from, to)) ≡ y
+    is_it y c = ⊎_elim (λ none. absurd (in_none y none)) (λ e. e) (Contains-push_cases [] (n + 1, Some (wire, from, to)) y c)
 
     next : AreNext n before more
-    next = record { before = within; now = λ x c. sym (ap (λ (y : Placed Heard). y.0) (is_it x c)) }
+    next = record { before = within; now = λ x c. sym (ap (λ (y : Placed Seen). y.0) (is_it x c)) }
 
-    only : (y : Placed Heard) → Contains more y → y.1.0 ≡ wire
-    only y c = sym (ap (λ (z : Placed Heard). z.1.0) (is_it y c))
+    only : (y : Placed Seen) → Contains more y → wire_of y.1 ≡ Some wire
+    only y c = sym (ap (λ (z : Placed Seen). wire_of z.1) (is_it y c))
 
-    here : Contains more (n + 1, (wire, from, to))
-    here = Contains-push [] (n + 1, (wire, from, to))
+    here : Contains more (n + 1, Some (wire, from, to))
+    here = Contains-push [] (n + 1, Some (wire, from, to))
 
     abbrev Quiet : Key → Type 0
     Quiet q = IsQuiet a n before more given q
@@ -181,32 +181,38 @@ module _ (a : Address) (n : ℕ) (before : List (Placed Heard)) (within : (x : P
     not_all : is_one to.0 ≡ true → (to.0 == global_address) ≡ false
     not_all one = ne_eqb to.0 255 (λ e. let l : to.0 < 254 = ltb-true to.0 254 one in omega (arith, e, l))
 
+    no_miss : (place : ℕ) → Contains more (place, None) → ⊥
+    no_miss place c = absurd (let e : None ≡ Some (wire, from, to) = sym (ap (λ (y : Placed Seen). y.1) (is_it _ c)) in none-some (wire, from, to) e)
+
     -- a frame that opens nothing
     no_opening : opened_by wire ≡ None → (t : Transfer) → HasNoOpening more t
-    no_opening opens_none t place w c e = absurd (let f : None ≡ Some t.kind = sym opens_none ∙ ap opened_by (sym (only _ c)) ∙ e in none-some t.kind f)
+    no_opening opens_none t = (λ place w c e. absurd (let f : None ≡ Some t.kind = sym opens_none ∙ ap opened_by (sym (same_Some _ _ (only _ c))) ∙ e in none-some t.kind f), no_miss)
 
     -- a frame that is no DPO
     quiet_frame : opened_by wire ≡ None → ((packets offset field : ℕ) → wire ≡ Cm (EtpDpo packets offset field) → ⊥) → (q : Key) → Quiet q
-    quiet_frame opens_none none q t k f = (λ etp place offset o. none o.0 offset o.1 (sym (only _ o.2)), no_opening opens_none t)
+    quiet_frame opens_none none q t k f = (λ etp place offset o. none o.0 offset o.1 (sym (same_Some _ _ (only _ o.2))), no_opening opens_none t)
 
     -- an opening is for the session of its source and kind
     quiet_opening : (kind : SessionKind) → opened_by wire ≡ Some kind → ((packets offset field : ℕ) → wire ≡ Cm (EtpDpo packets offset field) → ⊥) → (q : Key) → (q ≡ key_of from kind → ⊥) → Quiet q
-    quiet_opening kind opens none q apart t k f = (λ etp place offset o. none o.0 offset o.1 (sym (only _ o.2)), others)
+    quiet_opening kind opens none q apart t k f = (λ etp place offset o. none o.0 offset o.1 (sym (same_Some _ _ (only _ o.2))), others)
       where
         others : HasNoOpening more t
-        others place w c e =
-            let g : (n + 1, (wire, from, to)) ≡ (place, (w, t.from, t.to)) = is_it _ c in
-            let source : q.source ≡ from = sym f ∙ sym (ap (λ (y : Placed Heard). y.1.1) g) in
-            let same_kind : q.kind ≡ kind = sym k ∙ same_Some t.kind kind (sym e ∙ sym (ap (λ (y : Placed Heard). opened_by y.1.0) g) ∙ opens) in
-            apart (λ i. record { source = source i; kind = same_kind i })
+        others = (
+          λ place w c e.
+              let g : (wire, from, to) ≡ (w, t.from, t.to) = same_Some (wire, from, to) (w, t.from, t.to) (ap (λ (y : Placed Seen). y.1) (is_it _ c)) in
+              let source : q.source ≡ from = sym f ∙ sym (ap (λ (y : Heard). y.1) g) in
+              let same_kind : q.kind ≡ kind = sym k ∙ same_Some t.kind kind (sym e ∙ sym (ap (λ (y : Heard). opened_by y.0) g) ∙ opens) in
+              apart (λ i. record { source = source i; kind = same_kind i }),
+          no_miss,
+        )
 
     -- a DPO is for the session of ETP of its source
     quiet_else : opened_by wire ≡ None → (kind : SessionKind) → ((packets offset field : ℕ) → wire ≡ Cm (EtpDpo packets offset field) → kind ≡ Etp) → (q : Key) → (q ≡ key_of from kind → ⊥) → Quiet q
     quiet_else opens_none kind is_etp q apart t k f = (
       λ etp place offset o.
-          let e : (n + 1, (wire, from, to)) ≡ (place, (Cm (EtpDpo o.0 offset o.1), t.from, t.to)) = is_it _ o.2 in
-          let source : q.source ≡ from = sym f ∙ sym (ap (λ (y : Placed Heard). y.1.1) e) in
-          let same_kind : q.kind ≡ kind = sym k ∙ etp ∙ sym (is_etp o.0 offset o.1 (ap (λ (y : Placed Heard). y.1.0) e)) in
+          let e : (wire, from, to) ≡ (Cm (EtpDpo o.0 offset o.1), t.from, t.to) = same_Some (wire, from, to) (Cm (EtpDpo o.0 offset o.1), t.from, t.to) (ap (λ (y : Placed Seen). y.1) (is_it _ o.2)) in
+          let source : q.source ≡ from = sym f ∙ sym (ap (λ (y : Heard). y.1) e) in
+          let same_kind : q.kind ≡ kind = sym k ∙ etp ∙ sym (is_etp o.0 offset o.1 (ap (λ (y : Heard). y.0) e)) in
           apart (λ i. record { source = source i; kind = same_kind i }),
       no_opening opens_none t,
     )
@@ -221,7 +227,7 @@ module _ (a : Address) (n : ℕ) (before : List (Placed Heard)) (within : (x : P
       begins_apart : (g : Placed Message) → Contains (given ++ []) g → g.0 < n + 1
       begins_apart g c = ⊎_elim (λ (old : Contains given g). let l : g.0 ≤ n = ended g old in omega (arith, l)) (λ new. absurd (in_none g new)) (Contains-append_cases given [] g c)
 
-      opened_here : Contains (before ++ more) (n + 1, (wire, from, to))
+      opened_here : Contains (before ++ more) (n + 1, Some (wire, from, to))
       opened_here = Contains-append_right before more _ here
 
       by_refusal : (o : Option AbortReason) (x : Reception) (y : AbortReason → Reception) → (o ≡ None → Does (by_session st x)) → ((reason : AbortReason) → Does (by_session st (y reason))) → Does (by_session st (elim o as (λ (_ : Option AbortReason). Reception) [ None ↦ x | Some reason ↦ y reason ]))
@@ -248,7 +254,7 @@ module _ (a : Address) (n : ℕ) (before : List (Placed Heard)) (within : (x : P
             to = goes_there;
             size = s.1;
             begun = omega arith;
-            latest = λ place w c _. later.within n before more next (place, (w, from, to)) c;
+            latest = (λ place w c _. later.within n before more next (place, Some (w, from, to)) c, λ place c. later.within n before more next (place, None) c);
             state = asks_for (before ++ more) t (n + 1) (n + 1 + 1) [] m flow now
                 (record { kind = refl; from = refl; to = address ∙ sym own; pgn = refl })
                 (course_begins (before ++ more) t (n + 1) (first_join k size flow) (wire, opened_here, s.0) refl refl refl)
@@ -275,7 +281,7 @@ module _ (a : Address) (n : ℕ) (before : List (Placed Heard)) (within : (x : P
             to = all;
             size = ap (λ b. cond b Broadcast (cond (is_size_of kind.Etp size) Etp Tp)) (eq-eqb to.0 global_address all);
             begun = omega arith;
-            latest = λ place w c _. later.within n before more next (place, (w, from, to)) c;
+            latest = (λ place w c _. later.within n before more next (place, Some (w, from, to)) c, λ place c. later.within n before more next (place, None) c);
             state = record {
               is = record { kind = refl; from = refl; to = sym all; pgn = refl };
               course = course_begins (before ++ more) t (n + 1) (whole_join size) (wire, opened_here, (pgn, is ∙ ap (λ p. Cm (Bam size p pgn)) count, refl)) refl refl refl;
@@ -347,14 +353,14 @@ module _ (a : Address) (n : ℕ) (before : List (Placed Heard)) (within : (x : P
 
   -- A frame that is taken
 
-  abbrev pub heard_now : Option Heard → List (Placed Heard)
-  heard_now o = map (λ (x : Heard). (n + 1, x)) (option_to_list o)
+  abbrev pub heard_now : Option Heard → List (Placed Seen)
+  heard_now o = map (λ (x : Seen). (n + 1, x)) (map Some (option_to_list o))
 
   pub next_none : AreNext n before []
   next_none = record { before = within; now = λ x c. absurd (in_none x c) }
 
   pub quiet_none : (q : Key) → IsQuiet a n before [] given q
-  quiet_none q t k f = (λ e place offset o. absurd (in_none _ o.2), λ place w c e. absurd (in_none _ c))
+  quiet_none q t k f = (λ e place offset o. absurd (in_none _ o.2), ((λ place w c e. absurd (in_none _ c)), (λ place c. absurd (in_none _ c))))
 
   meaning_acts : (o : Option Heard) → ((m : Heard) → o ≡ Some m → (goes_to m.0 m.2.0 ≡ true) × ((m.2.0 == a.0 || m.2.0 == global_address) ≡ true) × IsSeven m.0) → (room : Bool) (now : ℕ) → ActsBy (heard_now o) (meaning_taken st o room now)
   meaning_acts None h room now = acts_none [] next_none quiet_none
@@ -390,11 +396,18 @@ module _ (a : Address) (n : ℕ) (before : List (Placed Heard)) (within : (x : P
     where
       by : (o : Option Key) → ActsBy [] (elim o as (λ (_ : Option Key). StationStep) [ None ↦ lane_fired st now (due_lane st.lanes now) | Some key ↦ by_session st (fired_at st.ports key now st.sessions) ])
       by None = lane_fired_acts now (due_lane st.lanes now)
-      by (Some key) = settles_fired a n before [] next_none given st.sessions each key (λ q _. quiet_none q) (λ t _ _ place w c e. absurd (in_none _ c)) st.ports now
+      by (Some key) = settles_fired a n before [] next_none given st.sessions each key (λ q _. quiet_none q) (λ t _ _. ((λ place w c e. absurd (in_none _ c)), (λ place c. absurd (in_none _ c)))) st.ports now
 
-  pub overrun_acts : ActsBy [] (overrun st)
-  overrun_acts = acts_quietly [] next_none (overrun st) (outcomes_give a (n + 1) (overrun_events st.address st.lanes 256) (overrun_outcomes st.address st.lanes 256))
-      (record { gives = inl refl; leaves = of_each_none (λ q v. IsFromOpening a (before ++ []) (given ++ []) (n + 1) q v.1) })
+  -- frames were missed
+  abbrev pub missed_now : List (Placed Seen)
+  missed_now = (n + 1, None) ∷ []
+
+  pub next_missed : AreNext n before missed_now
+  next_missed = record { before = within; now = λ x c. ⊎_elim (λ none. absurd (in_none x none)) (λ e. sym (ap (λ (y : Placed Seen). y.0) e)) (Contains-push_cases [] (n + 1, None) x c) }
+
+  pub overrun_acts : ActsBy missed_now (overrun st)
+  overrun_acts = acts_quietly missed_now next_missed (overrun st) (outcomes_give a (n + 1) (overrun_events st.address st.lanes 256) (overrun_outcomes st.address st.lanes 256))
+      (record { gives = inl refl; leaves = of_each_none (λ q v. IsFromOpening a (before ++ missed_now) (given ++ []) (n + 1) q v.1) })
 
   -- its sessions are as they were, or fewer
   pub stays_as : AreFromOpenings a (before ++ []) (given ++ []) (n + 1) st.sessions

@@ -14,7 +14,7 @@ use Rattle.seg_cut.specs.Packets.{packet_count}
 use Rattle.session_table.specs.declared.key.SessionKind.{SessionKind}
 use Rattle.session_table.specs.declared.key.SessionKind.TheVariants.{Broadcast, Tp, Etp}
 use Rattle.segment_law.specs.Told.{Placed}
-use Rattle.foreign_law.specs.Taken.{Heard, Message}
+use Rattle.foreign_law.specs.Taken.{Seen, Message}
 
 -- what its opening says of a message: the kind of transfer, the source, the destination, the PGN, and the size in bytes
 pub record Transfer : Type 0 where
@@ -55,11 +55,11 @@ abbrev pub bytes_of : List (Placed (List ℕ)) → List ℕ
 bytes_of [] = []
 bytes_of (packet ∷ packets) = packet.1 ++ bytes_of packets
 
--- the frames that a station took, each with its place
-module _ (taken : List (Placed Heard)) (t : Transfer) where
+-- what a station has seen, each with its place
+module _ (seen : List (Placed Seen)) (t : Transfer) where
   -- at this place it took this frame, of the transfer's source to its destination
   abbrev pub IsTaken : (place : ℕ) → Wire → Type 0
-  IsTaken place wire = Contains taken (place, (wire, t.from, t.to))
+  IsTaken place wire = Contains seen (place, Some (wire, t.from, t.to))
 
   -- the opening of the transfer
   abbrev pub IsOpenedAt : (place : ℕ) → Type 0
@@ -68,6 +68,10 @@ module _ (taken : List (Placed Heard)) (t : Transfer) where
   -- up to a place, no other opening of its source and kind was taken behind this one
   abbrev pub IsLastOpening : (opening end : ℕ) → Type 0
   IsLastOpening opening end = (place : ℕ) (wire : Wire) → IsTaken place wire → opened_by wire ≡ Some t.kind → (place ≤ opening) ⊎ (end < place)
+
+  -- from there up to a place no frames were missed
+  abbrev pub IsUnbroken : (opening end : ℕ) → Type 0
+  IsUnbroken opening end = (place : ℕ) → Contains seen (place, None) → (place ≤ opening) ⊎ (end < place)
 
   -- a DPO of the transfer, with this offset
   abbrev pub IsOffsetAt : (place offset : ℕ) → Type 0
@@ -98,14 +102,15 @@ module _ (taken : List (Placed Heard)) (t : Transfer) where
   ArePackets opening after k [] = Unit {0}
   ArePackets opening after k (packet ∷ packets) = (after < packet.0) × IsPacket opening k packet × ArePackets opening packet.0 (k + 1) packets
 
--- the message was put together from what a station took from its opening on, with no other opening between: its packets, all of them in
--- order, the last one by the call that gave the message
-pub record IsAssembled (taken : List (Placed Heard)) (opening : ℕ) (given : Placed Message) : Type 0 where
-  pub opened : IsOpenedAt taken (transfer_of given.1) opening
-  pub latest : IsLastOpening taken (transfer_of given.1) opening given.0
+-- the message was put together from what a station took from its opening on, with no other opening between and no frames missed: its
+-- packets, all of them in order, the last one by the call that gave the message
+pub record IsAssembled (seen : List (Placed Seen)) (opening : ℕ) (given : Placed Message) : Type 0 where
+  pub opened : IsOpenedAt seen (transfer_of given.1) opening
+  pub latest : IsLastOpening seen (transfer_of given.1) opening given.0
+  pub unbroken : IsUnbroken seen (transfer_of given.1) opening given.0
   pub earlier : List (Placed (List ℕ))
   pub last : List ℕ
-  pub in_turn : ArePackets taken (transfer_of given.1) opening opening 1 (earlier ++ (given.0, last) ∷ [])
+  pub in_turn : ArePackets seen (transfer_of given.1) opening opening 1 (earlier ++ (given.0, last) ∷ [])
   pub all : length earlier + 1 ≡ packet_count (length given.1.bytes)
   pub bytes : given.1.bytes ≡ take (length given.1.bytes) (bytes_of (earlier ++ (given.0, last) ∷ []))
 
@@ -116,8 +121,8 @@ pub record AreOfOneKind (m n : Message) : Type 0 where
 
 -- each message that a station was given was put together so. Two of one source and kind lie apart: from its opening to its end,
 -- each is before or behind the other; and one reply gives one message, at each port
-pub record AreAssembled (taken : List (Placed Heard)) (given : List (Placed Message)) : Type 0 where
+pub record AreAssembled (seen : List (Placed Seen)) (given : List (Placed Message)) : Type 0 where
   pub opening : (place : ℕ) → ℕ
-  pub each : (g : Placed Message) → Contains given g → IsAssembled taken (opening g.0) g
+  pub each : (g : Placed Message) → Contains given g → IsAssembled seen (opening g.0) g
   pub apart : (g h : Placed Message) → Contains given g → Contains given h → AreOfOneKind g.1 h.1 → g.0 < h.0 → g.0 < opening h.0
   pub one : (g h : Placed Message) → Contains given g → Contains given h → g.0 ≡ h.0 → g.1 ≡ h.1

@@ -1,4 +1,4 @@
--- What a station took in a run, and what it was given.
+-- What a station has seen in a run, and what it was given.
 use Rattle.std.specs.Prelude.{ℕ, ◌+◌, Bool, true, false, ◌==◌, if◌then◌else◌, List, [], ◌∷◌, ◌++◌, map, filter_map, Option, Some, None, option_and_then, option_to_list}
 use Rattle.bus_frame.specs.Frames.{CanFrame}
 use Rattle.pgn_ids.specs.declared.address.Address.{Address}
@@ -15,7 +15,7 @@ use Rattle.segment_law.specs.Readers.{frame_for}
 use Rattle.segment_law.specs.Record.{Step, Record}
 use Rattle.segment_law.specs.Told.{Placed, told}
 use Rattle.segment_law.specs.declared.call.Call.{Call}
-use Rattle.segment_law.specs.declared.call.Call.TheVariants.{Take, TakeAgain}
+use Rattle.segment_law.specs.declared.call.Call.TheVariants.{Take, TakeAgain, Overrun}
 use Rattle.record_law.specs.Counting.{is_done}
 
 -- Frames
@@ -33,27 +33,34 @@ abbrev pub frame_at : Segment → (again : Bool) → Option ℕ → Option CanFr
 frame_at seg again None = None
 frame_at seg again (Some i) = frame_for seg again i
 
--- the frame that a call shows to the station with an address: that of its Take, or of its TakeAgain
-abbrev pub frame_shown : Address → Segment → Call → Option CanFrame
-frame_shown a seg (Take station room) = if station.0 == a.0 then frame_at seg false (place_of seg station) else None
-frame_shown a seg (TakeAgain station room) = if station.0 == a.0 then frame_at seg true (place_of seg station) else None
-frame_shown a seg _ = None
+-- what a station has seen at a place of a record: it took a transport frame, or, if there is none, it missed frames
+abbrev pub Seen : Type 0
+Seen = Option Heard
 
--- what the station takes by a call, if that is done
-abbrev pub taken_by : Address → Segment → Step → List Heard
-taken_by a seg step = if is_done step.1 then option_to_list (option_and_then (heard_by a) (frame_shown a seg step.0)) else []
+abbrev pub seen_of : Address → Option CanFrame → List Seen
+seen_of a frame = map Some (option_to_list (option_and_then (heard_by a) frame))
+
+-- what a call shows to the station with an address: the frame of its Take, or of its TakeAgain, or that frames were missed
+abbrev pub shown_by : Address → Segment → Call → List Seen
+shown_by a seg (Take station room) = if station.0 == a.0 then seen_of a (frame_at seg false (place_of seg station)) else []
+shown_by a seg (TakeAgain station room) = if station.0 == a.0 then seen_of a (frame_at seg true (place_of seg station)) else []
+shown_by a seg (Overrun station n) = if station.0 == a.0 then None ∷ [] else []
+shown_by a seg _ = []
+
+-- if the call is done
+abbrev pub seen_by : Address → Segment → Step → List Seen
+seen_by a seg step = if is_done step.1 then shown_by a seg step.0 else []
 
 -- each with the place of its call, from there on
-abbrev pub taken_from : Address → ℕ → (seg : Segment) (steps : Record) (last : Segment) → Drift seg steps last → List (Placed Heard)
-taken_from a place seg [] last run = []
-taken_from a place seg (step ∷ steps) last run =
-    map (λ x. (place, x)) (taken_by a (at_tick seg run.0) step)
-    ++ taken_from a (place + 1) (applied (at_tick seg run.0) step.0).0 steps last run.2
+abbrev pub seen_from : Address → ℕ → (seg : Segment) (steps : Record) (last : Segment) → Drift seg steps last → List (Placed Seen)
+seen_from a place seg [] last run = []
+seen_from a place seg (step ∷ steps) last run =
+    map (λ x. (place, x)) (seen_by a (at_tick seg run.0) step)
+    ++ seen_from a (place + 1) (applied (at_tick seg run.0) step.0).0 steps last run.2
 
--- the transport frames that a station took in a run, each with the place of its call in the record, from 1; a frame that it took
--- twice is there twice
-abbrev pub taken_in : {addresses : List Address} {steps : Record} {seg : Segment} → DriftsTo addresses steps seg → Address → List (Placed Heard)
-taken_in {addresses} {steps} {seg} run a = taken_from a 1 (new_segment addresses) steps seg run.drift
+-- what a station has seen in a run, each with the place of its call in the record, from 1; a frame that it took twice is there twice
+abbrev pub seen_in : {addresses : List Address} {steps : Record} {seg : Segment} → DriftsTo addresses steps seg → Address → List (Placed Seen)
+seen_in {addresses} {steps} {seg} run a = seen_from a 1 (new_segment addresses) steps seg run.drift
 
 -- Messages
 
