@@ -11,9 +11,9 @@ ghost use Rattle.foreign_law.specs.Assembled.{AreAssembled};
 /// broadcast announce message and connection mode data transfer; ISO 11783-3).
 ///
 /// It had taken an RTS or a BAM of the message's source, with its size and its PGN: an RTS to itself, or a BAM to all. After it, it took
-/// the packets 1 to P in this order, whose bytes are the message's, the last one by the call that gave the message. Between them it took no
-/// other opening of that source and kind, and missed no frames (`Overrun`), so the packets are those of one transfer. In ETP the number of
-/// a packet is the offset of the transfer's last DPO before it, plus the packet's sequence number.
+/// the packets 1 to P in this order, whose bytes are the message's, the last one by the call that gave the message. From the
+/// opening to the end it took no other opening of that source and kind, and missed no frames (`Overrun`). In ETP the number of a packet is
+/// the offset of the transfer's last DPO before it, plus the packet's sequence number.
 ///
 /// No packet serves two messages: what was taken from the opening of one to its end lies apart from that of any other message of the
 /// same source and kind.
