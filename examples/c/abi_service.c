@@ -13,6 +13,7 @@ static void sizes(void) {
     AT(fulwethi_note, reason); AT(fulwethi_note, unused);
     SIZE(fulwethi_message); AT(fulwethi_message, from); AT(fulwethi_message, to); AT(fulwethi_message, pgn); AT(fulwethi_message, unused);
     AT(fulwethi_message, len);
+    SIZE(fulwethi_news); AT(fulwethi_news, number); AT(fulwethi_news, kind); AT(fulwethi_news, station);
 }
 
 int main(void) {

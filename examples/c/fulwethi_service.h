@@ -23,8 +23,12 @@
  *   - malloc, realloc and free, or what stands for them, may be called by several threads at once.
  *
  * Rings: a client has 64 places for messages that its station didn't take over yet, and 64 for outcomes that it didn't read yet: while those
- * are all owed, no message more is taken over. An inbox has 64 places. If it is full, a message from one node ends with the abort of its
- * connection (outcome ABORTED at the sender, reason 2), and a message to all is lost at this port. So inboxes are to be emptied.
+ * are all owed, no message more is taken over. An inbox has 64 places, or as many as open_with is told. If it is full, a message from one node
+ * ends with the abort of its connection (outcome ABORTED at the sender, reason 2), and a message to all is lost at each port of the station that
+ * would have had it. So inboxes are to be emptied. turned_away counts both.
+ *
+ * Threads that sleep: behind each turn, news names every client and every port into whose ring something came, one by one, so that the thread
+ * that has it is woken.
  *
  * Memory: each message is kept three times (once as it was submitted, once in the record, once as it was received), and so is each outcome,
  * until a turn cuts the record at 900,000 calls. Then the service lets go of what is known to be read, and each client and inbox at its next
@@ -52,12 +56,19 @@ struct fulwethi_note { uint64_t ticket, number; uint32_t to, outcome, reason, un
 /* A message that came, of `len` bytes. */
 struct fulwethi_message { uint32_t from, to, pgn, unused; uint64_t len; };
 
+/* Who has news: the client of this number, or the port of this number at its station (0 of a client). */
+struct fulwethi_news { uint64_t number; uint32_t kind, station; };
+
+enum { FULWETHI_CLIENT_NEWS = 1, FULWETHI_PORT_NEWS = 2 };
+
 /* Codes beside those of fulwethi.h. A call that isn't done changed nothing that any call shows. */
 enum {
     FULWETHI_RING_FULL = 24, FULWETHI_TRACE_FULL = 25, FULWETHI_CLIENTS_FULL = 26, FULWETHI_NOT_THIS_SEGMENT = 30,
     FULWETHI_NO_SUCH_CLIENT = 73, FULWETHI_CLIENT_GONE = 74,
     /* No message is there, and none will come: the port was closed. */
-    FULWETHI_CLOSED = 75
+    FULWETHI_CLOSED = 75,
+    /* An inbox has 1 to 65,536 places. */
+    FULWETHI_BAD_PLACES = 76
 };
 
 /* The exports: a handle goes in by value, and comes back by `out`. */
@@ -65,6 +76,7 @@ uint32_t fulwethi_raw_service_new(const uint8_t *addresses, size_t count, struct
 void fulwethi_raw_service_free(struct fulwethi_service of);
 uint32_t fulwethi_raw_service_attach(struct fulwethi_service of, uint8_t station, struct fulwethi_client *client, struct fulwethi_service *out);
 uint32_t fulwethi_raw_service_open(struct fulwethi_service of, uint8_t station, uint32_t pgn, uint32_t max_len, uint64_t *port, struct fulwethi_inbox *inbox, struct fulwethi_service *out);
+uint32_t fulwethi_raw_service_open_with(struct fulwethi_service of, uint8_t station, uint32_t pgn, uint32_t max_len, uint32_t places, uint64_t *port, struct fulwethi_inbox *inbox, struct fulwethi_service *out);
 uint32_t fulwethi_raw_service_close(struct fulwethi_service of, struct fulwethi_inbox inbox, struct fulwethi_service *out, struct fulwethi_inbox *inbox_out);
 uint32_t fulwethi_raw_service_close_port(struct fulwethi_service of, uint8_t station, uint64_t port, struct fulwethi_service *out);
 uint32_t fulwethi_raw_service_detach(struct fulwethi_service of, uint64_t client, struct fulwethi_service *out);
@@ -78,6 +90,8 @@ uint32_t fulwethi_raw_service_clock(struct fulwethi_service of, uint64_t tick, s
 uint32_t fulwethi_raw_service_next_due_at(struct fulwethi_service of, uint64_t *tick, struct fulwethi_service *out);
 uint32_t fulwethi_raw_service_next_at(struct fulwethi_service of, uint64_t *tick, struct fulwethi_service *out);
 uint32_t fulwethi_raw_service_turn(struct fulwethi_service of, uint32_t most, uint64_t *made, struct fulwethi_service *out);
+uint32_t fulwethi_raw_service_news(struct fulwethi_service of, struct fulwethi_news *news, struct fulwethi_service *out);
+uint32_t fulwethi_raw_service_turned_away(struct fulwethi_service of, uint64_t *count, struct fulwethi_service *out);
 uint32_t fulwethi_raw_service_counts(struct fulwethi_service of, struct fulwethi_counts *counts, struct fulwethi_service *out);
 uint32_t fulwethi_raw_service_compare_client(struct fulwethi_service of, struct fulwethi_client client, struct fulwethi_service *out, struct fulwethi_client *client_out);
 uint32_t fulwethi_raw_service_compare_inbox(struct fulwethi_service of, struct fulwethi_inbox inbox, struct fulwethi_service *out, struct fulwethi_inbox *inbox_out);
@@ -107,9 +121,14 @@ static inline uint32_t fulwethi_service_attach(struct fulwethi_service *service,
 }
 
 /* Opens a port of a station for messages of a PGN (18 bits; of PDU1 with low byte 0) of at most max_len bytes, writes its number, and makes
- * its inbox. BAD_PGN, NO_SUCH_STATION, PORTS_FULL (16 are open at it), TRACE_FULL (turn mends that), NO_MEMORY. */
+ * its inbox, with 64 places. BAD_PGN, NO_SUCH_STATION, PORTS_FULL (16 are open at it), TRACE_FULL (turn mends that), NO_MEMORY. */
 static inline uint32_t fulwethi_service_open(struct fulwethi_service *service, uint8_t station, uint32_t pgn, uint32_t max_len, uint64_t *port, struct fulwethi_inbox *inbox) {
     return fulwethi_raw_service_open(*service, station, pgn, max_len, port, inbox, service);
+}
+
+/* The same with an inbox that has so many places. BAD_PLACES (0, or more than 65,536), and then as open. NO_MEMORY too if there is none for so many. */
+static inline uint32_t fulwethi_service_open_with(struct fulwethi_service *service, uint8_t station, uint32_t pgn, uint32_t max_len, uint32_t places, uint64_t *port, struct fulwethi_inbox *inbox) {
+    return fulwethi_raw_service_open_with(*service, station, pgn, max_len, places, port, inbox, service);
 }
 
 /* Closes the port of an inbox: nothing more is given at it. What was given is still received. NOT_THIS_SEGMENT (the inbox is another
@@ -184,6 +203,13 @@ static inline uint32_t fulwethi_service_turn(struct fulwethi_service *service, u
     return fulwethi_raw_service_turn(*service, most, made, service);
 }
 
+/* Writes a client or a port that has news: an outcome or a message that came into its ring since it was last named. It has none then until one more
+ * comes, so whoever is woken reads all that is there. Clients come before ports. NOTHING: no more have news. To be called behind each turn until
+ * then. A port that is closed isn't named for that: who closes it by its number wakes its inbox's thread. */
+static inline uint32_t fulwethi_service_news(struct fulwethi_service *service, struct fulwethi_news *news) {
+    return fulwethi_raw_service_news(*service, news, service);
+}
+
 /* Writes the tick at which the next timer is due. NOTHING: no timer runs. */
 static inline uint32_t fulwethi_service_next_due_at(struct fulwethi_service *service, uint64_t *tick) {
     return fulwethi_raw_service_next_due_at(*service, tick, service);
@@ -199,6 +225,11 @@ static inline uint32_t fulwethi_service_next_at(struct fulwethi_service *service
 /* Writes what its stations counted together: each port counts the messages that it was given, so one to all may count several times. */
 static inline uint32_t fulwethi_service_counts(struct fulwethi_service *service, struct fulwethi_counts *counts) {
     return fulwethi_raw_service_counts(*service, counts, service);
+}
+
+/* Writes how many messages a station turned away since an inbox that was to have it had no place, or since its port was closed meanwhile. */
+static inline uint32_t fulwethi_service_turned_away(struct fulwethi_service *service, uint64_t *count) {
+    return fulwethi_raw_service_turned_away(*service, count, service);
 }
 
 /* Whether these clients and inboxes are the service's, and submitted, read and received what its record says, byte by byte: since it was cut last, and before
@@ -261,6 +292,7 @@ static inline const char *fulwethi_service_code_name(uint32_t code) {
     case FULWETHI_NO_SUCH_CLIENT: return "NO_SUCH_CLIENT";
     case FULWETHI_CLIENT_GONE: return "CLIENT_GONE";
     case FULWETHI_CLOSED: return "CLOSED";
+    case FULWETHI_BAD_PLACES: return "BAD_PLACES";
     default: return fulwethi_code_name(code);
     }
 }
@@ -281,6 +313,7 @@ static inline const char *fulwethi_service_strerror(uint32_t code) {
     case FULWETHI_NO_SUCH_CLIENT: return "no client of the service has this number";
     case FULWETHI_CLIENT_GONE: return "the client was detached";
     case FULWETHI_CLOSED: return "no message is there, and the port was closed";
+    case FULWETHI_BAD_PLACES: return "an inbox has 1 to 65,536 places";
     default: return fulwethi_strerror(code);
     }
 }

@@ -23,6 +23,7 @@ namespace fulwethi_cpp {
 
 using note = struct ::fulwethi_note;
 using message = struct ::fulwethi_message;
+using news = struct ::fulwethi_news;
 
 class client {
 public:
@@ -148,6 +149,11 @@ public:
         to_make.reset();
         return ::fulwethi_service_open(made(), station, pgn, max_len, &port, &to_make.held_);
     }
+    /* The same with so many places, 1 to 65,536. */
+    [[nodiscard]] code open_with(std::uint8_t station, std::uint32_t pgn, std::uint32_t max_len, std::uint32_t places, std::uint64_t &port, inbox &to_make) noexcept {
+        to_make.reset();
+        return ::fulwethi_service_open_with(made(), station, pgn, max_len, places, &port, &to_make.held_);
+    }
     [[nodiscard]] code close(inbox &of_port) noexcept { return ::fulwethi_service_close(made(), of_port.made()); }
     /* Whether a client, or an inbox, had what the service's record says. */
     [[nodiscard]] code agrees(client &compared) noexcept {
@@ -181,6 +187,18 @@ public:
         std::uint64_t tick = 0;
         if (::fulwethi_service_next_at(made(), &tick) != FULWETHI_DONE) return std::nullopt;
         return tick;
+    }
+    /* A client or a port into whose ring something came since it was last named, if there is one. */
+    std::optional<news> next_news() noexcept {
+        news named{};
+        if (::fulwethi_service_news(made(), &named) != FULWETHI_DONE) return std::nullopt;
+        return named;
+    }
+    /* How many messages found no place in an inbox. */
+    std::uint64_t turned_away() noexcept {
+        std::uint64_t count = 0;
+        (void)::fulwethi_service_turned_away(made(), &count);
+        return count;
     }
     counts counted() noexcept {
         counts seen{};

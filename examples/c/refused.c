@@ -57,6 +57,7 @@ static struct {
     struct fulwethi_inbox inboxes[2];        /* of 22, and of 35 */
     uint64_t ports[2], tick, frames;
     uint32_t last[2], tries[MESSAGES + 1];   /* the last message that an inbox received: its number and its try; how often each was submitted */
+    uint64_t named[2]; /* clients and ports that had news */
 } all;
 
 static uint8_t byte_of(uint32_t message, uint32_t try, size_t place) {
@@ -83,7 +84,14 @@ static int carry(int from) {
 /* Does what is to be done, or lets the time go on. */
 static void go_on(void) {
     uint64_t made[2], at, first = all.tick + 1000;
-    for (int s = 0; s < 2; s++) AGAIN(fulwethi_service_turn(&all.services[s], 8, &made[s]));
+    struct fulwethi_news news;
+    for (int s = 0; s < 2; s++) {
+        AGAIN(fulwethi_service_turn(&all.services[s], 8, &made[s]));
+        while (fulwethi_service_news(&all.services[s], &news) == FULWETHI_DONE) {
+            WANT(news.kind == FULWETHI_CLIENT_NEWS ? s == 0 && news.number == 0 : news.station == (s ? 0x35 : 0x22) && news.number == all.ports[s]);
+            all.named[news.kind - 1]++;
+        }
+    }
     if (carry(0) | carry(1) | (made[0] + made[1] > 0)) return;
     lack();
     for (int s = 0; s < 2; s++) {
@@ -149,7 +157,7 @@ static void begin(void) {
     WANT(fulwethi_service_detach(&all.services[0], number + 1) == FULWETHI_NO_SUCH_CLIENT);
     fulwethi_client_free(&all.clients[CLIENTS - 1]);
     AGAIN(fulwethi_service_attach(&all.services[0], 0x21, &all.clients[CLIENTS - 1]));
-    for (int i = 0; i < 2; i++) AGAIN(fulwethi_service_open(&all.services[i], i ? 0x35 : 0x22, PGN, MOST, &all.ports[i], &all.inboxes[i]));
+    for (int i = 0; i < 2; i++) AGAIN(fulwethi_service_open_with(&all.services[i], i ? 0x35 : 0x22, PGN, MOST, 2, &all.ports[i], &all.inboxes[i]));
     AGAIN(fulwethi_service_pause(&all.services[1], 0x35, all.ports[1]));
     AGAIN(fulwethi_service_resume(&all.services[1], 0x35, all.ports[1]));
 }
@@ -166,6 +174,7 @@ static void run(void) {
     receive();
     WANT(fulwethi_inbox_receive(&all.inboxes[1], &byte, 1, &message) == FULWETHI_CLOSED && fulwethi_inbox_receive(&all.inboxes[0], &byte, 1, &message) == FULWETHI_NOTHING);
     WANT(all.frames > LOST && fulwethi_service_counts(&all.services[1], &counts) == FULWETHI_DONE && counts.given >= 3);
+    WANT(all.named[0] >= MESSAGES && all.named[1] >= 3 && fulwethi_service_open_with(&all.services[0], 0x22, PGN, MOST, 0, &all.ports[0], &all.inboxes[0]) == FULWETHI_BAD_PLACES);
     for (int i = 0; i < 2; i++) WANT(all.last[i]);
 }
 

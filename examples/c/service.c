@@ -3,8 +3,8 @@
  * At each station a thread sends COUNT messages to the next one and reads what became of them, and a thread receives and writes what came as
  * 'FROM TO PGN BYTES', the first four of them. The program ends once each message has its outcome and what was acknowledged is received.
  *
- * The main thread has the bus and the service. Who submits wakes it by an eventfd; it wakes the others by a condition when a turn has done
- * something. A frame is told to be sent when the kernel loops it back, so one is outstanding at a time. If a loss is told meanwhile, what comes
+ * The main thread has the bus and the service. Who submits wakes it by an eventfd; behind its turns it wakes each thread whose client or inbox has
+ * news, by an eventfd of that thread. A frame is told to be sent when the kernel loops it back, so one is outstanding at a time. If a loss is told meanwhile, what comes
  * before the echo counts as missed too, since the place of the frame isn't known: as in socketcan.c. */
 #include "fulwethi_service.h"
 #include <errno.h>
@@ -34,21 +34,17 @@ struct bus {
     uint32_t drops;             /* how many frames the socket dropped so far */
     struct fulwethi_frame kept; /* a frame that the service didn't take yet */
     int has_kept, outstanding, is_lost, is_blocked; /* is_lost: a loss was told since the outstanding frame was put */
-    int has_told;               /* the service was told something since the others were: what was missed ends messages */
     uint8_t station;            /* of the outstanding frame */
     char tell[16];              /* what the service is to be told next: 0 to 2 that a station missed frames, s that the frame was put */
 };
 
-/* What one thread has after the start: a client or an inbox. */
-struct end { struct fulwethi_client client; struct fulwethi_inbox inbox; int station; };
+/* What one thread has after the start: a client or an inbox, the number by which the main thread finds it, and the eventfd that wakes it. */
+struct end { struct fulwethi_client client; struct fulwethi_inbox inbox; uint64_t number; int station, news; };
 
 static uint32_t messages;
 static int wake;                /* the eventfd */
 static pthread_mutex_t lock = PTHREAD_MUTEX_INITIALIZER;
-static pthread_cond_t is_news = PTHREAD_COND_INITIALIZER;
-/* Under the lock: how often the main thread told of news; how many messages have an outcome, were acknowledged, and were received; and
- * whether the threads are to end. */
-static uint64_t news;
+/* Under the lock: how many messages have an outcome, were acknowledged, and were received; and whether the threads are to end. */
 static uint32_t ended, acknowledged, received;
 static int is_over;
 
@@ -57,65 +53,70 @@ static void fail(const char *what, uint32_t code) {
     exit(1);
 }
 
+/* Wakes who waits at an eventfd. */
+static void wake_at(int at) {
+    uint64_t one = 1;
+    if (write(at, &one, sizeof one) != sizeof one) abort();
+}
+
 /* Adds to a count, and wakes the main thread. */
 static void count(uint32_t *of) {
-    uint64_t one = 1;
     pthread_mutex_lock(&lock);
     ++*of;
     pthread_mutex_unlock(&lock);
-    if (write(wake, &one, sizeof one) != sizeof one) abort();
+    wake_at(wake);
 }
 
-/* Waits until there is news that wasn't seen; 0 if the thread is to end. */
-static int await(uint64_t *seen) {
+/* Waits until the thread is woken, or tries again soon if memory was lacking; 0 if the thread is to end. */
+static int await(struct end *end, uint32_t code) {
+    struct pollfd from = {.fd = end->news, .events = POLLIN};
+    uint64_t woken;
+    if (poll(&from, 1, code == FULWETHI_NO_MEMORY ? RETRY : -1) < 0 && errno != EINTR) abort();
+    if (from.revents && read(end->news, &woken, sizeof woken) < 0 && errno != EAGAIN) abort();
     pthread_mutex_lock(&lock);
-    while (*seen == news && !is_over) pthread_cond_wait(&is_news, &lock);
-    *seen = news;
     int goes_on = !is_over;
     pthread_mutex_unlock(&lock);
     return goes_on;
 }
 
-/* Submits the next message of a client, unless its ring is full; 0 if it is. */
-static int submit(struct end *end, uint32_t number) {
-    uint64_t ticket, one = 1;
+/* Submits the next message of a client. If its ring is full, it has messages without an outcome, whose outcomes will be news. */
+static uint32_t submit(struct end *end, uint32_t number) {
+    uint64_t ticket;
     uint8_t bytes[MOST];
     size_t len = 9 + number * 97u % (MOST - 8);
     for (size_t i = 0; i < len; i++) bytes[i] = (uint8_t)(i < 4 ? number >> 8 * i : number + i);
     uint32_t code = fulwethi_client_submit(&end->client, ADDRESS[(end->station + 1) % STATIONS], PGN, bytes, len, &ticket);
-    if (code == FULWETHI_RING_FULL || code == FULWETHI_NO_MEMORY) return 0;
-    if (code) fail("submit", code);
-    if (write(wake, &one, sizeof one) != sizeof one) abort();
-    return 1;
+    if (!code) wake_at(wake);
+    else if (code != FULWETHI_RING_FULL && code != FULWETHI_NO_MEMORY) fail("submit", code);
+    return code;
 }
 
 static void *send_all(void *given) {
     struct end *end = given;
-    uint64_t seen = 0;
-    uint32_t next = 0;
+    uint32_t next = 0, code, read;
     do {
         struct fulwethi_note note;
-        while (next < messages && submit(end, next)) next++;
-        while (fulwethi_client_outcome(&end->client, &note) == FULWETHI_DONE) {
+        for (code = FULWETHI_DONE; next < messages && !(code = submit(end, next)); next++) { }
+        while ((read = fulwethi_client_outcome(&end->client, &note)) == FULWETHI_DONE) {
             if (note.outcome == FULWETHI_ACKNOWLEDGED) count(&acknowledged);
             else fprintf(stderr, "message %llu of %02X: %s\n", (unsigned long long)note.ticket, ADDRESS[end->station], fulwethi_outcome_name(note.outcome));
             count(&ended);
         }
-    } while (await(&seen));
+    } while (await(end, read == FULWETHI_NO_MEMORY ? read : code));
     return NULL;
 }
 
 static void *receive_all(void *given) {
     struct end *end = given;
-    uint64_t seen = 0;
+    uint32_t code;
     do {
         struct fulwethi_message message;
         uint8_t room[MOST];
-        while (fulwethi_inbox_receive(&end->inbox, room, sizeof room, &message) == FULWETHI_DONE) {
+        while ((code = fulwethi_inbox_receive(&end->inbox, room, sizeof room, &message)) == FULWETHI_DONE) {
             printf("%02X %02X %05X %02X %02X %02X %02X\n", message.from, message.to, message.pgn, room[0], room[1], room[2], room[3]);
             count(&received);
         }
-    } while (await(&seen));
+    } while (await(end, code));
     return NULL;
 }
 
@@ -153,7 +154,6 @@ static int is_told(struct bus *bus) {
         uint32_t code = bus->tell[0] == 's' ? fulwethi_service_sent(&bus->service, bus->station) : fulwethi_service_missed(&bus->service, ADDRESS[bus->tell[0] - '0']);
         if (code == FULWETHI_NO_MEMORY || code == FULWETHI_BUS_FULL || code == FULWETHI_TRACE_FULL) return 0;
         if (code) fail("tell", code);
-        bus->has_told = 1;
     }
     return 1;
 }
@@ -235,20 +235,28 @@ static int pause_for(struct bus *bus) {
     return pause < 0 || left < (uint64_t)pause ? (int)left : pause;
 }
 
-/* Whether all is done: then the others are told to end; else that there is news, if something may have come of it. */
-static int tell_others(int has_done) {
-    pthread_mutex_lock(&lock);
-    is_over = ended == STATIONS * messages && received >= acknowledged;
-    int is_done = is_over;
-    if (has_done || is_done) news++, pthread_cond_broadcast(&is_news);
-    pthread_mutex_unlock(&lock);
-    return is_done;
+/* Wakes each thread whose client or inbox has news. */
+static void tell_news(struct bus *bus, struct end *senders, struct end *receivers) {
+    struct fulwethi_news news;
+    while (fulwethi_service_news(&bus->service, &news) == FULWETHI_DONE) {
+        if (news.kind == FULWETHI_CLIENT_NEWS) wake_at(senders[news.number].news); /* the k-th client was made at the k-th station */
+        else for (int k = 0; k < STATIONS; k++) if (ADDRESS[k] == news.station && receivers[k].number == news.number) wake_at(receivers[k].news);
+    }
 }
 
-/* One turn: waits, and does what is to be done; 0 once all is. */
-static int turn(struct bus *bus) {
+/* Whether all is done: then the others are told to end. */
+static int is_done(struct end *senders, struct end *receivers) {
+    pthread_mutex_lock(&lock);
+    int done = is_over = ended == STATIONS * messages && received >= acknowledged;
+    pthread_mutex_unlock(&lock);
+    for (int k = 0; done && k < STATIONS; k++) wake_at(senders[k].news), wake_at(receivers[k].news);
+    return done;
+}
+
+/* One turn: waits, and does what is to be done. */
+static void turn(struct bus *bus) {
     struct pollfd from[2] = {{.fd = bus->socket, .events = POLLIN}, {.fd = wake, .events = POLLIN}};
-    uint64_t woken, made, all = 0;
+    uint64_t woken, made;
     if (poll(from, 2, pause_for(bus)) < 0 && errno != EINTR) abort();
     if (from[1].revents && read(wake, &woken, sizeof woken) < 0 && errno != EAGAIN) abort();
     uint32_t code = fulwethi_service_clock(&bus->service, ticks(bus));
@@ -258,22 +266,20 @@ static int turn(struct bus *bus) {
     do {
         code = fulwethi_service_turn(&bus->service, 16, &made);
         if (code && code != FULWETHI_NO_MEMORY && code != FULWETHI_TRACE_FULL) fail("turn", code);
-        all += made;
         transmit(bus);
     } while (made && !code);
-    int has_done = all > 0 || bus->has_told;
-    bus->has_told = 0;
-    return !tell_others(has_done);
 }
 
 /* The service, with a client and an inbox at each station. */
 static void begin(struct bus *bus, struct end *senders, struct end *receivers) {
-    uint64_t port;
     uint32_t code = fulwethi_service_new(&bus->service, ADDRESS, STATIONS);
     for (int k = 0; k < STATIONS && !code; k++) {
         senders[k].station = receivers[k].station = k;
+        senders[k].news = eventfd(0, EFD_NONBLOCK);
+        receivers[k].news = eventfd(0, EFD_NONBLOCK);
+        if (senders[k].news < 0 || receivers[k].news < 0) abort();
         code = fulwethi_service_attach(&bus->service, ADDRESS[k], &senders[k].client);
-        if (!code) code = fulwethi_service_open(&bus->service, ADDRESS[k], PGN, MOST, &port, &receivers[k].inbox);
+        if (!code) code = fulwethi_service_open(&bus->service, ADDRESS[k], PGN, MOST, &receivers[k].number, &receivers[k].inbox);
     }
     if (code) fail("begin", code);
 }
@@ -293,7 +299,10 @@ int main(int words, char **word) {
         if (pthread_create(&threads[k], NULL, send_all, &senders[k])) abort();
         if (pthread_create(&threads[STATIONS + k], NULL, receive_all, &receivers[k])) abort();
     }
-    while (turn(&bus)) { }
+    do {
+        turn(&bus);
+        tell_news(&bus, senders, receivers);
+    } while (!is_done(senders, receivers));
     for (int t = 0; t < 2 * STATIONS; t++) if (pthread_join(threads[t], NULL)) abort();
     fulwethi_service_free(&bus.service);
     for (int k = 0; k < STATIONS; k++) {

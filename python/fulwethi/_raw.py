@@ -75,6 +75,15 @@ class RawMessage(Structure):
     _fields_ = [("from", c_uint32), ("to", c_uint32), ("pgn", c_uint32), ("unused", c_uint32), ("len", c_uint64)]
 
 
+class RawNews(Structure):
+    """struct fulwethi_news"""
+
+    _fields_ = [("number", c_uint64), ("kind", c_uint32), ("station", c_uint32)]
+
+
+CLIENT_NEWS, PORT_NEWS = 1, 2
+"""The kinds of news."""
+
 GIVEN, OUTCOME = 1, 2
 """The kinds of an event."""
 
@@ -115,7 +124,10 @@ SERVICE: Dict[str, Tuple[Any, ...]] = {
     "fulwethi_raw_service_free": (Handle,),
     "fulwethi_raw_service_attach": (Handle, c_uint8, _out, _out),
     "fulwethi_raw_service_open": (Handle, c_uint8, c_uint32, c_uint32, _number, _out, _out),
+    "fulwethi_raw_service_open_with": (Handle, c_uint8, c_uint32, c_uint32, c_uint32, _number, _out, _out),
     "fulwethi_raw_service_close": (Handle, Handle, _out, _out),
+    "fulwethi_raw_service_close_port": (Handle, c_uint8, c_uint64, _out),
+    "fulwethi_raw_service_detach": (Handle, c_uint64, _out),
     "fulwethi_raw_service_pause": (Handle, c_uint8, c_uint64, _out),
     "fulwethi_raw_service_resume": (Handle, c_uint8, c_uint64, _out),
     "fulwethi_raw_service_feed": (Handle, c_uint32, _room, c_size_t, _out),
@@ -126,8 +138,13 @@ SERVICE: Dict[str, Tuple[Any, ...]] = {
     "fulwethi_raw_service_next_due_at": (Handle, _number, _out),
     "fulwethi_raw_service_next_at": (Handle, _number, _out),
     "fulwethi_raw_service_turn": (Handle, c_uint32, _number, _out),
+    "fulwethi_raw_service_news": (Handle, POINTER(RawNews), _out),
+    "fulwethi_raw_service_turned_away": (Handle, _number, _out),
     "fulwethi_raw_service_counts": (Handle, _counts, _out),
+    "fulwethi_raw_service_compare_client": (Handle, Handle, _out, _out),
+    "fulwethi_raw_service_compare_inbox": (Handle, Handle, _out, _out),
     "fulwethi_raw_client_submit": (Handle, c_uint8, c_uint32, c_char_p, c_size_t, _number, _out),
+    "fulwethi_raw_client_number": (Handle, _number, _out),
     "fulwethi_raw_client_outcome": (Handle, POINTER(RawNote), _out),
     "fulwethi_raw_client_free": (Handle,),
     "fulwethi_raw_inbox_receive": (Handle, _room, c_size_t, POINTER(RawMessage), _out),

@@ -8,13 +8,14 @@ from __future__ import annotations
 
 from ctypes import byref, c_uint8, c_uint64
 from types import TracebackType
-from typing import Any, Iterable, Iterator, Optional, Tuple, Type, TypeVar
+from typing import Any, Iterable, Iterator, Optional, Tuple, Type, TypeVar, Union
+from weakref import WeakValueDictionary
 
 from . import _inline, _raw
 from ._held import Held
 from ._inline import u8, u32, u64
 from ._library import service_library
-from .errors import DONE, Nothing, TooLittleRoom, refusal
+from .errors import DONE, NotThisSegment, Nothing, PortClosed, TooLittleRoom, refusal
 from .node import counts_of, frame_of
 from .values import LONGEST_TO_ALL, AbortReason, Counts, Frame, Message, Note, Outcome
 
@@ -48,31 +49,51 @@ class Service(_Handled):
     def __init__(self, addresses: Iterable[int]) -> None:
         super().__init__("the service", "service")
         self.addresses = tuple(addresses)
+        self._ends: WeakValueDictionary[Tuple[int, ...], Union[Client, Inbox]] = WeakValueDictionary()
         each = bytes(u8(address, "an address") for address in self.addresses)
         _done(self._library.fulwethi_raw_service_new(each, len(each), byref(self._held.unmade())))
 
     # Clients and inboxes
 
     def attach(self, station: int) -> Client:
-        """Makes a client of a station. NoSuchStation, ClientsFull (16 were made at it)."""
-        client = Client(station)
+        """Makes a client of a station. NoSuchStation, ClientsFull (16 are at it that weren't detached)."""
+        client, number = Client(station), c_uint64()
         with self._held as service:
             _done(self._library.fulwethi_raw_service_attach(service, u8(station, "an address"), byref(client._held.unmade()), byref(service)))
+        with client._held as of:
+            _done(self._library.fulwethi_raw_client_number(of, byref(number), byref(of)))
+        client.number = number.value
+        self._ends[(client.number,)] = client
         return client
 
-    def open(self, station: int, pgn: int, max_len: int) -> Inbox:
-        """Opens a port of a station for messages of a PGN of at most `max_len` bytes, and makes its inbox. BadPgn, NoSuchStation, PortsFull, TraceFull."""
-        inbox, port = Inbox(station), c_uint64()
-        words = u8(station, "an address"), u32(pgn, "a PGN"), u32(max_len, "a length")
+    def detach(self, number: int) -> None:
+        """Detaches the client of this number: its place at its station is free for another one. Its messages under way continue. NoSuchClient, ClientGone."""
         with self._held as service:
-            _done(self._library.fulwethi_raw_service_open(service, *words, byref(port), byref(inbox._held.unmade()), byref(service)))
+            _done(self._library.fulwethi_raw_service_detach(service, u64(number, "a number"), byref(service)))
+
+    def open(self, station: int, pgn: int, max_len: int, places: int = 64) -> Inbox:
+        """Opens a port of a station for messages of a PGN of at most `max_len` bytes, and makes its inbox, with so many places, 1 to 65,536.
+
+        If it is full, a message from one node ends with an abort for want of resources, and one to all is lost; `turned_away` counts both.
+        BadPlaces, BadPgn, NoSuchStation, PortsFull, TraceFull.
+        """
+        inbox, port = Inbox(station), c_uint64()
+        words = u8(station, "an address"), u32(pgn, "a PGN"), u32(max_len, "a length"), u32(places, "a number of places")
+        with self._held as service:
+            _done(self._library.fulwethi_raw_service_open_with(service, *words, byref(port), byref(inbox._held.unmade()), byref(service)))
         inbox.port = port.value
+        self._ends[(station, inbox.port)] = inbox
         return inbox
 
     def close_port(self, inbox: Inbox) -> None:
         """Closes the port of an inbox: nothing more is given at it. What was given is still received. NotThisSegment (it is another service's), TraceFull."""
         with self._held as service, inbox._held as of:
             _done(self._library.fulwethi_raw_service_close(service, of, byref(service), byref(of)))
+
+    def close_port_of(self, station: int, port: int) -> None:
+        """Closes a port by its number, while another thread has its inbox, which raises PortClosed once all is received. NoSuchPort, TraceFull."""
+        with self._held as service:
+            _done(self._library.fulwethi_raw_service_close_port(service, u8(station, "an address"), u64(port, "a port"), byref(service)))
 
     def pause(self, station: int, port: int) -> None:
         """Pauses a port of a station: connections that bring it a message are held. NoSuchStation, NoSuchPort, PortPaused, TraceFull."""
@@ -144,6 +165,42 @@ class Service(_Handled):
             code = self._library.fulwethi_raw_service_next_at(service, byref(tick), byref(service))
         return tick.value if _is_there(code) else None
 
+    # What came of it
+
+    def news(self) -> Optional[Union[Client, Inbox]]:
+        """A client or an inbox into whose ring an outcome or a message came since it was last answered, or None. To be called behind each turn until None.
+
+        One that is nowhere used any more is passed over.
+        """
+        raw = _raw.RawNews()
+        while True:
+            with self._held as service:
+                code = self._library.fulwethi_raw_service_news(service, byref(raw), byref(service))
+            if not _is_there(code):
+                return None
+            end = self._ends.get((raw.number,) if raw.kind == _raw.CLIENT_NEWS else (raw.station, raw.number))
+            if end is not None:
+                return end
+
+    def turned_away(self) -> int:
+        """How many messages were turned away, since an inbox that was to have it had no place, or its port was closed meanwhile."""
+        count = c_uint64()
+        with self._held as service:
+            _done(self._library.fulwethi_raw_service_turned_away(service, byref(count), byref(service)))
+        return count.value
+
+    def agrees(self, clients: Iterable[Client], inboxes: Iterable[Inbox]) -> bool:
+        """Whether these clients and inboxes are the service's, and submitted, read and received what its record says, as far as that is kept."""
+        for kind, ends in (("client", clients), ("inbox", inboxes)):
+            compare = getattr(self._library, f"fulwethi_raw_service_compare_{kind}")
+            for end in ends:
+                with self._held as service, end._held as of:
+                    code = compare(service, of, byref(service), byref(of))
+                if code == NotThisSegment.code:
+                    return False
+                _done(code)
+        return True
+
     def counts(self) -> Counts:
         """What its stations counted together."""
         counts = _raw.RawCounts()
@@ -158,6 +215,7 @@ class Client(_Handled):
     def __init__(self, station: int) -> None:
         super().__init__("the client", "client")
         self.station = station
+        self.number = 0
 
     def submit(self, to: int, pgn: int, data: Any) -> int:
         """Submits a copy of a message, and answers its ticket, from 1. The bus's thread takes it over in a turn.
@@ -194,7 +252,7 @@ class Inbox(_Handled):
         self.port = 0
 
     def receive(self) -> Optional[Message]:
-        """The next message, or None if none is there. NoMemory: it stays."""
+        """The next message, or None if none is there. PortClosed: none is there or will come. NoMemory: it stays."""
         raw, room = _raw.RawMessage(), bytearray(LONGEST_TO_ALL)
         with self._held as inbox:
             code = _inline.receive(self._library, inbox, room, raw)
@@ -207,8 +265,11 @@ class Inbox(_Handled):
 
     def messages(self) -> Iterator[Message]:
         """Each message that is there."""
-        while (message := self.receive()) is not None:
-            yield message
+        try:
+            while (message := self.receive()) is not None:
+                yield message
+        except PortClosed:
+            return
 
 
 def _done(code: int) -> None:

@@ -34,6 +34,37 @@ def test_messages() -> None:
         assert service.counts().given == 4 and service.next_at() is None
 
 
+def test_news() -> None:
+    """Each client and each inbox is named once, however much came, and again once more comes."""
+    with Service([0x21, 0x35]) as service, service.attach(0x21) as client, service.open(0x35, PGN, 9) as inbox, service.open(0x21, PGN, 9) as other:
+        assert service.news() is None
+        for _ in range(3):
+            client.submit(0x35, PGN, bytes(9))
+        while work(service):
+            pass
+        assert service.news() is client and service.news() is inbox and service.news() is None
+        client.submit(0x35, PGN, bytes(9))
+        while work(service):
+            pass
+        assert [service.news(), service.news(), service.news()] == [client, inbox, None]
+        assert len(list(inbox.messages())) == 4 and other.receive() is None
+        assert service.agrees([client], [inbox, other])
+
+
+def test_full_inboxes() -> None:
+    with Service([0x21, 0x35]) as service, service.attach(0x21) as client, service.open(0x35, PGN, 9, places=1) as inbox:
+        for _ in range(2):
+            client.submit(0x35, PGN, bytes(9))
+        while work(service):
+            pass
+        assert [(note.outcome, note.reason) for note in client.outcomes()] == [(Outcome.ACKNOWLEDGED, 0), (Outcome.ABORTED, 2)]
+        assert service.turned_away() == 1 and len(list(inbox.messages())) == 1
+        service.detach(client.number)
+        service.close_port_of(0x35, inbox.port)
+        with pytest.raises(errors.PortClosed):
+            inbox.receive()
+
+
 def test_frames_of_others_and_time() -> None:
     with Service([0x35]) as service, service.open(0x35, PGN, 1785) as inbox:
         service.feed(Frame(0x1CEC3521, bytes.fromhex("10090002FF00EF00")))
@@ -122,6 +153,9 @@ REFUSED = {
     errors.NoSuchStation: lambda service: service.attach(9),
     errors.ClientsFull: lambda service: repeat(17, lambda: service.attach(0x21)),
     errors.BadPgn: lambda service: service.open(0x21, 0xEF01, 9),
+    errors.BadPlaces: lambda service: service.open(0x21, PGN, 9, places=65_537),
+    errors.NoSuchClient: lambda service: service.detach(0),
+    errors.ClientGone: lambda service: repeat(2, lambda number=service.attach(0x21).number: service.detach(number)),  # type: ignore[misc]
     errors.PortsFull: lambda service: repeat(17, lambda: service.open(0x21, PGN, 9)),
     errors.NotThisSegment: close_port_of_another,
     errors.NoSuchPort: lambda service: service.pause(0x21, 7),

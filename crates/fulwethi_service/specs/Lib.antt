@@ -12,3 +12,4 @@ pub mod Clients
 pub mod Inboxes
 pub mod Compared
 pub mod Detached
+pub mod Told

@@ -7,7 +7,8 @@ ghost use Rattle.c_parts.specs.Reads.{read_pgn};
 ghost use Rattle.fulwethi_service.specs.declared.post.Post.{Post};
 ghost use Rattle.fulwethi_service.specs.Codes.{not_made_code};
 ghost use Rattle.fulwethi_service.specs.Served.{IsServed};
-ghost use Rattle.fulwethi_service.specs.Ends.{IsAttached, IsOpened, IsOpenedAt, IsClosed};
+ghost use Rattle.fulwethi_service.specs.Ends.{IsAttached, IsOpened, IsOpenedAt, IsOpenedIn, opened_code, IsClosed};
+ghost use Rattle.segment_rings.specs.Ends.{ring_places};
 
 use crate::client_handle::ClientHandle;
 use crate::codes::made_code;
@@ -16,10 +17,13 @@ use crate::inbox_handle::InboxHandle;
 use crate::post::Post;
 use crate::service_handle::ServiceHandle;
 use c_parts::read_pgn;
-use live_segment::{Live, MOST_CALLS, NotMade, Refusal};
+use live_segment::{Live, MOST_CALLS, NotMade, Places, Refusal};
 use pgn_ids::{Address, Pgn};
 use std::alloc::Global;
 use std::collections::VecDeque;
+
+/// An inbox can't have so many places.
+const BAD_PLACES: u32 = 76;
 
 /// A new client of a station; `client` must own nothing.
 #[unsafe(no_mangle)]
@@ -73,12 +77,44 @@ pub extern "C" fn fulwethi_raw_service_open(
     out: &mut ServiceHandle,
 ) -> u32
     requires { IsSome of.live }
-    ensures { IsServed (value_code not_made_code) (IsOpened (record { 0 = station }) (read_pgn pgn) max_len port.old port.new inbox.old.post inbox.new.post) of.live out.new.live result }
+    ensures { IsServed (value_code not_made_code) (IsOpened (record { 0 = station }) (read_pgn pgn) max_len ring_places port.old port.new inbox.old.post inbox.new.post) of.live out.new.live result }
 {
     let mut held = of.into_box();
     let code = made_code(open(
         alloc,
         &mut held,
+        Address(station),
+        pgn,
+        max_len,
+        Places::usual(),
+        port,
+        inbox,
+    ));
+    *out = ServiceHandle::of_box(held);
+    code
+}
+
+/// The same with an inbox that has so many places, 1 to 65,536.
+#[unsafe(no_mangle)]
+pub extern "C" fn fulwethi_raw_service_open_with(
+    of: ServiceHandle,
+    alloc: Global,
+    station: u8,
+    pgn: u32,
+    max_len: u32,
+    places: u32,
+    port: &mut u64,
+    inbox: &mut InboxHandle,
+    out: &mut ServiceHandle,
+) -> u32
+    requires { IsSome of.live }
+    ensures { IsServed opened_code (IsOpenedIn places (record { 0 = station }) (read_pgn pgn) max_len port.old port.new inbox.old.post inbox.new.post) of.live out.new.live result }
+{
+    let mut held = of.into_box();
+    let code = opened_code(open_in(
+        alloc,
+        &mut held,
+        places,
         Address(station),
         pgn,
         max_len,
@@ -89,19 +125,48 @@ pub extern "C" fn fulwethi_raw_service_open(
     code
 }
 
+fn opened_code(opened: Option<Result<(), NotMade>>) -> u32
+    ensures { result ≡ opened_code opened }
+{
+    match opened {
+        Some(made) => made_code(made),
+        None => BAD_PLACES,
+    }
+}
+
+// None: an inbox can't have so many places.
+fn open_in(
+    alloc: Global,
+    live: &mut Live,
+    places: u32,
+    station: Address,
+    pgn: u32,
+    max_len: u32,
+    port: &mut u64,
+    inbox: &mut InboxHandle,
+) -> Option<Result<(), NotMade>>
+    ensures { IsOpenedIn places station (read_pgn pgn) max_len port.old port.new inbox.old.post inbox.new.post live.old live.new result }
+{
+    let Some(places) = Places::new(places as usize) else {
+        return None;
+    };
+    Some(open(alloc, live, station, pgn, max_len, places, port, inbox))
+}
+
 fn open(
     alloc: Global,
     live: &mut Live,
     station: Address,
     pgn: u32,
     max_len: u32,
+    places: Places,
     port: &mut u64,
     inbox: &mut InboxHandle,
 ) -> Result<(), NotMade>
-    ensures { IsOpened station (read_pgn pgn) max_len port.old port.new inbox.old.post inbox.new.post live.old live.new result }
+    ensures { IsOpened station (read_pgn pgn) max_len places port.old port.new inbox.old.post inbox.new.post live.old live.new result }
 {
     match read_pgn(pgn) {
-        Ok(pgn) => open_at(alloc, live, station, pgn, max_len, port, inbox),
+        Ok(pgn) => open_at(alloc, live, station, pgn, max_len, places, port, inbox),
         Err(cause) => Err(NotMade::Refused(cause)),
     }
 }
@@ -113,10 +178,11 @@ fn open_at(
     station: Address,
     pgn: Pgn,
     max_len: u32,
+    places: Places,
     port: &mut u64,
     inbox: &mut InboxHandle,
 ) -> Result<(), NotMade>
-    ensures { IsOpenedAt station pgn max_len port.old port.new inbox.old.post inbox.new.post live.old live.new result }
+    ensures { IsOpenedAt station pgn max_len places port.old port.new inbox.old.post inbox.new.post live.old live.new result }
 {
     if let Some(cause) = open_cause(live, station) {
         return Err(cause);
@@ -129,7 +195,7 @@ fn open_at(
     let Ok(mut held) = Box::new(alloc, post) else {
         return Err(NotMade::OutOfMemory);
     };
-    let opened = live.open_port(station, pgn, max_len)?;
+    let opened = live.open_port_with(station, pgn, max_len, places)?;
     *port = opened.port().number;
     held.inbox = Some(opened);
     *inbox = InboxHandle::of_box(held);

@@ -13,6 +13,7 @@ mod ends;
 mod frames;
 mod inbox_handle;
 mod inboxes;
+mod news;
 mod ports;
 mod post;
 mod readers;

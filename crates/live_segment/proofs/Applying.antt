@@ -27,18 +27,18 @@ no_place : (keeps : Kept) (addresses : List Address) (st : Segment) (xs ys : Lis
     → LacksPlace (wanted_by st call).station (wanted_by st call).ports es → NoPlace (live_view keeps addresses xs ss ds) (live_view keeps addresses ys ts es) call
 no_place keeps addresses st xs ys ss ts ds es call at h =
     let k = h.place in
-    let here : (p : PortView) → get_or (map port_of es) k p ≡ port_of (get_or es k (new_door p.port 0 0)) = λ p. get_or-map port_of es k (new_door p.port 0 0) p h.within in
-    let port : (p : PortView) → (get_or (map port_of es) k p).port ≡ (get_or es k (new_door p.port 0 0)).port = λ p. ap (λ (x : PortView). x.port) (here p) in
+    let here : (p : PortView) → get_or (map port_of es) k p ≡ port_of (get_or es k (new_door p.port 0 0 0)) = λ p. get_or-map port_of es k (new_door p.port 0 0 0) p h.within in
+    let port : (p : PortView) → (get_or (map port_of es) k p).port ≡ (get_or es k (new_door p.port 0 0 0)).port = λ p. ap (λ (x : PortView). x.port) (here p) in
     record {
       place = k;
       within = rw length-map h.within;
       wanted = λ p.
-          let d = new_door p.port 0 0 in
+          let d = new_door p.port 0 0 0 in
           let l = h.lacks d in
           subst (λ (s : Segment). ((get_or (map port_of es) k p).port.station ≡ (wanted_by s call).station) × (0 < times (get_or (map port_of es) k p).port.number (wanted_by s call).ports)) at
           (subst (λ (q : PortId). (q.station ≡ (wanted_by st call).station) × (0 < times q.number (wanted_by st call).ports)) (sym (port p)) (l.0, l.1));
       lacks = λ p.
-          let d = new_door p.port 0 0 in
+          let d = new_door p.port 0 0 0 in
           let l = h.lacks d in
           let f : get_or (map door_free es) k 0 ≡ (get_or es k d).free = get_or-map door_free es k d 0 h.within in
           subst (λ (s : Segment). (get_or (map door_free es) k 0 < times (get_or (map port_of es) k p).port.number (wanted_by s call).ports) ⊎ ((get_or (map port_of es) k p).active ≡ false)) at

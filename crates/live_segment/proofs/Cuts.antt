@@ -36,13 +36,13 @@ all_cut [] (t ∷ ts) h = absurd (omega (arith, h.0))
 all_cut (s ∷ ss) [] h = absurd (omega (arith, h.0))
 all_cut (s ∷ ss) (t ∷ ts) h = (h.1 0 s (omega arith), all_cut ss ts (omega (arith, h.0), λ k d l. h.1 (suc k) d (omega arith)))
 
-abbrev AllDoorsCut : List DoorView → List DoorView → Type 0
+abbrev pub AllDoorsCut : List DoorView → List DoorView → Type 0
 AllDoorsCut [] [] = Unit {0}
 AllDoorsCut [] (e ∷ es) = ⊥
 AllDoorsCut (d ∷ ds) [] = ⊥
 AllDoorsCut (d ∷ ds) (e ∷ es) = CutDoor d e × AllDoorsCut ds es
 
-all_doors_cut : (ds es : List DoorView) → CutDoors ds es → AllDoorsCut ds es
+pub all_doors_cut : (ds es : List DoorView) → CutDoors ds es → AllDoorsCut ds es
 all_doors_cut [] [] h = tt
 all_doors_cut [] (e ∷ es) h = absurd (omega (arith, h.0))
 all_doors_cut (d ∷ ds) [] h = absurd (omega (arith, h.0))
@@ -157,7 +157,7 @@ holds-cut addresses st xs ws ss ts ds es cs cd h =
 client_cut : (s t : SeatView) (a b : ClientView) (free : ℕ) → a ≡ client_of s → b ≡ client_of t → free ≡ t.free → CutSeat s t → CutClient a b free
 client_cut s t a b free is at f c =
     let n = ap (λ (l : List Note). length l) c.noted in
-    let same : client_of t ≡ record (client_of s) { notes_gone = t.gone } = let x = c.station in let y = c.active in let z = c.popped in let w = c.noted in cc in
+    let same : client_of t ≡ record (client_of s) { notes_gone = t.gone } = let x = c.station in let y = c.active in let z = c.popped in let w = c.noted in let v = c.named in cc in
     let own : CutClient (client_of s) (client_of t) t.free = record {
       same = same;
       more = c.more.0;
@@ -170,12 +170,12 @@ client_cut s t a b free is at f c =
 port_cut : (d e : DoorView) (a b : PortView) (free : ℕ) → a ≡ port_of d → b ≡ port_of e → free ≡ e.free → CutDoor d e → CutPort a b free
 port_cut d e a b free is at f c =
     let n = ap (λ l. length l) c.pushed in
-    let same : port_of e ≡ record (port_of d) { given_gone = e.gone } = let x = c.port in let y = c.active in let z = c.pushed in cc in
+    let same : port_of e ≡ record (port_of d) { given_gone = e.gone } = let x = c.port in let y = c.active in let z = c.pushed in let p = c.places in let v = c.named in cc in
     let own : CutPort (port_of d) (port_of e) e.free = record {
       same = same;
       more = c.more.0;
-      gone = c.gone ∙ ap (λ (m : ℕ). known_out ring_places e.free m) n;
-      unread = omega (arith, c.unread, n);
+      gone = c.gone ∙ ap (λ (q : ℕ). known_out q e.free (length e.pushed)) c.places ∙ ap (λ (m : ℕ). known_out d.places e.free m) n;
+      unread = omega (arith, c.unread, c.places, n);
     } in
     rw (is, at, f) own
 
@@ -191,7 +191,7 @@ clients_cut ss ts h =
 
 ports_cut : (ds es : List DoorView) → CutDoors ds es → CutPorts (map port_of ds) (map port_of es) (map door_free es)
 ports_cut ds es h =
-    let d = new_door (record { station = record { 0 = 0 }; number = 0 }) 0 0 in (
+    let d = new_door (record { station = record { 0 = 0 }; number = 0 }) 0 0 0 in (
       length-map es port_of ∙ h.0 ∙ sym (length-map ds port_of),
       λ k x l.
           let n : k < length ds = rw length-map at l in

@@ -16,7 +16,7 @@ use Rattle.live_segment.specs.Facts.{NoneAt, PortsApart, give_door, give_all, Sa
 use Rattle.live_segment.specs.Places.{TakesAll}
 
 same_door-refl : (d : DoorView) → SameDoor d d
-same_door-refl d = record { port = refl; active = refl; pushed = refl; free = omega arith; gone = refl; spare = omega arith }
+same_door-refl d = record { port = refl; active = refl; places = refl; pushed = refl; named = refl; free = omega arith; gone = refl; spare = omega arith }
 
 pub same_doors-refl : (ds : List DoorView) → SameDoors ds ds
 same_doors-refl [] = tt
@@ -32,7 +32,9 @@ same_doors-trans (d ∷ ds) (e ∷ es) (g ∷ gs) s t = (
   record {
     port = t.0.port ∙ s.0.port;
     active = t.0.active ∙ s.0.active;
+    places = t.0.places ∙ s.0.places;
     pushed = t.0.pushed ∙ s.0.pushed;
+    named = t.0.named ∙ s.0.named;
     free = omega (arith, s.0.free, t.0.free);
     gone = t.0.gone ∙ s.0.gone;
     spare = omega (arith, s.0.spare, t.0.spare);

@@ -28,6 +28,7 @@ same_seat-spare a b c h e m =
       gone = ap (λ (x : SeatView). x.gone) e ∙ h.gone;
       kept = ap (λ (x : SeatView). x.kept) e ∙ h.kept;
       noted = ap (λ (x : SeatView). x.noted) e ∙ h.noted;
+      named = ap (λ (x : SeatView). x.named) e ∙ h.named;
       free = omega (arith, f, h.free);
       spare = omega (arith, h.spare, m);
     }

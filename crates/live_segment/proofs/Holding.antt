@@ -207,15 +207,15 @@ pops-still xs ys [] e h = tt
 pops-still xs ys (s ∷ ss) e h = (h.0 ∙ sym (e s.id), pops-still xs ys ss e h.1)
 
 -- a port was opened
-pub holds-open : (addresses : List Address) (st next : Segment) (xs : List Stored) (ws : List Owed) (ss : List SeatView) (ds : List DoorView) (station : Address) (pgn max_len free spare : ℕ) (p : PortId)
+pub holds-open : (addresses : List Address) (st next : Segment) (xs : List Stored) (ws : List Owed) (ss : List SeatView) (ds : List DoorView) (station : Address) (pgn max_len places free spare : ℕ) (p : PortId)
     → Holds addresses st xs ws ss ds → length xs + 1 < 2 ^ 64 → reply_of st (Open station pgn max_len) ≡ Opened p → next ≡ left_by st (Open station pgn max_len)
     → StandsAt addresses ((trail addresses xs).steps ++ (Open station pgn max_len, Opened p) ∷ []) next → Follows st (Open station pgn max_len) next (Opened p)
-    → Holds addresses next (xs ++ stored None (Open station pgn max_len) ∷ []) ws ss (ds ++ new_door p free spare ∷ [])
-holds-open addresses st next xs ws ss ds station pgn max_len free spare p h few r left stands f =
+    → Holds addresses next (xs ++ stored None (Open station pgn max_len) ∷ []) ws ss (ds ++ new_door p places free spare ∷ [])
+holds-open addresses st next xs ws ss ds station pgn max_len places free spare p h few r left stands f =
     let call = Open station pgn max_len in
     let x = stored None call in
     let t = trail addresses xs in
-    let d = new_door p free spare in
+    let d = new_door p places free spare in
     let snoc : trail addresses (xs ++ x ∷ []) ≡ step t x = trail-snoc addresses xs x in
     let r' : reply_of t.state call ≡ Opened p = ap (λ (s : Segment). reply_of s call) (sym h.at) ∙ r in
     let ev : t.events ++ events_of (reply_of t.state call) ≡ t.events = ap (λ (q : Reply). t.events ++ events_of q) r' ∙ append-nil t.events in

@@ -85,7 +85,7 @@ pushed_at zero es (x ∷ ds) d l h = h.0
 pushed_at (suc k) es (x ∷ ds) d l h = pushed_at k es ds d (omega arith) h.1
 
 pub port_seen : (ds : List DoorView) (k : ℕ) (q : PortId) → k < length ds → ((d : DoorView) → (get_or ds k d).port ≡ q) → (p : PortView) → (get_or (map port_of ds) k p).port ≡ q
-port_seen ds k q l h p = let d = new_door p.port 0 0 in ap (λ (x : PortView). x.port) (get_or-map port_of ds k d p l) ∙ h d
+port_seen ds k q l h p = let d = new_door p.port 0 0 0 in ap (λ (x : PortView). x.port) (get_or-map port_of ds k d p l) ∙ h d
 
 pub has_port : (ds : List DoorView) (k : ℕ) (q : PortId) → k < length ds → ((d : DoorView) → (get_or ds k d).port ≡ q) → HasPort (map port_of ds) q
 has_port ds k q l h = (k, rw length-map l, port_seen ds k q l h)
@@ -93,7 +93,7 @@ has_port ds k q l h = (k, rw length-map l, port_seen ds k q l h)
 pub no_port : (ds : List DoorView) (q : PortId) → NoneAt q ds → HasPort (map port_of ds) q → ⊥
 no_port ds q n h =
     let l : h.0 < length ds = rw length-map at h.1 in
-    let d = new_door q 0 0 in
+    let d = new_door q 0 0 0 in
     let e : (get_or ds h.0 d).port ≡ q = sym (ap (λ (x : PortView). x.port) (get_or-map port_of ds h.0 d (port_of d) l)) ∙ h.2 (port_of d) in
     let f = none_at q q h.0 ds d l e n in
     let t = same_port-refl q in

@@ -20,7 +20,7 @@ use Rattle.live_segment.specs.declared.refused.NotMade.{NotMade}
 use Rattle.live_segment.specs.declared.refused.NotMade.TheVariants as not_made
 use Rattle.live_segment.specs.Record.{trail}
 use Rattle.live_segment.specs.Past.{count_since}
-use Rattle.live_segment.specs.LiveView.{LiveView, live_view, port_of, new_port_view, stored, IsOpenCause, OpenedFor, Kept}
+use Rattle.live_segment.specs.LiveView.{LiveView, live_view, port_of, new_port_view, stored, IsOpenCause, OpenedWith, Kept}
 
 pub refused_reply : (st : Segment) (c : Refusal) (x : Answer) → Some c ≡ refusal_of x → Refused c ≡ (replied st x).1
 refused_reply st c (Ok step) e = absurd (cc)
@@ -46,10 +46,10 @@ ports_push [] d = refl
 ports_push (x ∷ ds) d = ap (λ ps. port_of x ∷ ps) (ports_push ds d)
 
 -- it was opened
-pub opened_for : (keeps : Kept) (addresses : List Address) (st : Segment) (xs ys : List Stored) (ss : List SeatView) (ds es : List DoorView) (station : Address) (pgn max_len free spare : ℕ) (p : PortId) (i : InboxEnd)
-    → st ≡ (trail addresses xs).state → i ≡ new_inbox_end p i.spare → Opened p ≡ reply_of st (Open station pgn max_len) → ys ≡ xs ++ stored None (Open station pgn max_len) ∷ [] → es ≡ ds ++ new_door p free spare ∷ []
-    → OpenedFor (live_view keeps addresses xs ss ds) (live_view keeps addresses ys ss es) station pgn max_len i
-opened_for keeps addresses st xs ys ss ds es station pgn max_len free spare p i at inbox is calls doors =
+pub opened_for : (keeps : Kept) (addresses : List Address) (st : Segment) (xs ys : List Stored) (ss : List SeatView) (ds es : List DoorView) (station : Address) (pgn max_len places free spare : ℕ) (p : PortId) (i : InboxEnd)
+    → st ≡ (trail addresses xs).state → i ≡ new_inbox_end p i.spare → Opened p ≡ reply_of st (Open station pgn max_len) → ys ≡ xs ++ stored None (Open station pgn max_len) ∷ [] → es ≡ ds ++ new_door p places free spare ∷ []
+    → OpenedWith (live_view keeps addresses xs ss ds) (live_view keeps addresses ys ss es) station pgn max_len places i
+opened_for keeps addresses st xs ys ss ds es station pgn max_len places free spare p i at inbox is calls doors =
     let own : p ≡ i.port = sym (ap (λ (x : InboxEnd). x.port) inbox) in
     record {
       inbox = inbox ∙ ap (λ (q : PortId). new_inbox_end q i.spare) own;
@@ -59,7 +59,7 @@ opened_for keeps addresses st xs ys ss ds es station pgn max_len free spare p i 
       pieces = refl;
       calls = calls;
       clients = refl;
-      ports = ap (map port_of) doors ∙ ports_push ds (new_door p free spare) ∙ ap (λ (q : PortId). map port_of ds ++ new_port_view q ∷ []) own;
+      ports = ap (map port_of) doors ∙ ports_push ds (new_door p places free spare) ∙ ap (λ (q : PortId). map port_of ds ++ new_port_view q places ∷ []) own;
     }
 
 -- what a `?` makes of want of memory

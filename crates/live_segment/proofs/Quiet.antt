@@ -5,7 +5,7 @@ use Rattle.std.proofs.lemmas.Bool.{false≢true}
 use Rattle.std.proofs.lemmas.List.{length-map, get_or-map, get_or_default, drop_more}
 use Rattle.pgn_ids.specs.declared.address.Address.{Address}
 use Rattle.segment_rings.specs.declared.words.Note.{Note}
-use Rattle.segment_rings.specs.Views.{SeatView, DoorView, CutSeat, closed_seat, new_seat}
+use Rattle.segment_rings.specs.Views.{SeatView, DoorView, CutSeat, closed_seat, named_seat, new_seat}
 use Rattle.stored_calls.specs.declared.stored.Stored.{Stored}
 use Rattle.live_segment.specs.Facts.{note_all, SameSeats, CutSeats}
 use Rattle.live_segment.specs.Homes.{IsSilent, AreSilent, AreQuiet, OnlyAt}
@@ -75,6 +75,11 @@ quiet-cut ms ss ts c q = quiet-all_cut ms ss ts (all_cut ss ts c) q
 
 pub quiet-close : (ms : List Bool) (k : ℕ) (ss : List SeatView) (s : SeatView) → AreQuiet ms ss → AreQuiet ms (set ss k (closed_seat s))
 quiet-close ms k ss s q = quiet-set ms k ss (closed_seat s) (λ _. inl refl) q
+
+pub quiet-name : (ms : List Bool) (k : ℕ) (ss : List SeatView) (d : SeatView) → AreQuiet ms ss → AreQuiet ms (set ss k (named_seat (get_or ss k d)))
+quiet-name ms k [] d q = tt
+quiet-name ms zero (s ∷ ss) d q = (q.0, q.1)
+quiet-name ms (suc k) (s ∷ ss) d q = (q.0, quiet-name ms k ss d q.1)
 
 -- one seat alone has changed
 

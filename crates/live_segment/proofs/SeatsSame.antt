@@ -53,11 +53,11 @@ notes-same ns (x ∷ ss) (t ∷ ts) s h =
     (end-same x.gone t.gone x.kept t.kept (notes_of x.id ns) (notes_of t.id ns) s.0.gone s.0.kept (sym i) h.0, rw (s.0.active, s.0.noted) own, notes-same ns ss ts s.1 h.2)
 
 pub same_seat-refl : (s : SeatView) → SameSeat s s
-same_seat-refl s = record { id = refl; station = refl; active = refl; popped = refl; gone = refl; kept = refl; noted = refl; free = omega arith; spare = omega arith }
+same_seat-refl s = record { id = refl; station = refl; active = refl; popped = refl; gone = refl; kept = refl; noted = refl; named = refl; free = omega arith; spare = omega arith }
 
 pub same_seats-refl : (ss : List SeatView) → SameSeats ss ss
 same_seats-refl [] = tt
-same_seats-refl (s ∷ ss) = (record { id = refl; station = refl; active = refl; popped = refl; gone = refl; kept = refl; noted = refl; free = omega arith; spare = omega arith }, same_seats-refl ss)
+same_seats-refl (s ∷ ss) = (record { id = refl; station = refl; active = refl; popped = refl; gone = refl; kept = refl; noted = refl; named = refl; free = omega arith; spare = omega arith }, same_seats-refl ss)
 
 pub same_seats-trans : (ss ts us : List SeatView) → SameSeats ss ts → SameSeats ts us → SameSeats ss us
 same_seats-trans [] [] [] s t = tt
@@ -74,6 +74,7 @@ same_seats-trans (x ∷ ss) (y ∷ ts) (u ∷ us) s t = (
     gone = t.0.gone ∙ s.0.gone;
     kept = t.0.kept ∙ s.0.kept;
     noted = t.0.noted ∙ s.0.noted;
+    named = t.0.named ∙ s.0.named;
     free = omega (arith, s.0.free, t.0.free);
     spare = omega (arith, s.0.spare, t.0.spare);
   },
@@ -83,10 +84,10 @@ same_seats-trans (x ∷ ss) (y ∷ ts) (u ∷ us) s t = (
 pub same_seats-set : (ss : List SeatView) (i : ℕ) (d t : SeatView) → i < length ss → SameSeat (get_or ss i d) t → SameSeats ss (set ss i t)
 same_seats-set [] i d t l s = absurd (omega arith)
 same_seats-set (x ∷ ss) zero d t l s = (s, same_seats-refl ss)
-same_seats-set (x ∷ ss) (suc i) d t l s = (record { id = refl; station = refl; active = refl; popped = refl; gone = refl; kept = refl; noted = refl; free = omega arith; spare = omega arith }, same_seats-set ss i d t (omega arith) s)
+same_seats-set (x ∷ ss) (suc i) d t l s = (record { id = refl; station = refl; active = refl; popped = refl; gone = refl; kept = refl; noted = refl; named = refl; free = omega arith; spare = omega arith }, same_seats-set ss i d t (omega arith) s)
 
 client-same : (s t : SeatView) → SameSeat s t → client_of t ≡ client_of s
-client-same s t h = let a = h.station in let b = h.active in let c = h.popped in let d = h.noted in let e = h.gone in cc
+client-same s t h = let a = h.station in let b = h.active in let c = h.popped in let d = h.noted in let e = h.gone in let f = h.named in cc
 
 pub clients-same : (ss ts : List SeatView) → SameSeats ss ts → map client_of ts ≡ map client_of ss
 clients-same [] [] s = refl
@@ -98,4 +99,4 @@ pub ports-same : (ds es : List DoorView) → SameDoors ds es → map port_of es 
 ports-same [] [] s = refl
 ports-same [] (t ∷ ts) s = absurd s
 ports-same (x ∷ ss) [] s = absurd s
-ports-same (x ∷ ss) (t ∷ ts) s = let a = s.0.port in let b = s.0.active in let c = s.0.pushed in let g = s.0.gone in let d = ports-same ss ts s.1 in cc
+ports-same (x ∷ ss) (t ∷ ts) s = let a = s.0.port in let b = s.0.active in let c = s.0.pushed in let g = s.0.gone in let p = s.0.places in let n = s.0.named in let d = ports-same ss ts s.1 in cc

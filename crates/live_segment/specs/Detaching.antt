@@ -1,5 +1,5 @@
 -- A client is detached.
-use Rattle.std.specs.Prelude.{◌≡◌, ℕ, Bool, true, false, cond, slice_get, Option, Some, None}
+use Rattle.std.specs.Prelude.{◌≡◌, ℕ, cond, slice_get, Option, Some, None}
 use Rattle.live_segment.specs.LiveView.{LiveView, ClientView}
 use Rattle.live_segment.specs.Reports.{gone}
 use Rattle.live_segment.specs.declared.detaching.NotDetached.{NotDetached}

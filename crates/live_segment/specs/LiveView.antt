@@ -16,7 +16,7 @@ use Rattle.reply_law.specs.Replies.{reply_of}
 use Rattle.segment_rings.specs.declared.words.Submission.{Submission}
 use Rattle.segment_rings.specs.declared.words.Note.{Note}
 use Rattle.segment_rings.specs.declared.words.Delivery.{Delivery}
-use Rattle.segment_rings.specs.Ends.{ClientEnd, new_client_end, InboxEnd, new_inbox_end}
+use Rattle.segment_rings.specs.Ends.{ClientEnd, new_client_end, InboxEnd, new_inbox_end, ring_places}
 use Rattle.segment_rings.specs.Views.{SeatView, DoorView, noted_after}
 use Rattle.stored_calls.specs.declared.stored.Stored.{Stored}
 use Rattle.live_segment.specs.declared.call.WorkerCall.{WorkerCall}
@@ -29,19 +29,24 @@ use Rattle.live_segment.specs.Facts.{HasNotes, HaveSenders}
 use Rattle.live_segment.specs.declared.calls.Piece.{Piece}
 use Rattle.live_segment.specs.Past.{count_since, since, HasPast}
 
--- popped, noted: what went out of the client's submissions and into its notes; notes_gone: how many of its first notes are kept no more
+-- popped, noted: what went out of the client's submissions and into its notes; named: how many notes there were when it was last named
+-- among those that have news; notes_gone: how many of its first notes are kept no more
 pub record ClientView : Type 0 where
   pub station : Address
   pub active : Bool
   pub popped : List Submission
   pub noted : List Note
+  pub named : ℕ
   pub notes_gone : ℕ
 
--- pushed: what it was given; given_gone: how much of that, from the first delivery on, is kept no more
+-- places: how many its ring has; pushed: what it was given; named: how much of that there was when it was last named among those that
+-- have news; given_gone: how much, from the first delivery on, is kept no more
 pub record PortView : Type 0 where
   pub port : PortId
   pub active : Bool
+  pub places : ℕ
   pub pushed : List Delivery
+  pub named : ℕ
   pub given_gone : ℕ
 
 -- the stations' addresses, the pieces that were handed out, all calls that were made, the clients by their ids, the ports in the order
@@ -59,7 +64,7 @@ pub record LiveView : Type 0 where
   pub stopped : Bool
 
 abbrev pub client_of : SeatView → ClientView
-client_of s = record { station = s.station; active = s.active; popped = s.popped; noted = s.noted; notes_gone = s.gone }
+client_of s = record { station = s.station; active = s.active; popped = s.popped; noted = s.noted; named = s.named; notes_gone = s.gone }
 
 -- the stations of clients, in the order of their ids
 abbrev pub client_station : ClientView → Address
@@ -69,7 +74,7 @@ abbrev pub stations_of : List ClientView → List Address
 stations_of cs = map client_station cs
 
 abbrev pub port_of : DoorView → PortView
-port_of d = record { port = d.port; active = d.active; pushed = d.pushed; given_gone = d.gone }
+port_of d = record { port = d.port; active = d.active; places = d.places; pushed = d.pushed; named = d.named; given_gone = d.gone }
 
 abbrev pub seat_seen : SeatView → List Submission
 seat_seen s = s.ahead
@@ -175,7 +180,7 @@ pub record LacksMemory (a : LiveView) (call : WorkerCall) : Type 0 where
   pub passes : (room : Bool) → refusal_of (called (trail a.addresses a.calls).state (call_of call room)) ≡ None
 
 abbrev pub new_client : Address → ClientView
-new_client station = record { station = station; active = true; popped = []; noted = []; notes_gone = 0 }
+new_client station = record { station = station; active = true; popped = []; noted = []; named = 0; notes_gone = 0 }
 
 abbrev pub is_station_of : List Address → Address → Bool
 is_station_of addresses a = list_any (λ b. b.0 == a.0) addresses
@@ -209,8 +214,8 @@ pub record Laws (v : LiveView) : Type 0 where
   pub senders : HaveSenders (stations_of v.clients) v.calls
   pub uncut : KeepsUncut v.pieces v.clients v.ports
 
-abbrev pub new_port_view : PortId → PortView
-new_port_view p = record { port = p; active = true; pushed = []; given_gone = 0 }
+abbrev pub new_port_view : PortId → (places : ℕ) → PortView
+new_port_view p places = record { port = p; active = true; places = places; pushed = []; named = 0; given_gone = 0 }
 
 -- why a port isn't opened: the segment refuses the Open, or else no more calls can be stored; or, if neither holds, for want of memory
 abbrev pub IsOpenCause : LiveView → (station : Address) → (pgn max_len : ℕ) → NotMade → Type 0
@@ -218,8 +223,8 @@ IsOpenCause a station pgn max_len not_made.OutOfMemory = (refusal_of (called (tr
 IsOpenCause a station pgn max_len (not_made.Refused c) = (Refused c ≡ reply_of (trail a.addresses a.calls).state (Open station pgn max_len))
     ⊎ ((c ≡ TraceFull) × (refusal_of (called (trail a.addresses a.calls).state (Open station pgn max_len)) ≡ None) × (1000000 ≤ stored_calls a))
 
--- the Open was added, and the inbox is of the port that it opened
-pub record OpenedFor (a b : LiveView) (station : Address) (pgn max_len : ℕ) (i : InboxEnd) : Type 0 where
+-- the Open was added, and the inbox, whose ring has so many places, is of the port that it opened
+pub record OpenedWith (a b : LiveView) (station : Address) (pgn max_len places : ℕ) (i : InboxEnd) : Type 0 where
   pub inbox : i ≡ new_inbox_end i.port i.spare
   pub reply : Opened i.port ≡ reply_of (trail a.addresses a.calls).state (Open station pgn max_len)
   pub addresses : b.addresses ≡ a.addresses
@@ -227,4 +232,8 @@ pub record OpenedFor (a b : LiveView) (station : Address) (pgn max_len : ℕ) (i
   pub pieces : b.pieces ≡ a.pieces
   pub calls : b.calls ≡ a.calls ++ stored None (Open station pgn max_len) ∷ []
   pub clients : b.clients ≡ a.clients
-  pub ports : b.ports ≡ a.ports ++ new_port_view i.port ∷ []
+  pub ports : b.ports ≡ a.ports ++ new_port_view i.port places ∷ []
+
+-- an inbox whose ring has as many places as any other
+abbrev pub OpenedFor : (a b : LiveView) → (station : Address) → (pgn max_len : ℕ) → InboxEnd → Type 0
+OpenedFor a b station pgn max_len i = OpenedWith a b station pgn max_len ring_places i

@@ -31,8 +31,8 @@ pub record CutClient (a b : ClientView) (free : ℕ) : Type 0 where
 pub record CutPort (a b : PortView) (free : ℕ) : Type 0 where
   pub same : b ≡ record a { given_gone = b.given_gone }
   pub more : a.given_gone ≤ b.given_gone
-  pub gone : b.given_gone ≡ known_out ring_places free (length a.pushed)
-  pub unread : b.given_gone + ring_places ≤ length a.pushed + free
+  pub gone : b.given_gone ≡ known_out a.places free (length a.pushed)
+  pub unread : b.given_gone + a.places ≤ length a.pushed + free
 
 abbrev pub CutClients : List ClientView → List ClientView → (free : List ℕ) → Type 0
 CutClients old new free = (length new ≡ length old) × ((c : ℕ) (x : ClientView) → c < length old → CutClient (slice_index_or old c x) (slice_index_or new c x) (slice_index free c))

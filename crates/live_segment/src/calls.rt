@@ -1,6 +1,6 @@
 //! The calls that were made: those that are stored, and the pieces in which those before them were handed out.
 use crate::offer::MOST_CALLS;
-use segment_core::Image;
+use segment_core::{Call, Image};
 use segment_rings::Outlet;
 use std::alloc::{AllocError, Global};
 use std::marker::Model;
@@ -20,6 +20,7 @@ pub(crate) struct Calls {
     outlet: Outlet<Piece>,
     cuts: u64,
     before: u64,
+    turned_away: u64,
     image: Option<Image>,
 }
 
@@ -27,6 +28,7 @@ impl Model for Calls {
     ghost use Rattle.std.specs.Prelude.{◌≡◌, ◌+◌, ◌<◌, ◌≤◌, ◌^◌, ◌++◌, length};
     ghost use Rattle.live_segment.specs.Past.{CallsView, joined, NumberedAfter};
     ghost use Rattle.live_segment.specs.PastCode.{calls_code};
+    ghost use Rattle.live_segment.specs.TurnedAway.{count_turned_away};
 
     ghost Value = { CallsView };
 
@@ -34,7 +36,7 @@ impl Model for Calls {
 
     ghost view = { λ c. record { pieces = c.outlet; items = joined c.outlet ++ c.stored.items; image = c.image; spare = c.stored.spare } };
 
-    ghost invariant = { λ c. (c.cuts ≡ length c.outlet) × (c.before ≡ length (joined c.outlet)) × (c.before + 1000000 < 2 ^ 64) × (length c.stored.items ≤ 1000000) × NumberedAfter 0 c.outlet };
+    ghost invariant = { λ c. (c.cuts ≡ length c.outlet) × (c.before ≡ length (joined c.outlet)) × (c.before + 1000000 < 2 ^ 64) × (length c.stored.items ≤ 1000000) × NumberedAfter 0 c.outlet × (c.turned_away ≡ count_turned_away (joined c.outlet ++ c.stored.items)) };
 }
 
 impl Drop for Calls {
@@ -44,14 +46,31 @@ impl Drop for Calls {
             outlet: _,
             cuts: _,
             before: _,
+            turned_away: _,
             image: _,
         } = self;
+    }
+}
+
+ghost use Rattle.std.specs.Prelude.{◌≡◌, ℕ, cond};
+ghost use Rattle.live_segment.specs.TurnedAway.{is_turned_away};
+
+// 1 for a call that gives without room for what it gives, and else 0.
+#[inline(always)]
+fn turned_away_by(call: &Call) -> u64
+    ensures { result ≡ cond {A = ℕ} (is_turned_away call.now) 1 0 }
+{
+    match call {
+        Call::Take { station: _, room } => u64::from(!*room),
+        Call::TakeAgain { station: _, room } => u64::from(!*room),
+        _ => 0,
     }
 }
 
 impl Calls {
     ghost use Rattle.std.specs.Prelude.{◌≡◌, ◌≤◌, ◌<◌, ◌+◌, ◌^◌, [], ◌∷◌, ◌++◌, length, IfOk, OnOk, IsTrue, IsFalse, ◌↔◌, Some, None};
     ghost use Rattle.live_segment.specs.Past.{CallsView, joined, since, count_since, HasPast, IsPastCounts, HasCounts};
+    ghost use Rattle.live_segment.specs.TurnedAway.{count_turned_away};
 
     /// No calls. It takes memory for what hands pieces out.
     pub(crate) fn new(alloc: Global) -> Result<Calls, AllocError>
@@ -65,6 +84,7 @@ impl Calls {
             outlet,
             cuts: 0,
             before: 0,
+            turned_away: 0,
             image: None,
         })
     }
@@ -88,6 +108,13 @@ impl Calls {
         ensures { result ≡ count_since self.now.pieces self.now.items }
     {
         self.stored.len()
+    }
+
+    /// How many of all calls gave without room.
+    pub(crate) fn turned_away(&self) -> u64
+        ensures { result ≡ count_turned_away self.now.items }
+    {
+        self.turned_away
     }
 
     /// Whether no more calls can be stored.
@@ -138,6 +165,7 @@ impl Calls {
         ensures pieces { self.new.pieces ≡ self.old.pieces }
         ensures image { self.new.image ≡ self.old.image }
     {
+        self.turned_away += turned_away_by(&call.call);
         self.stored.push_reserved(call);
     }
 

@@ -3,6 +3,7 @@ ghost use Rattle.std.specs.Prelude.{◌≡◌, ◌<◌, ◌≤◌, length, slice
 ghost use Rattle.segment_rings.specs.Ends.{closes};
 ghost use Rattle.segment_rings.specs.Views.{DoorView, closed_door};
 
+use crate::all_doors::Doors;
 use crate::compare::copy_deliveries;
 use crate::ending::{inbox_agrees, report_inbox};
 use crate::live::Live;
@@ -13,7 +14,7 @@ use crate::report::InboxReport;
 use crate::step::make;
 use crate::tell::tell;
 use segment_core::{Call, PortId, Refusal, Reply};
-use segment_rings::{Delivery, Door, Inbox};
+use segment_rings::{Delivery, Inbox};
 use std::alloc::AllocError;
 use stored_calls::Stored;
 
@@ -25,14 +26,13 @@ pub struct Closed {
 }
 
 // Hands the rest to an inbox, and gives nothing more to its port.
-fn hand_over(doors: &mut Vec<Door>, k: usize, inbox: &mut Inbox, kept: Vec<Delivery>)
+fn hand_over(doors: &mut Doors, k: usize, inbox: &mut Inbox, kept: Vec<Delivery>)
     requires within { k < length doors.old.items }
     requires room { length kept.items ≤ inbox.old.spare }
     ensures doors { (d : DoorView) → doors.new.items ≡ slice_set doors.old.items k (closed_door (slice_index_or doors.old.items k d)) }
     ensures inbox { inbox.new ≡ closes inbox.old kept.items inbox.new.spare }
 {
-    let door = &mut doors[k];
-    door.close();
+    doors.close(k);
     inbox.close(kept);
 }
 

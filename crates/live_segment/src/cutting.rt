@@ -21,8 +21,8 @@ pub(crate) fn cut_seats(seats: &mut Vec<Seat>)
     }
 }
 
-// Each port's deliveries that are known to be received are kept no more.
-fn cut_doors(doors: &mut Vec<Door>)
+/// Each port's deliveries that are known to be received are kept no more.
+pub(crate) fn cut_doors(doors: &mut Vec<Door>)
     ensures { CutDoors doors.old.items doors.new.items }
 {
     for k in 0..doors.len() {
@@ -50,7 +50,7 @@ impl Live {
         }
         let image = self.segment.image()?;
         self.seats.cut_seats();
-        cut_doors(&mut self.doors);
+        self.doors.cut_doors();
         Ok(self.calls.cut(self.alloc, image))
     }
 

@@ -302,8 +302,7 @@ impl Live {
         ensures ports { self.new.ports ≡ map (closing port) self.old.ports }
     {
         if let Some(k) = door_of(self.doors.as_slice(), port) {
-            let door = &mut self.doors[k];
-            door.close();
+            self.doors.close(k);
         }
     }
 }

@@ -8,6 +8,7 @@
 //! the calls of its record.
 #![tactic(auto)]
 
+mod all_doors;
 mod call;
 mod calls;
 mod closing;
@@ -18,6 +19,7 @@ mod ending;
 mod hand;
 mod home;
 mod live;
+mod news;
 mod offer;
 mod places;
 mod readers;
@@ -37,11 +39,14 @@ pub use closing::Closed;
 pub use detaching::NotDetached;
 pub use ending::{client_agrees, finish, inbox_agrees, pieces_begin};
 pub use live::Live;
+pub use news::News;
 pub use offer::MOST_CALLS;
 pub use refused::{Accepted, NotMade};
 pub use rejoining::{RejoinRefused, rejoin};
 pub use report::{ClientReport, FinishRefused, InboxReport, Report};
 pub use segment_core::{Bytes, Event, Events, PortId, Refusal, Reply};
-pub use segment_rings::{Client, Delivery, Inbox, Note, Submission, SubmitRefused};
+pub use segment_rings::{
+    Client, Delivery, Inbox, MOST_PLACES, Note, Places, Submission, SubmitRefused,
+};
 pub use stored_calls::{Stored, StoredCalls};
 pub use turns::Turn;

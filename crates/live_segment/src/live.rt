@@ -2,6 +2,7 @@
 ghost use Rattle.std.specs.Prelude.{◌≡◌, ◌≤◌, map, true};
 ghost use Rattle.live_segment.specs.LiveView.{is_station_of, clients_at, client_of};
 
+use crate::all_doors::Doors;
 use crate::call::{Owed, WorkerCall};
 use crate::calls::Calls;
 use crate::offer::Ready;
@@ -13,7 +14,7 @@ use crate::tell::tell;
 use pgn_ids::{Address, Pgn};
 use segment_core::{Call, Events, Made, NewRefused, Refusal, Reply, Segment, the_headline_holds};
 use segment_law::Counts;
-use segment_rings::{Client, Door, Doorway, Inbox, Seat};
+use segment_rings::{Client, Doorway, Inbox, Places, Seat};
 use std::alloc::{AllocError, Global};
 use std::marker::Model;
 use stored_calls::{Stored, StoredCalls};
@@ -36,7 +37,7 @@ pub struct Live {
     pub(crate) calls: Calls,
     pub(crate) owed: Vec<Owed>,
     pub(crate) seats: Seats,
-    pub(crate) doors: Vec<Door>,
+    pub(crate) doors: Doors,
     pub(crate) stopped: bool,
 }
 
@@ -76,8 +77,9 @@ impl Live {
     ghost use Rattle.segment_law.specs.declared.reply.Reply.TheVariants.{Refused};
     ghost use Rattle.segment_law.specs.declared.refusal.Refusal.TheVariants.{TraceFull};
     ghost use Rattle.live_segment.specs.Record.{trail};
-    ghost use Rattle.live_segment.specs.LiveView.{live_view, keep, stored_calls, since_cut, halted, SameLive, Applied, LacksMemory, Attached, Laws, OpenedFor, IsOpenCause};
+    ghost use Rattle.live_segment.specs.LiveView.{live_view, keep, stored_calls, since_cut, halted, SameLive, Applied, LacksMemory, Attached, Laws, OpenedFor, OpenedWith, IsOpenCause};
     ghost use Rattle.live_segment.specs.Offers.{AcceptedAs, LacksMemoryFor, IsAtRest};
+    ghost use Rattle.live_segment.specs.TurnedAway.{count_turned_away};
     ghost use Rattle.live_segment.specs.Refusals.{IsAnsweredBy, making_refusal, attaching_refusal};
     ghost use Rattle.std.specs.Result.{result_err};
 
@@ -107,7 +109,7 @@ impl Live {
             calls,
             owed: Vec::new(alloc),
             seats,
-            doors: Vec::new(alloc),
+            doors: Doors::new(alloc),
             stopped: false,
         })
     }
@@ -125,6 +127,14 @@ impl Live {
         ensures { result ≡ (trail self.now.addresses self.now.calls).state.counts }
     {
         self.segment.counts()
+    }
+
+    /// How many messages were turned away, since the ring of an inbox had no place for them, or its port was closed: so often was a call
+    /// that gives made without room.
+    pub fn turned_away(&self) -> u64
+        ensures { result ≡ count_turned_away self.now.calls }
+    {
+        self.calls.turned_away()
     }
 
     /// What went through the rings is what the stored calls say. Each stored Send has a client of the station that it is from, and any
@@ -337,12 +347,29 @@ impl Live {
         self.seats.hush(station);
     }
 
-    /// Opens a port, and returns its inbox.
+    /// Opens a port, and returns its inbox, whose ring has 64 places.
+    ///
+    /// It is refused as `open_port_with` is.
+    pub fn open_port(&mut self, station: Address, pgn: Pgn, max_len: u32) -> Result<Inbox, NotMade>
+        ensures opened { IfOk result (λ i. OpenedFor self.old self.new station pgn max_len i) }
+        ensures refused { IfErr result (λ e. IsOpenCause self.old station pgn max_len e) }
+        ensures err { OnErr result (self.new ≡ self.old) }
+    {
+        self.open_port_with(station, pgn, max_len, Places::usual())
+    }
+
+    /// Opens a port, and returns its inbox, whose ring has so many places.
     ///
     /// Refused if the segment refuses the Open, and then if no more calls can be stored. Want of memory is returned only if neither
     /// holds. These and want of memory change nothing.
-    pub fn open_port(&mut self, station: Address, pgn: Pgn, max_len: u32) -> Result<Inbox, NotMade>
-        ensures opened { IfOk result (λ i. OpenedFor self.old self.new station pgn max_len i) }
+    pub fn open_port_with(
+        &mut self,
+        station: Address,
+        pgn: Pgn,
+        max_len: u32,
+        places: Places,
+    ) -> Result<Inbox, NotMade>
+        ensures opened { IfOk result (λ i. OpenedWith self.old self.new station pgn max_len places i) }
         ensures refused { IfErr result (λ e. IsOpenCause self.old station pgn max_len e) }
         ensures err { OnErr result (self.new ≡ self.old) }
     {
@@ -353,9 +380,9 @@ impl Live {
         if self.calls.is_full() {
             return Err(NotMade::Refused(Refusal::TraceFull));
         }
-        let doorway = Doorway::new(self.alloc)?;
+        let doorway = Doorway::with_places(self.alloc, places)?;
         self.calls.reserve()?;
-        self.doors.reserve(1)?;
+        self.doors.reserve()?;
         let call = Call::Open {
             station,
             pgn,

@@ -9,6 +9,7 @@ ghost use Rattle.reply_law.specs.Replies.{reply_of, left_by, Follows};
 ghost use Rattle.live_segment.specs.Facts.{NoneAt, PortsApart, SameDoors};
 ghost use Rattle.live_segment.specs.Places.{times, IsPlaceIn, RoomAt, LacksRoom, HavePlaces, LacksPlace, AtLeast, IsFound};
 
+use crate::all_doors::Doors;
 use crate::call::WorkerCall;
 use crate::calls::Calls;
 use crate::step::{make_telling, make_ungiven};
@@ -43,8 +44,12 @@ pub(crate) fn count(numbers: &[u64], number: u64) -> usize
     times
 }
 
-// Looks for so many places in a port's ring, if the port has one.
-fn prepare(doors: &mut Vec<Door>, port: PortId, needed: usize) -> Result<bool, AllocError>
+/// Looks for so many places in a port's ring, if the port has one.
+pub(crate) fn prepare(
+    doors: &mut Vec<Door>,
+    port: PortId,
+    needed: usize,
+) -> Result<bool, AllocError>
     requires { PortsApart doors.old.items }
     ensures same { SameDoors doors.old.items doors.new.items }
     ensures ready { IfOk result (λ r. IsTrue r → RoomAt port needed doors.new.items) }
@@ -58,7 +63,7 @@ fn prepare(doors: &mut Vec<Door>, port: PortId, needed: usize) -> Result<bool, A
 }
 
 // Looks for a place in the ring of each port of a station with these numbers.
-fn prepare_all(doors: &mut Vec<Door>, station: Address, numbers: &[u64]) -> Result<bool, AllocError>
+fn prepare_all(doors: &mut Doors, station: Address, numbers: &[u64]) -> Result<bool, AllocError>
     requires { PortsApart doors.old.items }
     ensures same { SameDoors doors.old.items doors.new.items }
     ensures ready { IfOk result (λ r. IsTrue r → HavePlaces station numbers.now doors.new.items) }
@@ -69,7 +74,7 @@ fn prepare_all(doors: &mut Vec<Door>, station: Address, numbers: &[u64]) -> Resu
             station,
             number: *number,
         };
-        if !prepare(doors, port, count(numbers, *number))? {
+        if !doors.prepare(port, count(numbers, *number))? {
             return Ok(false);
         }
     }
@@ -101,7 +106,7 @@ pub(crate) struct Found {
 fn find_places(
     alloc: Global,
     segment: &Segment,
-    doors: &mut Vec<Door>,
+    doors: &mut Doors,
     call: &WorkerCall,
 ) -> Result<Option<Vec<Buffer>>, AllocError>
     requires { PortsApart doors.old.items }
@@ -123,7 +128,7 @@ fn find_places(
 fn make_giving(
     alloc: Global,
     segment: &mut Segment,
-    doors: &mut Vec<Door>,
+    doors: &mut Doors,
     call: WorkerCall,
     told: &mut Events,
 ) -> Result<Found, AllocError>
@@ -164,7 +169,7 @@ pub(crate) fn make_found(
     alloc: Global,
     segment: &mut Segment,
     calls: &mut Calls,
-    doors: &mut Vec<Door>,
+    doors: &mut Doors,
     call: &WorkerCall,
     told: &mut Events,
 ) -> Result<Found, AllocError>

@@ -61,7 +61,7 @@ impl Live {
         ensures { MatchOption result (HasPort self.now.ports port → ⊥) (λ ds. HasPort self.now.ports port × (ds.now ≡ drop (given_gone self.now port) (given port (trail self.now.addresses self.now.calls).events))) }
     {
         match door_of(self.doors.as_slice(), port) {
-            Some(k) => Some(self.doors[k].deliveries()),
+            Some(k) => Some(self.doors.get(k).deliveries()),
             None => None,
         }
     }
@@ -71,7 +71,7 @@ impl Live {
         ensures { MatchOption result (HasPort self.now.ports port → ⊥) (λ n. HasPort self.now.ports port × (n ≡ given_gone self.now port)) }
     {
         match door_of(self.doors.as_slice(), port) {
-            Some(k) => Some(self.doors[k].gone()),
+            Some(k) => Some(self.doors.get(k).gone()),
             None => None,
         }
     }

@@ -6,32 +6,38 @@ use crate::calls::Calls;
 use crate::cutting::cut_seats as cut_each;
 use crate::home::Home;
 use crate::offer::{Ready, find_ready, store as store_front};
-use crate::settle::{settle as settle_all, settle_event as settle_first};
+use crate::settle::settle_event as settle_one;
 use pgn_ids::Address;
 use segment_core::{Event, Segment};
 use segment_rings::{Bell, Seat};
 use std::alloc::{AllocError, Global};
+use std::collections::VecDeque;
 use std::marker::Model;
 
 /// How many values an address has.
 const ADDRESSES: usize = 256;
 
-/// The seats by the numbers of their clients, and what is known of the clients of each address.
+/// The seats by the numbers of their clients, what is known of the clients of each address, and the numbers of those that have news,
+/// each of which is named once.
 #[derive(Drop)]
 pub(crate) struct Seats {
     seats: Vec<Seat>,
     homes: Vec<Home>,
+    news: VecDeque<usize>,
 }
 
 impl Model for Seats {
-    ghost use Rattle.std.specs.Prelude.{◌-◌, vec_len, vec_capacity};
+    ghost use Rattle.std.specs.Prelude.{◌-◌, min, vec_len, vec_capacity};
+    ghost use Rattle.std.specs.VecDeque.{deque_capacity};
+    ghost use Rattle.segment_rings.specs.Views.{has_noted_news};
     ghost use Rattle.live_segment.specs.Homes.{SeatsView, AreQuiet};
+    ghost use Rattle.live_segment.specs.Waiting.{Waits};
 
     ghost Value = { SeatsView };
 
-    ghost view = { λ s. record { items = s.seats.items; spare = vec_capacity s.seats - vec_len s.seats } };
+    ghost view = { λ s. record { items = s.seats.items; spare = min (vec_capacity s.seats) (deque_capacity s.news) - vec_len s.seats } };
 
-    ghost invariant = { λ s. AreQuiet s.homes.items s.seats.items };
+    ghost invariant = { λ s. AreQuiet s.homes.items s.seats.items × Waits has_noted_news s.seats.items s.news.items (deque_capacity s.news) };
 }
 
 ghost use Rattle.std.specs.Prelude.{◌≡◌, List, true, false, IsTrue, IsFalse, slice_index_or};
@@ -73,8 +79,8 @@ fn listen(homes: &mut Vec<Home>, station: Address) -> bool
 }
 
 impl Seats {
-    ghost use Rattle.std.specs.Prelude.{◌≡◌, ◌<◌, ◌≤◌, ◌+◌, ◌-◌, ◌^◌, ℕ, [], ◌∷◌, ◌++◌, length, true, false, Option, Some, None, IfOk, OnOk, OnErr, IsFalse, slice_index_or, slice_set, vec_len, vec_capacity};
-    ghost use Rattle.segment_rings.specs.Views.{SeatView, closed_seat};
+    ghost use Rattle.std.specs.Prelude.{◌≡◌, ◌<◌, ◌≤◌, ◌+◌, ◌-◌, ◌^◌, ℕ, [], ◌∷◌, ◌++◌, length, true, false, Option, Some, None, MatchOption, IfOk, OnOk, OnErr, IsFalse, slice_index_or, slice_set, vec_len, vec_capacity};
+    ghost use Rattle.segment_rings.specs.Views.{SeatView, closed_seat, has_noted_news, named_seat};
     ghost use Rattle.segment_rings.specs.declared.words.Submission.{Submission};
     ghost use Rattle.live_segment.specs.Record.{settle_notes, settle_owed, notes_at, owed_after};
     ghost use Rattle.live_segment.specs.Past.{count_since};
@@ -94,6 +100,7 @@ impl Seats {
         Ok(Seats {
             seats: Vec::new(alloc),
             homes,
+            news: VecDeque::new(alloc),
         })
     }
 
@@ -119,18 +126,21 @@ impl Seats {
         &self.seats[k]
     }
 
-    /// Makes room for one more.
+    /// Makes room for one more, and for its news.
     pub(crate) fn reserve(&mut self) -> Result<(), AllocError>
         ensures items { self.new.items ≡ self.old.items }
         ensures ok { OnOk result (0 < self.new.spare) }
     {
+        let wanted = (self.seats.len() + 1).saturating_sub(self.news.len());
+        self.news.reserve(wanted)?;
         self.seats.reserve(1)
     }
 
-    /// Puts one more, of which nothing is seen. There is room for it.
+    /// Puts one more, of which nothing is seen, and which has no news. There is room for it.
     pub(crate) fn push_reserved(&mut self, seat: Seat)
         requires spare { 0 < self.old.spare }
         requires silent { seat.ahead ≡ [] }
+        requires none { has_noted_news seat ≡ false }
         ensures items { self.new.items ≡ self.old.items ++ seat ∷ [] }
     {
         self.seats.push_reserved(seat);
@@ -214,7 +224,9 @@ impl Seats {
         ensures owed { owed.new.items ≡ owed_after owed.old.items event.now }
         ensures seats { self.new.items ≡ note_all (notes_at owed.old.items event.now) self.old.items }
     {
-        settle_first(owed, &mut self.seats, event);
+        if let Some(k) = settle_one(owed, &mut self.seats, event) {
+            self.news.push_back_reserved(k);
+        }
     }
 
     /// Makes the notes of all outcomes among the events.
@@ -229,7 +241,9 @@ impl Seats {
         ensures within { OwedWithin (length self.new.items) owed.new.items }
         ensures count { length self.new.items ≡ length self.old.items }
     {
-        settle_all(owed, &mut self.seats, events);
+        for event in events {
+            self.settle_event(owed, event);
+        }
     }
 
     /// Each client's notes that are known to be read are kept no more.
@@ -246,5 +260,17 @@ impl Seats {
     {
         let seat = &mut self.seats[k];
         seat.close();
+    }
+
+    /// A client that has news, and has none then; none exactly if no client has news.
+    pub(crate) fn name(&mut self) -> Option<usize>
+        ensures { MatchOption result ((self.new ≡ self.old) × ((k : ℕ) (s : SeatView) → k < length self.old.items → has_noted_news (slice_index_or self.old.items k s) ≡ false)) (λ k. (k < length self.old.items) × ((s : SeatView) → (has_noted_news (slice_index_or self.old.items k s) ≡ true) × (self.new.items ≡ slice_set self.old.items k (named_seat (slice_index_or self.old.items k s))))) }
+    {
+        let Some(k) = self.news.pop_front() else {
+            return None;
+        };
+        let seat = &mut self.seats[k];
+        seat.name();
+        Some(k)
     }
 }

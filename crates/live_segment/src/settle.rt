@@ -1,9 +1,12 @@
 //! Outcomes go into the rings of clients.
-ghost use Rattle.std.specs.Prelude.{◌≡◌, ◌<◌, length, Some, None};
-ghost use Rattle.live_segment.specs.Record.{find_owed, without_owed, note_found, notes_at, owed_after, settle_notes, settle_owed};
+ghost use Rattle.std.specs.Prelude.{◌≡◌, ◌<◌, length, map, Some, None};
+ghost use Rattle.segment_rings.specs.Views.{has_noted_news};
+ghost use Rattle.live_segment.specs.Waiting.{Marks};
+ghost use Rattle.live_segment.specs.Record.{find_owed, without_owed, note_found, notes_at, owed_after};
 ghost use Rattle.live_segment.specs.Facts.{IdsFrom, HaveRoom, note_all, OwedWithin};
 
 use crate::call::Owed;
+use crate::hand::told_of;
 use pgn_ids::Address;
 use segment_core::Event;
 use segment_rings::{Note, Seat};
@@ -24,7 +27,7 @@ fn take_owed(owed: &mut Vec<Owed>, from: Address, to: Address, number: u64) -> O
     None
 }
 
-// Makes the note of one outcome.
+// Makes the note of one outcome, and tells whose client has news by that and had none before.
 fn settle_one(
     owed: &mut Vec<Owed>,
     seats: &mut Vec<Seat>,
@@ -32,31 +35,39 @@ fn settle_one(
     to: Address,
     number: u64,
     outcome: Outcome,
-)
+) -> Option<usize>
     requires ids { IdsFrom 0 seats.old.items }
     requires room { HaveRoom owed.old.items seats.old.items }
     requires within { OwedWithin (length seats.old.items) owed.old.items }
     ensures owed { owed.new.items ≡ without_owed owed.old.items from to number }
     ensures seats { seats.new.items ≡ note_all (note_found (find_owed owed.old.items from to number) outcome) seats.old.items }
+    ensures news { Marks result (map has_noted_news seats.old.items) (map has_noted_news seats.new.items) }
 {
     if let Some(w) = take_owed(owed, from, to, number) {
         let seat = &mut seats[w.client as usize];
-        seat.note(Note {
+        let is_first = seat.note(Note {
             ticket: w.ticket,
             to: w.to,
             number: w.number,
             outcome,
         });
+        return told_of(is_first, w.client as usize);
     }
+    None
 }
 
-/// Makes the note of one event, if it is an outcome.
-pub(crate) fn settle_event(owed: &mut Vec<Owed>, seats: &mut Vec<Seat>, event: &Event)
+/// Makes the note of one event, if it is an outcome, and tells whose client has news by that and had none before.
+pub(crate) fn settle_event(
+    owed: &mut Vec<Owed>,
+    seats: &mut Vec<Seat>,
+    event: &Event,
+) -> Option<usize>
     requires ids { IdsFrom 0 seats.old.items }
     requires room { HaveRoom owed.old.items seats.old.items }
     requires within { OwedWithin (length seats.old.items) owed.old.items }
     ensures owed { owed.new.items ≡ owed_after owed.old.items event.now }
     ensures seats { seats.new.items ≡ note_all (notes_at owed.old.items event.now) seats.old.items }
+    ensures news { Marks result (map has_noted_news seats.old.items) (map has_noted_news seats.new.items) }
 {
     if let Event::Outcome {
         from,
@@ -65,23 +76,7 @@ pub(crate) fn settle_event(owed: &mut Vec<Owed>, seats: &mut Vec<Seat>, event: &
         outcome,
     } = event
     {
-        settle_one(owed, seats, *from, *to, *number, *outcome);
+        return settle_one(owed, seats, *from, *to, *number, *outcome);
     }
-}
-
-/// Makes the notes of all outcomes among the events.
-pub(crate) fn settle(owed: &mut Vec<Owed>, seats: &mut Vec<Seat>, events: &[Event])
-    requires ids { IdsFrom 0 seats.old.items }
-    requires room { HaveRoom owed.old.items seats.old.items }
-    requires within { OwedWithin (length seats.old.items) owed.old.items }
-    ensures owed { owed.new.items ≡ settle_owed owed.old.items events.now }
-    ensures seats { seats.new.items ≡ note_all (settle_notes owed.old.items events.now) seats.old.items }
-    ensures ids { IdsFrom 0 seats.new.items }
-    ensures room { HaveRoom owed.new.items seats.new.items }
-    ensures within { OwedWithin (length seats.new.items) owed.new.items }
-    ensures count { length seats.new.items ≡ length seats.old.items }
-{
-    for event in events {
-        settle_event(owed, seats, event);
-    }
+    None
 }

@@ -4,16 +4,17 @@ ghost use Rattle.live_segment.specs.Record.{settle_notes, settle_owed};
 ghost use Rattle.live_segment.specs.Facts.{IdsFrom, HaveRoom, OwedWithin, PortsApart, give_all, note_all};
 ghost use Rattle.live_segment.specs.Places.{TakesAll, EnoughFor};
 
+use crate::all_doors::Doors;
 use crate::call::Owed;
-use crate::hand::{hand_all, hand_one};
+use crate::hand::hand_all;
 use crate::seating::Seats;
 use segment_core::Events;
-use segment_rings::{Buffer, Door};
+use segment_rings::Buffer;
 
 /// Gives and notes events. It takes no memory.
 #[inline(always)]
 pub(crate) fn tell(
-    doors: &mut Vec<Door>,
+    doors: &mut Doors,
     owed: &mut Vec<Owed>,
     seats: &mut Seats,
     buffers: Vec<Buffer>,
@@ -42,7 +43,7 @@ pub(crate) fn tell(
 // `tell`, for a call with events.
 #[inline(never)]
 fn tell_some(
-    doors: &mut Vec<Door>,
+    doors: &mut Doors,
     owed: &mut Vec<Owed>,
     seats: &mut Seats,
     buffers: Vec<Buffer>,
@@ -65,7 +66,7 @@ fn tell_some(
     let Some(first) = events.get(0) else {
         return;
     };
-    hand_one(doors, &mut buffers, first);
+    doors.hand_one(&mut buffers, first);
     hand_all(doors, &mut buffers, events.rest());
     seats.settle_event(owed, first);
     seats.settle(owed, events.rest());

@@ -1,5 +1,5 @@
 -- What a segment keeps of one client and of one port, as contracts see it.
-use Rattle.std.specs.Prelude.{◌≡◌, ℕ, ◌-◌, ◌≤◌, ◌<◌, Bool, true, false, List, [], ◌∷◌, ◌++◌, length, drop, ◌+◌, ◌⊎◌}
+use Rattle.std.specs.Prelude.{◌≡◌, ℕ, ◌-◌, ◌≤◌, ◌<◌, Bool, true, false, nat_lt, List, [], ◌∷◌, ◌++◌, length, drop, ◌+◌, ◌⊎◌}
 use Rattle.pgn_ids.specs.declared.address.Address.{Address}
 use Rattle.port_table.specs.declared.port.PortId.{PortId}
 use Rattle.segment_rings.specs.declared.words.Submission.{Submission}
@@ -11,7 +11,8 @@ use Rattle.segment_rings.specs.Tails.{GoesOn, known_out}
 use Rattle.segment_rings.specs.Ends.{ring_places}
 
 -- popped and noted: what went out of and into the client's rings; ahead and free: what is known of them; gone: how many of its first
--- notes are no longer kept; kept: all others; spare: room for more of them
+-- notes are no longer kept; kept: all others; spare: room for more of them; named: how many notes were in its ring when its client was
+-- last named among those that have news
 pub record SeatView : Type 0 where
   pub id : ℕ
   pub station : Address
@@ -21,21 +22,25 @@ pub record SeatView : Type 0 where
   pub gone : ℕ
   pub kept : List Note
   pub noted : List Note
+  pub named : ℕ
   pub free : ℕ
   pub spare : ℕ
 
--- pushed: what went into the port's ring; free: how many places of it are known to be free; gone: how many of the first deliveries
--- are kept no more; spare: room for deliveries that are kept
+-- places: how many the port's ring has; pushed: what went into it; named: how much of that had gone there when the port was last named
+-- among those that have news; free: how many places are known to be free; gone: how many of the first deliveries are kept no more;
+-- spare: room for deliveries that are kept
 pub record DoorView : Type 0 where
   pub port : PortId
   pub active : Bool
+  pub places : ℕ
   pub pushed : List Delivery
+  pub named : ℕ
   pub free : ℕ
   pub gone : ℕ
   pub spare : ℕ
 
 abbrev pub new_seat : ℕ → Address → ℕ → ℕ → SeatView
-new_seat id station free spare = record { id = id; station = station; active = true; popped = []; ahead = []; gone = 0; kept = []; noted = []; free = free; spare = spare }
+new_seat id station free spare = record { id = id; station = station; active = true; popped = []; ahead = []; gone = 0; kept = []; noted = []; named = 0; free = free; spare = spare }
 
 abbrev pub looked : SeatView → List Submission → SeatView
 looked s ahead = record s { ahead = ahead }
@@ -65,6 +70,14 @@ with_note s n = record s { kept = s.kept ++ n ∷ []; noted = noted_after s.acti
 abbrev pub closed_seat : SeatView → SeatView
 closed_seat s = record s { active = false }
 
+-- its client has news: more notes went into its ring than when it was last named
+abbrev pub has_noted_news : SeatView → Bool
+has_noted_news s = nat_lt s.named (length s.noted)
+
+-- its client is named
+abbrev pub named_seat : SeatView → SeatView
+named_seat s = record s { named = length s.noted }
+
 -- the seat is unchanged, but more may be known of it
 pub record SameSeat (a b : SeatView) : Type 0 where
   pub id : b.id ≡ a.id
@@ -74,6 +87,7 @@ pub record SameSeat (a b : SeatView) : Type 0 where
   pub gone : b.gone ≡ a.gone
   pub kept : b.kept ≡ a.kept
   pub noted : b.noted ≡ a.noted
+  pub named : b.named ≡ a.named
   pub free : a.free ≤ b.free
   pub spare : a.spare ≤ b.spare
 
@@ -86,6 +100,7 @@ pub record CutSeat (a b : SeatView) : Type 0 where
   pub popped : b.popped ≡ a.popped
   pub ahead : b.ahead ≡ a.ahead
   pub noted : b.noted ≡ a.noted
+  pub named : b.named ≡ a.named
   pub gone : a.active ≡ true → b.gone ≡ known_out ring_places b.free (length b.noted)
   pub left : a.active ≡ false → b.gone ≡ a.gone
   pub more : GoesOn a.gone b.gone b.noted
@@ -101,8 +116,8 @@ IsOffer s owed offer.Empty = (s.active ≡ false) ⊎ (length s.ahead ≡ 0)
 IsOffer s owed offer.Owed = (s.active ≡ true) × (0 < length s.ahead) × (s.free ≤ owed)
 IsOffer s owed offer.Ready = (s.active ≡ true) × (0 < length s.ahead) × (owed < s.free)
 
-abbrev pub new_door : PortId → ℕ → ℕ → DoorView
-new_door port free spare = record { port = port; active = true; pushed = []; free = free; gone = 0; spare = spare }
+abbrev pub new_door : PortId → (places free spare : ℕ) → DoorView
+new_door port places free spare = record { port = port; active = true; places = places; pushed = []; named = 0; free = free; gone = 0; spare = spare }
 
 abbrev pub door_looked : DoorView → ℕ → DoorView
 door_looked d free = record d { free = free }
@@ -116,11 +131,21 @@ with_delivery d x = record d { pushed = d.pushed ++ x ∷ []; free = d.free - 1;
 abbrev pub closed_door : DoorView → DoorView
 closed_door d = record d { active = false }
 
+-- its port has news: more deliveries went into its ring than when it was last named
+abbrev pub has_pushed_news : DoorView → Bool
+has_pushed_news d = nat_lt d.named (length d.pushed)
+
+-- its port is named
+abbrev pub named_door : DoorView → DoorView
+named_door d = record d { named = length d.pushed }
+
 -- the door is unchanged, but more may be known of it
 pub record SameDoor (a b : DoorView) : Type 0 where
   pub port : b.port ≡ a.port
   pub active : b.active ≡ a.active
+  pub places : b.places ≡ a.places
   pub pushed : b.pushed ≡ a.pushed
+  pub named : b.named ≡ a.named
   pub free : a.free ≤ b.free
   pub gone : b.gone ≡ a.gone
   pub spare : a.spare ≤ b.spare
@@ -130,9 +155,11 @@ pub record SameDoor (a b : DoorView) : Type 0 where
 pub record CutDoor (a b : DoorView) : Type 0 where
   pub port : b.port ≡ a.port
   pub active : b.active ≡ a.active
+  pub places : b.places ≡ a.places
   pub pushed : b.pushed ≡ a.pushed
-  pub gone : b.gone ≡ known_out ring_places b.free (length b.pushed)
+  pub named : b.named ≡ a.named
+  pub gone : b.gone ≡ known_out b.places b.free (length b.pushed)
   pub more : GoesOn a.gone b.gone b.pushed
-  pub unread : b.gone + ring_places ≤ length b.pushed + b.free
+  pub unread : b.gone + b.places ≤ length b.pushed + b.free
   pub free : a.free ≤ b.free
   pub spare : a.spare ≤ b.spare

@@ -15,6 +15,7 @@ mod inbox;
 mod kept;
 mod mark;
 mod outlet;
+mod places;
 mod seat;
 mod words;
 
@@ -24,5 +25,6 @@ pub use client::{Client, SubmitRefused, submit_refusal};
 pub use door::{Door, Doorway};
 pub use inbox::Inbox;
 pub use outlet::Outlet;
+pub use places::{MOST_PLACES, Places};
 pub use seat::{Offer, Seat};
 pub use words::{Delivery, Note, RING_PLACES, Submission};

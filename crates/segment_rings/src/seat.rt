@@ -28,6 +28,8 @@ pub struct Seat {
     submissions: Consumer<Submission>,
     notes: Producer<Note>,
     kept: Kept<Note>,
+    noted: u64,
+    named: u64,
     taken: u64,
     taken_mark: Mark,
     notes_mark: Mark,
@@ -42,9 +44,9 @@ impl Model for Seat {
 
     ghost Value = { SeatView };
 
-    ghost view = { λ s. record { id = s.id; station = s.station; active = s.active; popped = received s.submissions; ahead = known_items s.submissions; gone = s.kept.gone; kept = s.kept.items; noted = sent s.notes; free = known_free s.notes; spare = s.kept.spare } };
+    ghost view = { λ s. record { id = s.id; station = s.station; active = s.active; popped = received s.submissions; ahead = known_items s.submissions; gone = s.kept.gone; kept = s.kept.items; noted = sent s.notes; named = s.named; free = known_free s.notes; spare = s.kept.spare } };
 
-    ghost invariant = { λ s. (s.taken ≡ length (received s.submissions)) × (s.kept.gone ≤ length (sent s.notes)) × (s.kept.gone + ring_places ≤ length (sent s.notes) + known_free s.notes) × (s.active ≡ true → IsTailOf s.kept (sent s.notes)) };
+    ghost invariant = { λ s. (s.taken ≡ length (received s.submissions)) × (s.kept.gone ≤ length (sent s.notes)) × (s.kept.gone + ring_places ≤ length (sent s.notes) + known_free s.notes) × (s.active ≡ true → IsTailOf s.kept (sent s.notes)) × (s.noted ≡ length (sent s.notes)) × (s.named ≤ s.noted) };
 }
 
 impl Drop for Seat {
@@ -56,6 +58,8 @@ impl Drop for Seat {
             submissions: _,
             notes: _,
             kept: _,
+            noted: _,
+            named: _,
             taken: _,
             taken_mark: _,
             notes_mark: _,
@@ -64,9 +68,9 @@ impl Drop for Seat {
 }
 
 impl Seat {
-    ghost use Rattle.std.specs.Prelude.{◌≡◌, ◌≤◌, ◌<◌, ◌+◌, ◌-◌, ◌^◌, ◌↔◌, [], ◌∷◌, length, true, false, IfOk, OnOk, IsTrue};
+    ghost use Rattle.std.specs.Prelude.{◌≡◌, ◌≤◌, ◌<◌, ◌+◌, ◌-◌, ◌^◌, ◌↔◌, [], ◌∷◌, length, true, false, IfOk, OnOk, IsTrue, IsFalse};
     ghost use mathlib.Core.List.{IsPrefix};
-    ghost use Rattle.segment_rings.specs.Views.{SeatView, new_seat, looked, looked_for_room, with_spare, popped_one, with_note, closed_seat, SameSeat, CutSeat, IsOffer};
+    ghost use Rattle.segment_rings.specs.Views.{SeatView, new_seat, looked, looked_for_room, with_spare, popped_one, with_note, closed_seat, has_noted_news, named_seat, SameSeat, CutSeat, IsOffer};
     ghost use Rattle.segment_rings.specs.Ends.{new_client_end, ring_places};
     ghost use Rattle.segment_rings.specs.declared.seat.Offer.TheVariants as offer;
 
@@ -91,6 +95,8 @@ impl Seat {
             submissions,
             notes,
             kept: Kept::new(alloc),
+            noted: 0,
+            named: 0,
             taken: 0,
             taken_mark,
             notes_mark,
@@ -185,16 +191,29 @@ impl Seat {
         self.kept.reserve(count)
     }
 
-    /// Makes a note. There is room for it. It goes into the client's ring while submissions are taken, and is kept.
-    pub fn note(&mut self, note: Note)
+    /// Makes a note. There is room for it. It goes into the client's ring while submissions are taken, and is kept. It tells whether
+    /// the client has news by that, and had none before.
+    pub fn note(&mut self, note: Note) -> bool
         requires free { 0 < self.old.free }
         requires spare { 0 < self.old.spare }
-        ensures { self.new ≡ with_note self.old note }
+        ensures noted { self.new ≡ with_note self.old note }
+        ensures first { IsTrue result → (has_noted_news self.old ≡ false) × (has_noted_news self.new ≡ true) }
+        ensures again { IsFalse result → has_noted_news self.new ≡ has_noted_news self.old }
     {
+        let is_first = self.active && self.named == self.noted;
+        self.kept.push_reserved(note);
         if self.active {
             self.notes.push_reserved(note);
+            self.noted = self.kept.count();
         }
-        self.kept.push_reserved(note);
+        is_first
+    }
+
+    /// Its client is named among those that have news: it has none until there is one more note for it.
+    pub fn name(&mut self)
+        ensures { self.new ≡ named_seat self.old }
+    {
+        self.named = self.noted;
     }
 
     /// Takes no more submissions, and puts no more notes into the client's ring.

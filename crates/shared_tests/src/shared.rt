@@ -3,6 +3,7 @@ mod again;
 mod cuts;
 mod limits;
 mod memory;
+mod news;
 mod pieces;
 mod steps;
 mod threads;

@@ -36,7 +36,7 @@ loop-event-preserved c =
     let l : i < length es = omega arith in
     let at : drop i es ≡ e ∷ rest = at_drop_more (λ (x : List Event). x) es i e l ∙ ap (λ (x : Event). x ∷ rest) (sym c.event-item.is) in
     let v = c.loop-event.invariant in
-    let new : c.hand_one.new.doors.items ≡ give_all (e ∷ []) ds = c.hand_one.ensures.doors in
+    let new : c.hand_one.new.self.items ≡ give_all (e ∷ []) ds = c.hand_one.ensures.doors in
     let takes = subst (λ (x : List Event). TakesAll x ds) at v.takes in
     record {
       apart = subst PortsApart (sym new) (apart-give_all (e ∷ []) ds v.apart);

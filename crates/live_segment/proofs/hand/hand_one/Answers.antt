@@ -2,11 +2,12 @@ use Rattle.std.proofs.Common.{◌≡◌, ℕ, List, [], ◌∷◌, ◌<◌, get_
 use Rattle.message_events.specs.declared.event.Event.{Event}
 use Rattle.message_events.specs.declared.event.Event.TheVariants as event
 use Rattle.segment_rings.specs.declared.words.Delivery.{Delivery}
-use Rattle.segment_rings.specs.Views.{DoorView, with_delivery}
+use Rattle.segment_rings.specs.Views.{DoorView, with_delivery, has_pushed_news}
 use Rattle.live_segment.specs.Facts.{NoneAt, give_all}
 use Rattle.live_segment.specs.Places.{TakesAll, EnoughFor, IsPlaceIn}
 use Rattle.live_segment.proofs.Doors.{give_absent, give_at, takes_at, give_all_none}
 use Rattle.live_segment.proofs.Buffers.{popped_two}
+use Rattle.live_segment.proofs.Waiting.{marks_in}
 use Rattle.live_segment.proofs.hand.hand_one.Goals as goal
 
 pub returns-in_default-clause-doors : goal.returns-in_default-clause-doors
@@ -30,8 +31,8 @@ filled-requires c =
     let h : EnoughFor n (event.Given m.port m.from m.to m.pgn m.bytes ∷ []) c.args.buffers.now.items = subst (λ (e : Event). EnoughFor n (e ∷ []) c.args.buffers.now.items) m.is c.requires.enough.1 in
     (popped_two n [] m.port m.from m.to m.pgn m.bytes c.args.buffers.now.items c.pop.new.self.items c.pop-in-Given.new.self.items c.in-Some-pop.first c.in-Some-pop-2.second c.in-Some-pop.ensures.items c.in-Some-pop-2.ensures.items h).1.0
 
-pub give-requires-clause-free : goal.give-requires-clause-free
-give-requires-clause-free c =
+pub give-is_first-requires-clause-free : goal.give-is_first-requires-clause-free
+give-is_first-requires-clause-free c =
     let m = c.in-Given in
     let ds = c.args.doors.now.items in
     let d = c.index_mut-door.result.now in
@@ -41,8 +42,8 @@ give-requires-clause-free c =
     let f : 0 < (get_or ds k d).free = (takes_at m.port m.from m.to m.pgn m.bytes k ds d here.0 (here.1 d) h).0 in
     subst (λ (x : DoorView). 0 < x.free) (sym c.index_mut-door.ensures.value) f
 
-pub give-requires-clause-spare : goal.give-requires-clause-spare
-give-requires-clause-spare c =
+pub give-is_first-requires-clause-spare : goal.give-is_first-requires-clause-spare
+give-is_first-requires-clause-spare c =
     let m = c.in-Given in
     let ds = c.args.doors.now.items in
     let d = c.index_mut-door.result.now in
@@ -61,7 +62,7 @@ returns-in-Some-pop-2-clause-doors c =
     let here : IsPlaceIn ds m.port k = subst (λ (xs : List DoorView). IsPlaceIn xs m.port k) c.as_slice.ensures.value c.in-Some.ensures in
     let x : Delivery = record { from = m.from; to = m.to; pgn = m.pgn; bytes = m.bytes } in
     let same : c.delivery-pushed.result ≡ x = c.delivery-pushed.ensures ∙ ap (λ (b : List ℕ). record { from = m.from; to = m.to; pgn = m.pgn; bytes = b }) c.filled.ensures in
-    let gave : c.give.new.self ≡ with_delivery (get_or ds k d) x = c.give.ensures ∙ ap (λ (y : Delivery). with_delivery d y) same ∙ ap (λ (y : DoorView). with_delivery y x) c.index_mut-door.ensures.value in
+    let gave : c.give-is_first.new.self ≡ with_delivery (get_or ds k d) x = c.give-is_first.ensures.given ∙ ap (λ (y : Delivery). with_delivery d y) same ∙ ap (λ (y : DoorView). with_delivery y x) c.index_mut-door.ensures.value in
     ap (set ds k) gave ∙ give_at m.port m.from m.to m.pgn m.bytes k ds d here.0 (here.1 d) c.requires.apart ∙ sym (ap (λ (e : Event). give_all (e ∷ []) ds) m.is)
 
 pub returns-in-Some-pop-2-clause-enough : goal.returns-in-Some-pop-2-clause-enough
@@ -75,3 +76,11 @@ returns-in-Outcome-clause-doors c =
     let m = c.in-Outcome in
     let ds = c.args.doors.now.items in
     sym (ap (λ (e : Event). give_all (e ∷ []) ds) m.is ∙ give_all_none (event.Outcome m.from m.to m.number m.outcome ∷ []) ds (λ q. refl))
+
+pub returns-in-Some-pop-2-clause-news : goal.returns-in-Some-pop-2-clause-news
+returns-in-Some-pop-2-clause-news c =
+    let ds = c.args.doors.now.items in
+    let d = c.index_mut-door.result.now in
+    let k = c.in-Some.k in
+    let here : IsPlaceIn ds c.in-Given.port k = subst (λ (xs : List DoorView). IsPlaceIn xs c.in-Given.port k) c.as_slice.ensures.value c.in-Some.ensures in
+    marks_in has_pushed_news c.give-is_first.result ds k d c.give-is_first.new.self c.told_of.result c.told_of.ensures here.0 c.index_mut-door.ensures.value (λ t. (c.give-is_first.ensures.first t, c.give-is_first.ensures.news)) (λ t. c.give-is_first.ensures.news ∙ sym (c.give-is_first.ensures.again t))

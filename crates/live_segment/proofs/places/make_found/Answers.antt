@@ -1,4 +1,4 @@
-use Rattle.std.proofs.Common.{◌≡◌, ℕ, true, [], List, Option, Some, sym, subst}
+use Rattle.std.proofs.Common.{◌≡◌, ℕ, true, [], List, Option, sym, subst}
 use Rattle.std.specs.Prelude.{OnSome}
 use Rattle.segment_core.specs.declared.made.Made.{Made}
 use Rattle.live_segment.proofs.Doors.{same_doors-refl}

@@ -13,10 +13,10 @@ loop-number-init c = record {
 }
 
 pub returns-in_err-prepare-clause-same : goal.returns-in_err-prepare-clause-same
-returns-in_err-prepare-clause-same c = same_doors-trans c.args.doors.now.items c.loop-number.doors.items c.prepare.new.doors.items c.loop-number.invariant.same c.prepare.ensures.same
+returns-in_err-prepare-clause-same c = same_doors-trans c.args.doors.now.items c.loop-number.doors.items c.prepare.new.self.items c.loop-number.invariant.same c.prepare.ensures.same
 
 pub returns-then-not-branch-clause-same : goal.returns-then-not-branch-clause-same
-returns-then-not-branch-clause-same c = same_doors-trans c.args.doors.now.items c.loop-number.doors.items c.prepare.new.doors.items c.loop-number.invariant.same c.prepare.ensures.same
+returns-then-not-branch-clause-same c = same_doors-trans c.args.doors.now.items c.loop-number.doors.items c.prepare.new.self.items c.loop-number.invariant.same c.prepare.ensures.same
 
 pub returns-then-not-branch-clause-none : goal.returns-then-not-branch-clause-none
 returns-then-not-branch-clause-none c _ =
@@ -24,8 +24,8 @@ returns-then-not-branch-clause-none c _ =
     let i = c.loop-number.number-index in
     let n = get_or ns i 0 in
     let l : i < length ns = omega arith in
-    let lacks : LacksRoom (port c.args.station n) c.count.result c.prepare.new.doors.items = c.in_ok-prepare.ensures.none c.if-not-branch.true in
-    lacks_place c.args.station ns n c.prepare.new.doors.items (times_at ns i 0 l) (subst (λ (k : ℕ). LacksRoom (port c.args.station n) k c.prepare.new.doors.items) c.count.ensures lacks)
+    let lacks : LacksRoom (port c.args.station n) c.count.result c.prepare.new.self.items = c.in_ok-prepare.ensures.none c.if-not-branch.true in
+    lacks_place c.args.station ns n c.prepare.new.self.items (times_at ns i 0 l) (subst (λ (k : ℕ). LacksRoom (port c.args.station n) k c.prepare.new.self.items) c.count.ensures lacks)
 
 pub loop-number-preserved : goal.loop-number-preserved
 loop-number-preserved c =
@@ -34,7 +34,7 @@ loop-number-preserved c =
     let n = get_or ns i 0 in
     let l : i < length ns = omega arith in
     let ds = c.loop-number.doors.items in
-    let es = c.prepare.new.doors.items in
+    let es = c.prepare.new.self.items in
     let v = c.loop-number.invariant in
     let room : RoomAt (port c.args.station n) c.count.result es = c.in_ok-prepare.ensures.ready c.if-not-branch.false in
     let room' : RoomAt (port c.args.station n) (times n ns) es = subst (λ (k : ℕ). RoomAt (port c.args.station n) k es) c.count.ensures room in

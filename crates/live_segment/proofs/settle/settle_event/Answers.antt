@@ -5,7 +5,7 @@ use Rattle.live_segment.specs.Facts.{note_all}
 use Rattle.live_segment.proofs.Seats.{note_all_none}
 use Rattle.live_segment.proofs.settle.settle_event.Goals as goal
 
-pub returns-in_default-clause-seats : goal.returns-in_default-clause-seats
-returns-in_default-clause-seats c =
+pub returns-clause-seats : goal.returns-clause-seats
+returns-clause-seats c =
     let ss = c.args.seats.now.items in
     sym (note_all_none ss) ∙ ap (λ (e : Event). note_all (notes_at c.args.owed.now.items e) ss) (sym c.in_default.is)

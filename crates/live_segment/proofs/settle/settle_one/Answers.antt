@@ -1,10 +1,11 @@
 use Rattle.std.proofs.Common.{◌≡◌, ◌≤◌, get_or, set, [], ◌∷◌, Option, sym, ap, ◌∙◌, arith}
 use Rattle.segment_rings.specs.declared.words.Note.{Note}
 use Rattle.live_segment.specs.declared.call.Owed.{Owed}
-use Rattle.segment_rings.specs.Views.{SeatView, with_note}
+use Rattle.segment_rings.specs.Views.{SeatView, with_note, has_noted_news}
 use Rattle.live_segment.specs.Record.{note_found, owed_by}
 use Rattle.live_segment.specs.Facts.{note_all}
 use Rattle.live_segment.proofs.Seats.{find_within, id_at, free_at, spare_at, note_at, note_all_none, has_owed}
+use Rattle.live_segment.proofs.Waiting.{marks_in}
 use Rattle.live_segment.proofs.settle.settle_one.Goals as goal
 
 pub index_mut-seat-requires : goal.index_mut-seat-requires
@@ -12,8 +13,8 @@ index_mut-seat-requires c =
     let w = find_within _ _ _ _ _ _ c.requires.within (sym c.in-Some.ensures.found) in
     omega (arith, w, c.args.seats.now.ok.0)
 
-pub note-requires-clause-free : goal.note-requires-clause-free
-note-requires-clause-free c =
+pub note-is_first-requires-clause-free : goal.note-is_first-requires-clause-free
+note-is_first-requires-clause-free c =
     let k = c.in-Some.w.client in
     let ss = c.args.seats.now.items in
     let s = c.index_mut-seat.result.now in
@@ -27,8 +28,8 @@ note-requires-clause-free c =
     let f'' : (get_or ss k s).free ≡ s.free = ap (λ (x : SeatView). x.free) (sym at) in
     omega (arith, f', f'', one)
 
-pub note-requires-clause-spare : goal.note-requires-clause-spare
-note-requires-clause-spare c =
+pub note-is_first-requires-clause-spare : goal.note-is_first-requires-clause-spare
+note-is_first-requires-clause-spare c =
     let k = c.in-Some.w.client in
     let ss = c.args.seats.now.items in
     let s = c.index_mut-seat.result.now in
@@ -51,11 +52,18 @@ returns-in-Some-clause-seats c =
     let at : s ≡ get_or ss k s = c.index_mut-seat.ensures.value in
     let l = find_within _ _ _ _ _ _ c.requires.within (sym c.in-Some.ensures.found) in
     let note : Note = record { ticket = w.ticket; to = w.to; number = w.number; outcome = c.args.outcome } in
-    let new : c.note.new.self ≡ with_note (get_or ss k s) note = c.note.ensures ∙ ap (λ (x : SeatView). with_note x note) at in
+    let new : c.note-is_first.new.self ≡ with_note (get_or ss k s) note = c.note-is_first.ensures.noted ∙ ap (λ (x : SeatView). with_note x note) at in
     let all : set ss k (with_note (get_or ss k s) note) ≡ note_all ((k, note) ∷ []) ss = note_at 0 k k note ss s (omega arith) c.requires.ids l in
     ap (λ (x : SeatView). set ss k x) new ∙ all ∙ ap (λ (r : Option Owed). note_all (note_found r c.args.outcome) ss) c.in-Some.ensures.found
 
-pub returns-in_default-clause-seats : goal.returns-in_default-clause-seats
-returns-in_default-clause-seats c =
+pub returns-clause-seats : goal.returns-clause-seats
+returns-clause-seats c =
     let ss = c.args.seats.now.items in
     sym (note_all_none ss) ∙ ap (λ (r : Option Owed). note_all (note_found r c.args.outcome) ss) c.in_default.ensures.found
+
+pub returns-in-Some-clause-news : goal.returns-in-Some-clause-news
+returns-in-Some-clause-news c =
+    let ss = c.args.seats.now.items in
+    let s = c.index_mut-seat.result.now in
+    let l = find_within _ _ _ _ _ _ c.requires.within (sym c.in-Some.ensures.found) in
+    marks_in has_noted_news c.note-is_first.result ss c.in-Some.w.client s c.note-is_first.new.self c.told_of.result c.told_of.ensures l c.index_mut-seat.ensures.value c.note-is_first.ensures.first c.note-is_first.ensures.again

@@ -1,4 +1,4 @@
-use Rattle.std.proofs.Common.{◌≡◌, [], List, true, sym, ap, subst}
+use Rattle.std.proofs.Common.{◌≡◌, List, true, sym, ap, subst}
 use Rattle.std.specs.Prelude.{IfSome}
 use Rattle.pgn_ids.specs.declared.address.Address.{Address}
 use Rattle.message_events.specs.declared.event.Event.{Event}

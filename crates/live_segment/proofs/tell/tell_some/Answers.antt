@@ -36,7 +36,7 @@ hand_all-requires-clause-takes c =
     let ds = c.args.doors.now.items in
     let at : c.args.events.now ≡ c.in-Some.first.now ∷ rest = first_of c.args.events.now c.in-Some.first.now (sym c.get.ensures ∙ ap (λ o. option_copied o) c.in-Some.is) in
     let h : TakesAll rest (give_all (c.in-Some.first.now ∷ []) ds) = takes-rest (c.in-Some.first.now ∷ []) rest ds (subst (λ (es : List Event). TakesAll es ds) at c.requires.takes) in
-    subst (λ (es : List Event). TakesAll es c.hand_one.new.doors.items) (sym c.rest.ensures) (subst (TakesAll rest) (sym c.hand_one.ensures.doors) h)
+    subst (λ (es : List Event). TakesAll es c.hand_one.new.self.items) (sym c.rest.ensures) (subst (TakesAll rest) (sym c.hand_one.ensures.doors) h)
 
 pub settle-requires-clause-ids : goal.settle-requires-clause-ids
 settle-requires-clause-ids c = subst (IdsFrom 0) (sym c.settle_event.ensures.seats) (ids-note_all 0 (notes_at c.args.owed.now.items c.in-Some.first.now) c.args.seats.now.items c.requires.ids)
@@ -58,7 +58,7 @@ returns-clause-doors c =
     let rest = drop 1 c.args.events.now in
     let ds = c.args.doors.now.items in
     let at : c.args.events.now ≡ c.in-Some.first.now ∷ rest = first_of c.args.events.now c.in-Some.first.now (sym c.get.ensures ∙ ap (λ o. option_copied o) c.in-Some.is) in
-    c.hand_all.ensures ∙ ap (λ (es : List Event). give_all es c.hand_one.new.doors.items) c.rest.ensures ∙ ap (give_all rest) c.hand_one.ensures.doors
+    c.hand_all.ensures ∙ ap (λ (es : List Event). give_all es c.hand_one.new.self.items) c.rest.ensures ∙ ap (give_all rest) c.hand_one.ensures.doors
     ∙ sym (give_all-append (c.in-Some.first.now ∷ []) rest ds) ∙ ap (λ (es : List Event). give_all es ds) (sym at)
 
 pub returns-clause-seats : goal.returns-clause-seats

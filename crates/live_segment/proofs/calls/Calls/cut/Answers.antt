@@ -3,6 +3,7 @@ use Rattle.std.proofs.lemmas.List.{length_push}
 use Rattle.stored_calls.specs.declared.stored.Stored.{Stored}
 use Rattle.live_segment.specs.declared.calls.Piece.{Piece}
 use Rattle.live_segment.specs.Past.{joined, CallsView, HasCounts}
+use Rattle.live_segment.specs.TurnedAway.{count_turned_away}
 use Rattle.live_segment.proofs.Pieces.{numbered_push, joined_push}
 use Rattle.live_segment.proofs.calls.Calls.cut.Goals as goal
 
@@ -22,6 +23,7 @@ invariant_of-self c =
     let counts : HasCounts ps (joined ps ++ xs) = subst (λ (v : CallsView). HasCounts v.pieces v.items) (sym c.self.view_is) c.requires in
     let fits : i.before + c.len.result + 1000000 < 2 ^ 64 = omega (arith, counts.1, count, sum) in
     let none = ap (λ v. length v.items) c.replace-calls.ensures.after ∙ ap (λ (ys : List Stored). length ys) c.new.ensures in
+    let none_left : c.replace-calls.new.dest.items ≡ [] = ap (λ v. v.items) c.replace-calls.ensures.after ∙ c.new.ensures in
     let few : length c.replace-calls.new.dest.items ≤ 1000000 = omega (arith, none) in
     rw new (
       omega (arith, was.0, length_push ps p),
@@ -29,6 +31,7 @@ invariant_of-self c =
       fits,
       few,
       numbered_push 0 ps p was.4 (omega (arith, was.0)),
+      was.5 ∙ ap count_turned_away (sym all ∙ sym (append-nil (joined (ps ++ p ∷ []))) ∙ ap (λ (ys : List Stored). joined (ps ++ p ∷ []) ++ ys) (sym none_left)),
     )
 
 pub returns-clause-items : goal.returns-clause-items

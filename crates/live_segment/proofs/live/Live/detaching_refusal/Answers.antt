@@ -4,7 +4,7 @@ use Rattle.std.proofs.lemmas.Option.{slice_get-map, slice_get-get_or, slice_get_
 use Rattle.std.specs.Prelude.{option_map, slice_get}
 use Rattle.segment_rings.specs.Views.{SeatView}
 use Rattle.live_segment.specs.Detaching.{detached_cause}
-use Rattle.live_segment.specs.LiveView.{ClientView, client_of}
+use Rattle.live_segment.specs.LiveView.{client_of}
 use Rattle.live_segment.specs.declared.detaching.NotDetached.{NotDetached}
 use Rattle.live_segment.specs.declared.detaching.NotDetached.TheVariants.{Gone}
 use Rattle.live_segment.proofs.live.Live.detaching_refusal.Goals as goal

@@ -11,9 +11,9 @@ returns-in-Some c =
     let q = c.args.port in
     let ds = c.self.inside.doors.items in
     let p = subst (λ (u : List DoorView). IsPlaceIn u q k) c.as_slice.ensures.value c.in-Some.ensures in
-    let d = c.index.result.now in
+    let d = c.get.result.now in
     let gone = given_gone_at k q ds d p.0 (p.1 d) c.self.invariant.0.apart in
-    rw (← c.self.view_is) (has_port ds k q p.0 p.1, c.gone.ensures.value ∙ ap (λ (x : DoorView). x.gone) c.index.ensures ∙ sym gone)
+    rw (← c.self.view_is) (has_port ds k q p.0 p.1, c.gone.ensures.value ∙ ap (λ (x : DoorView). x.gone) (c.get.ensures d) ∙ sym gone)
 
 pub returns-in-None : goal.returns-in-None
 returns-in-None c =

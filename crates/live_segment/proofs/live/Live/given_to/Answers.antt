@@ -15,9 +15,9 @@ returns-in-Some c =
     let ds = c.self.inside.doors.items in
     let es = (trail c.self.inside.addresses.items c.self.inside.calls.items).events in
     let p = subst (λ (u : List DoorView). IsPlaceIn u q k) c.as_slice.ensures.value c.in-Some.ensures in
-    let d = c.index.result.now in
+    let d = c.get.result.now in
     let gone = given_gone_at k q ds d p.0 (p.1 d) c.self.invariant.0.apart in
-    let all = ap (λ (x : DoorView). drop x.gone x.pushed) c.index.ensures in
+    let all = ap (λ (x : DoorView). drop x.gone x.pushed) (c.get.ensures d) in
     let is = pushed_at k es ds d p.0 c.self.invariant.0.gives ∙ ap (λ (x : PortId). given x es) (p.1 d) in
     let e = c.deliveries.ensures ∙ all ∙ ap (λ (xs : List Delivery). drop (get_or ds k d).gone xs) is ∙ ap (λ (n : ℕ). drop n (given q es)) (sym gone) in
     rw (← c.self.view_is) (has_port ds k q p.0 p.1, e)

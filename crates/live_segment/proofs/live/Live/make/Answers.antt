@@ -1,5 +1,5 @@
 use Rattle.live_segment.specs.Past.{count_since}
-use Rattle.std.proofs.Common.{◌≡◌, IsOk, Bool, ◌<◌, List, [], ◌∷◌, ◌++◌, length, map, true, false, None, refl, sym, ap, ◌∙◌, subst, ◌^◌, ◌+◌}
+use Rattle.std.proofs.Common.{◌≡◌, Bool, ◌<◌, List, [], ◌∷◌, ◌++◌, length, map, true, false, None, refl, sym, ap, ◌∙◌, subst, ◌^◌, ◌+◌}
 use Rattle.std.proofs.lemmas.Bool.{false≢true}
 use Rattle.segment_law.specs.Segment.{Segment}
 use Rattle.segment_law.specs.Calls.{called, is_send}
@@ -19,11 +19,11 @@ use Rattle.live_segment.specs.Facts.{IdsFrom, HaveRoom, OwedWithin, note_all, Ho
 use Rattle.live_segment.specs.Places.{IsFound}
 use Rattle.live_segment.specs.LiveView.{LiveView, Applied, LacksMemory, stored, port_of, SparesClosed, keep, stored_calls}
 use Rattle.live_segment.proofs.Applying.{applied_as, refused_as, told_as, given_as, found_false, never_opens, never_sends}
-use Rattle.live_segment.proofs.Doors.{apart-same, give_all_unplaced, same_doors-refl}
+use Rattle.live_segment.proofs.Doors.{apart-same, give_all_unplaced}
 use Rattle.live_segment.proofs.Openings.{refused_reply}
 use Rattle.live_segment.proofs.Ready.{found_ready, none_given}
-use Rattle.live_segment.proofs.Refusing.{lacks_memory, no_cause, room_no_cause}
-use Rattle.live_segment.proofs.Holding.{holds-same, holds-tell, on_err}
+use Rattle.live_segment.proofs.Refusing.{lacks_memory}
+use Rattle.live_segment.proofs.Holding.{holds-same, holds-tell}
 use Rattle.live_segment.proofs.Keeping.{cut_with, notes_kept-all, given_kept-all, given_kept-same}
 use Rattle.live_segment.proofs.Viewed.{holds_at, stays, viewed, still, few_kept}
 use Rattle.live_segment.proofs.SeatsSame.{same_seats-refl, ports-same}

@@ -1,7 +1,9 @@
-use Rattle.std.proofs.Common.{◌≡◌, ◌∙◌, false, get_or, refl, ap, subst}
+use Rattle.std.proofs.Common.{◌≡◌, ◌∙◌, false, get_or, refl, ap, subst, deque_capacity}
 use Rattle.std.proofs.lemmas.Bool.{false≢true}
 use Rattle.pgn_ids.specs.declared.address.Address.{Address}
-use Rattle.segment_rings.specs.Views.{SeatView}
+use Rattle.segment_rings.specs.Views.{SeatView, has_noted_news}
+use Rattle.live_segment.proofs.Naming.{marks-same}
+use Rattle.live_segment.proofs.Waiting.{waits_same}
 use Rattle.live_segment.proofs.Quiet.{quiet-only}
 use Rattle.live_segment.proofs.seating.Seats.make_ready.Goals as goal
 
@@ -12,4 +14,8 @@ invariant_of-self c =
     let s = c.index.result.now in
     let at = c.station-station.ensures ∙ ap (λ (x : SeatView). x.station) c.index.ensures in
     let off = subst (λ (a : Address). get_or ms a.0 false ≡ false) at (c.mark.ensures.off refl) in
-    quiet-only ms c.args.k ss c.find_ready.new.seats.items s c.find_ready.ensures.seats c.find_ready.ensures.only off (c.mark.ensures.kept ss c.self.invariant (λ on. absurd (false≢true on)))
+    let ts = c.find_ready.new.seats.items in
+    let i = c.self.inside in (
+      quiet-only ms c.args.k ss ts s c.find_ready.ensures.seats c.find_ready.ensures.only off (c.mark.ensures.kept ss c.self.invariant.0 (λ on. absurd (false≢true on))),
+      waits_same has_noted_news ss ts i.news.items (deque_capacity i.news) (marks-same ss ts c.find_ready.ensures.seats) c.self.invariant.1,
+    )

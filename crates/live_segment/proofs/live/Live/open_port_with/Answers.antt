@@ -1,4 +1,4 @@
-use Rattle.std.proofs.Common.{◌≡◌, ◌<◌, ◌++◌, List, [], ◌∷◌, length, None, refl, inr, sym, ap, ◌∙◌, subst, ◌^◌, ◌+◌}
+use Rattle.std.proofs.Common.{◌≡◌, ℕ, ◌<◌, ◌++◌, List, [], ◌∷◌, length, None, refl, inr, sym, ap, ◌∙◌, subst, ◌^◌, ◌+◌}
 use Rattle.std.proofs.lemmas.Bool.{false≢true}
 use Rattle.segment_law.specs.Record.{StandsAt}
 use Rattle.segment_law.specs.declared.call.Call.TheVariants.{Open}
@@ -13,12 +13,12 @@ use Rattle.stored_calls.specs.declared.stored.Stored.{Stored}
 use Rattle.live_segment.specs.Record.{trail}
 use Rattle.live_segment.specs.declared.refused.NotMade.{NotMade}
 use Rattle.live_segment.specs.declared.refused.NotMade.TheVariants as not_made
-use Rattle.live_segment.specs.LiveView.{LiveView, stored, keep, IsOpenCause, OpenedFor}
+use Rattle.live_segment.specs.LiveView.{LiveView, stored, keep, IsOpenCause, OpenedWith}
 use Rattle.live_segment.proofs.Holding.{holds-open, on_err}
 use Rattle.live_segment.proofs.Openings.{refused_reply, open_free, open_lacks, open_cause, opened_for, out_of_memory}
 use Rattle.live_segment.proofs.Keeping.{cut_with, given_kept-push}
 use Rattle.live_segment.proofs.Viewed.{holds_at, unchanged, viewed, few_kept}
-use Rattle.live_segment.proofs.live.Live.open_port.Goals as goal
+use Rattle.live_segment.proofs.live.Live.open_port_with.Goals as goal
 
 pub invariant_of-self-in-Opened : goal.invariant_of-self-in-Opened
 invariant_of-self-in-Opened c =
@@ -37,9 +37,9 @@ invariant_of-self-in-Opened c =
     let rep : reply_of st call ≡ Opened p = sym c.in_ok-port.ensures.reply ∙ c.in-Opened.is in
     let stands : StandsAt addrs (steps ++ (call, Opened p) ∷ []) next = subst (λ (u : Reply). StandsAt addrs (steps ++ (call, u) ∷ []) next) c.in-Opened.is (c.in_ok-port.ensures.stands addrs steps c.self.invariant.0.stands) in
     let f : Follows st call next (Opened p) = subst (Follows st call next) c.in-Opened.is (c.in_ok-port.ensures.follows addrs steps c.self.invariant.0.stands) in
-    let doors : c.push_reserved.new.self.items ≡ ds ++ new_door p d.free d.spare ∷ [] = c.push_reserved.ensures.items ∙ ap (λ (u : List DoorView). u ++ d ∷ []) c.reserve-2.ensures.items ∙ ap (λ (u : DoorView). ds ++ u ∷ []) c.open-door.ensures.door in
+    let doors : c.push_reserved.new.self.items ≡ ds ++ new_door p c.args.places d.free d.spare ∷ [] = c.push_reserved.ensures.items ∙ ap (λ (u : List DoorView). u ++ d ∷ []) c.reserve-2.ensures.items ∙ ap (λ (u : DoorView). ds ++ u ∷ []) (c.open-door.ensures.door ∙ ap (λ (n : ℕ). new_door p n d.free d.spare) c.in_ok-doorway.ensures) in
     let calls : c.push_reserved-in-Opened.new.self.items ≡ xs ++ stored None call ∷ [] = c.push_reserved-in-Opened.ensures.items ∙ ap (λ (u : List Stored). u ++ stored None call ∷ []) c.reserve.ensures.items in
-    holds_at _ _ _ _ _ _ _ _ _ _ _ _ _ _ _ refl calls pieces image refl refl doors (holds-open addrs st next xs c.self.inside.owed.items c.self.inside.seats.items ds c.args.station c.args.pgn c.args.max_len d.free d.spare p c.self.invariant.0 few rep c.in_ok-port.ensures.after stands f) (cut_with _ _ _ _ _ _ _ (λ k0. k0) (given_kept-push ds (new_door p d.free d.spare) refl) c.self.invariant.1)
+    holds_at _ _ _ _ _ _ _ _ _ _ _ _ _ _ _ refl calls pieces image refl refl doors (holds-open addrs st next xs c.self.inside.owed.items c.self.inside.seats.items ds c.args.station c.args.pgn c.args.max_len c.args.places d.free d.spare p c.self.invariant.0 few rep c.in_ok-port.ensures.after stands f) (cut_with _ _ _ _ _ _ _ (λ k0. k0) (given_kept-push ds (new_door p c.args.places d.free d.spare) refl) c.self.invariant.1)
 
 pub invariant_of-self : goal.invariant_of-self
 invariant_of-self c =
@@ -129,11 +129,11 @@ returns-in-Opened-clause-opened c =
     let call = Open c.args.station c.args.pgn c.args.max_len in
     let ys = i.calls.items ++ stored None call ∷ [] in
     let es = c.push_reserved.new.self.items in
-    let doors : es ≡ ds ++ new_door p d.free d.spare ∷ [] = c.push_reserved.ensures.items ∙ ap (λ (u : List DoorView). u ++ d ∷ []) c.reserve-2.ensures.items ∙ ap (λ (u : DoorView). ds ++ u ∷ []) c.open-door.ensures.door in
+    let doors : es ≡ ds ++ new_door p c.args.places d.free d.spare ∷ [] = c.push_reserved.ensures.items ∙ ap (λ (u : List DoorView). u ++ d ∷ []) c.reserve-2.ensures.items ∙ ap (λ (u : DoorView). ds ++ u ∷ []) (c.open-door.ensures.door ∙ ap (λ (n : ℕ). new_door p n d.free d.spare) c.in_ok-doorway.ensures) in
     let calls : c.push_reserved-in-Opened.new.self.items ≡ ys = c.push_reserved-in-Opened.ensures.items ∙ ap (λ (u : List Stored). u ++ stored None call ∷ []) c.reserve.ensures.items in
     let is : Opened p ≡ reply_of i.segment call = sym c.in-Opened.is ∙ c.in_ok-port.ensures.reply in
-    viewed (λ (u v : LiveView). OpenedFor u v c.args.station c.args.pgn c.args.max_len c.open-door.result.1) _ i.stopped i.addresses.items i.calls.pieces c.push_reserved-in-Opened.new.self.pieces i.calls.items ys c.push_reserved-in-Opened.new.self.items i.seats.items i.seats.items i.seats.items ds es c.self.view_is calls (c.push_reserved-in-Opened.ensures.pieces ∙ c.reserve.ensures.pieces) refl
-    (opened_for (keep i.stopped i.calls.pieces) i.addresses.items i.segment i.calls.items ys i.seats.items ds es c.args.station c.args.pgn c.args.max_len d.free d.spare p c.open-door.result.1 c.self.invariant.0.at c.open-door.ensures.inbox is refl doors)
+    viewed (λ (u v : LiveView). OpenedWith u v c.args.station c.args.pgn c.args.max_len c.args.places c.open-door.result.1) _ i.stopped i.addresses.items i.calls.pieces c.push_reserved-in-Opened.new.self.pieces i.calls.items ys c.push_reserved-in-Opened.new.self.items i.seats.items i.seats.items i.seats.items ds es c.self.view_is calls (c.push_reserved-in-Opened.ensures.pieces ∙ c.reserve.ensures.pieces) refl
+    (opened_for (keep i.stopped i.calls.pieces) i.addresses.items i.segment i.calls.items ys i.seats.items ds es c.args.station c.args.pgn c.args.max_len c.args.places d.free d.spare p c.open-door.result.1 c.self.invariant.0.at c.open-door.ensures.inbox is refl doors)
 
 pub unreachable-requires : goal.unreachable-requires
 unreachable-requires c =
