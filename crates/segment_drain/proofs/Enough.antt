@@ -3,7 +3,7 @@ use Rattle.std.proofs.Common.{◌≡◌, ◌≢◌, ℕ, zero, suc, ◌+◌, ◌
 use Rattle.std.proofs.lemmas.Option.{same_Some, none-some}
 use Rattle.pgn_ids.specs.declared.address.Address.{Address}
 use Rattle.bus_order.specs.Bus.{bus_len}
-use Rattle.segment_law.specs.Segment.{Segment}
+use Rattle.segment_law.specs.Segment.{Segment, new_segment}
 use Rattle.segment_law.specs.Calls.{applied}
 use Rattle.segment_law.specs.Readers.{front_at}
 use Rattle.segment_law.specs.Record.{Record, StandsAt}
@@ -18,11 +18,12 @@ use Rattle.segment_law.proofs.Drifting.{stands_drifts}
 use Rattle.message_events.specs.declared.event.Event.{Event}
 use Rattle.segment_core.specs.Next.{any_work}
 use Rattle.work_law.specs.Work.{work}
-use Rattle.work_law.specs.Storm.{WorkFalls, OverrunsFall}
+use Rattle.work_law.specs.Course.{each_turn}
+use Rattle.work_law.specs.Storm.{allowances, WorkFalls, OverrunsFall, NoStorm}
 use Rattle.work_law.proofs.Ending.{paid}
 use Rattle.segment_drain.specs.Chosen.{is_hold, next_of}
 use Rattle.segment_drain.specs.Drains.{Drain, end_by, turn_by, turn, turns_from, end_at, last_look, undrained, drained, IsDrained}
-use Rattle.segment_drain.specs.Enough.{enough_turns, HasEnough}
+use Rattle.segment_drain.specs.Enough.{calls_left, enough_turns, HasEnough}
 use Rattle.segment_drain.specs.Calm.{AreCalm}
 use Rattle.segment_drain.specs.declared.choosing.Next.{Next}
 use Rattle.segment_drain.specs.declared.choosing.Next.TheVariants.{Make, End}
@@ -65,6 +66,10 @@ fits : (hold : ℕ) (seg : Segment) (call : Call) → IsMade seg call → Advanc
 fits hold seg call m (WorksOff less) on = let l = m.len in omega (arith, less, l)
 fits hold seg call m (GoesOn kept len before then) on = omega (arith, kept, len)
 fits hold seg call m (IsHeld e) on = absurd (none-some end.Held (sym on ∙ e))
+
+-- no more is left than what was asked for
+pub asked_most : NoStorm → (addresses : List Address) (steps : Record) (seg : Segment) → StandsAt addresses steps seg → calls_left seg ≤ allowances (each_turn seg) (new_segment addresses) steps
+asked_most law addresses steps seg h = let e = law (each_turn seg) addresses steps seg h in omega (arith, e)
 
 module _ (falls : WorkFalls) (overruns_fall : OverrunsFall) (addresses : List Address) (steps : Record) (start : Segment) (h : StandsAt addresses steps start) where
   abbrev hold : ℕ

@@ -8,9 +8,12 @@ ghost use Rattle.segment_law.specs.declared.refusal.Refusal.{Refusal as RefusalV
 ghost use Rattle.segment_core.specs.Promise.{KeepsPromise};
 ghost use Rattle.segment_drain.specs.Drains.{Drain, IsCourse, Goes, Makes, IsDrained, HasBegun, drained, end_at, is_drain_call, frame_put, timed_by, goes_on_by};
 ghost use Rattle.segment_drain.specs.Calm.{AreCalm, never_paused};
-ghost use Rattle.segment_drain.specs.Enough.{enough_turns, longest_time, HasEnough};
+ghost use Rattle.segment_drain.specs.Enough.{calls_left, enough_turns, longest_time, HasEnough};
 ghost use Rattle.segment_drain.specs.Rested.{IsAtRest};
 ghost use Rattle.segment_law.specs.Drive.{events_in};
+ghost use Rattle.segment_law.specs.Segment.{new_segment};
+ghost use Rattle.work_law.specs.Course.{each_turn};
+ghost use Rattle.work_law.specs.Storm.{allowances};
 ghost use Rattle.work_law.specs.Rest.{HasRested, AllEnded};
 ghost use Rattle.work_law.specs.ToAll.{ends_well};
 ghost use Rattle.segment_drain.specs.declared.end.DrainEnd.TheVariants as end;
@@ -24,7 +27,9 @@ use bus_frame::Frame;
 use pgn_ids::Address;
 use segment_core::{Call, Reply, Segment, the_headline_holds};
 use std::alloc::Global;
-use work_law::{broadcasts_end_as_such, overruns_fall, what_has_stopped_rests, work_falls};
+use work_law::{
+    broadcasts_end_as_such, overruns_fall, there_is_no_storm, what_has_stopped_rests, work_falls,
+};
 
 /// Drains a segment for at most so many turns, and returns the frames put and the events.
 ///
@@ -36,9 +41,10 @@ use work_law::{broadcasts_end_as_such, overruns_fall, what_has_stopped_rests, wo
 /// a session on hold does while its port is paused. It ends as refused only if the last place of the bus is used; and at a call that
 /// lacks memory, which then wasn't made.
 ///
-/// It doesn't end after its turns if there are enough: twice as many as calls may be left, and two. If no port is paused, no session
-/// is on hold and the bus has places for what may come, it then ends at rest, unless a call lacks memory; and if 1,250 ticks of the
-/// clock are left, each message that was sent has its outcome. One to all ends as broadcast in every drain.
+/// It doesn't end after its turns if there are enough: twice as many as calls may be left, and two. At most what the segment's calls
+/// asked for is left. If no port is paused, no session is on hold and the bus has places for what may come, it then ends at rest,
+/// unless a call lacks memory; and if 1,250 ticks of the clock are left, each message that was sent has its outcome. One to all ends
+/// as broadcast in every drain.
 pub fn drain(alloc: Global, segment: &mut Segment, turns: u64) -> Drained
     ensures done { result.end ≢ end.OutOfMemory → IsDrained (drained segment.old turns) segment.new result }
     ensures begun { result.end ≡ end.OutOfMemory → HasBegun segment.old segment.new turns result }
@@ -50,6 +56,8 @@ pub fn drain(alloc: Global, segment: &mut Segment, turns: u64) -> Drained
         → IsAtRest (steps ++ (drained segment.old turns).calls) segment.new }
     ensures enough { (addresses : List AddressValue) (steps : Record) → StandsAt addresses steps segment.old → enough_turns segment.old ≤ turns
         → result.end ≢ end.Turns }
+    ensures asked { (addresses : List AddressValue) (steps : Record) → StandsAt addresses steps segment.old
+        → calls_left segment.old ≤ allowances (each_turn segment.old) (new_segment addresses) steps }
     ensures refused { (addresses : List AddressValue) (steps : Record) → StandsAt addresses steps segment.old
         → (cause : RefusalValue) → result.end ≡ end.Refused cause → 2 ^ 64 ≤ bus_len segment.new.bus + 1 }
     ensures held { (addresses : List AddressValue) (steps : Record) → StandsAt addresses steps segment.old → AreCalm segment.old → result.end ≢ end.Held }
@@ -66,6 +74,7 @@ pub fn drain(alloc: Global, segment: &mut Segment, turns: u64) -> Drained
     // Laws, for the last clauses: these calls do nothing.
     what_has_stopped_rests();
     work_falls();
+    there_is_no_storm();
     overruns_fall();
     broadcasts_end_as_such();
     the_headline_holds();

@@ -4,7 +4,7 @@ use Rattle.segment_drain.proofs.Drains.{Says, Draining, rest_is_fair, counted, d
 use Rattle.segment_drain.proofs.Wholes.{drain_calls, drain_few, drain_to_all, drain_stands, drain_rests}
 use Rattle.segment_drain.proofs.Calm.{never_calm}
 use Rattle.segment_drain.proofs.Healing.{healed_end}
-use Rattle.segment_drain.proofs.Enough.{enough_end, refused_end, held_end, rest_end}
+use Rattle.segment_drain.proofs.Enough.{asked_most, enough_end, refused_end, held_end, rest_end}
 use Rattle.segment_drain.proofs.draining.drain.Goals as goal
 
 pub loop-init : goal.loop-init
@@ -33,6 +33,7 @@ returns-in-Err c =
       stands = λ addresses steps h. drain_stands addresses steps c.args.segment.now h;
       rest = λ addresses steps h e. drain_rests c.what_has_stopped_rests.ensures.rests c.what_has_stopped_rests.ensures.ends addresses steps c.args.segment.now c.turn.new.segment c.args.turns c.ended.result h (says.done_is (rest_is_fair e)) e;
       enough = λ addresses steps h. enough_end c.work_falls.ensures c.overruns_fall.ensures addresses steps c.args.segment.now h c.args.turns c.ended.result c.turn.new.segment says.done_is;
+      asked = λ addresses steps h. asked_most c.there_is_no_storm.ensures.work addresses steps c.args.segment.now h;
       refused = λ addresses steps h. refused_end c.work_falls.ensures c.overruns_fall.ensures addresses steps c.args.segment.now h c.args.turns c.ended.result c.turn.new.segment says.done_is;
       held = λ addresses steps h. held_end c.work_falls.ensures c.overruns_fall.ensures addresses steps c.args.segment.now h c.args.turns c.ended.result c.turn.new.segment says.done_is;
       calm = λ addresses steps h. never_calm addresses steps c.args.segment.now h;
@@ -56,6 +57,7 @@ returns c =
       stands = λ addresses steps h. drain_stands addresses steps c.args.segment.now h;
       rest = λ addresses steps h e. drain_rests c.what_has_stopped_rests.ensures.rests c.what_has_stopped_rests.ensures.ends addresses steps c.args.segment.now c.loop.segment c.args.turns c.ended-2.result h (says.done_is (rest_is_fair e)) e;
       enough = λ addresses steps h. enough_end c.work_falls.ensures c.overruns_fall.ensures addresses steps c.args.segment.now h c.args.turns c.ended-2.result c.loop.segment says.done_is;
+      asked = λ addresses steps h. asked_most c.there_is_no_storm.ensures.work addresses steps c.args.segment.now h;
       refused = λ addresses steps h. refused_end c.work_falls.ensures c.overruns_fall.ensures addresses steps c.args.segment.now h c.args.turns c.ended-2.result c.loop.segment says.done_is;
       held = λ addresses steps h. held_end c.work_falls.ensures c.overruns_fall.ensures addresses steps c.args.segment.now h c.args.turns c.ended-2.result c.loop.segment says.done_is;
       calm = λ addresses steps h. never_calm addresses steps c.args.segment.now h;
