@@ -1,0 +1,9 @@
+pub mod Lanes
+pub mod Alone
+pub mod Earlier
+pub mod Both
+pub mod Begun
+pub mod Weaving
+pub mod Numbers
+pub mod Sentence
+pub mod First
