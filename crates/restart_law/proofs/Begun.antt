@@ -53,7 +53,6 @@ use Rattle.connection_law.proofs.Kept.{Kept}
 use Rattle.connection_law.proofs.Openings.{Is, Fits, no_mark, opened_so, closed_so, IsMarkedAt}
 use Rattle.connection_law.proofs.Segments.{Ghost, view}
 use Rattle.connection_law.proofs.Stood.{Stood}
-use Rattle.connection_law.proofs.Tables.{Stands}
 use Rattle.connection_law.proofs.View.{IsPair, View, Sim}
 use Rattle.network_law.specs.Traffic.{is_from}
 use Rattle.network_law.proofs.Places.{silent}
