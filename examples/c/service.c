@@ -14,6 +14,7 @@
 #include <net/if.h>
 #include <poll.h>
 #include <pthread.h>
+#include <stdatomic.h>
 #include <stdio.h>
 #include <stdlib.h>
 #include <string.h>
@@ -43,10 +44,8 @@ struct end { struct fulwethi_client client; struct fulwethi_inbox inbox; uint64_
 
 static uint32_t messages;
 static int wake;                /* the eventfd */
-static pthread_mutex_t lock = PTHREAD_MUTEX_INITIALIZER;
-/* Under the lock: how many messages have an outcome, were acknowledged, and were received; and whether the threads are to end. */
-static uint32_t ended, acknowledged, received;
-static int is_over;
+/* How many messages have an outcome, were acknowledged, and were received; and whether the threads are to end. */
+static atomic_uint ended, acknowledged, received, is_over;
 
 static void fail(const char *what, uint32_t code) {
     fprintf(stderr, "%s: %s\n", what, fulwethi_service_strerror(code));
@@ -60,10 +59,8 @@ static void wake_at(int at) {
 }
 
 /* Adds to a count, and wakes the main thread. */
-static void count(uint32_t *of) {
-    pthread_mutex_lock(&lock);
+static void count(atomic_uint *of) {
     ++*of;
-    pthread_mutex_unlock(&lock);
     wake_at(wake);
 }
 
@@ -73,10 +70,7 @@ static int await(struct end *end, uint32_t code) {
     uint64_t woken;
     if (poll(&from, 1, code == FULWETHI_NO_MEMORY ? RETRY : -1) < 0 && errno != EINTR) abort();
     if (from.revents && read(end->news, &woken, sizeof woken) < 0 && errno != EAGAIN) abort();
-    pthread_mutex_lock(&lock);
-    int goes_on = !is_over;
-    pthread_mutex_unlock(&lock);
-    return goes_on;
+    return !is_over;
 }
 
 /* Submits the next message of a client. If its ring is full, it has messages without an outcome, whose outcomes will be news. */
@@ -131,9 +125,8 @@ static int open_socket(const char *name) {
     struct sockaddr_can address = {.can_family = AF_CAN};
     int on = 1, at = socket(PF_CAN, SOCK_RAW | SOCK_NONBLOCK, CAN_RAW);
     can_err_mask_t errors = CAN_ERR_RESTARTED | CAN_ERR_BUSOFF | CAN_ERR_CRTL;
-    if (at < 0) return -1;
     strncpy(interface.ifr_name, name, IFNAMSIZ - 1);
-    if (ioctl(at, SIOCGIFINDEX, &interface) < 0) return -1;
+    if (at < 0 || ioctl(at, SIOCGIFINDEX, &interface) < 0) return -1;
     address.can_ifindex = interface.ifr_ifindex;
     if (setsockopt(at, SOL_CAN_RAW, CAN_RAW_RECV_OWN_MSGS, &on, sizeof on) < 0) return -1;
     if (setsockopt(at, SOL_CAN_RAW, CAN_RAW_ERR_FILTER, &errors, sizeof errors) < 0) return -1;
@@ -216,10 +209,8 @@ static void transmit(struct bus *bus) {
     if (bus->outstanding || !is_told(bus) || fulwethi_service_front(&bus->service, &bus->station, &frame) != FULWETHI_DONE) return;
     struct can_frame put = {.can_id = frame.id | CAN_EFF_FLAG, .can_dlc = (uint8_t)frame.len};
     memcpy(put.data, frame.bytes, frame.len);
-    if (write(bus->socket, &put, sizeof put) != sizeof put) {
-        bus->is_blocked = 1;
-        return;
-    }
+    bus->is_blocked = write(bus->socket, &put, sizeof put) != sizeof put;
+    if (bus->is_blocked) return;
     bus->outstanding = 1;
     bus->end_at = ticks(bus) + ECHO_LOST;
 }
@@ -244,11 +235,10 @@ static void tell_news(struct bus *bus, struct end *senders, struct end *receiver
     }
 }
 
-/* Whether all is done: then the others are told to end. */
+/* Whether all is done: then the others are told to end. A message is counted as acknowledged before it is counted as ended. */
 static int is_done(struct end *senders, struct end *receivers) {
-    pthread_mutex_lock(&lock);
-    int done = is_over = ended == STATIONS * messages && received >= acknowledged;
-    pthread_mutex_unlock(&lock);
+    int done = ended == STATIONS * messages && received >= acknowledged;
+    if (done) is_over = 1;
     for (int k = 0; done && k < STATIONS; k++) wake_at(senders[k].news), wake_at(receivers[k].news);
     return done;
 }
@@ -275,9 +265,7 @@ static void begin(struct bus *bus, struct end *senders, struct end *receivers) {
     uint32_t code = fulwethi_service_new(&bus->service, ADDRESS, STATIONS);
     for (int k = 0; k < STATIONS && !code; k++) {
         senders[k].station = receivers[k].station = k;
-        senders[k].news = eventfd(0, EFD_NONBLOCK);
-        receivers[k].news = eventfd(0, EFD_NONBLOCK);
-        if (senders[k].news < 0 || receivers[k].news < 0) abort();
+        if ((senders[k].news = eventfd(0, EFD_NONBLOCK)) < 0 || (receivers[k].news = eventfd(0, EFD_NONBLOCK)) < 0) abort();
         code = fulwethi_service_attach(&bus->service, ADDRESS[k], &senders[k].client);
         if (!code) code = fulwethi_service_open(&bus->service, ADDRESS[k], PGN, MOST, &receivers[k].number, &receivers[k].inbox);
     }
@@ -295,10 +283,8 @@ int main(int words, char **word) {
     if (bus.socket < 0 || wake < 0) return perror(word[1]), 1;
     bus.start = ticks(&bus);
     begin(&bus, senders, receivers);
-    for (int k = 0; k < STATIONS; k++) {
-        if (pthread_create(&threads[k], NULL, send_all, &senders[k])) abort();
-        if (pthread_create(&threads[STATIONS + k], NULL, receive_all, &receivers[k])) abort();
-    }
+    for (int k = 0; k < STATIONS; k++)
+        if (pthread_create(&threads[k], NULL, send_all, &senders[k]) || pthread_create(&threads[STATIONS + k], NULL, receive_all, &receivers[k])) abort();
     do {
         turn(&bus);
         tell_news(&bus, senders, receivers);
