@@ -18,8 +18,7 @@ use Rattle.segment_law.specs.Segment.{Segment, new_segment, place_of, station_at
 use Rattle.segment_law.specs.Calls.{events_of, is_frame}
 use Rattle.segment_law.specs.Record.{Step, Record, calls_of, after}
 use Rattle.segment_law.specs.Drift.{DriftsTo}
-use Rattle.segment_law.specs.Reached.{IsReached}
-use Rattle.segment_law.specs.Told.{Message, Placed, AtPort, NumberedOutcome, told_from, opened_by, closed_by, openings, closings, all_givens, is_lane, items_of, places_of, sent_by, sends, sent, given_to_station, station_givens, outcome_in, outcomes}
+use Rattle.segment_law.specs.Told.{Message, Placed, AtPort, NumberedOutcome, told_from, opened_by, closed_by, all_givens, is_lane, items_of, places_of, sent_by, sends, sent, given_to_station, station_givens, outcome_in, outcomes}
 use Rattle.segment_law.specs.Numbering.{item, IsAfter, part_of}
 use Rattle.segment_law.specs.Headline.{Headline, HeadlineDrifts, HaveOneOutcome, port_of, IsOpenFor}
 use Rattle.segment_law.specs.declared.call.Call.{Call}

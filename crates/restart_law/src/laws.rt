@@ -9,14 +9,15 @@ use record_law::outcomes::each_send_is_answered_its_number;
 use seg_cut::packet_is_seven_places;
 use tp_wire::what_is_written_is_read;
 
-/// A law: the sentence (`Sentence` of `network_law`) for the messages of a station that starts, to one that was on the bus before. An
-/// earlier station may have had its address, as when a program starts again: of the earlier one the law says nothing, and the other's
-/// record goes on. Each port is given the messages of the new station, to it and to all, at most once, in the order sent, byte for
-/// byte. A message whose outcome is Acknowledged was given since the start, in one reply, to each port that took it as it began and was
-/// still open; one that is Unreachable was not given.
+/// A law: the sentence (`Sentence` of `network_law`) for the messages of a station from the moment on at which it starts to send, to one
+/// that was on the bus before. An earlier station may have had its address, as when a program starts again; the record of the other goes
+/// on. Each port is given the messages of the station, to it and to all, at most once, in the order sent, byte for byte. A message whose
+/// outcome is Acknowledged was given since that moment, in one reply, to each port that took it as it began and was still open; one that is
+/// Unreachable was not given. Nothing is said of what the other sends to the station.
 ///
-/// The premises are those between programs, from the start on, and that the other station then has nothing of the earlier one
-/// (`HasNothingOf`): no incoming session of its address, no answer to it in the queue, and since its last frame it took another.
+/// The premises are those between programs, from that moment on, and of the moment itself (`IsStart`): the station has sent nothing and has
+/// no frame to put; the other has no incoming session of its address, and no answer to it in the queue; and the last frame that the bus
+/// carried is another's than the station's, and no answer to it.
 pub fn messages_hold_from_a_start()
     ensures { HoldsFromAStart }
 {
