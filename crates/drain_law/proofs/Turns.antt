@@ -59,9 +59,9 @@ module _ (n K : ℕ) (seg : Segment) (r : IsReached seg) (many : length seg.stat
 
   pub none_takes : lowest seg kind.Take ≡ None
   none_takes = none_can seg kind.Take (λ k below. no_take seg (node k) (λ i e. (
-    let l : i < length seg.stations = slice_get_within seg.stations i (get_or seg.stations i (new_station (node k))) (there_at (node k) i e) in
-    let p : (cursor_at seg.bus i).place ≡ K = rests.took i (omega (arith, l, many)) in
-    frame_past seg.bus ((cursor_at seg.bus i).place + 1) (omega (arith, p, rests.len)))))
+      let l : i < length seg.stations = slice_get_within seg.stations i (get_or seg.stations i (new_station (node k))) (there_at (node k) i e) in
+      let p : (cursor_at seg.bus i).place ≡ K = rests.took i (omega (arith, l, many)) in
+      frame_past seg.bus ((cursor_at seg.bus i).place + 1) (omega (arith, p, rests.len)))))
 
   -- one station has frames to put
   module _ (j : ℕ) (z : Station) (f : CanFrame) (q : List CanFrame) (at : slice_get seg.stations j ≡ Some (record z { queue = f ∷ q })) (small : z.address.0 < 254)
