@@ -10,7 +10,7 @@ use segment_core::{Call, Refusal, Segment};
 
 /// What a drain does next.
 #[derive(Debug, Drop)]
-pub(crate) enum Next {
+pub enum Next {
     /// It makes a call.
     Make(Call),
     /// It ends.

@@ -2,7 +2,7 @@
 
 /// What a station can do in a turn, or what keeps it from it.
 #[derive(Clone, Copy, Debug, PartialEq, Eq)]
-pub(crate) enum Kind {
+pub enum Kind {
     /// It takes a frame, with room.
     Take,
     /// It puts a frame.

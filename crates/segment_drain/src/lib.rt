@@ -11,7 +11,9 @@ mod kind;
 mod rest;
 mod waits;
 
+pub use choosing::Next;
 pub use drained::Drained;
 pub use draining::drain;
 pub use end::DrainEnd;
+pub use kind::Kind;
 pub use rest::{calm_stays, has_rested};

@@ -1,0 +1,15 @@
+pub mod Choices
+pub mod Stages
+pub mod Sweeps
+pub mod Turns
+pub mod Windows
+pub mod Sessions
+pub mod Exchanges
+pub mod Lists
+pub mod Refusals
+pub mod Quiets
+pub mod Ready
+pub mod Steps
+pub mod Wholes
+pub mod Unheard
+pub mod Beginnings

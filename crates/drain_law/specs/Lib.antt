@@ -1,0 +1,3 @@
+pub mod Waiting
+pub mod Ended
+pub mod Unheard
