@@ -6,18 +6,18 @@ use Rattle.log_text.specs.declared.iface.Iface.{Iface}
 use Rattle.log_decode.specs.View.{State, bus_at}
 use Rattle.log_decode.specs.Decoder.{taken}
 use Rattle.log_decode.specs.Stray.{stray_seen}
-use Rattle.log_decode.specs.declared.stray.Stray.{Stray}
-use Rattle.log_decode.specs.declared.told.Told.{Told}
+use Rattle.log_reports.specs.declared.stray.Stray.{Stray}
+use Rattle.log_reports.specs.declared.told.Told.{Told}
 use Rattle.log_courses.specs.Awaited.{Awaited, awaiting_each}
 use Rattle.log_courses.specs.declared.course.Place.{Place}
-use Rattle.bus_decode.specs.Strays.{stray_left}
+use Rattle.log_counts.specs.Strays.{stray_left}
 use Rattle.bus_decode.specs.Followed.{heard_followed}
 use Rattle.bus_decode.specs.Telling.{told_text}
 use Rattle.bus_decode.specs.declared.followed.Followed.{Followed}
 use Rattle.bus_decode.specs.Listening.{Hearing, Seen, single, frame_told, frame_counts, frame_seen}
-use Rattle.bus_decode.specs.declared.counts.Counts.{Counts}
+use Rattle.log_counts.specs.declared.counts.Counts.{Counts}
 use Rattle.bus_decode.specs.declared.listener.Listener.{Listener}
-use Rattle.bus_decode.specs.declared.options.Options.{Options}
+use Rattle.log_counts.specs.declared.options.Options.{Options}
 
 abbrev place_of : State → Counts → Place
 place_of d counts = record { number = counts.frames; time = d.time }

@@ -1,6 +1,3 @@
-pub mod Options
-pub mod Strays
-pub mod Counts
 pub mod Followed
 pub mod Telling
 pub mod Listening

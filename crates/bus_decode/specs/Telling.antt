@@ -6,8 +6,8 @@ use Rattle.log_text.specs.declared.iface.Iface.{Iface}
 use Rattle.log_courses.specs.Courses.{course_of}
 use Rattle.log_courses.specs.declared.course.Course.{Course}
 use Rattle.log_courses.specs.declared.course.Place.{Place}
-use Rattle.log_decode.specs.declared.told.Told.{Told}
-use Rattle.log_decode.specs.declared.told.Told.TheVariants.{Given, Aborted, Lost}
+use Rattle.log_reports.specs.declared.told.Told.{Told}
+use Rattle.log_reports.specs.declared.told.Told.TheVariants.{Given, Aborted, Lost}
 use Rattle.explained_messages.specs.Groups.{explained}
 use Rattle.log_lines.specs.Explained.{words_lines}
 use Rattle.log_lines.specs.Listing.{mark_lines}
@@ -17,9 +17,9 @@ use Rattle.log_summary.specs.Rows.{Summary}
 use Rattle.summary_lines.specs.Json.{row_objects}
 use Rattle.summary_lines.specs.Table.{table_text}
 use Rattle.bus_decode.specs.Followed.{after_told}
-use Rattle.bus_decode.specs.Options.{is_asked_for, shows, is_single_asked, follows, detail_of}
+use Rattle.log_counts.specs.Options.{is_asked_for, shows, is_single_asked, follows, detail_of}
 use Rattle.bus_decode.specs.declared.followed.Followed.{Followed}
-use Rattle.bus_decode.specs.declared.options.Options.{Options}
+use Rattle.log_counts.specs.declared.options.Options.{Options}
 
 -- a message in words, if these are asked for
 abbrev pub in_words : Options → (pgn : ℕ) → List ℕ → List (List ℕ)

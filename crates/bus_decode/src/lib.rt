@@ -2,17 +2,12 @@
 //! prints each transport message of it, or why there is none, if that is known.
 #![tactic(auto)]
 
-mod counts;
 mod followed;
 mod listener;
 mod listening;
-mod options;
 mod running;
-mod strays;
 mod taking;
 mod telling;
 
-pub use counts::Counts;
-pub use options::{Options, Wanted};
+pub use log_counts::{Counts, Options, Strays, Wanted};
 pub use running::{Cause, Decoded, LogFault, run_decode};
-pub use strays::Strays;

@@ -3,12 +3,10 @@ ghost use Rattle.std.specs.Prelude.{◌≡◌, ◌++◌, OnOk};
 ghost use Rattle.bus_decode.specs.Listening.{is_asking, single, frame_seen, shown_seen, form_with, seen_as, line_seen, Seen, Read, ended_counts, ended_text};
 ghost use Rattle.bus_decode.specs.declared.listening.LineError.TheVariants.{OutOfMemory};
 
-use crate::counts::Counts;
 use crate::listener::Listener;
-use crate::options::Options;
-use crate::strays::stray_left;
 use crate::telling::{tell, tell_frame, tell_single, tell_summary, tell_wrong};
 use bus_frame::Frame;
+use log_counts::{Counts, Options, stray_left};
 use log_courses::Place;
 use log_text::{Form, Iface, LogLine, form_of, read_line_as};
 use pgn_ids::read_id;
@@ -17,7 +15,7 @@ use tp_wire::constants::{ACKNOWLEDGEMENT, REQUEST};
 use tp_wire::is_transport;
 
 /// Why a line has no output.
-#[derive(Clone, Copy, PartialEq, Eq)]
+#[derive(Clone, Copy)]
 pub(crate) enum LineError {
     /// Memory was refused.
     OutOfMemory,

@@ -4,10 +4,9 @@ ghost use Rattle.std.specs.Io.KnownBytes.{Keeps};
 ghost use Rattle.bus_decode.specs.Outcome.{fault_text, last_outcome, outcome};
 ghost use Rattle.bus_decode.specs.Ending.{Ended, IsLastCause, fault_line, status_of};
 
-use crate::counts::Counts;
 use crate::listening::take_end;
-use crate::options::Options;
 use crate::taking::{Run, flush_told, take_next};
+use log_counts::{Counts, Options};
 use std::alloc::Global;
 use std::fmt;
 use std::io::{BufRead, Write};

@@ -3,15 +3,14 @@ ghost use Rattle.std.specs.Prelude.{◌≡◌, ◌≤◌, true, length, None, Is
 ghost use Rattle.std.specs.Io.KnownBytes.{Keeps};
 ghost use Rattle.bus_decode.specs.Ending.{cause_of, read_cause};
 ghost use Rattle.bus_decode.specs.Outcome.{limit_fault};
-ghost use Rattle.bus_decode.specs.Counts.{no_counts};
+ghost use Rattle.log_counts.specs.Counts.{no_counts};
 ghost use Rattle.bus_decode.specs.Listening.{first_listener};
 ghost use Rattle.bus_decode.specs.Taking.{listening_of, TakesText, Takes, TakesNext};
 
-use crate::counts::Counts;
 use crate::listener::Listener;
 use crate::listening::{LineError, take_line};
-use crate::options::Options;
 use crate::running::{Cause, Fault};
+use log_counts::{Counts, Options};
 use log_text::Form;
 use std::alloc::Global;
 use std::io::{BufRead, ErrorKind, Write};
@@ -50,7 +49,7 @@ impl Run {
 }
 
 /// The result of the next line.
-#[derive(Clone, Copy, PartialEq, Eq)]
+#[derive(Clone, Copy)]
 pub(crate) enum Turn {
     /// It was taken.
     Line,

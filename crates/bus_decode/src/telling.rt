@@ -8,14 +8,13 @@ ghost use Rattle.bus_decode.specs.Followed.{after_each, left_followed, heard_fol
 ghost use Rattle.bus_decode.specs.Telling.{in_words, words_told, message_text, shown_text, followed_text, plain_line, plain_text, told_text, summary_text, frame_text, single_text, wrong_text};
 
 use crate::followed::{Followed, sum_up};
-use crate::options::Options;
 use bus_frame::Frame;
-use explained_lines::Line;
-use explained_messages::explain;
+use explained_messages::{Line, explain};
+use log_counts::Options;
 use log_courses::{Course, Place};
-use log_decode::Told;
 use log_lines::{put_explained, put_marks, put_single, put_told, put_wrong};
 use log_objects::{put_single_object, put_told_object, put_wrong_object};
+use log_reports::Told;
 use log_summary::Summary;
 use log_text::Iface;
 use pgn_ids::{Pgn, read_id};

@@ -17,12 +17,12 @@ use Rattle.seg_cut.specs.Packets.{packet_count}
 use Rattle.lane_core.specs.Lane.{kind_for}
 use Rattle.lane_core.specs.declared.message.Pending.{Pending}
 use Rattle.segment_law.specs.Quiet.{quiet, quiet_broadcast, quiet_connection, is_to_all, groups, tp_window, etp_window}
-use Rattle.log_decode.specs.Session.{opened}
+use Rattle.log_sessions.specs.Session.{opened}
 use Rattle.log_decode.specs.Sessions.{session_at}
 use Rattle.log_decode.specs.Decoder.{frame_taken, cm_frame_taken, wire_taken}
 use Rattle.log_decode.specs.View.{Bus, State, bus_at}
-use Rattle.log_decode.specs.declared.told.Told.{Told}
-use Rattle.log_decode.specs.declared.told.Told.TheVariants.{Given}
+use Rattle.log_reports.specs.declared.told.Told.{Told}
+use Rattle.log_reports.specs.declared.told.Told.TheVariants.{Given}
 use Rattle.decode_law.specs.Hearing.{Log, heard_all, end_of, at_time, IsSendable, IsLogOf, IsHeard, kind_to}
 use Rattle.decode_law.proofs.Steps.{Laws, Case, key_with, key, with_one, first_place, Stands, begins, passes, whole}
 use Rattle.decode_law.proofs.Interfaces.{heard_on, listener, on_interface}

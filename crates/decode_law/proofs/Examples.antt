@@ -10,12 +10,12 @@ use Rattle.segment_law.specs.Quiet.{quiet}
 use Rattle.tp_wire.specs.Reading.{reading, body_of, tp_cm_of, packet_of}
 use Rattle.tp_wire.specs.Rows.{written}
 use Rattle.log_decode.specs.Decoder.{wire_taken, cm_frame_taken}
-use Rattle.log_decode.specs.Session.{packet_heard}
+use Rattle.log_sessions.specs.Session.{packet_heard}
 use Rattle.log_decode.specs.Belonging.{told_of_key}
 use Rattle.log_decode.specs.View.{State}
-use Rattle.log_decode.specs.declared.key.Key.{Key}
-use Rattle.log_decode.specs.declared.told.Cause.TheVariants.{Missing, Acknowledged}
-use Rattle.log_decode.specs.declared.told.Told.TheVariants.{Lost}
+use Rattle.log_reports.specs.declared.key.Key.{Key}
+use Rattle.log_reports.specs.declared.told.Cause.TheVariants.{Missing, Acknowledged}
+use Rattle.log_reports.specs.declared.told.Told.TheVariants.{Lost}
 use Rattle.decode_law.specs.Hearing.{IsSendable, key_for}
 use Rattle.decode_law.specs.Lacking.{Entry, IsPartOf, told_to_end, frames_of}
 use Rattle.decode_law.specs.Examples.{Met}

@@ -4,10 +4,10 @@ use Rattle.std.specs.Map.{lookup}
 use Rattle.bus_frame.specs.Frames.{CanFrame}
 use Rattle.log_text.specs.declared.iface.Iface.{Iface}
 use Rattle.log_text.specs.contracts.iface.IfaceEq.TheImpl.Laws.{laws-law}
-use Rattle.log_decode.specs.Keys.{same_iface}
+use Rattle.log_reports.specs.Keys.{same_iface}
 use Rattle.log_decode.specs.Decoder.{bus_taken}
 use Rattle.log_decode.specs.View.{Bus, Buses, State, new_bus, bus_at, put_bus}
-use Rattle.log_decode.specs.declared.told.Told.{Told}
+use Rattle.log_reports.specs.declared.told.Told.{Told}
 use Rattle.decode_law.specs.Hearing.{Log, heard_all, frames_in}
 
 -- a bus takes frames one after another

@@ -20,20 +20,20 @@ use Rattle.seg_cut.specs.Packets.{packet_count, packet}
 use Rattle.lane_core.specs.Lane.{kind_for}
 use Rattle.lane_core.specs.declared.message.Pending.{Pending}
 use Rattle.segment_law.specs.Quiet.{quiet, quiet_broadcast, quiet_connection, is_to_all, groups, tp_window, etp_window}
-use Rattle.log_decode.specs.Session.{opened, sequence_heard, heard}
+use Rattle.log_sessions.specs.Session.{opened, sequence_heard, heard}
 use Rattle.log_decode.specs.Sessions.{Heard, heard_at, losses, announced}
 use Rattle.log_decode.specs.Decoder.{frame_taken, cm_frame_taken, wire_taken, passed}
-use Rattle.log_decode.specs.declared.key.Key.{Key}
-use Rattle.log_decode.specs.declared.session.Session.{Session}
-use Rattle.log_decode.specs.declared.session.Fate.{Fate}
-use Rattle.log_decode.specs.declared.session.Fate.TheVariants as fates
-use Rattle.log_decode.specs.declared.told.Cause.TheVariants.{TooLong, EndOfLog}
-use Rattle.log_decode.specs.declared.told.Told.TheVariants.{Lost}
+use Rattle.log_reports.specs.declared.key.Key.{Key}
+use Rattle.log_sessions.specs.declared.session.Session.{Session}
+use Rattle.log_sessions.specs.declared.session.Fate.{Fate}
+use Rattle.log_sessions.specs.declared.session.Fate.TheVariants as fates
+use Rattle.log_reports.specs.declared.told.Cause.TheVariants.{TooLong, EndOfLog}
+use Rattle.log_reports.specs.declared.told.Told.TheVariants.{Lost}
 use Rattle.log_decode.proofs.Own.{of_own, own_heard, own_announced}
 use Rattle.decode_law.specs.Hearing.{IsSendable, key_for, kind_to}
 use Rattle.decode_law.specs.Lacking.{IsToldOf, IsToldRightly}
 use Rattle.decode_law.proofs.Steps.{Laws, key_with}
-use Rattle.log_decode.specs.Keys.{transport_of}
+use Rattle.log_reports.specs.Keys.{transport_of}
 use Rattle.decode_law.proofs.Alone.{IsOf, Holds, Comes, lost, passes, none_passes, comes}
 use Rattle.decode_law.proofs.Through.{Fine, nothing_more, one_more, free_only}
 use Rattle.decode_law.proofs.Gaps.{IsFront, front_later, packet_comes, cts_comes, ack_comes, etp_ack_comes, Ahead, Within, stuck_later, etp_cts_comes, dpo_comes, dpo_missing, etp_packet_comes, etp_packet_missing, next_window}

@@ -8,15 +8,15 @@ use Rattle.std.specs.Cmp.Lexicographic.{bytes_decides}
 use Rattle.bus_frame.specs.Frames.{CanFrame}
 use Rattle.log_text.specs.declared.iface.Iface.{Iface}
 use Rattle.log_text.specs.contracts.iface.IfaceEq.TheImpl.Laws.{laws-law}
-use Rattle.log_decode.specs.Keys.{same_key, same_iface}
+use Rattle.log_reports.specs.Keys.{same_key, same_iface}
 use Rattle.log_decode.specs.Belonging.{is_frame_of, told_of_key}
 use Rattle.log_decode.specs.Sessions.{Sessions, Heard, session_at, losses}
 use Rattle.log_decode.specs.Decoder.{frame_taken, now_at, passed, taken, ended}
 use Rattle.log_decode.specs.View.{Bus, Buses, State, new_bus, bus_at, put_bus}
-use Rattle.log_decode.specs.declared.key.Key.{Key}
-use Rattle.log_decode.specs.declared.session.Fate.TheVariants as fates
-use Rattle.log_decode.specs.declared.told.Cause.TheVariants.{EndOfLog}
-use Rattle.log_decode.specs.declared.told.Told.{Told}
+use Rattle.log_reports.specs.declared.key.Key.{Key}
+use Rattle.log_sessions.specs.declared.session.Fate.TheVariants as fates
+use Rattle.log_reports.specs.declared.told.Cause.TheVariants.{EndOfLog}
+use Rattle.log_reports.specs.declared.told.Told.{Told}
 use Rattle.log_decode.proofs.Own.{own, of_own, own_passed, of_append, of_losses}
 use Rattle.log_decode.proofs.Apart.{other_frame, frame_elsewhere}
 use Rattle.decode_law.proofs.Alone.{none_passes}

@@ -7,8 +7,8 @@ use Rattle.lane_core.specs.declared.message.Pending.{Pending}
 use Rattle.segment_law.specs.Quiet.{quiet}
 use Rattle.log_decode.specs.Belonging.{told_of_key}
 use Rattle.log_decode.specs.View.{State}
-use Rattle.log_decode.specs.declared.told.Cause.{Cause}
-use Rattle.log_decode.specs.declared.told.Told.TheVariants.{Lost}
+use Rattle.log_reports.specs.declared.told.Cause.{Cause}
+use Rattle.log_reports.specs.declared.told.Told.TheVariants.{Lost}
 use Rattle.decode_law.specs.Hearing.{IsSendable, key_for}
 use Rattle.decode_law.specs.Lacking.{Entry, told_to_end, frames_of, LacksFrames}
 

@@ -10,10 +10,10 @@ use Rattle.log_decode.specs.Belonging.{is_frame_of, told_of_key}
 use Rattle.log_decode.specs.Sessions.{session_at}
 use Rattle.log_decode.specs.Decoder.{taken, ended}
 use Rattle.log_decode.specs.View.{Buses, State}
-use Rattle.log_decode.specs.declared.key.Key.{Key}
-use Rattle.log_decode.specs.declared.told.Cause.{Cause}
-use Rattle.log_decode.specs.declared.told.Told.{Told}
-use Rattle.log_decode.specs.declared.told.Told.TheVariants.{Given, Lost}
+use Rattle.log_reports.specs.declared.key.Key.{Key}
+use Rattle.log_reports.specs.declared.told.Cause.{Cause}
+use Rattle.log_reports.specs.declared.told.Told.{Told}
+use Rattle.log_reports.specs.declared.told.Told.TheVariants.{Given, Lost}
 use Rattle.decode_law.specs.Hearing.{key_for}
 
 -- a part of a list: its elements are in the list in that order, and others of the list may be left out

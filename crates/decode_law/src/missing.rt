@@ -2,7 +2,7 @@
 ghost use Rattle.pgn_ids.specs.declared.address.Address.{Address};
 ghost use Rattle.lane_core.specs.declared.message.Pending.{Pending};
 ghost use Rattle.decode_law.specs.Hearing.{IsSendable};
-ghost use Rattle.log_decode.specs.declared.told.Cause.TheVariants.{Missing, Acknowledged};
+ghost use Rattle.log_reports.specs.declared.told.Cause.TheVariants.{Missing, Acknowledged};
 ghost use Rattle.decode_law.specs.Examples.{Met};
 ghost use Rattle.decode_law.specs.Lacking.{IsToldRightly};
 

@@ -1,8 +1,8 @@
 -- Which messages have a form, and what each means in words.
 use Rattle.std.specs.Prelude.{ℕ, List, [], Bool, ◌||◌, ◌==◌, if◌then◌else◌}
-use Rattle.fault_lists.specs.List.{fault_list}
-use Rattle.identification_texts.specs.Texts.{identification, software_identification}
-use Rattle.identification_texts.specs.declared.naming.Kind.TheVariants.{Vehicle, Component, Ecu}
+use Rattle.explained_messages.specs.List.{fault_list}
+use Rattle.explained_messages.specs.Texts.{identification, software_identification}
+use Rattle.explained_messages.specs.declared.naming.Kind.TheVariants.{Vehicle, Component, Ecu}
 
 -- active faults (DM1), and faults that were active (DM2)
 abbrev pub is_faults : ℕ → Bool

@@ -2,9 +2,10 @@
 ghost use Rattle.std.specs.Prelude.{◌≡◌, IfOk};
 ghost use Rattle.explained_messages.specs.Groups.{is_faults, has_form, explained};
 
-use explained_lines::Line;
-use fault_lists::fault_list;
-use identification_texts::{Kind, identification, software_identification};
+use crate::line::Line;
+use crate::list::fault_list;
+use crate::naming::Kind;
+use crate::texts::{identification, software_identification};
 use pgn_ids::Pgn;
 use std::alloc::{AllocError, Global};
 

@@ -3,8 +3,8 @@ use Rattle.std.proofs.Common.{◌≡◌, ℕ, Option, Some, None, sym, ◌∙◌
 use Rattle.std.specs.Map.{keys_of, values_of}
 use Rattle.indexmap.specs.Layout.{set_value_at}
 use Rattle.indexmap.proofs.MapLemmas.{Found-position, Missing-position, insert_entry-first}
-use Rattle.log_decode.specs.Keys.{same_key}
-use Rattle.log_decode.specs.declared.key.Key.{Key}
+use Rattle.log_reports.specs.Keys.{same_key}
+use Rattle.log_reports.specs.declared.key.Key.{Key}
 use Rattle.log_courses.specs.Courses.{Courses, course_at, put, changed_at}
 use Rattle.log_courses.specs.declared.course.Course.{Course}
 

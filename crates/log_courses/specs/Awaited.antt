@@ -14,10 +14,10 @@ use Rattle.tp_wire.specs.declared.wire.CmFrame.{CmFrame}
 use Rattle.tp_wire.specs.declared.wire.CmFrame.TheVariants.{Rts, Cts, EndOfMsgAck, Bam, Abort, EtpRts, EtpCts, EtpDpo, EtpEoma, EtpAbort}
 use Rattle.tp_wire.specs.declared.wire.Wire.{Wire}
 use Rattle.tp_wire.specs.declared.wire.Wire.TheVariants.{Cm, Packet, Request, Ack}
-use Rattle.log_decode.specs.Keys.{same_key}
-use Rattle.log_decode.specs.declared.key.Key.{Key}
-use Rattle.log_decode.specs.declared.told.Told.{Told}
-use Rattle.log_decode.specs.declared.told.Told.TheVariants.{Given, Aborted, Lost}
+use Rattle.log_reports.specs.Keys.{same_key}
+use Rattle.log_reports.specs.declared.key.Key.{Key}
+use Rattle.log_reports.specs.declared.told.Told.{Told}
+use Rattle.log_reports.specs.declared.told.Told.TheVariants.{Given, Aborted, Lost}
 use Rattle.log_courses.specs.Courses.{key_between}
 use Rattle.log_courses.specs.declared.awaited.Last.{Last}
 

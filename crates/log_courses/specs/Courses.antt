@@ -14,12 +14,13 @@ use Rattle.tp_wire.specs.declared.wire.CmFrame.{CmFrame}
 use Rattle.tp_wire.specs.declared.wire.CmFrame.TheVariants.{Rts, Cts, EndOfMsgAck, Bam, Abort, EtpRts, EtpCts, EtpDpo, EtpEoma, EtpAbort}
 use Rattle.tp_wire.specs.declared.wire.Wire.{Wire}
 use Rattle.tp_wire.specs.declared.wire.Wire.TheVariants.{Cm, Packet, Request, Ack}
-use Rattle.log_decode.specs.Keys.{same_key, transport_of}
-use Rattle.log_decode.specs.declared.key.Key.{Key}
-use Rattle.log_decode.specs.declared.told.Cause.{Cause}
-use Rattle.log_decode.specs.declared.told.Cause.TheVariants.{Missing, Replaced, TimedOut, WentBack, Acknowledged, Unsound, TooLong, EndOfLog}
-use Rattle.log_decode.specs.declared.told.Told.{Told}
-use Rattle.log_decode.specs.declared.told.Told.TheVariants.{Given, Aborted, Lost}
+use Rattle.log_reports.specs.Keys.{same_key, transport_of}
+use Rattle.log_reports.specs.declared.key.Key.{Key}
+use Rattle.log_reports.specs.declared.told.Cause.{Cause}
+use Rattle.log_reports.specs.declared.told.Cause.TheVariants.{Missing, Replaced, TimedOut, WentBack, Acknowledged, Unsound, TooLong, EndOfLog}
+use Rattle.log_reports.specs.declared.told.Told.{Told}
+use Rattle.log_reports.specs.declared.told.Told.TheVariants.{Given, Aborted, Lost}
+use Rattle.log_reports.specs.Told.{key_told, pgn_told}
 use Rattle.log_courses.specs.Course.{begun, longer, noted, ended, cm_followed}
 use Rattle.log_courses.specs.declared.course.Course.{Course}
 use Rattle.log_courses.specs.declared.course.Place.{Place}
@@ -41,16 +42,6 @@ abbrev pub changed_at : (Course → Course) → Key → Courses → Courses
 changed_at f key courses = elim (course_at key courses) [ None ↦ courses | Some c ↦ put key (f c) courses ]
 
 -- A report ends a course
-
-abbrev pub key_told : Told → Key
-key_told (Given key pgn bytes) = key
-key_told (Aborted key pgn reason who) = key
-key_told (Lost key pgn have size cause) = key
-
-abbrev pub pgn_told : Told → ℕ
-pgn_told (Given key pgn bytes) = pgn
-pgn_told (Aborted key pgn reason who) = pgn
-pgn_told (Lost key pgn have size cause) = pgn
 
 -- the frame at which a message is lost for this cause is one of its own; else the message is lost since none of them follows
 abbrev pub is_by_frame : Cause → Bool

@@ -5,7 +5,7 @@ ghost use Rattle.log_courses.specs.Awaited.{is_open, awaiting, awaiting_each, me
 use crate::courses::key_between;
 use bus_frame::Frame;
 use indexmap::IndexMap;
-use log_decode::{Key, Told};
+use log_reports::{Key, Told};
 use log_text::Iface;
 use pgn_ids::{Address, Pgn, WirePgn};
 use std::alloc::{AllocError, Global};
@@ -13,7 +13,7 @@ use std::marker::Model;
 use tp_wire::{CmFrame, Kind, Wire, read};
 
 /// A message that was given to one node.
-#[derive(Clone, Copy, Debug, PartialEq, Eq)]
+#[derive(Clone, Copy)]
 pub(crate) struct Last {
     pub(crate) pgn: Pgn,
     /// Its size in bytes.

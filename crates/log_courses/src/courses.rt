@@ -2,14 +2,13 @@
 ghost use Rattle.std.specs.Prelude.{◌≡◌, [], OnOk, IfOk};
 ghost use Rattle.log_courses.specs.Course.{longer, noted, begun, cm_followed};
 ghost use Rattle.log_courses.specs.declared.marks.Step.TheVariants.{Announcement};
-ghost use Rattle.log_courses.specs.Courses.{key_told, pgn_told, is_by_frame, ends_by_frame, alone, course_of, without_told, is_refusal, refuses, is_refused, key_between, put, announced, changed_at, cm_frame_followed, wire_followed, followed};
-ghost use Rattle.log_decode.specs.Keys.{transport_of};
+ghost use Rattle.log_courses.specs.Courses.{is_by_frame, ends_by_frame, alone, course_of, without_told, is_refusal, refuses, is_refused, key_between, put, announced, changed_at, cm_frame_followed, wire_followed, followed};
 
 use crate::course::{Course, Place};
 use crate::marks::{Detail, Step};
 use bus_frame::Frame;
 use indexmap::IndexMap;
-use log_decode::{Cause, Key, Told, Transport};
+use log_reports::{Cause, Key, Told, Transport, key_told, pgn_told};
 use log_text::Iface;
 use pgn_ids::{Address, Pgn, WirePgn};
 use std::alloc::{AllocError, Global};
@@ -34,28 +33,6 @@ impl Model for Courses {
 impl Drop for Courses {
     fn drop(self) {
         let Courses { kept: _ } = self;
-    }
-}
-
-/// The key of the message that is reported.
-pub fn key_told(told: &Told) -> Key
-    ensures { result ≡ key_told told.now }
-{
-    match told {
-        Told::Given { key, .. } => *key,
-        Told::Aborted { key, .. } => *key,
-        Told::Lost { key, .. } => *key,
-    }
-}
-
-/// The PGN of the message that is reported.
-pub fn pgn_told(told: &Told) -> Pgn
-    ensures { result ≡ pgn_told told.now }
-{
-    match told {
-        Told::Given { pgn, .. } => *pgn,
-        Told::Aborted { pgn, .. } => *pgn,
-        Told::Lost { pgn, .. } => *pgn,
     }
 }
 
@@ -123,15 +100,6 @@ fn is_refused(told: &[Told]) -> bool
     false
 }
 
-fn transport_of(kind: Kind) -> Transport
-    ensures { result ≡ transport_of kind }
-{
-    match kind {
-        Kind::Tp => Transport::Tp,
-        Kind::Etp => Transport::Etp,
-    }
-}
-
 /// The key of a message that goes from a node to another one.
 pub(crate) fn key_between(iface: Iface, from: Address, to: Address, kind: Kind) -> Key
     ensures { result ≡ key_between iface from to kind }
@@ -140,7 +108,7 @@ pub(crate) fn key_between(iface: Iface, from: Address, to: Address, kind: Kind) 
         iface,
         from,
         to,
-        transport: transport_of(kind),
+        transport: Transport::of(kind),
     }
 }
 

@@ -12,5 +12,5 @@ mod marks;
 
 pub use awaited::Awaited;
 pub use course::{Course, Place};
-pub use courses::{Courses, key_told, pgn_told};
+pub use courses::Courses;
 pub use marks::{Detail, Mark, Marks, Step};

@@ -4,16 +4,16 @@ use Rattle.std.specs.Map.{keys_of, values_of}
 use Rattle.indexmap.specs.Layout.{set_value_at}
 use Rattle.indexmap.proofs.MapLemmas.{Found-position, Missing-position, insert_entry-first}
 use Rattle.pgn_ids.specs.Pgn.{clean}
-use Rattle.log_decode.specs.Keys.{same_key}
+use Rattle.log_reports.specs.Keys.{same_key}
 use Rattle.log_decode.specs.Sessions.{Sessions, Heard, session_at, put, settled, heard_at, renewed_at}
-use Rattle.log_decode.specs.Session.{renewed}
-use Rattle.log_decode.specs.declared.key.Key.{Key}
-use Rattle.log_decode.specs.declared.session.Session.{Session}
-use Rattle.log_decode.specs.declared.session.Fate.{Fate}
+use Rattle.log_sessions.specs.Session.{renewed}
+use Rattle.log_reports.specs.declared.key.Key.{Key}
+use Rattle.log_sessions.specs.declared.session.Session.{Session}
+use Rattle.log_sessions.specs.declared.session.Fate.{Fate}
 use Rattle.log_decode.specs.Stray.{packet_stray, cm_stray}
-use Rattle.log_decode.specs.declared.stray.Stray.{Stray}
-use Rattle.log_decode.specs.declared.stray.Stray.TheVariants.{Packet}
-use Rattle.log_decode.specs.declared.told.Told.{Told}
+use Rattle.log_reports.specs.declared.stray.Stray.{Stray}
+use Rattle.log_reports.specs.declared.stray.Stray.TheVariants.{Packet}
+use Rattle.log_reports.specs.declared.told.Told.{Told}
 
 -- the message of a key by its place
 pub absent : (key : Key) (es : Sessions) → position (same_key key) (keys_of es) ≡ None → session_at key es ≡ None

@@ -6,13 +6,13 @@ use Rattle.indexmap.specs.Layout.{set_value_at}
 use Rattle.indexmap.proofs.MapLemmas.{Found-position, Missing-position, insert_entry-first}
 use Rattle.bus_frame.specs.Frames.{CanFrame}
 use Rattle.log_text.specs.declared.iface.Iface.{Iface}
-use Rattle.log_decode.specs.Keys.{same_iface}
+use Rattle.log_reports.specs.Keys.{same_iface}
 use Rattle.log_decode.specs.Sessions.{losses}
 use Rattle.log_decode.specs.View.{Bus, Buses, State, new_bus, bus_at, put_bus}
 use Rattle.log_decode.specs.Decoder.{bus_taken, taken, ended}
-use Rattle.log_decode.specs.declared.session.Fate.TheVariants.{Lost}
-use Rattle.log_decode.specs.declared.told.Cause.TheVariants.{EndOfLog}
-use Rattle.log_decode.specs.declared.told.Told.{Told}
+use Rattle.log_sessions.specs.declared.session.Fate.TheVariants.{Lost}
+use Rattle.log_reports.specs.declared.told.Cause.TheVariants.{EndOfLog}
+use Rattle.log_reports.specs.declared.told.Told.{Told}
 use Rattle.log_decode.proofs.Silences.{same_some, none_is_some}
 
 pub there : (iface : Iface) (bs : Buses) (at : ℕ) (b : Bus) → position (same_iface iface) (keys_of bs) ≡ Some at → slice_get (values_of bs) at ≡ Some b → bus_at iface bs ≡ b

@@ -9,11 +9,12 @@ use Rattle.tp_wire.specs.declared.wire.CmFrame.{CmFrame}
 use Rattle.tp_wire.specs.declared.wire.CmFrame.TheVariants as frames
 use Rattle.tp_wire.specs.declared.wire.Wire.{Wire}
 use Rattle.tp_wire.specs.declared.wire.Wire.TheVariants.{Cm, Packet, Request, Ack}
-use Rattle.log_decode.specs.Keys.{key_of, key_back, same_key}
-use Rattle.log_decode.specs.declared.key.Key.{Key}
-use Rattle.log_decode.specs.declared.key.Way.{Way}
-use Rattle.log_decode.specs.declared.told.Told.{Told}
-use Rattle.log_decode.specs.declared.told.Told.TheVariants.{Given, Aborted, Lost}
+use Rattle.log_reports.specs.Keys.{same_key}
+use Rattle.log_decode.specs.Ways.{key_of, key_back}
+use Rattle.log_reports.specs.declared.key.Key.{Key}
+use Rattle.log_decode.specs.declared.way.Way.{Way}
+use Rattle.log_reports.specs.declared.told.Told.{Told}
+use Rattle.log_reports.specs.Told.{key_told}
 
 -- RTS, BAM and DPO go from the sender of a message to its destination, CTS and the end acknowledgement go back, and an abort may
 -- be from either end
@@ -39,12 +40,6 @@ keys_of way (Ack control address pgn) = []
 -- whether a frame on an interface belongs to the message of this key
 abbrev pub is_frame_of : Key → Iface → CanFrame → Bool
 is_frame_of key iface frame = elim (reading frame) [ None ↦ false | Some r ↦ list_any (same_key key) (keys_of (record { iface = iface; from = r.1; to = r.2 }) r.0) ]
-
--- the key of the message that is reported
-abbrev pub key_told : Told → Key
-key_told (Given key pgn bytes) = key
-key_told (Aborted key pgn reason who) = key
-key_told (Lost key pgn have size cause) = key
 
 -- the reports on the messages of this key
 abbrev pub told_of_key : Key → List Told → List Told

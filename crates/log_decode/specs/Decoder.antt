@@ -12,15 +12,15 @@ use Rattle.tp_wire.specs.declared.wire.CmFrame.{CmFrame}
 use Rattle.tp_wire.specs.declared.wire.CmFrame.TheVariants.{Rts, Cts, EndOfMsgAck, Bam, Abort, EtpRts, EtpCts, EtpDpo, EtpEoma, EtpAbort}
 use Rattle.tp_wire.specs.declared.wire.Wire.{Wire}
 use Rattle.tp_wire.specs.declared.wire.Wire.TheVariants.{Cm, Packet, Request, Ack}
-use Rattle.log_decode.specs.Keys.{key_of, key_back}
+use Rattle.log_decode.specs.Ways.{key_of, key_back}
 use Rattle.log_decode.specs.Sessions.{Heard, announced, cm_taken, packet_taken, abort_taken, is_of, losses, silenced, broken_off}
 use Rattle.log_decode.specs.View.{Bus, Buses, State, bus_at, put_bus}
-use Rattle.log_decode.specs.declared.key.Way.{Way}
+use Rattle.log_decode.specs.declared.way.Way.{Way}
 use Rattle.log_decode.specs.declared.sessions.News.{News}
-use Rattle.log_decode.specs.declared.session.Fate.TheVariants.{Lost}
-use Rattle.log_decode.specs.declared.told.Cause.TheVariants.{EndOfLog}
-use Rattle.log_decode.specs.declared.told.Told.{Told}
-use Rattle.log_decode.specs.declared.told.Told.TheVariants.{Aborted}
+use Rattle.log_sessions.specs.declared.session.Fate.TheVariants.{Lost}
+use Rattle.log_reports.specs.declared.told.Cause.TheVariants.{EndOfLog}
+use Rattle.log_reports.specs.declared.told.Told.{Told}
+use Rattle.log_reports.specs.declared.told.Told.TheVariants.{Aborted}
 
 -- a message of the transport protocol is announced, in as many packets as its size takes
 abbrev pub tp_news : (pgn size packets : ℕ) → News

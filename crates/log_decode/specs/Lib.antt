@@ -1,5 +1,4 @@
-pub mod Keys
-pub mod Session
+pub mod Ways
 pub mod Sessions
 pub mod Due
 pub mod View

@@ -5,17 +5,17 @@ use Rattle.indexmap.specs.IndexMap.{insert_entry}
 use Rattle.pgn_ids.specs.Pgn.{clean}
 use Rattle.pgn_ids.specs.declared.address.Address.{Address}
 use Rattle.tp_wire.specs.declared.wire.CmFrame.{CmFrame}
-use Rattle.log_decode.specs.Keys.{same_key}
-use Rattle.log_decode.specs.Session.{opened, renewed, is_again, sequence_heard, heard, abort_heard, is_silent, told_of}
-use Rattle.log_decode.specs.declared.key.Key.{Key}
-use Rattle.log_decode.specs.declared.session.Session.{Session}
-use Rattle.log_decode.specs.declared.session.Fate.{Fate}
-use Rattle.log_decode.specs.declared.session.Fate.TheVariants as fates
+use Rattle.log_reports.specs.Keys.{same_key}
+use Rattle.log_sessions.specs.Session.{opened, renewed, is_again, sequence_heard, heard, abort_heard, is_silent, told_of}
+use Rattle.log_reports.specs.declared.key.Key.{Key}
+use Rattle.log_sessions.specs.declared.session.Session.{Session}
+use Rattle.log_sessions.specs.declared.session.Fate.{Fate}
+use Rattle.log_sessions.specs.declared.session.Fate.TheVariants as fates
 use Rattle.log_decode.specs.declared.sessions.News.{News}
-use Rattle.log_decode.specs.declared.told.Cause.{Cause}
-use Rattle.log_decode.specs.declared.told.Cause.TheVariants.{Replaced, TimedOut, WentBack, Unsound, TooLong}
-use Rattle.log_decode.specs.declared.told.Told.{Told}
-use Rattle.log_decode.specs.declared.told.Told.TheVariants.{Lost}
+use Rattle.log_reports.specs.declared.told.Cause.{Cause}
+use Rattle.log_reports.specs.declared.told.Cause.TheVariants.{Replaced, TimedOut, WentBack, Unsound, TooLong}
+use Rattle.log_reports.specs.declared.told.Told.{Told}
+use Rattle.log_reports.specs.declared.told.Told.TheVariants.{Lost}
 
 abbrev pub Sessions : Type 0
 Sessions = List (Key × Session)

@@ -8,14 +8,14 @@ use Rattle.tp_wire.specs.declared.wire.CmFrame.{CmFrame}
 use Rattle.tp_wire.specs.declared.wire.CmFrame.TheVariants as frames
 use Rattle.tp_wire.specs.declared.wire.Wire.{Wire}
 use Rattle.tp_wire.specs.declared.wire.Wire.TheVariants as wires
-use Rattle.log_decode.specs.Keys.{key_of, key_back}
+use Rattle.log_decode.specs.Ways.{key_of, key_back}
 use Rattle.log_decode.specs.Sessions.{Sessions, session_at, is_of, silent_entry}
 use Rattle.log_decode.specs.Decoder.{goes_back}
 use Rattle.log_decode.specs.View.{Bus, State, bus_at}
-use Rattle.log_decode.specs.declared.key.Key.{Key}
-use Rattle.log_decode.specs.declared.key.Way.{Way}
-use Rattle.log_decode.specs.declared.stray.Stray.{Stray}
-use Rattle.log_decode.specs.declared.stray.Stray.TheVariants.{Packet, Window, Acknowledgement}
+use Rattle.log_reports.specs.declared.key.Key.{Key}
+use Rattle.log_decode.specs.declared.way.Way.{Way}
+use Rattle.log_reports.specs.declared.stray.Stray.{Stray}
+use Rattle.log_reports.specs.declared.stray.Stray.TheVariants.{Packet, Window, Acknowledgement}
 
 -- a packet is stray if no message is under way at its key
 abbrev pub packet_stray : Key → Sessions → Option Stray

@@ -6,10 +6,9 @@ ghost use Rattle.log_decode.specs.View.{bus_at};
 
 use crate::bus::Bus;
 use crate::places::place_of;
-use crate::stray::Stray;
-use crate::told::Told;
 use bus_frame::Frame;
 use indexmap::IndexMap;
+use log_reports::{Stray, Told};
 use log_text::Iface;
 use std::alloc::{AllocError, Global};
 use std::marker::Model;

@@ -3,11 +3,10 @@ ghost use Rattle.std.specs.Prelude.{◌≡◌, OnOk, IfOk};
 ghost use Rattle.log_decode.specs.Decoder.{tp_news, etp_news, both_aborted, aborted, cm_frame_taken, wire_taken, frame_taken};
 ghost use Rattle.log_decode.specs.Stray.{cm_frame_stray, wire_stray, frame_stray};
 
-use crate::key::Way;
 use crate::sessions::{News, Sessions, announce, is_of, take_abort, take_cm, take_packet};
-use crate::stray::Stray;
-use crate::told::Told;
+use crate::way::Way;
 use bus_frame::Frame;
+use log_reports::{Stray, Told};
 use log_text::Iface;
 use pgn_ids::WirePgn;
 use seg_cut::packets;

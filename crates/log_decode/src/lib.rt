@@ -9,17 +9,9 @@
 mod bus;
 mod decoder;
 mod frames;
-mod key;
 mod places;
-mod session;
 mod sessions;
 mod silence;
-mod stray;
-mod told;
+mod way;
 
 pub use decoder::Decoder;
-pub use key::{Key, Transport};
-pub use message_events::Bytes;
-pub use session::{CONNECTION_PATIENCE, Fate, Session};
-pub use stray::Stray;
-pub use told::{Cause, Told};

@@ -1,16 +1,14 @@
 //! The messages under way, in the order in which they were announced.
-ghost use Rattle.std.specs.Prelude.{◌≡◌, ◌++◌, OnOk, IfOk, option_to_list};
+ghost use Rattle.std.specs.Prelude.{◌≡◌, ◌++◌, None, Some, OnOk, IfOk, if◌then◌else◌, option_to_list};
 ghost use Rattle.log_decode.specs.Sessions.{settled, packet_taken, cm_taken, abort_taken, renewed_at, is_again_at, is_of, not_begun, opened_at, announced, losses};
-ghost use Rattle.log_decode.specs.declared.session.Fate.TheVariants.{Lost};
+ghost use Rattle.log_sessions.specs.declared.session.Fate.TheVariants.{Lost};
 ghost use Rattle.log_decode.specs.Stray.{packet_stray, cm_stray};
 ghost use Rattle.tp_wire.specs.Rows.{cm_pgn};
 
-use crate::key::Key;
 use crate::places::place_of;
-use crate::session::{Fate, Session};
-use crate::stray::{Stray, stray_unless};
-use crate::told::{Cause, Told};
 use indexmap::IndexMap;
+use log_reports::{Cause, Key, Stray, Told};
+use log_sessions::{Fate, Session};
 use pgn_ids::{Address, WirePgn};
 use std::alloc::{AllocError, Global};
 use tp_wire::CmFrame;
@@ -64,6 +62,13 @@ pub(crate) fn take_packet(
     let fate = sessions[at].hear_packet(key.to, sequence, bytes, now)?;
     settle(sessions, key, fate, told)?;
     Ok(None)
+}
+
+/// What a frame is whose message is under way or not.
+fn stray_unless(is_of: bool, kind: Stray) -> Option<Stray>
+    ensures { result ≡ (if is_of then None else Some kind) }
+{
+    if is_of { None } else { Some(kind) }
 }
 
 /// Takes a connection management frame that is neither an announcement nor an abort. It is of this kind if its message
@@ -137,7 +142,7 @@ fn renew(sessions: &mut Sessions, key: Key, now: u64)
 }
 
 /// A message as it is announced: its PGN field and its size in bytes, and whether a transport carries such a one.
-#[derive(Clone, Copy, PartialEq, Eq)]
+#[derive(Clone, Copy)]
 pub(crate) struct News {
     pub(crate) pgn: WirePgn,
     pub(crate) size: u32,

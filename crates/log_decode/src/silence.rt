@@ -1,15 +1,14 @@
 //! The messages under way whose frames have stopped.
 ghost use Rattle.std.specs.Prelude.{◌≡◌, ◌++◌, OnOk, IfOk, not, filter, None, if◌then◌else◌};
-ghost use Rattle.log_decode.specs.Session.{is_silent, told_of};
+ghost use Rattle.log_sessions.specs.Session.{is_silent, told_of};
 ghost use Rattle.log_decode.specs.Sessions.{silent_entry, losses, silenced};
 ghost use Rattle.log_decode.specs.Due.{NoneDueBefore};
-ghost use Rattle.log_decode.specs.declared.session.Fate.TheVariants.{Lost};
-ghost use Rattle.log_decode.specs.declared.told.Cause.TheVariants.{TimedOut};
+ghost use Rattle.log_sessions.specs.declared.session.Fate.TheVariants.{Lost};
+ghost use Rattle.log_reports.specs.declared.told.Cause.TheVariants.{TimedOut};
 
-use crate::key::Key;
-use crate::session::Session;
 use crate::sessions::{Sessions, tell};
-use crate::told::{Cause, Told};
+use log_reports::{Cause, Key, Told};
+use log_sessions::Session;
 use std::alloc::AllocError;
 
 /// The report that a message is lost, if it is silent.

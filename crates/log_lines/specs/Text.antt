@@ -8,11 +8,11 @@ use Rattle.text_digits.specs.Digits.{digits, unspaced}
 use Rattle.log_text.specs.Iface.{name_of}
 use Rattle.log_text.specs.Written.{time_text}
 use Rattle.log_text.specs.declared.iface.Iface.{Iface}
-use Rattle.log_decode.specs.declared.key.Key.{Key}
-use Rattle.log_decode.specs.declared.told.Cause.{Cause}
-use Rattle.log_decode.specs.declared.told.Cause.TheVariants.{Missing, Replaced, TimedOut, WentBack, Acknowledged, Unsound, TooLong, EndOfLog}
-use Rattle.log_decode.specs.declared.told.Told.{Told}
-use Rattle.log_decode.specs.declared.told.Told.TheVariants.{Given, Aborted, Lost}
+use Rattle.log_reports.specs.declared.key.Key.{Key}
+use Rattle.log_reports.specs.declared.told.Cause.{Cause}
+use Rattle.log_reports.specs.Causes.{cause_words}
+use Rattle.log_reports.specs.declared.told.Told.{Told}
+use Rattle.log_reports.specs.declared.told.Told.TheVariants.{Given, Aborted, Lost}
 
 -- the time, the interface, and what was seen there
 abbrev pub place_text : ℕ → Iface → List ℕ → List ℕ
@@ -35,23 +35,13 @@ way_text from to pgn = ends_text from to ++ pgn_text pgn ++ codes " "
 abbrev pub message_text : List ℕ → List ℕ
 message_text bytes = decimal (length bytes) ++ codes " " ++ unspaced bytes ++ codes "\n"
 
-abbrev pub cause_text : Cause → List ℕ
-cause_text Missing = codes "packet missing\n"
-cause_text Replaced = codes "replaced\n"
-cause_text TimedOut = codes "timed out\n"
-cause_text WentBack = codes "time went back\n"
-cause_text Acknowledged = codes "acknowledged\n"
-cause_text Unsound = codes "wrong size\n"
-cause_text TooLong = codes "too long\n"
-cause_text EndOfLog = codes "end of log\n"
-
 -- the reason of an abort, and whose it is
 abbrev pub abort_text : ℕ → Address → List ℕ
 abort_text reason who = decimal reason ++ codes " " ++ address_text who ++ codes "\n"
 
 -- how many bytes were received, of how many, and why the others weren't
 abbrev pub loss_text : (have size : ℕ) → Cause → List ℕ
-loss_text have size cause = decimal have ++ codes " " ++ decimal size ++ codes " " ++ cause_text cause
+loss_text have size cause = decimal have ++ codes " " ++ decimal size ++ codes " " ++ cause_words cause ++ codes "\n"
 
 -- where and when a message was reported, how it ended, between which addresses it went, and its PGN
 abbrev pub head_text : ℕ → Key → (what : List ℕ) → (pgn : ℕ) → List ℕ

@@ -2,7 +2,7 @@
 ghost use Rattle.std.specs.Prelude.{◌≡◌, ◌++◌, OnOk};
 ghost use Rattle.log_lines.specs.Explained.{words_line, words_lines};
 
-use explained_lines::Line;
+use explained_messages::Line;
 use std::alloc::AllocError;
 use text_digits::put_text;
 

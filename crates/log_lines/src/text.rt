@@ -1,9 +1,9 @@
 //! The printed text of a log.
 ghost use Rattle.std.specs.Prelude.{◌≡◌, ◌++◌, OnOk};
-ghost use Rattle.log_lines.specs.Text.{place_text, address_text, pgn_text, ends_text, way_text, head_text, message_text, cause_text, abort_text, loss_text, given_line, aborted_line, lost_line, told_line, between_texts, wrong_line, single_line};
+ghost use Rattle.log_lines.specs.Text.{place_text, address_text, pgn_text, ends_text, way_text, head_text, message_text, abort_text, loss_text, given_line, aborted_line, lost_line, told_line, between_texts, wrong_line, single_line};
 
 use bus_frame::Frame;
-use log_decode::{Cause, Key, Told};
+use log_reports::{Cause, Key, Told, cause_words};
 use log_text::{Iface, put_time};
 use pgn_ids::{Address, Pgn, read_id};
 use std::alloc::AllocError;
@@ -60,21 +60,6 @@ fn put_message(out: &mut Vec<u8>, bytes: &[u8]) -> Result<(), AllocError>
     put_text(out, "\n")
 }
 
-fn put_cause(out: &mut Vec<u8>, cause: Cause) -> Result<(), AllocError>
-    ensures { OnOk result (out.new.items ≡ out.old.items ++ cause_text cause) }
-{
-    match cause {
-        Cause::Missing => put_text(out, "packet missing\n"),
-        Cause::Replaced => put_text(out, "replaced\n"),
-        Cause::TimedOut => put_text(out, "timed out\n"),
-        Cause::WentBack => put_text(out, "time went back\n"),
-        Cause::Acknowledged => put_text(out, "acknowledged\n"),
-        Cause::Unsound => put_text(out, "wrong size\n"),
-        Cause::TooLong => put_text(out, "too long\n"),
-        Cause::EndOfLog => put_text(out, "end of log\n"),
-    }
-}
-
 fn put_abort(out: &mut Vec<u8>, reason: u8, who: Address) -> Result<(), AllocError>
     ensures { OnOk result (out.new.items ≡ out.old.items ++ abort_text reason who) }
 {
@@ -91,7 +76,8 @@ fn put_loss(out: &mut Vec<u8>, have: u32, size: u32, cause: Cause) -> Result<(),
     put_text(out, " ")?;
     put_decimal(out, u64::from(size))?;
     put_text(out, " ")?;
-    put_cause(out, cause)
+    put_text(out, cause_words(cause))?;
+    put_text(out, "\n")
 }
 
 /// Where and when a message was reported, how it ended, between which addresses it went, and its PGN.

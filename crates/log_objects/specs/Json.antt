@@ -11,28 +11,17 @@ use Rattle.log_text.specs.declared.iface.Iface.{Iface}
 use Rattle.log_courses.specs.declared.course.Course.{Course}
 use Rattle.log_courses.specs.declared.course.Place.{Place}
 use Rattle.log_courses.specs.declared.marks.Detail.{Detail}
-use Rattle.log_decode.specs.declared.key.Key.{Key}
-use Rattle.log_decode.specs.declared.told.Cause.{Cause}
-use Rattle.log_decode.specs.declared.told.Cause.TheVariants.{Missing, Replaced, TimedOut, WentBack, Acknowledged, Unsound, TooLong, EndOfLog}
-use Rattle.log_decode.specs.declared.told.Told.{Told}
-use Rattle.log_decode.specs.declared.told.Told.TheVariants.{Given, Aborted, Lost}
+use Rattle.log_reports.specs.declared.key.Key.{Key}
+use Rattle.log_reports.specs.declared.told.Cause.{Cause}
+use Rattle.log_reports.specs.Causes.{cause_words}
+use Rattle.log_reports.specs.declared.told.Told.{Told}
+use Rattle.log_reports.specs.declared.told.Told.TheVariants.{Given, Aborted, Lost}
 use Rattle.log_objects.specs.Explained.{with_explained}
 use Rattle.log_objects.specs.Frames.{with_frames}
 
 -- the number and the time of a frame
 abbrev pub place_object : Place → Data
 place_object p = object_of ((codes "number", count_of p.number) ∷ (codes "time", count_of p.time) ∷ [])
-
--- the words of a cause, as in the lines of text
-abbrev pub cause_words : Cause → List ℕ
-cause_words Missing = codes "packet missing"
-cause_words Replaced = codes "replaced"
-cause_words TimedOut = codes "timed out"
-cause_words WentBack = codes "time went back"
-cause_words Acknowledged = codes "acknowledged"
-cause_words Unsound = codes "wrong size"
-cause_words TooLong = codes "too long"
-cause_words EndOfLog = codes "end of log"
 
 -- the place of a message of a length, and how it ended
 abbrev pub measured_members : (now : ℕ) → Iface → (kind : List ℕ) → Course → (size pgn : ℕ) → (to : Address) → List Named

@@ -6,7 +6,7 @@ ghost use Rattle.serde_json.specs.Written.{comma_if, compact_text, items_text};
 ghost use Rattle.log_objects.specs.Explained.{explained_array, explained_text};
 
 use crate::frames::put_comma;
-use explained_lines::Line;
+use explained_messages::Line;
 use json_objects::{put_key, put_quoted};
 use std::alloc::AllocError;
 use text_digits::put_text;

@@ -8,4 +8,4 @@ mod explained;
 mod frames;
 mod objects;
 
-pub use objects::{cause_words, put_single_object, put_told_object, put_wrong_object};
+pub use objects::{put_single_object, put_told_object, put_wrong_object};

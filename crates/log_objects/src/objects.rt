@@ -3,35 +3,20 @@ ghost use Rattle.std.specs.Prelude.{◌≡◌, ◌++◌, OnOk, true, length, cod
 ghost use Rattle.json_objects.specs.Objects.{count_of, member_text, object_line, rest_text};
 ghost use Rattle.serde_json.specs.Data.{string};
 ghost use Rattle.log_text.specs.Iface.{name_of};
-ghost use Rattle.log_objects.specs.Json.{place_object, cause_words, measured_members, given_members, abort_members, aborted_members, lost_members, frame_members, told_object, single_object, wrong_object};
+ghost use Rattle.log_reports.specs.Causes.{cause_words};
+ghost use Rattle.log_objects.specs.Json.{place_object, measured_members, given_members, abort_members, aborted_members, lost_members, frame_members, told_object, single_object, wrong_object};
 
 use crate::explained::put_explained;
 use crate::frames::put_frames;
 use bus_frame::Frame;
-use explained_lines::Line;
+use explained_messages::Line;
 use json_objects::{put_hex, put_key, put_number, put_string};
 use log_courses::{Course, Detail, Place};
-use log_decode::{Cause, Key, Told};
+use log_reports::{Cause, Key, Told, cause_words};
 use log_text::Iface;
 use pgn_ids::{Address, Pgn, read_id};
 use std::alloc::AllocError;
 use text_digits::put_text;
-
-/// The words of a cause.
-pub fn cause_words(cause: Cause) -> &'static str
-    ensures { result.now ≡ cause_words cause }
-{
-    match cause {
-        Cause::Missing => "packet missing",
-        Cause::Replaced => "replaced",
-        Cause::TimedOut => "timed out",
-        Cause::WentBack => "time went back",
-        Cause::Acknowledged => "acknowledged",
-        Cause::Unsound => "wrong size",
-        Cause::TooLong => "too long",
-        Cause::EndOfLog => "end of log",
-    }
-}
 
 /// A member that gives the place of a frame in the log.
 fn put_place(out: &mut Vec<u8>, name: &str, place: Place) -> Result<(), AllocError>

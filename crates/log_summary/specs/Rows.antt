@@ -7,13 +7,13 @@ use Rattle.log_text.specs.Iface.{name_of}
 use Rattle.log_text.specs.declared.iface.Iface.{Iface}
 use Rattle.pgn_ids.specs.declared.address.Address.{Address}
 use Rattle.log_courses.specs.Course.{counted, more}
-use Rattle.log_courses.specs.Courses.{key_told, pgn_told}
+use Rattle.log_reports.specs.Told.{key_told, pgn_told}
 use Rattle.log_courses.specs.declared.course.Course.{Course}
-use Rattle.log_decode.specs.declared.key.Key.{Key}
-use Rattle.log_decode.specs.declared.told.Cause.{Cause}
-use Rattle.log_decode.specs.declared.told.Cause.TheVariants.{Missing, Replaced, TimedOut, WentBack, Acknowledged, Unsound, TooLong, EndOfLog}
-use Rattle.log_decode.specs.declared.told.Told.{Told}
-use Rattle.log_decode.specs.declared.told.Told.TheVariants.{Given, Aborted, Lost}
+use Rattle.log_reports.specs.declared.key.Key.{Key}
+use Rattle.log_reports.specs.declared.told.Cause.{Cause}
+use Rattle.log_reports.specs.declared.told.Cause.TheVariants.{Missing, Replaced, TimedOut, WentBack, Acknowledged, Unsound, TooLong, EndOfLog}
+use Rattle.log_reports.specs.declared.told.Told.{Told}
+use Rattle.log_reports.specs.declared.told.Told.TheVariants.{Given, Aborted, Lost}
 use Rattle.log_summary.specs.declared.key.Name.{Name}
 use Rattle.log_summary.specs.declared.key.RowKey.{RowKey}
 use Rattle.log_summary.specs.declared.key.AbortKey.{AbortKey}

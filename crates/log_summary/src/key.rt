@@ -2,7 +2,7 @@
 ghost use Rattle.std.specs.Prelude.{◌≡◌};
 ghost use Rattle.log_summary.specs.Rows.{padded, name_of_iface, row_key};
 
-use log_decode::Key;
+use log_reports::Key;
 use log_text::Iface;
 use pgn_ids::{Address, Pgn};
 

@@ -4,7 +4,7 @@ use Rattle.std.specs.Fmt.{decimal}
 use Rattle.json_objects.specs.Objects.{Named, object_of, count_of, object_line}
 use Rattle.serde_json.specs.Data.{Data, string}
 use Rattle.log_text.specs.Iface.{name_of}
-use Rattle.log_objects.specs.Json.{cause_words}
+use Rattle.log_reports.specs.Causes.{cause_words}
 use Rattle.log_summary.specs.Rows.{Summary, rows_of, aborts_of, losses_of, frames_on, mean_of, share_of}
 use Rattle.log_summary.specs.declared.row.LossCount.{LossCount}
 use Rattle.log_summary.specs.declared.row.Row.{Row}

@@ -5,7 +5,7 @@ use Rattle.pgn_ids.specs.declared.address.Address.{Address}
 use Rattle.text_digits.specs.Digits.{digits}
 use Rattle.log_text.specs.Iface.{name_of}
 use Rattle.log_text.specs.declared.iface.Iface.{Iface}
-use Rattle.log_objects.specs.Json.{cause_words}
+use Rattle.log_reports.specs.Causes.{cause_words}
 use Rattle.log_summary.specs.Rows.{Summary, rows_of, aborts_of, losses_of, frames_on, mean_of, share_of}
 use Rattle.log_summary.specs.declared.row.LossCount.{LossCount}
 use Rattle.log_summary.specs.declared.row.Row.{Row}

@@ -10,7 +10,7 @@ ghost use Rattle.summary_lines.specs.Json.{abort_member, aborts_object, loss_mem
 
 use itoa::Buffer;
 use json_objects::{put_key, put_number, put_string};
-use log_objects::cause_words;
+use log_reports::cause_words;
 use log_summary::{AbortCount, LossCount, Row, Summary};
 use pgn_ids::{Address, Pgn};
 use std::alloc::{AllocError, Global};

@@ -1,7 +1,8 @@
 //! A listener that is called frame by frame.
 use crate::checks::{got, holds, same};
 use bus_frame::{CanId, Frame};
-use log_decode::{Cause, Decoder, Told, Transport};
+use log_decode::Decoder;
+use log_reports::{Cause, Told, Transport};
 use log_text::Iface;
 use std::alloc::Global;
 use std::process::Abort;

@@ -1,0 +1,5 @@
+mod LampSteps
+mod Steps
+pub mod FieldSteps
+pub mod FieldWalk
+mod Named

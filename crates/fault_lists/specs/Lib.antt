@@ -1,3 +1,0 @@
-pub mod Lamps
-pub mod Faults
-pub mod List

@@ -1,3 +1,0 @@
-pub mod FieldSteps
-pub mod FieldWalk
-mod Named

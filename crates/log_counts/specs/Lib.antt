@@ -1,0 +1,3 @@
+pub mod Options
+pub mod Strays
+pub mod Counts

@@ -1,0 +1,43 @@
+-- The frames of a log that belong to no message.
+use Rattle.std.specs.Prelude.{ℕ, ◌+◌, ◌-◌, ◌^◌, List, ◌++◌, codes, Bool, min, if◌then◌else◌, Option, Some, None}
+use Rattle.std.specs.Fmt.{decimal}
+use Rattle.bus_frame.specs.Frames.{CanFrame}
+use Rattle.log_text.specs.declared.iface.Iface.{Iface}
+use Rattle.log_courses.specs.Awaited.{Awaited, met}
+use Rattle.log_reports.specs.declared.stray.Stray.{Stray}
+use Rattle.log_reports.specs.declared.stray.Stray.TheVariants.{Packet, Window, Acknowledgement}
+use Rattle.log_counts.specs.declared.strays.Strays.{Strays}
+
+-- one more, within 64 bits
+abbrev pub more : ℕ → ℕ
+more n = min (n + 1) (2 ^ 64 - 1)
+
+abbrev pub no_strays : Strays
+no_strays = record { packets = 0; windows = 0; acknowledgements = 0 }
+
+-- a frame that belongs to no message counts by its kind
+abbrev pub with_stray : Option Stray → Strays → Strays
+with_stray None s = s
+with_stray (Some Packet) s = record s { packets = more s.packets }
+with_stray (Some Window) s = record s { windows = more s.windows }
+with_stray (Some Acknowledgement) s = record s { acknowledgements = more s.acknowledgements }
+
+-- an end acknowledgement of the message that was given last belongs to that message
+abbrev pub kept_unless : Awaited × Bool → Awaited × Option Stray
+kept_unless m = (m.0, if m.1 then None else Some Acknowledgement)
+
+abbrev pub stray_left : Option Stray → Iface → CanFrame → Awaited → Awaited × Option Stray
+stray_left None iface frame awaited = (awaited, None)
+stray_left (Some Packet) iface frame awaited = (awaited, Some Packet)
+stray_left (Some Window) iface frame awaited = (awaited, Some Window)
+stray_left (Some Acknowledgement) iface frame awaited = kept_unless (met iface frame awaited)
+
+abbrev pub parts_text : Strays → List ℕ
+parts_text s = codes "stray packets " ++ decimal s.packets ++ codes " windows " ++ decimal s.windows
+
+abbrev pub ends_text : Strays → List ℕ
+ends_text s = codes " acknowledgements " ++ decimal s.acknowledgements
+
+-- each number behind its name
+abbrev pub strays_text : Strays → List ℕ
+strays_text s = parts_text s ++ ends_text s

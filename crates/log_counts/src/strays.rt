@@ -1,0 +1,97 @@
+//! The frames of a log that belong to no message.
+ghost use Rattle.std.specs.Prelude.{◌≡◌, Some, IfOk};
+ghost use Rattle.std.specs.Fmt.{DisplaysOnOk};
+ghost use Rattle.log_counts.specs.Strays.{no_strays, with_stray, stray_left, parts_text, ends_text, strays_text};
+
+use bus_frame::Frame;
+use log_courses::Awaited;
+use log_reports::Stray;
+use log_text::Iface;
+use std::alloc::AllocError;
+use std::fmt;
+
+/// The frames of a transport that belong to no message, by their kind. A number that would pass 2^64 - 1 stays there.
+#[derive(Clone, Copy, Debug, PartialEq, Eq)]
+pub struct Strays {
+    /// Packets.
+    pub packets: u64,
+    /// CTS and data packet offsets.
+    pub windows: u64,
+    /// End acknowledgements.
+    pub acknowledgements: u64,
+}
+
+impl Strays {
+    /// There was none.
+    pub fn none() -> Strays
+        ensures { result ≡ no_strays }
+    {
+        Strays {
+            packets: 0,
+            windows: 0,
+            acknowledgements: 0,
+        }
+    }
+
+    /// Counts a stray frame, if one was seen.
+    pub fn add(&mut self, stray: Option<Stray>)
+        ensures { self.new ≡ with_stray stray self.old }
+    {
+        match stray {
+            None => {}
+            Some(Stray::Packet) => self.packets = self.packets.saturating_add(1),
+            Some(Stray::Window) => self.windows = self.windows.saturating_add(1),
+            Some(Stray::Acknowledgement) => {
+                self.acknowledgements = self.acknowledgements.saturating_add(1);
+            }
+        }
+    }
+}
+
+/// The kind of a frame whose message isn't under way. The end acknowledgement of the message that was given last
+/// belongs to that.
+pub fn stray_left(
+    awaited: &mut Awaited,
+    stray: Option<Stray>,
+    iface: Iface,
+    frame: &Frame,
+) -> Result<Option<Stray>, AllocError>
+    ensures { IfOk result (λ left. (awaited.new, left) ≡ stray_left stray iface frame.now awaited.old) }
+{
+    match stray {
+        None => Ok(None),
+        Some(Stray::Packet) => Ok(stray),
+        Some(Stray::Window) => Ok(stray),
+        Some(Stray::Acknowledgement) => {
+            if awaited.meet(iface, frame)? {
+                return Ok(None);
+            }
+            Ok(stray)
+        }
+    }
+}
+
+/// What parts of messages there were.
+fn put_parts<W: fmt::Write>(strays: &Strays, f: &mut fmt::Formatter<W>) -> fmt::Result
+    ensures { DisplaysOnOk W.write_str_gives f.old result (Some (parts_text strays.now)) f.new }
+{
+    let (packets, windows) = (strays.packets, strays.windows);
+    write!(f, "stray packets {packets} windows {windows}")
+}
+
+/// What ends of messages there were.
+fn put_ends<W: fmt::Write>(strays: &Strays, f: &mut fmt::Formatter<W>) -> fmt::Result
+    ensures { DisplaysOnOk W.write_str_gives f.old result (Some (ends_text strays.now)) f.new }
+{
+    let acknowledgements = strays.acknowledgements;
+    write!(f, " acknowledgements {acknowledgements}")
+}
+
+impl fmt::Display for Strays {
+    ghost output = { λ s. Some (strays_text s) };
+
+    fn fmt<W: fmt::Write>(&self, f: &mut fmt::Formatter<W>) -> fmt::Result {
+        put_parts(self, f)?;
+        put_ends(self, f)
+    }
+}
