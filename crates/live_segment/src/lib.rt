@@ -21,6 +21,7 @@ mod home;
 mod live;
 mod news;
 mod offer;
+mod passing;
 mod places;
 mod readers;
 mod refused;
@@ -32,6 +33,7 @@ mod step;
 mod tell;
 mod turns;
 mod wanted;
+mod watched;
 
 pub use call::{Owed, WorkerCall};
 pub use calls::Piece;

@@ -7,8 +7,9 @@ use crate::cutting::cut_seats as cut_each;
 use crate::home::Home;
 use crate::offer::{Ready, find_ready, store as store_front};
 use crate::settle::settle_event as settle_one;
+use crate::watched::Watched;
 use pgn_ids::Address;
-use segment_core::{Event, Segment};
+use segment_core::Event;
 use segment_rings::{Bell, Seat};
 use std::alloc::{AllocError, Global};
 use std::collections::VecDeque;
@@ -177,7 +178,7 @@ impl Seats {
     pub(crate) fn make_ready(
         &mut self,
         alloc: Global,
-        segment: &Segment,
+        segment: &Watched,
         calls: &mut Calls,
         owed: &mut Vec<Owed>,
         k: usize,
