@@ -21,7 +21,6 @@ mod home;
 mod live;
 mod news;
 mod offer;
-mod passing;
 mod places;
 mod readers;
 mod refused;
@@ -33,7 +32,6 @@ mod step;
 mod tell;
 mod turns;
 mod wanted;
-mod watched;
 
 pub use call::{Owed, WorkerCall};
 pub use calls::Piece;

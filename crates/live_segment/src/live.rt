@@ -11,7 +11,6 @@ use crate::refused::{Accepted, NotMade};
 use crate::seating::Seats;
 use crate::step::{make, refusal_for};
 use crate::tell::tell;
-use crate::watched::Watched;
 use pgn_ids::{Address, Pgn};
 use segment_core::{Call, Events, Made, NewRefused, Refusal, Reply, Segment, the_headline_holds};
 use segment_law::Counts;
@@ -34,7 +33,7 @@ pub struct Live {
     before: [u64; WORDS_BEFORE],
     pub(crate) alloc: Global,
     pub(crate) addresses: Vec<Address>,
-    pub(crate) segment: Watched,
+    pub(crate) segment: Segment,
     pub(crate) calls: Calls,
     pub(crate) owed: Vec<Owed>,
     pub(crate) seats: Seats,
@@ -74,7 +73,6 @@ impl Live {
     ghost use Rattle.segment_core.specs.Answers.{reply_with};
     ghost use Rattle.segment_core.specs.declared.made.Made.TheVariants as made;
     ghost use Rattle.segment_law.specs.Headline.{Headline};
-    ghost use Rattle.segment_law.specs.Readers.{is_due};
     ghost use Rattle.segment_law.specs.Record.{StandsAt};
     ghost use Rattle.segment_law.specs.declared.reply.Reply.TheVariants.{Refused};
     ghost use Rattle.segment_law.specs.declared.refusal.Refusal.TheVariants.{TraceFull};
@@ -101,7 +99,6 @@ impl Live {
         let Ok(addresses) = Vec::from_slice(alloc, addresses) else {
             return Err(NotMade::OutOfMemory);
         };
-        let segment = Watched::new(alloc, segment)?;
         let calls = Calls::new(alloc)?;
         let seats = Seats::new(alloc)?;
         Ok(Live {
@@ -122,14 +119,14 @@ impl Live {
         ensures value { result.now ≡ (trail self.now.addresses self.now.calls).state }
         ensures stands { StandsAt self.now.addresses (trail self.now.addresses self.now.calls).steps result.now }
     {
-        self.segment.get()
+        &self.segment
     }
 
     /// What the segment counted.
     pub fn counts(&self) -> Counts
         ensures { result ≡ (trail self.now.addresses self.now.calls).state.counts }
     {
-        self.segment.get().counts()
+        self.segment.counts()
     }
 
     /// How many messages were turned away, since the ring of an inbox had no place for them, or its port was closed: so often was a call
@@ -348,15 +345,6 @@ impl Live {
         ensures { self.new ≡ self.old }
     {
         self.seats.hush(station);
-    }
-
-    /// Whether one of a station's timers is due.
-    #[inline(always)]
-    pub(crate) fn is_due(&mut self, station: Address) -> bool
-        ensures same { self.new ≡ self.old }
-        ensures value { result ≡ is_due (trail self.old.addresses self.old.calls).state station }
-    {
-        self.segment.is_due(station)
     }
 
     /// Opens a port, and returns its inbox, whose ring has 64 places.

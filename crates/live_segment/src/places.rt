@@ -14,9 +14,8 @@ use crate::call::WorkerCall;
 use crate::calls::Calls;
 use crate::step::{make_telling, make_ungiven};
 use crate::wanted::wanted_of;
-use crate::watched::Watched;
 use pgn_ids::Address;
-use segment_core::{Events, Made, PortId};
+use segment_core::{Events, Made, PortId, Segment};
 use segment_rings::{Buffer, Door};
 use std::alloc::{AllocError, Global};
 
@@ -106,7 +105,7 @@ pub(crate) struct Found {
 // A place for each delivery of a call, and memory for it.
 fn find_places(
     alloc: Global,
-    segment: &Watched,
+    segment: &Segment,
     doors: &mut Doors,
     call: &WorkerCall,
 ) -> Result<Option<Vec<Buffer>>, AllocError>
@@ -128,7 +127,7 @@ fn find_places(
 #[inline(never)]
 fn make_giving(
     alloc: Global,
-    segment: &mut Watched,
+    segment: &mut Segment,
     doors: &mut Doors,
     call: WorkerCall,
     told: &mut Events,
@@ -168,7 +167,7 @@ fn make_giving(
 #[inline(always)]
 pub(crate) fn make_found(
     alloc: Global,
-    segment: &mut Watched,
+    segment: &mut Segment,
     calls: &mut Calls,
     doors: &mut Doors,
     call: &WorkerCall,

@@ -1,16 +1,15 @@
 //! The pieces of a segment are joined again: the calls of its whole record.
-ghost use Rattle.std.specs.Prelude.{◌≡◌, ◌++◌, ◌∷◌, [], map, IfOk, OnOk, IfErr, IsTrue, ◌↔◌, List};
-ghost use Rattle.segment_law.specs.Record.{Record, StandsAt};
+ghost use Rattle.std.specs.Prelude.{◌≡◌, ◌++◌, map, IfOk, OnOk, IfErr, IsTrue, ◌↔◌, List};
 ghost use Rattle.segment_law.specs.Segment.{are_addresses};
-ghost use Rattle.reply_law.specs.Replies.{reply_of, left_by};
 ghost use Rattle.live_segment.specs.Past.{joined, NumberedAfter};
 ghost use Rattle.stored_calls.specs.declared.stored.Stored.{Stored as StoredCall};
 ghost use Rattle.live_segment.specs.Rejoining.{IsJoined, IsJoinCause, StandsAfter, call_in};
 
 use crate::calls::Piece;
 use crate::live::Live;
+use crate::step::make;
 use pgn_ids::Address;
-use segment_core::{Call, NewRefused, Refusal, Reply, Segment, the_headline_holds};
+use segment_core::{Call, NewRefused, Refusal, Segment, the_headline_holds};
 use std::alloc::{AllocError, Global};
 use stored_calls::{Stored, StoredCalls};
 
@@ -94,18 +93,9 @@ fn make_all(alloc: Global, segment: &mut Segment, calls: &StoredCalls) -> Result
 {
     for at in 0..calls.len() {
         let Stored { by: _, call } = calls.copy(alloc, at)?;
-        make_again(segment, call)?;
+        make(segment, call)?;
     }
     Ok(())
-}
-
-// Makes a call. Want of memory changes nothing.
-fn make_again(segment: &mut Segment, call: Call) -> Result<Reply, AllocError>
-    ensures reply { IfOk result (λ r. r ≡ reply_of segment.old call) }
-    ensures after { IfOk result (λ r. segment.new ≡ left_by segment.old call) }
-    ensures stands { (addresses : List Address) (steps : Record) → StandsAt addresses steps segment.old → IfOk result (λ r. StandsAt addresses (steps ++ (call, r) ∷ []) segment.new) }
-{
-    segment.apply(call)
 }
 
 // Copies of the calls of pieces, one after another, and then of those that are stored.

@@ -7,9 +7,8 @@ use crate::cutting::cut_seats as cut_each;
 use crate::home::Home;
 use crate::offer::{Ready, find_ready, store as store_front};
 use crate::settle::settle_event as settle_one;
-use crate::watched::Watched;
 use pgn_ids::Address;
-use segment_core::Event;
+use segment_core::{Event, Segment};
 use segment_rings::{Bell, Seat};
 use std::alloc::{AllocError, Global};
 use std::collections::VecDeque;
@@ -178,7 +177,7 @@ impl Seats {
     pub(crate) fn make_ready(
         &mut self,
         alloc: Global,
-        segment: &Watched,
+        segment: &Segment,
         calls: &mut Calls,
         owed: &mut Vec<Owed>,
         k: usize,

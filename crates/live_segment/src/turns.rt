@@ -1,18 +1,17 @@
 //! The turns of workers, each within one hold of the lock.
-ghost use Rattle.std.specs.Prelude.{◌≡◌, ◌<◌, List, false, length};
+ghost use Rattle.std.specs.Prelude.{◌≡◌, ◌<◌, List, length};
 ghost use Rattle.message_events.specs.declared.event.Event.{Event};
 ghost use Rattle.segment_core.specs.Answers.{reply_with};
 ghost use Rattle.segment_law.specs.Segment.{waiting_at};
 ghost use Rattle.segment_law.specs.Readers.{next_pump};
 ghost use Rattle.live_segment.specs.declared.call.WorkerCall.TheVariants.{Overrun as OverrunCall};
 ghost use Rattle.live_segment.specs.Turns.{IsNext, is_stuck, point, no_turn, one_more, after_refusal, after_reply, after_accept, Makes, Accepts, AcceptsOne, AcceptsBelow, MakesWhere, PumpsTo, StationTurn, BusTurn, state_of};
-ghost use Rattle.live_segment.specs.Passing.{EndsTurn, FiresLast};
 
 use crate::call::WorkerCall;
 use crate::live::Live;
 use crate::refused::Accepted;
 use pgn_ids::Address;
-use segment_core::{Events, Made, Passing, Refusal, Segment};
+use segment_core::{Events, Made, Refusal, Segment};
 
 /// What one turn did: how many calls were applied, up to the last value, and whether the worker ends since no more calls can
 /// be stored.
@@ -177,16 +176,6 @@ impl Turn {
     }
 }
 
-// A turn that made one call.
-#[inline(always)]
-fn one_call() -> Turn
-    ensures { result ≡ one_more no_turn }
-{
-    let mut turn = Turn::new();
-    turn.add();
-    turn
-}
-
 // The station whose first frame has the lowest identifier, of several the first.
 fn next_of(segment: &Segment, addresses: &[Address]) -> Option<Address>
     ensures { IsNext segment.now addresses.now result }
@@ -213,44 +202,6 @@ impl Live {
     /// frames or more wait for it, it misses them by an Overrun: the bus is as good as full, so its queue could not empty and
     /// nothing would go on. A call that is refused or finds no memory changes nothing and isn't counted.
     pub fn station_turn(&mut self, station: Address) -> Turn
-        ensures { StationTurn station (point self.old no_turn) (point self.new result) }
-    {
-        if self.is_called(station) {
-            return self.whole_turn(station);
-        }
-        match self.pass_by(station) {
-            Passing::Busy => self.whole_turn(station),
-            Passing::Rests => self.end_turn(station, Turn::new()),
-            Passing::Passed => self.end_turn(station, one_call()),
-        }
-    }
-
-    // The end of the turn of a station that isn't stuck: a timer fires if one is due.
-    #[inline(always)]
-    fn end_turn(&mut self, station: Address, turn: Turn) -> Turn
-        requires { is_stuck (state_of self.old) station ≡ false }
-        ensures { EndsTurn station (point self.old turn) (point self.new result) }
-    {
-        if self.is_due(station) {
-            return self.fire_last(station, turn);
-        }
-        turn
-    }
-
-    // The end of the turn of a station with a timer that is due.
-    #[inline(never)]
-    fn fire_last(&mut self, station: Address, turn: Turn) -> Turn
-        ensures { FiresLast station (point self.old turn) (point self.new result) }
-    {
-        let mut last = turn;
-        last.make(self, WorkerCall::Fire { station });
-        last.miss(self, station);
-        last
-    }
-
-    // `station_turn`, of a station that may have more to do than to take a frame that is none of its business.
-    #[inline(never)]
-    fn whole_turn(&mut self, station: Address) -> Turn
         ensures { StationTurn station (point self.old no_turn) (point self.new result) }
     {
         let mut turn = Turn::new();

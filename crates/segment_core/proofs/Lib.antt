@@ -19,4 +19,3 @@ pub mod Undisturbed
 pub mod Dues
 pub mod Nexts
 pub mod AtOnce
-pub mod PassedBy

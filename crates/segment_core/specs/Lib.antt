@@ -15,4 +15,3 @@ pub mod Due
 pub mod Promise
 pub mod Next
 pub mod PutTaken
-pub mod Passing

@@ -1,11 +1,8 @@
 //! The next timer of a segment.
 ghost use Rattle.tick_timers.specs.Due.{IsDueFrom};
-ghost use Rattle.segment_law.specs.Readers.{is_due};
 ghost use Rattle.segment_core.specs.Due.{any_due};
-ghost use Rattle.segment_core.specs.Next.{at_tick};
 
 use crate::segment::Segment;
-use pgn_ids::Address;
 use tick_timers::earlier;
 
 impl Segment {
@@ -20,16 +17,5 @@ impl Segment {
             tick = earlier(tick, station.next_due_at());
         }
         tick
-    }
-
-    /// The tick at which the next timer of a station is due: the least at which `is_due` is true of it. None exactly if no timer of it
-    /// runs that would be due up to the last tick of `u64`, or the address isn't a station's.
-    pub fn station_due_at(&self, station: Address) -> Option<u64>
-        ensures { IsDueFrom (λ tick. is_due (at_tick self.now tick) station) result }
-    {
-        match self.place_of(station) {
-            None => None,
-            Some(place) => self.stations[place].next_due_at(),
-        }
     }
 }
