@@ -1,1 +1,2 @@
 pub mod Plan
+pub mod Shared

@@ -1,2 +1,3 @@
 pub mod Belows
 pub mod Knowns
+pub mod Shared

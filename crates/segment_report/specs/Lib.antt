@@ -3,3 +3,4 @@ pub mod Noted
 pub mod Known
 pub mod Names
 pub mod Ending
+pub mod Shared
