@@ -4,7 +4,9 @@ use Rattle.std.proofs.lemmas.Option.{none-some, same_Some}
 use Rattle.pgn_ids.specs.declared.address.Address.{Address}
 use Rattle.port_table.specs.declared.port.PortId.{PortId}
 use Rattle.stored_calls.specs.declared.stored.Stored.{Stored}
-use Rattle.segment_report.specs.Shared.{Plan, plan_of, Message, Setup}
+use Rattle.script_setup.specs.Plan.{Plan, plan_of}
+use Rattle.script_setup.specs.declared.setup.Message.{Message}
+use Rattle.script_setup.specs.declared.setup.Setup.{Setup}
 use Rattle.segment_report.specs.declared.names.Names.{Names}
 use Rattle.segment_report.specs.Names.{IsNamed, stations_in}
 use Rattle.relay_setup.specs.declared.gateway.Passage.{Passage}

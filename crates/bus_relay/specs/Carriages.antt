@@ -4,7 +4,9 @@ use mathlib.Core.List.{IsPrefix}
 use Rattle.pgn_ids.specs.declared.address.Address.{Address}
 use Rattle.segment_rings.specs.declared.words.Submission.{Submission}
 use Rattle.segment_rings.specs.declared.words.Delivery.{Delivery}
-use Rattle.segment_report.specs.Shared.{ClientReport, LiveView, accepted, given, notes_of, trail}
+use Rattle.live_segment.specs.declared.report.ClientReport.{ClientReport}
+use Rattle.live_segment.specs.LiveView.{LiveView}
+use Rattle.live_segment.specs.Record.{accepted, given, notes_of, trail}
 use Rattle.port_relay.specs.Working.{relayed_to}
 use Rattle.relay_setup.specs.declared.gateway.Passage.{Passage}
 use Rattle.bus_relay.specs.declared.carrying.Carried.{Carried}

@@ -3,13 +3,16 @@ use Rattle.std.specs.Prelude.{◌≡◌, ℕ, List, [], ◌++◌, cond, Bool, tr
 use Rattle.pgn_ids.specs.declared.address.Address.{Address}
 use Rattle.port_table.specs.declared.port.PortId.{PortId}
 use Rattle.segment_law.specs.Headline.{Headline}
-use Rattle.segment_report.specs.Shared.{Trail, trail, LiveView, Laws, Plan, Message}
+use Rattle.live_segment.specs.Record.{Trail, trail}
 use Rattle.stored_calls.specs.declared.stored.Stored.{Stored}
+use Rattle.live_segment.specs.LiveView.{LiveView, Laws}
 use Rattle.script_text.specs.Parts.{line}
 use Rattle.script_text.specs.Counts.{relayed_line}
 use Rattle.script_runs.specs.Reading.{Planned}
 use Rattle.script_runs.specs.Ending.{EndedBy}
 use Rattle.script_runs.specs.declared.ending.LiveRan.{LiveRan}
+use Rattle.script_setup.specs.Plan.{Plan}
+use Rattle.script_setup.specs.declared.setup.Message.{Message}
 use Rattle.segment_report.specs.Texts.{below, ports_at, clients_at}
 use Rattle.segment_report.specs.Noted.{all_noted}
 use Rattle.relay_setup.specs.Gateway.{Plans, text_of, passage_in}

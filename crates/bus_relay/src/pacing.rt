@@ -1,6 +1,7 @@
 //! The pace of a relay, and the numbers of the workers.
 use pgn_ids::Address;
-use segment_threads::{Board, Gate};
+use segment_shared::Gate;
+use segment_threads::Board;
 use std::sync::atomic::Ordering;
 use std::thread;
 

@@ -1,6 +1,6 @@
 //! A script of two segments run by threads.
 ghost use Rattle.std.specs.Prelude.{IfSome, IfOk};
-ghost use Rattle.segment_report.specs.Shared.{plan_of};
+ghost use Rattle.script_setup.specs.Plan.{plan_of};
 ghost use Rattle.segment_report.specs.Names.{IsNamed};
 ghost use Rattle.relay_setup.specs.Gateway.{plans_of, planned};
 ghost use Rattle.bus_relay.specs.Ending.{CameTo, Ended};
@@ -12,8 +12,9 @@ use crate::settling::tell_end;
 use crate::threads::run_shared;
 use relay_setup::{Gateway, Passage};
 use script_runs::{LiveRan, Lost, Told, read_script, tell_refused, tell_run};
-use segment_report::{Names, Setup, names_of};
-use segment_threads::{Gate, Inbox, Live, SharedSegment};
+use script_setup::Setup;
+use segment_report::{Names, names_of};
+use segment_shared::{Gate, Inbox, Live, SharedSegment};
 use std::alloc::Global;
 use std::io::{BufRead, Write};
 use std::sync::Wait;

@@ -1,7 +1,8 @@
 //! What two segments and a relay leave, once the threads have ended.
 ghost use Rattle.std.specs.Prelude.{◌≡◌, ◌≤◌, ◌++◌, ◌∷◌, [], length, true, IfOk, OnOk};
 ghost use mathlib.Core.List.{IsPrefix};
-ghost use Rattle.segment_report.specs.Shared.{accepted, given, notes_of, trail, AreClientReports, AreInboxReports};
+ghost use Rattle.live_segment.specs.Record.{accepted, given, notes_of, trail};
+ghost use Rattle.live_segment.specs.Reports.{AreClientReports, AreInboxReports};
 ghost use Rattle.bus_relay.specs.Carriages.{HasCarried, place_of, none_left, IsCarried, IsCarriedWhole, Carries, CarriesWhole};
 ghost use Rattle.bus_relay.specs.Known.{CameOfKnown};
 
@@ -12,7 +13,8 @@ use crate::threads::Handed;
 use pgn_ids::Address;
 use relay_setup::Passage;
 use script_runs::{Lost, Told};
-use segment_threads::{Client, ClientReport, Ends, Inbox, Live, Report, finish};
+use segment_shared::{Client, ClientReport, Inbox, Live, Report, finish};
+use segment_threads::Ends;
 use std::alloc::{AllocError, Global};
 
 // Reports on clients and inboxes of a segment.

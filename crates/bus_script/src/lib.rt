@@ -17,6 +17,4 @@ pub use line_runs::{Ran, Told};
 pub use running::{run_logged, run_script};
 pub use script::run_on;
 pub use script_commands::{Cause, Fault, ScriptFault};
-pub use segment_core::{Counts, DriveEnd, Events, Refusal, Reply, Segment};
-pub use segment_drain::Drained;
 pub use sheet::Sheet;

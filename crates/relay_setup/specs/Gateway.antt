@@ -10,6 +10,7 @@ use Rattle.segment_law.specs.declared.call.Call.TheVariants as calls
 use Rattle.segment_law.specs.declared.refusal.Refusal.{Refusal}
 use Rattle.segment_law.specs.declared.refusal.Refusal.TheVariants.{NoSuchPort, NoSuchStation, SameStation}
 use Rattle.stored_calls.specs.declared.stored.Stored.{Stored}
+use Rattle.live_segment.specs.LiveView.{is_station_of}
 use Rattle.script_commands.specs.Words.{words_of}
 use Rattle.script_commands.specs.Values.{◌>>=◌}
 use Rattle.script_commands.specs.Routes.{route_of}
@@ -20,7 +21,6 @@ use Rattle.script_commands.specs.declared.fault.LineError.{LineError}
 use Rattle.script_commands.specs.Words.{is_ascii}
 use Rattle.script_runs.specs.Reading as script
 use Rattle.script_runs.specs.Reading.{Grammar, Planned, planned_by}
-use Rattle.script_setup.specs.Shared.{is_station_of}
 use Rattle.script_setup.specs.Plan as setup
 use Rattle.script_setup.specs.Plan.{Plan, first_plan, refused_by, CallsBelow, plan_of}
 use Rattle.script_setup.specs.declared.setup.Message.{Message}

@@ -1,9 +1,9 @@
 //! Logs that are drawn: the options of a case, and the text of its counts.
 use crate::runs::{Runs, no_memory, show_end};
+use bus_script::Cause;
 use log_drawing::{Drawn, Options, Pair, draw_log};
 use log_text::{Iface, read_time};
 use pgn_ids::Address;
-use script_drawing::Cause;
 use std::alloc::Global;
 use std::io;
 use std::io::Write;

@@ -1,8 +1,9 @@
 //! The ways in which the pieces of a case are run, and how what they write is shown.
 use bus_node::{LineCounts, Node, run_node};
+use bus_script::{Cause, Ran, ScriptFault, run_logged, run_script};
 use log_text::Iface;
 use pgn_ids::Address;
-use script_drawing::{Cause, Ran, ScriptFault, draw_script, run_logged, run_script};
+use script_drawing::draw_script;
 use std::alloc::Global;
 use std::io;
 use std::io::{ErrorKind, Write};

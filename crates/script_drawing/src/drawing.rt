@@ -1,15 +1,17 @@
 //! The drawing of a line's telling.
 ghost use Rattle.std.specs.Prelude.{◌≡◌, ◌++◌, OnOk, option_to_list};
-ghost use Rattle.bus_script.specs.Draining.{joined};
+ghost use Rattle.segment_core.specs.Joined.{joined};
 ghost use Rattle.bus_drawing.specs.Notes.{notes};
 ghost use Rattle.frame_arrows.specs.Runs.{arrows};
 
 use bus_drawing::{draw_each_told, draw_told};
 use bus_frame::Frame;
-use bus_script::{Counts, Drained, DriveEnd, Events, Refusal, Reply, Segment, Sheet, Told};
+use bus_script::{Sheet, Told};
 use frame_arrows::{draw_frames, draw_opening};
 use pgn_ids::Address;
 use script_commands::LineError;
+use segment_core::{Counts, DriveEnd, Events, Refusal, Reply, Segment};
+use segment_drain::Drained;
 use std::alloc::{AllocError, Global};
 
 /// The stations, the frames that are put, and the events. Replies aren't drawn.

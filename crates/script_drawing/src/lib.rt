@@ -5,5 +5,5 @@
 mod drawing;
 mod running;
 
-pub use bus_script::{Cause, Ran, ScriptFault, run_logged, run_script};
+pub use bus_script::Ran;
 pub use running::draw_script;

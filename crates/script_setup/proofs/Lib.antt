@@ -1,3 +1,2 @@
 pub mod TextsGrow
 pub mod Growing
-pub mod Shared

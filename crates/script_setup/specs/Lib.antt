@@ -1,2 +1,1 @@
 pub mod Plan
-pub mod Shared

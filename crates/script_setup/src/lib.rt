@@ -7,7 +7,6 @@ mod planning;
 mod setup;
 mod uncut;
 
-pub use live_segment::Live;
 pub use obeying::obey_words;
 pub use setup::{Message, Setup, ports_of};
 pub use uncut::Uncut;

@@ -1,3 +1,2 @@
 pub mod Belows
 pub mod Knowns
-pub mod Shared

@@ -3,4 +3,3 @@ pub mod Noted
 pub mod Known
 pub mod Names
 pub mod Ending
-pub mod Shared

@@ -1,16 +1,17 @@
 //! The text that is printed once the threads have ended.
 ghost use Rattle.std.specs.Prelude.{◌≡◌, ◌++◌, OnOk, IfOk, IfErr};
 ghost use Rattle.script_runs.specs.declared.ending.Lost.TheVariants.{NotThisSegment};
-ghost use Rattle.script_setup.specs.Shared.{trail};
+ghost use Rattle.live_segment.specs.Record.{trail};
 ghost use Rattle.segment_report.specs.Ending.{Came, end_text};
 ghost use Rattle.segment_report.specs.Known.{AreKnown, IsThisSegment};
 ghost use Rattle.segment_report.specs.Noted.{HasRunOut};
 
 use crate::text::{are_same, has_run_out, print_clients, print_ports};
+use live_segment::Live;
 use pgn_ids::Address;
 use port_table::PortId;
 use script_runs::{Lost, Told};
-use script_setup::{Live, Message};
+use script_setup::Message;
 use script_text::print_text;
 use std::alloc::Global;
 

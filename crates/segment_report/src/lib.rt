@@ -8,5 +8,4 @@ mod text;
 
 pub use ending::text_of;
 pub use names::{Names, names_of};
-pub use script_setup::{Message, Setup};
 pub use text::{are_same, has_run_out, print_clients, print_ports};

@@ -1,17 +1,18 @@
 //! The text of what threads leave of a segment.
 ghost use Rattle.std.specs.Prelude.{◌≡◌, ◌++◌, ◌==◌, ◌<◌, ◌≤◌, ◌↔◌, [], true, false, suc, length, All, OnOk, IfErr, IsTrue, MatchOption};
 ghost use Rattle.script_runs.specs.declared.ending.Lost.TheVariants.{NotThisSegment};
-ghost use Rattle.script_setup.specs.Shared.{trail, given, notes_of, HasPort};
+ghost use Rattle.live_segment.specs.Record.{trail, given, notes_of};
+ghost use Rattle.live_segment.specs.Reports.{HasPort};
 ghost use Rattle.segment_report.specs.Texts.{below, given_lines, port_lines, ports_at, numbered_lines, highest, outcome_lines, clients_at};
 ghost use Rattle.segment_report.specs.Known.{ArePorts, ArePortsAt, HaveClients, HaveClientsAt};
 ghost use Rattle.segment_report.specs.Noted.{count_from, HasRunOut};
 
+use live_segment::{Delivery, Live, Note};
 use pgn_ids::Address;
 use port_table::PortId;
 use script_runs::Lost;
-use script_setup::{Live, Message};
+use script_setup::Message;
 use script_text::{print_given, print_outcome, print_port};
-use segment_rings::{Delivery, Note};
 use std::alloc::AllocError;
 
 /// How many addresses there are.

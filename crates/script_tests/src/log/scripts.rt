@@ -1,7 +1,7 @@
 //! The log of a script, decoded: its messages are those that the ports were given.
 use crate::checks::{holds, same};
 use bus_decode::{Decoded, Options, Wanted, run_decode};
-use script_drawing::{Ran, run_logged};
+use bus_script::{Ran, run_logged};
 use std::alloc::Global;
 
 /// A message to all, and one by a connection.

@@ -1,6 +1,6 @@
 //! A script whose frames are logged, and writers that fail.
 use crate::checks::same;
-use script_drawing::{Cause, run_logged};
+use bus_script::{Cause, run_logged};
 use std::io;
 use std::io::{Error, ErrorKind, Write};
 

@@ -5,7 +5,7 @@ mod limits;
 mod midway;
 
 use crate::checks::{got, holds, same};
-use script_drawing::{Cause, Ran, ScriptFault, run_script};
+use bus_script::{Cause, Ran, ScriptFault, run_script};
 use std::alloc::{AllocError, Global};
 use std::process::Abort;
 

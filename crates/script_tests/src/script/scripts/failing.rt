@@ -2,7 +2,7 @@
 use super::{fault_line, many};
 use crate::checks::{got, holds, same};
 use crate::readers::Breaking;
-use script_drawing::{Cause, run_script};
+use bus_script::{Cause, run_script};
 use std::cell::Cell;
 use std::io;
 use std::io::{BufReader, Error, ErrorKind, Read, Write};

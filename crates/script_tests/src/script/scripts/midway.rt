@@ -1,6 +1,6 @@
 //! A read or a write that fails once in the middle of a script: what was printed until then stays, and nothing is printed from then on.
 use crate::checks::{got, holds, same};
-use script_drawing::{Cause, Ran, run_script};
+use bus_script::{Cause, Ran, run_script};
 use std::alloc::{AllocError, Global};
 use std::io;
 use std::io::{BufReader, Error, ErrorKind, Read, Write};
