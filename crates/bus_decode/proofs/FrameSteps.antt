@@ -2,7 +2,7 @@
 use Rattle.std.proofs.Common.{◌≡◌, ℕ, List, [], ◌++◌, Result, Ok, Err, OnOk, Option, sym, ◌∙◌, ap, append_assoc, nat_lt, subst}
 use Rattle.std.specs.declared.alloc.AllocError.{AllocError}
 use Rattle.bus_frame.specs.Frames.{CanFrame}
-use Rattle.log_text.specs.declared.iface.Iface.{Iface}
+use Rattle.log_fields.specs.declared.iface.Iface.{Iface}
 use Rattle.log_decode.specs.View.{State, bus_at}
 use Rattle.log_decode.specs.Decoder.{taken}
 use Rattle.log_decode.specs.Stray.{stray_seen}

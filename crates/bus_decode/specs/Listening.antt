@@ -6,7 +6,7 @@ use Rattle.tp_wire.specs.Groups.{request, acknowledgement}
 use Rattle.tp_wire.specs.Reading.{is_transport}
 use Rattle.log_text.specs.Reading.{form_of, line_as}
 use Rattle.log_text.specs.declared.reading.Form.{Form}
-use Rattle.log_text.specs.declared.iface.Iface.{Iface}
+use Rattle.log_fields.specs.declared.iface.Iface.{Iface}
 use Rattle.log_text.specs.declared.line.LogLine.{LogLine}
 use Rattle.log_text.specs.declared.line.LogLine.TheVariants.{Frame, Passed}
 use Rattle.log_courses.specs.Awaited.{Awaited, awaiting_each}

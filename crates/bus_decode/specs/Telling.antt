@@ -2,7 +2,7 @@
 use Rattle.std.specs.Prelude.{ℕ, List, [], ◌∷◌, ◌++◌, flat_map, ◌&&◌, if◌then◌else◌}
 use Rattle.bus_frame.specs.Frames.{CanFrame}
 use Rattle.pgn_ids.specs.Identifier.{meaning_of}
-use Rattle.log_text.specs.declared.iface.Iface.{Iface}
+use Rattle.log_fields.specs.declared.iface.Iface.{Iface}
 use Rattle.log_courses.specs.Courses.{course_of}
 use Rattle.log_courses.specs.declared.course.Course.{Course}
 use Rattle.log_courses.specs.declared.course.Place.{Place}

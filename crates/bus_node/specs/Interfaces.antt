@@ -1,8 +1,8 @@
 -- The interface that the node is on, and frames of others.
 use Rattle.std.specs.Prelude.{ℕ, Bool, true, not, ◌&&◌, if◌then◌else◌, List, ◌++◌, Option, Some, None, codes}
 use Rattle.std.specs.Str.{bytes_eq}
-use Rattle.log_text.specs.Iface.{name_of}
-use Rattle.log_text.specs.declared.iface.Iface.{Iface}
+use Rattle.log_fields.specs.Iface.{name_of}
+use Rattle.log_fields.specs.declared.iface.Iface.{Iface}
 use Rattle.script_text.specs.Parts.{line}
 use Rattle.node_lines.specs.declared.line.NodeLine.{NodeLine}
 use Rattle.node_lines.specs.declared.line.NodeLine.TheVariants.{Passed, Frame, Now, Command}

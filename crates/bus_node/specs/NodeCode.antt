@@ -3,8 +3,8 @@ use Rattle.std.specs.Prelude.{ℕ, Bool, List, Option, refl}
 use Rattle.std.specs.Coded.{Coded, code_by, coded×, coded_list, coded_option, coded_bool, coded_ℕ}
 use Rattle.bus_frame.specs.Frames.{CanFrame}
 use Rattle.bus_frame.specs.contracts.frame.Frame as frame
-use Rattle.log_text.specs.declared.iface.Iface.{Iface}
-use Rattle.log_text.specs.contracts.iface.Iface as iface
+use Rattle.log_fields.specs.declared.iface.Iface.{Iface}
+use Rattle.log_fields.specs.contracts.iface.Iface as iface
 use Rattle.one_station.specs.Node.{Node as Station}
 use Rattle.one_station.specs.NodeCode.{node_code as station_code}
 use Rattle.bus_node.specs.Node.{Node}

@@ -3,7 +3,7 @@ use Rattle.std.specs.Prelude.{ℕ, Bool, false, ◌&&◌, ◌||◌, ◌==◌, na
 use Rattle.std.specs.Str.{bytes_eq}
 use Rattle.bus_frame.specs.Frames.{CanFrame}
 use Rattle.log_text.specs.Written.{log_text}
-use Rattle.log_text.specs.declared.iface.Iface.{Iface}
+use Rattle.log_fields.specs.declared.iface.Iface.{Iface}
 use Rattle.script_text.specs.Parts.{line}
 use Rattle.one_station.specs.Answers.{is_own}
 use Rattle.bus_node.specs.Rests.{plus}

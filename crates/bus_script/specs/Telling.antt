@@ -4,7 +4,7 @@ use Rattle.std.specs.List.{zip}
 use Rattle.bus_frame.specs.Frames.{CanFrame}
 use Rattle.pgn_ids.specs.declared.address.Address.{Address}
 use Rattle.message_events.specs.declared.event.Event.{Event}
-use Rattle.log_text.specs.Iface.{bus0}
+use Rattle.log_fields.specs.Iface.{bus0}
 use Rattle.log_text.specs.Written.{log_text}
 use Rattle.script_text.specs.Parts.{line}
 use Rattle.segment_law.specs.declared.refusal.Refusal.{Refusal}

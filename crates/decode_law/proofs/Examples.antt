@@ -3,7 +3,7 @@ use Rattle.std.proofs.Common.{◌≡◌, List, [], ◌∷◌, ◌++◌, length, 
 use Rattle.std.specs.Prelude.{replicate}
 use Rattle.std.proofs.lemmas.List.Elements.{All-nil}
 use Rattle.bus_frame.specs.Frames.{CanFrame}
-use Rattle.log_text.specs.declared.iface.Iface.{Iface}
+use Rattle.log_fields.specs.declared.iface.Iface.{Iface}
 use Rattle.pgn_ids.specs.declared.address.Address.{Address}
 use Rattle.lane_core.specs.declared.message.Pending.{Pending}
 use Rattle.segment_law.specs.Quiet.{quiet}

@@ -6,12 +6,13 @@ use Rattle.std.proofs.lemmas.Bool.Decides.{nat_tests}
 use Rattle.bus_frame.specs.Frames.{CanFrame}
 use Rattle.text_digits.specs.Numerals.{◌>>=◌, is_between, numeral_from}
 use Rattle.text_digits.specs.Digits.{digits, digit_char, unspaced}
-use Rattle.log_text.specs.Fields.{place_of, cut_at, spaces_in, next_word}
-use Rattle.log_text.specs.Iface.{iface_of, name_of}
-use Rattle.log_text.specs.Line.{time_of, timed_line, log_line}
+use Rattle.log_fields.specs.Fields.{place_of, cut_at, spaces_in, next_word}
+use Rattle.log_fields.specs.Iface.{iface_of, name_of}
+use Rattle.log_fields.specs.Time.{time_of, seconds_width, time_text}
+use Rattle.log_text.specs.Line.{timed_line, log_line}
 use Rattle.log_text.specs.Reading.{before_return, trimmed, begins_timed, is_bracket, is_id, begins_shown, form_of, micros_of, stamp_of, stamped_line, line_as}
-use Rattle.log_text.specs.Written.{seconds_width, time_text, frame_text, log_text, IsFrame}
-use Rattle.log_text.specs.declared.iface.Iface.{Iface}
+use Rattle.log_text.specs.Written.{frame_text, log_text, IsFrame}
+use Rattle.log_fields.specs.declared.iface.Iface.{Iface}
 use Rattle.log_text.specs.declared.line.LogLine.TheVariants.{Frame}
 use Rattle.log_text.specs.declared.reading.Form.{Form}
 use Rattle.log_text.specs.declared.reading.Form.TheVariants.{Timed, Untimed}

@@ -2,8 +2,8 @@
 use Rattle.std.proofs.Common.{◌≡◌, ℕ, List, [], ◌∷◌, Bool, true, false, cond, Some, refl, sym, ap, ◌∙◌, unwrap_or, if◌then◌else◌}
 use Rattle.std.specs.Map.{lookup}
 use Rattle.bus_frame.specs.Frames.{CanFrame}
-use Rattle.log_text.specs.declared.iface.Iface.{Iface}
-use Rattle.log_text.specs.contracts.iface.IfaceEq.TheImpl.Laws.{laws-law}
+use Rattle.log_fields.specs.declared.iface.Iface.{Iface}
+use Rattle.log_fields.specs.contracts.iface.IfaceEq.TheImpl.Laws.{laws-law}
 use Rattle.log_reports.specs.Keys.{same_iface}
 use Rattle.log_decode.specs.Decoder.{bus_taken}
 use Rattle.log_decode.specs.View.{Bus, Buses, State, new_bus, bus_at, put_bus}

@@ -6,8 +6,8 @@ use Rattle.std.proofs.lemmas.List.{append-nil}
 use Rattle.std.proofs.lemmas.List.Elements.{All-head, All-tail}
 use Rattle.std.specs.Cmp.Lexicographic.{bytes_decides}
 use Rattle.bus_frame.specs.Frames.{CanFrame}
-use Rattle.log_text.specs.declared.iface.Iface.{Iface}
-use Rattle.log_text.specs.contracts.iface.IfaceEq.TheImpl.Laws.{laws-law}
+use Rattle.log_fields.specs.declared.iface.Iface.{Iface}
+use Rattle.log_fields.specs.contracts.iface.IfaceEq.TheImpl.Laws.{laws-law}
 use Rattle.log_reports.specs.Keys.{same_key, same_iface}
 use Rattle.log_decode.specs.Belonging.{is_frame_of, told_of_key}
 use Rattle.log_decode.specs.Sessions.{Sessions, Heard, session_at, losses}

@@ -1,6 +1,6 @@
 -- Logs that meet the premises of the law of logs that lack frames.
 use Rattle.std.specs.Prelude.{◌≡◌, ℕ, ◌+◌, List, [], ◌∷◌, length}
-use Rattle.log_text.specs.declared.iface.Iface.{Iface}
+use Rattle.log_fields.specs.declared.iface.Iface.{Iface}
 use Rattle.pgn_ids.specs.Pgn.{clean}
 use Rattle.pgn_ids.specs.declared.address.Address.{Address}
 use Rattle.lane_core.specs.declared.message.Pending.{Pending}

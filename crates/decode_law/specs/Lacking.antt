@@ -1,7 +1,7 @@
 -- What a listener reports of a message if a log lacks some of its frames.
 use Rattle.std.specs.Prelude.{◌≡◌, ℕ, List, [], ◌∷◌, ◌++◌, All, filter, map, length, None, ⊤, ◌⊎◌}
 use Rattle.bus_frame.specs.Frames.{CanFrame}
-use Rattle.log_text.specs.declared.iface.Iface.{Iface}
+use Rattle.log_fields.specs.declared.iface.Iface.{Iface}
 use Rattle.pgn_ids.specs.Pgn.{clean}
 use Rattle.pgn_ids.specs.declared.address.Address.{Address}
 use Rattle.lane_core.specs.declared.message.Pending.{Pending}

@@ -1,10 +1,10 @@
 -- The lines that are written of frames, read in a log of their form.
 use Rattle.std.specs.Prelude.{◌≡◌, ℕ, ◌<◌, ◌^◌, List, Some}
 use Rattle.bus_frame.specs.Frames.{CanFrame}
-use Rattle.log_text.specs.Iface.{iface_of}
+use Rattle.log_fields.specs.Iface.{iface_of}
 use Rattle.log_text.specs.Reading.{form_of, line_as}
 use Rattle.log_text.specs.Written.{log_text, IsFrame}
-use Rattle.log_text.specs.declared.iface.Iface.{Iface}
+use Rattle.log_fields.specs.declared.iface.Iface.{Iface}
 use Rattle.log_text.specs.declared.line.LogLine.TheVariants.{Frame}
 use Rattle.log_text.specs.declared.reading.Form.TheVariants.{Timed}
 

@@ -5,8 +5,8 @@ ghost use Rattle.log_counts.specs.Strays.{no_strays, with_stray, stray_left, par
 
 use bus_frame::Frame;
 use log_courses::Awaited;
+use log_fields::Iface;
 use log_reports::Stray;
-use log_text::Iface;
 use std::alloc::AllocError;
 use std::fmt;
 

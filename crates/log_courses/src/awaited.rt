@@ -5,8 +5,8 @@ ghost use Rattle.log_courses.specs.Awaited.{is_open, awaiting, awaiting_each, me
 use crate::courses::key_between;
 use bus_frame::Frame;
 use indexmap::IndexMap;
+use log_fields::Iface;
 use log_reports::{Key, Told};
-use log_text::Iface;
 use pgn_ids::{Address, Pgn, WirePgn};
 use std::alloc::{AllocError, Global};
 use std::marker::Model;

@@ -1,7 +1,7 @@
 -- What a listener to a recorded bus makes of a frame.
 use Rattle.std.specs.Prelude.{ℕ, ◌-◌, List, [], ◌∷◌, ◌++◌, Bool, ◌&&◌, ◌||◌, ◌==◌, nat_lt, max, if◌then◌else◌, Some, None, flat_map}
 use Rattle.bus_frame.specs.Frames.{CanFrame}
-use Rattle.log_text.specs.declared.iface.Iface.{Iface}
+use Rattle.log_fields.specs.declared.iface.Iface.{Iface}
 use Rattle.pgn_ids.specs.Pgn.{clean}
 use Rattle.seg_cut.specs.Packets.{packet_count}
 use Rattle.tp_wire.specs.Reading.{reading}

@@ -1,7 +1,7 @@
 -- Frames of a transport that belong to no message under way.
 use Rattle.std.specs.Prelude.{ℕ, [], not, filter, if◌then◌else◌, max, Option, Some, None}
 use Rattle.bus_frame.specs.Frames.{CanFrame}
-use Rattle.log_text.specs.declared.iface.Iface.{Iface}
+use Rattle.log_fields.specs.declared.iface.Iface.{Iface}
 use Rattle.tp_wire.specs.Reading.{reading}
 use Rattle.tp_wire.specs.declared.wire.Kind.TheVariants.{Tp, Etp}
 use Rattle.tp_wire.specs.declared.wire.CmFrame.{CmFrame}

@@ -13,9 +13,9 @@ use crate::sessions::{Sessions, tell_all};
 use crate::silence::end_due;
 use bus_frame::Frame;
 use indexmap::IndexMap;
+use log_fields::Iface;
 use log_reports::{Cause, Stray, Told};
 use log_sessions::soonest;
-use log_text::Iface;
 use std::alloc::{AllocError, Global};
 use std::marker::Model;
 

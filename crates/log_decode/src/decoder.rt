@@ -8,8 +8,8 @@ use crate::bus::Bus;
 use crate::places::place_of;
 use bus_frame::Frame;
 use indexmap::IndexMap;
+use log_fields::Iface;
 use log_reports::{Stray, Told};
-use log_text::Iface;
 use std::alloc::{AllocError, Global};
 use std::marker::Model;
 

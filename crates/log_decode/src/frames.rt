@@ -6,8 +6,8 @@ ghost use Rattle.log_decode.specs.Stray.{cm_frame_stray, wire_stray, frame_stray
 use crate::sessions::{News, Sessions, announce, is_of, take_abort, take_cm, take_packet};
 use crate::way::Way;
 use bus_frame::Frame;
+use log_fields::Iface;
 use log_reports::{Stray, Told};
-use log_text::Iface;
 use pgn_ids::WirePgn;
 use seg_cut::packets;
 use std::alloc::{AllocError, Global};

@@ -2,8 +2,8 @@
 ghost use Rattle.std.specs.Prelude.{◌≡◌};
 ghost use Rattle.log_decode.specs.Ways.{key_of, key_back};
 
+use log_fields::Iface;
 use log_reports::{Key, Transport};
-use log_text::Iface;
 use pgn_ids::Address;
 use tp_wire::Kind;
 

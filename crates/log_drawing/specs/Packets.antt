@@ -6,7 +6,7 @@ use Rattle.pgn_ids.specs.Identifier.{meaning_of}
 use Rattle.frame_arrows.specs.Words.{packet_words, meaning_words, arrow_line}
 use Rattle.frame_arrows.specs.Runs.{run_of, goes_on, longer}
 use Rattle.frame_arrows.specs.declared.run.Run.{Run}
-use Rattle.log_text.specs.Written.{time_text}
+use Rattle.log_fields.specs.Time.{time_text}
 use Rattle.log_drawing.specs.declared.packets.Packets.{Packets}
 
 -- a time in front of words, if the log has one

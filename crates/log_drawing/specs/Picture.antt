@@ -4,10 +4,10 @@ use Rattle.std.specs.Str.{bytes_eq}
 use Rattle.std.specs.Fmt.{decimal}
 use Rattle.bus_frame.specs.Frames.{CanFrame}
 use Rattle.frame_arrows.specs.Opening.{heading, participant_line}
-use Rattle.log_text.specs.Iface.{name_of}
+use Rattle.log_fields.specs.Iface.{name_of}
 use Rattle.log_text.specs.Reading.{form_of, line_as}
 use Rattle.log_text.specs.declared.reading.Form.{Form}
-use Rattle.log_text.specs.declared.iface.Iface.{Iface}
+use Rattle.log_fields.specs.declared.iface.Iface.{Iface}
 use Rattle.log_text.specs.declared.line.LogLine.{LogLine}
 use Rattle.log_text.specs.declared.line.LogLine.TheVariants.{Frame, Passed}
 use Rattle.log_drawing.specs.Options.{is_wanted}

@@ -1,7 +1,7 @@
 -- The frames of a message, listed behind its line.
 use Rattle.std.specs.Prelude.{ℕ, List, ◌++◌, flat_map, codes}
 use Rattle.std.specs.Fmt.{decimal}
-use Rattle.log_text.specs.Written.{time_text}
+use Rattle.log_fields.specs.Time.{time_text}
 use Rattle.log_courses.specs.declared.marks.Mark.{Mark}
 use Rattle.log_courses.specs.declared.marks.Step.{Step}
 use Rattle.log_courses.specs.declared.marks.Step.TheVariants.{Announcement, Window, Again, Hold, End}

@@ -5,9 +5,9 @@ use Rattle.bus_frame.specs.Frames.{CanFrame}
 use Rattle.pgn_ids.specs.Identifier.{meaning_of}
 use Rattle.pgn_ids.specs.declared.address.Address.{Address}
 use Rattle.text_digits.specs.Digits.{digits, unspaced}
-use Rattle.log_text.specs.Iface.{name_of}
-use Rattle.log_text.specs.Written.{time_text}
-use Rattle.log_text.specs.declared.iface.Iface.{Iface}
+use Rattle.log_fields.specs.Iface.{name_of}
+use Rattle.log_fields.specs.Time.{time_text}
+use Rattle.log_fields.specs.declared.iface.Iface.{Iface}
 use Rattle.log_reports.specs.declared.key.Key.{Key}
 use Rattle.log_reports.specs.declared.told.Cause.{Cause}
 use Rattle.log_reports.specs.Causes.{cause_words}

@@ -3,7 +3,7 @@ ghost use Rattle.std.specs.Prelude.{◌≡◌, ◌++◌, OnOk};
 ghost use Rattle.log_lines.specs.Listing.{range_text, step_text, mark_line, mark_lines};
 
 use log_courses::{Mark, Step};
-use log_text::put_time;
+use log_fields::put_time;
 use std::alloc::AllocError;
 use text_digits::{put_decimal, put_text};
 

@@ -3,8 +3,8 @@ ghost use Rattle.std.specs.Prelude.{◌≡◌, ◌++◌, OnOk};
 ghost use Rattle.log_lines.specs.Text.{place_text, address_text, pgn_text, ends_text, way_text, head_text, message_text, abort_text, loss_text, given_line, aborted_line, lost_line, told_line, between_texts, wrong_line, single_line};
 
 use bus_frame::Frame;
+use log_fields::{Iface, put_time};
 use log_reports::{Cause, Key, Told, cause_words};
-use log_text::{Iface, put_time};
 use pgn_ids::{Address, Pgn, read_id};
 use std::alloc::AllocError;
 use text_digits::{put_bytes, put_decimal, put_digits, put_text};

@@ -6,8 +6,8 @@ use Rattle.pgn_ids.specs.Identifier.{meaning_of}
 use Rattle.pgn_ids.specs.declared.address.Address.{Address}
 use Rattle.serde_json.specs.Data.{Data, string}
 use Rattle.text_digits.specs.Digits.{unspaced}
-use Rattle.log_text.specs.Iface.{name_of}
-use Rattle.log_text.specs.declared.iface.Iface.{Iface}
+use Rattle.log_fields.specs.Iface.{name_of}
+use Rattle.log_fields.specs.declared.iface.Iface.{Iface}
 use Rattle.log_courses.specs.declared.course.Course.{Course}
 use Rattle.log_courses.specs.declared.course.Place.{Place}
 use Rattle.log_courses.specs.declared.marks.Detail.{Detail}

@@ -2,7 +2,7 @@
 ghost use Rattle.std.specs.Prelude.{◌≡◌, ◌++◌, OnOk, true, length, codes};
 ghost use Rattle.json_objects.specs.Objects.{count_of, member_text, object_line, rest_text};
 ghost use Rattle.serde_json.specs.Data.{string};
-ghost use Rattle.log_text.specs.Iface.{name_of};
+ghost use Rattle.log_fields.specs.Iface.{name_of};
 ghost use Rattle.log_reports.specs.Causes.{cause_words};
 ghost use Rattle.log_objects.specs.Json.{place_object, measured_members, given_members, abort_members, aborted_members, lost_members, frame_members, told_object, single_object, wrong_object};
 
@@ -12,8 +12,8 @@ use bus_frame::Frame;
 use explained_messages::Line;
 use json_objects::{put_hex, put_key, put_number, put_string};
 use log_courses::{Course, Detail, Place};
+use log_fields::Iface;
 use log_reports::{Cause, Key, Told, cause_words};
-use log_text::Iface;
 use pgn_ids::{Address, Pgn, read_id};
 use std::alloc::AllocError;
 use text_digits::put_text;

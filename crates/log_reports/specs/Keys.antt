@@ -1,7 +1,7 @@
 -- The key of a message under way: interface, sender, destination and transport.
 use Rattle.std.specs.Prelude.{Bool}
-use Rattle.log_text.specs.declared.iface.Iface.{Iface}
-use Rattle.log_text.specs.contracts.iface.IfacePartialEq.TheImpl as names
+use Rattle.log_fields.specs.declared.iface.Iface.{Iface}
+use Rattle.log_fields.specs.contracts.iface.IfacePartialEq.TheImpl as names
 use Rattle.tp_wire.specs.declared.wire.Kind.{Kind}
 use Rattle.tp_wire.specs.declared.wire.Kind.TheVariants as kinds
 use Rattle.log_reports.specs.declared.key.Transport.{Transport}

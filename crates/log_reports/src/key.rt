@@ -2,7 +2,7 @@
 ghost use Rattle.std.specs.Prelude.{◌≡◌};
 ghost use Rattle.log_reports.specs.Keys.{transport_of};
 
-use log_text::Iface;
+use log_fields::Iface;
 use pgn_ids::Address;
 use tp_wire::Kind;
 

@@ -11,7 +11,7 @@ use Rattle.std.specs.List.Sorted.{IsStrictlySortedBy}
 use Rattle.std.proofs.lemmas.Map.{lookup-none}
 use Rattle.std.proofs.lemmas.Map.Entries.{none_below_head}
 use Rattle.std.proofs.lemmas.Map.Keys.{sorted_tail}
-use Rattle.log_text.specs.declared.iface.Iface.{Iface}
+use Rattle.log_fields.specs.declared.iface.Iface.{Iface}
 use Rattle.log_summary.specs.Rows.{Summary, by_row, by_name, row_at, put_back, name_of_iface, frames_named, frames_on}
 use Rattle.log_summary.specs.declared.key.Name.{Name}
 use Rattle.log_summary.specs.declared.key.RowKey.{RowKey}

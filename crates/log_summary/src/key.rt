@@ -2,8 +2,8 @@
 ghost use Rattle.std.specs.Prelude.{◌≡◌};
 ghost use Rattle.log_summary.specs.Rows.{padded, name_of_iface, row_key};
 
+use log_fields::Iface;
 use log_reports::Key;
-use log_text::Iface;
 use pgn_ids::{Address, Pgn};
 
 /// How many bytes of a name are kept: no name of an interface has as many.

@@ -4,8 +4,8 @@ ghost use Rattle.log_courses.specs.Course.{more};
 ghost use Rattle.log_summary.specs.Rows.{new_row, no_losses, with_loss, lost_of, lost_for, losses_of, with_given, with_course, with_end, with_told, mean_of, share_of};
 
 use log_courses::Course;
+use log_fields::Iface;
 use log_reports::{Cause, Key, Told};
-use log_text::Iface;
 use pgn_ids::{Address, Pgn};
 use std::alloc::{AllocError, Global};
 

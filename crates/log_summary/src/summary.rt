@@ -7,8 +7,8 @@ ghost use Rattle.log_summary.specs.Rows.{by_row, row_at, put_back, row_told, abo
 use crate::key::{AbortKey, Name, RowKey};
 use crate::row::Row;
 use log_courses::Course;
+use log_fields::Iface;
 use log_reports::{Told, key_told, pgn_told};
-use log_text::Iface;
 use std::alloc::{AllocError, Global};
 use std::collections::BTreeMap;
 use std::marker::Model;

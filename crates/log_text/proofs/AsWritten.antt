@@ -7,11 +7,11 @@ use Rattle.std.proofs.lemmas.Option.{none-some, option_and_then_some}
 use Rattle.bus_frame.specs.Frames.{CanFrame}
 use Rattle.text_digits.specs.Numerals.{◌>>=◌, digit_of, put_digit, numeral_from, pair_of, pairs_of}
 use Rattle.log_text.specs.Digits.{data_of}
-use Rattle.log_text.specs.Fields.{cut_at, next_word}
+use Rattle.log_fields.specs.Fields.{cut_at, next_word}
 use Rattle.log_text.specs.Line.{is_other, is_ended, long_frame, frame_line, behind_time}
-use Rattle.log_text.specs.Iface.{iface_of}
+use Rattle.log_fields.specs.Iface.{iface_of}
 use Rattle.log_text.specs.Reading.{micros_of, stamp_of, is_id, is_bracket, begins_shown, shown_line, stamped_line}
-use Rattle.log_text.specs.declared.iface.Iface.{Iface}
+use Rattle.log_fields.specs.declared.iface.Iface.{Iface}
 use Rattle.log_text.specs.declared.line.LogLine.{LogLine}
 use Rattle.log_text.specs.declared.line.LogLine.TheVariants.{Frame}
 use Rattle.log_text.proofs.FieldsBack.{Without, without_append, cut_front}

@@ -2,7 +2,7 @@
 use Rattle.std.proofs.Common.{◌≡◌, ◌≢◌, ℕ, suc, ◌+◌, ◌<◌, Bool, true, false, cond, List, [], ◌∷◌, ◌++◌, length, length-append, length-drop, take, drop, Option, Some, None, IfSome, option_map, refl, arith, ◌==◌, if◌then◌else◌}
 use Rattle.std.proofs.lemmas.Bool.{ne_eqb}
 use Rattle.text_digits.specs.Numerals.{◌>>=◌}
-use Rattle.log_text.specs.Fields.{place_of}
+use Rattle.log_fields.specs.Fields.{place_of}
 use Rattle.log_text.specs.Reading.{before_return}
 
 inside_by : (is : Bool) (o : Option ℕ) (n : ℕ) → IfSome o (λ at. at < n) → IfSome (cond is (Some 0) (option_map (λ at. at + 1) o)) (λ at. at < suc n)

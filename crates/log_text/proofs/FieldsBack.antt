@@ -5,7 +5,7 @@ use Rattle.std.proofs.lemmas.Bool.Decides.{nat_tests}
 use Rattle.std.specs.Prelude.{◌==◌, ◌/◌, ◌%◌}
 use Rattle.text_digits.specs.Numerals.{◌>>=◌}
 use Rattle.text_digits.specs.Digits.{digits}
-use Rattle.log_text.specs.Fields.{place_of, cut_at, spaces_in, word_len, next_word}
+use Rattle.log_fields.specs.Fields.{place_of, cut_at, spaces_in, word_len, next_word}
 use Rattle.log_text.proofs.DigitsBack.{char_from}
 
 -- no byte is this one

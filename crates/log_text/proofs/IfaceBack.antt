@@ -3,9 +3,9 @@ use Rattle.std.proofs.Common.{◌≡◌, ℕ, suc, ◌-◌, ◌<◌, ◌≤◌, 
 use Rattle.std.specs.Prelude.{replicate, ◌==◌}
 use Rattle.std.proofs.lemmas.Bool.Decides.{nat_tests}
 use Rattle.text_digits.specs.Numerals.{is_between}
-use Rattle.log_text.specs.Fields.{place_of}
-use Rattle.log_text.specs.Iface.{is_printable, iface_of, name_of}
-use Rattle.log_text.specs.declared.iface.Iface.{Iface}
+use Rattle.log_fields.specs.Fields.{place_of}
+use Rattle.log_fields.specs.Iface.{is_printable, iface_of, name_of}
+use Rattle.log_fields.specs.declared.iface.Iface.{Iface}
 use Rattle.log_text.proofs.FieldsBack.{Without, place_front, take_front}
 
 none_is_some : {A : Type 0} {x : A} → None ≡ Some x → ⊥

@@ -3,7 +3,7 @@ use Rattle.std.proofs.Common.{◌≡◌, ℕ, List, [], ◌∷◌, ◌++◌, Opt
 use Rattle.std.proofs.lemmas.List.{append-nil}
 use Rattle.std.proofs.Common.{◌≤◌, ◌==◌, true, false, nat_lt, suc}
 use Rattle.bus_frame.specs.Frames.{CanFrame}
-use Rattle.log_text.specs.Fields.{next_word}
+use Rattle.log_fields.specs.Fields.{next_word}
 use Rattle.log_text.specs.Screen.{byte_of, bytes_in}
 use Rattle.std.proofs.lemmas.Bool.Decides.{nat_tests}
 use Rattle.text_digits.specs.Numerals.{pairs_of, pair_of}

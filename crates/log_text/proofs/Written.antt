@@ -7,11 +7,12 @@ use Rattle.bus_frame.specs.Frames.{CanFrame}
 use Rattle.text_digits.specs.Numerals.{◌>>=◌, numeral_from}
 use Rattle.log_text.specs.Digits.{data_of}
 use Rattle.text_digits.specs.Digits.{digits, digit_char, unspaced}
-use Rattle.log_text.specs.Fields.{cut_at, next_word}
-use Rattle.log_text.specs.Iface.{iface_of, name_of}
-use Rattle.log_text.specs.Line.{time_of, is_other, is_ended, long_frame, frame_line, behind_time, timed_line, log_line}
-use Rattle.log_text.specs.Written.{seconds_width, time_text, frame_text, log_text, IsFrame}
-use Rattle.log_text.specs.declared.iface.Iface.{Iface}
+use Rattle.log_fields.specs.Fields.{cut_at, next_word}
+use Rattle.log_fields.specs.Iface.{iface_of, name_of}
+use Rattle.log_fields.specs.Time.{time_of, seconds_width, time_text}
+use Rattle.log_text.specs.Line.{is_other, is_ended, long_frame, frame_line, behind_time, timed_line, log_line}
+use Rattle.log_text.specs.Written.{frame_text, log_text, IsFrame}
+use Rattle.log_fields.specs.declared.iface.Iface.{Iface}
 use Rattle.log_text.specs.declared.line.LogLine.{LogLine}
 use Rattle.log_text.specs.declared.line.LogLine.TheVariants.{Frame}
 use Rattle.log_text.proofs.DigitsBack.{Fits, digits_back, reads_last_10, reads_last_16, length-digits, length-unspaced, pairs_back, char_from, char_to}

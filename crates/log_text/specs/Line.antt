@@ -1,26 +1,14 @@
 -- What a line of a log shows, in the form (SECONDS.MICROS) IFACE ID#HEX. None is not a log line.
-use Rattle.std.specs.Prelude.{ℕ, ◌+◌, ◌*◌, ◌^◌, List, [], ◌∷◌, length, Bool, true, false, ◌&&◌, ◌||◌, not, Option, Some, None, ◌==◌, nat_lt, nat_le, if◌then◌else◌, unwrap_or}
+use Rattle.std.specs.Prelude.{ℕ, ◌^◌, List, [], ◌∷◌, length, Bool, true, false, ◌&&◌, ◌||◌, Option, Some, None, ◌==◌, nat_le, if◌then◌else◌, unwrap_or}
 use Rattle.text_digits.specs.Numerals.{◌>>=◌, numeral_from}
 use Rattle.log_text.specs.Digits.{data_of}
-use Rattle.log_text.specs.Fields.{cut_at, next_word}
-use Rattle.log_text.specs.Iface.{iface_of}
+use Rattle.log_fields.specs.Fields.{cut_at, next_word}
+use Rattle.log_fields.specs.Iface.{iface_of}
+use Rattle.log_fields.specs.Time.{time_of}
 use Rattle.log_text.specs.Screen.{screen_frame}
-use Rattle.log_text.specs.declared.iface.Iface.{Iface}
+use Rattle.log_fields.specs.declared.iface.Iface.{Iface}
 use Rattle.log_text.specs.declared.line.LogLine.{LogLine}
 use Rattle.log_text.specs.declared.line.LogLine.TheVariants.{Frame, Passed}
-
--- a time in microseconds, with six digits behind the point
-unfoldable pub time_of : (seconds micros : List ℕ) → Option ℕ
-time_of seconds micros = if length seconds == 0 || not (length micros == 6) then None else (do
-  s ← numeral_from 10 0 seconds
-  m ← numeral_from 10 0 micros
-  if nat_lt (s * 1000000 + m) (2 ^ 64) then Some (s * 1000000 + m) else None)
-
--- the seconds and the microseconds of a time, with a point between them
-unfoldable pub time_word : List ℕ → Option ℕ
-time_word word = do
-  halves ← cut_at 46 word
-  time_of halves.0 halves.1
 
 -- R, T or nothing: whether the frame was received or sent
 abbrev pub is_mark : List ℕ → Bool

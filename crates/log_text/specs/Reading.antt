@@ -2,11 +2,11 @@
 -- .., with a time in front of it or not. None if it begins as a frame of the log's form, but continues differently.
 use Rattle.std.specs.Prelude.{ℕ, ◌+◌, ◌*◌, ◌/◌, ◌^◌, List, [], ◌∷◌, length, drop, Bool, false, ◌&&◌, ◌||◌, Option, Some, None, ◌==◌, nat_lt, nat_le, if◌then◌else◌, is_some}
 use Rattle.text_digits.specs.Numerals.{◌>>=◌, is_between, numeral_from}
-use Rattle.log_text.specs.Fields.{cut_at, spaces_in, next_word}
-use Rattle.log_text.specs.Iface.{iface_of}
+use Rattle.log_fields.specs.Fields.{cut_at, spaces_in, next_word}
+use Rattle.log_fields.specs.Iface.{iface_of}
 use Rattle.log_text.specs.Screen.{count_of, bytes_in}
 use Rattle.log_text.specs.Line.{behind_time}
-use Rattle.log_text.specs.declared.iface.Iface.{Iface}
+use Rattle.log_fields.specs.declared.iface.Iface.{Iface}
 use Rattle.log_text.specs.declared.line.LogLine.{LogLine}
 use Rattle.log_text.specs.declared.line.LogLine.TheVariants.{Frame, Passed}
 use Rattle.log_text.specs.declared.reading.Form.{Form}

@@ -1,8 +1,8 @@
 -- What a line shows in the form that candump shows on a screen, IFACE ID [N] B0 B1 .., which has no time.
 use Rattle.std.specs.Prelude.{ℕ, zero, suc, ◌-◌, ◌^◌, List, [], ◌∷◌, length, Option, Some, None, ◌==◌, ◌&&◌, nat_le, if◌then◌else◌}
 use Rattle.text_digits.specs.Numerals.{◌>>=◌, is_between, numeral_from, pair_of}
-use Rattle.log_text.specs.Fields.{next_word}
-use Rattle.log_text.specs.Iface.{iface_of}
+use Rattle.log_fields.specs.Fields.{next_word}
+use Rattle.log_fields.specs.Iface.{iface_of}
 use Rattle.log_text.specs.declared.line.LogLine.{LogLine}
 use Rattle.log_text.specs.declared.line.LogLine.TheVariants.{Frame}
 

@@ -1,16 +1,10 @@
 -- How a line of a log is written: (SECONDS.MICROS) IFACE ID#HEX.
-use Rattle.std.specs.Prelude.{ℕ, ◌/◌, ◌%◌, ◌^◌, ◌<◌, ◌≤◌, List, [], ◌∷◌, ◌++◌, length, nat_lt, if◌then◌else◌, ⊤}
+use Rattle.std.specs.Prelude.{ℕ, ◌^◌, ◌<◌, ◌≤◌, List, [], ◌∷◌, ◌++◌, length, ⊤}
 use Rattle.bus_frame.specs.Frames.{CanFrame}
 use Rattle.text_digits.specs.Digits.{digits, unspaced}
-use Rattle.log_text.specs.Iface.{name_of}
-use Rattle.log_text.specs.declared.iface.Iface.{Iface}
-
--- ten digits of seconds, or fourteen from 10^10 seconds on
-abbrev pub seconds_width : ℕ → ℕ
-seconds_width seconds = if nat_lt seconds 10000000000 then 10 else 14
-
-unfoldable pub time_text : ℕ → List ℕ
-time_text time = 40 ∷ digits 10 (seconds_width (time / 1000000)) (time / 1000000) ++ 46 ∷ digits 10 6 (time % 1000000) ++ 41 ∷ []
+use Rattle.log_fields.specs.Iface.{name_of}
+use Rattle.log_fields.specs.Time.{time_text}
+use Rattle.log_fields.specs.declared.iface.Iface.{Iface}
 
 unfoldable pub frame_text : CanFrame → List ℕ
 frame_text frame = digits 16 8 frame.id ++ 35 ∷ unspaced frame.bytes

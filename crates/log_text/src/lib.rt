@@ -5,8 +5,6 @@
 #![tactic(auto)]
 
 mod digits;
-mod fields;
-mod iface;
 mod laws;
 mod line;
 mod reading;
@@ -14,8 +12,8 @@ mod screen;
 mod usual;
 mod writing;
 
-pub use iface::{BadName, Iface};
 pub use laws::written_lines_are_read_back;
-pub use line::{LogLine, NotLogLine, read_log_line, read_time};
+pub use line::{LogLine, NotLogLine, read_log_line};
+pub use log_fields::{BadName, Iface, put_time, read_time};
 pub use reading::{Form, before_return, form_of, read_line_as};
-pub use writing::{put_log_line, put_time};
+pub use writing::put_log_line;

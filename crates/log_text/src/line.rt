@@ -1,12 +1,11 @@
 //! What a line of a log shows.
 ghost use Rattle.std.specs.Prelude.{◌≡◌, MatchResult, Some, None};
-ghost use Rattle.log_text.specs.Line.{time_of, time_word, is_mark, is_ended, is_other, long_frame, frame_line, behind_time, timed_line, log_line};
+ghost use Rattle.log_text.specs.Line.{is_mark, is_ended, is_other, long_frame, frame_line, behind_time, timed_line, log_line};
 
 use crate::digits::frame;
-use crate::fields::{cut_at, next_word};
-use crate::iface::Iface;
 use crate::screen::screen_frame;
 use bus_frame::{CanId, Frame};
+use log_fields::{Iface, cut_at, next_word, time_of};
 use text_digits::read_numeral;
 use thiserror::Error;
 
@@ -28,37 +27,8 @@ pub enum LogLine {
 #[error("not a log line")]
 pub struct NotLogLine;
 
-/// How many microseconds a second has.
-pub(crate) const SECOND: u64 = 1_000_000;
-
-/// How many digits the microseconds have.
-const MICROS: usize = 6;
-
 /// One more than the largest identifier. Above it candump shows error frames.
 pub(crate) const ID_END: u64 = 0x2000_0000;
-
-/// A time, below 2 ^ 64 microseconds.
-#[tactic(auto, unfolding(crate::specs::Line::time_of))]
-fn time(seconds: &[u8], micros: &[u8]) -> Option<u64>
-    ensures { result ≡ time_of seconds.now micros.now }
-{
-    if seconds.is_empty() || micros.len() != MICROS {
-        return None;
-    }
-    let seconds = read_numeral(10, seconds)?;
-    let micros = read_numeral(10, micros)?;
-    seconds.checked_mul(SECOND)?.checked_add(micros)
-}
-
-/// A time in microseconds, from a word `SECONDS.MICROS`. None if one part isn't digits, the microseconds aren't six of them, or the time
-/// isn't below 2^64 microseconds.
-#[tactic(auto, unfolding(crate::specs::Line::time_word))]
-pub fn read_time(word: &[u8]) -> Option<u64>
-    ensures { result ≡ time_word word.now }
-{
-    let (seconds, micros) = cut_at(b'.', word)?;
-    time(seconds, micros)
-}
 
 /// Whether a word behind a frame says that it was received or sent, or there is none.
 fn is_mark(word: &[u8]) -> bool
@@ -145,7 +115,7 @@ fn timed_line(text: &[u8]) -> Option<LogLine>
 {
     let (stamp, text) = cut_at(b')', text)?;
     let (seconds, micros) = cut_at(b'.', stamp)?;
-    behind_time(time(seconds, micros)?, text)
+    behind_time(time_of(seconds, micros)?, text)
 }
 
 /// The meaning of a line, without its line feed. Any number of spaces may be in the place of one.

@@ -3,12 +3,11 @@ ghost use Rattle.std.specs.Prelude.{◌≡◌, MatchResult, Some, None, if◌the
 ghost use Rattle.log_text.specs.Line.{behind_time};
 ghost use Rattle.log_text.specs.Reading.{before_return, trimmed, begins_timed, is_bracket, is_id, begins_shown, form_of, micros_of, stamp_of, before_quote, is_long_count, is_remote, long_shown, shown_line, stamped_line, timed_as, untimed_as, line_as};
 
-use crate::fields::{cut_at, next_word, spaces_in};
-use crate::iface::Iface;
-use crate::line::{ID_END, LogLine, NotLogLine, SECOND, frame_line, is_ended};
+use crate::line::{ID_END, LogLine, NotLogLine, frame_line, is_ended};
 use crate::screen::{bytes, count};
 use crate::usual::{usual_behind, usual_stamp};
 use bus_frame::{CanId, Frame};
+use log_fields::{Iface, SECOND, cut_at, next_word, spaces_in};
 use text_digits::read_numeral;
 
 /// The form of a log's lines.

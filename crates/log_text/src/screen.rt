@@ -2,10 +2,9 @@
 ghost use Rattle.std.specs.Prelude.{◌≡◌, ◌≤◌, option_map, IfSome};
 ghost use Rattle.log_text.specs.Screen.{count_of, byte_of, bytes_in, screen_frame};
 
-use crate::fields::next_word;
-use crate::iface::Iface;
 use crate::line::{ID_END, LogLine};
 use bus_frame::{CanId, Frame};
+use log_fields::{Iface, next_word};
 use text_digits::{read_numeral, read_pair};
 
 /// How many bytes there are to be: a digit up to 8 in square brackets.

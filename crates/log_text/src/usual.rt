@@ -1,16 +1,15 @@
 //! The parts of a line as `candump -L` writes them, so that most lines are read in one pass. If a part is different,
 //! the readers here return none and decide nothing.
 ghost use Rattle.std.specs.Prelude.{◌≡◌, ◌∷◌, IfSome, Some, true, false, if◌then◌else◌};
-ghost use Rattle.log_text.specs.Fields.{next_word};
+ghost use Rattle.log_fields.specs.Fields.{next_word};
 ghost use Rattle.log_text.specs.Line.{is_ended, frame_line, behind_time};
 ghost use Rattle.log_text.specs.Reading.{is_id, begins_shown, shown_line, stamped_line};
 
 use crate::digits::frame;
-use crate::fields::next_word;
-use crate::iface::Iface;
 use crate::line::{ID_END, LogLine};
 use crate::reading::stamp;
 use bus_frame::CanId;
+use log_fields::{Iface, next_word};
 use text_digits::read_numeral;
 
 /// How many digits the seconds have, from 2001 to 2286.

@@ -1,31 +1,11 @@
 //! Lines of a log, written.
 ghost use Rattle.std.specs.Prelude.{◌≡◌, ◌++◌, OnOk};
-ghost use Rattle.log_text.specs.Written.{time_text, frame_text, log_text};
+ghost use Rattle.log_text.specs.Written.{frame_text, log_text};
 
-use crate::iface::Iface;
-use crate::line::SECOND;
 use bus_frame::Frame;
+use log_fields::{Iface, put_time};
 use std::alloc::AllocError;
 use text_digits::{put_bytes, put_digits};
-
-/// From here on seconds have more than ten digits.
-const TEN_DIGITS: u64 = 10_000_000_000;
-
-/// Puts a time of so many microseconds in round brackets behind what `out` holds: the seconds in ten digits, or in fourteen from 10^10 on,
-/// a point, and six digits. It fails only if memory is refused.
-#[tactic(auto, unfolding(crate::specs::Written::time_text))]
-pub fn put_time(out: &mut Vec<u8>, time: u64) -> Result<(), AllocError>
-    ensures { OnOk result (out.new.items ≡ out.old.items ++ time_text time) }
-{
-    let seconds = time / SECOND;
-    let width = if seconds < TEN_DIGITS { 10 } else { 14 };
-    out.push(b'(')?;
-    put_digits(out, 10, width, seconds)?;
-    out.push(b'.')?;
-    put_digits(out, 10, 6, time % SECOND)?;
-    out.push(b')')?;
-    Ok(())
-}
 
 #[tactic(auto, unfolding(crate::specs::Written::frame_text))]
 fn put_frame(out: &mut Vec<u8>, frame: &Frame) -> Result<(), AllocError>

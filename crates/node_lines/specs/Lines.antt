@@ -1,7 +1,8 @@
 -- What a line of a node's standard input means, or the first fault in it: a line of the bus's log, the time, or a command.
 use Rattle.std.specs.Prelude.{ℕ, List, [], ◌∷◌, Bool, false, Option, Some, None, Result, Ok, Err, ◌==◌, if◌then◌else◌, codes}
 use Rattle.std.specs.Str.{bytes_eq}
-use Rattle.log_text.specs.Line.{time_word, log_line}
+use Rattle.log_fields.specs.Time.{time_word}
+use Rattle.log_text.specs.Line.{log_line}
 use Rattle.log_text.specs.Reading.{before_return}
 use Rattle.log_text.specs.declared.line.LogLine.{LogLine}
 use Rattle.log_text.specs.declared.line.LogLine.TheVariants as logged

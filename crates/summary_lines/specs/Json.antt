@@ -3,7 +3,7 @@ use Rattle.std.specs.Prelude.{ℕ, List, [], ◌∷◌, map, flat_map, codes}
 use Rattle.std.specs.Fmt.{decimal}
 use Rattle.json_objects.specs.Objects.{Named, object_of, count_of, object_line}
 use Rattle.serde_json.specs.Data.{Data, string}
-use Rattle.log_text.specs.Iface.{name_of}
+use Rattle.log_fields.specs.Iface.{name_of}
 use Rattle.log_reports.specs.Causes.{cause_words}
 use Rattle.log_summary.specs.Rows.{Summary, rows_of, aborts_of, losses_of, frames_on, mean_of, share_of}
 use Rattle.log_summary.specs.declared.row.LossCount.{LossCount}

@@ -3,8 +3,8 @@ use Rattle.std.specs.Prelude.{ℕ, ◌-◌, List, ◌++◌, length, replicate, f
 use Rattle.std.specs.Fmt.{decimal}
 use Rattle.pgn_ids.specs.declared.address.Address.{Address}
 use Rattle.text_digits.specs.Digits.{digits}
-use Rattle.log_text.specs.Iface.{name_of}
-use Rattle.log_text.specs.declared.iface.Iface.{Iface}
+use Rattle.log_fields.specs.Iface.{name_of}
+use Rattle.log_fields.specs.declared.iface.Iface.{Iface}
 use Rattle.log_reports.specs.Causes.{cause_words}
 use Rattle.log_summary.specs.Rows.{Summary, rows_of, aborts_of, losses_of, frames_on, mean_of, share_of}
 use Rattle.log_summary.specs.declared.row.LossCount.{LossCount}

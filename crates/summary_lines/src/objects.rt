@@ -4,7 +4,7 @@ ghost use Rattle.json.specs.Print.{quoted};
 ghost use Rattle.json_objects.specs.Objects.{count_of, member_text, object_line, rest_text, members_from};
 ghost use Rattle.serde_json.specs.Data.{string};
 ghost use Rattle.serde_json.specs.Written.{comma_if, compact_text, members_text};
-ghost use Rattle.log_text.specs.Iface.{name_of};
+ghost use Rattle.log_fields.specs.Iface.{name_of};
 ghost use Rattle.log_summary.specs.Rows.{mean_of, share_of};
 ghost use Rattle.summary_lines.specs.Json.{abort_member, aborts_object, loss_member, losses_object, last_members, row_members, row_object, row_objects};
 

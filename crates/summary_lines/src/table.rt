@@ -4,9 +4,9 @@ ghost use Rattle.std.specs.Fmt.{decimal};
 ghost use Rattle.summary_lines.specs.Table.{column, name_text, address_text, way_text, given_text, rest_text, abort_line, abort_lines, loss_line, loss_lines, row_line, row_lines, header_line, table_text};
 
 use itoa::Buffer;
+use log_fields::Iface;
 use log_reports::cause_words;
 use log_summary::{AbortCount, LossCount, Row, Summary};
-use log_text::Iface;
 use pgn_ids::Address;
 use std::alloc::{AllocError, Global};
 use text_digits::{put_decimal, put_digits, put_text};

@@ -1,6 +1,6 @@
 use Rattle.std.proofs.Common.{rules, ◌≡◌, ◌<◌, ◌+◌, ◌-◌, ◌==◌, ◌++◌, ◌∷◌, [], None, Some, true, false, suc, sym, ◌∙◌, ap, length, take, arith}
 use Rattle.std.proofs.lemmas.List.{take_more_set}
-use Rattle.log_text.specs.Fields.{next_word}
+use Rattle.log_fields.specs.Fields.{next_word}
 use Rattle.log_text.specs.Screen.{byte_of, bytes_in}
 use Rattle.log_text.proofs.Pairs.{with_front, word_read, word_bad, words_over, words_end, made_none, made_some}
 use Rattle.log_text.proofs.screen.bytes.Goals as goal

@@ -1,6 +1,6 @@
 use Rattle.std.proofs.Common.{rules, ◌≡◌, Some}
 use Rattle.std.proofs.lemmas.Option.{IfSome_then}
-use Rattle.log_text.specs.Iface.{iface_of}
+use Rattle.log_fields.specs.Iface.{iface_of}
 use Rattle.log_text.proofs.AsWritten.{behind_there}
 use Rattle.log_text.proofs.usual.usual_behind.Goals as goal
 

@@ -1,6 +1,6 @@
 //! Fields of a line: the text between marks and spaces.
 ghost use Rattle.std.specs.Prelude.{◌≡◌, ◌<◌, ◌≤◌, length, IfSome, option_map};
-ghost use Rattle.log_text.specs.Fields.{place_of, cut_at, spaces_in, next_word};
+ghost use Rattle.log_fields.specs.Fields.{place_of, cut_at, spaces_in, next_word};
 
 /// The place of the first byte of this value, from 0.
 pub(crate) fn place_of(wanted: u8, text: &[u8]) -> Option<usize>
@@ -16,7 +16,7 @@ pub(crate) fn place_of(wanted: u8, text: &[u8]) -> Option<usize>
 }
 
 /// The text before and behind the first byte of this value.
-pub(crate) fn cut_at(wanted: u8, text: &[u8]) -> Option<(&[u8], &[u8])>
+pub fn cut_at(wanted: u8, text: &[u8]) -> Option<(&[u8], &[u8])>
     ensures { option_map (λ p. (p.0.now, p.1.now)) result ≡ cut_at wanted text.now }
 {
     let at = place_of(wanted, text)?;
@@ -24,7 +24,7 @@ pub(crate) fn cut_at(wanted: u8, text: &[u8]) -> Option<(&[u8], &[u8])>
 }
 
 /// How many spaces are at the front.
-pub(crate) fn spaces_in(text: &[u8]) -> usize
+pub fn spaces_in(text: &[u8]) -> usize
     ensures value { result ≡ spaces_in text.now }
     ensures within { result ≤ length text.now }
 {
@@ -37,7 +37,7 @@ pub(crate) fn spaces_in(text: &[u8]) -> usize
 }
 
 /// The first word, which is empty if there is none, and the text behind it.
-pub(crate) fn next_word(text: &[u8]) -> (&[u8], &[u8])
+pub fn next_word(text: &[u8]) -> (&[u8], &[u8])
     ensures { (result.0.now, result.1.now) ≡ next_word text.now }
 {
     let text = &text[spaces_in(text)..];

@@ -1,8 +1,8 @@
 -- Names of interfaces.
 use Rattle.std.specs.Prelude.{ℕ, ◌-◌, List, [], ◌∷◌, ◌++◌, length, take, replicate, Bool, true, ◌&&◌, ◌||◌, Option, Some, None, ◌==◌, nat_lt, if◌then◌else◌, unwrap_or, codes}
 use Rattle.text_digits.specs.Numerals.{is_between}
-use Rattle.log_text.specs.Fields.{place_of}
-use Rattle.log_text.specs.declared.iface.Iface.{Iface}
+use Rattle.log_fields.specs.Fields.{place_of}
+use Rattle.log_fields.specs.declared.iface.Iface.{Iface}
 
 -- each byte is printable ASCII and no space
 abbrev pub is_printable : List ℕ → Bool

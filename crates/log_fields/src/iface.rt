@@ -2,7 +2,7 @@
 ghost use Rattle.std.specs.Prelude.{◌≡◌, ◌<◌, [], ◌∷◌, MatchResult, Some, None, true, false};
 ghost use Rattle.std.specs.Cmp.Rules.{hashing};
 ghost use Rattle.std.proofs.Common.{rules};
-ghost use Rattle.log_text.specs.Iface.{is_printable, iface_of, name_of, bus0};
+ghost use Rattle.log_fields.specs.Iface.{is_printable, iface_of, name_of, bus0};
 
 use crate::fields::place_of;
 use std::hash::{Hash, Hasher};
