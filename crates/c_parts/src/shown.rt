@@ -1,5 +1,5 @@
 //! Frames, outcomes and numbers as they are written for C.
-ghost use Rattle.std.specs.Prelude.{◌≡◌};
+ghost use Rattle.std.specs.Prelude.{◌≡◌, ◌≤◌, ◌++◌, ◌-◌, length, replicate};
 ghost use Rattle.c_parts.specs.Codes.{found_code};
 ghost use Rattle.c_parts.specs.Shown.{shown_frame, shown_counts, outcome_number, outcome_reason};
 ghost use Rattle.c_parts.specs.Calls.{IsTickWritten};
@@ -8,6 +8,11 @@ use crate::codes::{DONE, NOTHING};
 use bus_frame::Frame;
 use segment_law::Counts;
 use tp_wire::Outcome;
+
+/// How many bytes a frame has at most, and what stands behind them if there are fewer.
+const FRAME_BYTES: usize = 8;
+
+const FILLING: u8 = 0;
 
 /// A frame: its identifier of 29 bits, and `len` bytes, 0 to 8. If the frame is shown, its other bytes are 0.
 #[repr(C)]
@@ -39,13 +44,24 @@ pub fn show_frame(next: &Frame) -> CFrame
     ensures { result ≡ shown_frame next.now }
 {
     let bytes = next.bytes();
-    let mut kept = [0; 8];
-    kept[..bytes.len()].copy_from_slice(bytes);
     CFrame {
         id: next.id().raw(),
         len: bytes.len() as u32,
-        bytes: kept,
+        bytes: filled_up(bytes),
     }
+}
+
+// At most eight bytes, and zeros behind them. Most frames have eight, which are copied without a call.
+fn filled_up(bytes: &[u8]) -> [u8; 8]
+    requires { length bytes.now ≤ 8 }
+    ensures { result ≡ bytes.now ++ replicate (8 - length bytes.now) 0 }
+{
+    if let Some(whole) = bytes.as_array::<8>() {
+        return *whole;
+    }
+    let mut kept = [FILLING; FRAME_BYTES];
+    kept[..bytes.len()].copy_from_slice(bytes);
+    kept
 }
 
 /// Counts for C.
