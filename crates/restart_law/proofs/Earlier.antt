@@ -1,4 +1,5 @@
--- Of what a station did earlier, as far as its ports show it: each opening and closing stands at its place, and nothing else is told.
+-- Of what two stations did earlier, as far as it shows the ports of the one, each opening and closing at its place, and what the other sent.
+-- Nothing else is told.
 use Rattle.std.proofs.Common.{◌≡◌, ℕ, suc, ◌+◌, List, [], ◌∷◌, ◌++◌, map, length, refl, ap, ◌∙◌, append-nil}
 use Rattle.port_table.specs.declared.port.PortId.{PortId}
 use Rattle.pgn_ids.specs.declared.address.Address.{Address}
@@ -107,6 +108,51 @@ none_told (Inject frame) reply = refl
 none_told (Pause port) reply = refl
 none_told (Resume port) reply = refl
 
+-- What the other sent
+
+abbrev of_sends : Call → Reply → Step
+of_sends (Send from to pgn bytes) reply = (Send from to pgn bytes, without_events reply)
+of_sends _ reply = (Tick 0, Done [])
+
+abbrev pub sendings : Record → Record
+sendings [] = []
+sendings (step ∷ steps) = of_sends step.0 step.1 ∷ sendings steps
+
+sends_or_not : (P : Step → Type 0) → P (Tick 0, Done []) → ((from to : Address) (pgn : ℕ) (bytes : List ℕ) (reply : Reply) → P (Send from to pgn bytes, without_events reply)) → (call : Call) (reply : Reply) → P (of_sends call reply)
+sends_or_not P none some (Open station pgn max_len) reply = none
+sends_or_not P none some (Close port) reply = none
+sends_or_not P none some (Send from to pgn bytes) reply = some from to pgn bytes reply
+sends_or_not P none some (Pump station to) reply = none
+sends_or_not P none some (Transmit station) reply = none
+sends_or_not P none some (Take station room) reply = none
+sends_or_not P none some (TakeAgain station room) reply = none
+sends_or_not P none some (Overrun station n) reply = none
+sends_or_not P none some (Tick n) reply = none
+sends_or_not P none some (Fire station) reply = none
+sends_or_not P none some (Cancel from to number) reply = none
+sends_or_not P none some (Inject frame) reply = none
+sends_or_not P none some (Pause port) reply = none
+sends_or_not P none some (Resume port) reply = none
+
+sent_same : (s x : Address) (call : Call) (reply : Reply) → sent_by s x (of_sends call reply).0 (of_sends call reply).1 ≡ sent_by s x call reply
+sent_same s x (Send from to pgn bytes) (Sent number) = refl
+sent_same s x (Send from to pgn bytes) (Opened port) = refl
+sent_same s x (Send from to pgn bytes) (Refused cause) = refl
+sent_same s x (Send from to pgn bytes) (Done events) = refl
+sent_same s x (Open station pgn max_len) reply = refl
+sent_same s x (Close port) reply = refl
+sent_same s x (Pump station to) reply = refl
+sent_same s x (Transmit station) reply = refl
+sent_same s x (Take station room) reply = refl
+sent_same s x (TakeAgain station room) reply = refl
+sent_same s x (Overrun station n) reply = refl
+sent_same s x (Tick n) reply = refl
+sent_same s x (Fire station) reply = refl
+sent_same s x (Cancel from to number) reply = refl
+sent_same s x (Inject frame) reply = refl
+sent_same s x (Pause port) reply = refl
+sent_same s x (Resume port) reply = refl
+
 -- Along a record
 
 pub opened_earlier : (p : PortId) (place : ℕ) (steps : Record) → told_from (λ step. opened_by p step.0 step.1) place (earlier steps) ≡ told_from (λ step. opened_by p step.0 step.1) place steps
@@ -130,3 +176,21 @@ sends_nothing s x (step ∷ steps) = λ k. none_sent s x step.0 step.1 k ++ send
 pub tells_nothing : {A : Type 0} (of : List Event → List A) → of [] ≡ [] → (steps : Record) → flat (λ step. of (events_of step.1)) (earlier steps) ≡ []
 tells_nothing of e [] = refl
 tells_nothing of e (step ∷ steps) = λ k. (ap of (none_told step.0 step.1) ∙ e) k ++ tells_nothing of e steps k
+
+pub same_sends : (s x : Address) (steps : Record) → flat (λ step. sent_by s x step.0 step.1) (sendings steps) ≡ flat (λ step. sent_by s x step.0 step.1) steps
+same_sends s x [] = refl
+same_sends s x (step ∷ steps) = λ k. sent_same s x step.0 step.1 k ++ same_sends s x steps k
+
+-- they open and close nothing, and tell no event
+sends_alone : {A : Type 0} (tells : Step → List A) → tells (Tick 0, Done []) ≡ [] → ((from to : Address) (pgn : ℕ) (bytes : List ℕ) (reply : Reply) → tells (Send from to pgn bytes, without_events reply) ≡ []) → (steps : Record) → flat tells (sendings steps) ≡ []
+sends_alone tells none some [] = refl
+sends_alone tells none some (step ∷ steps) = λ k. sends_or_not (λ (z : Step). tells z ≡ []) none some step.0 step.1 k ++ sends_alone tells none some steps k
+
+pub none_opened : (p : PortId) (steps : Record) → flat (λ step. opened_by p step.0 step.1) (sendings steps) ≡ []
+none_opened p = sends_alone (λ step. opened_by p step.0 step.1) refl (λ from to pgn bytes reply. refl)
+
+pub none_closed : (p : PortId) (steps : Record) → flat (λ step. closed_by p step.0 step.1) (sendings steps) ≡ []
+none_closed p = sends_alone (λ step. closed_by p step.0 step.1) refl (λ from to pgn bytes reply. refl)
+
+pub none_told_there : {A : Type 0} (of : List Event → List A) → of [] ≡ [] → (steps : Record) → flat (λ step. of (events_of step.1)) (sendings steps) ≡ []
+none_told_there of e = sends_alone (λ step. of (events_of step.1)) e (λ from to pgn bytes reply. ap of (no_events reply) ∙ e)

@@ -8,7 +8,7 @@ use Rattle.station_sessions.specs.Opening.{key_of}
 use Rattle.station_core.specs.Station.{Station, new_station}
 use Rattle.segment_law.specs.Segment.{new_segment, place_of, station_at}
 use Rattle.record_law.proofs.Maps.{state_empty}
-use Rattle.restart_law.specs.Start.{is_answer, IsAFirstStart}
+use Rattle.restart_law.specs.Start.{is_sent_to, is_answer, IsAFirstStart}
 
 place : (a : Address) → place_of (new_segment (a ∷ [])) a ≡ Some 0
 place a = rw (eq-eqb a.0 a.0 refl) refl
@@ -18,11 +18,12 @@ station_is a = ap (λ (p : Option ℕ). unwrap_or (elim p as (λ (_ : Option ℕ
 
 pub first_start : IsAFirstStart
 first_start s d = record {
-  nothing_sent = record { sent = λ to. refl; queue = ap (λ (z : Station). z.queue) (station_is s) };
-  nothing_left = record {
+  nothing_sent = λ to. refl;
+  nothing_on_the_way = record {
+    unsent = ap (λ (z : Station). list_all (λ f. not (is_sent_to d f)) z.queue) (station_is s);
+    unanswered = ap (λ (z : Station). list_all (λ f. not (is_answer s f)) z.queue) (station_is d);
     sessions = λ kind. ap (λ (z : Station). state_at z.sessions (key_of s kind)) (station_is d) ∙ state_empty (key_of s kind);
-    queue = ap (λ (z : Station). list_all (λ f. not (is_answer s f)) z.queue) (station_is d);
+    last = None;
+    is_last = record { of_s = inl refl; of_d = inl refl; unsent = refl; unanswered = refl };
   };
-  last = None;
-  is_last = record { of_s = inl refl; of_d = inl refl; others = refl };
 }

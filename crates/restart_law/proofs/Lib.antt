@@ -1,9 +1,14 @@
 pub mod Lanes
 pub mod Alone
+pub mod Bare
+pub mod BareToAll
 pub mod Earlier
 pub mod Both
+pub mod Frames
 pub mod Begun
 pub mod Weaving
 pub mod Numbers
+pub mod Addressed
 pub mod Sentence
+pub mod Started
 pub mod First

@@ -1,37 +1,38 @@
--- The law from a start, in the words of the two records.
-use Rattle.std.proofs.Common.{◌≡◌, ◌≢◌, ◌⊎◌, inl, inr, ℕ, zero, suc, ◌+◌, ◌<◌, ◌==◌, ◌^◌, true, cond, not, ◌&&◌, List, [], ◌∷◌, ◌++◌, map, filter_map, length, Option, Some, None, refl, sym, ap, ◌∙◌, subst, arith, eq-eqb, eqb-true}
-use Rattle.std.specs.Prelude.{Contains, zip, slice_get, unwrap_or}
-use Rattle.std.specs.List.{list_all, list_any, cons_option}
-use Rattle.std.proofs.lemmas.Bool.{and_parts}
+-- The law from a moment on, in the words of the two records.
+use Rattle.std.proofs.Common.{◌≡◌, ◌≢◌, inr, ℕ, suc, ◌+◌, ◌<◌, ◌==◌, ◌^◌, true, not, List, [], ◌∷◌, ◌++◌, map, filter_map, length, Option, Some, None, refl, sym, ap, ◌∙◌, subst, arith, append_assoc, eq-eqb}
+use Rattle.std.specs.Prelude.{AllPairs, Contains, zip, slice_get, unwrap_or}
+use Rattle.std.specs.List.{list_all, list_any}
+use Rattle.std.proofs.lemmas.List.{map-append}
+use Rattle.std.proofs.lemmas.Option.{same_Some}
 use Rattle.bus_frame.specs.Frames.{CanFrame}
-use Rattle.pgn_ids.specs.Address.{is_one, global_address}
+use Rattle.bus_order.specs.Bus.{frame_again}
+use Rattle.pgn_ids.specs.Address.{is_one}
 use Rattle.pgn_ids.specs.declared.address.Address.{Address}
 use Rattle.port_table.specs.declared.port.PortId.{PortId}
-use Rattle.message_events.specs.declared.event.Event.{Event}
-use Rattle.message_events.specs.declared.event.Event.TheVariants as event
 use Rattle.tp_wire.specs.declared.outcome.Outcome.{Outcome}
 use Rattle.tp_wire.specs.declared.outcome.Outcome.TheVariants as outcome
+use Rattle.lane_core.specs.Lane.{Lane}
 use Rattle.session_table.specs.Sessions.{state_at}
+use Rattle.station_lanes.specs.LaneCalls.{lane_to}
 use Rattle.station_sessions.specs.Opening.{key_of}
 use Rattle.station_core.specs.Station.{Station, new_station}
 use Rattle.segment_law.specs.Segment.{Segment, new_segment, place_of, station_at}
 use Rattle.segment_law.specs.Calls.{events_of, is_frame}
 use Rattle.segment_law.specs.Record.{Step, Record, calls_of, after}
 use Rattle.segment_law.specs.Drift.{DriftsTo}
-use Rattle.segment_law.specs.Told.{Message, Placed, AtPort, NumberedOutcome, told_from, opened_by, closed_by, all_givens, is_lane, items_of, places_of, sent_by, sends, sent, given_to_station, station_givens, outcome_in, outcomes}
+use Rattle.segment_law.specs.Told.{Message, Placed, AtPort, NumberedOutcome, told_from, opened_by, closed_by, all_givens, items_of, places_of, sent_by, sends, sent, given_to_station, station_givens, outcome_in, outcomes}
 use Rattle.segment_law.specs.Numbering.{item, IsAfter, part_of}
-use Rattle.segment_law.specs.Headline.{Headline, HeadlineDrifts, HaveOneOutcome, port_of, IsOpenFor}
+use Rattle.segment_law.specs.Headline as own
+use Rattle.segment_law.specs.Headline.{Headline, HeadlineDrifts, port_of, IsOpenFor}
 use Rattle.segment_law.specs.declared.call.Call.{Call}
+use Rattle.segment_law.specs.declared.call.Call.TheVariants.{Inject, Overrun}
 use Rattle.segment_law.specs.declared.reply.Reply.{Reply}
+use Rattle.segment_law.specs.declared.reply.Reply.TheVariants.{Done}
 use Rattle.segment_law.proofs.Drifting.{stands_drifts, drifts_reached}
 use Rattle.segment_law.proofs.Records.{stands_on}
-use Rattle.record_law.proofs.Lists.{Each, each_append, each_map, each_all, all_each, each_weaker}
-use Rattle.record_law.proofs.Segments.{same_address}
-use Rattle.record_law.proofs.Tests.{on_test}
+use Rattle.record_law.proofs.Lists.{Each, each_all, all_each, each_weaker}
 use Rattle.record_law.proofs.Told.{flat, items_flat, flat_append}
-use Rattle.record_law.proofs.ports.Lives.{Openings, Closings}
-use Rattle.record_law.proofs.ports.Ports.{IsToStationOrAll, IsAddressed}
-use Rattle.record_law.proofs.ports.Records.{AllGo, record_goes}
+use Rattle.record_law.proofs.ports.Records.{record_goes}
 use Rattle.lane_law.specs.Stream as stream
 use Rattle.broadcast_law.proofs.AlongRecords as broadcast
 use Rattle.broadcast_law.proofs.Carried.{all}
@@ -40,20 +41,24 @@ use Rattle.broadcast_law.proofs.Every.{good_call}
 use Rattle.connection_law.proofs.Final.{Machine}
 use Rattle.connection_law.proofs.Stood.{Stood, all_stood}
 use Rattle.connection_law.proofs.View.{IsPair, Has}
-use Rattle.network_law.specs.Between.{IsOpenAt, AreNumbersOf, Sentence, sender_at, receiver_at}
+use Rattle.network_law.specs.Between.{IsOpenAt, AreNumbersOf, HaveOneOutcome, Sentence, receiver_at}
 use Rattle.network_law.proofs.Carrying.{has_of, PortsGo, numbers_go, given_goes}
-use Rattle.network_law.proofs.Places.{Move, Goes, moves_of, AreOrdered, goes_ordered, Matches, matches_weaker, matched, more_moves, told_append, silent, none_of}
-use Rattle.network_law.proofs.Places.Move.{Together}
-use Rattle.network_law.proofs.Runs.{KeepsOwn}
-use Rattle.network_law.proofs.Sentence.{AreAllNumbered, one_of, has_either, has_right, placed_item, has_woven, none_here, gives_none}
+use Rattle.network_law.proofs.Places.{Move, Goes, moves_of, AreOrdered, goes_ordered, Matches, matches_weaker, matched, more_moves, silent_move, told_append, silent, none_of}
+use Rattle.network_law.proofs.Places.Move.{Alone, Together}
+use Rattle.network_law.proofs.Runs.{Told, Turn, IsTurn, KeepsOwn}
+use Rattle.network_law.proofs.Sentence.{AreAllNumbered, one_of, has_right, has_woven, none_here, gives_none}
 use Rattle.network_law.proofs.Shown.{opened_shown, closed_shown}
 use Rattle.network_law.proofs.Telling.{of_first, like_sent, like_told, like_shown, none_sent, outcomes_give_station}
 use Rattle.network_law.proofs.Weave.{Woven, all_made, seconds}
-use Rattle.restart_law.specs.Start.{is_answer, IsOnBusSince, IsStart, receiver_since}
+use Rattle.restart_law.specs.Start.{is_sent_to, is_answer, IsOnBusSince, IsNothingOnTheWay, sender_since, receiver_since}
+use Rattle.restart_law.proofs.Addressed.{along_all, of_some}
 use Rattle.restart_law.proofs.Alone.{IsAlone, alone}
-use Rattle.restart_law.proofs.Begun.{IsReady, begun, begun_to_all}
+use Rattle.restart_law.proofs.Bare.{IsReady, new_ready, ready_kept}
+use Rattle.restart_law.proofs.BareToAll as bare-to-all
+use Rattle.restart_law.proofs.Begun.{former, IsClear, sends_are, begun, begun_to_all}
 use Rattle.restart_law.proofs.Both.{IsLone, it, both, at_d, at_s, reached, each}
-use Rattle.restart_law.proofs.Earlier.{of_ports, earlier, as_long, opened_flat, closed_flat, sends_nothing, tells_nothing}
+use Rattle.restart_law.proofs.Earlier.{of_ports, earlier, as_long, opened_flat, closed_flat, tells_nothing, sendings, none_opened, none_closed, none_told_there}
+use Rattle.restart_law.proofs.Lanes.{IsKept}
 use Rattle.restart_law.proofs.Numbers.{of_numbers, numbers_given, are_numbers, acknowledged, unreachable}
 use Rattle.restart_law.proofs.Weaving.{woven}
 
@@ -83,60 +88,30 @@ module _ {A : Type 0} (tells : Step → List A) (same : (call : Call) (reply : R
       more_moves tells i j (of_ports step.0 step.1 ∷ []) (earlier steps ++ made) (tells step) (told_from tells (j + 1) (steps ++ since)) (each_together steps w) tt (same step.0 step.1)
       (earlier_match steps (i + 1) (j + 1) (subst (λ (z : ℕ × ℕ). Matches (Goes w z.0 z.1) (told_from tells z.0 made) (told_from tells z.1 since)) (λ k. (e k, f k)) h))
 
--- What is given to a station is to it or to all
+-- What is told since is some of what is told
 
-module _ (d s x : Address) where
-  abbrev IsIts : Type 0
-  IsIts = (x ≡ d) ⊎ (x.0 ≡ global_address)
+each_behind : {A : Type 0} (P : A → Type 0) (xs ys : List A) → Each P (xs ++ ys) → Each P ys
+each_behind P [] ys h = h
+each_behind P (x ∷ xs) ys h = each_behind P xs ys h.1
 
-  abbrev gives : Step → List AtPort
-  gives step = filter_map (given_to_station d s x) (events_of step.1)
+pairs_behind : (xs ys : List ℕ) → AllPairs (λ a b. a ≢ b) (xs ++ ys) → AllPairs (λ a b. a ≢ b) ys
+pairs_behind [] ys h = h
+pairs_behind (x ∷ xs) ys h = pairs_behind xs ys (λ i j d l within. h (suc i) (suc j) d (omega (arith, l)) (omega (arith, within)))
 
-  of_given : (port : PortId) (from to : Address) → (port.station.0 == d.0 && is_lane s x from to) ≡ true → IsToStationOrAll port.station to → IsIts
-  of_given port from to e h =
-      let t = and_parts (port.station.0 == d.0) (is_lane s x from to) e in
-      let station : port.station.0 ≡ d.0 = eqb-true port.station.0 d.0 t.0 in
-      let goal : x.0 ≡ to.0 = sym (eqb-true to.0 x.0 (and_parts (from.0 == s.0) (to.0 == x.0) t.1).1) in
-      by station goal h
-    where
-      by : port.station.0 ≡ d.0 → x.0 ≡ to.0 → IsToStationOrAll port.station to → IsIts
-      by station goal (inl own) = inl (same_address x d (goal ∙ ap (λ (a : Address). a.0) own ∙ station))
-      by station goal (inr every) = inr (goal ∙ every)
+-- of a lane of which nothing is asked
+abbrev Anything : List Message → Lane → Type 0
+Anything ms lane = Unit {0}
 
-  its_givens : (events : List Event) → Each IsAddressed events → Each (λ (g : AtPort). IsIts) (filter_map (given_to_station d s x) events)
-  its_givens [] h = tt
-  its_givens (event.Outcome from to number outcome ∷ events) h = its_givens events h.1
-  its_givens (event.Given port from to pgn bytes ∷ events) h = on_test (λ b. (port.station.0 == d.0 && is_lane s x from to) ≡ b → Each (λ (g : AtPort). IsIts) (cons_option (cond b (Some (port.number, (pgn, bytes))) None) (filter_map (given_to_station d s x) events))) (port.station.0 == d.0 && is_lane s x from to)
-      (λ _ e. (of_given port from to e h.0, its_givens events h.1))
-      (λ _ e. its_givens events h.1) refl
-
-  along_all : (p : PortId) (before since : Record) (stations last : List Station) (n place : ℕ) (os : Openings) (cs : Closings) → AllGo p n os cs stations (before ++ since) last → Each (λ (g : Placed AtPort). IsIts) (told_from gives place since)
-  along_all p (step ∷ before) since stations last n place os cs go = along_all p before since go.0 last (n + 1) place _ _ go.2
-  along_all p [] [] stations last n place os cs go = tt
-  along_all p [] (step ∷ since) stations last n place os cs go = each_append (λ (g : Placed AtPort). IsIts) (map (λ (g : AtPort). (place, g)) (gives step)) (told_from gives (place + 1) since)
-      (each_map (λ (g : Placed AtPort). IsIts) (λ (g : AtPort). (place, g)) (gives step) (its_givens (events_of step.1) go.1.addressed))
-      (along_all p [] since go.0 last (n + 1) (place + 1) _ _ go.2)
-
-  of_some : (xs : List (Placed AtPort)) → Each (λ (g : Placed AtPort). IsIts) xs → 0 < length xs → IsIts
-  of_some [] h l = absurd (omega (arith, l))
-  of_some (g ∷ xs) h l = h.0
-
-module _ (s : Address) where
-  no_item : (n place : ℕ) → IsAfter (item {A = ℕ} [] n) place → ⊥
-  no_item zero place h = h
-  no_item (suc n) place h = h
-
-  each_has : {A : Type 0} (P : A → Type 0) (xs : List A) (x : A) → Each P xs → Has xs x → P x
-  each_has P [] x h k = absurd k
-  each_has P (y ∷ xs) x h (inl e) = subst P e h.0
-  each_has P (y ∷ xs) x h (inr k) = each_has P xs x h.1 k
-
-  -- of a record in which nothing was sent no outcome is told
-  no_outcome : (d : Address) (steps : Record) → sends steps s d ≡ [] → HaveOneOutcome steps s d → (number : ℕ) (o : Outcome) → Has (items_of (outcomes steps s d)) (number, o) → ⊥
-  no_outcome d steps none one number o h =
-      let at = placed_item (outcomes steps s d) (number, o) h in
-      no_item number at.0 (subst (λ (xs : List (Placed Message)). IsAfter (item (places_of xs) number) at.0) none
-      (each_has (λ (z : Placed NumberedOutcome). IsAfter (item (places_of (sends steps s d)) z.1.0) z.0) (outcomes steps s d) (at.0, (number, o)) (all_each (λ (z : Placed NumberedOutcome). IsAfter (item (places_of (sends steps s d)) z.1.0) z.0) (outcomes steps s d) one.sent_before) at.1))
+anything_kept : IsKept Anything
+anything_kept = record {
+  sends = λ ms lane pgn bytes fits long most h. tt;
+  hears = λ ms lane wire now h. tt;
+  settles = λ ms lane pgn h. tt;
+  fires = λ ms lane now h. tt;
+  overruns = λ ms lane h. tt;
+  pumps = λ ms lane now h. tt;
+  cancels = λ ms lane number is h. tt;
+}
 
 -- a station alone is the one with its address
 lone_station : (a : Address) (own : Segment) (l : IsLone a own) → station_at own a ≡ l.st
@@ -150,20 +125,26 @@ whole_drifts a before since bus h = stands_drifts (a ∷ []) (before ++ since) (
 
 module _ (headline : HeadlineDrifts) (numbered_so : AreAllNumbered) (m : Machine) (begins : stream.IsReached stream.empty_stream) (choose : broadcast.StreamsChoose)
     (s d : Address) (before_s since_s before since : Record) (bus : List CanFrame) (distinct : s.0 ≢ d.0) (are : list_all is_frame bus ≡ true) (room : length bus + 1 < 2 ^ 64)
-    (s_on : IsOnBusSince s before_s since_s bus) (d_on : IsOnBusSince d before since bus) (start : IsStart s d before_s s_on.start d_on.start) where
+    (s_on : IsOnBusSince s before_s since_s bus) (d_on : IsOnBusSince d before since bus) (start : IsNothingOnTheWay s d s_on.start d_on.start) where
   abbrev any : Address
   any = record { 0 = 0 }
 
   keeps : KeepsOwn
   keeps seg call r is its = (good_call any any refl m.broadcasts m.laws.gives m.laws.reads m.laws.seven seg r its call is).each
 
-  -- The one that was on the bus before
+  one_s : is_one s.0 ≡ true
+  one_s = one_of s s_on.stands.addresses_fit
+
+  pair : IsPair s d
+  pair = record { one_s = one_s; one_d = one_of d d_on.stands.addresses_fit; apart = distinct }
+
+  -- The receiver
 
   d_drifts : DriftsTo (d ∷ []) before d_on.start
   d_drifts = stands_drifts (d ∷ []) before d_on.start d_on.stands
 
-  al_d : IsAlone keeps s d before d_on.start
-  al_d = alone keeps s d before d_on.start d_drifts
+  al_d : IsAlone keeps s d s Anything anything_kept tt before d_on.start
+  al_d = alone keeps s d s Anything anything_kept tt before d_on.start d_drifts
 
   abbrev ld : IsLone d d_on.start
   ld = record { reached = drifts_reached (d ∷ []) before d_on.start d_drifts; each = al_d.each; st = al_d.st; single = al_d.single; address = al_d.address; looked = d_on.looked }
@@ -177,13 +158,19 @@ module _ (headline : HeadlineDrifts) (numbered_so : AreAllNumbered) (m : Machine
   d_whole : DriftsTo (d ∷ []) whole last_d
   d_whole = whole_drifts d before since bus d_on
 
-  -- The one that starts
+  -- The sender
 
   before_drifts : DriftsTo (s ∷ []) before_s s_on.start
   before_drifts = stands_drifts (s ∷ []) before_s s_on.start s_on.stands
 
-  al_s : IsAlone keeps d s before_s s_on.start
-  al_s = alone keeps d s before_s s_on.start before_drifts
+  al_s : IsAlone keeps d s d (IsReady m.laws m.choose m.begins s d pair) (ready_kept m.laws m.choose m.begins s d pair) (new_ready m.laws m.choose m.begins s d pair) before_s s_on.start
+  al_s = alone keeps d s d (IsReady m.laws m.choose m.begins s d pair) (ready_kept m.laws m.choose m.begins s d pair) (new_ready m.laws m.choose m.begins s d pair) before_s s_on.start before_drifts
+
+  abbrev IsBareToAll : List Message → Lane → Type 0
+  IsBareToAll = bare-to-all.IsBare m.broadcasts begins m.laws.reads m.laws.seven s one_s
+
+  al_all : IsAlone keeps d s all IsBareToAll (bare-to-all.bare_kept m.broadcasts begins m.laws.reads m.laws.seven s one_s) (bare-to-all.new_bare m.broadcasts begins m.laws.reads m.laws.seven s one_s) before_s s_on.start
+  al_all = alone keeps d s all IsBareToAll (bare-to-all.bare_kept m.broadcasts begins m.laws.reads m.laws.seven s one_s) (bare-to-all.new_bare m.broadcasts begins m.laws.reads m.laws.seven s one_s) before_s s_on.start before_drifts
 
   abbrev ls : IsLone s s_on.start
   ls = record { reached = drifts_reached (s ∷ []) before_s s_on.start before_drifts; each = al_s.each; st = al_s.st; single = al_s.single; address = al_s.address; looked = s_on.looked }
@@ -197,28 +184,25 @@ module _ (headline : HeadlineDrifts) (numbered_so : AreAllNumbered) (m : Machine
   s_drifts : DriftsTo (s ∷ []) from last_s
   s_drifts = whole_drifts s before_s since_s bus s_on
 
-  one_s : is_one s.0 ≡ true
-  one_s = one_of s s_on.stands.addresses_fit
-
   abbrev own_s : Headline (s ∷ []) from
   own_s = headline (s ∷ []) from last_s s_drifts
 
   itself : list_any (λ b. s.0 == b.0) (s ∷ []) ≡ true
   itself = rw (eq-eqb s.0 s.0 refl) refl
 
-  pair : IsPair s d
-  pair = record { one_s = one_s; one_d = one_of d d_on.stands.addresses_fit; apart = distinct }
+  to_all_stands : IsBareToAll (sent before_s s all) (lane_to s ls.st.lanes 255)
+  to_all_stands = subst (λ (z : Station). IsBareToAll (sent before_s s all) (lane_to s z.lanes 255)) (same_Some al_all.st al_s.st (sym (ap (λ (ss : List Station). slice_get ss 0) al_all.single) ∙ ap (λ (ss : List Station). slice_get ss 0) al_s.single)) al_all.lane
 
   -- Both
 
-  ready : IsReady s ls.st ld.st start.last
-  ready = record {
-    lanes = al_s.lanes start.nothing_sent.sent;
-    put = ap (λ (z : Station). z.queue) (sym (lone_station s s_on.start ls)) ∙ start.nothing_sent.queue;
+  clear : IsClear s d ls.st ld.st (frame_again s_on.start.bus 0) (frame_again d_on.start.bus 0)
+  clear = record {
     sound = (al_s.kept.lives 0 0 al_s.st (it s s_on.start ls)).0;
-    sessions = λ kind. ap (λ (z : Station). state_at z.sessions (key_of s kind)) (sym (lone_station d d_on.start ld)) ∙ start.nothing_left.sessions kind;
-    queue = ap (λ (z : Station). list_all (λ f. not (is_answer s f)) z.queue) (sym (lone_station d d_on.start ld)) ∙ start.nothing_left.queue;
-    others = start.is_last.others;
+    unsent = ap (λ (z : Station). list_all (λ f. not (is_sent_to d f)) z.queue) (sym (lone_station s s_on.start ls)) ∙ start.unsent;
+    unanswered = ap (λ (z : Station). list_all (λ f. not (is_answer s f)) z.queue) (sym (lone_station d d_on.start ld)) ∙ start.unanswered;
+    sessions = λ kind. ap (λ (z : Station). state_at z.sessions (key_of s kind)) (sym (lone_station d d_on.start ld)) ∙ start.sessions kind;
+    last_unsent = start.is_last.unsent;
+    last_unanswered = start.is_last.unanswered;
   }
 
   abbrev B : Segment
@@ -230,91 +214,122 @@ module _ (headline : HeadlineDrifts) (numbered_so : AreAllNumbered) (m : Machine
   abbrev M : Record
   M = all_made w.weave
 
+  abbrev E : Record
+  E = former before_s before
+
   abbrev W : Record
-  W = earlier before ++ M
+  W = E ++ M
 
   stood : Stood m.broadcasts m.laws m.choose s d pair 1 0 W w.last
-  stood = all_stood m.broadcasts m.laws m.choose s d pair m.agree M (earlier before) B w.last
+  stood = all_stood m.broadcasts m.laws m.choose s d pair m.agree M E B w.last
       (reached s d distinct s_on.start d_on.start ls ld start.last start.is_last.of_s start.is_last.of_d) (each s d distinct s_on.start d_on.start ls ld start.last start.is_last.of_s start.is_last.of_d) w.fit w.drift 1 0
       (at_s s d distinct s_on.start d_on.start ls ld start.last start.is_last.of_s start.is_last.of_d) (at_d s d distinct s_on.start d_on.start ls ld start.last start.is_last.of_s start.is_last.of_d)
-      (begun s d distinct s_on.start d_on.start ls ld start.last start.is_last.of_s start.is_last.of_d ready before m pair al_d.kept)
+      (begun s d distinct s_on.start d_on.start ls ld start.last start.is_last.of_s start.is_last.of_d clear before_s before m pair al_d.kept al_s.lane.0)
 
   stood_to_all : broadcast.Stood m.broadcasts choose m.laws.gives m.laws.reads m.laws.seven s d one_s 1 0 W w.last
-  stood_to_all = broadcast.all_stood m.broadcasts choose m.laws.gives m.laws.reads m.laws.seven s d one_s M (earlier before) B w.last
+  stood_to_all = broadcast.all_stood m.broadcasts choose m.laws.gives m.laws.reads m.laws.seven s d one_s M E B w.last
       (reached s d distinct s_on.start d_on.start ls ld start.last start.is_last.of_s start.is_last.of_d) (each s d distinct s_on.start d_on.start ls ld start.last start.is_last.of_s start.is_last.of_d) w.fit w.drift 1 0
       (at_s s d distinct s_on.start d_on.start ls ld start.last start.is_last.of_s start.is_last.of_d) (at_d s d distinct s_on.start d_on.start ls ld start.last start.is_last.of_s start.is_last.of_d) distinct
-      (begun_to_all s d distinct s_on.start d_on.start ls ld start.last start.is_last.of_s start.is_last.of_d ready before begins one_s m.broadcasts choose m.laws.gives m.laws.reads m.laws.seven)
+      (begun_to_all s d distinct s_on.start d_on.start ls ld start.last start.is_last.of_s start.is_last.of_d clear before_s before m.broadcasts begins choose m.laws.gives m.laws.reads m.laws.seven one_s to_all_stands)
 
-  -- of the one that starts, what it did since
+  -- of the sender, what it did since
   only_since : {A : Type 0} (tells : Step → List A) → flat tells from ≡ [] → flat tells since_s ≡ []
   only_since tells e = (none_of (flat tells before_s) (flat tells since_s) (sym (flat_append tells before_s since_s) ∙ e)).1
 
-  -- What the woven record tells of the new one
+  -- What the woven record tells of the sender
 
   sent_is : (x : Address) → sent W s x ≡ sent from s x
   sent_is x =
-      items_flat tells 1 W
-      ∙ flat_append tells (earlier before) M
-      ∙ ap (λ (ms : List Message). ms ++ flat tells M) (sends_nothing s x before)
-      ∙ of_first tells (like_sent s x) (λ f. refl) (λ z. refl) w.weave w.fair (ap (flat tells) (sym w.second) ∙ none_since)
-      ∙ ap (flat tells) (sym w.first)
-      ∙ ap (λ (ms : List Message). ms ++ flat tells since_s) (sym (sym (items_flat tells 1 before_s) ∙ ap (λ (xs : List (Placed Message)). items_of xs) (start.nothing_sent.sent x)))
-      ∙ sym (flat_append tells before_s since_s)
-      ∙ sym (items_flat tells 1 from)
+      items_flat tells 1 W ∙ flat_append tells E M ∙ (λ k. before_is k ++ since_is k) ∙ sym (flat_append tells before_s since_s) ∙ sym (items_flat tells 1 from)
     where
       tells : Step → List Message
       tells step = sent_by s x step.0 step.1
 
+      before_is : flat tells E ≡ flat tells before_s
+      before_is = sym (items_flat tells 1 E) ∙ sends_are s d distinct s_on.start d_on.start ls ld start.last start.is_last.of_s start.is_last.of_d clear before_s before x ∙ items_flat tells 1 before_s
+
       none_since : flat tells since ≡ []
       none_since = (none_of (flat tells before) (flat tells since) (sym (flat_append tells before since) ∙ none_sent s d one_s m.broadcasts m.laws.gives m.laws.reads m.laws.seven x whole last_d (λ e. distinct (sym e)) d_whole)).1
 
-  told_too : (number : ℕ) (o : Outcome) → Contains (items_of (outcomes from s d)) (number, o) → Has (items_of (outcomes W s d)) (number, o)
-  told_too number o c = by (has_either (flat tells before_s) (flat tells since_s) (number, o) (subst (λ xs. Has xs (number, o)) (items_flat tells 1 from ∙ flat_append tells before_s since_s) (has_of (items_of (outcomes from s d)) (number, o) c)))
-    where
-      tells : Step → List NumberedOutcome
-      tells step = filter_map (outcome_in s d) (events_of step.1)
+      since_is : flat tells M ≡ flat tells since_s
+      since_is = of_first tells (like_sent s x) (λ f. refl) (λ z. refl) w.weave w.fair (ap (flat tells) (sym w.second) ∙ none_since) ∙ ap (flat tells) (sym w.first)
 
-      by : Has (flat tells before_s) (number, o) ⊎ Has (flat tells since_s) (number, o) → Has (items_of (outcomes W s d)) (number, o)
-      by (inl h) = absurd (no_outcome s d before_s (start.nothing_sent.sent d) ((headline (s ∷ []) before_s s_on.start before_drifts).one_outcome s d itself) number o (subst (λ xs. Has xs (number, o)) (sym (items_flat tells 1 before_s)) h))
-      by (inr h) =
-          let there : Has (flat tells M) (number, o) = has_woven tells (like_told (filter_map (outcome_in s d)) refl) w.weave (number, o) w.fair (subst (λ (xs : Record). Has (flat tells xs) (number, o)) w.first h) in
-          subst (λ xs. Has xs (number, o)) (sym (items_flat tells 1 W ∙ flat_append tells (earlier before) M)) (has_right (flat tells (earlier before)) (flat tells M) (number, o) there)
+  abbrev tells_outcomes : Address → Step → List NumberedOutcome
+  tells_outcomes x step = filter_map (outcome_in s x) (events_of step.1)
+
+  abbrev outcomes_since : Address → List (Placed NumberedOutcome)
+  outcomes_since x = (sender_since s before_s since_s).outcomes x
+
+  told_too : (number : ℕ) (o : Outcome) → Contains (items_of (outcomes_since d)) (number, o) → Has (items_of (outcomes W s d)) (number, o)
+  told_too number o c =
+      let tells : Step → List NumberedOutcome = tells_outcomes d in
+      let here : Has (flat tells since_s) (number, o) = subst (λ xs. Has xs (number, o)) (items_flat tells (1 + length before_s) since_s) (has_of (items_of (outcomes_since d)) (number, o) c) in
+      let there : Has (flat tells M) (number, o) = has_woven tells (like_told (filter_map (outcome_in s d)) refl) w.weave (number, o) w.fair (subst (λ (xs : Record). Has (flat tells xs) (number, o)) w.first here) in
+      subst (λ xs. Has xs (number, o)) (sym (items_flat tells 1 W ∙ flat_append tells E M)) (has_right (flat tells E) (flat tells M) (number, o) there)
+
+  one_outcome_since : (x : Address) → HaveOneOutcome (sends from s x) (outcomes_since x)
+  one_outcome_since x =
+      let mine : own.HaveOneOutcome from s x = own_s.one_outcome s x itself in
+      let all_is : outcomes from s x ≡ outcomes before_s s x ++ outcomes_since x = told_append (tells_outcomes x) 1 before_s since_s in
+      let numbers_of : List (Placed NumberedOutcome) → List ℕ = map (λ (o : Placed NumberedOutcome). o.1.0) in
+      let IsLater : Placed NumberedOutcome → Type 0 = λ o. IsAfter (item (places_of (sends from s x)) o.1.0) o.0 in
+      record {
+        one = pairs_behind (numbers_of (outcomes before_s s x)) (numbers_of (outcomes_since x)) (subst (AllPairs (λ a b. a ≢ b)) (ap numbers_of all_is ∙ map-append (λ (o : Placed NumberedOutcome). o.1.0) (outcomes before_s s x) (outcomes_since x)) mine.one);
+        sent_before = each_all IsLater (outcomes_since x) (each_behind IsLater (outcomes before_s s x) (outcomes_since x) (subst (Each IsLater) all_is (all_each IsLater (outcomes from s x) mine.sent_before)));
+      }
 
   -- And of the other, at places that go with its own
 
+  -- what follows on what the receiver did before, and where
+  abbrev behind : Record
+  behind = sendings before_s ++ M
+
+  abbrev moves : List Move
+  moves = Alone (length (sendings before_s)) ∷ moves_of w.weave
+
+  abbrev place : ℕ
+  place = 1 + length before
+
   abbrev R : ℕ → ℕ → Type 0
-  R = Goes (each_together before (moves_of w.weave)) 1 1
+  R = Goes (each_together before moves) 1 1
 
   in_order : AreOrdered R
-  in_order = goes_ordered (each_together before (moves_of w.weave))
+  in_order = goes_ordered (each_together before moves)
 
-  since_match : {A : Type 0} (tells : Step → List A) → Matches (Goes (moves_of w.weave) (1 + length before) (1 + length before)) (told_from tells (1 + length before) M) (told_from tells (1 + length before) (seconds w.weave))
-      → Matches (Goes (moves_of w.weave) (1 + length before) (1 + length before)) (told_from tells (1 + length before) M) (told_from tells (1 + length before) since)
-  since_match tells h = subst (λ (xs : Record). Matches (Goes (moves_of w.weave) (1 + length before) (1 + length before)) (told_from tells (1 + length before) M) (told_from tells (1 + length before) xs)) (sym w.second) h
+  whole_is : W ≡ earlier before ++ behind
+  whole_is = append_assoc (earlier before) (sendings before_s) M
+
+  since_match : {A : Type 0} (tells : Step → List A) → flat tells (sendings before_s) ≡ [] → Matches (Goes (moves_of w.weave) (place + length (sendings before_s)) place) (told_from tells (place + length (sendings before_s)) M) (told_from tells place (seconds w.weave))
+      → Matches (Goes moves place place) (told_from tells place behind) (told_from tells place since)
+  since_match tells none h = silent_move tells place place (sendings before_s) M (told_from tells place since) (moves_of w.weave) none
+      (subst (λ (xs : Record). Matches (Goes (moves_of w.weave) (place + length (sendings before_s)) place) (told_from tells (place + length (sendings before_s)) M) (told_from tells place xs)) (sym w.second) h)
 
   givens_match : (x : Address) → Matches R (station_givens W d s x) ((receiver_since d s before since).givens x)
   givens_match x =
       let tells : Step → List AtPort = λ step. filter_map (given_to_station d s x) (events_of step.1) in
       let front : told_from tells 1 (earlier before) ≡ [] = silent tells 1 (earlier before) (tells_nothing (filter_map (given_to_station d s x)) refl before) in
-      let split : station_givens W d s x ≡ told_from tells (1 + length before) M =
-      told_append tells 1 (earlier before) M ∙ (λ k. front k ++ told_from tells (1 + as_long before k) M) in
+      let split : station_givens W d s x ≡ told_from tells place behind = ap (told_from tells 1) whole_is ∙ told_append tells 1 (earlier before) behind ∙ (λ k. front k ++ told_from tells (1 + as_long before k) behind) in
       subst (λ (xs : List (Placed AtPort)). Matches R xs ((receiver_since d s before since).givens x)) (sym split)
-      (matches_weaker (Goes (moves_of w.weave) (1 + length before) (1 + length before)) R (λ a b h. later_goes before (moves_of w.weave) 1 1 a b h) (told_from tells (1 + length before) M) ((receiver_since d s before since).givens x)
-      (since_match tells (matched tells (like_told (filter_map (given_to_station d s x)) refl) (λ f. refl) (λ z. outcomes_give_station d s x z.events z.outcomes) w.weave (1 + length before) (1 + length before) w.fair
+      (matches_weaker (Goes moves place place) R (λ a b h. later_goes before moves 1 1 a b h) (told_from tells place behind) ((receiver_since d s before since).givens x)
+      (since_match tells (none_told_there (filter_map (given_to_station d s x)) refl before_s)
+      (matched tells (like_told (filter_map (given_to_station d s x)) refl) (λ f. refl) (λ z. outcomes_give_station d s x z.events z.outcomes) w.weave (place + length (sendings before_s)) place w.fair
       (ap (flat tells) (sym w.first) ∙ only_since tells (sym (items_flat tells 1 from)
       ∙ ap (λ (xs : List (Placed AtPort)). items_of xs) (gives_none m.broadcasts m.laws.gives m.laws.reads m.laws.seven s d from last_s distinct one_s s_drifts own_s.within_life x))))))
 
   abbrev p : ℕ → PortId
   p port = port_of d port
 
+  -- what is told of its ports
+  port_match : {A : Type 0} (tells : Step → List A) → ((call : Call) (reply : Reply) → flat tells (of_ports call reply ∷ []) ≡ tells (call, reply)) → ((t : Turn) → IsTurn t → flat tells t.1 ≡ tells t.0) → ((f : CanFrame) → tells (Inject f, Done []) ≡ []) → ((z : Told) → tells (Overrun z.station 1, Done z.events) ≡ [])
+      → flat tells (sendings before_s) ≡ [] → flat tells from ≡ [] → Matches R (told_from tells 1 W) (told_from tells 1 whole)
+  port_match tells same like quiet nothing none none_from = subst (λ (xs : Record). Matches R (told_from tells 1 xs) (told_from tells 1 whole)) (sym whole_is)
+      (earlier_match tells same moves behind since before 1 1
+      (since_match tells none (matched tells like quiet nothing w.weave (place + length (sendings before_s)) place w.fair (ap (flat tells) (sym w.first) ∙ only_since tells none_from))))
+
   ports_match : PortsGo R (receiver_at d s W) (receiver_since d s before since)
   ports_match = record {
-    openings = λ port. earlier_match (opens port) (opened_flat (p port)) (moves_of w.weave) M since before 1 1
-        (since_match (opens port) (matched (opens port) (like_shown (opened_by (p port)) (opened_shown (p port))) (λ f. refl) (λ z. refl) w.weave (1 + length before) (1 + length before) w.fair
-        (ap (flat (opens port)) (sym w.first) ∙ only_since (opens port) (none_here m.broadcasts m.laws.gives m.laws.reads m.laws.seven s d from last_s distinct one_s s_drifts own_s.within_life port).0)));
-    closings = λ port. earlier_match (closes port) (closed_flat (p port)) (moves_of w.weave) M since before 1 1
-        (since_match (closes port) (matched (closes port) (like_shown (closed_by (p port)) (closed_shown (p port))) (λ f. refl) (λ z. refl) w.weave (1 + length before) (1 + length before) w.fair
-        (ap (flat (closes port)) (sym w.first) ∙ only_since (closes port) (none_here m.broadcasts m.laws.gives m.laws.reads m.laws.seven s d from last_s distinct one_s s_drifts own_s.within_life port).1)));
+    openings = λ port. port_match (opens port) (opened_flat (p port)) (like_shown (opened_by (p port)) (opened_shown (p port))) (λ f. refl) (λ z. refl) (none_opened (p port) before_s) (none_here m.broadcasts m.laws.gives m.laws.reads m.laws.seven s d from last_s distinct one_s s_drifts own_s.within_life port).0;
+    closings = λ port. port_match (closes port) (closed_flat (p port)) (like_shown (closed_by (p port)) (closed_shown (p port))) (λ f. refl) (λ z. refl) (none_closed (p port) before_s) (none_here m.broadcasts m.laws.gives m.laws.reads m.laws.seven s d from last_s distinct one_s s_drifts own_s.within_life port).1;
   }
     where
       opens : ℕ → Step → List (ℕ × ℕ)
@@ -335,7 +350,7 @@ module _ (headline : HeadlineDrifts) (numbered_so : AreAllNumbered) (m : Machine
   to_all : (ns : List ℕ) × AreNumbersOf (sent from s all) ((receiver_since d s before since).givens all) ns
   to_all = (let n = counted_numbers _ _ _ _ stood_to_all.counted in (n.0, numbers_are all n.0 (of_numbers _ _ n.0 n.1)))
 
-  pub sentence : Sentence d (sender_at s from) (receiver_since d s before since)
+  pub sentence : Sentence d (sender_since s before_s since_s) (receiver_since d s before since)
   sentence = record {
     addressed = λ x some. of_some d s x ((receiver_since d s before since).givens x)
         (along_all d s x (p 0) before since (new_segment (d ∷ [])).stations last_d.stations 0 (1 + length before) [] [] (record_goes (p 0) (d ∷ []) whole last_d d_whole)) some;
@@ -352,7 +367,7 @@ module _ (headline : HeadlineDrifts) (numbered_so : AreAllNumbered) (m : Machine
       },
     );
     counted = λ x. numbered_so (s ∷ []) from last_s s_drifts s x;
-    one_outcome = λ x. (let o = own_s.one_outcome s x itself in record { one = o.one; sent_before = o.sent_before });
+    one_outcome = one_outcome_since;
     within_life = λ port. each_all (λ (g : Placed Message). IsOpenAt (receiver_since d s before since) port g.0 g.1) (all_givens whole (p port))
         (each_weaker (IsOpenFor whole (p port)) (λ (g : Placed Message). IsOpenAt (receiver_since d s before since) port g.0 g.1) (λ g k. record { opened = k.opened; not_closed = k.not_closed }) (all_givens whole (p port))
         (all_each (IsOpenFor whole (p port)) (all_givens whole (p port)) ((headline (d ∷ []) whole last_d d_whole).within_life (p port))));

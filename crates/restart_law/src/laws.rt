@@ -1,6 +1,6 @@
-//! What holds between a station that starts and one that was on the bus before. It speaks of the definitions alone, and a call of it
-//! does nothing.
-ghost use Rattle.restart_law.specs.Start.{HoldsFromAStart, IsAFirstStart};
+//! What holds between two stations from a moment on, whoever had their addresses before. It speaks of the definitions alone, and a call of
+//! it does nothing.
+ghost use Rattle.restart_law.specs.Start.{HoldsFromAMoment, HoldsFromAStart, IsAFirstStart};
 
 use connection_law::the_headline_holds_at_any_clock;
 use lane_law::{broadcasts_go_on, given_once_in_order, lanes_go_on, outcomes_are_true};
@@ -9,17 +9,19 @@ use record_law::outcomes::each_send_is_answered_its_number;
 use seg_cut::packet_is_seven_places;
 use tp_wire::what_is_written_is_read;
 
-/// A law: the sentence (`Sentence` of `network_law`) for the messages of a station from the moment on at which it starts to send, to one
-/// that was on the bus before. An earlier station may have had its address, as when a program starts again; the record of the other goes
-/// on. Each port is given the messages of the station, to it and to all, at most once, in the order sent, byte for byte. A message whose
-/// outcome is Acknowledged was given since that moment, in one reply, to each port that took it as it began and was still open; one that is
-/// Unreachable was not given. Nothing is said of what the other sends to the station.
+/// A law: the sentence (`Sentence` of `network_law`) for the messages of one station to another from a moment on at which nothing of them is
+/// on the way. The one that receives may have started at that moment, as when a program starts again: an earlier station may have had its
+/// address and been sent messages, and the record of the sender goes on. Each port is given messages of the sender, to it and to all, at
+/// most once, in the order sent, byte for byte, whenever they were sent. A message whose outcome is told as Acknowledged since that moment
+/// was given since, in one reply, to each port that took it as it began and was still open. So one that was under way to the earlier station
+/// is acknowledged no more. One that is told as Unreachable since was not given since.
 ///
-/// The premises are those between programs, from that moment on, and of the moment itself (`IsStart`): the station has sent nothing and has
-/// no frame to put; the other has no incoming session of its address, and no answer to it in the queue; and the last frame that the bus
-/// carried is another's than the station's, and no answer to it.
-pub fn messages_hold_from_a_start()
-    ensures { HoldsFromAStart }
+/// The premises are those between programs, from that moment on, and of the moment itself (`IsNothingOnTheWay`): the sender has no frame of
+/// a message to the receiver or to all in its queue, and no Request to it; the receiver has no incoming session of the sender's address, and
+/// no answer to it in its queue; and the receiver may not take a frame of the sender's once more, nor the sender an answer. Of the sender's
+/// lanes nothing is asked: messages may wait in them or be under way, and they may be in doubt.
+pub fn messages_hold_from_a_moment()
+    ensures { HoldsFromAMoment }
 {
     the_headline_holds_at_any_clock();
     each_send_is_answered_its_number();
@@ -32,8 +34,17 @@ pub fn messages_hold_from_a_start()
     outcomes_are_true();
 }
 
-/// The premise of that law on the station that was on the bus before can be met: one that had done nothing before has nothing of any other.
-/// So each pair of records for which the law between programs holds is one of that law.
+/// That law for a station that starts to send. An earlier station may have had its address, as when a program starts again; the record of
+/// the other goes on. Since the station has sent no message before (`IsStart`), this speaks of all its outcomes.
+pub fn messages_hold_from_a_start()
+    ensures { HoldsFromAStart }
+{
+    the_headline_holds_at_any_clock();
+    messages_hold_from_a_moment();
+}
+
+/// The premise of both laws can be met: two stations that had done nothing before are at such a moment. So each pair of records for which the
+/// law between programs holds is one of these laws.
 pub fn a_first_start_is_one()
     ensures { IsAFirstStart }
 {}
