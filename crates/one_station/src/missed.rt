@@ -62,7 +62,6 @@ impl Node {
     }
 
     // What was under way when frames were missed ends, and isn't remembered any more.
-    #[inline(never)]
     #[tactic(auto, using(crate::proofs::Made::did_caught_up))]
     fn catch_up(&mut self) -> Result<(), NodeError>
         ensures done { OnOk result (IsCaughtUp self.old self.new) }

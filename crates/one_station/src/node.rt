@@ -93,15 +93,13 @@ impl Node {
 
     /// Makes a call of the segment that puts no frame on its bus, and keeps the events. Memory is taken only once the call isn't
     /// refused, and the place for the events before it is made.
-    #[inline(never)]
     pub(crate) fn make(&mut self, call: Call) -> Result<(), NodeError>
         requires { comes_on_bus call ≡ false }
         ensures { IsAnswered self.old call self.new result }
     {
         make_room(&self.segment, &mut self.told, self.owed, &call)?;
         let mut events = Events::none(self.alloc);
-        // Which call it is shows only here: none of them is to be paid by the others.
-        match self.segment.apply_apart(call, &mut events) {
+        match self.segment.apply_telling(call, &mut events) {
             Ok(Made::Refused(cause)) => Err(NodeError::Refused(cause)),
             Ok(Made::Done) => {
                 self.owed = self.owed.saturating_sub(ended(&events));
