@@ -1,6 +1,6 @@
 //! What holds between two stations from a moment on, whoever had their addresses before. It speaks of the definitions alone, and a call of
 //! it does nothing.
-ghost use Rattle.restart_law.specs.Start.{HoldsFromAMoment, HoldsFromAStart, IsAFirstStart};
+ghost use Rattle.restart_law.specs.Start.{HoldsFromAMoment, HoldsFromAStart, IsAFirstStart, IsARestart};
 
 use connection_law::the_headline_holds_at_any_clock;
 use lane_law::{broadcasts_go_on, given_once_in_order, lanes_go_on, outcomes_are_true};
@@ -42,6 +42,12 @@ pub fn messages_hold_from_a_start()
     the_headline_holds_at_any_clock();
     messages_hold_from_a_moment();
 }
+
+/// The premise of the first law for a program that starts again at its address, and has done nothing yet: only the other must have no frame of
+/// a message to it in its queue, and the frame that the other may take once more must be no answer.
+pub fn a_restart_is_one()
+    ensures { IsARestart }
+{}
 
 /// The premise of both laws can be met: two stations that had done nothing before are at such a moment. So each pair of records for which the
 /// law between programs holds is one of these laws.
