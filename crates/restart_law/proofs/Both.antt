@@ -1,5 +1,4 @@
--- The segment at the start: the station that was on the bus before, and the one that starts. On its bus is at most the last frame, which each of
--- the two took or missed.
+-- The segment at the moment: the receiver, and the sender. On its bus is at most the last frame, which each of the two took or missed.
 use Rattle.std.proofs.Common.{◌≡◌, ◌≢◌, ◌⊎◌, inl, inr, ℕ, zero, suc, ◌≤◌, ◌==◌, false, List, [], ◌∷◌, ◌++◌, length, Option, Some, None, refl, sym, ap, ◌∙◌, subst, arith, eq-eqb, ne_eqb}
 use Rattle.std.specs.Prelude.{slice_get, is_some}
 use Rattle.std.proofs.lemmas.Option.{same_Some, none-some}
@@ -86,7 +85,7 @@ module _ (a : Address) (own : Segment) (l : IsLone a own) where
       nothing_of (ahead_of own.bus 0) (ahead_waits own.bus 0 l.reached.bus.sound (omega (arith, long, l.reached.bus.cursors)) ∙ none)
 
 module _ (s d : Address) (distinct : s.0 ≢ d.0) (own_s own_d : Segment) (ls : IsLone s own_s) (ld : IsLone d own_d) (last : Option CanFrame) (again_s : MayRepeat last own_s) (again_d : MayRepeat last own_d) where
-  -- the former stands first
+  -- the receiver stands first
   abbrev pub both : Segment
   both = record { now = 0; stations = ld.st ∷ ls.st ∷ []; bus = start_bus last (frame_again own_d.bus 0) (frame_again own_s.bus 0); counts = no_counts }
 

@@ -1,4 +1,4 @@
--- From the start on the two records are woven into one of a segment with both.
+-- From the moment on the two records are woven into one of a segment with both.
 use Rattle.std.proofs.Common.{◌≡◌, ◌≢◌, ◌⊎◌, inl, inr, ℕ, zero, suc, ◌+◌, ◌<◌, ◌≤◌, ◌^◌, true, List, [], ◌++◌, length, Option, refl, sym, ap, ◌∙◌, subst, arith}
 use Rattle.std.specs.List.{list_all}
 use Rattle.bus_frame.specs.Frames.{CanFrame}

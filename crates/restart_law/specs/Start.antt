@@ -124,6 +124,13 @@ abbrev pub HoldsFromAStart : Type 0
 HoldsFromAStart = FromAMoment (λ s d before_s since_s before_d since_d start_s start_d.
     IsStart s d before_s start_s start_d → Sentence d (sender_at s (before_s ++ since_s)) (receiver_since d s before_d since_d))
 
+-- Who is at such a moment
+
+-- a station that starts again at its address has nothing of another's messages: so it is enough that the other has no frame of them in its queue,
+-- and may not take an answer once more
+abbrev pub IsARestart : Type 0
+IsARestart = (s d : Address) (start_s : Segment) → AreNone (is_sent_to d) (station_at start_s s).queue → AreNone (is_answer s) (option_to_list (frame_again start_s.bus 0)) → IsNothingOnTheWay s d start_s (new_segment (d ∷ []))
+
 -- two stations that both start are so: the law between programs speaks of these
 abbrev pub IsAFirstStart : Type 0
 IsAFirstStart = (s d : Address) → IsStart s d [] (new_segment (s ∷ [])) (new_segment (d ∷ []))

@@ -3,4 +3,6 @@
 
 mod laws;
 
-pub use laws::{a_first_start_is_one, messages_hold_from_a_moment, messages_hold_from_a_start};
+pub use laws::{
+    a_first_start_is_one, a_restart_is_one, messages_hold_from_a_moment, messages_hold_from_a_start,
+};
