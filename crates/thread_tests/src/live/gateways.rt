@@ -9,7 +9,7 @@ use std::sync::atomic::{AtomicU64, Ordering};
 use std::thread;
 use std::thread::Threads;
 
-const LOOKS: u64 = 100_000_000;
+const LOOKS: u64 = 5_000_000;
 
 /// The two workers of the relay, behind three of each segment.
 const FIRST: u8 = 6;
@@ -113,14 +113,14 @@ fn crossed<T: Threads + Wait + Sync>(rt: &T, alloc: Global, text: &mut Vec<u8>) 
     (ran, gate.missed.load(Ordering::SeqCst))
 }
 
-// `crossed`, and again if memory was refused.
+// `crossed`, and again if memory was refused. If there is none for a thread, one thread makes the two sides, and is alone at each.
 fn crossed_past<T: Threads + Wait + Sync>(
     rt: &T,
     alloc: Global,
     text: &mut Vec<u8>,
 ) -> (RelayRan, u64) {
     let first = crossed(rt, alloc, text);
-    if !may_lack_memory(first.0, MANY_TURNS) {
+    if first.1 == 0 && !may_lack_memory(first.0, MANY_TURNS) {
         return first;
     }
     text.clear();
