@@ -9,7 +9,7 @@ use std::sync::atomic::{AtomicU64, Ordering};
 use std::thread;
 use std::thread::Threads;
 
-const LOOKS: u64 = 5_000_000;
+const LOOKS: u64 = 500_000;
 
 /// The two workers of the relay, behind three of each segment.
 const FIRST: u8 = 6;
