@@ -1,5 +1,5 @@
 -- How a broadcast message is sent (SAE J1939-21, broadcast announce message), row by row.
-use Rattle.std.specs.Prelude.{ℕ, not, ◌==◌, if◌then◌else◌, List, Option, Some, None}
+use Rattle.std.specs.Prelude.{ℕ, ◌+◌, ◌-◌, not, ◌==◌, if◌then◌else◌, List, Option, Some, None}
 use Rattle.bus_frame.specs.Frames.{CanFrame}
 use Rattle.seg_cut.specs.Packets.{packet_count}
 use Rattle.tick_timers.specs.Timers.{is_due, missing as missing_of_timer}
@@ -24,6 +24,10 @@ pumped s bytes now =
 abbrev pub led : Option BamPacket → Outgoing → BamPumped
 led None s = NotYet s
 led (Some packet) s = if packet.is_last then Last packet.frame else On s packet.frame
+
+-- how many packets of a message are still to be queued, from the next one on
+abbrev pub packets_left : (len next : ℕ) → ℕ
+packets_left len next = packet_count len + 1 - next
 
 -- how many ticks its gap still has to last
 abbrev pub missing : Outgoing → (now : ℕ) → ℕ

@@ -6,7 +6,7 @@ ghost use Rattle.tick_timers.specs.Due.{IsDueFrom};
 ghost use Rattle.tick_timers.specs.Timers.{is_due as is_due_at};
 ghost use Rattle.bam_session.specs.States.{is_size};
 ghost use Rattle.bam_session.specs.Frames.{announcement, next_packet};
-ghost use Rattle.bam_session.specs.Sending.{begun, pumped, led, missing as missing_of};
+ghost use Rattle.bam_session.specs.Sending.{begun, pumped, led, missing as missing_of, packets_left};
 
 use bus_frame::Frame;
 use pgn_ids::{Address, Pgn};
@@ -126,6 +126,13 @@ impl BamOut {
         ensures due { self.now.gap.started ≤ now → is_due_at self.now.gap (now + result) ≡ true }
     {
         self.gap.missing(now)
+    }
+
+    /// How many of its packets are still to be queued.
+    pub fn left(&self) -> u32
+        ensures { result ≡ packets_left self.now.len self.now.next }
+    {
+        packets(self.len) - u32::from(self.next - 1)
     }
 
     /// The frame of its next packet.

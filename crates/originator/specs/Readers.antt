@@ -1,7 +1,8 @@
 -- What the states of a sender have in common.
-use Rattle.std.specs.Prelude.{◌≡◌, ℕ, ◌+◌, Bool, false, nat_le, ◌==◌, if◌then◌else◌, Option, Some, None, is_some, ⊤}
+use Rattle.std.specs.Prelude.{◌≡◌, ℕ, ◌+◌, ◌-◌, min, Bool, false, not, ◌&&◌, nat_le, nat_lt, ◌==◌, if◌then◌else◌, Option, Some, None, is_some, ⊤}
 use Rattle.tick_timers.specs.Timers.{Timer, is_due}
 use Rattle.originator.specs.Link.{Link, packets_of, is_of_link}
+use Rattle.originator.specs.States.{Sending as Window}
 use Rattle.originator.specs.declared.states.OutState.{OutState}
 use Rattle.originator.specs.declared.states.OutState.TheVariants.{AwaitCts, Sending, AwaitEnd}
 use Rattle.originator.specs.declared.states.Stepped.{Stepped}
@@ -25,6 +26,25 @@ abbrev pub resends_of : OutState → ℕ
 resends_of (AwaitCts s) = s.resends
 resends_of (Sending s) = s.resends
 resends_of (AwaitEnd s) = s.resends
+
+-- how many of the packets that a window still queues were queued before
+abbrev pub repeated : Window → ℕ
+repeated s = min (s.until + 1) s.unsent - s.at
+
+-- a window has still to be announced, and begins with a packet that was queued before
+abbrev pub announces_again : Window → Bool
+announces_again s = not s.announced && nat_lt s.next s.unsent
+
+-- those of a message under way, which may have no window
+abbrev pub repeated_of : OutState → ℕ
+repeated_of (AwaitCts s) = 0
+repeated_of (Sending s) = repeated s
+repeated_of (AwaitEnd s) = 0
+
+abbrev pub is_announced_again : OutState → Bool
+is_announced_again (AwaitCts s) = false
+is_announced_again (Sending s) = announces_again s
+is_announced_again (AwaitEnd s) = false
 
 -- each packet was queued
 abbrev pub is_all_queued : OutState → Bool

@@ -17,7 +17,7 @@ use tick_timers::{T4, Timer};
 use tp_wire::AbortReason;
 
 /// How often a CTS may name a packet again that was queued before: the next such CTS ends the message.
-const MOST_RESENDS: u8 = 2;
+pub const MOST_RESENDS: u8 = 2;
 
 /// The state without a window: by whether a packet was never queued.
 pub(crate) fn without_window(link: Link, unsent: u32, resends: u8, timer: Timer) -> OutState

@@ -19,6 +19,7 @@ mod timers;
 
 pub use await_cts::AwaitCts;
 pub use await_end::AwaitEnd;
+pub use cts::MOST_RESENDS;
 pub use endings::Ending;
 pub use image::OutImage;
 pub use opening::begin;

@@ -68,6 +68,20 @@ impl Link {
         self.kind
     }
 
+    /// The address of its sender.
+    pub(crate) fn from(self) -> Address
+        ensures { result.0 ≡ self.from }
+    {
+        self.from
+    }
+
+    /// The address of its destination.
+    pub(crate) fn to(self) -> Address
+        ensures { result.0 ≡ self.to }
+    {
+        self.to
+    }
+
     /// The length of the message in bytes.
     pub(crate) fn len(self) -> u32
         ensures { result ≡ self.len }

@@ -1,5 +1,6 @@
 //! The state in which a window is queued.
 ghost use Rattle.std.specs.Prelude.{◌≡◌};
+ghost use Rattle.originator.specs.Readers.{repeated, announces_again};
 
 use crate::link::Link;
 use std::marker::Model;
@@ -29,6 +30,22 @@ impl Model for Sending {
 }
 
 impl Sending {
+    /// How many of the packets that its window still queues were queued before.
+    pub(crate) fn repeated(&self) -> u32
+        ensures { result ≡ repeated self.now }
+    {
+        // A call of it, so that the packet behind the window is known to have a number.
+        let _packets = self.link.packets();
+        (self.until + 1).min(self.unsent).saturating_sub(self.at)
+    }
+
+    /// Whether its window has still to be announced, and begins with a packet that was queued before.
+    pub(crate) fn announces_again(&self) -> bool
+        ensures { result ≡ announces_again self.now }
+    {
+        !self.announced && self.next < self.unsent
+    }
+
     /// The message, whose state is spent.
     pub(crate) fn into_link(self) -> Link
         ensures { result ≡ self.link }

@@ -6,7 +6,7 @@ use crate::await_end::AwaitEnd;
 use crate::link::Link;
 use crate::sending::Sending;
 use bus_frame::Frame;
-use pgn_ids::WirePgn;
+use pgn_ids::{Address, WirePgn};
 use std::mem;
 use tp_wire::{Kind, Outcome};
 
@@ -39,7 +39,7 @@ impl OutState {
     ghost use Rattle.std.specs.Prelude.{◌≤◌, ◌+◌};
     ghost use Rattle.originator.specs.Link.{packets_of};
     ghost use Rattle.originator.specs.States.{most_resends};
-    ghost use Rattle.originator.specs.Readers.{link_of, unsent_of, resends_of, is_all_queued as is_all_queued_state, is_of as is_of_state, is_state_due, has_timer};
+    ghost use Rattle.originator.specs.Readers.{link_of, unsent_of, resends_of, repeated_of, is_announced_again, is_all_queued as is_all_queued_state, is_of as is_of_state, is_state_due, has_timer};
 
     /// The message under way.
     pub(crate) fn link(&self) -> Link
@@ -52,6 +52,27 @@ impl OutState {
         }
     }
 
+    /// The transport that carries the message.
+    pub fn kind(&self) -> Kind
+        ensures { result ≡ (link_of self.now).kind }
+    {
+        self.link().kind()
+    }
+
+    /// The address of its sender.
+    pub fn from(&self) -> Address
+        ensures { result.0 ≡ (link_of self.now).from }
+    {
+        self.link().from()
+    }
+
+    /// The address of its destination.
+    pub fn to(&self) -> Address
+        ensures { result.0 ≡ (link_of self.now).to }
+    {
+        self.link().to()
+    }
+
     /// How many bytes the message has.
     pub fn len(&self) -> u32
         ensures { result ≡ (link_of self.now).len }
@@ -60,7 +81,7 @@ impl OutState {
     }
 
     /// The first packet that was never queued, one more than there are if each was.
-    pub(crate) fn unsent(&self) -> u32
+    pub fn unsent(&self) -> u32
         ensures value { result ≡ unsent_of self.now }
         ensures from_first { 1 ≤ result }
         ensures to_end { result ≤ packets_of (link_of self.now) + 1 }
@@ -73,7 +94,7 @@ impl OutState {
     }
 
     /// How many CTS have named a packet below it.
-    pub(crate) fn resends(&self) -> u8
+    pub fn resends(&self) -> u8
         ensures value { result ≡ resends_of self.now }
         ensures few { result ≤ most_resends }
     {
@@ -81,6 +102,26 @@ impl OutState {
             OutState::AwaitCts(state) => state.resends,
             OutState::Sending(state) => state.resends,
             OutState::AwaitEnd(state) => state.resends,
+        }
+    }
+
+    /// How many of the packets that are still queued in its window were queued before.
+    pub fn repeated(&self) -> u32
+        ensures { result ≡ repeated_of self.now }
+    {
+        match self {
+            OutState::Sending(state) => state.repeated(),
+            _ => 0,
+        }
+    }
+
+    /// Whether its window has still to be announced, and begins with a packet that was queued before.
+    pub fn announces_again(&self) -> bool
+        ensures { result ≡ is_announced_again self.now }
+    {
+        match self {
+            OutState::Sending(state) => state.announces_again(),
+            _ => false,
         }
     }
 

@@ -16,7 +16,7 @@ ghost use Rattle.seg_cut.specs.Packets.{packet_count};
 ghost use Rattle.seg_cut.specs.Join.{held, wants_last};
 ghost use Rattle.responder.specs.Answers.{abort_frame};
 ghost use Rattle.responder.specs.Unfinished.{begun, finished, with_packet};
-ghost use Rattle.responder.specs.Readers.{unfinished_of, timer_of};
+ghost use Rattle.responder.specs.Readers.{unfinished_of, timer_of, is_holding};
 ghost use Rattle.responder.specs.Asking.{asking, asked};
 ghost use Rattle.responder.specs.Steps.{completes as completes_at};
 ghost use Rattle.responder.specs.AwaitPacket.{aborted};
@@ -420,6 +420,16 @@ impl Receiver {
         ensures { result ≡ timer_of self.now }
     {
         self.timer
+    }
+
+    /// Whether it is on hold.
+    pub fn is_holding(&self) -> bool
+        ensures { result ≡ is_holding self.now }
+    {
+        match self.stage {
+            Stage::Awaiting { .. } => false,
+            Stage::OnHold => true,
+        }
     }
 
     /// Whether its timer is due at tick `now`.

@@ -1,7 +1,9 @@
 //! The incoming sessions of a station.
 ghost use Rattle.std.specs.Prelude.{◌≡◌, ℕ, ◌<◌, ◌-◌, ◌++◌, ◌==◌, Some, None, [], IfOk, IfErr, OnOk, OnErr, length, true, option_to_list};
 ghost use Rattle.std.specs.Bool.{OnTrue, OnFalse};
+ghost use Rattle.std.specs.Option.{option_map};
 ghost use Rattle.std.specs.FinMap as map;
+ghost use Rattle.std.specs.Map.Iter.{deref_pair};
 ghost use Rattle.session_table.specs.Sessions.{state_at};
 ghost use Rattle.session_table.specs.DueOrder.{first_due};
 ghost use Rattle.session_table.specs.declared.TheConstants.{MAX_SESSIONS};
@@ -174,6 +176,13 @@ impl Receivers {
         ensures { self.new ≡ map.empty }
     {
         *self = Receivers::new(self.alloc);
+    }
+
+    /// The session of a key, with the ports that it gives to.
+    pub fn get(&self, key: Key) -> Option<(&PortSet, &Incoming)>
+        ensures { option_map deref_pair result ≡ state_at self.now key }
+    {
+        self.table.get(key)
     }
 
     /// The first session whose timer is due at tick `now`: by source, then broadcasts first and ETP last.

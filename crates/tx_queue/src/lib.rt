@@ -1,7 +1,7 @@
 //! The transmit queue of a station: the frames that it has still to put on the bus, first in, first out.
 #![tactic(auto)]
 
-ghost use Rattle.std.specs.Prelude.{◌≡◌, ◌<◌, ◌≤◌, ◌↔◌, [], length, IfOk, IsErr, IsTrue, OnErr, OnOk};
+ghost use Rattle.std.specs.Prelude.{◌≡◌, ◌<◌, ◌≤◌, ◌↔◌, [], length, slice_get, IfOk, IsErr, IsTrue, OnErr, OnOk};
 ghost use Rattle.tx_queue.specs.Queue.{queue_limit, free_places, front, behind, queued};
 
 mod image;
@@ -85,6 +85,13 @@ impl TxQueue {
         ensures { result ≡ front self.now }
     {
         self.frames.front().copied()
+    }
+
+    /// The frame that `pop` would take after so many others.
+    pub fn get(&self, i: usize) -> Option<Frame>
+        ensures { result ≡ slice_get self.now i }
+    {
+        self.frames.get(i).copied()
     }
 
     /// How many more frames it has room for.
