@@ -13,7 +13,7 @@ use tp_wire::Outcome;
 use tx_queue::TxQueue;
 
 /// How often a lane asks in one round.
-const MOST_REQUESTS: u8 = 3;
+pub const MOST_REQUESTS: u8 = 3;
 
 impl Lane {
     /// Whether the timer of its connection, or of its Request, is due at tick `now`.

@@ -1,6 +1,8 @@
 //! A lane, and how messages are pushed to it.
-ghost use Rattle.std.specs.Prelude.{◌≡◌, ◌≤◌, ◌+◌, ◌||◌, ◌==◌, true, length, IfOk, OnOk, OnErr, IfErr, IsErr};
+ghost use Rattle.std.specs.Prelude.{◌≡◌, ◌≤◌, ◌+◌, ◌||◌, ◌==◌, true, length, slice_get, IfOk, IfSome, OnOk, OnErr, IfErr, IsErr};
+ghost use Rattle.std.specs.Option.{option_copied};
 ghost use Rattle.pgn_ids.specs.Address.{is_one, global_address};
+ghost use Rattle.tp_wire.specs.declared.constants.TheConstants.{ETP_MAX_SIZE};
 ghost use Rattle.lane_core.specs.Lane.{lane_limit, new_lane, is_full, pushed, longest_to, with_under_way};
 ghost use Rattle.lane_core.specs.LaneFields.{CarriesFront, IsCalm};
 ghost use Rattle.lane_core.specs.Refused.{IsHandedBack};
@@ -104,6 +106,28 @@ impl Lane {
         ensures few { length self.now.pending ≤ lane_limit }
     {
         self.pending.len()
+    }
+
+    /// A message without an outcome, by its place in their order, from 0.
+    pub fn pending(&self, i: usize) -> Option<&Pending>
+        ensures value { option_copied result ≡ slice_get self.now.pending i }
+        ensures few_bytes { IfSome result (λ m. length m.now.bytes ≤ ETP_MAX_SIZE) }
+    {
+        self.pending.get(i)
+    }
+
+    /// How its front message is under way, if it is.
+    pub fn under_way(&self) -> &UnderWay
+        ensures { result.now ≡ self.now.under_way }
+    {
+        self.place.content()
+    }
+
+    /// Whether a connection may begin.
+    pub fn standing(&self) -> Standing
+        ensures { result ≡ self.now.standing }
+    {
+        self.standing
     }
 
     /// Whether it takes no further message: it has 32 without an outcome, or no further number.

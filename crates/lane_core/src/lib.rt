@@ -19,12 +19,14 @@ mod sight;
 mod spending;
 mod step;
 
+pub use fire::MOST_REQUESTS;
 pub use image::LaneImage;
 pub use lane::Lane;
 pub use message::{Pending, longest_to};
 pub use message_events::Bytes;
 pub use place::UnderWay;
 pub use probe::{Standing, Token};
+pub use pump::kind_for;
 pub use refused::{PumpRefused, PushRefused};
 pub use sight::LaneSight;
 pub use step::Ended;

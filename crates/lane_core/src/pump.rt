@@ -170,7 +170,7 @@ fn front_bytes(messages: &VecDeque<Pending>) -> &[u8]
 }
 
 /// The transport that carries so many bytes to one destination.
-fn kind_for(len: u32) -> Kind
+pub fn kind_for(len: u32) -> Kind
     ensures { result ≡ kind_for_len len }
 {
     if len <= TP_MAX_SIZE {

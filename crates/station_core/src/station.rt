@@ -95,6 +95,27 @@ impl Station {
         self.address
     }
 
+    /// Its transmit queue.
+    pub fn queue(&self) -> &TxQueue
+        ensures { result.now ≡ self.now.queue }
+    {
+        &self.queue
+    }
+
+    /// Its lanes.
+    pub fn lanes(&self) -> &Lanes
+        ensures { result.now ≡ self.now.lanes }
+    {
+        &self.lanes
+    }
+
+    /// Its incoming sessions.
+    pub fn sessions(&self) -> &Receivers
+        ensures { result.now ≡ self.now.sessions }
+    {
+        &self.sessions
+    }
+
     /// How many frames wait in its queue.
     pub fn queue_len(&self) -> usize
         ensures value { result ≡ length self.now.queue }
