@@ -3,13 +3,14 @@ ghost use Rattle.std.specs.Prelude.{◌≡◌, ◌<◌, ◌≤◌, List, length,
 ghost use Rattle.pgn_ids.specs.declared.address.Address.{Address as AddressValue};
 ghost use Rattle.tx_queue.specs.Queue.{queue_limit};
 ghost use Rattle.bus_order.specs.Bus.{bus_len, frame_at};
-ghost use Rattle.segment_law.specs.Segment.{has_station, waiting_at};
+ghost use Rattle.segment_law.specs.Segment.{has_station, waiting_at, station_limit};
 ghost use Rattle.segment_law.specs.Readers.{lane_seen, queue_len, front_at, next_pump, is_due, wanted, wanted_with, given_by_take, frame_for, rests, is_idle};
 ghost use Rattle.segment_law.specs.Record.{Record, StandsAt};
 ghost use Rattle.record_law.specs.Counting.{counts_over};
 
 use crate::segment::Segment;
 use bus_frame::Frame;
+use bus_order::BusLog;
 use lane_core::LaneSight;
 use pgn_ids::Address;
 use port_table::PortSet;
@@ -22,6 +23,22 @@ impl Segment {
         ensures { result ≡ self.now.now }
     {
         self.clock.now()
+    }
+
+    /// Its stations, by rising address.
+    pub fn stations(&self) -> &[Station]
+        ensures value { result.now ≡ self.now.stations }
+        ensures few { length result.now ≤ station_limit }
+    {
+        &self.stations
+    }
+
+    /// Its bus, with a cursor for each station.
+    pub fn bus(&self) -> &BusLog
+        ensures value { result.now ≡ self.now.bus }
+        ensures cursors { length result.now.cursors ≡ length self.now.stations }
+    {
+        &self.bus
     }
 
     /// Whether the address is that of a station.
