@@ -19,3 +19,4 @@ pub mod Undisturbed
 pub mod Dues
 pub mod Nexts
 pub mod AtOnce
+pub mod PassedBy

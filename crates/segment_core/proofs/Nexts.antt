@@ -1,5 +1,5 @@
 -- From which tick on a station of a segment has something to do by itself, and one station more.
-use Rattle.std.proofs.Common.{◌≡◌, ℕ, ◌+◌, ◌<◌, Bool, true, false, cond, not, ◌||◌, nat_lt, List, length, Option, Some, None, Ok, Err, take, refl, sym, ap, ◌∙◌, subst, get_or}
+use Rattle.std.proofs.Common.{◌≡◌, ℕ, ◌+◌, ◌<◌, Bool, true, false, cond, not, ◌||◌, length, Option, Some, None, Ok, Err, take, refl, sym, ap, ◌∙◌, get_or}
 use Rattle.std.specs.Prelude.{slice_get, is_some, is_none, is_ok}
 use Rattle.std.specs.List.{list_any}
 use Rattle.std.specs.Option.{option_map}
@@ -19,17 +19,18 @@ use Rattle.station_core.specs.Sending as station
 use Rattle.station_core.specs.Next.{can_pump, can_fire}
 use Rattle.station_core.specs.declared.refused.Refused.{Refused as Cause}
 use Rattle.station_core.specs.declared.refused.Refused.TheVariants as cause
-use Rattle.segment_law.specs.Segment.{Segment, place_of}
+use Rattle.segment_law.specs.Segment.{Segment, place_of, station_of}
 use Rattle.segment_law.specs.Calls.{Answer, called, transmits_by, transmits, takes_by, takes, fires}
-use Rattle.segment_law.specs.Readers.{next_pump}
+use Rattle.segment_law.specs.Readers.{next_pump, is_due_of}
 use Rattle.segment_law.specs.declared.call.Call.TheVariants.{Transmit, Take, Fire}
 use Rattle.segment_law.specs.declared.refusal.Refusal.{Refusal}
 use Rattle.segment_law.specs.declared.refusal.Refusal.TheVariants as refusal
 use Rattle.segment_law.specs.declared.reply.Reply.{Reply}
 use Rattle.segment_core.specs.Answers.{refusal_of}
-use Rattle.segment_core.specs.Next.{at_tick, passes, has_work}
+use Rattle.segment_core.specs.Next.{at_tick, is_active, passes, has_work}
+use Rattle.segment_core.proofs.Calling.{of_none}
 use Rattle.segment_core.proofs.Stations.{at_is, at_none}
-use Rattle.segment_core.proofs.Pumping.{next_pump_is, next_pump_none}
+use Rattle.segment_core.proofs.Pumping.{next_pump_is, next_pump_none, next_pump_as}
 
 -- what isn't refused passes, whatever it leaves
 alike : (stops : Bool) (why : Refusal) (x y : Segment × Reply) → is_ok (cond {A = Answer} stops (Err why) (Ok x)) ≡ is_none (refusal_of (cond stops (Err why) (Ok y)))
@@ -53,6 +54,27 @@ unfolding called
 idle_nowhere seg a none tick within =
     let ticked : Segment = at_tick seg tick in
     (λ k. (is_ok (at_none ticked a (transmits ticked) none k) || is_ok (at_none ticked a (takes ticked true) none k)) || (is_some (next_pump_none ticked a none k) || is_ok (at_none ticked a (fires ticked) none k)))
+
+pub calm_nowhere : (seg : Segment) (a : Address) → place_of seg a ≡ None → IsDueFrom (λ tick. is_active (at_tick seg tick) a) None
+calm_nowhere seg a none tick within =
+    let ticked : Segment = at_tick seg tick in
+    (λ k. is_due_of ticked (of_none ticked a none k) || is_some (next_pump_none ticked a none k))
+
+-- whether a timer is due or a lane has a frame to queue depends on the station and the tick alone
+
+abbrev due_of : (tick : ℕ) → Option Station → Bool
+due_of tick None = false
+due_of tick (Some st) = is_due st tick
+
+due_by : (seg : Segment) (o : Option Station) → is_due_of seg o ≡ due_of seg.now o
+due_by seg None = refl
+due_by seg (Some st) = refl
+
+pub active_as : (seg next : Segment) (tick : ℕ) (a : Address) → station_of next a ≡ station_of seg a → is_active (at_tick next tick) a ≡ is_active (at_tick seg tick) a
+active_as seg next tick a same =
+    let due : is_due_of (at_tick next tick) (station_of next a) ≡ is_due_of (at_tick seg tick) (station_of seg a) = due_by (at_tick next tick) (station_of next a) ∙ ap (due_of tick) same ∙ sym (due_by (at_tick seg tick) (station_of seg a)) in
+    let pump : next_pump (at_tick next tick) a ≡ next_pump (at_tick seg tick) a = next_pump_as (at_tick seg tick) (at_tick next tick) a refl same in
+    (λ k. due k || is_some (pump k))
 
 module _ (seg : Segment) (a : Address) (i : ℕ) (st : Station) (here : place_of seg a ≡ Some i) (there : slice_get seg.stations i ≡ Some st) where
   -- a Transmit passes at every tick or at none
@@ -92,6 +114,12 @@ module _ (seg : Segment) (a : Address) (i : ℕ) (st : Station) (here : place_of
   pumping tick null =
       let found : Option Address = option_map wrap (station.next_pump st tick) in
       ap is_some (sym (next_pump_is (at_tick seg tick) a i st here there found null (unwrapped (station.next_pump st tick)))) ∙ some_wrapped (station.next_pump st tick)
+
+  -- from the earlier of these ticks on a timer is due or a lane has a frame to queue
+  pub active_is_from : (due pump : Option ℕ) → map.get st.lanes null_address ≡ None → IsDueFrom (is_due st) due → IsDueFrom (can_pump st) pump → IsDueFrom (λ tick. is_active (at_tick seg tick) a) (earlier_of due pump)
+  active_is_from due pump null dues pumps tick within =
+      let found : station_of seg a ≡ Some st = ap (λ (o : Option ℕ). elim o as (λ (_ : Option ℕ). Option Station) [ None ↦ None | Some k ↦ slice_get seg.stations k ]) here ∙ there in
+      (λ k. is_due_of (at_tick seg tick) (found k) || pumping tick null k) ∙ due_from_either (is_due st) (can_pump st) due pump dues pumps tick within
 
   -- from the earlier of these ticks on it has something to do
   pub work_is_from : (moves : Bool) (every pump fire : Option ℕ) → map.get st.lanes null_address ≡ None

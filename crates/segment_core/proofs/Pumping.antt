@@ -16,8 +16,8 @@ use Rattle.station_lanes.proofs.Counting.{same_up_to, least_same, none_from}
 use Rattle.station_core.specs.Station.{Station}
 use Rattle.station_core.specs.Sending as station
 use Rattle.station_core.specs.Sending.{pumped}
-use Rattle.segment_law.specs.Segment.{Segment, place_of}
-use Rattle.segment_law.specs.Calls.{called, pumps, pumps_by, stepped}
+use Rattle.segment_law.specs.Segment.{Segment, place_of, station_of}
+use Rattle.segment_law.specs.Calls.{called, at_station, at_place, pumps, pumps_by, stepped}
 use Rattle.segment_law.specs.declared.refusal.Refusal.TheVariants as refusal
 use Rattle.segment_law.specs.Readers.{pumps_to, next_pump}
 use Rattle.segment_core.proofs.Stations.{at_is, at_none}
@@ -90,3 +90,27 @@ module _ (seg : Segment) (a : Address) (i : ℕ) (st : Station) (here : place_of
 pub next_pump_none : (seg : Segment) (a : Address) → place_of seg a ≡ None → next_pump seg a ≡ None
 next_pump_none seg a none =
     ap (option_map (λ (to : ℕ). let r : Address = record { 0 = to } in r)) (same_up_to (pumps_to seg a) 0 256 (omega arith) (λ n le below. pumps_to_none seg a n none) ∙ none_from (pumps_to seg a))
+
+-- whether a pump to a destination is refused depends on the station and the tick alone
+
+abbrev queues_to : (tick : ℕ) → Option Station → ℕ → Bool
+queues_to tick None to = false
+queues_to tick (Some st) to = cond (to == null_address) false (cond (nat_lt (free_places st.queue) 8) false (is_pumping st.lanes tick to))
+
+pumps_by_station : (seg : Segment) (a : Address) (to : ℕ) → pumps_to seg a to ≡ queues_to seg.now (station_of seg a) to
+unfolding called
+pumps_by_station seg a to = by (place_of seg a) refl
+  where
+    at : (i : ℕ) (o : Option Station) → place_of seg a ≡ Some i → slice_get seg.stations i ≡ o → pumps_to seg a to ≡ queues_to seg.now o to
+    at i None here there = ap is_ok (ap (λ o. at_place seg o (pumps seg (record { 0 = to }))) here ∙ ap (λ o. at_station o (pumps seg (record { 0 = to }) i)) there)
+    at i (Some st) here there = pumps_to_is seg a to i st here there ∙ flat seg a i st here there to
+
+    by : (o : Option ℕ) → place_of seg a ≡ o → pumps_to seg a to ≡ queues_to seg.now (elim o as (λ (_ : Option ℕ). Option Station) [ None ↦ None | Some i ↦ slice_get seg.stations i ]) to
+    by None none = pumps_to_none seg a to none
+    by (Some i) here = at i (slice_get seg.stations i) here refl
+
+-- and so does the lowest destination
+pub next_pump_as : (seg next : Segment) (a : Address) → next.now ≡ seg.now → station_of next a ≡ station_of seg a → next_pump next a ≡ next_pump seg a
+next_pump_as seg next a now same =
+    ap (option_map (λ (to : ℕ). let r : Address = record { 0 = to } in r))
+    (least_same (pumps_to next a) (pumps_to seg a) 256 (λ to below. pumps_by_station next a to ∙ (λ k. queues_to (now k) (same k) to) ∙ sym (pumps_by_station seg a to)))

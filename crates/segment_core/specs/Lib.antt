@@ -15,3 +15,4 @@ pub mod Due
 pub mod Promise
 pub mod Next
 pub mod PutTaken
+pub mod Passing

@@ -4,13 +4,17 @@ use Rattle.std.specs.List.{list_any}
 use Rattle.pgn_ids.specs.declared.address.Address.{Address}
 use Rattle.segment_law.specs.Segment.{Segment}
 use Rattle.segment_law.specs.Calls.{called}
-use Rattle.segment_law.specs.Readers.{next_pump}
+use Rattle.segment_law.specs.Readers.{next_pump, is_due}
 use Rattle.segment_law.specs.declared.call.Call.{Call}
 use Rattle.segment_law.specs.declared.call.Call.TheVariants.{Transmit, Take, Fire}
 
 -- the segment, with its clock at a tick
 abbrev pub at_tick : Segment → (tick : ℕ) → Segment
 at_tick seg tick = record seg { now = tick }
+
+-- a timer of a station is due, or one of its lanes has a frame to queue
+abbrev pub is_active : Segment → Address → Bool
+is_active seg a = is_due seg a || is_some (next_pump seg a)
 
 -- a call would not be refused
 abbrev pub passes : Segment → Call → Bool

@@ -4,7 +4,7 @@ ghost use Rattle.tick_timers.specs.Due.{IsDueFrom, IsNextFrom};
 ghost use Rattle.segment_law.specs.Calls.{called};
 ghost use Rattle.segment_law.specs.declared.call.Call.TheVariants.{Transmit, Take};
 ghost use Rattle.segment_core.specs.Answers.{refusal_of};
-ghost use Rattle.segment_core.specs.Next.{at_tick, has_work, any_work};
+ghost use Rattle.segment_core.specs.Next.{at_tick, is_active, has_work, any_work};
 
 use crate::segment::Segment;
 use pgn_ids::Address;
@@ -18,6 +18,18 @@ impl Segment {
         ensures { IsNextFrom (any_work self.now) self.now.now result }
     {
         not_before(self.clock.now(), self.work_from())
+    }
+
+    /// The tick from which on a timer of a station is due or one of its lanes has a frame to queue, unless a call names it before.
+    /// None if there is no such tick up to the last one of `u64`, or the address isn't a station's.
+    pub fn active_from(&self, station: Address) -> Option<u64>
+        ensures { IsDueFrom (λ tick. is_active (at_tick self.now tick) station) result }
+    {
+        let Some(place) = self.place_of(station) else {
+            return None;
+        };
+        let at = &self.stations[place];
+        earlier(at.next_due_at(), at.next_pump_at())
     }
 
     // The tick from which on some station has something to do.
