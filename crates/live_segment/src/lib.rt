@@ -21,6 +21,7 @@ mod home;
 mod live;
 mod news;
 mod offer;
+mod passing;
 mod places;
 mod readers;
 mod refused;

@@ -18,6 +18,7 @@ use segment_rings::{Client, Doorway, Inbox, Places, Seat};
 use std::alloc::{AllocError, Global};
 use std::marker::Model;
 use stored_calls::{Stored, StoredCalls};
+use watched_segment::Watched;
 
 /// How many clients a station has at most.
 pub const MOST_CLIENTS: usize = 16;
@@ -33,7 +34,7 @@ pub struct Live {
     before: [u64; WORDS_BEFORE],
     pub(crate) alloc: Global,
     pub(crate) addresses: Vec<Address>,
-    pub(crate) segment: Segment,
+    pub(crate) segment: Watched,
     pub(crate) calls: Calls,
     pub(crate) owed: Vec<Owed>,
     pub(crate) seats: Seats,
@@ -73,6 +74,7 @@ impl Live {
     ghost use Rattle.segment_core.specs.Answers.{reply_with};
     ghost use Rattle.segment_core.specs.declared.made.Made.TheVariants as made;
     ghost use Rattle.segment_law.specs.Headline.{Headline};
+    ghost use Rattle.segment_core.specs.Next.{is_active};
     ghost use Rattle.segment_law.specs.Record.{StandsAt};
     ghost use Rattle.segment_law.specs.declared.reply.Reply.TheVariants.{Refused};
     ghost use Rattle.segment_law.specs.declared.refusal.Refusal.TheVariants.{TraceFull};
@@ -99,6 +101,7 @@ impl Live {
         let Ok(addresses) = Vec::from_slice(alloc, addresses) else {
             return Err(NotMade::OutOfMemory);
         };
+        let segment = Watched::new(alloc, segment)?;
         let calls = Calls::new(alloc)?;
         let seats = Seats::new(alloc)?;
         Ok(Live {
@@ -119,14 +122,14 @@ impl Live {
         ensures value { result.now ≡ (trail self.now.addresses self.now.calls).state }
         ensures stands { StandsAt self.now.addresses (trail self.now.addresses self.now.calls).steps result.now }
     {
-        &self.segment
+        self.segment.get()
     }
 
     /// What the segment counted.
     pub fn counts(&self) -> Counts
         ensures { result ≡ (trail self.now.addresses self.now.calls).state.counts }
     {
-        self.segment.counts()
+        self.segment.get().counts()
     }
 
     /// How many messages were turned away, since the ring of an inbox had no place for them, or its port was closed: so often was a call
@@ -345,6 +348,15 @@ impl Live {
         ensures { self.new ≡ self.old }
     {
         self.seats.hush(station);
+    }
+
+    /// Whether a timer of a station is due or one of its lanes has a frame to queue.
+    #[inline(always)]
+    pub(crate) fn is_active(&mut self, station: Address) -> bool
+        ensures same { self.new ≡ self.old }
+        ensures value { result ≡ is_active (trail self.old.addresses self.old.calls).state station }
+    {
+        self.segment.is_active(station)
     }
 
     /// Opens a port, and returns its inbox, whose ring has 64 places.

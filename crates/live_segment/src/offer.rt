@@ -11,10 +11,11 @@ ghost use Rattle.live_segment.specs.declared.offer.Front.TheVariants as front;
 
 use crate::call::Owed;
 use crate::calls::Calls;
-use segment_core::{Call, Refusal, Segment};
+use segment_core::{Call, Refusal};
 use segment_rings::{Offer, Seat, Submission};
 use std::alloc::{AllocError, Global};
 use stored_calls::Stored;
+use watched_segment::Watched;
 
 /// How many calls are stored at most since the last cut.
 pub const MOST_CALLS: usize = 1_000_000;
@@ -68,7 +69,7 @@ fn look(seats: &mut Vec<Seat>, k: usize, owed: usize, stored: usize) -> Front
 }
 
 // Why the segment would refuse to send the front submission. It takes no memory.
-fn front_refusal(segment: &Segment, seats: &[Seat], k: usize) -> Option<Refusal>
+fn front_refusal(segment: &Watched, seats: &[Seat], k: usize) -> Option<Refusal>
     requires within { k < length seats.now }
     requires waits { (s : SeatView) → 0 < length (slice_index_or seats.now k s).ahead }
     ensures { (s : SeatView) → IsCauseFor segment.now (slice_index_or seats.now k s) result }
@@ -137,7 +138,7 @@ fn has_nothing(seats: &mut Vec<Seat>, k: usize) -> bool
 /// All that can fail before the front submission is sent. Memory is looked for only if nothing else prevents it.
 pub(crate) fn find_ready(
     alloc: Global,
-    segment: &Segment,
+    segment: &Watched,
     calls: &mut Calls,
     owed: &mut Vec<Owed>,
     seats: &mut Vec<Seat>,
@@ -165,7 +166,7 @@ pub(crate) fn find_ready(
 // `find_ready`, for a client that may have a submission.
 fn make_front_ready(
     alloc: Global,
-    segment: &Segment,
+    segment: &Watched,
     calls: &mut Calls,
     owed: &mut Vec<Owed>,
     seats: &mut Vec<Seat>,

@@ -15,9 +15,10 @@ use crate::calls::Calls;
 use crate::step::{make_telling, make_ungiven};
 use crate::wanted::wanted_of;
 use pgn_ids::Address;
-use segment_core::{Events, Made, PortId, Segment};
+use segment_core::{Events, Made, PortId};
 use segment_rings::{Buffer, Door};
 use std::alloc::{AllocError, Global};
+use watched_segment::Watched;
 
 /// The door of a port.
 pub(crate) fn door_of(doors: &[Door], port: PortId) -> Option<usize>
@@ -105,7 +106,7 @@ pub(crate) struct Found {
 // A place for each delivery of a call, and memory for it.
 fn find_places(
     alloc: Global,
-    segment: &Segment,
+    segment: &Watched,
     doors: &mut Doors,
     call: &WorkerCall,
 ) -> Result<Option<Vec<Buffer>>, AllocError>
@@ -127,7 +128,7 @@ fn find_places(
 #[inline(never)]
 fn make_giving(
     alloc: Global,
-    segment: &mut Segment,
+    segment: &mut Watched,
     doors: &mut Doors,
     call: WorkerCall,
     told: &mut Events,
@@ -167,7 +168,7 @@ fn make_giving(
 #[inline(always)]
 pub(crate) fn make_found(
     alloc: Global,
-    segment: &mut Segment,
+    segment: &mut Watched,
     calls: &mut Calls,
     doors: &mut Doors,
     call: &WorkerCall,

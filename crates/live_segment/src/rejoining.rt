@@ -7,7 +7,6 @@ ghost use Rattle.live_segment.specs.Rejoining.{IsJoined, IsJoinCause, StandsAfte
 
 use crate::calls::Piece;
 use crate::live::Live;
-use crate::step::make;
 use pgn_ids::Address;
 use segment_core::{Call, NewRefused, Refusal, Segment, the_headline_holds};
 use std::alloc::{AllocError, Global};
@@ -93,7 +92,7 @@ fn make_all(alloc: Global, segment: &mut Segment, calls: &StoredCalls) -> Result
 {
     for at in 0..calls.len() {
         let Stored { by: _, call } = calls.copy(alloc, at)?;
-        make(segment, call)?;
+        segment.apply(call)?;
     }
     Ok(())
 }

@@ -8,11 +8,12 @@ use crate::home::Home;
 use crate::offer::{Ready, find_ready, store as store_front};
 use crate::settle::settle_event as settle_one;
 use pgn_ids::Address;
-use segment_core::{Event, Segment};
+use segment_core::Event;
 use segment_rings::{Bell, Seat};
 use std::alloc::{AllocError, Global};
 use std::collections::VecDeque;
 use std::marker::Model;
+use watched_segment::Watched;
 
 /// How many values an address has.
 const ADDRESSES: usize = 256;
@@ -177,7 +178,7 @@ impl Seats {
     pub(crate) fn make_ready(
         &mut self,
         alloc: Global,
-        segment: &Segment,
+        segment: &Watched,
         calls: &mut Calls,
         owed: &mut Vec<Owed>,
         k: usize,

@@ -8,12 +8,13 @@ ghost use Rattle.live_segment.specs.Words.{call_of, wanted_by};
 ghost use Rattle.reply_law.specs.Replies.{reply_of, left_by, Follows};
 
 use crate::call::WorkerCall;
-use segment_core::{Call, Events, Made, Refusal, Reply, Segment, Tried};
+use segment_core::{Call, Events, Made, Refusal, Reply, Tried};
 use std::alloc::AllocError;
+use watched_segment::Watched;
 
 /// Makes one call. Want of memory changes nothing.
 #[inline(always)]
-pub(crate) fn make(segment: &mut Segment, call: Call) -> Result<Reply, AllocError>
+pub(crate) fn make(segment: &mut Watched, call: Call) -> Result<Reply, AllocError>
     ensures reply { IfOk result (λ r. r ≡ reply_of segment.old call) }
     ensures after { IfOk result (λ r. segment.new ≡ left_by segment.old call) }
     ensures err { OnErr result (segment.new ≡ segment.old) }
@@ -27,7 +28,7 @@ pub(crate) fn make(segment: &mut Segment, call: Call) -> Result<Reply, AllocErro
 /// `make`, which puts the events into a place that has none yet.
 #[inline(always)]
 pub(crate) fn make_telling(
-    segment: &mut Segment,
+    segment: &mut Watched,
     call: Call,
     told: &mut Events,
 ) -> Result<Made, AllocError>
@@ -46,7 +47,7 @@ pub(crate) fn make_telling(
 /// one exactly if its frame completes it; of a TakeAgain that isn't looked at.
 #[inline(always)]
 pub(crate) fn make_ungiven(
-    segment: &mut Segment,
+    segment: &mut Watched,
     call: WorkerCall,
     told: &mut Events,
 ) -> Result<Option<Made>, AllocError>
@@ -72,7 +73,7 @@ pub(crate) fn make_ungiven(
 }
 
 /// Why the segment would refuse a call, whether there is room for what it gives or not. It takes no memory.
-pub(crate) fn refusal_for(segment: &Segment, call: WorkerCall) -> Option<Refusal>
+pub(crate) fn refusal_for(segment: &Watched, call: WorkerCall) -> Option<Refusal>
     ensures { (room : Bool) → result ≡ refusal_of (called segment.now (call_of call room)) }
 {
     segment.refusal(&call.with_room(true))

@@ -11,7 +11,7 @@ use crate::call::WorkerCall;
 use crate::live::Live;
 use crate::refused::Accepted;
 use pgn_ids::Address;
-use segment_core::{Events, Made, Refusal, Segment};
+use segment_core::{Events, Made, Passing, Refusal, Segment};
 
 /// What one turn did: how many calls were applied, up to the last value, and whether the worker ends since no more calls can
 /// be stored.
@@ -176,6 +176,16 @@ impl Turn {
     }
 }
 
+// A turn that made one call.
+#[inline(always)]
+fn one_call() -> Turn
+    ensures { result ≡ one_more no_turn }
+{
+    let mut turn = Turn::new();
+    turn.add();
+    turn
+}
+
 // The station whose first frame has the lowest identifier, of several the first.
 fn next_of(segment: &Segment, addresses: &[Address]) -> Option<Address>
     ensures { IsNext segment.now addresses.now result }
@@ -202,6 +212,24 @@ impl Live {
     /// frames or more wait for it, it misses them by an Overrun: the bus is as good as full, so its queue could not empty and
     /// nothing would go on. A call that is refused or finds no memory changes nothing and isn't counted.
     pub fn station_turn(&mut self, station: Address) -> Turn
+        ensures { StationTurn station (point self.old no_turn) (point self.new result) }
+    {
+        if self.is_called(station) {
+            return self.whole_turn(station);
+        }
+        if self.is_active(station) {
+            return self.whole_turn(station);
+        }
+        match self.pass_by(station) {
+            Passing::Busy => self.whole_turn(station),
+            Passing::Rests => Turn::new(),
+            Passing::Passed => one_call(),
+        }
+    }
+
+    // `station_turn`, step by step: of a station that may have more to do than to take a frame that is none of its business.
+    #[inline(never)]
+    fn whole_turn(&mut self, station: Address) -> Turn
         ensures { StationTurn station (point self.old no_turn) (point self.new result) }
     {
         let mut turn = Turn::new();

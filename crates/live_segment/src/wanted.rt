@@ -5,7 +5,7 @@ ghost use Rattle.live_segment.specs.Words.{wanted_by};
 use crate::call::WorkerCall;
 use pgn_ids::Address;
 use port_table::PortSet;
-use segment_core::Segment;
+use watched_segment::Watched;
 
 /// The ports of a station that a call gives to, and how long the message is.
 #[derive(Clone, Copy)]
@@ -16,7 +16,7 @@ pub(crate) struct Wanted {
 }
 
 /// What the call gives with room; without one that takes a frame, nothing.
-pub(crate) fn wanted_of(segment: &Segment, call: &WorkerCall) -> Wanted
+pub(crate) fn wanted_of(segment: &Watched, call: &WorkerCall) -> Wanted
     ensures { result ≡ wanted_by segment.now call.now }
 {
     match call {
