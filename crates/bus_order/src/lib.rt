@@ -10,4 +10,4 @@ mod log;
 
 pub use image::BusImage;
 pub use laws::stations_see_the_bus_in_order;
-pub use log::{BusLog, PutError};
+pub use log::{BusLog, MAX_KEPT, PutError};

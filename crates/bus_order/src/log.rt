@@ -15,7 +15,7 @@ use std::marker::Model;
 use thiserror::Error;
 
 /// How many frames are kept at most.
-const KEPT_LIMIT: usize = 4096;
+pub const MAX_KEPT: usize = 4096;
 
 // Frames that there is room for from the start: while only the newest is kept, as it may be repeated, one more needs no memory.
 const ROOM: usize = 2;
@@ -181,7 +181,7 @@ impl BusLog {
         ensures err { OnErr result (self.new ≡ self.old) }
         ensures holds { HoldsAhead self.new }
     {
-        if self.kept.len() >= KEPT_LIMIT {
+        if self.kept.len() >= MAX_KEPT {
             return Err(PutError::BusFull);
         }
         if self.len() == u64::MAX {

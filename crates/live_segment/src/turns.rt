@@ -10,8 +10,10 @@ ghost use Rattle.live_segment.specs.Turns.{IsNext, is_stuck, point, no_turn, one
 use crate::call::WorkerCall;
 use crate::live::Live;
 use crate::refused::Accepted;
+use bus_order::MAX_KEPT;
 use pgn_ids::Address;
 use segment_core::{Events, Made, Passing, Refusal, Segment};
+use tx_queue::MAX_FRAMES;
 
 /// What one turn did: how many calls were applied, up to the last value, and whether the worker ends since no more calls can
 /// be stored.
@@ -20,12 +22,6 @@ pub struct Turn {
     pub calls: u64,
     pub ended: bool,
 }
-
-/// How many frames a station's queue holds.
-const QUEUE_LIMIT: usize = 64;
-
-/// How many frames can wait for a station that has taken one: the bus keeps 4,096, and that one is among them.
-const MOST_WAITING: u64 = 4_095;
 
 /// How far the clock advances while nothing is to do.
 const IDLE_TICKS: u64 = 50;
@@ -164,7 +160,9 @@ impl Turn {
         ensures { MakesWhere (is_stuck (state_of live.old) station) (OverrunCall station (waiting_at (state_of live.old) station)) (point live.old self.old) (point live.new self.new) }
     {
         let waiting = live.segment().waiting(station);
-        let is_stuck = waiting >= MOST_WAITING && live.segment().queue_len(station) >= QUEUE_LIMIT;
+        // Among the frames that the bus keeps is the one that the station took last.
+        let most_waiting = MAX_KEPT as u64 - 1;
+        let is_stuck = waiting >= most_waiting && live.segment().queue_len(station) >= MAX_FRAMES;
         self.make_where(
             live,
             is_stuck,

@@ -16,9 +16,7 @@ use bus_frame::Frame;
 use pgn_ids::{Address, read_id};
 use segment_core::{Call, Events, Refusal};
 use std::alloc::AllocError;
-
-/// How many frames the transmit queue holds.
-const QUEUE_LIMIT: usize = 64;
+use tx_queue::MAX_FRAMES;
 
 impl Node {
     /// Feeds a frame of another node, read from the bus, and the node looks at it: with room for what it brings, or without if there
@@ -49,7 +47,7 @@ impl Node {
         if read_id(frame.id()).from.0 == self.address.0 {
             return Some(NodeError::Refused(Refusal::StationAddress));
         }
-        if self.segment.queue_len(self.address) >= QUEUE_LIMIT {
+        if self.segment.queue_len(self.address) >= MAX_FRAMES {
             return Some(NodeError::Refused(Refusal::TxFull));
         }
         None

@@ -8,12 +8,10 @@ ghost use Rattle.segment_core.specs.Answers.{refusal_of};
 use crate::segment::Segment;
 use crate::stop::refusal_by;
 use bus_frame::Frame;
+use bus_order::MAX_KEPT;
 use pgn_ids::{Address, read_id};
 use port_table::PortId;
 use segment_law::{Call, Refusal};
-
-/// How many frames the bus keeps at most.
-const MOST_KEPT: u64 = 4096;
 
 impl Segment {
     /// Why a call would be refused: the first of its causes, or `None` if `apply` makes the call or finds no memory for
@@ -121,13 +119,14 @@ impl Segment {
         ensures { result ≡ is_full self.now.bus }
     {
         let len = self.bus.len();
+        let most = MAX_KEPT as u64;
         if len == u64::MAX {
             return true;
         }
-        if len < MOST_KEPT {
+        if len < most {
             return false;
         }
-        self.bus.frame(len - (MOST_KEPT - 1)).is_some()
+        self.bus.frame(len - (most - 1)).is_some()
     }
 
     /// Why a Pump of the lane from a station to a destination would be refused.

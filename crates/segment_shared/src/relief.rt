@@ -1,12 +1,10 @@
 //! What a station does if it finds no memory for the frames that it takes.
 use live_segment::{Live, Reply, Turn, WorkerCall};
 use pgn_ids::Address;
+use tx_queue::MAX_FRAMES;
 
 /// How many turns a worker tries in vain to take a frame for want of memory, before its station misses what waits for it.
 pub const MEMORY_TRIES: u64 = 1_000;
-
-/// How many frames a station's queue holds: with so many it takes nothing.
-const QUEUE_LIMIT: usize = 64;
 
 /// Advances the clock by so many ticks, and returns how many calls that was.
 pub(crate) fn tick(live: &mut Live, n: u64) -> u64 {
@@ -17,12 +15,12 @@ pub(crate) fn tick(live: &mut Live, n: u64) -> u64 {
 }
 
 // Whether a station has taken nothing in a turn before which frames waited for it, though its queue has a place: then its Take
-// found no memory. A turn frees no place of the queue.
+// found no memory. A turn frees no place of the queue, and a full one takes nothing.
 fn is_starved(live: &Live, station: Address, waited: u64, done: &Turn) -> bool {
     let segment = live.segment();
     waited > 0
         && segment.waiting(station) == waited
-        && segment.queue_len(station) < QUEUE_LIMIT
+        && segment.queue_len(station) < MAX_FRAMES
         && !done.ended
 }
 

@@ -14,7 +14,7 @@ use std::marker::Model;
 use thiserror::Error;
 
 /// How many frames a queue holds at most.
-const QUEUE_LIMIT: usize = 64;
+pub const MAX_FRAMES: usize = 64;
 
 /// 64 frames wait already.
 #[derive(Clone, Copy, Debug, PartialEq, Eq, Error)]
@@ -46,7 +46,7 @@ impl TxQueue {
         ensures { IfOk result (λ queue. queue ≡ []) }
     {
         Ok(TxQueue {
-            frames: VecDeque::with_capacity(alloc, QUEUE_LIMIT)?,
+            frames: VecDeque::with_capacity(alloc, MAX_FRAMES)?,
         })
     }
 
@@ -56,7 +56,7 @@ impl TxQueue {
         ensures full { IsErr result ↔ (length self.old ≡ queue_limit) }
         ensures err { OnErr result (self.new ≡ self.old) }
     {
-        if self.frames.len() == QUEUE_LIMIT {
+        if self.frames.len() == MAX_FRAMES {
             return Err(TxFull);
         }
         self.push_free(frame);
@@ -99,7 +99,7 @@ impl TxQueue {
         ensures value { result ≡ free_places self.now }
         ensures within { length self.now ≤ queue_limit }
     {
-        QUEUE_LIMIT - self.frames.len()
+        MAX_FRAMES - self.frames.len()
     }
 
     /// How many frames are in it.
