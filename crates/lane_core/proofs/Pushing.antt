@@ -24,10 +24,10 @@ carried_at to [] i m e h = absurd (none-some m e)
 carried_at to (x ∷ messages) zero m e h = subst (λ (y : Pending). length y.bytes ≤ ETP_MAX_SIZE) (same_Some x m e) (short_for (to == global_address) (length x.bytes) h.0.1)
 carried_at to (x ∷ messages) (suc i) m e h = carried_at to messages i m e h.1
 
-pub carried_read : (to : ℕ) (messages : List Pending) (found : Option (Bor Pending)) (i : ℕ) → (IsSome found ↔ (i < length messages)) → IfSome found (λ m. m.now ≡ get_or messages i m.now) → AreCarried to messages
-    → IfSome found (λ m. length m.now.bytes ≤ ETP_MAX_SIZE)
-carried_read to messages None i within read h = tt
-carried_read to messages (Some m) i within read h = carried_at to messages i m.now (slice_get_read messages (length messages) i m.now refl (within.0 refl) read) h
+pub carried_read : (to : ℕ) (messages : List Pending) (len : ℕ) (found : Option (Bor Pending)) (i : ℕ) → len ≡ length messages → (IsSome found ↔ (i < len)) → IfSome found (λ m. m.now ≡ get_or messages i m.now)
+    → AreCarried to messages → IfSome found (λ m. length m.now.bytes ≤ ETP_MAX_SIZE)
+carried_read to messages len None i count within read h = tt
+carried_read to messages len (Some m) i count within read h = carried_at to messages i m.now (slice_get_read messages len i m.now count (within.0 refl) read) h
 
 pub front_push : (from to : ℕ) (under_way : UnderWay) (messages : List Pending) (m : Pending) → CarriesFront from to under_way messages → CarriesFront from to under_way (messages ++ m ∷ [])
 front_push from to Nothing messages m h = tt
