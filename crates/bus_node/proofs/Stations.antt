@@ -16,7 +16,7 @@ use Rattle.segment_law.specs.declared.reply.Reply.TheVariants as replies
 use Rattle.one_station.specs.Node.{Node as Station, Did, makes}
 use Rattle.one_station.specs.Answers.{IsStopped, IsAnswered, IsMissed, EndsFirst, IsReady, IsUndone, IsReadyAndFed, IsSent, feed_refusal}
 use Rattle.one_station.specs.declared.error.NodeError.{NodeError}
-use Rattle.one_station.specs.declared.error.NodeError.TheVariants.{Refused, ClockPassed, OutOfMemory}
+use Rattle.one_station.specs.declared.error.NodeError.TheVariants.{Refused, ClockPassed, Starting, OutOfMemory}
 use Rattle.one_station.specs.declared.error.Fed.TheVariants.{Taken}
 use Rattle.one_station.specs.declared.error.Missed.TheVariants as ends
 use Rattle.bus_node.specs.Node.{Node, with_station, answered, called, asked}
@@ -35,6 +35,7 @@ unfolding called
 told_call n call after (Ok done) m (ok, did) t = t ∙ ap (with_station n) did.node
 told_call n call after (Err (Refused cause)) m (is, same) t = t ∙ ap (with_station n) (same ∙ refused_makes n.station call cause is)
 told_call n call after (Err ClockPassed) m a t = absurd t
+told_call n call after (Err (Starting tick)) m a t = absurd t
 told_call n call after (Err OutOfMemory) m a t = absurd t
 
 -- the clock goes on to a tick, or stands where it is
@@ -55,6 +56,7 @@ unfolding asked
 told_refusal n call after (Refused cause) m (is, same) t =
     t ∙ (λ k. answered n ((same ∙ refused_makes n.station call cause is) k) (reply_line (replied_on n.station.segment (sym is k)).1))
 told_refusal n call after ClockPassed m a t = absurd t
+told_refusal n call after (Starting tick) m a t = absurd t
 told_refusal n call after OutOfMemory m a t = absurd t
 
 -- one that is only answered that it was done
@@ -101,4 +103,5 @@ told_sent n after (Ok done) m (r, first, (free, did)) t =
 told_sent n after (Err (Refused cause)) m (r, first, (is, same)) t =
     t ∙ ap (with_station n) (same ∙ sym (ap (sent_by r) is) ∙ ap sent (ready_is n.station r first))
 told_sent n after (Err ClockPassed) m a t = absurd t
+told_sent n after (Err (Starting tick)) m a t = absurd t
 told_sent n after (Err OutOfMemory) m a t = absurd t

@@ -1,10 +1,11 @@
 -- What a line does.
-use Rattle.std.specs.Prelude.{◌≡◌, ℕ, if◌then◌else◌, List, [], ◌++◌, Option, Some, None, Result, Ok, Err, codes}
+use Rattle.std.specs.Prelude.{◌≡◌, ℕ, nat_lt, if◌then◌else◌, List, [], ◌++◌, Option, Some, None, Result, Ok, Err, codes}
 use Rattle.std.specs.Fmt.{decimal}
 use Rattle.script_commands.specs.declared.fault.Fault.{Fault}
 use Rattle.script_commands.specs.declared.fault.LineError.{LineError}
 use Rattle.script_commands.specs.declared.fault.LineError.TheVariants as errors
 use Rattle.log_fields.specs.declared.iface.Iface.{Iface}
+use Rattle.pgn_ids.specs.declared.address.Address.{Address}
 use Rattle.script_text.specs.Parts.{line}
 use Rattle.script_text.specs.Replies.{refusal_text}
 use Rattle.script_text.specs.Counts.{counts_line}
@@ -44,9 +45,19 @@ state_line n = line (codes "state " ++ decimal n.station.segment.now ++ codes " 
 abbrev pub missing : Node → Node
 missing n = answered n (missed n.station) (line (codes "done"))
 
+-- a message isn't sent before this tick, since the program started again
+unfoldable pub starting_line : ℕ → List ℕ
+starting_line tick = line (codes "starting " ++ decimal tick)
+
+-- a message is sent, if the program didn't start again a short time ago
+abbrev pub sending : Node → (to : Address) → (pgn : ℕ) → (bytes : List ℕ) → Node
+sending n to pgn bytes =
+    if nat_lt n.station.segment.now n.station.quiet_until then told n (starting_line n.station.quiet_until)
+    else asked n (calls.Send n.station.address to pgn bytes)
+
 -- a command to the station
 unfoldable pub commanded : Node → NodeCommand → Node
-commanded n (Send to pgn bytes) = asked n (calls.Send n.station.address to pgn bytes)
+commanded n (Send to pgn bytes) = sending n to pgn bytes
 commanded n (Open pgn max_len) = asked n (calls.Open n.station.address pgn max_len)
 commanded n (Close number) = asked n (calls.Close (record { station = n.station.address; number = number }))
 commanded n (Pause number) = asked n (calls.Pause (record { station = n.station.address; number = number }))

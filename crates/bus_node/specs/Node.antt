@@ -6,7 +6,7 @@ use Rattle.log_fields.specs.declared.iface.Iface.{Iface}
 use Rattle.segment_law.specs.Calls.{applied}
 use Rattle.segment_law.specs.declared.call.Call.{Call}
 use Rattle.script_text.specs.Replies.{reply_line, event_lines}
-use Rattle.one_station.specs.Node.{Node as Station, new_node as new_station, makes}
+use Rattle.one_station.specs.Node.{Node as Station, new_node as new_station, again_node as again_station, makes}
 use Rattle.bus_node.specs.Rests.{plus, no_rests, rested}
 use Rattle.bus_node.specs.LineCounts.{no_lines}
 use Rattle.bus_node.specs.declared.line_counts.LineCounts.{LineCounts}
@@ -33,8 +33,15 @@ pub record Node : Type 0 where
   pub text : List ℕ
 
 -- nothing was done yet
+abbrev pub node_with : Station → Iface → (quiet : ℕ) → Node
+node_with station iface quiet = record { station = station; iface = iface; knows_iface = true; knows_other = false; quiet = quiet; rests = no_rests; since = 0; start = None; unseen = []; last_echo = None; silent_until = 0; strict = false; counts = no_lines; text = [] }
+
 abbrev pub new_node : Address → Iface → (quiet : ℕ) → Node
-new_node address iface quiet = record { station = new_station address; iface = iface; knows_iface = true; knows_other = false; quiet = quiet; rests = no_rests; since = 0; start = None; unseen = []; last_echo = None; silent_until = 0; strict = false; counts = no_lines; text = [] }
+new_node address iface quiet = node_with (new_station address) iface quiet
+
+-- the program started again
+abbrev pub again_node : Address → Iface → (quiet : ℕ) → Node
+again_node address iface quiet = node_with (again_station address 0) iface quiet
 
 abbrev pub told : Node → List ℕ → Node
 told n text = record n { text = n.text ++ text }

@@ -20,6 +20,7 @@ impl Node {
             Ok(()) => self.tell(),
             Err(NodeError::Refused(_)) => self.tell(),
             Err(NodeError::ClockPassed) => Err(AllocError),
+            Err(NodeError::Starting(_)) => Err(AllocError),
             Err(NodeError::OutOfMemory) => Err(AllocError),
         }
     }
@@ -39,6 +40,7 @@ impl Node {
         match error {
             NodeError::Refused(cause) => self.reply(&Reply::Refused(cause)),
             NodeError::ClockPassed => Err(AllocError),
+            NodeError::Starting(_) => Err(AllocError),
             NodeError::OutOfMemory => Err(AllocError),
         }
     }

@@ -1,12 +1,12 @@
 //! Commands to the station.
-ghost use Rattle.std.specs.Prelude.{◌≡◌, ◌++◌, OnOk};
+ghost use Rattle.std.specs.Prelude.{◌≡◌, ◌≤◌, ◌++◌, OnOk};
 ghost use Rattle.script_text.specs.Parts.{line};
 ghost use Rattle.script_text.specs.Replies.{refusal_text};
 ghost use Rattle.script_text.specs.Counts.{counts_line};
 ghost use Rattle.segment_law.specs.declared.call.Call.TheVariants.{Open, Close, Pause, Resume, Send, Cancel};
 ghost use Rattle.bus_node.specs.Node.{told, asked};
 ghost use Rattle.bus_node.specs.LaneCounts.{lane_counts_text};
-ghost use Rattle.bus_node.specs.Acting.{due_text, state_line, missing, commanded};
+ghost use Rattle.bus_node.specs.Acting.{due_text, state_line, missing, starting_line, sending, commanded};
 
 use crate::node::Node;
 use message_events::{Bytes, Events};
@@ -37,6 +37,17 @@ fn put_lane_counts(out: &mut Vec<u8>, doubted: u64, pending: u64) -> Result<(), 
     put_decimal(out, doubted)?;
     out.push(b' ')?;
     put_decimal(out, pending)
+}
+
+// The line of a message that isn't sent before this tick.
+#[tactic(auto, unfolding(crate::specs::Acting::starting_line))]
+fn put_starting(out: &mut Vec<u8>, tick: u64) -> Result<(), AllocError>
+    ensures { OnOk result (out.new.items ≡ out.old.items ++ starting_line tick) }
+{
+    out.extend_from_slice(b"starting ")?;
+    put_decimal(out, tick)?;
+    out.push(b'\n')?;
+    Ok(())
 }
 
 impl Node {
@@ -112,7 +123,19 @@ impl Node {
         self.reply_to(made)
     }
 
+    // A message is sent, if the program didn't start again a short time ago.
     fn send_message(&mut self, to: Address, pgn: Pgn, bytes: Bytes) -> Result<(), AllocError>
+        ensures { OnOk result (self.new ≡ sending self.old to pgn bytes) }
+    {
+        let from = self.station.sends_from();
+        if self.station.now() < from {
+            return put_starting(&mut self.text, from);
+        }
+        self.send_now(to, pgn, bytes)
+    }
+
+    fn send_now(&mut self, to: Address, pgn: Pgn, bytes: Bytes) -> Result<(), AllocError>
+        requires { self.old.station.quiet_until ≤ self.old.station.segment.now }
         ensures { OnOk result (self.new ≡ asked self.old (Send self.old.station.address to pgn bytes)) }
     {
         match self.station.send_bytes(to, pgn, bytes) {

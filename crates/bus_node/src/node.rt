@@ -1,7 +1,7 @@
 //! A node, and the calls on its station.
 ghost use Rattle.std.specs.Prelude.{◌≡◌, ◌∷◌, ◌↔◌, [], false, IfOk, OnOk, IsErrOf};
 ghost use Rattle.segment_law.specs.Segment.{are_addresses};
-ghost use Rattle.bus_node.specs.Node.{new_node, events_told, HasToldFirst};
+ghost use Rattle.bus_node.specs.Node.{new_node, again_node, node_with, events_told, HasToldFirst};
 ghost use Rattle.bus_node.specs.Acting.{begun};
 ghost use Rattle.bus_node.specs.Outcome.{at_first};
 
@@ -96,7 +96,31 @@ impl Node {
         ensures bad { IsErrOf result NewRefused.BadAddresses ↔ (are_addresses (address ∷ []) ≡ false) }
     {
         let station = one_station::Node::new(alloc, address)?;
-        Ok(Node {
+        Ok(Node::of_station(alloc, station, iface, quiet))
+    }
+
+    /// The same for a program that starts again at its address: no message is sent before tick 1250, so that nothing of what it sent earlier
+    /// is under way then. Until then a `send` prints `starting 1250`.
+    ///
+    /// Refused as `BadAddresses` exactly if the address is 254 or 255, and else as `OutOfMemory` if memory is refused.
+    pub fn again(
+        alloc: Global,
+        address: Address,
+        iface: Iface,
+        quiet: u64,
+    ) -> Result<Node, NewRefused>
+        ensures ok { IfOk result (λ node. node ≡ again_node address iface quiet) }
+        ensures bad { IsErrOf result NewRefused.BadAddresses ↔ (are_addresses (address ∷ []) ≡ false) }
+    {
+        let station = one_station::Node::again(alloc, address, 0)?;
+        Ok(Node::of_station(alloc, station, iface, quiet))
+    }
+
+    // A node with this station.
+    fn of_station(alloc: Global, station: one_station::Node, iface: Iface, quiet: u64) -> Node
+        ensures { result ≡ node_with station iface quiet }
+    {
+        Node {
             alloc,
             station,
             iface,
@@ -112,7 +136,7 @@ impl Node {
             strict: false,
             counts: LineCounts::none(),
             text: Vec::new(alloc),
-        })
+        }
     }
 
     /// An input begins.

@@ -6,9 +6,9 @@ use Rattle.message_events.specs.declared.event.Event.{Event}
 use Rattle.tick_timers.specs.Due.{IsDueFrom, IsNextFrom}
 use Rattle.pgn_ids.specs.declared.address.Address.{Address}
 use Rattle.port_table.specs.declared.port.PortId.{PortId}
-use Rattle.segment_law.specs.Segment.{are_addresses}
+use Rattle.segment_law.specs.Segment.{are_addresses, new_segment}
 use Rattle.segment_law.specs.Calls.{called, applied}
-use Rattle.segment_law.specs.Record.{StandsAt}
+use Rattle.segment_law.specs.Record.{Record, StandsAt}
 use Rattle.segment_law.specs.Readers.{front_at}
 use Rattle.segment_law.specs.declared.call.Call.TheVariants.{Tick, Open, Send}
 use Rattle.segment_law.specs.declared.reply.Reply.TheVariants.{Opened, Sent}
@@ -18,12 +18,12 @@ use Rattle.segment_core.specs.declared.segment.NewRefused.TheVariants as made
 use Rattle.segment_core.specs.Due.{any_due}
 use Rattle.segment_core.specs.Next.{any_work}
 use Rattle.segment_core.specs.Answers.{refusal_of}
-use Rattle.one_station.specs.Node.{Node, Did, new_node}
+use Rattle.one_station.specs.Node.{Node, Did, new_node, again_node, answered}
 use Rattle.one_station.specs.Answers.{IsAnswered, IsFed, front_calls}
 use Rattle.one_station.specs.Events.{IsTaken}
 use Rattle.one_station.specs.declared.error.Fed.{Fed}
 use Rattle.one_station.specs.declared.error.NodeError.{NodeError}
-use Rattle.one_station.specs.declared.error.NodeError.TheVariants.{Refused, ClockPassed, OutOfMemory}
+use Rattle.one_station.specs.declared.error.NodeError.TheVariants.{Refused, ClockPassed, Starting, OutOfMemory}
 use Rattle.one_station.specs.declared.error.TakeError.{TakeError}
 use Rattle.c_parts.specs.declared.shown.CFrame.{CFrame}
 use Rattle.c_parts.specs.Shown.{shown_frame}
@@ -32,11 +32,18 @@ use Rattle.fulwethi_c.specs.Shown.{shown_event}
 
 -- A new node
 
--- the handle has a new node; or it is unchanged, because of the address, or else for want of memory
+-- the handle has this node, at this record; or it is unchanged, because of the address, or else for want of memory
+abbrev pub IsMade : Address → Node → Record → (old new : Option Node) → Result (Unit {0}) NewRefused → Type 0
+IsMade address node steps old new (Ok _) = (new ≡ Some node) × StandsAt (address ∷ []) steps node.segment
+IsMade address node steps old new (Err made.BadAddresses) = (new ≡ old) × (are_addresses (address ∷ []) ≡ false)
+IsMade address node steps old new (Err made.OutOfMemory) = (new ≡ old) × (are_addresses (address ∷ []) ≡ false → ⊥)
+
 abbrev pub IsNew : Address → (old new : Option Node) → Result (Unit {0}) NewRefused → Type 0
-IsNew address old new (Ok _) = (new ≡ Some (new_node address)) × StandsAt (address ∷ []) [] (new_node address).segment
-IsNew address old new (Err made.BadAddresses) = (new ≡ old) × (are_addresses (address ∷ []) ≡ false)
-IsNew address old new (Err made.OutOfMemory) = (new ≡ old) × (are_addresses (address ∷ []) ≡ false → ⊥)
+IsNew address = IsMade address (new_node address) []
+
+-- that of a program that starts again at this tick
+abbrev pub IsAgain : Address → (tick : ℕ) → (old new : Option Node) → Result (Unit {0}) NewRefused → Type 0
+IsAgain address tick = IsMade address (again_node address tick) (answered (new_segment (address ∷ [])) (Tick tick ∷ []))
 
 -- What is written
 
@@ -64,8 +71,9 @@ IsOpened max_len (Ok pgn) before after answer =
 abbrev pub IsSending : (to : Address) → (bytes : List ℕ) → Result ℕ Refusal → (before after : Node) → Result ℕ NodeError → Type 0
 IsSending to bytes (Err cause) before after answer = IsUnread cause before after answer
 IsSending to bytes (Ok pgn) before after answer =
-    IsAnswered before (Send before.address to pgn bytes) after answer
-    × IfOk answer (λ number. (applied before.segment (Send before.address to pgn bytes)).1 ≡ Sent number)
+    (IsErrOf answer (Starting before.quiet_until) ↔ (before.segment.now < before.quiet_until))
+    × ((before.quiet_until ≤ before.segment.now → IsAnswered before (Send before.address to pgn bytes) after answer)
+    × (OnErr answer (after ≡ before) × IfOk answer (λ number. (applied before.segment (Send before.address to pgn bytes)).1 ≡ Sent number)))
 
 -- The clock: it advances to the tick, or is past it
 

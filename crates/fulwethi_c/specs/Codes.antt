@@ -7,7 +7,7 @@ use Rattle.segment_core.specs.declared.segment.NewRefused.TheVariants as made
 use Rattle.bus_frame.specs.Frames.{CanFrame}
 use Rattle.c_parts.specs.Codes.{value_code}
 use Rattle.one_station.specs.declared.error.NodeError.{NodeError}
-use Rattle.one_station.specs.declared.error.NodeError.TheVariants.{Refused, ClockPassed, OutOfMemory}
+use Rattle.one_station.specs.declared.error.NodeError.TheVariants.{Refused, ClockPassed, Starting, OutOfMemory}
 use Rattle.one_station.specs.declared.error.Fed.{Fed}
 use Rattle.one_station.specs.declared.error.Fed.TheVariants.{Taken, WithoutRoom, PassedBy}
 use Rattle.one_station.specs.declared.error.Missed.{Missed}
@@ -18,6 +18,7 @@ use Rattle.one_station.specs.declared.error.TakeError.TheVariants.{Nothing, TooL
 abbrev pub error_code : NodeError → ℕ
 error_code (Refused cause) = refusal_number cause
 error_code ClockPassed = 67
+error_code (Starting tick) = 77
 error_code OutOfMemory = 64
 
 -- the code of a call's refusal, if it would be refused

@@ -11,6 +11,9 @@ pub(crate) const PASSED_BY: u32 = 71;
 
 pub(crate) const NOT_ENDED: u32 = 72;
 
+/// The service's own codes are those up to 76.
+pub(crate) const STARTING: u32 = 77;
+
 /// The number of the refusal `BadAddresses`.
 const BAD_ADDRESS: u32 = 13;
 
@@ -21,6 +24,7 @@ pub(crate) fn error_code(error: NodeError) -> u32
     match error {
         NodeError::Refused(cause) => cause_code(cause),
         NodeError::ClockPassed => CLOCK_PASSED,
+        NodeError::Starting(_) => STARTING,
         NodeError::OutOfMemory => NO_MEMORY,
     }
 }

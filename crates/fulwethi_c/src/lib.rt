@@ -7,7 +7,7 @@ ghost use Rattle.segment_law.specs.declared.call.Call.TheVariants.{Fire};
 ghost use Rattle.one_station.specs.Answers.{IsAnswered};
 ghost use Rattle.fulwethi_c.specs.Codes.{done_code, new_code};
 ghost use Rattle.c_parts.specs.Calls.{IsMadeOn, IsCoded};
-ghost use Rattle.fulwethi_c.specs.Calls.{IsNew, IsClocked};
+ghost use Rattle.fulwethi_c.specs.Calls.{IsNew, IsAgain, IsClocked};
 
 mod codes;
 mod events;
@@ -36,6 +36,30 @@ fn make(alloc: Global, address: Address, out: &mut Handle) -> Result<(), NewRefu
     ensures { IsNew address out.old.node out.new.node result }
 {
     let node = Node::new(alloc, address)?;
+    let Ok(held) = Box::new(alloc, node) else {
+        return Err(NewRefused::OutOfMemory);
+    };
+    *out = Handle::of_parts(Parts::of(held));
+    Ok(())
+}
+
+/// Makes that of a program that starts again at a tick; `out` must own nothing.
+#[unsafe(no_mangle)]
+pub extern "C" fn fulwethi_raw_again(alloc: Global, address: u8, tick: u64, out: &mut Handle) -> u32
+    ensures { IsCoded new_code (IsAgain (record { 0 = address }) tick out.old.node out.new.node) result }
+{
+    new_code(make_again(alloc, Address(address), tick, out))
+}
+
+fn make_again(
+    alloc: Global,
+    address: Address,
+    tick: u64,
+    out: &mut Handle,
+) -> Result<(), NewRefused>
+    ensures { IsAgain address tick out.old.node out.new.node result }
+{
+    let node = Node::again(alloc, address, tick)?;
     let Ok(held) = Box::new(alloc, node) else {
         return Err(NewRefused::OutOfMemory);
     };

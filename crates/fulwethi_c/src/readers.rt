@@ -39,6 +39,18 @@ pub extern "C" fn fulwethi_raw_lane(of: Handle, to: u8, lane: &mut CLane, out: &
     DONE
 }
 
+/// Writes the tick before which it sends no message.
+#[unsafe(no_mangle)]
+pub extern "C" fn fulwethi_raw_sends_from(of: Handle, tick: &mut u64, out: &mut Handle) -> u32
+    requires { IsSome of.node }
+    ensures { IsMadeOn (λ _. 0) (IsRead (λ node. node.quiet_until) tick.new) of.node out.new.node result }
+{
+    let held = of.into_parts().into_box();
+    *tick = held.sends_from();
+    *out = Handle::of_parts(Parts::of(held));
+    DONE
+}
+
 /// Why a message of so many bytes would be refused, or `DONE`.
 #[unsafe(no_mangle)]
 pub extern "C" fn fulwethi_raw_send_refusal(

@@ -1,5 +1,5 @@
 -- A frame that is put on the inner bus and taken at once.
-use Rattle.std.proofs.Common.{◌≡◌, Bool, true, List, [], ◌∷◌, ◌++◌, None, Ok, IsOk, refl, sym, ap, ◌∙◌, subst}
+use Rattle.std.proofs.Common.{◌≡◌, ℕ, Bool, true, List, [], ◌∷◌, ◌++◌, None, Ok, IsOk, refl, sym, ap, ◌∙◌, subst}
 use Rattle.bus_frame.specs.Frames.{CanFrame}
 use Rattle.pgn_ids.specs.declared.address.Address.{Address}
 use Rattle.message_events.specs.declared.event.Event.{Event}
@@ -44,18 +44,18 @@ module _ (segment after : Segment) (address : Address) (call : Call) (told : Lis
       looked_again address segment p.between after call true [] told comes stood looked ok puts (done_ok p.between after (Take address true) told p.taken) (takes [] told refl)
 
 -- the frame of another node
-pub took_at_once : (now : Node) (segment after : Segment) (address : Address) (events told left : List Event) (missed : Bool) (frame : CanFrame) → node_of segment address events missed ≡ now → first_cause now frame None ≡ None → PutTaken segment (Inject frame) address after told → left ≡ events ++ told
-    → IsTakenIn now frame (node_of after address left missed) (Ok Taken)
-took_at_once now segment after address events told left missed frame view cause p is =
-    let free = may_feed now segment address events missed frame view cause in (
+pub took_at_once : (now : Node) (segment after : Segment) (address : Address) (events told left : List Event) (missed : Bool) (quiet : ℕ) (frame : CanFrame) → node_of segment address events missed quiet ≡ now → first_cause now frame None ≡ None → PutTaken segment (Inject frame) address after told → left ≡ events ++ told
+    → IsTakenIn now frame (node_of after address left missed quiet) (Ok Taken)
+took_at_once now segment after address events told left missed quiet frame view cause p is =
+    let free = may_feed now segment address events missed quiet frame view cause in (
       free.1 ∙ ap as_error (none_of (called segment (Inject frame)) (ok segment after address (Inject frame) told p)),
-      took_in now segment p.between after address events events left missed (Inject frame) Taken view refl (puts segment after address (Inject frame) told p) (takes segment after address (Inject frame) told p events left is),
+      took_in now segment p.between after address events events left missed quiet (Inject frame) Taken view refl (puts segment after address (Inject frame) told p) (takes segment after address (Inject frame) told p events left is),
     )
 
 -- the node's own
-pub passed_at_once : (now : Node) (segment after : Segment) (address : Address) (events : List Event) (missed : Bool) (done : Unit {0}) → node_of segment address events missed ≡ now → PutTaken segment (Transmit address) address after [] → IsPassedBy now (node_of after address events missed) (Ok done)
-passed_at_once now segment after address events missed done view p =
-    let node : Node = node_of segment address events missed in
+pub passed_at_once : (now : Node) (segment after : Segment) (address : Address) (events : List Event) (missed : Bool) (quiet : ℕ) (done : Unit {0}) → node_of segment address events missed quiet ≡ now → PutTaken segment (Transmit address) address after [] → IsPassedBy now (node_of after address events missed quiet) (Ok done)
+passed_at_once now segment after address events missed quiet done view p =
+    let node : Node = node_of segment address events missed quiet in
     let quiet : Puts p.between (Take address true) after = tells_quietly p.between after (Take address true) p.taken p.taken_stands in
-    subst (λ (n : Node). IsPassedBy n (node_of after address events missed) (Ok done)) view
+    subst (λ (n : Node). IsPassedBy n (node_of after address events missed quiet) (Ok done)) view
     (ap as_error (none_of (called segment (Transmit address)) (ok segment after address (Transmit address) [] p)), did_two node (Transmit address) (Take address true) p.between after events events (puts segment after address (Transmit address) [] p events) (quiet events))

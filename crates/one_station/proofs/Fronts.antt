@@ -9,7 +9,7 @@ use Rattle.segment_law.specs.Calls.{Answer, called}
 use Rattle.segment_law.specs.Readers.{pumps_to, next_pump}
 use Rattle.segment_law.specs.declared.call.Call.TheVariants.{Pump}
 use Rattle.one_station.specs.declared.error.NodeError.{NodeError}
-use Rattle.one_station.specs.declared.error.NodeError.TheVariants.{Refused, ClockPassed, OutOfMemory}
+use Rattle.one_station.specs.declared.error.NodeError.TheVariants.{Refused, ClockPassed, Starting, OutOfMemory}
 use Rattle.one_station.specs.Answers.{IsStopped}
 
 least_passes : (test : ℕ → Bool) (n k : ℕ) → least_below test n ≡ Some k → test k ≡ true
@@ -36,6 +36,7 @@ only_memory : (answer : Answer) (error : NodeError) → IsOk answer → IsStoppe
 only_memory (Ok step) OutOfMemory passes h = refl
 only_memory (Ok step) (Refused cause) passes h = absurd cc
 only_memory (Ok step) ClockPassed passes h = absurd h
+only_memory (Ok step) (Starting tick) passes h = absurd h
 only_memory (Err cause) error passes h = absurd cc
 
 pub front_memory : (seg : Segment) (a to : Address) (error : NodeError) → next_pump seg a ≡ Some to → IsStopped (called seg (Pump a to)) error → error ≡ OutOfMemory

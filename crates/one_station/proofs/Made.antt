@@ -1,5 +1,5 @@
 -- Calls that a node made.
-use Rattle.std.proofs.Common.{◌≡◌, Bool, true, false, List, [], ◌∷◌, ◌++◌, Option, Some, None, Ok, Err, refl, sym, ap, ◌∙◌, subst, append_assoc}
+use Rattle.std.proofs.Common.{◌≡◌, ℕ, Bool, true, false, List, [], ◌∷◌, ◌++◌, Option, Some, None, Ok, Err, refl, sym, ap, ◌∙◌, subst, append_assoc}
 use Rattle.std.specs.Prelude.{Result}
 use Rattle.std.proofs.lemmas.List.{append-nil}
 use Rattle.bus_frame.specs.Frames.{CanFrame}
@@ -21,12 +21,12 @@ use Rattle.one_station.specs.NodeFields.{IsStood}
 use Rattle.one_station.specs.Looks.{Tells, Puts, HasLooked}
 use Rattle.one_station.specs.Answers.{DidAndLooked, EndsFirst, IsReady, IsCaughtUp, IsTakenIn, IsFed, IsPassedBy, IsSent, has_frame, as_error, caught_up}
 use Rattle.one_station.specs.declared.error.NodeError.{NodeError}
-use Rattle.one_station.specs.declared.error.NodeError.TheVariants.{Refused, ClockPassed, OutOfMemory}
+use Rattle.one_station.specs.declared.error.NodeError.TheVariants.{Refused, ClockPassed, Starting, OutOfMemory}
 use Rattle.one_station.specs.declared.error.Fed.{Fed}
 use Rattle.one_station.specs.declared.error.Fed.TheVariants.{Taken, WithoutRoom, PassedBy}
 
-abbrev pub node_of : Segment → Address → List Event → Bool → Node
-node_of segment address events missed = record { segment = segment; address = address; events = events; has_missed = missed }
+abbrev pub node_of : Segment → Address → List Event → Bool → ℕ → Node
+node_of segment address events missed quiet = record { segment = segment; address = address; events = events; has_missed = missed; quiet_until = quiet }
 
 -- the segment goes on by a call
 pub stood_on : (address : Address) (before after : Segment) (call : Call) (reply : Reply)
@@ -34,13 +34,13 @@ pub stood_on : (address : Address) (before after : Segment) (call : Call) (reply
 stood_on address before after call reply stands (steps, h) = (steps ++ (call, reply) ∷ [], stands (address ∷ []) steps h)
 
 -- a call that the segment refused
-pub make_refused : (now : Node) (segment new : Segment) (address : Address) (events told : List Event) (missed : Bool) (call : Address → Call) (reply : Reply) (cause : Refusal)
-    → node_of segment address events missed ≡ now → told ≡ events → applied segment (call address) ≡ (new, reply) → reply ≡ replies.Refused cause
-    → (called now.segment (call now.address) ≡ Err cause) × (node_of new address told missed ≡ now)
-make_refused now segment new address events told missed call reply cause view same says is =
+pub make_refused : (now : Node) (segment new : Segment) (address : Address) (events told : List Event) (missed : Bool) (quiet : ℕ) (call : Address → Call) (reply : Reply) (cause : Refusal)
+    → node_of segment address events missed quiet ≡ now → told ≡ events → applied segment (call address) ≡ (new, reply) → reply ≡ replies.Refused cause
+    → (called now.segment (call now.address) ≡ Err cause) × (node_of new address told missed quiet ≡ now)
+make_refused now segment new address events told missed quiet call reply cause view same says is =
     let r : (called segment (call address) ≡ Err cause) × (new ≡ segment) = refused_for segment (call address) new cause (says ∙ ap (λ (x : Reply). (new, x)) is) in
-    let P : Node → Type 0 = λ n. (called n.segment (call n.address) ≡ Err cause) × (node_of new address told missed ≡ n) in
-    subst P view (r.0, λ k. node_of (r.1 k) address (same k) missed)
+    let P : Node → Type 0 = λ n. (called n.segment (call n.address) ≡ Err cause) × (node_of new address told missed quiet ≡ n) in
+    subst P view (r.0, λ k. node_of (r.1 k) address (same k) missed quiet)
 
 -- what was under way when frames were missed has ended
 pub did_caught_up : (before mid after : Node) (call : Call) → Did before (call ∷ []) mid → after ≡ record mid { has_missed = false } → Did (caught_up before) (call ∷ []) after
@@ -70,14 +70,14 @@ did_two before call next mid after told left t u = record {
 }
 
 -- a frame that came on the bus, and was looked at
-pub took_in : (now : Node) (segment mid after : Segment) (address : Address) (events told left : List Event) (missed : Bool) (call : Call) (fed : Fed) → node_of segment address events missed ≡ now → told ≡ events
-    → Puts segment call mid → HasLooked mid told address after left fed → DidAndLooked now call (node_of after address left missed) fed
-took_in now segment mid after address events told left missed call fed view same puts looked =
-    subst (λ (n : Node). DidAndLooked n call (node_of after address left missed) fed) view (by fed (subst (λ (es : List Event). HasLooked mid es address after left fed) same looked))
+pub took_in : (now : Node) (segment mid after : Segment) (address : Address) (events told left : List Event) (missed : Bool) (quiet : ℕ) (call : Call) (fed : Fed) → node_of segment address events missed quiet ≡ now → told ≡ events
+    → Puts segment call mid → HasLooked mid told address after left fed → DidAndLooked now call (node_of after address left missed quiet) fed
+took_in now segment mid after address events told left missed quiet call fed view same puts looked =
+    subst (λ (n : Node). DidAndLooked n call (node_of after address left missed quiet) fed) view (by fed (subst (λ (es : List Event). HasLooked mid es address after left fed) same looked))
   where
-    by : (fed : Fed) → HasLooked mid events address after left fed → DidAndLooked (node_of segment address events missed) call (node_of after address left missed) fed
-    by Taken t = did_two (node_of segment address events missed) call (Take address true) mid after events left (puts events) t
-    by WithoutRoom t = did_two (node_of segment address events missed) call (Take address false) mid after events left (puts events) t
+    by : (fed : Fed) → HasLooked mid events address after left fed → DidAndLooked (node_of segment address events missed quiet) call (node_of after address left missed quiet) fed
+    by Taken t = did_two (node_of segment address events missed quiet) call (Take address true) mid after events left (puts events) t
+    by WithoutRoom t = did_two (node_of segment address events missed quiet) call (Take address false) mid after events left (puts events) t
     by PassedBy t = t
 
 -- first the node is ready, and then it takes the frame
@@ -104,6 +104,7 @@ sent_ready before ready after (Ok done) first passed = (ready, first, passed)
 sent_ready before ready after (Err (Refused cause)) first passed = (ready, first, passed)
 sent_ready before ready after (Err OutOfMemory) first (e, same) = absurd (let r = as_refused (refusal_of (called ready.segment (Transmit ready.address))) OutOfMemory e in let no : OutOfMemory ≡ Refused r.0 = r.1 in cc)
 sent_ready before ready after (Err ClockPassed) first (e, same) = absurd (let r = as_refused (refusal_of (called ready.segment (Transmit ready.address))) ClockPassed e in let no : ClockPassed ≡ Refused r.0 = r.1 in cc)
+sent_ready before ready after (Err (Starting tick)) first (e, same) = absurd (let r = as_refused (refusal_of (called ready.segment (Transmit ready.address))) (Starting tick) e in let no : Starting tick ≡ Refused r.0 = r.1 in cc)
 
 -- a call from where nothing changed yet
 pub tells_from : (seg was : Segment) (told waiting : List Event) (call : Call) (after : Segment) (left : List Event) → seg ≡ was → told ≡ waiting → Tells seg told call after left → Tells was waiting call after left

@@ -1,5 +1,5 @@
 -- A node between its calls: its station has looked at every frame of its bus.
-use Rattle.std.proofs.Common.{◌≡◌, ◌-◌, Bool, true, false, cond, List, [], ◌∷◌, ◌++◌, Option, Some, None, Ok, Err, IsOk, refl, sym, ap, ◌∙◌, subst}
+use Rattle.std.proofs.Common.{◌≡◌, ℕ, ◌-◌, Bool, true, false, cond, List, [], ◌∷◌, ◌++◌, Option, Some, None, Ok, Err, IsOk, refl, sym, ap, ◌∙◌, subst}
 use Rattle.std.specs.Prelude.{nat_le, nat_lt}
 use Rattle.bus_frame.specs.Frames.{CanFrame}
 use Rattle.pgn_ids.specs.declared.address.Address.{Address}
@@ -46,12 +46,12 @@ pub rested : (address : Address) (segment new : Segment) (call : Call) (reply : 
 rested address segment new call reply stood looked away says = rests address segment (reached address segment stood) looked.0 looked.1 call away new reply says
 
 -- no frame waits, and nothing is refused that isn't to be
-pub none_waits : (now : Node) (segment : Segment) (address : Address) (events : List Event) (missed : Bool) → node_of segment address events missed ≡ now → IsStood address segment → HasLookedAtAll address segment → has_frame now ≡ false
-none_waits now segment address events missed view stood looked =
+pub none_waits : (now : Node) (segment : Segment) (address : Address) (events : List Event) (missed : Bool) (quiet : ℕ) → node_of segment address events missed quiet ≡ now → IsStood address segment → HasLookedAtAll address segment → has_frame now ≡ false
+none_waits now segment address events missed quiet view stood looked =
     subst (λ (n : Node). has_frame n ≡ false) view (ap (nat_lt 0) (waits_is address segment (reached address segment stood) looked.0 ∙ looked.1))
 
-pub may_miss : (now : Node) (segment : Segment) (address : Address) (events : List Event) (missed : Bool) → node_of segment address events missed ≡ now → IsStood address segment → HasLookedAtAll address segment → IsOk (called now.segment (overruns now))
-may_miss now segment address events missed view stood looked =
+pub may_miss : (now : Node) (segment : Segment) (address : Address) (events : List Event) (missed : Bool) (quiet : ℕ) → node_of segment address events missed quiet ≡ now → IsStood address segment → HasLookedAtAll address segment → IsOk (called now.segment (overruns now))
+may_miss now segment address events missed quiet view stood looked =
     subst (λ (n : Node). IsOk (called n.segment (overruns n))) view (overrun_passes address segment (reached address segment stood) looked.0)
 
 -- what holds of the two calls by which a frame comes on the bus holds of each such call
@@ -124,11 +124,11 @@ early_undone now frame error e =
     subst (λ o. IsUndone o now now error) (sym (some_early (is_own now frame) (is_queue_full now) (as_error (refusal_of (called now.segment (Inject frame)))) error e)) (refl, refl)
 
 -- or it isn't: there is a place for its answer, and the inner bus has the word
-pub may_feed : (now : Node) (segment : Segment) (address : Address) (events : List Event) (missed : Bool) (frame : CanFrame) → node_of segment address events missed ≡ now → first_cause now frame None ≡ None
+pub may_feed : (now : Node) (segment : Segment) (address : Address) (events : List Event) (missed : Bool) (quiet : ℕ) (frame : CanFrame) → node_of segment address events missed quiet ≡ now → first_cause now frame None ≡ None
     → (nat_le queue_limit (queue_len segment address) ≡ false) × (feed_refusal now frame ≡ as_error (refusal_of (called segment (Inject frame))))
-may_feed now segment address events missed frame view free =
+may_feed now segment address events missed quiet frame view free =
     let P : Node → Type 0 = λ n. first_cause n frame None ≡ None → (nat_le queue_limit (queue_len segment address) ≡ false) × (feed_refusal n frame ≡ as_error (refusal_of (called segment (Inject frame)))) in
-    let node : Node = node_of segment address events missed in
+    let node : Node = node_of segment address events missed quiet in
     subst P view (none_early (is_own node frame) (is_queue_full node) (as_error (refusal_of (called segment (Inject frame))))) free
 
 -- a frame that came on the bus is taken

@@ -15,7 +15,7 @@ use Rattle.segment_law.specs.declared.refusal.Refusal.TheVariants as refusal
 use Rattle.segment_core.specs.Answers.{refusal_of}
 use Rattle.one_station.specs.Node.{Node, Did}
 use Rattle.one_station.specs.declared.error.NodeError.{NodeError}
-use Rattle.one_station.specs.declared.error.NodeError.TheVariants.{Refused, ClockPassed, OutOfMemory}
+use Rattle.one_station.specs.declared.error.NodeError.TheVariants.{Refused, ClockPassed, Starting, OutOfMemory}
 use Rattle.one_station.specs.declared.error.Fed.{Fed}
 use Rattle.one_station.specs.declared.error.Fed.TheVariants.{Taken, WithoutRoom, PassedBy}
 use Rattle.one_station.specs.declared.error.Missed.{Missed}
@@ -28,6 +28,7 @@ abbrev pub IsStopped : Answer → NodeError → Type 0
 IsStopped answer (Refused cause) = answer ≡ Err cause
 IsStopped answer OutOfMemory = IsOk answer
 IsStopped answer ClockPassed = ⊥
+IsStopped answer (Starting tick) = ⊥
 
 -- the call was made; or it wasn't, and nothing changed
 abbrev pub IsAnswered : {A : Type 0} → (before : Node) → Call → (after : Node) → Result A NodeError → Type 0
@@ -159,3 +160,4 @@ IsSent before after (Ok done) = IsReadyAndSent before after (Ok done)
 IsSent before after (Err OutOfMemory) = IsUnready before after
 IsSent before after (Err (Refused cause)) = IsReadyAndSent before after (Err (Refused cause))
 IsSent before after (Err ClockPassed) = ⊥
+IsSent before after (Err (Starting tick)) = ⊥

@@ -10,7 +10,7 @@ use Rattle.one_station.specs.Told.{told_events, IsFrontFirst}
 use Rattle.one_station.specs.declared.node.Node.TheInside.{Inside}
 
 abbrev pub node_value : Inside → Node
-node_value node = record { segment = node.segment; address = node.address; events = told_events node.told; has_missed = node.has_missed }
+node_value node = record { segment = node.segment; address = node.address; events = told_events node.told; has_missed = node.has_missed; quiet_until = node.quiet_until }
 
 -- a segment with this station alone, at which some calls led to it
 abbrev pub IsStood : Address → Segment → Type 0

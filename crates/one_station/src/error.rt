@@ -13,6 +13,9 @@ pub enum NodeError {
     /// The clock is past the tick.
     #[error("the clock stands at a later tick")]
     ClockPassed,
+    /// The program started again: no message is sent before this tick.
+    #[error("no message is sent before tick {0}, since the program started again")]
+    Starting(u64),
     /// Memory was refused.
     #[error("out of memory")]
     OutOfMemory,

@@ -13,9 +13,11 @@ mod missed;
 mod node;
 mod ports;
 mod readers;
+mod starting;
 mod time;
 mod told;
 
 pub use error::{Fed, Missed, NodeError, TakeError};
 pub use node::Node;
 pub use segment_core::{Bytes, Call, Counts, Event, LaneSight, NewRefused, PortId, Refusal};
+pub use starting::SILENCE;

@@ -32,6 +32,8 @@ pub struct Node {
     pub(crate) has_missed: bool,
     /// How many messages have no outcome yet.
     pub(crate) owed: usize,
+    /// The tick before which it sends no message.
+    pub(crate) quiet_until: u64,
 }
 
 impl Model for Node {
@@ -57,12 +59,15 @@ impl Drop for Node {
             told: _,
             has_missed: _,
             owed: _,
+            quiet_until: _,
         } = self;
     }
 }
 
 impl Node {
     /// A node with this address, 0 to 253 (SAE J1939-81): its clock is at tick 0, no port is open, and nothing was done yet.
+    ///
+    /// It may send at once. So it is for an address from which no program sent a message in the last 1,250 ms; else take `again`.
     ///
     /// Refused as `BadAddresses` exactly if the address is 254 or 255, and else as `OutOfMemory` if memory is refused.
     pub fn new(alloc: Global, address: Address) -> Result<Node, NewRefused>
@@ -81,6 +86,7 @@ impl Node {
             told,
             has_missed: false,
             owed: 0,
+            quiet_until: 0,
         })
     }
 

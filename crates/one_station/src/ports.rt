@@ -1,9 +1,10 @@
 //! Ports, and messages that are sent.
-ghost use Rattle.std.specs.Prelude.{◌≡◌, IfOk};
+ghost use Rattle.std.specs.Prelude.{◌≡◌, ◌<◌, ◌≤◌, ◌↔◌, IfOk, OnErr, IsErrOf};
 ghost use Rattle.segment_law.specs.Calls.{applied};
 ghost use Rattle.segment_law.specs.declared.call.Call.TheVariants.{Open, Close, Pause, Resume, Send, Cancel};
 ghost use Rattle.segment_law.specs.declared.reply.Reply.TheVariants.{Opened, Sent};
 ghost use Rattle.one_station.specs.Answers.{IsAnswered};
+ghost use Rattle.one_station.specs.declared.error.NodeError.TheVariants.{Starting};
 
 use crate::error::NodeError;
 use crate::node::{Node, make_place};
@@ -69,9 +70,23 @@ impl Node {
     /// from 1 for each destination. Messages to one destination are sent in this order, and each has one outcome. The bytes are
     /// copied, and the place of its outcome is made. `front` and `sent` put its frames on the bus.
     ///
-    /// Refused as `NoSuchStation` for address 254, `SameStation` for the own one, `TooShort`, `TooLong`, and `LaneFull` if 32
-    /// messages to that destination have no outcome yet; and else as `OutOfMemory` if memory is refused.
+    /// Refused as `Starting` before the tick of `sends_from`. Else as `NoSuchStation` for address 254, `SameStation` for the own
+    /// one, `TooShort`, `TooLong`, and `LaneFull` if 32 messages to that destination have no outcome yet; and else as `OutOfMemory`
+    /// if memory is refused.
     pub fn send(&mut self, to: Address, pgn: Pgn, bytes: &[u8]) -> Result<u64, NodeError>
+        ensures starting { IsErrOf result (Starting self.old.quiet_until) ↔ (self.old.segment.now < self.old.quiet_until) }
+        ensures answered { self.old.quiet_until ≤ self.old.segment.now → IsAnswered self.old (Send self.old.address to pgn bytes.now) self.new result }
+        ensures number { IfOk result (λ number. (applied self.old.segment (Send self.old.address to pgn bytes.now)).1 ≡ Sent number) }
+        ensures err { OnErr result (self.new ≡ self.old) }
+    {
+        if self.segment.now() < self.quiet_until {
+            return Err(NodeError::Starting(self.quiet_until));
+        }
+        self.send_copy(to, pgn, bytes)
+    }
+
+    // It sends a copy.
+    fn send_copy(&mut self, to: Address, pgn: Pgn, bytes: &[u8]) -> Result<u64, NodeError>
         ensures answered { IsAnswered self.old (Send self.old.address to pgn bytes.now) self.new result }
         ensures number { IfOk result (λ number. (applied self.old.segment (Send self.old.address to pgn bytes.now)).1 ≡ Sent number) }
     {
@@ -81,13 +96,26 @@ impl Node {
         let Ok(items) = Vec::from_slice(self.alloc, bytes) else {
             return Err(NodeError::OutOfMemory);
         };
-        self.send_bytes(to, pgn, Bytes::new(items))
+        self.send_owned(to, pgn, Bytes::new(items))
     }
 
     /// `send`, for bytes that the caller gives away, which aren't copied.
     ///
     /// Refused for the causes of `send`, and else as `OutOfMemory` if memory is refused. The bytes are gone then.
     pub fn send_bytes(&mut self, to: Address, pgn: Pgn, bytes: Bytes) -> Result<u64, NodeError>
+        ensures starting { IsErrOf result (Starting self.old.quiet_until) ↔ (self.old.segment.now < self.old.quiet_until) }
+        ensures answered { self.old.quiet_until ≤ self.old.segment.now → IsAnswered self.old (Send self.old.address to pgn bytes) self.new result }
+        ensures number { IfOk result (λ number. (applied self.old.segment (Send self.old.address to pgn bytes)).1 ≡ Sent number) }
+        ensures err { OnErr result (self.new ≡ self.old) }
+    {
+        if self.segment.now() < self.quiet_until {
+            return Err(NodeError::Starting(self.quiet_until));
+        }
+        self.send_owned(to, pgn, bytes)
+    }
+
+    // It sends these bytes.
+    fn send_owned(&mut self, to: Address, pgn: Pgn, bytes: Bytes) -> Result<u64, NodeError>
         ensures answered { IsAnswered self.old (Send self.old.address to pgn bytes) self.new result }
         ensures number { IfOk result (λ number. (applied self.old.segment (Send self.old.address to pgn bytes)).1 ≡ Sent number) }
     {

@@ -22,6 +22,14 @@ pub(crate) fn node(rt: &impl Abort, alloc: Global, address: Address) -> Node {
     }
 }
 
+// That of a program which starts again at a tick.
+pub(crate) fn node_again(rt: &impl Abort, alloc: Global, address: Address, tick: u64) -> Node {
+    match Node::again(alloc, address, tick) {
+        Ok(node) => node,
+        Err(_) => got(rt, Node::again(alloc, address, tick)),
+    }
+}
+
 pub(crate) fn open(rt: &impl Abort, node: &mut Node, max_len: u32) -> PortId {
     let opened = match node.open_port(pgn(rt), max_len) {
         Err(NodeError::OutOfMemory) => node.open_port(pgn(rt), max_len),

@@ -12,6 +12,9 @@ const NINE: [u8; 9] = [1, 2, 3, 4, 5, 6, 7, 8, 9];
 // A request of 21 for FECA.
 const REQUEST: Shown = (0x18EA_3521, [0xCA, 0xFE, 0, 0xFF, 0xFF, 0xFF, 0xFF, 0xFF]);
 
+// The same of 35 to 21.
+const ASKED: Shown = (0x18EA_2135, [0xCA, 0xFE, 0, 0xFF, 0xFF, 0xFF, 0xFF, 0xFF]);
+
 // Another destination of 21, and how a message to it begins.
 const OTHER: Address = Address(0x36);
 
@@ -59,6 +62,30 @@ fn refusals(rt: HostRuntime) {
 #[test]
 fn no_address_of_a_node(rt: HostRuntime) {
     let refused = Node::new(rt.alloc(), Address::NULL).err();
+    same(&rt, refused, Some(NewRefused::BadAddresses));
+}
+
+// A program starts again at tick 5000. It answers others at once, and sends no message for 1,250 ticks.
+fn starts_again(rt: &impl Abort, alloc: Global, a: &mut Node) {
+    same(rt, (a.now(), a.sends_from()), (5000, 5000 + SILENCE));
+    let starting = Err(NodeError::Starting(6250));
+    same(rt, send(a, B, pgn(rt), &NINE), starting);
+    takes(rt, a, ASKED);
+    same(rt, got(rt, front(a)).is_some(), true);
+    same(rt, sent(a), Ok(()));
+    is_tick(rt, a, 6249);
+    same(rt, send_bytes(rt, alloc, a, B, &NINE), starting);
+    same(rt, next(a), None);
+    is_tick(rt, a, 6250);
+    same(rt, send(a, B, pgn(rt), &NINE), Ok(1));
+}
+
+#[test]
+fn program_that_starts_again(rt: HostRuntime) {
+    let alloc = rt.alloc();
+    let mut a = node_again(&rt, alloc, A, 5000);
+    starts_again(&rt, alloc, &mut a);
+    let refused = Node::again(alloc, Address::NULL, 0).err();
     same(&rt, refused, Some(NewRefused::BadAddresses));
 }
 

@@ -8,7 +8,7 @@ use Rattle.one_station.proofs.node.Node.make.Goals as goal
 
 pub returns-in-Ok-Refused : goal.returns-in-Ok-Refused
 returns-in-Ok-Refused c =
-    make_refused c.args.self.now c.self.inside.segment c.apply_telling.new.self c.self.inside.address (told_events c.self.inside.told) (told_events c.make_room.new.told) c.self.inside.has_missed
+    make_refused c.args.self.now c.self.inside.segment c.apply_telling.new.self c.self.inside.address (told_events c.self.inside.told) (told_events c.make_room.new.told) c.self.inside.has_missed c.self.inside.quiet_until
     (λ _. c.args.call) (reply_with c.in-Ok-Refused.field-0 c.apply_telling.new.told) c.in-Ok-Refused.cause c.self.view_is c.make_room.ensures.events c.in-Ok-Refused.ensures.ok (ap (λ (m : Made). reply_with m c.apply_telling.new.told) c.in-Ok-Refused.field-0-is)
 
 pub invariant_of-self-in-Refused-1 : goal.invariant_of-self-in-Refused-1

@@ -9,7 +9,7 @@ use Rattle.one_station.proofs.node.Node.open_port.Goals as goal
 
 pub returns-in-Ok-Refused-clause-answered : goal.returns-in-Ok-Refused-clause-answered
 returns-in-Ok-Refused-clause-answered c =
-    make_refused c.args.self.now c.self.inside.segment c.apply.new.self c.self.inside.address (told_events c.self.inside.told) (told_events c.self.inside.told) c.self.inside.has_missed
+    make_refused c.args.self.now c.self.inside.segment c.apply.new.self c.self.inside.address (told_events c.self.inside.told) (told_events c.self.inside.told) c.self.inside.has_missed c.self.inside.quiet_until
     (λ a. Open a c.args.pgn c.args.max_len) c.in-Ok-Refused.field-0 c.in-Ok-Refused.cause c.self.view_is refl c.in-Ok-Refused.ensures.ok c.in-Ok-Refused.field-0-is
 
 pub unreachable-requires : goal.unreachable-requires

@@ -6,7 +6,7 @@ use Rattle.one_station.proofs.node.Node.pass_own.Goals as goal
 
 pub returns-then-transmit_and_take : goal.returns-then-transmit_and_take
 returns-then-transmit_and_take c =
-    passed_at_once c.args.self.now c.self.inside.segment c.transmit_and_take.new.self c.self.inside.address (told_events c.self.inside.told) c.self.inside.has_missed tt c.self.view_is c.if-transmit_and_take.ensures.made
+    passed_at_once c.args.self.now c.self.inside.segment c.transmit_and_take.new.self c.self.inside.address (told_events c.self.inside.told) c.self.inside.has_missed c.self.inside.quiet_until tt c.self.view_is c.if-transmit_and_take.ensures.made
 
 pub invariant_of-self : goal.invariant_of-self
 invariant_of-self c =

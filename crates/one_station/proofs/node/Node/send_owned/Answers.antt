@@ -5,11 +5,11 @@ use Rattle.one_station.specs.Told.{told_events}
 use Rattle.record_law.proofs.Replies.{fits}
 use Rattle.one_station.proofs.Made.{make_refused, stood_on}
 use Rattle.one_station.proofs.Resting.{rested}
-use Rattle.one_station.proofs.node.Node.send_bytes.Goals as goal
+use Rattle.one_station.proofs.node.Node.send_owned.Goals as goal
 
 pub returns-in-Ok-Refused-clause-answered : goal.returns-in-Ok-Refused-clause-answered
 returns-in-Ok-Refused-clause-answered c =
-    make_refused c.args.self.now c.self.inside.segment c.apply.new.self c.self.inside.address (told_events c.self.inside.told) (told_events c.make_place.new.told) c.self.inside.has_missed
+    make_refused c.args.self.now c.self.inside.segment c.apply.new.self c.self.inside.address (told_events c.self.inside.told) (told_events c.make_place.new.told) c.self.inside.has_missed c.self.inside.quiet_until
     (λ a. Send a c.args.to c.args.pgn c.args.bytes) c.in-Ok-Refused.field-0 c.in-Ok-Refused.cause c.self.view_is c.make_place.ensures.events
     c.in-Ok-Refused.ensures.ok c.in-Ok-Refused.field-0-is
 
