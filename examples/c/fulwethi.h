@@ -4,16 +4,16 @@
  * Frames and ticks go in, frames and events come out. No call waits, reads a clock, starts a thread or calls back.
  *
  * What a caller upholds:
- *   - a `struct fulwethi` starts as all zeros (`= {0}`), is made by fulwethi_new, and ends by fulwethi_free; only these two take one
- *     that isn't made;
+ *   - a `struct fulwethi` starts as all zeros (`= {0}`), is made by fulwethi_new or fulwethi_again, and ends by fulwethi_free; only these
+ *     three take one that isn't made;
  *   - it isn't copied: of two copies, the one that isn't passed is spent by the first call;
  *   - no two calls on it are made at the same time; any thread may make the next one, once it sees what the last one did (a mutex, a
  *     queue or a join sees to that);
  *   - no pointer is null, but that to the bytes of fulwethi_send and to the room of fulwethi_take if its length is 0; a pointer to n bytes has
  *     n bytes behind it;
  *   - where frames of the bus were lost, fulwethi_missed is called before a later frame is fed;
- *   - a program that starts again at its address sends no message for 1,250 ticks: what others answer to its earlier ones may be under way, and
- *     could acknowledge a new one that wasn't given.
+ *   - a program that starts again at its address makes its node by fulwethi_again, which sends no message for 1,250 ticks: what others answer
+ *     to its earlier ones may be under way, and could acknowledge a new one that wasn't given.
  *
  * Memory comes from three functions, over malloc, that a program may define itself: examples/c/heap.c.
  *
@@ -76,11 +76,14 @@ enum {
      * frame by, which counts as missed too */
     FULWETHI_PASSED_BY = 71,
     /* the same of missed: each feed and each sent tries first to end it */
-    FULWETHI_NOT_ENDED = 72
+    FULWETHI_NOT_ENDED = 72,
+    /* not sent: the program started again (fulwethi_sends_from) */
+    FULWETHI_STARTING = 77
 };
 
 /* The exports: a handle goes in by value, and comes back by `out`. No pointer is null, also if its length is 0. */
 uint32_t fulwethi_raw_new(uint8_t address, struct fulwethi *out);
+uint32_t fulwethi_raw_again(uint8_t address, uint64_t tick, struct fulwethi *out);
 void fulwethi_raw_free(struct fulwethi of);
 uint32_t fulwethi_raw_open(struct fulwethi of, uint32_t pgn, uint32_t max_len, uint64_t *port, struct fulwethi *out);
 uint32_t fulwethi_raw_close(struct fulwethi of, uint64_t port, struct fulwethi *out);
@@ -96,14 +99,20 @@ uint32_t fulwethi_raw_clock(struct fulwethi of, uint64_t tick, struct fulwethi *
 uint32_t fulwethi_raw_fire(struct fulwethi of, struct fulwethi *out);
 uint32_t fulwethi_raw_next_due_at(struct fulwethi of, uint64_t *tick, struct fulwethi *out);
 uint32_t fulwethi_raw_next_at(struct fulwethi of, uint64_t *tick, struct fulwethi *out);
+uint32_t fulwethi_raw_sends_from(struct fulwethi of, uint64_t *tick, struct fulwethi *out);
 uint32_t fulwethi_raw_send_refusal(struct fulwethi of, uint8_t to, uint32_t pgn, size_t len, struct fulwethi *out);
 uint32_t fulwethi_raw_lane(struct fulwethi of, uint8_t to, struct fulwethi_lane *lane, struct fulwethi *out);
 uint32_t fulwethi_raw_counts(struct fulwethi of, struct fulwethi_counts *counts, struct fulwethi *out);
 uint32_t fulwethi_raw_event(struct fulwethi of, struct fulwethi_event *event, struct fulwethi *out);
 uint32_t fulwethi_raw_take(struct fulwethi of, uint8_t *room, size_t len, struct fulwethi *out);
 
-/* A station with this address, 0 to 253 (SAE J1939-81), at tick 0. BAD_ADDRESS, NO_MEMORY: nothing was made. */
+/* A station with this address, 0 to 253 (SAE J1939-81), at tick 0, if no program sent a message from it in the last 1,250 ms.
+ * BAD_ADDRESS, NO_MEMORY: nothing was made. */
 static inline uint32_t fulwethi_new(struct fulwethi *node, uint8_t address) { return fulwethi_raw_new(address, node); }
+
+/* That of a program that starts again at its address, or may do so, at this tick of its clock. It answers others at once, and sends no message
+ * for 1,250 ticks. BAD_ADDRESS, NO_MEMORY: nothing was made. */
+static inline uint32_t fulwethi_again(struct fulwethi *node, uint8_t address, uint64_t tick) { return fulwethi_raw_again(address, tick, node); }
 
 /* Frees it, and what wasn't taken. It is all zeros then, and may be made again. */
 static inline void fulwethi_free(struct fulwethi *node) {
@@ -127,13 +136,17 @@ static inline uint32_t fulwethi_pause(struct fulwethi *node, uint64_t port) { re
 static inline uint32_t fulwethi_resume(struct fulwethi *node, uint64_t port) { return fulwethi_raw_resume(*node, port, node); }
 
 /* Sends a message, whose bytes are copied, and writes its number, from 1 for each destination. Its frames come by front, its end
- * by an event. BAD_PGN, NO_SUCH_STATION (254), SAME_STATION, TOO_SHORT, TOO_LONG, LANE_FULL (32 without an outcome), NO_MEMORY. */
+ * by an event. BAD_PGN, STARTING (before the tick of fulwethi_sends_from), NO_SUCH_STATION (254), SAME_STATION, TOO_SHORT, TOO_LONG,
+ * LANE_FULL (32 without an outcome), NO_MEMORY. */
 static inline uint32_t fulwethi_send(struct fulwethi *node, uint8_t to, uint32_t pgn, const uint8_t *bytes, size_t len, uint64_t *number) {
     static const uint8_t nothing = 0;
     return fulwethi_raw_send(*node, to, pgn, len ? bytes : &nothing, len, number, node);
 }
 
-/* Why fulwethi_send of so many bytes would be refused, or DONE. It takes no memory. */
+/* Writes the tick before which it sends no message; 0 if fulwethi_new made it. */
+static inline uint32_t fulwethi_sends_from(struct fulwethi *node, uint64_t *tick) { return fulwethi_raw_sends_from(*node, tick, node); }
+
+/* Why fulwethi_send of so many bytes would be refused, but for STARTING, or DONE. It takes no memory. */
 static inline uint32_t fulwethi_send_refusal(struct fulwethi *node, uint8_t to, uint32_t pgn, size_t len) {
     return fulwethi_raw_send_refusal(*node, to, pgn, len, node);
 }
@@ -225,6 +238,7 @@ static inline const char *fulwethi_code_name(uint32_t code) {
     case FULWETHI_WITHOUT_ROOM: return "WITHOUT_ROOM";
     case FULWETHI_PASSED_BY: return "PASSED_BY";
     case FULWETHI_NOT_ENDED: return "NOT_ENDED";
+    case FULWETHI_STARTING: return "STARTING";
     default: return "";
     }
 }
@@ -258,6 +272,7 @@ static inline const char *fulwethi_strerror(uint32_t code) {
     case FULWETHI_WITHOUT_ROOM: return "the frame was looked at, without memory for what it brings";
     case FULWETHI_PASSED_BY: return "the frame was passed by: no memory to end what was under way when frames were missed";
     case FULWETHI_NOT_ENDED: return "no memory to end what was under way: the node remembers it";
+    case FULWETHI_STARTING: return "the program started again: it sends no message yet";
     default: return "unknown code";
     }
 }

@@ -71,6 +71,11 @@ public:
         reset();
         return ::fulwethi_new(&held_, address);
     }
+    /* That of a program that starts again at this tick of its clock. */
+    [[nodiscard]] code make_again(std::uint8_t address, std::uint64_t tick) noexcept {
+        reset();
+        return ::fulwethi_again(&held_, address, tick);
+    }
     void reset() noexcept { ::fulwethi_free(&held_); }
     bool is_made() const noexcept { return held_.ptr != nullptr; }
 
@@ -83,6 +88,12 @@ public:
 
     [[nodiscard]] code send(std::uint8_t to, std::uint32_t pgn, bytes message, std::uint64_t &number) noexcept {
         return ::fulwethi_send(made(), to, pgn, message.data(), message.size(), &number);
+    }
+    /* The tick before which it sends no message. */
+    std::uint64_t sends_from() noexcept {
+        std::uint64_t tick = 0;
+        ::fulwethi_sends_from(made(), &tick);
+        return tick;
     }
     code send_refusal(std::uint8_t to, std::uint32_t pgn, std::size_t len) noexcept { return ::fulwethi_send_refusal(made(), to, pgn, len); }
     [[nodiscard]] code cancel(std::uint8_t to, std::uint64_t number) noexcept { return ::fulwethi_cancel(made(), to, number); }

@@ -1,9 +1,9 @@
 /* Three stations on a bus in memory, each with a clock of its own, and a queue of what came from the bus, which loses, repeats and delays frames.
  *
  *   lossy_bus COUNT [RULE [SEED [events]]]    so many messages. RULE is `reported`, by which each loss is told (fulwethi_missed); `quiet`, by which programs also
- *                                             start again, and send nothing for QUIET ticks; or one that breaks what the header asks, until the README's sentence
- *                                             doesn't hold: `unreported`, without reports; `early`, by which a frame counts as sent once it is in a mailbox of a
- *                                             controller that sends by identifier; or `restarted`, by which programs start again and send at once.
+ *                                             start again, by fulwethi_again; or one that breaks what the header asks, until the README's sentence doesn't hold:
+ *                                             `unreported`, without reports; `early`, by which a frame counts as sent once it is in a mailbox of a controller that
+ *                                             sends by identifier; or `restarted`, by which programs start again by fulwethi_new, and send at once.
  *                                             `events` prints what happens, as a script
  *   lossy_bus play SCRIPT                     plays a script, and prints what comes of each line
  *
@@ -17,7 +17,7 @@
 #include <stdlib.h>
 #include <string.h>
 
-enum { STATIONS = 3, ALL = 255, PGN = 0xEF00, MOST = 6000, UNDER_WAY = 4, PORTS = 2, MAILBOXES = 3, PLACES = 512, ROOM = 300, QUIET = 1250, MOST_MESSAGES = 1000000 };
+enum { STATIONS = 3, ALL = 255, PGN = 0xEF00, MOST = 6000, UNDER_WAY = 4, PORTS = 2, MAILBOXES = 3, PLACES = 512, ROOM = 300, MOST_MESSAGES = 1000000 };
 enum { FRAME_MICROS = 540, IDLE_MICROS = 8000 }; /* how long a turn takes: a frame at 250 kbit/s; and while nothing comes */
 static const uint8_t ADDRESS[STATIONS] = {0x21, 0x35, 0x40};
 static const char *const OUTCOME[] = {"", "Acknowledged", "Broadcast", "Aborted", "TimedOut", "Overrun", "Cancelled", "Unreachable"};
@@ -43,7 +43,7 @@ struct station {
     uint32_t *numbers[STATIONS + 1]; /* its messages by destination and number, the last place to all */
     uint32_t sent[STATIONS + 1], waiting[STATIONS + 1], last[STATIONS][2];
     uint32_t before[STATIONS + 1];   /* so many messages its program had sent before it started again */
-    uint64_t quiet_until;            /* it sends no message before this tick */
+    uint64_t sends_from;             /* it sends no message before this tick */
     uint32_t rate;                   /* of its clock, in thousandths */
     uint32_t losing, stalled, held;  /* how many frames it still loses; and how many turns its program and its controller still miss */
 };
@@ -144,10 +144,12 @@ static int do_send(struct station *it, uint32_t address, uint32_t len) {
     static uint8_t bytes[MOST];
     uint64_t number;
     int to = place_of(address);
-    if (bus.count == bus.most || it->tick < it->quiet_until || len < 9 || len > MOST || (to == STATIONS && address != ALL)) return 0;
+    if (bus.count == bus.most || len < 9 || len > MOST || (to == STATIONS && address != ALL)) return 0;
     uint32_t message = bus.count + 1;
     for (size_t i = 0; i < len; i++) bytes[i] = byte_of(message, i);
-    if (fulwethi_send(&it->node, (uint8_t)address, PGN, bytes, len, &number)) return 0;
+    uint32_t code = fulwethi_send(&it->node, (uint8_t)address, PGN, bytes, len, &number);
+    WANT((code == FULWETHI_STARTING) == (it->tick < it->sends_from));
+    if (code) return 0;
     WANT(number == ++it->sent[to]);
     it->numbers[to][it->before[to] + number] = bus.count = message;
     it->waiting[to]++;
@@ -188,14 +190,13 @@ static int do_pause(struct station *it, uint32_t at) {
 /* Its program starts again: what it had is gone, the frame in its controller too unless it is on the bus. Its messages have no outcome any more. */
 static int do_restart(struct station *it) {
     fulwethi_free(&it->node);
-    WANT(fulwethi_new(&it->node, (uint8_t)address_of(it)) == FULWETHI_DONE);
-    WANT(fulwethi_clock(&it->node, it->tick) == FULWETHI_DONE);
+    if (bus.is_quiet) WANT(fulwethi_again(&it->node, (uint8_t)address_of(it), it->tick) == FULWETHI_DONE);
+    else WANT(fulwethi_new(&it->node, (uint8_t)address_of(it)) == FULWETHI_DONE && fulwethi_clock(&it->node, it->tick) == FULWETHI_DONE);
     for (int at = 0; at < PORTS; at++) it->port[at] = (struct port){0};
     for (int at = 0; at < MAILBOXES; at++) it->holds[at] = EMPTY;
     for (int to = 0; to <= STATIONS; to++) it->before[to] += it->sent[to], it->sent[to] = it->waiting[to] = 0;
     it->read = it->written = 0;
-    it->quiet_until = it->tick + (bus.is_quiet ? QUIET : 0);
-    return 1;
+    return fulwethi_sends_from(&it->node, &it->sends_from) == FULWETHI_DONE;
 }
 
 /* So many ticks of its clock pass, and what is due is fired. A clock can't be set back. */

@@ -4,7 +4,7 @@
  *   socketcan INTERFACE ADDRESS PGN      (numbers in hexadecimal)
  *
  * A port is open for the PGN. Messages are written to standard output as 'FROM TO PGN BYTES..'; a line 'TO PGN BYTES..' of standard
- * input sends a message.
+ * input sends a message. The first line is read after 1,250 ms, since an earlier life of the program may have sent messages.
  *
  * What the node is told comes in the order of the bus. A frame of its own has its place there once the kernel loops it back, so one is
  * outstanding at a time, and what comes before its echo is fed before it is told to be sent. A loss (a full receive queue, a controller
@@ -43,6 +43,7 @@ struct station {
     struct fulwethi node;
     int bus, others;            /* sockets: of all frames, and of those of other nodes, which wakes */
     uint64_t start, now;        /* the clock's time at tick 0; and the tick of this turn */
+    uint64_t sends_from;        /* it may have started again, so it reads no line before this tick */
     uint32_t drops;             /* how many frames the socket dropped so far */
     struct fulwethi_frame kept; /* a frame that the node didn't take yet */
     int has_kept;
@@ -327,8 +328,10 @@ static int pause_for(struct station *at, uint64_t now) {
 static void turn(struct station *at, int *input) {
     struct can_frame shown;
     uint64_t now = ticks(at);
-    struct pollfd from[2] = {{.fd = is_between(at, now) ? at->others : at->bus, .events = POLLIN}, {.fd = *input, .events = POLLIN}};
-    if (poll(from, 2, pause_for(at, now)) < 0 && errno != EINTR) abort();
+    struct pollfd from[2] = {{.fd = is_between(at, now) ? at->others : at->bus, .events = POLLIN}, {.fd = now < at->sends_from ? -1 : *input, .events = POLLIN}};
+    int pause = pause_for(at, now);
+    if (now < at->sends_from) pause = until(pause, now, at->sends_from);
+    if (poll(from, 2, pause) < 0 && errno != EINTR) abort();
     at->now = ticks(at);
     uint32_t code = fulwethi_clock(&at->node, at->now);
     if (code) fprintf(stderr, "clock: code %u\n", code);
@@ -357,7 +360,8 @@ int main(int count, char **words) {
     at.others = open_others(words[1], (uint8_t)address);
     if (at.bus < 0 || at.others < 0) return perror(words[1]), 1;
     at.start = milliseconds();
-    uint32_t code = fulwethi_new(&at.node, (uint8_t)address);
+    uint32_t code = fulwethi_again(&at.node, (uint8_t)address, 0);
+    if (!code) code = fulwethi_sends_from(&at.node, &at.sends_from);
     if (!code) code = fulwethi_open(&at.node, (uint32_t)pgn, 117440505, &port);
     if (code) return fprintf(stderr, "no station: code %u\n", code), 1;
     for (;;) turn(&at, &input);

@@ -68,5 +68,7 @@ int main() {
     if (tool.next_due_at() || tool.next_at()) return 1;
     want(engine.close(port), FULWETHI_DONE, "close");
     want(engine.close(port), FULWETHI_NO_SUCH_PORT, "close again");
-    return 0;
+    want(tool.make_again(0x21, 1000), FULWETHI_DONE, "make_again");
+    want(tool.send(0x35, 0xEF00, message, number), FULWETHI_STARTING, "send at first");
+    return tool.sends_from() != 2250;
 }

@@ -229,6 +229,22 @@ static void remember(void) {
     fulwethi_free(&node);
 }
 
+/* A program starts again at tick 5000: others are answered at once, and the first message goes 1,250 ticks later. */
+static void start_again(void) {
+    struct fulwethi node = {0};
+    struct fulwethi_frame frame;
+    uint64_t tick;
+    WANT(fulwethi_again(&node, 254, 0) == FULWETHI_BAD_ADDRESS && fulwethi_again(&node, A, 5000) == FULWETHI_DONE);
+    WANT(fulwethi_sends_from(&node, &tick) == FULWETHI_DONE && tick == 6250);
+    WANT(fulwethi_clock(&node, 4999) == FULWETHI_CLOCK_PASSED && fulwethi_clock(&node, 6249) == FULWETHI_DONE);
+    WANT(fulwethi_send(&node, B, PGN, (const uint8_t[9]){0}, 9, &tick) == FULWETHI_STARTING);
+    WANT(fulwethi_feed(&node, &REQUEST) == FULWETHI_DONE && fulwethi_front(&node, &frame) == FULWETHI_DONE);
+    WANT(fulwethi_clock(&node, 6250) == FULWETHI_DONE && sends(&node, B));
+    fulwethi_free(&node);
+    WANT(fulwethi_new(&node, A) == FULWETHI_DONE && fulwethi_sends_from(&node, &tick) == FULWETHI_DONE && tick == 0);
+    fulwethi_free(&node);
+}
+
 /* No byte of a frame with more than 8 is read, which valgrind sees, and the frame isn't counted. Where a length is 0 a pointer may be null. */
 static void look_at_lengths(void) {
     static const uint8_t nine[9];
@@ -282,6 +298,7 @@ int main(int count, char **words) {
         printf("allocations refused from each on: %lu\n", from - 1);
         return 0;
     }
+    start_again();
     look_at_lengths();
     WANT(begin(&run));
     seed = 20;

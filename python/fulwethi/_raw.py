@@ -95,6 +95,7 @@ _counts = POINTER(RawCounts)
 
 NODE: Dict[str, Tuple[Any, ...]] = {
     "fulwethi_raw_new": (c_uint8, _out),
+    "fulwethi_raw_again": (c_uint8, c_uint64, _out),
     "fulwethi_raw_free": (Handle,),
     "fulwethi_raw_open": (Handle, c_uint32, c_uint32, _number, _out),
     "fulwethi_raw_close": (Handle, c_uint64, _out),
@@ -110,6 +111,7 @@ NODE: Dict[str, Tuple[Any, ...]] = {
     "fulwethi_raw_fire": (Handle, _out),
     "fulwethi_raw_next_due_at": (Handle, _number, _out),
     "fulwethi_raw_next_at": (Handle, _number, _out),
+    "fulwethi_raw_sends_from": (Handle, _number, _out),
     "fulwethi_raw_send_refusal": (Handle, c_uint8, c_uint32, c_size_t, _out),
     "fulwethi_raw_lane": (Handle, c_uint8, POINTER(RawLane), _out),
     "fulwethi_raw_counts": (Handle, _counts, _out),

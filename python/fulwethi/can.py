@@ -26,7 +26,7 @@ from ._inline import contents, u8, u32
 from ._messages import Calls, Messages
 from ._requests import Request, frame_of_request, request_of
 from ._wire import RETRY, BusGone, Wire, flush, frame_of
-from .errors import Closed, Error, NoMemory, TxFull
+from .errors import Closed, Error, NoMemory, Starting, TxFull
 from .node import Node
 from .values import ALL, Counts, Ended, Event, Frame, Given, Lane
 
@@ -103,6 +103,9 @@ class Station:
     who put them (`receive_own_messages`); if it isn't said, the bus is asked. Then a frame counts as sent once it is shown, else once the bus has taken it.
     `clock` answers nanoseconds and doesn't go back: a slower one gives a simulated bus more time.
 
+    A program that starts again must send nothing at first, since an answer to what it sent earlier could acknowledge a new message. So what is sent in the station's
+    first 1,250 ms waits until then. With `again` False it is sent at once: for an address from which no program sent a message in the last 1,250 ms.
+
     Any thread may make a call. Each but `close` and `is_open` raises Closed once the station has ended, and BusGone if the bus went away.
     """
 
@@ -114,12 +117,14 @@ class Station:
         notifier: Optional[can.Notifier] = None,
         shows_own: Optional[bool] = None,
         clock: Callable[[], int] = time.monotonic_ns,
+        again: bool = True,
     ) -> None:
         self.bus = bus
         self.address = address
         self._clock = clock
         self._start = clock()
-        self._node = Node(address)
+        self._node = Node(address, again_at=0) if again else Node(address)
+        self._sends_from = self._node.sends_from()
         self._wire = Wire(self._node, bus, shows_own_frames(bus) if shows_own is None else shows_own)
         self._queue: queue.SimpleQueue[Union[can.Message, Callable[[], None]]] = queue.SimpleQueue()
         self._gate = threading.Lock()
@@ -127,6 +132,7 @@ class Station:
         self._stop_asked = False
         # Of the station's thread:
         self._under_way: Dict[Tuple[int, int], Sending] = {}
+        self._early: List[Tuple[Sending, bytes]] = []
         self._to_cancel: List[Sending] = []
         self._has_untold = False
         self._ports: List[int] = []
@@ -326,6 +332,8 @@ class Station:
         """The next frame or call; None if something else is to be done first."""
         now = self._ticks()
         next_at = now + RETRY if self._to_cancel or self._has_untold else self._wire.next_at(now)
+        if self._early:
+            next_at = self._sends_from if next_at is None else min(next_at, max(self._sends_from, now + 1))
         try:
             return self._queue.get(timeout=self._seconds_until(next_at))
         except queue.Empty:
@@ -339,6 +347,8 @@ class Station:
             self._node.clock(now)
         except NoMemory:
             pass
+        if self._early and now >= self._sends_from:
+            self._begin_early()
         left = FRAMES_OF_A_TURN
         while item is not None and left:
             self._take(item, now)
@@ -400,12 +410,21 @@ class Station:
         self._node.close_port(port)
         self._ports.remove(port)
 
+    def _begin_early(self) -> None:
+        """Begins what was sent before the node sends."""
+        early, self._early = self._early, []
+        for sending, message in early:
+            self._begin(sending, message)
+
     def _begin(self, sending: Sending, message: bytes) -> None:
         if sending.cancelled():
             return
         try:
             self._must_be_open()
             sending.number = self._node.send(sending.to, sending.pgn, message)
+        except Starting:
+            self._early.append((sending, message))
+            return
         except Exception as error:
             if sending.set_running_or_notify_cancel():
                 sending.set_exception(error)
@@ -449,6 +468,7 @@ class Station:
             log.error("station %02X ended", self.address, exc_info=failure)
         self._leave_notifier()
         self._node.close()
+        self._begin_early()
         while self._queue.qsize():
             item = self._queue.get_nowait()
             if not isinstance(item, can.Message):

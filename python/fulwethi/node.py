@@ -15,17 +15,24 @@ from .values import AbortReason, Counts, Ended, Event, Fed, Frame, Given, Lane, 
 
 
 class Node:
-    """A node at an address, 0 to 253, at tick 0. BadAddress, NoMemory: it isn't made.
+    """A node at an address, 0 to 253, at tick 0, if no program sent a message from it in the last 1,250 ms. BadAddress, NoMemory: it isn't made.
 
-    Each call may raise NoMemory too, but for `send_refusal`, `lane`, `counts`, `next_due_at`, `next_at` and `take`. Any thread may make a call: a lock keeps
-    two of them apart. After `close` each call raises Closed.
+    A program that starts again at its address says its tick, `again_at`: then the node is at this tick, answers others at once, and sends no message for 1,250
+    ticks (`sends_from`).
+
+    Each call may raise NoMemory too, but for `sends_from`, `send_refusal`, `lane`, `counts`, `next_due_at`, `next_at` and `take`. Any thread may make a call: a
+    lock keeps two of them apart. After `close` each call raises Closed.
     """
 
-    def __init__(self, address: int) -> None:
+    def __init__(self, address: int, *, again_at: Optional[int] = None) -> None:
         self.address = address
         self._library = node_library()
         self._held = Held(self._library, "the node", "fulwethi_raw_free")
-        _done(self._library.fulwethi_raw_new(u8(address, "an address"), byref(self._held.unmade())))
+        number, made = u8(address, "an address"), byref(self._held.unmade())
+        if again_at is None:
+            _done(self._library.fulwethi_raw_new(number, made))
+        else:
+            _done(self._library.fulwethi_raw_again(number, u64(again_at, "a tick"), made))
 
     def __enter__(self) -> Node:
         return self
@@ -66,7 +73,7 @@ class Node:
     def send(self, to: int, pgn: int, data: Any) -> int:
         """Sends a copy of a message of 9 to 1,785 bytes to all (255), or of up to 117,440,505 to one node, and answers its number, from 1 for each destination.
 
-        Its frames come by `front`, its end by `take`. BadPgn, NoSuchStation, SameStation, TooShort, TooLong, LaneFull.
+        Its frames come by `front`, its end by `take`. BadPgn, Starting (before the tick of `sends_from`), NoSuchStation, SameStation, TooShort, TooLong, LaneFull.
         """
         message, number = _inline.contents(data), c_uint64()
         with self._held as node:
@@ -74,8 +81,15 @@ class Node:
             _done(code)
         return number.value
 
+    def sends_from(self) -> int:
+        """The tick before which it sends no message: 0 without `again_at`."""
+        tick = c_uint64()
+        with self._held as node:
+            _done(self._library.fulwethi_raw_sends_from(node, byref(tick), byref(node)))
+        return tick.value
+
     def send_refusal(self, to: int, pgn: int, length: int) -> Optional[Type[Refused]]:
-        """Why `send` of so many bytes would be refused, or None. It takes no memory."""
+        """Why `send` of so many bytes would be refused, but for Starting, or None. It takes no memory."""
         with self._held as node:
             code = self._library.fulwethi_raw_send_refusal(node, u8(to, "an address"), u32(pgn, "a PGN"), u64(length, "a length"), byref(node))
         return None if code == DONE else BY_CODE[code]

@@ -95,6 +95,20 @@ def test_a_message_is_aborted_and_one_times_out(pair: Tuple[Node, Node]) -> None
     assert list(one.events()) == [Ended(0x77, 1, Outcome.TIMED_OUT)]
 
 
+def test_a_program_that_starts_again_sends_nothing_at_first() -> None:
+    with Node(0x21) as node:
+        assert node.sends_from() == 0
+    with Node(0x21, again_at=5000) as node:
+        assert node.sends_from() == 6250
+        for tick in (5000, 6249):
+            node.clock(tick)
+            with pytest.raises(errors.Starting):
+                node.send(0x35, PGN, bytes(9))
+        assert node.feed(Frame(0x18EA2140, bytes(3))) is Fed.TAKEN and node.front() is not None
+        node.clock(6250)
+        assert node.send(0x35, PGN, bytes(9)) == 1
+
+
 def filled(node: Node) -> Node:
     """A node whose queue is full of answers to Requests."""
     for _ in range(64):
@@ -135,6 +149,7 @@ REFUSED = {
     errors.TooShort: lambda node: node.send(0x21, PGN, bytes(8)),
     errors.TooLong: lambda node: node.send(ALL, 0xFECA, bytes(1786)),
     errors.LaneFull: lambda node: all_of(lambda: node.send(0x21, PGN, bytes(9)))(),
+    errors.Starting: lambda node: Node(0x21, again_at=5).send(0x35, PGN, bytes(9)),
     errors.NothingToSend: lambda node: node.sent(),
     errors.NothingDue: lambda node: node.fire(),
     errors.ClockPassed: lambda node: late(node).clock(9),

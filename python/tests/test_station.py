@@ -37,7 +37,7 @@ def test_messages_both_ways(bus: Callable[..., can.BusABC], shows_own: bool) -> 
     """9 to 1,000,000 bytes both ways at once; where own frames are shown to who put them, each of which is waited for, to 10,000."""
     lengths = (9, 14, 100, 1785, 1786, 10_000) + (() if shows_own else (1_000_000,))
     buses = [bus(receive_own_messages=shows_own) for _ in range(2)]
-    with Station(buses[0], 0x21, clock=slow_clock) as one, Station(buses[1], 0x35, clock=slow_clock) as other:
+    with Station(buses[0], 0x21, clock=slow_clock, again=False) as one, Station(buses[1], 0x35, clock=slow_clock, again=False) as other:
         ports = [station.open(PGN, 1_000_000) for station in (one, other)]
         readers = [station.messages() for station in (one, other)]
         sent = [[station.send(to, PGN, pattern(length, to)) for length in lengths] for station, to in ((one, 0x35), (other, 0x21))]
@@ -50,7 +50,7 @@ def test_messages_both_ways(bus: Callable[..., can.BusABC], shows_own: bool) -> 
 
 
 def test_a_message_to_all(bus: Callable[..., can.BusABC]) -> None:
-    with Station(bus(), 0x21) as one, Station(bus(), 0x35, clock=slow_clock) as other, Station(bus(), 0x40, clock=slow_clock) as third:
+    with Station(bus(), 0x21, again=False) as one, Station(bus(), 0x35, clock=slow_clock, again=False) as other, Station(bus(), 0x40, clock=slow_clock, again=False) as third:
         readers = []
         for station in (other, third):
             station.open(TO_ALL, 1785)
@@ -71,15 +71,29 @@ def test_a_message_to_all(bus: Callable[..., can.BusABC]) -> None:
     ids=lambda it: getattr(it, "name", ""),
 )
 def test_refusals_are_the_future_s_exception(bus: Callable[..., can.BusABC], refused: Any, to: int, pgn: int, length: int) -> None:
-    with Station(bus(), 0x21) as station:
+    with Station(bus(), 0x21, again=False) as station:
         with pytest.raises(refused):
             station.send(to, pgn, bytes(length)).result()
 
 
+def test_a_station_sends_nothing_at_first(bus: Callable[..., can.BusABC]) -> None:
+    """What is sent in its first 1,250 ms waits until then. What is cancelled meanwhile isn't sent, and what waits at the end ends by it."""
+    began = time.monotonic()
+    with Station(bus(), 0x21) as station:
+        sent = [station.send(0x35, PGN, bytes(9)) for _ in range(3)]
+        assert sent[1].cancel()
+        assert [sent[place].result(PATIENCE).number for place in (0, 2)] == [1, 2]
+        assert time.monotonic() - began > 1.25 and sent[1].number is None
+    with Station(bus(), 0x21, clock=slow_clock) as station:
+        early = station.send(0x35, PGN, bytes(9))
+    with pytest.raises(Closed):
+        early.result(PATIENCE)
+
+
 def test_other_refusals(bus: Callable[..., can.BusABC]) -> None:
     with pytest.raises(errors.BadAddress):
-        Station(bus(), 254)
-    with Station(bus(), 0x21) as station:
+        Station(bus(), 254, again=False)
+    with Station(bus(), 0x21, again=False) as station:
         sent = [station.send(0x35, PGN, bytes(9)) for _ in range(33)]
         with pytest.raises(errors.LaneFull):
             sent[-1].result()
@@ -135,7 +149,7 @@ def test_losses(bus: Callable[..., can.BusABC]) -> None:
     """
     losses = [place % 41 in (11, 12) for place in range(41)]
     lossy = [LossyBus(bus(), losses), LossyBus(bus(), losses[20:] + losses[:20])]
-    with Station(lossy[0], 0x21) as one, Station(lossy[1], 0x35) as other:
+    with Station(lossy[0], 0x21, again=False) as one, Station(lossy[1], 0x35, again=False) as other:
         other.open(PGN, 1785)
         reader = other.messages()
         sent = [pattern(60, number) for number in range(6)]
@@ -148,7 +162,7 @@ def test_losses(bus: Callable[..., can.BusABC]) -> None:
 
 def test_missed(bus: Callable[..., can.BusABC]) -> None:
     """A loss that the program reports ends what is under way."""
-    with Station(bus(), 0x21, clock=slow_clock) as station:
+    with Station(bus(), 0x21, clock=slow_clock, again=False) as station:
         sending = station.send(0x35, PGN, TWENTY)
         while station.lane(0x35).pending != 1:
             pass
@@ -159,7 +173,7 @@ def test_missed(bus: Callable[..., can.BusABC]) -> None:
 def test_an_error_frame(bus: Callable[..., can.BusABC]) -> None:
     """It tells of a loss by itself, in its place among the frames."""
     at = bus()
-    with Station(bus(), 0x21, clock=slow_clock) as station:
+    with Station(bus(), 0x21, clock=slow_clock, again=False) as station:
         sending = station.send(0x35, PGN, TWENTY)
         while station.lane(0x35).pending != 1:
             pass
@@ -171,7 +185,7 @@ def test_a_flood_of_frames(bus: Callable[..., can.BusABC], monkeypatch: pytest.M
     """Frames for which there is no place are told as missed."""
     monkeypatch.setattr("fulwethi.can.MOST_WAITING", 4)
     at, goes_on = bus(), threading.Event()
-    with Station(at, 0x21, clock=slow_clock) as station:
+    with Station(at, 0x21, clock=slow_clock, again=False) as station:
         sending = station.send(0x35, PGN, TWENTY)
         while station.lane(0x35).pending != 1:
             pass
@@ -193,9 +207,9 @@ def test_a_flood_of_frames(bus: Callable[..., can.BusABC], monkeypatch: pytest.M
 
 def test_close_in_the_middle(bus: Callable[..., can.BusABC]) -> None:
     """Of either end: its futures end by Closed, its readers end, and the other end is told by an abort."""
-    with Station(bus(), 0x35, clock=slow_clock) as other:
+    with Station(bus(), 0x35, clock=slow_clock, again=False) as other:
         other.open(PGN, 1_000_000)
-        one = Station(bus(), 0x21, clock=slow_clock)
+        one = Station(bus(), 0x21, clock=slow_clock, again=False)
         one.open(PGN, 1_000_000)
         reader = one.messages()
         to_one, to_other = other.send(0x21, PGN, bytes(1_000_000)), one.send(0x35, PGN, bytes(1_000_000))
@@ -219,7 +233,7 @@ def test_close_in_the_middle(bus: Callable[..., can.BusABC]) -> None:
 
 def test_a_bus_that_goes_away(bus: Callable[..., can.BusABC]) -> None:
     at = bus()
-    station = Station(at, 0x21, clock=slow_clock)
+    station = Station(at, 0x21, clock=slow_clock, again=False)
     station.on_message(print)
     reader = station.messages()
     sending = station.send(0x35, PGN, TWENTY)
@@ -252,7 +266,7 @@ class BrokenBus(can.BusABC):
 
 
 def test_a_bus_that_can_t_be_written_to() -> None:
-    with Station(BrokenBus(), 0x21) as station:
+    with Station(BrokenBus(), 0x21, again=False) as station:
         with pytest.raises(BusGone, match="unplugged"):
             station.send(0x35, PGN, TWENTY).result()
 
@@ -260,7 +274,7 @@ def test_a_bus_that_can_t_be_written_to() -> None:
 def test_calls_that_wait_for_a_station_that_ends(bus: Callable[..., can.BusABC]) -> None:
     """What was asked for before the station's thread ends, and not done by then, ends by Closed; and nothing of it is put."""
     watch, goes_on = bus(), threading.Event()
-    station = Station(bus(), 0x21, clock=slow_clock)
+    station = Station(bus(), 0x21, clock=slow_clock, again=False)
     station._queue.put(lambda: goes_on.wait(PATIENCE) and station._stop())
     futures = [station.send(0x35, PGN, TWENTY)]
     for _ in range(FRAMES_OF_A_TURN):
@@ -293,7 +307,7 @@ class StuckBus(BrokenBus):
 
 def test_a_bus_that_doesn_t_come_back(caplog: pytest.LogCaptureFixture) -> None:
     bus = StuckBus()
-    station = Station(bus, 0x21, clock=slow_clock)
+    station = Station(bus, 0x21, clock=slow_clock, again=False)
     sending = station.send(0x35, PGN, TWENTY)
     while station._queue.qsize():
         time.sleep(0.001)
@@ -307,7 +321,7 @@ def test_a_bus_that_doesn_t_come_back(caplog: pytest.LogCaptureFixture) -> None:
 def test_a_notifier_that_is_stopped(bus: Callable[..., can.BusABC]) -> None:
     at = bus()
     notifier = can.Notifier(at, [], timeout=0.05)
-    with Station(at, 0x21, notifier=notifier) as station:
+    with Station(at, 0x21, notifier=notifier, again=False) as station:
         sending = station.send(0x35, PGN, TWENTY)
         notifier.stop()
         with pytest.raises(BusGone, match="notifier was stopped"):
@@ -317,7 +331,7 @@ def test_a_notifier_that_is_stopped(bus: Callable[..., can.BusABC]) -> None:
 def test_callbacks_that_raise(bus: Callable[..., can.BusABC], caplog: pytest.LogCaptureFixture) -> None:
     came: List[bytes] = []
     done = threading.Event()
-    with Station(bus(), 0x21, clock=slow_clock) as one, Station(bus(), 0x35, clock=slow_clock) as other:
+    with Station(bus(), 0x21, clock=slow_clock, again=False) as one, Station(bus(), 0x35, clock=slow_clock, again=False) as other:
         other.open(PGN, 1785)
 
         @other.on_message
@@ -340,10 +354,10 @@ def test_callbacks_that_raise(bus: Callable[..., can.BusABC], caplog: pytest.Log
 def test_a_callback_that_waits_and_closes(bus: Callable[..., can.BusABC]) -> None:
     """It may wait for a message that it sends, and close the station that calls it."""
     closed = threading.Event()
-    with Station(bus(), 0x21, clock=slow_clock) as one:
+    with Station(bus(), 0x21, clock=slow_clock, again=False) as one:
         one.open(PGN, 1785)
         reader = one.messages()
-        other = Station(bus(), 0x35, clock=slow_clock)
+        other = Station(bus(), 0x35, clock=slow_clock, again=False)
         other.open(PGN, 1785)
 
         @other.on_message
@@ -363,7 +377,7 @@ def test_a_hundred_stations(bus: Callable[..., can.BusABC]) -> None:
 
     def round_of(count: int) -> None:
         at = bus()
-        stations = [Station(at, address, clock=slow_clock) for address in range(count)]
+        stations = [Station(at, address, clock=slow_clock, again=False) for address in range(count)]
         for station in stations:
             station.open(PGN, 1785)
             station.on_message(print)
@@ -411,7 +425,7 @@ def test_requests(bus: Callable[..., can.BusABC]) -> None:
     """A Request is a single frame. The program answers those that it says, and the station the others to itself."""
     watch = bus()
     # (who answers to all has a clock on which that takes no hours)
-    with Station(bus(), 0x21, clock=slow_clock) as one, Station(bus(), 0x35, clock=slow_clock) as other, Station(bus(), 0x40) as third:
+    with Station(bus(), 0x21, clock=slow_clock, again=False) as one, Station(bus(), 0x35, clock=slow_clock, again=False) as other, Station(bus(), 0x40, again=False) as third:
         for pgn in (PGN, TO_ALL):
             one.open(pgn, 1785)
         reader = one.messages()
@@ -465,7 +479,7 @@ def run(work: Any) -> Any:
 
 def test_async(bus: Callable[..., can.BusABC]) -> None:
     async def work() -> None:
-        async with Station(bus(), 0x21, clock=slow_clock) as one, Station(bus(), 0x35, clock=slow_clock) as other:
+        async with Station(bus(), 0x21, clock=slow_clock, again=False) as one, Station(bus(), 0x35, clock=slow_clock, again=False) as other:
             other.open(PGN, 1785)
             reader = other.messages()
             for number in range(3):
@@ -511,7 +525,7 @@ def test_cancel(bus: Callable[..., can.BusABC]) -> None:
     """A future that is cancelled ends its message."""
 
     async def work() -> None:
-        async with Station(bus(), 0x21, clock=slow_clock) as station:
+        async with Station(bus(), 0x21, clock=slow_clock, again=False) as station:
             with pytest.raises(asyncio.TimeoutError):
                 await asyncio.wait_for(station.send(0x35, PGN, TWENTY), 0.05)
             assert station.lane(0x35).pending == 0
@@ -530,7 +544,7 @@ def test_one_bus_for_two_stations(bus: Callable[..., can.BusABC]) -> None:
     """Two stations behind one bus of python-can, that shows them the frames of each other."""
     at = bus(receive_own_messages=True)
     notifier = can.Notifier(at, [], timeout=0.05)
-    with Station(at, 0x21, notifier=notifier, clock=slow_clock) as one, Station(at, 0x35, notifier=notifier, clock=slow_clock) as other:
+    with Station(at, 0x21, notifier=notifier, clock=slow_clock, again=False) as one, Station(at, 0x35, notifier=notifier, clock=slow_clock, again=False) as other:
         other.open(PGN, 1785)
         reader = other.messages()
         assert one.send(0x35, PGN, TWENTY).result().outcome is Outcome.ACKNOWLEDGED
@@ -570,7 +584,7 @@ def test_what_is_known_of_socketcan() -> None:
 def test_frames_that_are_passed_over(bus: Callable[..., can.BusABC]) -> None:
     """Of 11 bits, remote ones and those of CAN FD."""
     at = bus()
-    with Station(bus(), 0x21, clock=slow_clock) as station:
+    with Station(bus(), 0x21, clock=slow_clock, again=False) as station:
         for words in ({"is_extended_id": False, "arbitration_id": 0x123}, {"is_remote_frame": True}, {"is_fd": True}):
             at.send(can.Message(**{"arbitration_id": 0x18EA2140, "data": bytes(0 if "is_remote_frame" in words else 3), **words}))
         at.send(can.Message(arbitration_id=0x18EA2140, data=bytes.fromhex("CAFE00")))

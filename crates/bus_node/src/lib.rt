@@ -21,3 +21,4 @@ mod wrong_lines;
 pub use line_counts::LineCounts;
 pub use node::Node;
 pub use running::{Ran, run_node};
+pub use segment_core::NewRefused;

@@ -27,6 +27,8 @@ pub struct OfNode {
     pub quiet: u64,
     /// Whether a wrong line ends the run; else it is reported, and the next line is read.
     pub strict: bool,
+    /// Whether a program at the address may have sent messages a short time ago.
+    pub again: bool,
 }
 
 /// The highest address of a node.
@@ -48,7 +50,9 @@ printed as put and a line of a log. Messages that are given, and outcomes, are
 printed as in a script. The ports of --port are open before the first line.
 Frames of other interfaces are passed over. A wrong line is reported in its
 place, by its number, and passed over. If there were any, standard error has
-their count at the end.
+their count at the end. If a program at the address sent messages in the last
+1,250 ms, as one that starts again, say --again: until tick 1250 a send prints
+starting 1250, and sends nothing.
 
 Example:
   printf '%s\\n' 'open FECA 1785' 'send 21 FECA 010203040506070809' \\
@@ -103,6 +107,14 @@ fn strict_arg<'a>(alloc: Global) -> Arg<'a> {
     flag(alloc, "strict", "Ends at the first wrong line")
 }
 
+fn again_arg<'a>(alloc: Global) -> Arg<'a> {
+    flag(
+        alloc,
+        "again",
+        "Sends no message for 1,250 ms, as a program that starts again must",
+    )
+}
+
 /// The arguments of `node`, in the order of the help.
 fn node_args<'a>(alloc: Global) -> Result<Vec<Arg<'a>>, AllocError> {
     list(
@@ -113,6 +125,7 @@ fn node_args<'a>(alloc: Global) -> Result<Vec<Arg<'a>>, AllocError> {
             port_arg(alloc),
             quiet_arg(alloc),
             strict_arg(alloc),
+            again_arg(alloc),
         ],
     )
 }
@@ -180,6 +193,7 @@ pub(crate) fn read_node(alloc: Global, matches: &ArgMatches) -> Result<OfNode, R
         ports: ports(alloc, matches)?,
         quiet: matches.get_one::<u64>("quiet").unwrap_or(QUIET),
         strict: matches.get_flag("strict"),
+        again: matches.get_flag("again"),
     })
 }
 

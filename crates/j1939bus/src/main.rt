@@ -15,7 +15,7 @@ mod inputs;
 
 use bus_decode::{Decoded, Options, Strays, Wanted, run_decode};
 use bus_live::{Gate, run_live};
-use bus_node::{Node, Ran, run_node};
+use bus_node::{NewRefused, Node, Ran, run_node};
 use bus_relay::run_relay;
 use bus_script::{run_logged, run_script};
 use command_line::{Asked, Line, OfDrawing, OfLog, OfNode, OfPort, read_command_line};
@@ -254,6 +254,15 @@ fn run_opened<R: BufRead, W: Write>(
     run_node(alloc, node, reader, writer)
 }
 
+/// The node that is asked for, on an interface.
+fn new_node(alloc: Global, asked: &OfNode, iface: Iface) -> Result<Node, NewRefused> {
+    let address = Address(asked.address);
+    if asked.again {
+        return Node::again(alloc, address, iface, asked.quiet);
+    }
+    Node::new(alloc, address, iface, asked.quiet)
+}
+
 /// Is a station on the bus whose frames are read.
 fn node<R: Print + Eprint + AllocGlobal, I: Read + Drop>(
     rt: &R,
@@ -272,7 +281,7 @@ fn node<R: Print + Eprint + AllocGlobal, I: Read + Drop>(
     let lines = opening(alloc, asked.ports.as_slice())?;
     let mut reader = BufReader::new(alloc, input)?;
     let mut writer = BufWriter::new(alloc, io::writer(rt))?;
-    let Ok(mut node) = Node::new(alloc, Address(asked.address), iface, asked.quiet) else {
+    let Ok(mut node) = new_node(alloc, asked, iface) else {
         eprintln!(rt; "out of memory")?;
         return Ok(ExitCode::from(1));
     };

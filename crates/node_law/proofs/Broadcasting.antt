@@ -282,7 +282,7 @@ deeds_up_to deeds = Sends one all pgn bytes 1 ∷ Asks ∷ Puts bam ∷ Makes (T
 lives_up_to : (deeds : List Deed) (last : Node) → Lives one_last deeds last → Lives (new_node one) (deeds_up_to deeds) last
 lives_up_to deeds last lives = (
   one_sent,
-  sends_is (new_node one) all pgn bytes 1 one_sent.segment refl sends_it,
+  sends_is (new_node one) all pgn bytes 1 one_sent.segment (omega arith) refl sends_it,
   (
     one_asked,
     asks_is one_sent all one_asked.segment [] refl (pumps_here all (omega arith) 0 lanes0 (new_bus 1) no_counts one_asked.segment [] none0 pumps_bam) refl pumps_bam,
@@ -357,6 +357,7 @@ carried = bam ∷ dt_one ∷ dt_two ∷ []
 first_on_bus : IsNodeOn one deeds_one one_over carried
 first_on_bus = record {
   address_fits = refl;
+  quiet_until = 0;
   lives = first_life;
   before = [];
   since = carried;
@@ -368,6 +369,7 @@ first_on_bus = record {
 second_on_bus : IsNodeOn two deeds_two two_over carried
 second_on_bus = record {
   address_fits = refl;
+  quiet_until = 0;
   lives = second_life;
   before = [];
   since = carried;
@@ -380,6 +382,7 @@ second_on_bus = record {
 untold_on_bus : IsNodeOn one (deeds_up_to []) one_last carried
 untold_on_bus = record {
   address_fits = refl;
+  quiet_until = 0;
   lives = lives_up_to [] one_last refl;
   before = [];
   since = carried;

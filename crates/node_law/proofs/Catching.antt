@@ -7,7 +7,7 @@ use Rattle.one_station.specs.Answers.{IsFed, IsSent, IsReady, IsUndone, EndsFirs
 use Rattle.one_station.specs.declared.error.Fed.{Fed}
 use Rattle.one_station.specs.declared.error.Fed.TheVariants.{Taken, WithoutRoom, PassedBy}
 use Rattle.one_station.specs.declared.error.NodeError.{NodeError}
-use Rattle.one_station.specs.declared.error.NodeError.TheVariants.{Refused, ClockPassed, OutOfMemory}
+use Rattle.one_station.specs.declared.error.NodeError.TheVariants.{Refused, ClockPassed, Starting, OutOfMemory}
 use Rattle.node_law.specs.Life.{Deed, IsDone, Lives}
 use Rattle.node_law.specs.Life.Deed.{Feeds}
 use Rattle.node_law.specs.Deeds.{ends_first, fed_deeds, HasSent}
@@ -49,3 +49,4 @@ sent before after (Ok done) (ready, first, passed) =
 sent before after (Err OutOfMemory) (missed, ok, same) = sym same
 sent before after (Err (Refused cause)) (ready, first, (is, same)) = subst (Lives before (ends_first before.has_missed)) (sym same) (made_ready before ready first).0
 sent before after (Err ClockPassed) never = absurd never
+sent before after (Err (Starting tick)) never = absurd never

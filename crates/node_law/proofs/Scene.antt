@@ -46,7 +46,7 @@ abbrev pub pgn : ℕ
 pgn = 65226
 
 abbrev pub node : Address → Segment → List Event → Node
-node a seg events = record { segment = seg; address = a; events = events; has_missed = false }
+node a seg events = record { segment = seg; address = a; events = events; has_missed = false; quiet_until = 0 }
 
 -- a bus with a cursor at this place
 abbrev pub bus_with : ℕ → ℕ → Bool → List CanFrame → Bus

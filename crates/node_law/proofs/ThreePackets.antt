@@ -387,7 +387,7 @@ abbrev deeds_one : List Deed
 deeds_one = Sends one two pgn bytes 1 ∷ Asks ∷ Puts rts ∷ Feeds cts Taken ∷ Asks ∷ Puts dt_one ∷ Puts dt_two ∷ Puts dt_three ∷ Feeds eoma Taken ∷ Takes outcome_told ∷ []
 
 first_life : Lives (new_node one) deeds_one one_over
-first_life = (one_sent, sends_is (new_node one) two pgn bytes 1 one_sent.segment refl sends_it, (one_asked, asks_is one_sent two one_asked.segment [] refl (pumps_here two (omega arith) 0 lanes0 (new_bus 1) no_counts one_asked.segment [] none0 pumps_rts) refl pumps_rts, (one_begun, puts_is one_asked rts (sender 0 [] lanes1 (begun_with rts) (frames_put 1)) one_begun.segment refl refl puts_rts passes_rts, (one_granted, feeds_is one_begun cts (sender 0 [] lanes1 (ahead 1 rts cts) (frames_put 2)) one_granted.segment [] refl refl refl refl comes_cts takes_cts, (one_queued, asks_is one_granted two one_queued.segment [] refl (pumps_here two (omega arith) 0 lanes2 (level 2 cts) (frames_put 2) one_queued.segment [] none2 pumps_packets) refl pumps_packets, (one_put_one, puts_is one_queued dt_one (sender 0 (dt_two ∷ dt_three ∷ []) lanes3 (ahead 2 cts dt_one) (frames_put 3)) one_put_one.segment refl refl puts_one passes_one, (one_put_two, puts_is one_put_one dt_two (sender 0 (dt_three ∷ []) lanes3 (ahead 3 dt_one dt_two) (frames_put 4)) one_put_two.segment refl refl puts_two passes_two, (one_put_three, puts_is one_put_two dt_three (sender 0 [] lanes3 (ahead 4 dt_two dt_three) (frames_put 5)) one_put_three.segment refl refl puts_three passes_three, (one_told, feeds_is one_put_three eoma (sender 0 [] lanes3 (ahead 5 dt_three eoma) (frames_put 6)) one_told.segment (outcome_told ∷ []) refl refl refl refl comes_eoma takes_eoma, (one_over, (refl, refl), refl))))))))))
+first_life = (one_sent, sends_is (new_node one) two pgn bytes 1 one_sent.segment (omega arith) refl sends_it, (one_asked, asks_is one_sent two one_asked.segment [] refl (pumps_here two (omega arith) 0 lanes0 (new_bus 1) no_counts one_asked.segment [] none0 pumps_rts) refl pumps_rts, (one_begun, puts_is one_asked rts (sender 0 [] lanes1 (begun_with rts) (frames_put 1)) one_begun.segment refl refl puts_rts passes_rts, (one_granted, feeds_is one_begun cts (sender 0 [] lanes1 (ahead 1 rts cts) (frames_put 2)) one_granted.segment [] refl refl refl refl comes_cts takes_cts, (one_queued, asks_is one_granted two one_queued.segment [] refl (pumps_here two (omega arith) 0 lanes2 (level 2 cts) (frames_put 2) one_queued.segment [] none2 pumps_packets) refl pumps_packets, (one_put_one, puts_is one_queued dt_one (sender 0 (dt_two ∷ dt_three ∷ []) lanes3 (ahead 2 cts dt_one) (frames_put 3)) one_put_one.segment refl refl puts_one passes_one, (one_put_two, puts_is one_put_one dt_two (sender 0 (dt_three ∷ []) lanes3 (ahead 3 dt_one dt_two) (frames_put 4)) one_put_two.segment refl refl puts_two passes_two, (one_put_three, puts_is one_put_two dt_three (sender 0 [] lanes3 (ahead 4 dt_two dt_three) (frames_put 5)) one_put_three.segment refl refl puts_three passes_three, (one_told, feeds_is one_put_three eoma (sender 0 [] lanes3 (ahead 5 dt_three eoma) (frames_put 6)) one_told.segment (outcome_told ∷ []) refl refl refl refl comes_eoma takes_eoma, (one_over, (refl, refl), refl))))))))))
 
 -- and the receiver's
 abbrev two_open : Node
@@ -426,6 +426,7 @@ carried = rts ∷ cts ∷ dt_one ∷ dt_two ∷ dt_three ∷ eoma ∷ []
 first_on_bus : IsNodeOn one deeds_one one_over carried
 first_on_bus = record {
   address_fits = refl;
+  quiet_until = 0;
   lives = first_life;
   before = [];
   since = carried;
@@ -437,6 +438,7 @@ first_on_bus = record {
 second_on_bus : IsNodeOn two deeds_two two_over carried
 second_on_bus = record {
   address_fits = refl;
+  quiet_until = 0;
   lives = second_life;
   before = [];
   since = carried;

@@ -7,7 +7,7 @@ use Rattle.one_station.specs.Answers.{IsFed, IsSent}
 use Rattle.one_station.specs.declared.error.Fed.{Fed}
 use Rattle.one_station.specs.declared.error.Fed.TheVariants.{Taken, WithoutRoom, PassedBy}
 use Rattle.one_station.specs.declared.error.NodeError.{NodeError}
-use Rattle.one_station.specs.declared.error.NodeError.TheVariants.{Refused, ClockPassed, OutOfMemory}
+use Rattle.one_station.specs.declared.error.NodeError.TheVariants.{Refused, ClockPassed, Starting, OutOfMemory}
 use Rattle.node_law.specs.Life.{Deed, Lives}
 use Rattle.node_law.specs.Life.Deed.{Feeds, Puts, CatchesUp}
 
@@ -30,6 +30,7 @@ HasSent before after (Ok _) =
 HasSent before after (Err OutOfMemory) = Lives before [] after
 HasSent before after (Err (Refused cause)) = Lives before (ends_first before.has_missed) after
 HasSent before after (Err ClockPassed) = ⊥
+HasSent before after (Err (Starting tick)) = ⊥
 
 abbrev pub FeedsAreDeeds : Type 0
 FeedsAreDeeds = (before after : Node) (frame : CanFrame) (answer : Result Fed NodeError) → IsFed before frame after answer → Lives before (fed_deeds before frame answer) after

@@ -139,13 +139,25 @@ pub(crate) struct Dialogue {
 /// For so many milliseconds after a connection failed, nothing is sent to its destination.
 const QUIET: u64 = 700;
 
+fn can0() -> io::Result<Iface> {
+    match Iface::new(b"can0") {
+        Ok(iface) => Ok(iface),
+        Err(_) => Err(io::Error::from(ErrorKind::InvalidInput)),
+    }
+}
+
 impl Dialogue {
     /// A node on can0.
     pub(crate) fn new(alloc: Global) -> io::Result<Dialogue> {
-        let Ok(iface) = Iface::new(b"can0") else {
-            return Err(io::Error::from(ErrorKind::InvalidInput));
-        };
-        match Node::new(alloc, Address(0x21), iface, QUIET) {
+        match Node::new(alloc, Address(0x21), can0()?, QUIET) {
+            Ok(node) => Ok(Dialogue { node }),
+            Err(_) => Err(no_memory()),
+        }
+    }
+
+    /// That of a program that starts again.
+    pub(crate) fn again(alloc: Global) -> io::Result<Dialogue> {
+        match Node::again(alloc, Address(0x21), can0()?, QUIET) {
             Ok(node) => Ok(Dialogue { node }),
             Err(_) => Err(no_memory()),
         }

@@ -65,6 +65,7 @@ numbered! {
         Nothing = 65, "there is nothing now";
         ClockPassed = 67, "the clock of the node stands later";
         TooLittleRoom = 68, "the room is too little for the message";
+        Starting = 77, "the program started again: it sends no message yet";
     }
 }
 

@@ -119,11 +119,19 @@ fn fed(code: u32) -> Result<Fed, Error> {
 }
 
 impl Node {
-    /// A node with this address, 0 to 253, at tick 0.
+    /// A node with this address, 0 to 253, at tick 0, if no program sent a message from it in the last 1,250 ms.
     pub fn new(address: u8) -> Result<Node, Error> {
         let mut node = Node { handle: raw::Handle { ptr: ptr::null_mut() } };
         // SAFETY: the place is there, and owns nothing.
         done(unsafe { raw::fulwethi_raw_new(address, &mut node.handle) })?;
+        Ok(node)
+    }
+
+    /// That of a program that starts again at its address, or may do so, at this tick of its clock: it sends no message for 1,250 ticks.
+    pub fn again(address: u8, tick: u64) -> Result<Node, Error> {
+        let mut node = Node { handle: raw::Handle { ptr: ptr::null_mut() } };
+        // SAFETY: as in `new`.
+        done(unsafe { raw::fulwethi_raw_again(address, tick, &mut node.handle) })?;
         Ok(node)
     }
 
@@ -161,7 +169,14 @@ impl Node {
         Ok(number)
     }
 
-    /// Why `send` of so many bytes would be refused.
+    /// The tick before which it sends no message: until then `send` is refused as `Starting`.
+    pub fn sends_from(&mut self) -> u64 {
+        let mut tick = 0;
+        self.call(|of, out| unsafe { raw::fulwethi_raw_sends_from(of, &mut tick, out) });
+        tick
+    }
+
+    /// Why `send` of so many bytes would be refused, but for `Starting`.
     pub fn send_refusal(&mut self, to: u8, pgn: u32, len: usize) -> Option<Error> {
         done(self.call(|of, out| unsafe { raw::fulwethi_raw_send_refusal(of, to, pgn, len, out) })).err()
     }

@@ -29,6 +29,7 @@ const _: () = assert!(size_of::<crate::Counts>() == 80 && size_of::<crate::Lane>
 extern "C" {
     pub fn fulwethi_version() -> u32;
     pub fn fulwethi_raw_new(address: u8, out: *mut Handle) -> u32;
+    pub fn fulwethi_raw_again(address: u8, tick: u64, out: *mut Handle) -> u32;
     pub fn fulwethi_raw_free(of: Handle);
     pub fn fulwethi_raw_open(of: Handle, pgn: u32, max_len: u32, port: *mut u64, out: *mut Handle) -> u32;
     pub fn fulwethi_raw_close(of: Handle, port: u64, out: *mut Handle) -> u32;
@@ -44,6 +45,7 @@ extern "C" {
     pub fn fulwethi_raw_fire(of: Handle, out: *mut Handle) -> u32;
     pub fn fulwethi_raw_next_due_at(of: Handle, tick: *mut u64, out: *mut Handle) -> u32;
     pub fn fulwethi_raw_next_at(of: Handle, tick: *mut u64, out: *mut Handle) -> u32;
+    pub fn fulwethi_raw_sends_from(of: Handle, tick: *mut u64, out: *mut Handle) -> u32;
     pub fn fulwethi_raw_send_refusal(of: Handle, to: u8, pgn: u32, len: usize, out: *mut Handle) -> u32;
     pub fn fulwethi_raw_lane(of: Handle, to: u8, lane: *mut crate::Lane, out: *mut Handle) -> u32;
     pub fn fulwethi_raw_counts(of: Handle, counts: *mut crate::Counts, out: *mut Handle) -> u32;

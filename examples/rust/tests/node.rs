@@ -81,6 +81,15 @@ fn what_is_refused_changes_nothing() {
 }
 
 #[test]
+fn a_program_that_starts_again_sends_nothing_at_first() {
+    assert_eq!(Node::again(254, 0).err(), Some(Error::BadAddress));
+    let mut node = Node::again(0x21, 5000).unwrap();
+    assert_eq!((node.sends_from(), node.send(0x35, 0xEF00, &[7; 20])), (6250, Err(Error::Starting)));
+    node.clock(6250).unwrap();
+    assert_eq!(node.send(0x35, 0xEF00, &[7; 20]), Ok(1));
+}
+
+#[test]
 fn a_message_that_is_cancelled_ends() {
     let mut node = Node::new(0x21).unwrap();
     let number = node.send(0x35, 0xEF00, &[7; 20]).unwrap();
