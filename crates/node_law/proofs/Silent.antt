@@ -18,7 +18,7 @@ use Rattle.segment_law.specs.declared.reply.Reply.TheVariants.{Done}
 use Rattle.record_law.proofs.EachCall.{Holds, Accepted, each_called}
 use Rattle.one_station.specs.Node.{Node, Did, quiet_node, again_node, silence_end, makes, makes_all}
 use Rattle.one_station.specs.Answers.{IsAnswered, IsFed, EndsFirst, DidAndLooked, caught_up, overruns, looks, looks_roomless, pump_for_front}
-use Rattle.one_station.specs.declared.starting.TheConstants.{SILENCE}
+use Rattle.one_station.specs.declared.durations.TheConstants.{SILENCE}
 use Rattle.one_station.specs.declared.error.Fed.{Fed}
 use Rattle.one_station.specs.declared.error.Fed.TheVariants.{Taken, WithoutRoom, PassedBy}
 use Rattle.node_law.specs.Life.{Deed, IsDone, Lives}

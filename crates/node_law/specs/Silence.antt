@@ -4,7 +4,7 @@ use Rattle.pgn_ids.specs.declared.address.Address.{Address}
 use Rattle.segment_law.specs.declared.call.Call.{Call}
 use Rattle.segment_law.specs.declared.call.Call.TheVariants.{Tick}
 use Rattle.one_station.specs.Node.{Node, quiet_node, again_node, silence_end}
-use Rattle.one_station.specs.declared.starting.TheConstants.{SILENCE}
+use Rattle.one_station.specs.declared.durations.TheConstants.{SILENCE}
 use Rattle.node_law.specs.Life.{Deed, Lives}
 use Rattle.node_law.specs.Life.Deed.{Makes, Sends}
 

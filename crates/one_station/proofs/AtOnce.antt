@@ -56,6 +56,6 @@ took_at_once now segment after address events told left missed quiet frame view 
 pub passed_at_once : (now : Node) (segment after : Segment) (address : Address) (events : List Event) (missed : Bool) (quiet : ℕ) (done : Unit {0}) → node_of segment address events missed quiet ≡ now → PutTaken segment (Transmit address) address after [] → IsPassedBy now (node_of after address events missed quiet) (Ok done)
 passed_at_once now segment after address events missed quiet done view p =
     let node : Node = node_of segment address events missed quiet in
-    let quiet : Puts p.between (Take address true) after = tells_quietly p.between after (Take address true) p.taken p.taken_stands in
+    let silent : Puts p.between (Take address true) after = tells_quietly p.between after (Take address true) p.taken p.taken_stands in
     subst (λ (n : Node). IsPassedBy n (node_of after address events missed quiet) (Ok done)) view
-    (ap as_error (none_of (called segment (Transmit address)) (ok segment after address (Transmit address) [] p)), did_two node (Transmit address) (Take address true) p.between after events events (puts segment after address (Transmit address) [] p events) (quiet events))
+    (ap as_error (none_of (called segment (Transmit address)) (ok segment after address (Transmit address) [] p)), did_two node (Transmit address) (Take address true) p.between after events events (puts segment after address (Transmit address) [] p events) (silent events))

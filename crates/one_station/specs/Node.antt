@@ -7,7 +7,7 @@ use Rattle.segment_law.specs.Calls.{applied, events_of}
 use Rattle.segment_law.specs.Record.{Record, StandsAt}
 use Rattle.segment_law.specs.declared.call.Call.{Call}
 use Rattle.segment_law.specs.declared.call.Call.TheVariants.{Tick}
-use Rattle.one_station.specs.declared.starting.TheConstants.{SILENCE}
+use Rattle.one_station.specs.declared.durations.TheConstants.{SILENCE}
 
 -- the segment with the station alone, the station's address, the events that were not taken yet, whether it missed frames and what
 -- was under way then has yet to end, and the tick before which it sends no message

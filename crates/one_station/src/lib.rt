@@ -6,6 +6,7 @@
 #![tactic(auto)]
 
 mod bus;
+mod durations;
 mod error;
 mod events;
 mod look;
@@ -17,7 +18,7 @@ mod starting;
 mod time;
 mod told;
 
+pub use durations::SILENCE;
 pub use error::{Fed, Missed, NodeError, TakeError};
 pub use node::Node;
 pub use segment_core::{Bytes, Call, Counts, Event, LaneSight, NewRefused, PortId, Refusal};
-pub use starting::SILENCE;

@@ -5,15 +5,11 @@ ghost use Rattle.segment_law.specs.Record.{StandsAt};
 ghost use Rattle.segment_law.specs.declared.call.Call.TheVariants.{Tick};
 ghost use Rattle.one_station.specs.Node.{again_node, answered};
 
+use crate::durations::SILENCE;
 use crate::node::Node;
 use pgn_ids::Address;
 use segment_core::NewRefused;
 use std::alloc::Global;
-use tick_timers::T2;
-
-/// For so many ticks a program that starts again sends no message. By then no other has a session of its earlier ones, but one that a
-/// paused port holds, and their answers are over.
-pub const SILENCE: u64 = T2;
 
 impl Node {
     /// A node of a program that starts again at its address, 0 to 253 (SAE J1939-81), at this tick of its clock: no port is open, and
