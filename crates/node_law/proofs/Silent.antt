@@ -1,24 +1,18 @@
 -- How far the clock of a node advances, and when its messages are sent.
-use Rattle.std.proofs.Common.{◌≡◌, ℕ, ◌+◌, ◌<◌, ◌≤◌, ◌^◌, Bool, true, false, cond, not, List, [], ◌∷◌, ◌++◌, Option, Some, None, Ok, Err, IsOk, refl, sym, ap, ◌∙◌, subst, arith}
-use Rattle.std.specs.Prelude.{nat_lt}
+use Rattle.std.proofs.Common.{◌≡◌, ℕ, ◌+◌, ◌<◌, ◌≤◌, ◌^◌, Bool, false, cond, not, List, [], ◌∷◌, ◌++◌, Option, Some, None, Ok, Err, IsOk, refl, sym, ap, ◌∙◌, subst, arith}
 use Rattle.std.proofs.lemmas.Bool.{lt-ltb}
 use Rattle.bus_frame.specs.Frames.{CanFrame}
 use Rattle.pgn_ids.specs.declared.address.Address.{Address}
-use Rattle.port_table.specs.declared.port.PortId.{PortId}
-use Rattle.message_events.specs.declared.event.Event.{Event}
 use Rattle.segment_law.specs.Segment.{Segment, new_segment}
 use Rattle.segment_law.specs.Calls.{Answer, called, replied, applied, done}
 use Rattle.segment_law.specs.Readers.{front_at, next_pump}
 use Rattle.segment_law.specs.declared.call.Call.{Call}
 use Rattle.segment_law.specs.declared.call.Call.TheVariants.{Open, Close, Send, Pump, Transmit, Take, TakeAgain, Overrun, Tick, Fire, Cancel, Inject, Pause, Resume}
-use Rattle.segment_law.specs.declared.refusal.Refusal.{Refusal}
 use Rattle.segment_law.specs.declared.refusal.Refusal.TheVariants as refusal
 use Rattle.segment_law.specs.declared.reply.Reply.{Reply}
-use Rattle.segment_law.specs.declared.reply.Reply.TheVariants.{Done}
 use Rattle.record_law.proofs.EachCall.{Holds, Accepted, each_called}
 use Rattle.one_station.specs.Node.{Node, Did, quiet_node, again_node, silence_end, makes, makes_all}
-use Rattle.one_station.specs.Answers.{IsAnswered, IsFed, EndsFirst, DidAndLooked, caught_up, overruns, looks, looks_roomless, pump_for_front}
-use Rattle.one_station.specs.declared.durations.TheConstants.{SILENCE}
+use Rattle.one_station.specs.Answers.{EndsFirst, DidAndLooked, caught_up, overruns, looks, looks_roomless, pump_for_front}
 use Rattle.one_station.specs.declared.error.Fed.{Fed}
 use Rattle.one_station.specs.declared.error.Fed.TheVariants.{Taken, WithoutRoom, PassedBy}
 use Rattle.node_law.specs.Life.{Deed, IsDone, Lives}
