@@ -1,5 +1,5 @@
 -- Sums and products of numbers that are cut at the last value.
-use Rattle.std.proofs.Common.{◌≡◌, ℕ, zero, suc, ◌+◌, ◌*◌, ◌-◌, ◌^◌, ◌<◌, ◌≤◌, ◌⊎◌, inl, inr, true, false, sym, ap, ◌∙◌, arith}
+use Rattle.std.proofs.Common.{◌≡◌, ℕ, zero, suc, ◌+◌, ◌*◌, ◌-◌, ◌^◌, ◌<◌, ◌≤◌, ◌⊎◌, inl, inr, true, false, ap, ◌∙◌, arith}
 use Rattle.std.specs.Prelude.{leb}
 use Rattle.std.proofs.Math.Nat.{le-mul_of_pos_right, mul_comm}
 use Rattle.std.proofs.lemmas.Bool.Decides.{leb_tells}
@@ -36,3 +36,7 @@ product_cut x y = by (leb_tells x (2 ^ 64 - 1)) (leb_tells y (2 ^ 64 - 1))
     by (inl p) (inl q) = ap (λ n. up_to_last (n * up_to_last y)) (cut_small x p.1) ∙ ap (λ n. up_to_last (x * n)) (cut_small y q.1)
     by (inr p) q = large x y p.1
     by (inl p) (inr q) = ap up_to_last (mul_comm (up_to_last x) (up_to_last y)) ∙ large y x q.1 ∙ ap up_to_last (mul_comm y x)
+
+-- what is below the last value isn't cut
+pub uncut : (n r : ℕ) → r ≡ up_to_last n → r < 2 ^ 64 - 1 → n ≤ r
+uncut n r e h = omega (arith, e, h)

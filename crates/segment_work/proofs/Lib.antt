@@ -1,6 +1,7 @@
 pub mod Cuts
 pub mod Sums
 pub mod Terms
+pub mod Said
 pub mod UnderWays
 pub mod Fronts
 pub mod Holds

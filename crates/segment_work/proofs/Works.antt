@@ -1,5 +1,5 @@
 -- The work on a segment in its parts.
-use Rattle.std.proofs.Common.{◌≡◌, ℕ, ◌+◌, refl}
+use Rattle.std.proofs.Common.{◌≡◌, ◌+◌, refl}
 use Rattle.segment_law.specs.Segment.{Segment}
 use Rattle.work_law.specs.Work.{sum_over, station_work, bus_work, work}
 use Rattle.segment_drain.specs.Enough.{calls_left}

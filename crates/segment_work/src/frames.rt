@@ -4,7 +4,7 @@ ghost use Rattle.bus_frame.specs.Frames.{CanFrame};
 ghost use Rattle.segment_law.specs.Segment.{Segment as State};
 ghost use Rattle.record_law.specs.Counting.{up_to_last};
 ghost use Rattle.tp_wire.specs.declared.wire.Wire.TheVariants.{Cm};
-ghost use Rattle.work_law.specs.Work.{hears as hears_of, wire_work, look_work, waits_work, bus_frame_work, frame_work, queue_work, said_work};
+ghost use Rattle.work_law.specs.Work.{own_at, hears as hears_of, wire_work, look_work, waits_work, bus_frame_work, frame_work, queue_work, said_work};
 ghost use Rattle.segment_work.specs.Terms.{turn_terms, at};
 
 use crate::rates::{each, packet_work, plain, rts_work, taker, takers};
@@ -115,15 +115,24 @@ fn heard_work(own: Address, from: Address, to: Address, work: u64) -> u64
     if hears(own, from, to) { work } else { 0 }
 }
 
+// The same at the station at a place, which takes it in any case.
+fn told_work(segment: &Segment, work: u64, from: Address, to: Address, i: usize) -> u64
+    requires { i < length (turn_terms segment.now).on }
+    ensures { (w : ℕ) → work ≡ up_to_last w
+        → result ≡ up_to_last ((turn_terms segment.now).rates.take + (if hears_of (own_at (turn_terms segment.now) i) from.0 to.0 then w else 0)) }
+{
+    plus(each(), heard_work(taker(segment, i), from, to, work))
+}
+
 /// A frame that is written from one address to another, and costs so much at each station that looks at it.
-#[tactic(auto, unfolding(work_law::specs::Work::said_work), using(crate::proofs::Sums::below_steps))]
+#[tactic(auto, using(crate::proofs::Sums::below_steps))]
 pub(crate) fn said_work(segment: &Segment, work: u64, from: Address, to: Address) -> u64
     ensures { (w : ℕ) → work ≡ up_to_last w → result ≡ up_to_last (said_work (turn_terms segment.now) w from.0 to.0) }
 {
     let mut total = 0;
     for i in 0..takers(segment) {
-        let heard = heard_work(taker(segment, i), from, to, work);
-        total = plus(total, plus(each(), heard));
+        let told = told_work(segment, work, from, to, i);
+        total = plus(total, told);
     }
     plus(each(), total)
 }

@@ -1,5 +1,6 @@
 //! What the lanes of a station cost.
-ghost use Rattle.std.specs.Prelude.{◌≡◌, ◌+◌, drop, slice_get};
+ghost use Rattle.std.specs.Prelude.{◌≡◌, ◌+◌, ◌-◌, ◌*◌, drop, slice_get};
+ghost use Rattle.lane_core.specs.Probe.{most_requests};
 ghost use Rattle.record_law.specs.Counting.{up_to_last};
 ghost use Rattle.work_law.specs.Work.{request_cost, standing_work, round_work, doubt_work, later_work, idle_work, lane_work, lane_work_at, lanes_work};
 ghost use Rattle.segment_work.specs.Terms.{turn_terms, at, turn_of};
@@ -21,14 +22,21 @@ fn asking_work(segment: &Segment, from: Address, to: Address) -> u64
     plus(each(), said_work(segment, plain(segment), from, to))
 }
 
+// The Requests of a round of which so many were queued.
+fn requests_work(segment: &Segment, from: Address, to: Address, count: u8) -> u64
+    ensures { result ≡ up_to_last ((most_requests - count) * ((turn_terms segment.now).rates.fire + request_cost (turn_terms segment.now) from.0 to.0)) }
+{
+    let left = u64::from(MOST_REQUESTS.saturating_sub(count));
+    times(exact(left), asking_work(segment, from, to))
+}
+
 // The rest of a round of Requests.
 fn standing_work(segment: &Segment, from: Address, to: Address, standing: Standing) -> u64
     ensures { result ≡ up_to_last (standing_work (turn_terms segment.now) from.0 to.0 standing) }
 {
     match standing {
         Standing::Probing { count, timer: _ } => {
-            let left = u64::from(MOST_REQUESTS.saturating_sub(count));
-            plus(times(exact(left), asking_work(segment, from, to)), each())
+            plus(requests_work(segment, from, to, count), each())
         }
         _ => 0,
     }
@@ -42,8 +50,7 @@ fn round_work(segment: &Segment, from: Address, to: Address) -> u64
     if to == Address::GLOBAL {
         return 0;
     }
-    let requests = exact(u64::from(MOST_REQUESTS));
-    plus(each(), times(requests, asking_work(segment, from, to)))
+    plus(each(), requests_work(segment, from, to, 0))
 }
 
 // The round of a lane that is in doubt.
