@@ -10,6 +10,7 @@ use Rattle.segment_rings.specs.Ends.{InboxEnd, closes}
 use Rattle.segment_rings.specs.Views.{SeatView, DoorView}
 use Rattle.stored_calls.specs.declared.stored.Stored.{Stored}
 use Rattle.live_segment.specs.declared.closing.Closed.{Closed}
+use Rattle.live_segment.specs.declared.calls.TheConstants.{MOST_CALLS}
 use Rattle.live_segment.specs.Record.{trail}
 use Rattle.live_segment.specs.LiveView.{LiveView, live_view, stored_calls, client_of, port_of, stored, calls_after, told_clients, Kept}
 use Rattle.live_segment.specs.Reports.{HasPort, IsRest, CloseMade, ClosedFor, PortClosed, closing}
@@ -30,7 +31,7 @@ close_made keeps addresses st xs ys ss ts ds gs p r at is calls clients ports =
 
 -- and then the port's door was closed
 pub closed_for : (a b : LiveView) (keeps : Kept) (addresses : List Address) (xs : List Stored) (ss : List SeatView) (ds gs : List DoorView) (i j : InboxEnd) (p : PortId) (r : Closed)
-    → CloseMade a b p → live_view keeps addresses xs ss ds ≡ b → stored_calls a < 1000000 → HasPort a.ports i.port → p ≡ i.port → r.port ≡ p → IsRest a i r.rest.items → j ≡ closes i r.rest.items j.spare
+    → CloseMade a b p → live_view keeps addresses xs ss ds ≡ b → stored_calls a < MOST_CALLS → HasPort a.ports i.port → p ≡ i.port → r.port ≡ p → IsRest a i r.rest.items → j ≡ closes i r.rest.items j.spare
     → map port_of gs ≡ map (closing p) (map port_of ds) → ClosedFor a (live_view keeps addresses xs ss gs) i j r
 closed_for a b keeps addresses xs ss ds gs i j p r made at few here e is rest inbox ports = record {
   few = few;
@@ -47,7 +48,7 @@ closed_for a b keeps addresses xs ss ds gs i j p r made at few here e is rest in
 }
 
 -- the same without the inbox
-pub port_closed : (a m b : LiveView) (p : PortId) → stored_calls a < 1000000 → HasPort a.ports p → CloseMade a m p → b.addresses ≡ m.addresses → b.stopped ≡ m.stopped → b.pieces ≡ m.pieces → b.calls ≡ m.calls → b.clients ≡ m.clients
+pub port_closed : (a m b : LiveView) (p : PortId) → stored_calls a < MOST_CALLS → HasPort a.ports p → CloseMade a m p → b.addresses ≡ m.addresses → b.stopped ≡ m.stopped → b.pieces ≡ m.pieces → b.calls ≡ m.calls → b.clients ≡ m.clients
     → b.ports ≡ map (closing p) m.ports → PortClosed a b p
 port_closed a m b p few here made addresses stopped pieces calls clients ports = record {
   few = few;

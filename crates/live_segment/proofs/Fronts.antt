@@ -9,6 +9,7 @@ use Rattle.segment_law.specs.declared.refusal.Refusal.{Refusal as Cause}
 use Rattle.segment_rings.specs.Views.{SeatView, DoorView, SameSeat, with_spare}
 use Rattle.stored_calls.specs.declared.stored.Stored.{Stored}
 use Rattle.live_segment.specs.declared.call.Owed.{Owed}
+use Rattle.live_segment.specs.declared.calls.TheConstants.{MOST_CALLS}
 use Rattle.live_segment.specs.declared.offer.Front.{Front}
 use Rattle.live_segment.specs.declared.offer.Front.TheVariants as front
 use Rattle.live_segment.specs.declared.offer.Ready.TheVariants as ready
@@ -62,7 +63,7 @@ none_at keeps addresses xs ts ds k l = inl (rw length-map l)
 
 module _ (st : Segment) (n : ℕ) (ws : List Owed) (k : ℕ) where
   -- a submission waits, for which the segment has this cause to refuse it, or none
-  pub found_cause : (ts : List SeatView) (owed stored : ℕ) (o c : Option Cause) → owed ≡ owed_by k ws → n < 1000000 → IsFrontIn ts k owed stored front.Waits → ((s : SeatView) → IsCauseFor st (get_or ts k s) o) → o ≡ c
+  pub found_cause : (ts : List SeatView) (owed stored : ℕ) (o c : Option Cause) → owed ≡ owed_by k ws → n < MOST_CALLS → IsFrontIn ts k owed stored front.Waits → ((s : SeatView) → IsCauseFor st (get_or ts k s) o) → o ≡ c
       → IsFrontIn ts k (owed_by k ws) n front.Waits × ((s : SeatView) → IsCauseFor st (get_or ts k s) c)
   found_cause ts owed stored o c same few f h is = (
     (few, λ s. ((f.1 s).0, subst (λ (w : ℕ). w < (get_or ts k s).free) same (f.1 s).1)),
@@ -81,7 +82,7 @@ module _ (st : Segment) (n : ℕ) (ws : List Owed) (k : ℕ) where
       → IsFrontIn ts k (owed_by k ws) n front.Waits × ((s : SeatView) → IsCauseFor st (get_or ts k s) c)
   found_at vs ts us owed stored r o c same is count f waits seats h cause =
       let g : IsFrontIn ts k owed stored front.Waits = subst (λ (q : Front). IsFrontIn ts k owed stored q) waits f in
-      found_cause ts owed stored o c (same ∙ ap (owed_by k) is) (subst (λ (m : ℕ). m < 1000000) count g.0) g (λ s. subst (λ (u : List SeatView). IsCauseFor st (get_or u k s) o) seats (h s)) cause
+      found_cause ts owed stored o c (same ∙ ap (owed_by k) is) (subst (λ (m : ℕ). m < MOST_CALLS) count g.0) g (λ s. subst (λ (u : List SeatView). IsCauseFor st (get_or u k s) o) seats (h s)) cause
 
   -- what a look found
   pub front_at : (vs : List Owed) (ts : List SeatView) (owed stored : ℕ) (r q : Front) → owed ≡ owed_by k vs → vs ≡ ws → stored ≡ n → IsFrontIn ts k owed stored r → r ≡ q → IsFrontIn ts k (owed_by k ws) n q

@@ -16,6 +16,7 @@ use Rattle.reply_law.specs.Replies.{reply_of}
 use Rattle.segment_rings.specs.Ends.{InboxEnd, new_inbox_end}
 use Rattle.segment_rings.specs.Views.{SeatView, DoorView, new_door}
 use Rattle.stored_calls.specs.declared.stored.Stored.{Stored}
+use Rattle.live_segment.specs.declared.calls.TheConstants.{MOST_CALLS}
 use Rattle.live_segment.specs.declared.refused.NotMade.{NotMade}
 use Rattle.live_segment.specs.declared.refused.NotMade.TheVariants as not_made
 use Rattle.live_segment.specs.Record.{trail}
@@ -31,7 +32,7 @@ open_free st at call o same is e = subst (λ (s : Segment). refusal_of (called s
 
 -- nothing but memory is lacking to open a port
 pub open_lacks : (keeps : Kept) (addresses : List Address) (st : Segment) (xs : List Stored) (ss : List SeatView) (ds : List DoorView) (station : Address) (pgn max_len : ℕ) (o : Option Refusal) (a : LiveView) → live_view keeps addresses xs ss ds ≡ a
-    → st ≡ (trail addresses xs).state → o ≡ None → o ≡ refusal_of (called st (Open station pgn max_len)) → count_since keeps.pieces xs < 1000000 → IsOpenCause a station pgn max_len not_made.OutOfMemory
+    → st ≡ (trail addresses xs).state → o ≡ None → o ≡ refusal_of (called st (Open station pgn max_len)) → count_since keeps.pieces xs < MOST_CALLS → IsOpenCause a station pgn max_len not_made.OutOfMemory
 open_lacks keeps addresses st xs ss ds station pgn max_len o a at same is e few =
     subst (λ (v : LiveView). IsOpenCause v station pgn max_len not_made.OutOfMemory) at (open_free st (trail addresses xs).state (Open station pgn max_len) o same is e, few)
 

@@ -10,6 +10,7 @@ use Rattle.segment_law.specs.declared.refusal.Refusal.{Refusal}
 use Rattle.segment_core.specs.Answers.{refusal_of}
 use Rattle.live_segment.specs.declared.call.WorkerCall.{WorkerCall}
 use Rattle.live_segment.specs.declared.call.WorkerCall.TheVariants.{Pump, Transmit, Take, TakeAgain, Overrun, Tick, Fire, Cancel, Inject, Pause, Resume}
+use Rattle.live_segment.specs.declared.calls.TheConstants.{MOST_CALLS}
 use Rattle.stored_calls.specs.declared.stored.Stored.{Stored}
 use Rattle.segment_rings.specs.Views.{SeatView, DoorView}
 use Rattle.live_segment.specs.Words.{call_of}
@@ -66,7 +67,7 @@ room_no_cause st (Pause q) r t = refl
 room_no_cause st (Resume q) r t = refl
 
 -- where the segment doesn't refuse a call, nothing but memory may be lacking
-pub lacks_memory : (keeps : Kept) (addresses : List Address) (st : Segment) (xs : List Stored) (ss : List SeatView) (ds : List DoorView) (call : WorkerCall) (o : Option Refusal) → st ≡ (trail addresses xs).state → count_since keeps.pieces xs < 1000000
+pub lacks_memory : (keeps : Kept) (addresses : List Address) (st : Segment) (xs : List Stored) (ss : List SeatView) (ds : List DoorView) (call : WorkerCall) (o : Option Refusal) → st ≡ (trail addresses xs).state → count_since keeps.pieces xs < MOST_CALLS
     → o ≡ None → ((room : Bool) → o ≡ refusal_of (called st (call_of call room))) → LacksMemory (live_view keeps addresses xs ss ds) call
 lacks_memory keeps addresses st xs ss ds call o at few none e = record {
   few = few;

@@ -20,6 +20,7 @@ use Rattle.segment_rings.specs.declared.words.Note.{Note}
 use Rattle.segment_rings.specs.Views.{SeatView, DoorView, popped_one}
 use Rattle.stored_calls.specs.declared.stored.Stored.{Stored}
 use Rattle.live_segment.specs.declared.call.Owed.{Owed}
+use Rattle.live_segment.specs.declared.calls.TheConstants.{MOST_CALLS}
 use Rattle.live_segment.specs.Record.{accepted, owed_by, settle_notes, settle_owed, owe, Trail, trail, step}
 use Rattle.live_segment.specs.Facts.{IdsFrom, HaveRoom, OwedWithin, PopsAccepted, PushesNotes, PushesGiven, Holds, NotedWithin, HaveSenders, seat_station}
 use Rattle.live_segment.specs.Past.{count_since}
@@ -173,7 +174,7 @@ pub same_front : (x y : Submission) (ahead rest : List Submission) → IsPrefix 
 same_front x y ahead rest p e = let q : x ∷ p.0 ≡ ahead = p.1 in cc
 
 pub refused_send : (keeps : Kept) (addresses : List Address) (st : Segment) (xs : List Stored) (ss ts : List SeatView) (ds es : List DoorView) (k : ℕ) (x : Submission) (s : SeatView) (r : Reply)
-    → st ≡ (trail addresses xs).state → k < length ts → s ≡ get_or ts k s → map client_of ts ≡ map client_of ss → count_since keeps.pieces xs < 1000000 → IsPrefix (x ∷ []) s.ahead → r ≡ reply_of st (send_call s.station x)
+    → st ≡ (trail addresses xs).state → k < length ts → s ≡ get_or ts k s → map client_of ts ≡ map client_of ss → count_since keeps.pieces xs < MOST_CALLS → IsPrefix (x ∷ []) s.ahead → r ≡ reply_of st (send_call s.station x)
     → RefusedSend (live_view keeps addresses xs ss ds) (live_view keeps addresses xs ts es) k r
 refused_send keeps addresses st xs ss ts ds es k x s r is l at cs few front e =
     let own : (v : ClientView) → get_or (map client_of ss) k v ≡ client_of s = λ v. ap (λ (u : List ClientView). get_or u k v) (sym cs) ∙ get_or-map client_of ts k s v l ∙ ap client_of (sym at) in

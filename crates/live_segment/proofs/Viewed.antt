@@ -7,6 +7,7 @@ use Rattle.segment_rings.specs.Views.{SeatView, DoorView}
 use Rattle.stored_calls.specs.declared.stored.Stored.{Stored}
 use Rattle.live_segment.specs.declared.call.Owed.{Owed}
 use Rattle.live_segment.specs.declared.calls.Piece.{Piece}
+use Rattle.live_segment.specs.declared.calls.TheConstants.{MOST_CALLS}
 use Rattle.live_segment.specs.Facts.{SameDoors, SameSeats, Holds, IsCut}
 use Rattle.live_segment.specs.Past.{count_since}
 use Rattle.live_segment.specs.LiveView.{LiveView, live_view, keep, SameLive, port_of}
@@ -52,5 +53,5 @@ pub door_within : (k : ℕ) (ds : List DoorView) → k < length (map port_of ds)
 door_within k ds l = rw length-map at l
 
 -- as many calls are stored
-pub few_kept : (ps qs : List Piece) (xs ys : List Stored) → qs ≡ ps → ys ≡ xs → count_since ps xs < 1000000 → count_since qs ys < 1000000
-few_kept ps qs xs ys p e few = subst (λ (u : List Piece). count_since u ys < 1000000) (sym p) (subst (λ (u : List Stored). count_since ps u < 1000000) (sym e) few)
+pub few_kept : (ps qs : List Piece) (xs ys : List Stored) → qs ≡ ps → ys ≡ xs → count_since ps xs < MOST_CALLS → count_since qs ys < MOST_CALLS
+few_kept ps qs xs ys p e few = subst (λ (u : List Piece). count_since u ys < MOST_CALLS) (sym p) (subst (λ (u : List Stored). count_since ps u < MOST_CALLS) (sym e) few)

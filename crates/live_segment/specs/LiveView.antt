@@ -27,6 +27,7 @@ use Rattle.live_segment.specs.Places.{times}
 use Rattle.live_segment.specs.Record.{accepted, given, notes_of, settle_notes, trail}
 use Rattle.live_segment.specs.Facts.{HasNotes, HaveSenders}
 use Rattle.live_segment.specs.declared.calls.Piece.{Piece}
+use Rattle.live_segment.specs.declared.calls.TheConstants.{MOST_CALLS}
 use Rattle.live_segment.specs.Past.{count_since, since, HasPast}
 
 -- popped, noted: what went out of the client's submissions and into its notes; named: how many notes there were when it was last named
@@ -176,7 +177,7 @@ pub record Applied (a b : LiveView) (call : WorkerCall) (r : Reply) (with_room :
 
 -- nothing but memory is lacking: one more call can be stored, and the segment doesn't refuse it
 pub record LacksMemory (a : LiveView) (call : WorkerCall) : Type 0 where
-  pub few : stored_calls a < 1000000
+  pub few : stored_calls a < MOST_CALLS
   pub passes : (room : Bool) → refusal_of (called (trail a.addresses a.calls).state (call_of call room)) ≡ None
 
 abbrev pub new_client : Address → ClientView
@@ -219,9 +220,9 @@ new_port_view p places = record { port = p; active = true; places = places; push
 
 -- why a port isn't opened: the segment refuses the Open, or else no more calls can be stored; or, if neither holds, for want of memory
 abbrev pub IsOpenCause : LiveView → (station : Address) → (pgn max_len : ℕ) → NotMade → Type 0
-IsOpenCause a station pgn max_len not_made.OutOfMemory = (refusal_of (called (trail a.addresses a.calls).state (Open station pgn max_len)) ≡ None) × (stored_calls a < 1000000)
+IsOpenCause a station pgn max_len not_made.OutOfMemory = (refusal_of (called (trail a.addresses a.calls).state (Open station pgn max_len)) ≡ None) × (stored_calls a < MOST_CALLS)
 IsOpenCause a station pgn max_len (not_made.Refused c) = (Refused c ≡ reply_of (trail a.addresses a.calls).state (Open station pgn max_len))
-    ⊎ ((c ≡ TraceFull) × (refusal_of (called (trail a.addresses a.calls).state (Open station pgn max_len)) ≡ None) × (1000000 ≤ stored_calls a))
+    ⊎ ((c ≡ TraceFull) × (refusal_of (called (trail a.addresses a.calls).state (Open station pgn max_len)) ≡ None) × (MOST_CALLS ≤ stored_calls a))
 
 -- the Open was added, and the inbox, whose ring has so many places, is of the port that it opened
 pub record OpenedWith (a b : LiveView) (station : Address) (pgn max_len places : ℕ) (i : InboxEnd) : Type 0 where

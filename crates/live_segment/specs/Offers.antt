@@ -16,6 +16,7 @@ use Rattle.segment_rings.specs.declared.words.Submission.{Submission}
 use Rattle.segment_rings.specs.Views.{SeatView, popped_one}
 use Rattle.stored_calls.specs.declared.stored.Stored.{Stored}
 use Rattle.live_segment.specs.declared.call.Owed.{Owed}
+use Rattle.live_segment.specs.declared.calls.TheConstants.{MOST_CALLS}
 use Rattle.live_segment.specs.declared.refused.Accepted.{Accepted}
 use Rattle.live_segment.specs.declared.refused.Accepted.TheVariants as accepted
 use Rattle.live_segment.specs.declared.offer.Front.{Front}
@@ -33,8 +34,8 @@ IsWaiting s = (s.active ≡ true) × (0 < length s.ahead)
 abbrev pub IsFrontIn : List SeatView → (k owed stored : ℕ) → Front → Type 0
 IsFrontIn ss k owed stored front.Empty = (s : SeatView) → ((slice_index_or ss k s).active ≡ false) ⊎ (length (slice_index_or ss k s).ahead ≡ 0)
 IsFrontIn ss k owed stored front.Owed = (s : SeatView) → IsWaiting (slice_index_or ss k s) × ((slice_index_or ss k s).free ≤ owed)
-IsFrontIn ss k owed stored front.Full = (1000000 ≤ stored) × ((s : SeatView) → IsWaiting (slice_index_or ss k s) × (owed < (slice_index_or ss k s).free))
-IsFrontIn ss k owed stored front.Waits = (stored < 1000000) × ((s : SeatView) → IsWaiting (slice_index_or ss k s) × (owed < (slice_index_or ss k s).free))
+IsFrontIn ss k owed stored front.Full = (MOST_CALLS ≤ stored) × ((s : SeatView) → IsWaiting (slice_index_or ss k s) × (owed < (slice_index_or ss k s).free))
+IsFrontIn ss k owed stored front.Waits = (stored < MOST_CALLS) × ((s : SeatView) → IsWaiting (slice_index_or ss k s) × (owed < (slice_index_or ss k s).free))
 
 abbrev pub send_call : Address → Submission → Call
 send_call from x = Send from x.to x.pgn x.bytes
@@ -53,7 +54,7 @@ IsReadyToSend st stored ws ss k ready.Empty = IsFrontIn ss k (owed_by k ws) stor
 IsReadyToSend st stored ws ss k ready.Owed = IsFrontIn ss k (owed_by k ws) stored front.Owed
 IsReadyToSend st stored ws ss k ready.Full = IsFrontIn ss k (owed_by k ws) stored front.Full
 IsReadyToSend st stored ws ss k (ready.NotSent c) = IsFrontIn ss k (owed_by k ws) stored front.Waits × ((s : SeatView) → IsCauseFor st (slice_index_or ss k s) (Some c))
-IsReadyToSend st stored ws ss k (ready.Send call) = ((stored < 1000000) × ((s : SeatView) → IsWaiting (slice_index_or ss k s) × (owed_by k ws < (slice_index_or ss k s).free) × (owed_by k ws < (slice_index_or ss k s).spare)))
+IsReadyToSend st stored ws ss k (ready.Send call) = ((stored < MOST_CALLS) × ((s : SeatView) → IsWaiting (slice_index_or ss k s) × (owed_by k ws < (slice_index_or ss k s).free) × (owed_by k ws < (slice_index_or ss k s).spare)))
     × ((s : SeatView) → IsSendOf (slice_index_or ss k s) call)
 
 -- nothing but memory is lacking
@@ -113,19 +114,19 @@ pub record SentFor (a b : LiveView) (c n : ℕ) (x : Submission) : Type 0 where
 
 -- the segment refused the Send of the submission that is seen in front
 pub record RefusedSend (a b : LiveView) (c : ℕ) (r : Reply) : Type 0 where
-  pub few : stored_calls a < 1000000
+  pub few : stored_calls a < MOST_CALLS
   pub x : Submission
   pub front : IsPrefix (x ∷ []) (slice_index_or b.seen c [])
   pub reply : (v : ClientView) → r ≡ reply_of (trail a.addresses a.calls).state (send_call (slice_index_or a.clients c v).station x)
 
 -- why a submission was refused: no more calls can be stored, or else the segment refuses its Send
 abbrev pub IsCause : LiveView → LiveView → ℕ → Reply → Type 0
-IsCause a b c r = ((r ≡ Refused TraceFull) × (1000000 ≤ stored_calls a)) ⊎ RefusedSend a b c r
+IsCause a b c r = ((r ≡ Refused TraceFull) × (MOST_CALLS ≤ stored_calls a)) ⊎ RefusedSend a b c r
 
 -- nothing but memory is lacking to send the submission that is seen in front: calls can be stored, its note has a place, and the
 -- segment doesn't refuse its Send
 pub record LacksMemoryFor (a b : LiveView) (c : ℕ) : Type 0 where
-  pub few : stored_calls a < 1000000
+  pub few : stored_calls a < MOST_CALLS
   pub waits : WaitsAt b c
   pub place : owed_by c (trail a.addresses a.calls).owed < slice_index b.note_free c
   pub x : Submission

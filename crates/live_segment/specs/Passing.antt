@@ -7,10 +7,11 @@ use Rattle.segment_core.specs.Passing.{PassesBy}
 use Rattle.segment_core.specs.declared.passing.Passing.{Passing}
 use Rattle.segment_core.specs.declared.passing.Passing.TheVariants.{Passed, Rests, Busy}
 use Rattle.live_segment.specs.declared.call.WorkerCall.TheVariants.{Take}
+use Rattle.live_segment.specs.declared.calls.TheConstants.{MOST_CALLS}
 use Rattle.live_segment.specs.LiveView.{LiveView, Applied, stored_calls}
 use Rattle.live_segment.specs.Turns.{state_of}
 
 abbrev pub IsPassing : LiveView → Address → LiveView → Passing → Type 0
-IsPassing a station b Passed = (stored_calls a < 1000000) × Applied a b (Take station) (Done []) true × PassesBy (state_of a) station (state_of b)
+IsPassing a station b Passed = (stored_calls a < MOST_CALLS) × Applied a b (Take station) (Done []) true × PassesBy (state_of a) station (state_of b)
 IsPassing a station b Rests = (waiting_at (state_of a) station ≡ 0) × (b ≡ a)
 IsPassing a station b Busy = b ≡ a

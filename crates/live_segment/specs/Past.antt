@@ -4,6 +4,7 @@ use Rattle.pgn_ids.specs.declared.address.Address.{Address}
 use Rattle.segment_law.specs.Segment.{Segment}
 use Rattle.stored_calls.specs.declared.stored.Stored.{Stored}
 use Rattle.live_segment.specs.declared.calls.Piece.{Piece}
+use Rattle.live_segment.specs.declared.calls.TheConstants.{MOST_CALLS}
 use Rattle.live_segment.specs.Record.{trail}
 
 -- the calls of pieces, one after another
@@ -35,16 +36,16 @@ pub record CallsView : Type 0 where
 abbrev pub IsCutImage : List Address → List Piece → Option Segment → Type 0
 IsCutImage addresses ps image = MatchOption image (ps ≡ []) (λ s. s ≡ (trail addresses (joined ps)).state)
 
--- the pieces are the beginning of all calls, and at most 1,000,000 calls are stored since
+-- the pieces are the beginning of all calls, and at most MOST_CALLS calls are stored since
 pub record HasPast (ps : List Piece) (xs : List Stored) : Type 0 where
   pub whole : joined ps ++ since ps xs ≡ xs
-  pub few : count_since ps xs ≤ 1000000
+  pub few : count_since ps xs ≤ MOST_CALLS
   pub numbered : NumberedAfter 0 ps
 
 -- the number of one more piece, or that of the calls that can have been made then, would pass the last value of a count
 abbrev pub IsPastCounts : List Piece → List Stored → Type 0
-IsPastCounts ps xs = (2 ^ 64 ≤ length ps + 1) ⊎ (2 ^ 64 ≤ length xs + 1000000)
+IsPastCounts ps xs = (2 ^ 64 ≤ length ps + 1) ⊎ (2 ^ 64 ≤ length xs + MOST_CALLS)
 
 -- neither count would
 abbrev pub HasCounts : List Piece → List Stored → Type 0
-HasCounts ps xs = (length ps + 1 < 2 ^ 64) × (length xs + 1000000 < 2 ^ 64)
+HasCounts ps xs = (length ps + 1 < 2 ^ 64) × (length xs + MOST_CALLS < 2 ^ 64)

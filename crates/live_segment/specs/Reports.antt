@@ -10,6 +10,7 @@ use Rattle.segment_rings.specs.declared.words.Submission.{Submission}
 use Rattle.segment_rings.specs.declared.words.Delivery.{Delivery}
 use Rattle.segment_rings.specs.Ends.{ClientEnd, InboxEnd, closes}
 use Rattle.live_segment.specs.declared.closing.Closed.{Closed}
+use Rattle.live_segment.specs.declared.calls.TheConstants.{MOST_CALLS}
 use Rattle.live_segment.specs.declared.refused.NotMade.{NotMade}
 use Rattle.live_segment.specs.declared.refused.NotMade.TheVariants as not_made
 use Rattle.live_segment.specs.declared.report.ClientReport.{ClientReport}
@@ -115,7 +116,7 @@ closing q p = cond (same_port q p.port) (record p { active = false }) p
 -- the Close was added, unless the port was closed already; the inbox received the rest of what its port was given; and the port
 -- is closed, so that no later call gives to it
 pub record ClosedFor (a b : LiveView) (i j : InboxEnd) (r : Closed) : Type 0 where
-  pub few : stored_calls a < 1000000
+  pub few : stored_calls a < MOST_CALLS
   pub within : HasPort a.ports i.port
   pub port : r.port ≡ i.port
   pub rest : IsRest a i r.rest.items
@@ -139,12 +140,12 @@ pub record CloseMade (a b : LiveView) (port : PortId) : Type 0 where
 -- why a port isn't closed: the inbox isn't of this segment, or else no more calls can be stored; or, if neither holds, for want of
 -- memory
 abbrev pub IsCloseCause : LiveView → InboxEnd → NotMade → Type 0
-IsCloseCause a i not_made.OutOfMemory = InboxAgrees a i × (stored_calls a < 1000000)
-IsCloseCause a i (not_made.Refused c) = ((c ≡ NotThisSegment) × (InboxAgrees a i → ⊥)) ⊎ ((c ≡ TraceFull) × InboxAgrees a i × (1000000 ≤ stored_calls a))
+IsCloseCause a i not_made.OutOfMemory = InboxAgrees a i × (stored_calls a < MOST_CALLS)
+IsCloseCause a i (not_made.Refused c) = ((c ≡ NotThisSegment) × (InboxAgrees a i → ⊥)) ⊎ ((c ≡ TraceFull) × InboxAgrees a i × (MOST_CALLS ≤ stored_calls a))
 
 -- the Close of a port was added, unless the port was closed already; and the port is closed, so that no later call gives to it
 pub record PortClosed (a b : LiveView) (port : PortId) : Type 0 where
-  pub few : stored_calls a < 1000000
+  pub few : stored_calls a < MOST_CALLS
   pub within : HasPort a.ports port
   pub addresses : b.addresses ≡ a.addresses
   pub stopped : b.stopped ≡ a.stopped
@@ -155,8 +156,8 @@ pub record PortClosed (a b : LiveView) (port : PortId) : Type 0 where
 
 -- why a port isn't closed: it was never opened here, or else no more calls can be stored; or, if neither holds, for want of memory
 abbrev pub IsPortCause : LiveView → PortId → NotMade → Type 0
-IsPortCause a port not_made.OutOfMemory = HasPort a.ports port × (stored_calls a < 1000000)
-IsPortCause a port (not_made.Refused c) = ((c ≡ NoSuchPort) × (HasPort a.ports port → ⊥)) ⊎ ((c ≡ TraceFull) × HasPort a.ports port × (1000000 ≤ stored_calls a))
+IsPortCause a port not_made.OutOfMemory = HasPort a.ports port × (stored_calls a < MOST_CALLS)
+IsPortCause a port (not_made.Refused c) = ((c ≡ NoSuchPort) × (HasPort a.ports port → ⊥)) ⊎ ((c ≡ TraceFull) × HasPort a.ports port × (MOST_CALLS ≤ stored_calls a))
 
 -- the client of this number is gone
 abbrev pub gone : List ClientView → ℕ → List ClientView

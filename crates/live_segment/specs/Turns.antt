@@ -12,6 +12,7 @@ use Rattle.segment_law.specs.declared.reply.Reply.{Reply}
 use Rattle.segment_law.specs.declared.reply.Reply.TheVariants.{Opened, Sent, Refused, Done}
 use Rattle.live_segment.specs.declared.call.WorkerCall.{WorkerCall}
 use Rattle.live_segment.specs.declared.call.WorkerCall.TheVariants.{Pump, Transmit, Take, Overrun, Tick, Fire}
+use Rattle.live_segment.specs.declared.calls.TheConstants.{MOST_CALLS}
 use Rattle.live_segment.specs.declared.refused.Accepted.{Accepted}
 use Rattle.live_segment.specs.declared.refused.Accepted.TheVariants as accepted
 use Rattle.live_segment.specs.declared.turns.Turn.{Turn}
@@ -78,7 +79,7 @@ after_accept t (accepted.Sent n) = one_more t
 
 -- a call was made and answered so; without a place to store it, it is refused and changes nothing
 abbrev pub IsAnswered : LiveView → LiveView → WorkerCall → Reply → Type 0
-IsAnswered a b call r = ((1000000 ≤ stored_calls a) × (r ≡ Refused TraceFull) × (b ≡ a)) ⊎ ((stored_calls a < 1000000) × ((room : Bool) × Applied a b call r room))
+IsAnswered a b call r = ((MOST_CALLS ≤ stored_calls a) × (r ≡ Refused TraceFull) × (b ≡ a)) ⊎ ((stored_calls a < MOST_CALLS) × ((room : Bool) × Applied a b call r room))
 
 -- one call is made: it is answered, or memory is lacking and nothing changes
 abbrev pub Makes : WorkerCall → Point → Point → Type 0

@@ -1,10 +1,12 @@
 //! The calls that were made: those that are stored, and the pieces in which those before them were handed out.
-use crate::offer::MOST_CALLS;
 use segment_core::{Call, Image};
 use segment_rings::Outlet;
 use std::alloc::{AllocError, Global};
 use std::marker::Model;
 use stored_calls::{Stored, StoredCalls};
+
+/// How many calls are stored at most since the last cut.
+pub const MOST_CALLS: usize = 1_000_000;
 
 /// The calls that were stored between two cuts, each with the client whose message it sends. The pieces of a segment are
 /// numbered from 1.
@@ -26,6 +28,7 @@ pub(crate) struct Calls {
 
 impl Model for Calls {
     ghost use Rattle.std.specs.Prelude.{◌≡◌, ◌+◌, ◌<◌, ◌≤◌, ◌^◌, ◌++◌, length};
+    ghost use Rattle.live_segment.specs.declared.calls.TheConstants.{MOST_CALLS};
     ghost use Rattle.live_segment.specs.Past.{CallsView, joined, NumberedAfter};
     ghost use Rattle.live_segment.specs.PastCode.{calls_code};
     ghost use Rattle.live_segment.specs.TurnedAway.{count_turned_away};
@@ -36,7 +39,7 @@ impl Model for Calls {
 
     ghost view = { λ c. record { pieces = c.outlet; items = joined c.outlet ++ c.stored.items; image = c.image; spare = c.stored.spare } };
 
-    ghost invariant = { λ c. (c.cuts ≡ length c.outlet) × (c.before ≡ length (joined c.outlet)) × (c.before + 1000000 < 2 ^ 64) × (length c.stored.items ≤ 1000000) × NumberedAfter 0 c.outlet × (c.turned_away ≡ count_turned_away (joined c.outlet ++ c.stored.items)) };
+    ghost invariant = { λ c. (c.cuts ≡ length c.outlet) × (c.before ≡ length (joined c.outlet)) × (c.before + MOST_CALLS < 2 ^ 64) × (length c.stored.items ≤ MOST_CALLS) × NumberedAfter 0 c.outlet × (c.turned_away ≡ count_turned_away (joined c.outlet ++ c.stored.items)) };
 }
 
 impl Drop for Calls {
@@ -119,8 +122,8 @@ impl Calls {
 
     /// Whether no more calls can be stored.
     pub(crate) fn is_full(&self) -> bool
-        ensures full { IsTrue result → 1000000 ≤ count_since self.now.pieces self.now.items }
-        ensures few { IsFalse result → count_since self.now.pieces self.now.items < 1000000 }
+        ensures full { IsTrue result → MOST_CALLS ≤ count_since self.now.pieces self.now.items }
+        ensures few { IsFalse result → count_since self.now.pieces self.now.items < MOST_CALLS }
     {
         self.stored.len() >= MOST_CALLS
     }
@@ -146,7 +149,7 @@ impl Calls {
         ensures pieces { self.new.pieces ≡ self.old.pieces }
         ensures image { self.new.image ≡ self.old.image }
         ensures room { OnOk result (0 < self.new.spare) }
-        ensures few { count_since self.old.pieces self.old.items < 1000000 → length self.old.items + 1 < 2 ^ 64 }
+        ensures few { count_since self.old.pieces self.old.items < MOST_CALLS → length self.old.items + 1 < 2 ^ 64 }
     {
         // As a rule there is room.
         if self.stored.has_room() {
@@ -160,7 +163,7 @@ impl Calls {
     #[inline(always)]
     pub(crate) fn push_reserved(&mut self, call: Stored)
         requires room { 0 < self.old.spare }
-        requires few { count_since self.old.pieces self.old.items < 1000000 }
+        requires few { count_since self.old.pieces self.old.items < MOST_CALLS }
         ensures items { self.new.items ≡ self.old.items ++ call ∷ [] }
         ensures pieces { self.new.pieces ≡ self.old.pieces }
         ensures image { self.new.image ≡ self.old.image }

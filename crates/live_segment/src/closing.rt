@@ -4,10 +4,10 @@ ghost use Rattle.segment_rings.specs.Ends.{closes};
 ghost use Rattle.segment_rings.specs.Views.{DoorView, closed_door};
 
 use crate::all_doors::Doors;
+use crate::calls::MOST_CALLS;
 use crate::compare::copy_deliveries;
 use crate::ending::{inbox_agrees, report_inbox};
 use crate::live::Live;
-use crate::offer::MOST_CALLS;
 use crate::places::door_of;
 use crate::refused::NotMade;
 use crate::report::InboxReport;
@@ -94,7 +94,7 @@ impl Live {
         requires within { k < length self.old.ports }
         requires port { (p : PortView) → (slice_index_or self.old.ports k p).port ≡ inbox.old.port }
         requires agrees { InboxAgrees self.old inbox.old }
-        requires few { stored_calls self.old < 1000000 }
+        requires few { stored_calls self.old < MOST_CALLS }
         ensures closed { IfOk result (λ r. ClosedFor self.old self.new inbox.old inbox.new r) }
         ensures err { OnErr result (SameLive self.old self.new) }
         ensures kept { OnErr result (inbox.new ≡ with_room_kept inbox.old inbox.new.spare) }
@@ -109,7 +109,7 @@ impl Live {
 
     // Makes the Close of a port, and notes its events. It is stored unless it is refused.
     fn make_close(&mut self, port: PortId) -> Result<(), AllocError>
-        requires { stored_calls self.old < 1000000 }
+        requires { stored_calls self.old < MOST_CALLS }
         ensures made { OnOk result (CloseMade self.old self.new port) }
         ensures err { OnErr result (SameLive self.old self.new) }
     {

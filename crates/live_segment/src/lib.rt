@@ -35,13 +35,12 @@ mod turns;
 mod wanted;
 
 pub use call::{Owed, WorkerCall};
-pub use calls::Piece;
+pub use calls::{MOST_CALLS, Piece};
 pub use closing::Closed;
 pub use detaching::NotDetached;
 pub use ending::{client_agrees, finish, inbox_agrees, pieces_begin};
 pub use live::Live;
 pub use news::News;
-pub use offer::MOST_CALLS;
 pub use refused::{Accepted, NotMade};
 pub use rejoining::{RejoinRefused, rejoin};
 pub use report::{ClientReport, FinishRefused, InboxReport, Report};

@@ -78,6 +78,7 @@ impl Live {
     ghost use Rattle.segment_law.specs.Record.{StandsAt};
     ghost use Rattle.segment_law.specs.declared.reply.Reply.TheVariants.{Refused};
     ghost use Rattle.segment_law.specs.declared.refusal.Refusal.TheVariants.{TraceFull};
+    ghost use Rattle.live_segment.specs.declared.calls.TheConstants.{MOST_CALLS};
     ghost use Rattle.live_segment.specs.Record.{trail};
     ghost use Rattle.live_segment.specs.LiveView.{live_view, keep, stored_calls, since_cut, halted, SameLive, Applied, LacksMemory, Attached, Laws, OpenedFor, OpenedWith, IsOpenCause};
     ghost use Rattle.live_segment.specs.Offers.{AcceptedAs, LacksMemoryFor, IsAtRest};
@@ -180,8 +181,8 @@ impl Live {
     /// Refused if no more calls can be stored, and then if the segment refuses the call. Want of memory is returned only for a call that
     /// isn't refused. A refused call and want of memory change nothing.
     pub fn apply(&mut self, call: WorkerCall) -> Result<Reply, AllocError>
-        ensures full { 1000000 ≤ stored_calls self.old → (result ≡ Ok (Refused TraceFull)) × (self.new ≡ self.old) }
-        ensures applied { stored_calls self.old < 1000000 → IfOk result (λ r. (room : Bool) × Applied self.old self.new call r room) }
+        ensures full { MOST_CALLS ≤ stored_calls self.old → (result ≡ Ok (Refused TraceFull)) × (self.new ≡ self.old) }
+        ensures applied { stored_calls self.old < MOST_CALLS → IfOk result (λ r. (room : Bool) × Applied self.old self.new call r room) }
         ensures err { OnErr result (SameLive self.old self.new) }
         ensures not_refused { OnErr result (LacksMemory self.old call) }
     {
@@ -203,8 +204,8 @@ impl Live {
         told: &mut Events,
     ) -> Result<Made, AllocError>
         requires { told.old ≡ [] }
-        ensures full { 1000000 ≤ stored_calls self.old → (result ≡ Ok (made.Refused TraceFull)) × (self.new ≡ self.old) }
-        ensures applied { stored_calls self.old < 1000000 → IfOk result (λ m. (room : Bool) × Applied self.old self.new call (reply_with m told.new) room) }
+        ensures full { MOST_CALLS ≤ stored_calls self.old → (result ≡ Ok (made.Refused TraceFull)) × (self.new ≡ self.old) }
+        ensures applied { stored_calls self.old < MOST_CALLS → IfOk result (λ m. (room : Bool) × Applied self.old self.new call (reply_with m told.new) room) }
         ensures err { OnErr result (SameLive self.old self.new) }
         ensures not_refused { OnErr result (LacksMemory self.old call) }
     {
@@ -218,7 +219,7 @@ impl Live {
     // call that it makes: only what that call does is left then.
     #[inline(always)]
     fn make(&mut self, call: WorkerCall, told: &mut Events) -> Result<Made, AllocError>
-        requires few { stored_calls self.old < 1000000 }
+        requires few { stored_calls self.old < MOST_CALLS }
         requires silent { told.old ≡ [] }
         ensures applied { IfOk result (λ m. (room : Bool) × Applied self.old self.new call (reply_with m told.new) room) }
         ensures err { OnErr result (SameLive self.old self.new) }

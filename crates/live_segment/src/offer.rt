@@ -10,15 +10,12 @@ ghost use Rattle.live_segment.specs.Offers.{IsFrontIn, IsSendOf, IsCauseFor, IsR
 ghost use Rattle.live_segment.specs.declared.offer.Front.TheVariants as front;
 
 use crate::call::Owed;
-use crate::calls::Calls;
+use crate::calls::{Calls, MOST_CALLS};
 use segment_core::{Call, Refusal};
 use segment_rings::{Offer, Seat, Submission};
 use std::alloc::{AllocError, Global};
 use stored_calls::Stored;
 use watched_segment::Watched;
-
-/// How many calls are stored at most since the last cut.
-pub const MOST_CALLS: usize = 1_000_000;
 
 /// How many messages of the client are without an outcome.
 pub(crate) fn count_owed(owed: &[Owed], client: u64) -> usize
@@ -215,7 +212,7 @@ pub(crate) fn store(
     requires waits { (s : SeatView) → 0 < length (slice_index_or seats.old.items k s).ahead }
     requires few { (s : SeatView) → length (slice_index_or seats.old.items k s).popped + 1 < 2 ^ 64 }
     requires calls { 0 < calls.old.spare }
-    requires stored { count_since calls.old.pieces calls.old.items < 1000000 }
+    requires stored { count_since calls.old.pieces calls.old.items < MOST_CALLS }
     requires owed { vec_len owed.old < vec_capacity owed.old }
     ensures stored { (s : SeatView) → (x : Submission) × IsStored (slice_index_or seats.old.items k s) k number x calls.old.items calls.new.items owed.old.items owed.new.items seats.old.items seats.new.items }
     ensures pieces { calls.new.pieces ≡ calls.old.pieces }

@@ -1,5 +1,6 @@
 //! Places in the rings of ports, and memory for what goes there, found before a call is made.
 ghost use Rattle.std.specs.Prelude.{◌≡◌, ◌<◌, ◌+◌, ◌*◌, ◌^◌, length, List, [], ◌∷◌, ◌++◌, IfOk, OnOk, OnErr, IfSome, IfNone, IsTrue, IsFalse, MatchOption, true, false};
+ghost use Rattle.live_segment.specs.declared.calls.TheConstants.{MOST_CALLS};
 ghost use Rattle.live_segment.specs.Past.{count_since};
 ghost use Rattle.live_segment.specs.Words.{call_of, wanted_by};
 ghost use Rattle.pgn_ids.specs.declared.address.Address.{Address};
@@ -181,7 +182,7 @@ pub(crate) fn make_found(
     ensures image { calls.new.image ≡ calls.old.image }
     ensures same { SameDoors doors.old.items doors.new.items }
     ensures place { OnOk result (0 < calls.new.spare) }
-    ensures few { count_since calls.old.pieces calls.old.items < 1000000 → length calls.old.items + 1 < 2 ^ 64 }
+    ensures few { count_since calls.old.pieces calls.old.items < MOST_CALLS → length calls.old.items + 1 < 2 ^ 64 }
     ensures found { IfOk result (λ r. IsFound (wanted_by segment.old call.now) doors.new.items r.room r.buffers.items) }
     ensures reply { IfOk result (λ r. reply_with r.made told.new ≡ reply_of segment.old (call_of call.now r.room)) }
     ensures after { IfOk result (λ r. segment.new ≡ left_by segment.old (call_of call.now r.room)) }

@@ -84,6 +84,7 @@ impl Seats {
     ghost use Rattle.segment_rings.specs.Views.{SeatView, closed_seat, has_noted_news, named_seat};
     ghost use Rattle.segment_rings.specs.declared.words.Submission.{Submission};
     ghost use Rattle.live_segment.specs.Record.{settle_notes, settle_owed, notes_at, owed_after};
+    ghost use Rattle.live_segment.specs.declared.calls.TheConstants.{MOST_CALLS};
     ghost use Rattle.live_segment.specs.Past.{count_since};
     ghost use Rattle.live_segment.specs.Facts.{IdsFrom, HaveRoom, OwedWithin, SameSeats, CutSeats, note_all};
     ghost use Rattle.live_segment.specs.Offers.{IsReadyToSend, LacksRoomToSend, HasSpace, IsStored};
@@ -206,7 +207,7 @@ impl Seats {
         requires waits { (s : SeatView) → 0 < length (slice_index_or self.old.items k s).ahead }
         requires few { (s : SeatView) → length (slice_index_or self.old.items k s).popped + 1 < 2 ^ 64 }
         requires calls { 0 < calls.old.spare }
-        requires stored { count_since calls.old.pieces calls.old.items < 1000000 }
+        requires stored { count_since calls.old.pieces calls.old.items < MOST_CALLS }
         requires owed { vec_len owed.old < vec_capacity owed.old }
         ensures stored { (s : SeatView) → (x : Submission) × IsStored (slice_index_or self.old.items k s) k number x calls.old.items calls.new.items owed.old.items owed.new.items self.old.items self.new.items }
         ensures pieces { calls.new.pieces ≡ calls.old.pieces }

@@ -2,6 +2,7 @@ use Rattle.std.proofs.Common.{◌≡◌, ◌+◌, ◌<◌, ◌≤◌, ◌^◌, L
 use Rattle.std.proofs.lemmas.List.{length_push}
 use Rattle.stored_calls.specs.declared.stored.Stored.{Stored}
 use Rattle.live_segment.specs.declared.calls.Piece.{Piece}
+use Rattle.live_segment.specs.declared.calls.TheConstants.{MOST_CALLS}
 use Rattle.live_segment.specs.Past.{joined, CallsView, HasCounts}
 use Rattle.live_segment.specs.TurnedAway.{count_turned_away}
 use Rattle.live_segment.proofs.Pieces.{numbered_push, joined_push}
@@ -21,10 +22,10 @@ invariant_of-self c =
     let was = c.self.invariant in
     let count : i.before + c.len.result ≡ length (joined ps) + length xs = omega (arith, was.1, c.len.ensures) in
     let counts : HasCounts ps (joined ps ++ xs) = subst (λ (v : CallsView). HasCounts v.pieces v.items) (sym c.self.view_is) c.requires in
-    let fits : i.before + c.len.result + 1000000 < 2 ^ 64 = omega (arith, counts.1, count, sum) in
+    let fits : i.before + c.len.result + MOST_CALLS < 2 ^ 64 = omega (arith, counts.1, count, sum) in
     let none = ap (λ v. length v.items) c.replace-calls.ensures.after ∙ ap (λ (ys : List Stored). length ys) c.new.ensures in
     let none_left : c.replace-calls.new.dest.items ≡ [] = ap (λ v. v.items) c.replace-calls.ensures.after ∙ c.new.ensures in
-    let few : length c.replace-calls.new.dest.items ≤ 1000000 = omega (arith, none) in
+    let few : length c.replace-calls.new.dest.items ≤ MOST_CALLS = omega (arith, none) in
     rw new (
       omega (arith, was.0, length_push ps p),
       omega (arith, count, many),

@@ -13,6 +13,7 @@ use Rattle.segment_rings.specs.Views.{SeatView, new_seat, popped_one}
 use Rattle.stored_calls.specs.declared.stored.Stored.{Stored}
 use Rattle.live_segment.specs.declared.call.Owed.{Owed}
 use Rattle.live_segment.specs.declared.calls.Piece.{Piece}
+use Rattle.live_segment.specs.declared.calls.TheConstants.{MOST_CALLS}
 use Rattle.live_segment.specs.declared.offer.Ready.{Ready}
 use Rattle.live_segment.specs.declared.refused.Accepted.TheVariants as accepted
 use Rattle.live_segment.specs.Record.{owed_by, trail}
@@ -313,8 +314,8 @@ store-requires-clause-stored c =
     let i = c.self.inside in
     let n = c.make_ready.new.calls in
     let r = subst (λ (u : Ready). IsReadyToSend i.segment (count_since i.calls.pieces i.calls.items) i.owed.items c.make_ready.new.self.items c.args.client u) c.in-Send.is c.in_ok-make_ready.ensures.ready in
-    let few : count_since n.pieces i.calls.items < 1000000 = subst (λ (u : List Piece). count_since u i.calls.items < 1000000) (sym c.make_ready.ensures.pieces) r.0.0 in
-    subst (λ (u : List Stored). count_since n.pieces u < 1000000) (sym c.make_ready.ensures.calls) few
+    let few : count_since n.pieces i.calls.items < MOST_CALLS = subst (λ (u : List Piece). count_since u i.calls.items < MOST_CALLS) (sym c.make_ready.ensures.pieces) r.0.0 in
+    subst (λ (u : List Stored). count_since n.pieces u < MOST_CALLS) (sym c.make_ready.ensures.calls) few
 
 pub returns-then-client-len-clause-accepted : goal.returns-then-client-len-clause-accepted
 returns-then-client-len-clause-accepted c =

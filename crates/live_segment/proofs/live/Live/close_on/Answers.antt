@@ -2,6 +2,7 @@ use Rattle.std.proofs.Common.{◌<◌, ◌≤◌, List, refl, subst, inl, inr}
 use Rattle.std.specs.Prelude.{IsTrue}
 use Rattle.port_table.specs.declared.port.PortId.{PortId}
 use Rattle.segment_rings.specs.Views.{DoorView}
+use Rattle.live_segment.specs.declared.calls.TheConstants.{MOST_CALLS}
 use Rattle.live_segment.specs.Facts.{NoneAt}
 use Rattle.live_segment.specs.LiveView.{LiveView, stored_calls}
 use Rattle.live_segment.specs.Places.{IsPlaceIn}
@@ -26,12 +27,12 @@ returns-then-not-inbox_agrees-clause-refused c =
 
 pub returns-then-is_full-clause-refused : goal.returns-then-is_full-clause-refused
 returns-then-is_full-clause-refused c =
-    let full : 1000000 ≤ stored_calls c.args.self.now = subst (λ (u : LiveView). 1000000 ≤ stored_calls u) c.self.view_is (c.is_full.ensures.full c.if-is_full.true) in
+    let full : MOST_CALLS ≤ stored_calls c.args.self.now = subst (λ (u : LiveView). MOST_CALLS ≤ stored_calls u) c.self.view_is (c.is_full.ensures.full c.if-is_full.true) in
     inr (refl, c.inbox_agrees.ensures.0 c.if-not-inbox_agrees.false, full)
 
 pub returns-in-Err-clause-refused : goal.returns-in-Err-clause-refused
 returns-in-Err-clause-refused c =
-    let few : stored_calls c.args.self.now < 1000000 = subst (λ (u : LiveView). stored_calls u < 1000000) c.self.view_is (c.is_full.ensures.few c.if-is_full.false) in
+    let few : stored_calls c.args.self.now < MOST_CALLS = subst (λ (u : LiveView). stored_calls u < MOST_CALLS) c.self.view_is (c.is_full.ensures.few c.if-is_full.false) in
     (c.inbox_agrees.ensures.0 c.if-not-inbox_agrees.false, few)
 
 pub shut-requires-clause-port : goal.shut-requires-clause-port

@@ -13,6 +13,7 @@ use Rattle.reply_law.specs.Replies.{reply_of, left_by, opens, IsRefusal, IsAnswe
 use Rattle.segment_rings.specs.Views.{SeatView}
 use Rattle.stored_calls.specs.declared.stored.Stored.{Stored}
 use Rattle.live_segment.specs.declared.call.Owed.{Owed}
+use Rattle.live_segment.specs.declared.calls.TheConstants.{MOST_CALLS}
 use Rattle.live_segment.specs.Words.{call_of, wanted_by}
 use Rattle.live_segment.specs.Record.{settle_notes, settle_owed, trail}
 use Rattle.live_segment.specs.Facts.{IdsFrom, HaveRoom, OwedWithin, note_all, Holds, give_all}
@@ -76,7 +77,7 @@ invariant_of-self-in-Done c =
     let next = c.make_found.new.segment in
     let steps = (trail addrs xs).steps in
     let h : Holds addrs st xs ws ss ds = holds-same _ _ _ _ _ _ _ _ (same_seats-refl ss) c.make_found.ensures.same c.self.invariant.0 in
-    let few : length xs + 1 < 2 ^ 64 = c.make_found.ensures.few (subst (λ (v : LiveView). stored_calls v < 1000000) (sym c.self.view_is) c.requires.few) in
+    let few : length xs + 1 < 2 ^ 64 = c.make_found.ensures.few (subst (λ (v : LiveView). stored_calls v < MOST_CALLS) (sym c.self.view_is) c.requires.few) in
     let pieces : c.push_reserved.new.self.pieces ≡ c.self.inside.calls.pieces = c.push_reserved.ensures.pieces ∙ c.make_found.ensures.pieces in
     let image : c.push_reserved.new.self.image ≡ c.self.inside.calls.image = c.push_reserved.ensures.image ∙ c.make_found.ensures.image in
     let rep : reply_of st call ≡ Done es = sym c.in-Ok.ensures.reply ∙ (ap (λ (m : Made). reply_with m es) c.in-Done.is) in
@@ -177,7 +178,7 @@ pub push_reserved-requires-clause-room : goal.push_reserved-requires-clause-room
 push_reserved-requires-clause-room c = c.in-Ok.ensures.place
 
 pub push_reserved-requires-clause-few : goal.push_reserved-requires-clause-few
-push_reserved-requires-clause-few c = few_kept c.self.inside.calls.pieces c.make_found.new.calls.pieces c.self.inside.calls.items c.make_found.new.calls.items c.make_found.ensures.pieces c.make_found.ensures.items (subst (λ (u : LiveView). stored_calls u < 1000000) (sym c.self.view_is) c.requires.few)
+push_reserved-requires-clause-few c = few_kept c.self.inside.calls.pieces c.make_found.new.calls.pieces c.self.inside.calls.items c.make_found.new.calls.items c.make_found.ensures.pieces c.make_found.ensures.items (subst (λ (u : LiveView). stored_calls u < MOST_CALLS) (sym c.self.view_is) c.requires.few)
 
 pub make_found-requires-clause-apart : goal.make_found-requires-clause-apart
 make_found-requires-clause-apart c = c.self.invariant.0.apart
@@ -209,5 +210,5 @@ returns-in_default-clause-err c =
 pub returns-in_default-clause-not_refused : goal.returns-in_default-clause-not_refused
 returns-in_default-clause-not_refused c =
     let i = c.self.inside in
-    let few : count_since i.calls.pieces i.calls.items < 1000000 = subst (λ (v : LiveView). stored_calls v < 1000000) (sym c.self.view_is) c.requires.few in
+    let few : count_since i.calls.pieces i.calls.items < MOST_CALLS = subst (λ (v : LiveView). stored_calls v < MOST_CALLS) (sym c.self.view_is) c.requires.few in
     subst (λ (v : LiveView). LacksMemory v c.args.call) c.self.view_is (lacks_memory (keep i.stopped i.calls.pieces) i.addresses.items i.segment i.calls.items i.seats.items i.doors.items c.args.call c.refusal_for.result c.self.invariant.0.at few c.in_default-refusal_for.is (λ room. c.refusal_for.ensures room ∙ ap (λ (x : Segment). refusal_of (called x (call_of c.args.call room))) c.in_default.ensures.err))

@@ -8,6 +8,7 @@ use Rattle.reply_law.specs.Replies.{reply_of, IsRefusal, IsAnsweredBy, Follows}
 use Rattle.segment_rings.specs.Views.{SeatView}
 use Rattle.stored_calls.specs.declared.stored.Stored.{Stored}
 use Rattle.live_segment.specs.declared.call.Owed.{Owed}
+use Rattle.live_segment.specs.declared.calls.TheConstants.{MOST_CALLS}
 use Rattle.live_segment.specs.Record.{settle_notes, settle_owed, trail}
 use Rattle.live_segment.specs.Facts.{IdsFrom, HaveRoom, OwedWithin, note_all}
 use Rattle.live_segment.specs.LiveView.{LiveView, client_of, port_of, stored, keep, stored_calls}
@@ -62,7 +63,7 @@ invariant_of-self-in-Done c =
     let rep : reply_of st (Close p) ≡ Done es = sym c.in_ok-events.ensures.reply ∙ c.in-Done.is in
     let stands : StandsAt addrs (steps ++ (Close p, Done es) ∷ []) next = subst (λ (u : Reply). StandsAt addrs (steps ++ (Close p, u) ∷ []) next) c.in-Done.is (c.in_ok-events.ensures.stands addrs steps c.self.invariant.0.stands) in
     let calls : c.push_reserved.new.self.items ≡ xs ++ stored None (Close p) ∷ [] = c.push_reserved.ensures.items ∙ ap (λ (u : List Stored). u ++ stored None (Close p) ∷ []) c.reserve.ensures.items in
-    let few : length xs + 1 < 2 ^ 64 = c.reserve.ensures.few (subst (λ (u : LiveView). stored_calls u < 1000000) (sym c.self.view_is) c.requires) in
+    let few : length xs + 1 < 2 ^ 64 = c.reserve.ensures.few (subst (λ (u : LiveView). stored_calls u < MOST_CALLS) (sym c.self.view_is) c.requires) in
     let seats : c.tell.new.seats.items ≡ note_all (settle_notes ws es) ss = c.tell.ensures.seats in
     let owed : c.tell.new.owed.items ≡ settle_owed ws es = c.tell.ensures.owed in
     let ids = subst (IdsFrom 0) seats c.tell.ensures.ids in
@@ -147,4 +148,4 @@ pub push_reserved-requires-clause-room : goal.push_reserved-requires-clause-room
 push_reserved-requires-clause-room c = c.in_ok-reserve.ensures.room
 
 pub push_reserved-requires-clause-few : goal.push_reserved-requires-clause-few
-push_reserved-requires-clause-few c = few_kept c.self.inside.calls.pieces c.reserve.new.self.pieces c.self.inside.calls.items c.reserve.new.self.items c.reserve.ensures.pieces c.reserve.ensures.items (subst (λ (u : LiveView). stored_calls u < 1000000) (sym c.self.view_is) c.requires)
+push_reserved-requires-clause-few c = few_kept c.self.inside.calls.pieces c.reserve.new.self.pieces c.self.inside.calls.items c.reserve.new.self.items c.reserve.ensures.pieces c.reserve.ensures.items (subst (λ (u : LiveView). stored_calls u < MOST_CALLS) (sym c.self.view_is) c.requires)

@@ -5,6 +5,7 @@ use Rattle.segment_law.specs.Segment.{Segment, waiting_at}
 use Rattle.segment_core.specs.Passing.{IsPassing as IsPassingOn, PassesBy}
 use Rattle.segment_core.specs.declared.passing.Passing.TheVariants.{Passed, Rests}
 use Rattle.stored_calls.specs.declared.stored.Stored.{Stored}
+use Rattle.live_segment.specs.declared.calls.TheConstants.{MOST_CALLS}
 use Rattle.live_segment.specs.Facts.{Holds}
 use Rattle.live_segment.specs.LiveView.{LiveView, keep, live_view, stored, stored_calls}
 use Rattle.live_segment.specs.Passing.{IsPassing}
@@ -77,7 +78,7 @@ returns-in-Passed c =
     let station = c.args.station in
     let x : Stored = stored None (Take station true) in
     let p : PassesBy i.segment station c.pass_by.new.self = subst (IsPassingOn i.segment station c.pass_by.new.self) c.in-Passed.is c.pass_by.ensures.made in
-    let room : stored_calls (live_view keeps i.addresses.items xs i.seats.items i.doors.items) < 1000000 = c.is_full.ensures.few c.if-is_full.false in
+    let room : stored_calls (live_view keeps i.addresses.items xs i.seats.items i.doors.items) < MOST_CALLS = c.is_full.ensures.few c.if-is_full.false in
     let few : length xs + 1 < 2 ^ 64 = c.reserve.ensures.few room in
     let calls : c.push_reserved.new.self.items ≡ xs ++ x ∷ [] = c.push_reserved.ensures.items ∙ ap (λ (u : List Stored). u ++ x ∷ []) c.reserve.ensures.items in
     let h : Holds i.addresses.items c.pass_by.new.self (xs ++ x ∷ []) i.owed.items i.seats.items i.doors.items = holds-passed i.addresses.items i.segment c.pass_by.new.self xs i.owed.items i.seats.items i.doors.items station c.self.invariant.0 few p in

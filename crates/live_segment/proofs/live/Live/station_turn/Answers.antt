@@ -16,12 +16,12 @@ returns-then-is_called c = subst (λ (u : LiveView). StationTurn c.args.station 
 
 pub returns-then-is_active : goal.returns-then-is_active
 returns-then-is_active c =
-    subst (λ (u : LiveView). StationTurn c.args.station (point u no_turn) (point c.whole_turn.new.self c.whole_turn.result)) (c.is_active.ensures.same ∙ c.is_called.ensures.same) c.whole_turn.ensures
+    subst (λ (u : LiveView). StationTurn c.args.station (point u no_turn) (point c.whole_turn-then-is_active.new.self c.whole_turn-then-is_active.result)) (c.is_active.ensures.same ∙ c.is_called.ensures.same) c.whole_turn-then-is_active.ensures
 
 pub returns-in-Busy : goal.returns-in-Busy
 returns-in-Busy c =
     let same : c.pass_by.new.self ≡ c.args.self.now = subst (IsPassing c.is_active.new.self c.args.station c.pass_by.new.self) c.in-Busy.is c.pass_by.ensures ∙ c.is_active.ensures.same ∙ c.is_called.ensures.same in
-    subst (λ (u : LiveView). StationTurn c.args.station (point u no_turn) (point c.whole_turn.new.self c.whole_turn.result)) same c.whole_turn.ensures
+    subst (λ (u : LiveView). StationTurn c.args.station (point u no_turn) (point c.whole_turn-in-Busy.new.self c.whole_turn-in-Busy.result)) same c.whole_turn-in-Busy.ensures
 
 pub returns-in-Rests : goal.returns-in-Rests
 returns-in-Rests c =
@@ -43,6 +43,6 @@ returns-in-Passed c =
     let p : IsPassing a station b Passed = subst (λ (u : LiveView). IsPassing u station b Passed) same (subst (IsPassing c.is_active.new.self station b) c.in-Passed.is c.pass_by.ensures) in
     let rests : IsAtRest station a = c.is_called.ensures.rests c.if-is_called.false in
     let calm : is_active (state_of a) station ≡ false = ap (λ (u : LiveView). is_active (state_of u) station) (sym c.is_called.ensures.same) ∙ sym c.is_active.ensures.value ∙ c.if-is_active.false in
-    let made : Makes (Take station) (point a no_turn) (point b (one_more no_turn)) = inl (Done [], inr (p.0, true, p.1), refl) in
+    let made : Makes (Take station) (point a no_turn) (point b (one_more no_turn)) = inl (Done [], inr (p.0, (true, p.1)), refl) in
     let turn : StationTurn station (point a no_turn) (point b (one_more no_turn)) = turn_passed a b station rests calm made p.2 in
     subst (λ (t : Turn). StationTurn station (point a no_turn) (point b t)) (sym c.one_call.ensures) turn
