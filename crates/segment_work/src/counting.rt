@@ -1,5 +1,5 @@
 //! The work on a segment, and the turns of a drain.
-ghost use Rattle.std.specs.Prelude.{◌≡◌, ◌+◌, ◌*◌, ◌^◌, ◌<◌, ◌≤◌, ◌-◌, slice_get};
+ghost use Rattle.std.specs.Prelude.{◌≡◌, ◌^◌, ◌<◌, ◌≤◌, ◌-◌, slice_get};
 ghost use Rattle.record_law.specs.Counting.{up_to_last};
 ghost use Rattle.work_law.specs.Work.{station_work, sum_over};
 ghost use Rattle.segment_drain.specs.Enough.{calls_left, enough_turns};

@@ -1,7 +1,5 @@
 //! What frames cost: those that wait, those in a queue, and those that are still to be written.
 ghost use Rattle.std.specs.Prelude.{◌≡◌, ℕ, ◌<◌, ◌+◌, if◌then◌else◌, length};
-ghost use Rattle.bus_frame.specs.Frames.{CanFrame};
-ghost use Rattle.segment_law.specs.Segment.{Segment as State};
 ghost use Rattle.record_law.specs.Counting.{up_to_last};
 ghost use Rattle.tp_wire.specs.declared.wire.Wire.TheVariants.{Cm};
 ghost use Rattle.work_law.specs.Work.{own_at, hears as hears_of, wire_work, look_work, waits_work, bus_frame_work, frame_work, queue_work, said_work};

@@ -9,7 +9,7 @@ use crate::frames::said_work;
 use crate::messages::{broadcast_work, message_work, state_work};
 use crate::rates::{each, plain};
 use crate::saturating::{exact, plus, times};
-use lane_core::{Lane, MOST_REQUESTS, Pending, Standing, UnderWay};
+use lane_core::{Lane, MOST_REQUESTS, Standing, UnderWay};
 use pgn_ids::Address;
 use segment_core::Segment;
 use station_lanes::Lanes;

@@ -1,8 +1,7 @@
 //! What messages cost, those under way and those that have not begun.
-ghost use Rattle.std.specs.Prelude.{◌≡◌, ℕ, ◌<◌, ◌≤◌, ◌+◌, ◌-◌, ◌*◌, if◌then◌else◌, length};
+ghost use Rattle.std.specs.Prelude.{◌≡◌, ℕ, ◌≤◌, if◌then◌else◌, length};
 ghost use Rattle.record_law.specs.Counting.{up_to_last};
 ghost use Rattle.tp_wire.specs.declared.constants.TheConstants.{ETP_MAX_SIZE};
-ghost use Rattle.seg_cut.specs.Packets.{packet_count};
 ghost use Rattle.bam_session.specs.Sending.{packets_left};
 ghost use Rattle.originator.specs.Link.{Link};
 ghost use Rattle.work_law.specs.Work.{packet_cost, dpo_cost, out_work, state_work, broadcast_work, message_work};

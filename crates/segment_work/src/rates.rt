@@ -1,6 +1,5 @@
 //! What each call counts, and what answers, sessions and holds cost.
 ghost use Rattle.std.specs.Prelude.{◌≡◌, ◌<◌, length};
-ghost use Rattle.pgn_ids.specs.declared.address.Address.{Address as AddressValue};
 ghost use Rattle.segment_law.specs.Segment.{Segment as State};
 ghost use Rattle.record_law.specs.Counting.{up_to_last};
 ghost use Rattle.work_law.specs.Work.{own_at, plain, open_work, end_work, hold_work, rts_work, packet_work};
