@@ -10,7 +10,8 @@ use std::alloc::Global;
 use std::process::Abort;
 
 // What is left to be done, and how many turns are enough for it.
-fn is_left(rt: &impl Abort, segment: &Segment, calls: u64) {
+fn is_left(rt: &impl Abort, segment: &Segment, calls: u32) {
+    let calls = u64::from(calls);
     same(rt, work(segment), calls);
     same(rt, enough_turns(segment), 2 * calls + 2);
 }
