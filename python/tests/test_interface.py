@@ -28,7 +28,7 @@ SERVICE_STRUCTS = {
 }
 
 # The function of the header, and the call that stands for it where it has another name.
-RENAMED = {"new": "__init__", "free": "close", "close": "close_port", "event": "take"}
+RENAMED = {"new": "__init__", "again": "__init__", "free": "close", "close": "close_port", "event": "take"}
 SERVICE_RENAMED = {**RENAMED, "close_port": "close_port_of", "open_with": "open"}
 NOT_CALLS = ("code_name", "strerror", "outcome_name", "service_code_name", "service_strerror")
 
@@ -84,7 +84,7 @@ def test_codes(top: Path) -> None:
 
 def test_texts(top: Path) -> None:
     of_node, of_service = texts(top, "fulwethi.h", "fulwethi_strerror"), texts(top, "fulwethi_service.h", "fulwethi_service_strerror")
-    assert len(of_node) == 26 and len(of_service) == 14
+    assert len(of_node) == 27 and len(of_service) == 14
     for refused in errors.BY_CODE.values():
         assert refused.text == of_node.get(refused.name, of_service.get(refused.name)), refused
         assert refused.service_text == of_service.get(refused.name, of_node.get(refused.name)), refused
@@ -104,7 +104,7 @@ def test_each_function_of_the_headers_has_its_call(top: Path) -> None:
     found = []
     for header in ("fulwethi.h", "fulwethi_service.h"):
         found += re.findall(r"^static inline [\w ]+?\*?fulwethi_(\w+)\(", (top / "examples" / "c" / header).read_text(), re.M)
-    assert len(found) == 54
+    assert len(found) == 56
     for name in found:
         if name in NOT_CALLS:
             continue
