@@ -29,7 +29,7 @@ pub struct OfNode {
     pub quiet: u64,
     /// Whether a wrong line ends the run; else it is reported, and the next line is read.
     pub strict: bool,
-    /// Whether a program at the address may have sent messages a short time ago.
+    /// Whether a program at the address may have sent messages in the last 1,250 ms: so it is unless the words say that the node is new.
     pub again: bool,
 }
 
@@ -52,13 +52,13 @@ printed as put and a line of a log. Messages that are given, and outcomes, are
 printed as in a script. The ports of --port are open before the first line.
 Frames of other interfaces are passed over. A wrong line is reported in its
 place, by its number, and passed over. If there were any, standard error has
-their count at the end. If a program at the address sent messages in the last
-1,250 ms, as one that starts again, say --again: until tick 1250 a send prints
-starting 1250, and sends nothing.
+their count at the end. Until tick 1250 a send prints starting 1250 and sends
+nothing, as an earlier program at the address may have sent messages. If none
+did in the last 1,250 ms, say --new.
 
 Example:
   printf '%s\\n' 'open FECA 1785' 'send 21 FECA 010203040506070809' \\
-    'now 2.000000' | j1939bus node 35
+    'now 2.000000' | j1939bus node 35 --new
 
 Status:
   0  the input was read to its end, and no line was wrong
@@ -109,11 +109,11 @@ fn strict_arg<'a>(alloc: Global) -> Arg<'a> {
     flag(alloc, "strict", "Ends at the first wrong line")
 }
 
-fn again_arg<'a>(alloc: Global) -> Arg<'a> {
+fn new_arg<'a>(alloc: Global) -> Arg<'a> {
     flag(
         alloc,
-        "again",
-        "Sends no message for 1,250 ms, as a program that starts again must",
+        "new",
+        "Sends messages at once: none left the address in the last 1,250 ms",
     )
 }
 
@@ -127,7 +127,7 @@ fn node_args<'a>(alloc: Global) -> Result<Vec<Arg<'a>>, AllocError> {
             port_arg(alloc),
             quiet_arg(alloc),
             strict_arg(alloc),
-            again_arg(alloc),
+            new_arg(alloc),
         ],
     )
 }
@@ -195,7 +195,7 @@ pub(crate) fn read_node(alloc: Global, matches: &ArgMatches) -> Result<OfNode, R
         ports: ports(alloc, matches)?,
         quiet: matches.get_one::<u64>("quiet").unwrap_or(QUIET),
         strict: matches.get_flag("strict"),
-        again: matches.get_flag("again"),
+        again: !matches.get_flag("new"),
     })
 }
 

@@ -98,7 +98,7 @@ fn case_holds(rt: &(impl Eprint + AllocGlobal + Files), way: &str, name: &str) -
         "script --log" => holds(rt, Logged, name, "script"),
         "draw" => holds(rt, Drawn, name, "script"),
         "node" => holds(rt, Dialogue::new(alloc)?, name, "node"),
-        "node --again" => holds(rt, Dialogue::again(alloc)?, name, "node"),
+        "node that starts again" => holds(rt, Dialogue::again(alloc)?, name, "node"),
         "node --strict" => holds(rt, Dialogue::strict(alloc)?, name, "node"),
         "node of any interface" => holds(rt, Dialogue::joining(alloc)?, name, "node"),
         _ => log_holds(rt, way, name),

@@ -95,7 +95,7 @@ fn a_node_is_asked_for_by_its_address(rt: HostRuntime) {
         ports: Vec::new(alloc),
         quiet: 700,
         strict: false,
-        again: false,
+        again: true,
     });
     asks(&rt, alloc, &["j1939bus", "node", "2a"], &node)
 }
@@ -124,7 +124,7 @@ fn a_node_is_asked_for_with_its_ports_and_its_quiet(rt: HostRuntime) {
         ports,
         quiet: 0,
         strict: true,
-        again: true,
+        again: false,
     });
     let words = [
         "j1939bus",
@@ -137,7 +137,7 @@ fn a_node_is_asked_for_with_its_ports_and_its_quiet(rt: HostRuntime) {
         "0",
         "2A",
         "--strict",
-        "--again",
+        "--new",
         "--interface",
         "vcan0",
     ];
