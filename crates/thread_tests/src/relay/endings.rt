@@ -288,49 +288,10 @@ fn another_thread_stops_a_relay(rt: HostRuntime) {
     drop(ends);
 }
 
-/// How often a side looks at its first turn whether the other one is there.
-const FIRST_LOOKS: u64 = 10_000_000;
-
-// Holds both sides at their first turns until both are there, or the looks are used up.
-#[derive(Drop)]
-struct Meeting {
-    come: AtomicU64,
-    missed: AtomicU64,
-}
-
-impl Gate for Meeting {
-    fn pass(&self, _side: u8, turn: u64) {
-        if turn > 1 {
-            return;
-        }
-        self.come.fetch_add(1, Ordering::SeqCst);
-        for _ in 0..FIRST_LOOKS {
-            if self.come.load(Ordering::SeqCst) >= 2 {
-                return;
-            }
-            thread::yield_now();
-        }
-        self.missed.fetch_add(1, Ordering::SeqCst);
-    }
-}
-
-// If no thread could be made for a side, the sides ran one after the other: want of memory too.
-fn has_crossed(meeting: &Meeting) -> Result<(), AllocError> {
-    if meeting.missed.load(Ordering::SeqCst) > 0 {
-        return Err(AllocError);
-    }
-    Ok(())
-}
-
 fn cross<R: Threads + Wait + Abort + Sync>(rt: &R, alloc: Global, ends: &mut Ends) {
     give_all(rt, alloc, ends, 40, 9);
-    let meeting = Meeting {
-        come: AtomicU64::new(0),
-        missed: AtomicU64::new(0),
-    };
-    let carried = carry(rt, alloc, ends, &job(40, NO_END), &meeting, None);
-    got(rt, has_crossed(&meeting));
-    same(rt, meeting.come.load(Ordering::SeqCst), 2);
+    let Ends { inbox, client, .. } = ends;
+    let carried = got(rt, relayed(rt, alloc, inbox, client, &job(40, NO_END)));
     is_ended(rt, &carried, [40, 40, 0], Ended::Limit, Ended::OtherEnded);
     drop(carried);
 }

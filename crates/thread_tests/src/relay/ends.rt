@@ -138,7 +138,25 @@ pub(crate) fn run_whole<R: Threads + Wait + Abort + Sync, G: Gate + Sync>(
     Ok(relayed)
 }
 
-/// The relay of a test.
+// The relay of a test, unless one of its workers stayed alone: then nothing was moved.
+fn crossed<R: Threads + Wait + Abort + Sync>(
+    rt: &R,
+    alloc: Global,
+    inbox: &mut Inbox,
+    client: &mut Client,
+    job: &Job,
+) -> Result<Option<Relayed>, AllocError> {
+    let stop = Stop::new();
+    let pace = Pace::new(&stop);
+    let relayed = run_whole(rt, alloc, inbox, client, job, &pace, Some(&stop))?;
+    if stop.is_stopped() {
+        drop(relayed);
+        return Ok(None);
+    }
+    Ok(Some(relayed))
+}
+
+/// The relay of a test. If one of its workers was late, or there was no memory for its thread, it is run again.
 pub(crate) fn relayed<R: Threads + Wait + Abort + Sync>(
     rt: &R,
     alloc: Global,
@@ -146,13 +164,10 @@ pub(crate) fn relayed<R: Threads + Wait + Abort + Sync>(
     client: &mut Client,
     job: &Job,
 ) -> Result<Relayed, AllocError> {
-    let pace = Pace::new();
-    let relayed = run_whole(rt, alloc, inbox, client, job, &pace, None);
-    // If no thread could be made for a worker, the workers ran one after the other: want of memory too.
-    if job.turns > 0 && !pace.has_crossed() {
-        return Err(AllocError);
+    if let Some(relayed) = crossed(rt, alloc, inbox, client, job)? {
+        return Ok(relayed);
     }
-    relayed
+    crossed(rt, alloc, inbox, client, job)?.ok_or(AllocError)
 }
 
 // The elements behind so many.

@@ -1,5 +1,5 @@
 //! A gate for the two workers of a relay.
-use port_relay::Gate;
+use port_relay::{Gate, Stop};
 use std::sync::atomic::{AtomicU64, Ordering};
 use std::thread;
 
@@ -9,32 +9,52 @@ const AHEAD: u64 = 16;
 /// How often a worker that is ahead looks again, at each turn.
 const LOOKS: u64 = 2_000;
 
+/// How often the looks of a turn are used up before neither worker waits any more: as a rule the other has ended.
+const MOST_VAIN: u64 = 100;
+
 /// How often a worker looks at its first turn whether the other is there.
-const FIRST_LOOKS: u64 = 10_000_000;
+const FIRST_LOOKS: u64 = 100_000;
 
 /// Holds each worker at its first turn until both are there, and at each later one for a while if it is ahead of the
-/// other.
+/// other. A worker that stays alone at its first turn stops the relay, which then has moved nothing.
 #[derive(Drop)]
-pub(crate) struct Pace {
+pub(crate) struct Pace<'s> {
+    stop: &'s Stop,
+    come: AtomicU64,
     pulling: AtomicU64,
     pushing: AtomicU64,
-    missed: AtomicU64,
+    vain: AtomicU64,
 }
 
-impl Pace {
-    pub(crate) fn new() -> Pace {
+impl Pace<'_> {
+    pub(crate) fn new(stop: &Stop) -> Pace<'_> {
         Pace {
+            stop,
+            come: AtomicU64::new(0),
             pulling: AtomicU64::new(0),
             pushing: AtomicU64::new(0),
-            missed: AtomicU64::new(0),
+            vain: AtomicU64::new(0),
         }
     }
 
-    /// Whether both workers were at their first turns before either of them continued.
-    pub(crate) fn has_crossed(&self) -> bool {
-        self.pulling.load(Ordering::SeqCst) > 0
-            && self.pushing.load(Ordering::SeqCst) > 0
-            && self.missed.load(Ordering::SeqCst) == 0
+    // The first to come waits for the other. If it gives up, it counts once more: so the other sees that it is too late.
+    fn meet(&self) {
+        let before = self.come.fetch_add(1, Ordering::SeqCst);
+        let is_met = before == 1 || (before == 0 && self.has_met());
+        if !is_met {
+            self.stop.stop();
+        }
+    }
+
+    fn has_met(&self) -> bool {
+        has_come(&self.come, 2, FIRST_LOOKS) || self.come.fetch_add(1, Ordering::SeqCst) == 2
+    }
+
+    fn wait(&self, other: &AtomicU64, least: u64) {
+        let vain = self.vain.load(Ordering::SeqCst);
+        if vain < MOST_VAIN && !has_come(other, least, LOOKS) {
+            self.vain.store(vain.saturating_add(1), Ordering::SeqCst);
+        }
     }
 }
 
@@ -49,7 +69,7 @@ fn has_come(other: &AtomicU64, least: u64, looks: u64) -> bool {
     false
 }
 
-impl Gate for Pace {
+impl Gate for Pace<'_> {
     fn pass(&self, worker: u8, turn: u64) {
         let (own, other) = if worker == 0 {
             (&self.pulling, &self.pushing)
@@ -57,10 +77,10 @@ impl Gate for Pace {
             (&self.pushing, &self.pulling)
         };
         own.store(turn, Ordering::SeqCst);
-        let looks = if turn == 1 { FIRST_LOOKS } else { LOOKS };
-        let least = turn.saturating_sub(AHEAD).max(1);
-        if !has_come(other, least, looks) && turn == 1 {
-            self.missed.fetch_add(1, Ordering::SeqCst);
+        if turn == 1 {
+            self.meet();
+        } else {
+            self.wait(other, turn.saturating_sub(AHEAD));
         }
     }
 }
