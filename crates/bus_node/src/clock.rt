@@ -3,14 +3,9 @@ ghost use Rattle.std.specs.Prelude.{◌≡◌, OnOk};
 ghost use Rattle.bus_node.specs.Clock.{time_of, tick_at, counted_from, went_back, has_jumped, started};
 
 use crate::node::Node;
+use log_fields::{LATE, TICK};
 use script_text::print_text;
 use std::alloc::AllocError;
-
-/// How many microseconds a tick has.
-const TICK: u64 = 1000;
-
-/// By how many microseconds at most a late time is before that of the clock. One that is more before it went back.
-const LATE: u64 = 1_000_000;
 
 /// By how many microseconds a time is ahead of that of the clock at most, unless it jumped.
 const JUMP: u64 = 600_000_000;

@@ -4,11 +4,9 @@ ghost use Rattle.std.specs.List.{zip};
 ghost use Rattle.bus_script.specs.Telling.{log_line, log_at, put_at};
 
 use bus_frame::Frame;
+use log_fields::TICK;
 use log_text::{Iface, put_log_line};
 use std::alloc::AllocError;
-
-/// How many microseconds a tick has.
-const TICK: u64 = 1000;
 
 /// The line of a log of a frame that was put at this tick.
 #[tactic(auto, unfolding(crate::specs::Telling::log_line))]

@@ -2,7 +2,9 @@
 use crate::parts::{described, files, flag, list, of_numbers, valued};
 use crate::refused::Refused;
 use clap::{Arg, ArgAction, ArgMatches, Command, value_parser};
+use pgn_ids::Address;
 use std::alloc::{AllocError, Global};
+use tp_wire::constants::ETP_MAX_SIZE;
 
 /// What of a log is asked for.
 #[derive(Debug, PartialEq, Eq, Drop)]
@@ -31,14 +33,11 @@ pub struct OfLog {
     pub quiet: bool,
 }
 
-/// The longest message that a transport carries, in bytes.
-pub(crate) const MOST: u32 = 117_440_505;
-
 /// The highest number of 18 bits.
 pub(crate) const PGN_MOST: u32 = 0x3_FFFF;
 
 /// The highest address, which as a destination is all.
-const ADDRESS_MOST: u32 = 0xFF;
+pub(crate) const ADDRESS_MOST: u32 = Address::GLOBAL.0 as u32;
 
 const DECODE_HELP: &str =
     "A log has the lines that candump writes, (SECONDS.MICROS) IFACE ID#HEX, or those
@@ -94,7 +93,7 @@ fn most_arg<'a>(alloc: Global) -> Arg<'a> {
         ArgAction::Set,
         "Longest message that is reassembled, in bytes [default: 117440505]",
     );
-    of_numbers(most, value_parser!(u32).range(1..=117_440_505))
+    of_numbers(most, value_parser!(u32).range(1..=i64::from(ETP_MAX_SIZE)))
 }
 
 fn all_arg<'a>(alloc: Global) -> Arg<'a> {
@@ -219,7 +218,7 @@ pub(crate) fn read_decode(alloc: Global, matches: &ArgMatches) -> Result<OfLog, 
         pgns: numbers(alloc, matches, "pgn", PGN_MOST)?,
         from: numbers(alloc, matches, "from", ADDRESS_MOST)?,
         to: numbers(alloc, matches, "to", ADDRESS_MOST)?,
-        most: matches.get_one::<u32>("max-bytes").unwrap_or(MOST),
+        most: matches.get_one::<u32>("max-bytes").unwrap_or(ETP_MAX_SIZE),
         singles: matches.get_flag("all"),
         strict: matches.get_flag("strict"),
         json: matches.get_flag("json"),

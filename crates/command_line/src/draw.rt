@@ -1,9 +1,10 @@
 //! The words of `draw`.
-use crate::decode::hexadecimal;
+use crate::decode::{ADDRESS_MOST, hexadecimal};
 use crate::node::{first_of, interface};
 use crate::parts::{described, files, flag, list, valued};
 use crate::refused::Refused;
 use clap::{Arg, ArgAction, ArgMatches, Command};
+use log_fields::{MICROS, SECOND};
 use std::alloc::{AllocError, Global};
 
 /// What of a log is drawn.
@@ -22,15 +23,6 @@ pub struct OfDrawing {
     /// Whether a wrong line ends the drawing; else it is reported, and the next line is read.
     pub strict: bool,
 }
-
-/// The highest address, which is all.
-const ADDRESS_MOST: u32 = 0xFF;
-
-/// How many microseconds a second has.
-const SECOND: u64 = 1_000_000;
-
-/// The most digits behind the point of a time.
-const MICROS: usize = 6;
 
 const DRAW_HELP: &str = "The script is drawn as the text of a Mermaid sequence diagram, which GitHub
 shows as a picture. The stations are its participants. Each frame that a line

@@ -1,9 +1,11 @@
 //! The words of `node`.
-use crate::decode::{MOST, PGN_MOST, hexadecimal};
+use crate::decode::{PGN_MOST, hexadecimal};
 use crate::parts::{described, flag, list, of_numbers, valued, within};
 use crate::refused::Refused;
 use clap::{Arg, ArgAction, ArgMatches, Command};
+use pgn_ids::Address;
 use std::alloc::{AllocError, Global};
+use tp_wire::constants::ETP_MAX_SIZE;
 
 /// A port that a node opens before it reads a line.
 #[derive(Clone, Copy, Debug, PartialEq, Eq)]
@@ -30,7 +32,7 @@ pub struct OfNode {
 }
 
 /// The highest address of a node.
-const ADDRESS_MOST: u32 = 0xFD;
+const NODE_MOST: u32 = Address::NULL.0 as u32 - 1;
 
 /// The quiet after a failed connection if none is named, in milliseconds.
 const QUIET: u64 = 700;
@@ -133,7 +135,7 @@ fn port(word: &str) -> Option<OfPort> {
     let Some((pgn, most)) = word.split_once(':') else {
         return Some(OfPort {
             pgn: hexadecimal(word, PGN_MOST)?,
-            most: MOST,
+            most: ETP_MAX_SIZE,
         });
     };
     Some(OfPort {
@@ -201,5 +203,5 @@ pub(crate) fn first_of<'a>(matches: &ArgMatches<'a>, name: &str) -> Option<&'a s
 
 /// The address that a word writes, if it is one of a node.
 fn address(word: &str) -> Option<u8> {
-    u8::try_from(hexadecimal(word, ADDRESS_MOST)?).ok()
+    u8::try_from(hexadecimal(word, NODE_MOST)?).ok()
 }

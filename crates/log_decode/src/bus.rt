@@ -13,15 +13,11 @@ use crate::sessions::{Sessions, tell_all};
 use crate::silence::end_due;
 use bus_frame::Frame;
 use indexmap::IndexMap;
-use log_fields::Iface;
+use log_fields::{Iface, LATE};
 use log_reports::{Cause, Stray, Told};
 use log_sessions::soonest;
 use std::alloc::{AllocError, Global};
 use std::marker::Model;
-
-/// By how many microseconds the time of a late frame may be before that of the last one. A time that is more before it is from a clock that
-/// was set back.
-const LATE: u64 = 1_000_000;
 
 /// A listener to one interface.
 pub(crate) struct Bus {

@@ -9,4 +9,4 @@ mod time;
 
 pub use fields::{cut_at, next_word, spaces_in};
 pub use iface::{BadName, Iface};
-pub use time::{SECOND, put_time, read_time, time_of};
+pub use time::{LATE, MICROS, SECOND, TICK, put_time, read_time, time_of};

@@ -9,8 +9,15 @@ use text_digits::{put_digits, read_numeral};
 /// How many microseconds a second has.
 pub const SECOND: u64 = 1_000_000;
 
+/// How many microseconds a tick of a station's clock has.
+pub const TICK: u64 = 1_000;
+
+/// By how many microseconds at most the time of a late frame is before that of the newest one. If a time is more before it, the clock of
+/// the log was set back.
+pub const LATE: u64 = SECOND;
+
 /// How many digits the microseconds have.
-const MICROS: usize = 6;
+pub const MICROS: usize = 6;
 
 /// From here on seconds have more than ten digits.
 const TEN_DIGITS: u64 = 10_000_000_000;

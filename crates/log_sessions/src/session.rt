@@ -6,12 +6,14 @@ ghost use Rattle.log_sessions.specs.Session.{first_window, opened, accepted, ren
 ghost use Rattle.log_sessions.specs.declared.session.Fate.TheVariants.{GoesOn, Lost};
 ghost use Rattle.tick_timers.specs.declared.durations.TheConstants.{T1};
 
+use log_fields::TICK;
 use log_reports::{Bytes, Cause, Key, Told, Transport};
 use pgn_ids::{Address, Pgn, WirePgn};
 use seg_cut::Join;
 use std::alloc::{AllocError, Global};
 use tick_timers::T1;
 use tp_wire::CmFrame;
+use tp_wire::constants::ETP_MAX_WINDOW;
 
 /// What becomes of a message under way by a frame.
 #[derive(Clone, Copy, PartialEq, Eq)]
@@ -41,12 +43,6 @@ pub struct Session {
     /// When a frame of it was last seen, in microseconds.
     heard: u64,
 }
-
-/// For how many packets there is room at least when one more arrives.
-const WINDOW: u32 = 64;
-
-/// How many microseconds a tick has.
-const TICK: u64 = 1_000;
 
 /// How many microseconds a frame of a connection is waited for: more than its ends wait, so that the abort of one that waited in vain is
 /// seen before.
@@ -90,7 +86,9 @@ impl Session {
     {
         let next = self.join.next();
         if self.join.room() == 0 {
-            self.join.make_room((next - 1).max(WINDOW))?;
+            // A window at least, and at most as many as there are.
+            self.join
+                .make_room((next - 1).max(u32::from(ETP_MAX_WINDOW)))?;
         }
         let Ok(()) = self.join.put(next, bytes) else {
             return Err(AllocError);

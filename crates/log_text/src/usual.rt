@@ -9,14 +9,11 @@ use crate::digits::frame;
 use crate::line::{ID_END, LogLine};
 use crate::reading::stamp;
 use bus_frame::CanId;
-use log_fields::{Iface, next_word};
+use log_fields::{Iface, MICROS, next_word};
 use text_digits::read_numeral;
 
 /// How many digits the seconds have, from 2001 to 2286.
 const SECONDS: usize = 10;
-
-/// How many digits the microseconds have.
-const MICROS: usize = 6;
 
 /// How many digits an identifier has.
 const DIGITS: usize = 8;
