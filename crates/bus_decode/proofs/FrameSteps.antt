@@ -9,8 +9,8 @@ use Rattle.log_decode.specs.Stray.{stray_seen}
 use Rattle.log_reports.specs.declared.stray.Stray.{Stray}
 use Rattle.log_reports.specs.declared.told.Told.{Told}
 use Rattle.log_courses.specs.Awaited.{Awaited, awaiting_each}
+use Rattle.log_courses.specs.Strays.{stray_left}
 use Rattle.log_courses.specs.declared.course.Place.{Place}
-use Rattle.log_counts.specs.Strays.{stray_left}
 use Rattle.bus_decode.specs.Followed.{heard_followed}
 use Rattle.bus_decode.specs.Telling.{told_text}
 use Rattle.bus_decode.specs.declared.followed.Followed.{Followed}

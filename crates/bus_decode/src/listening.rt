@@ -6,7 +6,7 @@ ghost use Rattle.bus_decode.specs.declared.listening.LineError.TheVariants.{OutO
 use crate::listener::Listener;
 use crate::telling::{tell, tell_frame, tell_single, tell_summary, tell_wrong};
 use bus_frame::Frame;
-use log_counts::{Counts, Options, stray_left};
+use log_counts::{Counts, Options};
 use log_courses::Place;
 use log_text::{Form, Iface, LogLine, form_of, read_line_as};
 use pgn_ids::read_id;
@@ -72,7 +72,7 @@ fn take_frame(
     counts.add_frame(frame, time < listener.decoder.time_on(iface));
     let mut told = Vec::new(alloc);
     let seen = listener.decoder.take(alloc, time, iface, frame, &mut told)?;
-    counts.add_stray(stray_left(&mut listener.awaited, seen, iface, frame)?);
+    counts.add_stray(listener.awaited.left(seen, iface, frame)?);
     listener.awaited.add_each(told.as_slice())?;
     counts.add_each(options, told.as_slice());
     let now = listener.decoder.time();

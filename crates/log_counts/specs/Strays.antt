@@ -1,9 +1,6 @@
 -- The frames of a log that belong to no message.
-use Rattle.std.specs.Prelude.{ℕ, ◌+◌, ◌-◌, ◌^◌, List, ◌++◌, codes, Bool, min, if◌then◌else◌, Option, Some, None}
+use Rattle.std.specs.Prelude.{ℕ, ◌+◌, ◌-◌, ◌^◌, List, ◌++◌, codes, min, Option, Some, None}
 use Rattle.std.specs.Fmt.{decimal}
-use Rattle.bus_frame.specs.Frames.{CanFrame}
-use Rattle.log_fields.specs.declared.iface.Iface.{Iface}
-use Rattle.log_courses.specs.Awaited.{Awaited, met}
 use Rattle.log_reports.specs.declared.stray.Stray.{Stray}
 use Rattle.log_reports.specs.declared.stray.Stray.TheVariants.{Packet, Window, Acknowledgement}
 use Rattle.log_counts.specs.declared.strays.Strays.{Strays}
@@ -21,16 +18,6 @@ with_stray None s = s
 with_stray (Some Packet) s = record s { packets = more s.packets }
 with_stray (Some Window) s = record s { windows = more s.windows }
 with_stray (Some Acknowledgement) s = record s { acknowledgements = more s.acknowledgements }
-
--- an end acknowledgement of the message that was given last belongs to that message
-abbrev pub kept_unless : Awaited × Bool → Awaited × Option Stray
-kept_unless m = (m.0, if m.1 then None else Some Acknowledgement)
-
-abbrev pub stray_left : Option Stray → Iface → CanFrame → Awaited → Awaited × Option Stray
-stray_left None iface frame awaited = (awaited, None)
-stray_left (Some Packet) iface frame awaited = (awaited, Some Packet)
-stray_left (Some Window) iface frame awaited = (awaited, Some Window)
-stray_left (Some Acknowledgement) iface frame awaited = kept_unless (met iface frame awaited)
 
 abbrev pub parts_text : Strays → List ℕ
 parts_text s = codes "stray packets " ++ decimal s.packets ++ codes " windows " ++ decimal s.windows

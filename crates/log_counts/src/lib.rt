@@ -9,4 +9,4 @@ mod strays;
 
 pub use counts::Counts;
 pub use options::{Options, Wanted};
-pub use strays::{Strays, stray_left};
+pub use strays::Strays;

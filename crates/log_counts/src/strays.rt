@@ -1,13 +1,9 @@
 //! The frames of a log that belong to no message.
-ghost use Rattle.std.specs.Prelude.{◌≡◌, Some, IfOk};
+ghost use Rattle.std.specs.Prelude.{◌≡◌, Some};
 ghost use Rattle.std.specs.Fmt.{DisplaysOnOk};
-ghost use Rattle.log_counts.specs.Strays.{no_strays, with_stray, stray_left, parts_text, ends_text, strays_text};
+ghost use Rattle.log_counts.specs.Strays.{no_strays, with_stray, parts_text, ends_text, strays_text};
 
-use bus_frame::Frame;
-use log_courses::Awaited;
-use log_fields::Iface;
 use log_reports::Stray;
-use std::alloc::AllocError;
 use std::fmt;
 
 /// The frames of a transport that belong to no message, by their kind. A number that would pass 2^64 - 1 stays there.
@@ -44,29 +40,6 @@ impl Strays {
             Some(Stray::Acknowledgement) => {
                 self.acknowledgements = self.acknowledgements.saturating_add(1);
             }
-        }
-    }
-}
-
-/// The kind of a frame whose message isn't under way. The end acknowledgement of the message that was given last
-/// belongs to that.
-pub fn stray_left(
-    awaited: &mut Awaited,
-    stray: Option<Stray>,
-    iface: Iface,
-    frame: &Frame,
-) -> Result<Option<Stray>, AllocError>
-    ensures { IfOk result (λ left. (awaited.new, left) ≡ stray_left stray iface frame.now awaited.old) }
-{
-    match stray {
-        None => Ok(None),
-        Some(Stray::Packet) => Ok(stray),
-        Some(Stray::Window) => Ok(stray),
-        Some(Stray::Acknowledgement) => {
-            if awaited.meet(iface, frame)? {
-                return Ok(None);
-            }
-            Ok(stray)
         }
     }
 }

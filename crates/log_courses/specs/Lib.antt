@@ -1,3 +1,4 @@
 pub mod Course
 pub mod Courses
 pub mod Awaited
+pub mod Strays

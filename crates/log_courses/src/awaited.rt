@@ -1,12 +1,13 @@
 //! The end acknowledgements of messages that were given.
 ghost use Rattle.std.specs.Prelude.{◌≡◌, [], OnOk, IfOk};
 ghost use Rattle.log_courses.specs.Awaited.{is_open, awaiting, awaiting_each, met_at, cm_met, wire_met, met};
+ghost use Rattle.log_courses.specs.Strays.{stray_left};
 
 use crate::courses::key_between;
 use bus_frame::Frame;
 use indexmap::IndexMap;
 use log_fields::Iface;
-use log_reports::{Key, Told};
+use log_reports::{Key, Stray, Told};
 use pgn_ids::{Address, Pgn, WirePgn};
 use std::alloc::{AllocError, Global};
 use std::marker::Model;
@@ -164,5 +165,28 @@ impl Awaited {
             return Ok(false);
         };
         self.meet_wire(iface, from, to, &wire)
+    }
+
+    /// The kind of a frame whose message isn't under way. The end acknowledgement of the message that was given last belongs to that, and is
+    /// none. It fails only if memory is refused; what it leaves then is not specified.
+    pub fn left(
+        &mut self,
+        stray: Option<Stray>,
+        iface: Iface,
+        frame: &Frame,
+    ) -> Result<Option<Stray>, AllocError>
+        ensures { IfOk result (λ left. (self.new, left) ≡ stray_left stray iface frame.now self.old) }
+    {
+        match stray {
+            None => Ok(None),
+            Some(Stray::Packet) => Ok(stray),
+            Some(Stray::Window) => Ok(stray),
+            Some(Stray::Acknowledgement) => {
+                if self.meet(iface, frame)? {
+                    return Ok(None);
+                }
+                Ok(stray)
+            }
+        }
     }
 }
