@@ -70,9 +70,9 @@ fn a_wrong_line_is_passed_over(rt: HostRuntime) {
         same(&rt, fault.cause, Cause::OutOfMemory);
         return;
     }
-    same(&rt, ran.counts, LineCounts { lines: 2, wrong: 1 });
-    same(&rt, ran.status(), 1);
     if !ran.memory_refused {
+        same(&rt, ran.counts, LineCounts { lines: 2, wrong: 1 });
+        same(&rt, ran.status(), 1);
         same(&rt, out.as_slice(), b"line 2: unknown command\n".as_slice());
     }
 }

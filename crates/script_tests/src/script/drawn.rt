@@ -7,6 +7,7 @@ use script_drawing::draw_script;
 use std::alloc::Global;
 use std::io;
 use std::io::{BufRead, BufReader, Error, ErrorKind, Write};
+use std::process::Abort;
 
 const BROADCAST: &str = "stations 35 21\n\
 open 35 FECA 1785\n\
@@ -61,49 +62,55 @@ fn draw<R: BufRead, W: Write, E: Write>(
     draw_log(alloc, &options, reader, writer, errors)
 }
 
+/// Ends the test if the drawing didn't end so. It may find no memory before, and false is returned then.
+fn ended_by(rt: &impl Abort, drawn: &Drawn, line: u64, cause: Cause) -> bool {
+    let fault = drawn.fault.expect(rt, "a fault");
+    if fault.cause == Cause::OutOfMemory {
+        return false;
+    }
+    same(rt, fault.cause, cause);
+    same(rt, fault.line, line);
+    true
+}
+
 #[test]
 fn a_write_that_fails_ends_the_drawing_of_a_log(rt: HostRuntime) {
     let alloc = rt.alloc();
-    let mut told = Vec::new(alloc);
+    let mut told = got(&rt, Vec::with_capacity(alloc, 64));
     let mut reader = LOG.as_bytes();
     let drawn = draw(alloc, &mut reader, &mut Full {}, &mut told);
-    holds(
-        &rt,
-        drawn.fault.is_some_and(|fault| fault.line == 1 && fault.cause == Cause::WriteFailed),
-    );
     same(&rt, drawn.status(), 1);
-    holds(&rt, told.is_empty());
+    if ended_by(&rt, &drawn, 1, Cause::WriteFailed) {
+        holds(&rt, told.is_empty());
+    }
 }
 
 #[test]
 fn a_wrong_line_that_cannot_be_told_ends_the_drawing_of_a_log(rt: HostRuntime) {
     let alloc = rt.alloc();
-    let mut text = Vec::new(alloc);
+    let mut text = got(&rt, Vec::with_capacity(alloc, 128));
     let mut reader = LOG.as_bytes();
     let drawn = draw(alloc, &mut reader, &mut text, &mut Full {});
-    holds(
-        &rt,
-        drawn.fault.is_some_and(|fault| fault.line == 2 && fault.cause == Cause::WriteFailed),
-    );
-    holds(&rt, text.as_slice() == ANNOUNCED.as_bytes());
+    if ended_by(&rt, &drawn, 2, Cause::WriteFailed) {
+        holds(&rt, text.as_slice() == ANNOUNCED.as_bytes());
+    }
 }
 
 #[test]
 fn a_read_that_fails_leaves_out_the_packets_before_it(rt: HostRuntime) {
     let alloc = rt.alloc();
-    let (mut text, mut told) = (Vec::new(alloc), Vec::new(alloc));
+    let mut text = got(&rt, Vec::with_capacity(alloc, 128));
+    let mut told = got(&rt, Vec::with_capacity(alloc, 64));
     let broken = Breaking {
         text: LOG.as_bytes(),
     };
     let mut reader = got(&rt, BufReader::new(alloc, broken));
     let drawn = draw(alloc, &mut reader, &mut text, &mut told);
-    holds(
-        &rt,
-        drawn.fault.is_some_and(|fault| fault.line == 4 && fault.cause == Cause::ReadFailed),
-    );
-    holds(&rt, text.as_slice() == ANNOUNCED.as_bytes());
-    holds(
-        &rt,
-        told.as_slice() == "line 2: not a log line\n".as_bytes(),
-    );
+    if ended_by(&rt, &drawn, 4, Cause::ReadFailed) {
+        holds(&rt, text.as_slice() == ANNOUNCED.as_bytes());
+        holds(
+            &rt,
+            told.as_slice() == "line 2: not a log line\n".as_bytes(),
+        );
+    }
 }
