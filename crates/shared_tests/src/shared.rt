@@ -95,6 +95,8 @@ fn submit_between_turns(rt: &impl Abort, alloc: Global, live: &mut Live, first: 
     submit(rt, first, R, alloc);
     live.station_turn(A);
     live.station_turn(A);
+    // A turn that finds no memory leaves its submission to the next one.
+    live.station_turn(A);
     same(rt, accept(rt, live, first), Accepted::Empty);
 }
 
