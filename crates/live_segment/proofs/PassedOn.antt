@@ -1,7 +1,8 @@
 -- A frame which is none of a station's business is taken: what that leaves, and the turn that does nothing else.
-use Rattle.std.proofs.Common.{◌≡◌, ℕ, ◌+◌, ◌-◌, ◌<◌, ◌^◌, ◌&&◌, ◌||◌, Bool, true, false, nat_lt, List, [], ◌∷◌, ◌++◌, length, map, Option, None, refl, sym, ◌∙◌, ap, subst, arith}
-use Rattle.std.specs.Prelude.{nat_le, is_some}
+use Rattle.std.proofs.Common.{◌≡◌, ℕ, ◌+◌, ◌-◌, ◌<◌, ◌^◌, ◌&&◌, ◌||◌, Bool, true, false, nat_lt, List, [], ◌∷◌, ◌++◌, length, map, get_or, inl, inr, Option, Some, None, refl, sym, ◌∙◌, ap, subst, arith}
+use Rattle.std.specs.Prelude.{nat_le, is_some, slice_get}
 use Rattle.std.proofs.lemmas.Bool.{false≢true, lt-ltb, lt-leb}
+use Rattle.std.proofs.lemmas.Option.{slice_get_within, slice_get-get_or}
 use Rattle.bus_order.specs.Bus.{kept_limit}
 use Rattle.tx_queue.specs.Queue.{queue_limit}
 use Rattle.pgn_ids.specs.declared.address.Address.{Address}
@@ -25,7 +26,8 @@ use Rattle.live_segment.specs.Facts.{Holds, IdsFrom, HaveRoom, OwedWithin, note_
 use Rattle.live_segment.specs.LiveView.{LiveView, Kept, Applied, live_view, client_of, port_of, stored}
 use Rattle.live_segment.specs.Offers.{IsAtRest}
 use Rattle.live_segment.specs.Record.{trail}
-use Rattle.live_segment.specs.Turns.{Point, point, no_turn, one_more, Makes, MakesWhere, PumpsTo, StationTurn, is_stuck, state_of}
+use Rattle.live_segment.specs.Turns.{Point, point, no_turn, one_more, Makes, MakesWhere, PumpsTo, AllRest, Finishes, StationTurn, is_stuck, state_of}
+use Rattle.live_segment.specs.declared.turns.Turn.{Turn}
 use Rattle.live_segment.specs.Words.{call_of}
 use Rattle.live_segment.proofs.Applying.{spares_none}
 use Rattle.live_segment.proofs.Doors.{give_all_unplaced}
@@ -33,6 +35,7 @@ use Rattle.live_segment.proofs.Holding.{holds-tell}
 use Rattle.live_segment.proofs.Quiet.{below_at_rest}
 use Rattle.live_segment.proofs.Seats.{note_all_none}
 use Rattle.live_segment.proofs.Telling.{ports_untold, clients_untold}
+use Rattle.live_segment.proofs.Working.{before_or_at}
 
 -- What the Take leaves
 
@@ -90,35 +93,63 @@ not_due seg station calm = (neither (is_due seg station) (is_some (next_pump seg
 pub none_pumps : (seg : Segment) (station : Address) → is_active seg station ≡ false → next_pump seg station ≡ None
 none_pumps seg station calm = none_there (next_pump seg station) (neither (is_due seg station) (is_some (next_pump seg station)) calm).1
 
--- nobody submitted, nothing is pumped, and no timer is due
+-- nothing is fired at a station that isn't active
+pub fires_none : (a b : LiveView) (t : Turn) (station : Address) → is_active (state_of a) station ≡ false → b ≡ a → MakesWhere (is_due (state_of a) station) (worker.Fire station) (point a t) (point b t)
+fires_none a b t station calm same =
+    subst (λ (u : LiveView). MakesWhere (is_due (state_of a) station) (worker.Fire station) (point a t) (point u t)) (sym same)
+    (subst (λ (wanted : Bool). MakesWhere wanted (worker.Fire station) (point a t) (point a t)) (sym (not_due (state_of a) station calm)) refl)
+
+-- nobody submitted, and nothing is pumped
+pub turn_finished : (a : LiveView) (q : Point) (station : Address) → IsAtRest station a → is_active (state_of a) station ≡ false → Finishes station (point a no_turn) q → StationTurn station (point a no_turn) q
+turn_finished a q station rests calm f =
+    let start : Point = point a no_turn in
+    record {
+      accepted = start;
+      pumped = start;
+      taken = f.taken;
+      fired = f.fired;
+      accepts = below_at_rest (length a.clients) a no_turn station (omega arith) rests;
+      pumps = subst (λ (o : Option Address). PumpsTo o station start start) (sym (none_pumps (state_of a) station calm)) refl;
+      takes = f.takes;
+      fires = f.fires;
+      misses = f.misses;
+    }
+
+-- no timer is due either
 pub turn_passed : (a b : LiveView) (station : Address) → IsAtRest station a → is_active (state_of a) station ≡ false → Makes (worker.Take station) (point a no_turn) (point b (one_more no_turn)) → PassesBy (state_of a) station (state_of b) → StationTurn station (point a no_turn) (point b (one_more no_turn))
 turn_passed a b station rests calm made p =
     let start : Point = point a no_turn in
     let taken : Point = point b (one_more no_turn) in
     let due : is_due (state_of b) station ≡ false = ap (λ (s : Segment). is_due s station) p.only ∙ not_due (state_of a) station calm in
-    record {
-      accepted = start;
-      pumped = start;
+    turn_finished a taken station rests calm (record {
       taken = taken;
       fired = taken;
-      accepts = below_at_rest (length a.clients) a no_turn station (omega arith) rests;
-      pumps = subst (λ (o : Option Address). PumpsTo o station start start) (sym (none_pumps (state_of a) station calm)) refl;
       takes = subst (λ (wanted : Bool). MakesWhere wanted (worker.Take station) start taken) (sym (lt-ltb 0 (waiting_at (state_of a) station) p.waits)) made;
       fires = subst (λ (wanted : Bool). MakesWhere wanted (worker.Fire station) taken taken) (sym due) refl;
       misses = subst (λ (wanted : Bool). MakesWhere wanted (worker.Overrun station (waiting_at (state_of b) station)) taken taken) (sym (free_then (state_of b) station p.free)) refl;
-    }
+    })
 
 pub turn_rests : (a : LiveView) (station : Address) → IsAtRest station a → is_active (state_of a) station ≡ false → waiting_at (state_of a) station ≡ 0 → StationTurn station (point a no_turn) (point a no_turn)
 turn_rests a station rests calm none =
     let start : Point = point a no_turn in
-    record {
-      accepted = start;
-      pumped = start;
+    turn_finished a start station rests calm (record {
       taken = start;
       fired = start;
-      accepts = below_at_rest (length a.clients) a no_turn station (omega arith) rests;
-      pumps = subst (λ (o : Option Address). PumpsTo o station start start) (sym (none_pumps (state_of a) station calm)) refl;
       takes = subst (λ (n : ℕ). MakesWhere (nat_lt 0 n) (worker.Take station) start start) (sym none) refl;
-      fires = subst (λ (wanted : Bool). MakesWhere wanted (worker.Fire station) start start) (sym (not_due (state_of a) station calm)) refl;
+      fires = fires_none a a no_turn station calm refl;
       misses = subst (λ (wanted : Bool). MakesWhere wanted (worker.Overrun station (waiting_at (state_of a) station)) start start) (sym (rests_then (state_of a) station none)) refl;
-    }
+    })
+
+-- one station more does nothing
+abbrev found_or : Address → Option Address → Address
+found_or d None = d
+found_or d (Some a) = a
+
+pub all_more : (n : ℕ) (v : LiveView) (a : Address) → slice_get v.addresses n ≡ Some a → StationTurn a (point v no_turn) (point v no_turn) → AllRest n v → AllRest (n + 1) v
+all_more n v a at turn all k d l = elim (before_or_at k n l) [
+  | inl m ↦ all k d m
+  | inr q ↦
+      let within : n < length v.addresses = slice_get_within v.addresses n a at in
+      let is : get_or v.addresses n d ≡ a = ap (found_or d) (sym (slice_get-get_or v.addresses n d within) ∙ at) in
+      subst (λ (x : Address). StationTurn x (point v no_turn) (point v no_turn)) (sym is ∙ ap (λ (j : ℕ). get_or v.addresses j d) (sym q)) turn
+]

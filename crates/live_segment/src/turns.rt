@@ -1,11 +1,13 @@
 //! The turns of workers, each within one hold of the lock.
-ghost use Rattle.std.specs.Prelude.{◌≡◌, ◌<◌, List, length};
+ghost use Rattle.std.specs.Prelude.{◌≡◌, ◌<◌, List, length, slice_get, false, IsTrue};
 ghost use Rattle.message_events.specs.declared.event.Event.{Event};
 ghost use Rattle.segment_core.specs.Answers.{reply_with};
 ghost use Rattle.segment_law.specs.Segment.{waiting_at};
-ghost use Rattle.segment_law.specs.Readers.{next_pump};
-ghost use Rattle.live_segment.specs.declared.call.WorkerCall.TheVariants.{Overrun as OverrunCall};
-ghost use Rattle.live_segment.specs.Turns.{IsNext, is_stuck, point, no_turn, one_more, after_refusal, after_reply, after_accept, Makes, Accepts, AcceptsOne, AcceptsBelow, MakesWhere, PumpsTo, StationTurn, BusTurn, state_of};
+ghost use Rattle.segment_law.specs.Readers.{next_pump, is_due};
+ghost use Rattle.segment_core.specs.Next.{is_active};
+ghost use Rattle.live_segment.specs.declared.call.WorkerCall.TheVariants.{Fire as FireCall, Overrun as OverrunCall};
+ghost use Rattle.live_segment.specs.Offers.{IsAtRest};
+ghost use Rattle.live_segment.specs.Turns.{IsNext, AllRest, Finishes, is_stuck, point, no_turn, one_more, after_refusal, after_reply, after_accept, Makes, Accepts, AcceptsOne, AcceptsBelow, MakesWhere, PumpsTo, StationTurn, BusTurn, state_of};
 
 use crate::call::WorkerCall;
 use crate::live::Live;
@@ -154,6 +156,29 @@ impl Turn {
         }
     }
 
+    // Fires the first timer that is due, if there is one. Of a station that isn't active the look at it is one comparison, and the tick
+    // up to which it isn't is noted for its next turn.
+    #[inline(always)]
+    fn fire(&mut self, live: &mut Live, station: Address)
+        ensures { MakesWhere (is_due (state_of live.old) station) (FireCall station) (point live.old self.old) (point live.new self.new) }
+    {
+        if live.is_active(station) {
+            let is_due = live.segment().is_due(station);
+            self.make_where(live, is_due, WorkerCall::Fire { station });
+        }
+    }
+
+    // What a turn does once its station's clients were looked at and a Pump was made.
+    #[inline(always)]
+    fn finish(&mut self, live: &mut Live, station: Address)
+        ensures { Finishes station (point live.old self.old) (point live.new self.new) }
+    {
+        let waits = live.segment().waiting(station) > 0;
+        self.make_where(live, waits, WorkerCall::Take { station });
+        self.fire(live, station);
+        self.miss(live, station);
+    }
+
     // A station whose queue is full takes nothing more. If so many frames wait for it that the bus is full, no station can
     // transmit either, and nothing would go on: it misses the frames that wait.
     fn miss(&mut self, live: &mut Live, station: Address)
@@ -219,13 +244,13 @@ impl Live {
             return self.whole_turn(station);
         }
         match self.pass_by(station) {
-            Passing::Busy => self.whole_turn(station),
+            Passing::Busy => self.taking_turn(station),
             Passing::Rests => Turn::new(),
             Passing::Passed => one_call(),
         }
     }
 
-    // `station_turn`, step by step: of a station that may have more to do than to take a frame that is none of its business.
+    // `station_turn`, step by step: of a station that may have more to do than to take a frame.
     #[inline(never)]
     fn whole_turn(&mut self, station: Address) -> Turn
         ensures { StationTurn station (point self.old no_turn) (point self.new result) }
@@ -233,12 +258,62 @@ impl Live {
         let mut turn = Turn::new();
         turn.accept_all(self, station);
         turn.pump(self, station);
-        let waits = self.segment().waiting(station) > 0;
-        turn.make_where(self, waits, WorkerCall::Take { station });
-        let is_due = self.segment().is_due(station);
-        turn.make_where(self, is_due, WorkerCall::Fire { station });
-        turn.miss(self, station);
+        turn.finish(self, station);
         turn
+    }
+
+    // `station_turn`, of a station that has nothing to accept and nothing to queue.
+    #[inline(never)]
+    fn taking_turn(&mut self, station: Address) -> Turn
+        requires rests { IsAtRest station self.old }
+        requires calm { is_active (state_of self.old) station ≡ false }
+        ensures { StationTurn station (point self.old no_turn) (point self.new result) }
+    {
+        let mut turn = Turn::new();
+        turn.finish(self, station);
+        turn
+    }
+
+    /// Whether a turn of each station would do nothing. If this is false, that may be so all the same.
+    pub fn rests(&mut self) -> bool
+        ensures same { self.new ≡ self.old }
+        ensures rests { IsTrue result → AllRest (length self.old.addresses) self.old }
+    {
+        let count = self.addresses().len();
+        for k in 0..count {
+            let Some(station) = self.address_at(k) else {
+                return false;
+            };
+            if !self.rests_at(station) {
+                return false;
+            }
+        }
+        true
+    }
+
+    fn address_at(&self, k: usize) -> Option<Address>
+        ensures { result ≡ slice_get self.now.addresses k }
+    {
+        self.addresses().get(k).copied()
+    }
+
+    // Whether a station's turn would do nothing, as far as is seen by a look.
+    #[inline(always)]
+    fn rests_at(&mut self, station: Address) -> bool
+        ensures same { self.new ≡ self.old }
+        ensures rests { IsTrue result → StationTurn station (point self.old no_turn) (point self.old no_turn) }
+    {
+        let waiting = self.segment().waiting(station);
+        if waiting > 0 {
+            return false;
+        }
+        if self.is_called(station) {
+            return false;
+        }
+        if self.is_active(station) {
+            return false;
+        }
+        true
     }
 
     /// The station whose waiting frame has the lowest identifier, of several the first in the order of their addresses; none if

@@ -1,7 +1,9 @@
 use Rattle.std.proofs.Common.{◌≡◌, false, true, [], sym, ap, ◌∙◌, refl, subst, inl, inr}
+use Rattle.pgn_ids.specs.declared.address.Address.{Address}
 use Rattle.segment_law.specs.declared.reply.Reply.TheVariants.{Done}
 use Rattle.segment_core.specs.Next.{is_active}
-use Rattle.segment_core.specs.declared.passing.Passing.TheVariants.{Passed, Rests}
+use Rattle.segment_core.specs.declared.passing.Passing.{Passing}
+use Rattle.segment_core.specs.declared.passing.Passing.TheVariants.{Passed, Rests, Busy}
 use Rattle.live_segment.specs.declared.call.WorkerCall.TheVariants.{Take}
 use Rattle.live_segment.specs.LiveView.{LiveView}
 use Rattle.live_segment.specs.Offers.{IsAtRest}
@@ -18,10 +20,24 @@ pub returns-then-is_active : goal.returns-then-is_active
 returns-then-is_active c =
     subst (λ (u : LiveView). StationTurn c.args.station (point u no_turn) (point c.whole_turn-then-is_active.new.self c.whole_turn-then-is_active.result)) (c.is_active.ensures.same ∙ c.is_called.ensures.same) c.whole_turn-then-is_active.ensures
 
+-- nothing has changed where the frame is the station's business
+same_in_Busy : (a b p : LiveView) (station : Address) (r : Passing) → r ≡ Busy → IsPassing a station p r → a ≡ b → p ≡ b
+same_in_Busy a b p station r is passing same = subst (IsPassing a station p) is passing ∙ same
+
+pub taking_turn-requires-clause-rests : goal.taking_turn-requires-clause-rests
+taking_turn-requires-clause-rests c =
+    let same = same_in_Busy c.is_active.new.self c.args.self.now c.pass_by.new.self c.args.station _ c.in-Busy.is c.pass_by.ensures (c.is_active.ensures.same ∙ c.is_called.ensures.same) in
+    subst (IsAtRest c.args.station) (sym same) (c.is_called.ensures.rests c.if-is_called.false)
+
+pub taking_turn-requires-clause-calm : goal.taking_turn-requires-clause-calm
+taking_turn-requires-clause-calm c =
+    let same = same_in_Busy c.is_active.new.self c.args.self.now c.pass_by.new.self c.args.station _ c.in-Busy.is c.pass_by.ensures (c.is_active.ensures.same ∙ c.is_called.ensures.same) in
+    ap (λ (u : LiveView). is_active (state_of u) c.args.station) (same ∙ sym c.is_called.ensures.same) ∙ sym c.is_active.ensures.value ∙ c.if-is_active.false
+
 pub returns-in-Busy : goal.returns-in-Busy
 returns-in-Busy c =
-    let same : c.pass_by.new.self ≡ c.args.self.now = subst (IsPassing c.is_active.new.self c.args.station c.pass_by.new.self) c.in-Busy.is c.pass_by.ensures ∙ c.is_active.ensures.same ∙ c.is_called.ensures.same in
-    subst (λ (u : LiveView). StationTurn c.args.station (point u no_turn) (point c.whole_turn-in-Busy.new.self c.whole_turn-in-Busy.result)) same c.whole_turn-in-Busy.ensures
+    let same = same_in_Busy c.is_active.new.self c.args.self.now c.pass_by.new.self c.args.station _ c.in-Busy.is c.pass_by.ensures (c.is_active.ensures.same ∙ c.is_called.ensures.same) in
+    subst (λ (u : LiveView). StationTurn c.args.station (point u no_turn) (point c.taking_turn.new.self c.taking_turn.result)) same c.taking_turn.ensures
 
 pub returns-in-Rests : goal.returns-in-Rests
 returns-in-Rests c =
