@@ -1,29 +1,30 @@
 -- What is known of a station stays so through each call of another one.
-use Rattle.std.proofs.Common.{◌≡◌, ◌≢◌, ℕ, zero, suc, ◌+◌, ◌<◌, ◌≤◌, ◌^◌, ◌==◌, Bool, true, false, List, [], ◌∷◌, length, set, get_or, replicate, ◌-◌, inl, inr, Option, Some, None, Result, Ok, Err, refl, sym, ap, ◌∙◌, subst, arith, eqb-true, get_or-set_other, length-set}
-use Rattle.std.specs.Prelude.{◌⊎◌, slice_get, position, IfOk, IfSome, IfNone, OnErr}
+use Rattle.std.proofs.Common.{◌≡◌, ◌≢◌, ℕ, zero, suc, ◌+◌, ◌<◌, ◌≤◌, ◌^◌, ◌==◌, Bool, true, false, cond, List, [], ◌∷◌, length, set, get_or, replicate, ◌-◌, inl, inr, Option, Some, None, Result, Ok, Err, refl, sym, ap, ◌∙◌, subst, arith, eqb-true, get_or-set_other, length-set}
+use Rattle.std.specs.Prelude.{◌⊎◌, unwrap_or, slice_get, position, IfOk, IfSome, IfNone, OnErr}
 use Rattle.std.specs.declared.alloc.AllocError.{AllocError}
 use Rattle.std.proofs.lemmas.Bool.{eqb-false, lt-leb}
 use Rattle.std.proofs.lemmas.Option.{slice_get_within, slice_get-get_or}
+use Rattle.bus_frame.specs.Frames.{CanFrame}
 use Rattle.pgn_ids.specs.declared.address.Address.{Address}
 use Rattle.tick_timers.specs.Due.{IsDueFrom, has_come}
 use Rattle.tx_queue.specs.Queue.{behind}
 use Rattle.bus_order.specs.Bus as bus
 use Rattle.port_table.specs.Ports.{with_port, with_paused}
 use Rattle.message_events.specs.declared.event.Event.{Event}
-use Rattle.station_core.specs.Station.{Station, StationStep}
+use Rattle.station_core.specs.Station.{Station, StationStep, new_station}
 use Rattle.station_core.specs.Sending.{sent, pumped, cancelled}
 use Rattle.station_core.specs.Taking.{is_malformed_for, taken}
 use Rattle.station_core.specs.Timers.{fired}
 use Rattle.station_core.specs.Closing.{closed}
 use Rattle.station_core.specs.Overruns.{overrun}
-use Rattle.segment_law.specs.Segment.{Segment, place_of, station_of, with_station, counted, counted_look, counted_repeat}
+use Rattle.segment_law.specs.Segment.{Segment, place_of, station_at, station_of, with_station, counted, counted_look, counted_repeat}
 use Rattle.segment_law.specs.Calls.{with_frame, applied}
 use Rattle.segment_law.specs.declared.counts.Counts.{Counts}
 use Rattle.segment_law.specs.declared.call.Call.{Call}
 use Rattle.segment_law.specs.declared.call.Call.TheVariants.{Open, Close, Send, Pump, Transmit, Take, TakeAgain, Overrun, Tick, Fire, Cancel, Inject, Pause, Resume}
 use Rattle.segment_law.specs.declared.reply.Reply.{Reply}
 use Rattle.segment_law.specs.declared.reply.Reply.TheVariants.{Refused, Done}
-use Rattle.segment_law.proofs.Reaching.{position_kept}
+use Rattle.segment_law.proofs.Reaching.{position_kept, slice_get_same}
 use Rattle.record_law.proofs.EachCall.{OfStation, Accepted, each_applied}
 use Rattle.record_law.proofs.Segments.{found_passes, found_there}
 use Rattle.segment_core.specs.Answers.{made_as, reply_with}
@@ -35,7 +36,8 @@ use Rattle.segment_core.specs.declared.passing.Passing.{Passing}
 use Rattle.segment_core.specs.declared.passing.Passing.TheVariants.{Passed, Rests, Busy}
 use Rattle.segment_core.proofs.Addresses.{closed_keeps, taken_keeps, fired_keeps}
 use Rattle.segment_core.proofs.Nexts.{active_as}
-use Rattle.watched_segment.specs.Calm.{AreCalm, forgotten, known_after}
+use Rattle.watched_segment.specs.Calm.{AreCalm, forgotten, lacks_places, known_after}
+use Rattle.watched_segment.proofs.Sent.{still_room, active_still}
 
 -- the station that was found at a place
 abbrev at_found : List Station → Option ℕ → Option Station
@@ -114,7 +116,7 @@ past_all (y ∷ ys) (suc k) x l = ap (λ (zs : List ℕ). y ∷ zs) (past_all ys
 
 module _ (ticks : List ℕ) (seg : Segment) (calm : AreCalm ticks seg) where
   abbrev Keeps : Call → Segment × Reply → Type 0
-  Keeps call step = AreCalm (known_after call ticks) step.0
+  Keeps call step = AreCalm (known_after seg call ticks) step.0
 
   same_stations : (next : Segment) → next.stations ≡ seg.stations → AreCalm ticks next
   same_stations next same a tick l =
@@ -157,13 +159,43 @@ module _ (ticks : List ℕ) (seg : Segment) (calm : AreCalm ticks seg) where
     after_step : (b : bus.Bus) (counts : Counts) (step : StationStep) (a : Address) → place_of seg a ≡ Some j → step.station.address ≡ st.address → AreCalm (forgotten a ticks) (record (with_station (record seg { bus = b; counts = counts }) j step.station) { counts = counted counts step.events })
     after_step b counts step a place address = kept (record (with_station (record seg { bus = b; counts = counts }) j step.station) { counts = counted counts step.events }) step.station a place address refl
 
+    transmitted : (a : Address) (f : CanFrame) → place_of seg a ≡ Some j → (lacks : Bool) → lacks_places (station_at seg a).queue ≡ lacks → AreCalm (cond lacks (forgotten a ticks) ticks) (with_frame (with_station seg j (record st { queue = behind st.queue })) f)
+    transmitted a f q lacks e = by lacks e
+      where
+        new : Station
+        new = record st { queue = behind st.queue }
+
+        next : Segment
+        next = with_frame (with_station seg j new) f
+
+        own : station_at seg a ≡ st
+        own = ap (λ (o : Option Station). unwrap_or o (new_station a)) (ap (at_found seg.stations) q ∙ at)
+
+        here_then : place_of next a ≡ Some j
+        here_then = position_kept seg.stations j st new at refl a ∙ q
+
+        same : (tick : ℕ) → lacks_places (station_at seg a).queue ≡ false → is_active (at_tick next tick) a ≡ is_active (at_tick seg tick) a
+        same tick room =
+            let free : lacks_places st.queue ≡ false = ap (λ (s : Station). lacks_places s.queue) (sym own) ∙ room in
+            active_still seg next tick j st (behind st.queue) free (still_room st.queue free) a q at here_then (slice_get_same seg.stations j st new at refl)
+
+        at_each : lacks_places (station_at seg a).queue ≡ false → (b : Address) (tick : ℕ) (t : Bool) → (b.0 == a.0) ≡ t → is_active (at_tick next tick) b ≡ is_active (at_tick seg tick) b
+        at_each room b tick true is =
+            let e : b.0 ≡ a.0 = eqb-true b.0 a.0 is in
+            ap (λ (n : ℕ). is_active (at_tick next tick) (record { 0 = n })) e ∙ same tick room ∙ ap (λ (n : ℕ). is_active (at_tick seg tick) (record { 0 = n })) (sym e)
+        at_each room b tick false is = active_as seg next tick b (stays new a b q refl (eqb-false b.0 a.0 is))
+
+        by : (t : Bool) → lacks_places (station_at seg a).queue ≡ t → AreCalm (cond t (forgotten a ticks) ticks) next
+        by true is = kept next new a q refl refl
+        by false room = λ b tick l. at_each room b tick (b.0 == a.0) refl ∙ calm b tick l
+
     of_station : OfStation seg Keeps j st
     of_station = record {
       opens = λ a pgn max_len q. changed (record st { ports = with_port st.ports pgn max_len }) a q refl;
       closes = λ port q is. changed (closed st port.number) port.station q (closed_keeps st port.number);
       sends = λ from to pgn bytes q other long short. changed (sent st to pgn bytes) from q refl;
       pumps = λ a to q. after_step seg.bus seg.counts (pumped st to seg.now) a q refl;
-      transmits = λ a f q e free. (let new : Station = record st { queue = behind st.queue } in kept (with_frame (with_station seg j new) f) new a q refl refl);
+      transmits = λ a f q e free. transmitted a f q (lacks_places (station_at seg a).queue) refl;
       takes = λ a room f q e free. after_step (bus.released (bus.taken seg.bus j)) (counted_look seg.counts (is_malformed_for st f)) (taken st f room seg.now) a q (taken_keeps st f room seg.now);
       repeats = λ a room f q e free. after_step seg.bus (counted_look (counted_repeat seg.counts) (is_malformed_for st f)) (taken st f room seg.now) a q (taken_keeps st f room seg.now);
       overruns = λ a n q few. after_step (bus.released (bus.passed seg.bus j n)) seg.counts (overrun st) a q refl;
@@ -180,12 +212,16 @@ module _ (ticks : List ℕ) (seg : Segment) (calm : AreCalm ticks seg) where
     injects = λ f foreign free. same_stations (with_frame seg f) refl;
   }
 
-  pub unless_made : (call : Call) → AreCalm (known_after call ticks) seg
+  unless_sent : (a : Address) (lacks : Bool) → AreCalm (cond lacks (forgotten a ticks) ticks) seg
+  unless_sent a true = less_known ticks seg a calm
+  unless_sent a false = calm
+
+  pub unless_made : (call : Call) → AreCalm (known_after seg call ticks) seg
   unless_made (Open a pgn max_len) = less_known ticks seg a calm
   unless_made (Close port) = less_known ticks seg port.station calm
   unless_made (Send from to pgn bytes) = less_known ticks seg from calm
   unless_made (Pump a to) = less_known ticks seg a calm
-  unless_made (Transmit a) = less_known ticks seg a calm
+  unless_made (Transmit a) = unless_sent a (lacks_places (station_at seg a).queue)
   unless_made (Take a room) = less_known ticks seg a calm
   unless_made (TakeAgain a room) = less_known ticks seg a calm
   unless_made (Overrun a n) = less_known ticks seg a calm
@@ -196,15 +232,15 @@ module _ (ticks : List ℕ) (seg : Segment) (calm : AreCalm ticks seg) where
   unless_made (Pause port) = less_known ticks seg port.station calm
   unless_made (Resume port) = less_known ticks seg port.station calm
 
-  pub calm_after : (call : Call) → AreCalm (known_after call ticks) (applied seg call).0
+  pub calm_after : (call : Call) → AreCalm (known_after seg call ticks) (applied seg call).0
   calm_after call = each_applied seg Keeps accepted (λ other cause. unless_made other) call
 
-  calm_as : (call : Call) (next : Segment) (reply : Reply) → applied seg call ≡ (next, reply) → AreCalm (known_after call ticks) next
-  calm_as call next reply is = subst (λ (x : Segment × Reply). AreCalm (known_after call ticks) x.0) is (calm_after call)
+  calm_as : (call : Call) (next : Segment) (reply : Reply) → applied seg call ≡ (next, reply) → AreCalm (known_after seg call ticks) next
+  calm_as call next reply is = subst (λ (x : Segment × Reply). AreCalm (known_after seg call ticks) x.0) is (calm_after call)
 
-  pub calm_answered : {T : Type 0} (reply : T → Reply) (call : Call) (next : Segment) (r : Result T AllocError) → IfOk r (λ x. applied seg call ≡ (next, reply x)) → OnErr r (next ≡ seg) → AreCalm (known_after call ticks) next
+  pub calm_answered : {T : Type 0} (reply : T → Reply) (call : Call) (next : Segment) (r : Result T AllocError) → IfOk r (λ x. applied seg call ≡ (next, reply x)) → OnErr r (next ≡ seg) → AreCalm (known_after seg call ticks) next
   calm_answered reply call next (Ok x) ok err = calm_as call next (reply x) ok
-  calm_answered reply call next (Err e) ok err = subst (AreCalm (known_after call ticks)) (sym err) (unless_made call)
+  calm_answered reply call next (Err e) ok err = subst (AreCalm (known_after seg call ticks)) (sym err) (unless_made call)
 
   pub calm_tried : (a : Address) (told : List Event) (next : Segment) (r : Result Tried AllocError) → IfOk r (λ t. IfSome (made_as t) (λ made. applied seg (Take a true) ≡ (next, reply_with made told))) → IfOk r (λ t. IfNone (made_as t) (next ≡ seg)) → OnErr r (next ≡ seg) → AreCalm (forgotten a ticks) next
   calm_tried a told next (Ok tried.Done) ok whole err = calm_as (Take a true) next (Done told) ok

@@ -4,9 +4,13 @@ use port_table::PortSet;
 use segment_core::{Call, Events, Image, Made, Passing, Refusal, Reply, Segment, Tried};
 use std::alloc::{AllocError, Global};
 use std::marker::Model;
+use tx_queue::MAX_FRAMES;
 
 /// How many values an address has.
 const ADDRESSES: usize = 256;
+
+/// How many free places of its station's queue a Pump wants.
+const PUMP_PLACES: usize = 8;
 
 /// A segment, which remembers when each of its stations has something to do. Contracts see the segment alone.
 pub struct Watched {
@@ -39,7 +43,8 @@ impl Drop for Watched {
 }
 
 ghost use Rattle.std.specs.Prelude.{◌≡◌, ℕ, slice_set};
-ghost use Rattle.watched_segment.specs.Calm.{known_after};
+ghost use Rattle.segment_law.specs.Segment.{station_at};
+ghost use Rattle.watched_segment.specs.Calm.{lacks_places, known_after};
 
 // Notes a tick for an address.
 #[inline(always)]
@@ -51,17 +56,29 @@ fn note(calm: &mut Vec<u64>, station: Address, tick: u64)
     }
 }
 
-// Forgets what is known of the station that a call names.
+// Whether a station's queue has fewer free places than a Pump wants.
 #[inline(always)]
-fn forget_by(calm: &mut Vec<u64>, call: &Call)
-    ensures { calm.new.items ≡ known_after call.now calm.old.items }
+fn lacks_places(segment: &Segment, station: Address) -> bool
+    ensures { result ≡ lacks_places (station_at segment.now station).queue }
+{
+    MAX_FRAMES - segment.queue_len(station) < PUMP_PLACES
+}
+
+// Forgets what is known of the station that a call names. A frame that leaves its queue may give a Pump its places, and changes nothing else.
+#[inline(always)]
+fn forget_by(calm: &mut Vec<u64>, segment: &Segment, call: &Call)
+    ensures { calm.new.items ≡ known_after segment.now call.now calm.old.items }
 {
     match call {
         Call::Open { station, .. } => note(calm, *station, 0),
         Call::Close { port } => note(calm, port.station, 0),
         Call::Send { from, .. } => note(calm, *from, 0),
         Call::Pump { station, .. } => note(calm, *station, 0),
-        Call::Transmit { station } => note(calm, *station, 0),
+        Call::Transmit { station } => {
+            if lacks_places(segment, *station) {
+                note(calm, *station, 0);
+            }
+        }
         Call::Take { station, .. } => note(calm, *station, 0),
         Call::TakeAgain { station, .. } => note(calm, *station, 0),
         Call::Overrun { station, .. } => note(calm, *station, 0),
@@ -174,7 +191,7 @@ impl Watched {
         ensures not_refused { OnErr result (IsOk (called self.old call)) }
         ensures stands { (addresses : List AddressValue) (steps : Record) → StandsAt addresses steps self.old → IfOk result (λ reply. StandsAt addresses (steps ++ (call, reply) ∷ []) self.new) }
     {
-        forget_by(&mut self.calm, &call);
+        forget_by(&mut self.calm, &self.segment, &call);
         self.segment.apply(call)
     }
 
@@ -187,7 +204,7 @@ impl Watched {
         ensures not_refused { OnErr result (IsOk (called self.old call)) }
         ensures stands { (addresses : List AddressValue) (steps : Record) → StandsAt addresses steps self.old → IfOk result (λ made. StandsAt addresses (steps ++ (call, reply_with made told.new) ∷ []) self.new) }
     {
-        forget_by(&mut self.calm, &call);
+        forget_by(&mut self.calm, &self.segment, &call);
         self.segment.apply_apart(call, told)
     }
 
