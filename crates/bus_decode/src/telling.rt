@@ -2,8 +2,8 @@
 ghost use Rattle.std.specs.Prelude.{◌≡◌, ◌++◌, IfOk, OnOk, if◌then◌else◌};
 ghost use Rattle.log_lines.specs.Explained.{words_lines};
 ghost use Rattle.log_lines.specs.Text.{told_line};
-ghost use Rattle.summary_lines.specs.Json.{row_objects};
-ghost use Rattle.summary_lines.specs.Table.{table_text};
+ghost use Rattle.log_lines.specs.Rows.{row_objects};
+ghost use Rattle.log_lines.specs.Table.{table_text};
 ghost use Rattle.bus_decode.specs.Followed.{after_each, left_followed, heard_followed};
 ghost use Rattle.bus_decode.specs.Telling.{in_words, words_told, message_text, shown_text, followed_text, plain_line, plain_text, told_text, summary_text, frame_text, single_text, wrong_text};
 
@@ -12,14 +12,15 @@ use bus_frame::Frame;
 use explained_messages::{Line, explain};
 use log_counts::Options;
 use log_courses::{Course, Place};
-use log_lines::{put_explained, put_marks, put_single, put_told, put_wrong};
-use log_objects::{put_single_object, put_told_object, put_wrong_object};
+use log_lines::{
+    put_explained, put_marks, put_row_objects, put_single, put_single_object, put_table, put_told,
+    put_told_object, put_wrong, put_wrong_object,
+};
 use log_reports::Told;
 use log_summary::Summary;
 use log_text::Iface;
 use pgn_ids::{Pgn, read_id};
 use std::alloc::{AllocError, Global};
-use summary_lines::{put_row_objects, put_table};
 
 /// The lines of a message in words, if these are asked for.
 fn in_words(

@@ -1,3 +1,9 @@
 pub mod Text
 pub mod Listing
 pub mod Explained
+pub mod Objects
+pub mod Meanings
+pub mod Frames
+pub mod Json
+pub mod Table
+pub mod Rows

@@ -1,0 +1,4 @@
+mod Digits
+mod Spelled
+mod Appends
+mod MessageAppends
