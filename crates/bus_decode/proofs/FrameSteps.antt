@@ -15,9 +15,9 @@ use Rattle.bus_decode.specs.Followed.{heard_followed}
 use Rattle.bus_decode.specs.Telling.{told_text}
 use Rattle.bus_decode.specs.declared.followed.Followed.{Followed}
 use Rattle.bus_decode.specs.Listening.{Hearing, Seen, single, frame_told, frame_counts, frame_seen}
-use Rattle.log_counts.specs.declared.counts.Counts.{Counts}
+use Rattle.log_summary.specs.declared.counts.Counts.{Counts}
 use Rattle.bus_decode.specs.declared.listener.Listener.{Listener}
-use Rattle.log_counts.specs.declared.options.Options.{Options}
+use Rattle.log_summary.specs.declared.options.Options.{Options}
 
 abbrev place_of : State → Counts → Place
 place_of d counts = record { number = counts.frames; time = d.time }

@@ -13,8 +13,8 @@ use Rattle.bus_decode.specs.Listening.{Listening, Step, Read, line_seen}
 use Rattle.bus_decode.specs.Outcome.{Outcome, lines_end, limit_fault, numbered_line, then_rest, last_outcome, outcome_from, first_listening, outcome}
 use Rattle.bus_decode.specs.Ending.{cause_of, read_cause, EndedByCause, EndedBy, Ended, IsLastCause}
 use Rattle.bus_decode.specs.Taking.{GoesOn, listening_of, further, IsNumbered, TakesText, IsAsBefore, Takes}
-use Rattle.log_counts.specs.declared.counts.Counts.{Counts}
-use Rattle.log_counts.specs.declared.options.Options.{Options}
+use Rattle.log_summary.specs.declared.counts.Counts.{Counts}
+use Rattle.log_summary.specs.declared.options.Options.{Options}
 use Rattle.bus_decode.specs.declared.listening.LineError.{LineError}
 use Rattle.bus_decode.specs.declared.listening.LineError.TheVariants as errors
 use Rattle.bus_decode.specs.declared.running.Fault.{Fault}

@@ -6,7 +6,7 @@ use Rattle.text_lines.specs.Known.{IsFront}
 use Rattle.text_lines.specs.declared.lines.ReadError.{ReadError}
 use Rattle.text_lines.specs.declared.lines.ReadError.TheVariants as reads
 use Rattle.bus_decode.specs.Outcome.{Outcome, fault_text}
-use Rattle.log_counts.specs.declared.counts.Counts.{Counts}
+use Rattle.log_summary.specs.declared.counts.Counts.{Counts}
 use Rattle.bus_decode.specs.declared.listening.LineError.{LineError}
 use Rattle.bus_decode.specs.declared.listening.LineError.TheVariants as errors
 use Rattle.bus_decode.specs.declared.running.Fault.TheVariants.{NotLogLine}

@@ -1,10 +1,10 @@
 -- The outcome of a log, line by line, up to its fault.
 use Rattle.std.specs.Prelude.{ℕ, ◌+◌, ◌-◌, ◌^◌, List, [], ◌∷◌, ◌++◌, length, ◌||◌, Option, Some, None, Result, Ok, Err, nat_lt, nat_le, if◌then◌else◌, codes}
 use Rattle.text_lines.specs.Lines.{lines_of}
-use Rattle.log_counts.specs.Counts.{no_counts}
+use Rattle.log_summary.specs.Counts.{no_counts}
 use Rattle.bus_decode.specs.Listening.{Hearing, Listening, Step, first_listener, line_seen, ended_counts, ended_text}
-use Rattle.log_counts.specs.declared.counts.Counts.{Counts}
-use Rattle.log_counts.specs.declared.options.Options.{Options}
+use Rattle.log_summary.specs.declared.counts.Counts.{Counts}
+use Rattle.log_summary.specs.declared.options.Options.{Options}
 use Rattle.bus_decode.specs.declared.running.Fault.{Fault}
 use Rattle.bus_decode.specs.declared.running.Fault.TheVariants.{TooManyLines, LineTooLong, NotLogLine}
 

@@ -6,7 +6,7 @@ use Rattle.text_lines.specs.Lines.{lines_of}
 use Rattle.bus_decode.specs.Listening.{Listening}
 use Rattle.bus_decode.specs.Outcome.{Outcome, lines_end, outcome_from}
 use Rattle.bus_decode.specs.Ending.{EndedByCause}
-use Rattle.log_counts.specs.declared.options.Options.{Options}
+use Rattle.log_summary.specs.declared.options.Options.{Options}
 use Rattle.bus_decode.specs.declared.running.Cause.{Cause}
 use Rattle.bus_decode.specs.declared.taking.Run.{Run}
 use Rattle.bus_decode.specs.declared.taking.Turn.{Turn}

@@ -17,9 +17,9 @@ use Rattle.log_summary.specs.Rows.{Summary}
 use Rattle.log_lines.specs.Rows.{row_objects}
 use Rattle.log_lines.specs.Table.{table_text}
 use Rattle.bus_decode.specs.Followed.{after_told}
-use Rattle.log_counts.specs.Options.{is_asked_for, shows, is_single_asked, follows, detail_of}
+use Rattle.log_summary.specs.Options.{is_asked_for, shows, is_single_asked, follows, detail_of}
 use Rattle.bus_decode.specs.declared.followed.Followed.{Followed}
-use Rattle.log_counts.specs.declared.options.Options.{Options}
+use Rattle.log_summary.specs.declared.options.Options.{Options}
 
 -- a message in words, if these are asked for
 abbrev pub in_words : Options → (pgn : ℕ) → List ℕ → List (List ℕ)

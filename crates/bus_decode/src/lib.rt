@@ -9,5 +9,5 @@ mod running;
 mod taking;
 mod telling;
 
-pub use log_counts::{Counts, Options, Strays, Wanted};
+pub use log_summary::{Counts, Options, Strays, Wanted};
 pub use running::{Cause, Decoded, LogFault, run_decode};

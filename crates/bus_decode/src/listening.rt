@@ -6,8 +6,8 @@ ghost use Rattle.bus_decode.specs.declared.listening.LineError.TheVariants.{OutO
 use crate::listener::Listener;
 use crate::telling::{tell, tell_frame, tell_single, tell_summary, tell_wrong};
 use bus_frame::Frame;
-use log_counts::{Counts, Options};
 use log_courses::Place;
+use log_summary::{Counts, Options};
 use log_text::{Form, Iface, LogLine, form_of, read_line_as};
 use pgn_ids::read_id;
 use std::alloc::{AllocError, Global};

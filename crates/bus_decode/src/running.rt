@@ -6,7 +6,7 @@ ghost use Rattle.bus_decode.specs.Ending.{Ended, IsLastCause, fault_line, status
 
 use crate::listening::take_end;
 use crate::taking::{Run, flush_told, take_next};
-use log_counts::{Counts, Options};
+use log_summary::{Counts, Options};
 use std::alloc::Global;
 use std::fmt;
 use std::io::{BufRead, Write};

@@ -3,14 +3,14 @@ ghost use Rattle.std.specs.Prelude.{◌≡◌, ◌≤◌, true, length, None, Is
 ghost use Rattle.std.specs.Io.KnownBytes.{Keeps};
 ghost use Rattle.bus_decode.specs.Ending.{cause_of, read_cause};
 ghost use Rattle.bus_decode.specs.Outcome.{limit_fault};
-ghost use Rattle.log_counts.specs.Counts.{no_counts};
+ghost use Rattle.log_summary.specs.Counts.{no_counts};
 ghost use Rattle.bus_decode.specs.Listening.{first_listener};
 ghost use Rattle.bus_decode.specs.Taking.{listening_of, TakesText, Takes, TakesNext};
 
 use crate::listener::Listener;
 use crate::listening::{LineError, take_line};
 use crate::running::{Cause, Fault};
-use log_counts::{Counts, Options};
+use log_summary::{Counts, Options};
 use log_text::Form;
 use std::alloc::Global;
 use std::io::{BufRead, ErrorKind, Write};

@@ -1,7 +1,7 @@
 //! The frames of a log that belong to no message.
 ghost use Rattle.std.specs.Prelude.{◌≡◌, Some};
 ghost use Rattle.std.specs.Fmt.{DisplaysOnOk};
-ghost use Rattle.log_counts.specs.Strays.{no_strays, with_stray, parts_text, ends_text, strays_text};
+ghost use Rattle.log_summary.specs.Strays.{no_strays, with_stray, parts_text, ends_text, strays_text};
 
 use log_reports::Stray;
 use std::fmt;

@@ -1,8 +1,8 @@
 //! What was counted of a log.
 ghost use Rattle.std.specs.Prelude.{◌≡◌, Some};
 ghost use Rattle.std.specs.Fmt.{DisplaysOnOk};
-ghost use Rattle.log_counts.specs.Strays.{more};
-ghost use Rattle.log_counts.specs.Counts.{no_counts, with_told, with_asked, with_each, with_frame, with_strays, lines_text, frames_text, messages_text, rest_text, counts_text};
+ghost use Rattle.log_summary.specs.Strays.{more};
+ghost use Rattle.log_summary.specs.Counts.{no_counts, with_told, with_asked, with_each, with_frame, with_strays, lines_text, frames_text, messages_text, rest_text, counts_text};
 
 use crate::options::Options;
 use crate::strays::Strays;

@@ -6,7 +6,7 @@ use Rattle.log_reports.specs.Told.{key_told, pgn_told}
 use Rattle.log_courses.specs.declared.marks.Detail.{Detail}
 use Rattle.log_courses.specs.declared.marks.Detail.TheVariants.{Ends, Frames}
 use Rattle.log_reports.specs.declared.told.Told.{Told}
-use Rattle.log_counts.specs.declared.options.Options.{Options}
+use Rattle.log_summary.specs.declared.options.Options.{Options}
 
 abbrev pub is_among : List ℕ → ℕ → Bool
 is_among [] n = false

@@ -3,7 +3,7 @@ use Rattle.std.specs.Prelude.{ℕ, ◌+◌, ◌-◌, ◌^◌, List, ◌++◌, co
 use Rattle.std.specs.Fmt.{decimal}
 use Rattle.log_reports.specs.declared.stray.Stray.{Stray}
 use Rattle.log_reports.specs.declared.stray.Stray.TheVariants.{Packet, Window, Acknowledgement}
-use Rattle.log_counts.specs.declared.strays.Strays.{Strays}
+use Rattle.log_summary.specs.declared.strays.Strays.{Strays}
 
 -- one more, within 64 bits
 abbrev pub more : ℕ → ℕ

@@ -6,10 +6,10 @@ use Rattle.tp_wire.specs.Reading.{is_transport, is_malformed}
 use Rattle.log_reports.specs.declared.stray.Stray.{Stray}
 use Rattle.log_reports.specs.declared.told.Told.{Told}
 use Rattle.log_reports.specs.declared.told.Told.TheVariants.{Given, Aborted, Lost}
-use Rattle.log_counts.specs.Options.{is_told_asked}
-use Rattle.log_counts.specs.Strays.{more, no_strays, with_stray}
-use Rattle.log_counts.specs.declared.counts.Counts.{Counts}
-use Rattle.log_counts.specs.declared.options.Options.{Options}
+use Rattle.log_summary.specs.Options.{is_told_asked}
+use Rattle.log_summary.specs.Strays.{more, no_strays, with_stray}
+use Rattle.log_summary.specs.declared.counts.Counts.{Counts}
+use Rattle.log_summary.specs.declared.options.Options.{Options}
 
 -- nothing was counted
 abbrev pub no_counts : Counts

@@ -1,6 +1,6 @@
 //! What of a log is asked for.
 ghost use Rattle.std.specs.Prelude.{◌≡◌, [], ◌∷◌, ◌++◌, OnOk};
-ghost use Rattle.log_counts.specs.Options.{is_among, takes, is_asked_for, is_told_asked, shows, sums_up, shows_singles, is_single_asked, follows, detail_of};
+ghost use Rattle.log_summary.specs.Options.{is_among, takes, is_asked_for, is_told_asked, shows, sums_up, shows_singles, is_single_asked, follows, detail_of};
 
 use explained_messages::has_form;
 use log_courses::Detail;
