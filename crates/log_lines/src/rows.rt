@@ -130,7 +130,7 @@ fn put_row(
     put_last(out, row, lost, all)
 }
 
-#[tactic(auto, unfolding(crate::specs::Json::row_object))]
+#[tactic(auto, unfolding(crate::specs::Rows::row_object))]
 fn put_object(
     alloc: Global,
     out: &mut Vec<u8>,
