@@ -3,15 +3,13 @@ ghost use Rattle.std.specs.Prelude.{◌≡◌, ◌<◌, length};
 ghost use Rattle.std.specs.Option.{option_map};
 ghost use Rattle.std.specs.Map.Iter.{deref_pair};
 ghost use Rattle.session_table.specs.Shape.{content_at, content_of};
-ghost use Rattle.tp_wire.specs.Heard.{meant};
 ghost use Rattle.tx_queue.specs.Queue.{queue_limit};
-ghost use Rattle.session_table.specs.Leading.{LeadsIn, by_frame, by_timer};
+ghost use Rattle.session_table.specs.Leading.{LeadsIn, by_timer};
 
 use crate::incoming::Incoming;
 use crate::key::Key;
 use responder::{Flow, Left};
 use slab::Slab;
-use tp_wire::Heard;
 use tx_queue::TxQueue;
 
 /// A state with what it is bound to, or nothing while its key is held. One that is dropped spends its state.
@@ -36,25 +34,6 @@ impl<T> Slot<T> {
         match self {
             Slot::Empty => None,
             Slot::Full(bound, state) => Some((bound, state)),
-        }
-    }
-
-    /// Its state takes a frame at tick `now` and changes in place; without a state nothing is done.
-    #[inline(always)]
-    pub(crate) fn take(
-        &mut self,
-        heard: &Heard<'_>,
-        room: bool,
-        flow: Flow,
-        now: u64,
-        queue: &mut TxQueue,
-    ) -> Left
-        requires { length queue.old < queue_limit }
-        ensures { LeadsIn (by_frame (meant heard.now) room flow now) (content_of self.old) result (content_of self.new) queue.old queue.new }
-    {
-        match self {
-            Slot::Empty => Left::Nothing,
-            Slot::Full(_bound, state) => state.take(heard, room, flow, now, queue),
         }
     }
 

@@ -151,7 +151,10 @@ impl<T> SessionTable<T> {
         let Some(found) = self.places.get_mut(at) else {
             return Left::Nothing;
         };
-        found.slot.take(heard, room, flow, now, queue)
+        let Slot::Full(_bound, state) = &mut found.slot else {
+            return Left::Nothing;
+        };
+        state.take(heard, room, flow, now, queue)
     }
 
     /// The timer of the state of a key fires at tick `now` (SAE J1939-21, timers T1, T2 and Th): a connection on hold asks again or
@@ -229,9 +232,16 @@ impl<T> SessionTable<T> {
         ensures removed { OnSome result (self.new ≡ map.remove self.old key) }
         ensures absent { IfNone result (self.new ≡ self.old) }
     {
-        let (held, bound, state) = self.take_out(key)?;
-        self.end(held);
-        Some((bound, state))
+        let Some(_) = self.get(key) else {
+            return None;
+        };
+        let Some(at) = unlink(&mut self.index, key) else {
+            unreachable!()
+        };
+        let Some(Place { key: _, slot }) = self.places.try_remove(at) else {
+            unreachable!()
+        };
+        slot.into_content()
     }
 
     /// Whether the key is in the table, held or not.
