@@ -179,6 +179,7 @@ pub(crate) fn give(
 {
     match set.numbers() {
         [] => {}
+        [only] => told.tell(Some(message.last_at(station, *only))),
         [first, others @ ..] => {
             let rest = copies.give(station, others, &message);
             told.tell_all(message.last_at(station, *first), rest);

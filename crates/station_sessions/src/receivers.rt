@@ -204,50 +204,17 @@ impl Receivers {
     }
 
     /// A frame of its source is taken at tick `now` by the session of a key; without one nothing is done (SAE J1939-21,
-    /// TP.DT; ISO 11783-3, ETP.DT, ETP.CM_DPO). A message that it completes is given at each port of the session's set, by
-    /// rising number, with the end of message acknowledgement of a connection. `room` says whether each of them has room for
-    /// the message, and whether there is room for the next window; without room a connection ends by an abort.
+    /// TP.DT; ISO 11783-3, ETP.DT, ETP.CM_DPO). `room` says whether there is room for the next window; without room a connection
+    /// ends by an abort.
+    ///
+    /// If the frame completes the message, this returns true, and nothing has changed yet: `complete` does what is left to do. So
+    /// who has to find places for a message first looks at its frame once.
     ///
     /// What it answers is queued behind the frames of a queue. All memory is taken first: want of it changes nothing. It is asked
-    /// for only with room, for a message that is given at two ports or more and for a window of ETP.
-    #[inline(always)]
-    pub fn receive(
-        &mut self,
-        ports: &PortTable,
-        key: Key,
-        heard: &Heard<'_>,
-        room: bool,
-        now: u64,
-        queue: &mut TxQueue,
-        told: &mut Events,
-    ) -> Result<(), AllocError>
-        requires place { length queue.old < queue_limit }
-        requires silent { told.old ≡ [] }
-        ensures ok { OnOk result (Leaves (received ports.now key (meant heard.now) room now self.old) self.new queue.old queue.new told.new) }
-        ensures err { OnErr result (self.new ≡ self.old) }
-        ensures kept { OnErr result (queue.new ≡ queue.old) }
-        ensures silent { OnErr result (told.new ≡ []) }
-        ensures room { OnErr result (room ≡ true) }
-        ensures memory { OnErr result (wants_memory ports.now key (meant heard.now) room self.old ≡ true) }
-    {
-        if !self.receive_part(ports, key, heard, room, now, queue)? {
-            return Ok(());
-        }
-        match heard {
-            Heard::Packet {
-                kind: _,
-                sequence: _,
-                bytes,
-            } => self.complete(ports, key, bytes, room, queue, told),
-            _ => unreachable!(),
-        }
-    }
-
-    /// `receive`, unless the frame completes the message of the session: then this returns true, and nothing has changed yet. So who
-    /// has to find places for a message first looks at its frame once.
+    /// for only with room, for a window of ETP.
     // Always inlined, and what ends a session out of line: so a packet in the middle of a message passes without a call.
     #[inline(always)]
-    pub fn receive_part(
+    pub fn receive(
         &mut self,
         ports: &PortTable,
         key: Key,
@@ -302,9 +269,14 @@ impl Receivers {
         }
     }
 
-    // The session of a key ends with its last packet: the message is given, or refused without room.
+    /// The session of a key ends with its last packet, which `receive` left. With room the message is given at each port of the
+    /// session's set, by rising number, and a connection queues the end of message acknowledgement; without room a connection ends
+    /// by an abort.
+    ///
+    /// All memory is taken first: want of it changes nothing. It is asked for only with room, for a message that is given at two
+    /// ports or more.
     #[inline(never)]
-    fn complete(
+    pub fn complete(
         &mut self,
         ports: &PortTable,
         key: Key,

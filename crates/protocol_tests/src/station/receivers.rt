@@ -71,10 +71,17 @@ fn receive(
 ) -> (Option<Frame>, Events) {
     let mut queue = got(rt, TxQueue::new(alloc));
     let mut told = Events::none(alloc);
-    got(
+    let is_whole = got(
         rt,
-        sessions.receive(ports, KEY, &heard(wire), true, 0, &mut queue, &mut told),
+        sessions.receive(ports, KEY, &heard(wire), true, 0, &mut queue),
     );
+    if !is_whole {
+        return (queue.pop(), told);
+    }
+    if let Wire::Packet { bytes, .. } = wire {
+        let given = sessions.complete(ports, KEY, bytes, true, &mut queue, &mut told);
+        got(rt, given);
+    }
     (queue.pop(), told)
 }
 

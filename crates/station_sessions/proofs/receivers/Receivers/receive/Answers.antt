@@ -6,7 +6,7 @@ use Rattle.station_sessions.specs.Ends.{completes_by}
 use Rattle.station_sessions.specs.Receiving.{Inbound}
 use Rattle.station_sessions.proofs.Leading.{none_held_after}
 use Rattle.station_sessions.proofs.Parts.{IsLeftPart, no_whole}
-use Rattle.station_sessions.proofs.receivers.Receivers.receive_part.Goals as goal
+use Rattle.station_sessions.proofs.receivers.Receivers.receive.Goals as goal
 
 pub invariant_of-self : goal.invariant_of-self
 invariant_of-self c =
