@@ -10,8 +10,8 @@ ghost use Rattle.tx_queue.specs.Queue.{queue_limit};
 ghost use Rattle.station_sessions.specs.Opening.{key_of};
 ghost use Rattle.station_core.specs.Station.{quietly};
 ghost use Rattle.station_core.specs.Refusals.{IsAnswered, taking_refusal};
-ghost use Rattle.station_core.specs.Memory.{MayLackMemory, WireMayLackMemory, CmMayLackMemory, SessionMayLackMemory};
-ghost use Rattle.station_core.specs.Taking.{packet_kind as packet_kind_of, in_opening, in_session as session_taken, in_lane as lane_taken, abort_taken, cm_taken, answer, request_taken, ack_taken, wire_taken, is_meant_for, looks_at as looks_at_frame, is_malformed_for, wanted, wire_wanted, taken};
+ghost use Rattle.station_core.specs.Memory.{MayLackMemory, WireMayLackMemory, CmMayLackMemory};
+ghost use Rattle.station_core.specs.Taking.{packet_kind as packet_kind_of, in_opening, in_lane as lane_taken, abort_taken, cm_taken, answer, request_taken, ack_taken, wire_taken, is_meant_for, looks_at as looks_at_frame, is_malformed_for, wanted, wire_wanted, taken};
 
 use crate::refused::Refused;
 use crate::station::{Station, enqueue};
@@ -162,7 +162,6 @@ impl Station {
     /// `take`, which puts its events into a place that the caller keeps, and that has none yet. Returns whether the frame is malformed.
     /// Events returned by value would be copied at each level.
     #[inline(always)]
-    #[tactic(auto, using(crate::proofs::Traffic::other_traffic))]
     pub fn take_telling(
         &mut self,
         frame: &Frame,
@@ -184,11 +183,11 @@ impl Station {
         }
         let meaning = read_id(frame.id());
         // Most of a bus's frames are other traffic: they are passed over without a call.
-        if !self.is_meant(&meaning) || !is_transport(frame) {
+        if !self.is_meant(&meaning) {
             return Ok(false);
         }
         let Some((heard, from, to)) = read_in_place(frame, &meaning) else {
-            return Ok(true);
+            return Ok(is_transport(frame));
         };
         self.hear_telling(&heard, from, to, room, now, told)?;
         Ok(false)
@@ -197,7 +196,6 @@ impl Station {
     /// `take_telling` with room, unless the frame completes a message: then this returns None, and nothing has changed yet. So who has to
     /// find places for a message first looks at its frame once.
     #[inline(always)]
-    #[tactic(auto, using(crate::proofs::Traffic::other_traffic))]
     pub fn take_part(
         &mut self,
         frame: &Frame,
@@ -220,11 +218,11 @@ impl Station {
         }
         let meaning = read_id(frame.id());
         // Most of a bus's frames are other traffic: they are passed over without a call.
-        if !self.is_meant(&meaning) || !is_transport(frame) {
+        if !self.is_meant(&meaning) {
             return Ok(Some(false));
         }
         let Some((heard, from, to)) = read_in_place(frame, &meaning) else {
-            return Ok(Some(true));
+            return Ok(Some(is_transport(frame)));
         };
         if self.hear_part(&heard, from, to, now, told)? {
             return Ok(None);
@@ -269,7 +267,7 @@ impl Station {
                     kind: packet_kind(*kind, to),
                 };
                 self.sessions
-                    .receive_part(&self.ports, key, &packet, true, now, &mut self.queue)
+                    .receive(&self.ports, key, &packet, true, now, &mut self.queue)
             }
             _ => {
                 self.hear_telling(heard, from, to, true, now, told)?;
@@ -312,8 +310,18 @@ impl Station {
                     sequence: *sequence,
                     bytes,
                 };
-                let kind = packet_kind(*kind, to);
-                self.in_session(kind, from, &packet, room, now, told)
+                let key = Key {
+                    source: from,
+                    kind: packet_kind(*kind, to),
+                };
+                if !self
+                    .sessions
+                    .receive(&self.ports, key, &packet, room, now, &mut self.queue)?
+                {
+                    return Ok(());
+                }
+                self.sessions
+                    .complete(&self.ports, key, bytes, room, &mut self.queue, told)
             }
             Heard::Cm(frame) => {
                 let frame = *frame;
@@ -355,7 +363,18 @@ impl Station {
                 self.take_opening(frame, from, room, now)
             }
             CmFrame::EtpDpo { .. } => {
-                self.in_session(SessionKind::Etp, from, &heard, room, now, told)
+                let key = Key {
+                    source: from,
+                    kind: SessionKind::Etp,
+                };
+                let is_whole = self
+                    .sessions
+                    .receive(&self.ports, key, &heard, room, now, &mut self.queue)?;
+                // It isn't a packet.
+                if is_whole {
+                    unreachable!()
+                }
+                Ok(())
             }
             CmFrame::Cts { .. }
             | CmFrame::EndOfMsgAck { .. }
@@ -399,30 +418,6 @@ impl Station {
             now,
             &mut self.queue,
         )
-    }
-
-    // The incoming session of this kind from the source makes its step.
-    #[inline(always)]
-    fn in_session(
-        &mut self,
-        kind: SessionKind,
-        from: Address,
-        heard: &Heard<'_>,
-        room: bool,
-        now: u64,
-        told: &mut Events,
-    ) -> Result<(), AllocError>
-        requires place { length self.old.queue < queue_limit }
-        requires before { told.old ≡ [] }
-        ensures ok { OnOk result (session_taken self.old (key_of from kind) (meant heard.now) room now ≡ record { station = self.new; events = told.new }) }
-        ensures err { OnErr result (self.new ≡ self.old) }
-        ensures silent { OnErr result (told.new ≡ []) }
-        ensures room { OnErr result (room ≡ true) }
-        ensures memory { OnErr result (SessionMayLackMemory self.old (key_of from kind) (meant heard.now) room) }
-    {
-        let key = Key { source: from, kind };
-        self.sessions
-            .receive(&self.ports, key, heard, room, now, &mut self.queue, told)
     }
 
     // The lane to the source makes its step.
