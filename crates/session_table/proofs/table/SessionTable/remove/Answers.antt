@@ -4,7 +4,6 @@ use Rattle.std.specs.Option.{option_flatten, option_map}
 use Rattle.std.specs.FinMap as map
 use Rattle.std.specs.Map.Iter.{deref_pair}
 use Rattle.session_table.specs.declared.incoming.Incoming.{Incoming}
-use Rattle.session_table.specs.Shape.{sessions_of}
 use Rattle.session_table.proofs.Tables.{found, get_place, view-ended, linked-ended}
 use Rattle.session_table.proofs.table.SessionTable.remove.Goals as goal
 
