@@ -28,15 +28,6 @@ pub(crate) fn count_repeat(counts: &mut Counts)
     counts.repeated = one_more(counts.repeated);
 }
 
-/// Counts a frame that a station took, if it looked at the frame and found it malformed.
-pub(crate) fn count_look(counts: &mut Counts, is_malformed: bool)
-    ensures { counts.new ≡ counted_look counts.old is_malformed }
-{
-    if is_malformed {
-        counts.malformed = one_more(counts.malformed);
-    }
-}
-
 // Counts a message by its outcome.
 fn count_outcome(counts: &mut Counts, outcome: Outcome)
     ensures { counts.new ≡ counted_outcome counts.old outcome }
@@ -101,5 +92,17 @@ impl Segment {
         ensures { self.new ≡ record self.old { counts = counted self.old.counts events.now } }
     {
         count_events(&mut self.counts, events);
+    }
+
+    /// Counts a station's look at a frame, which it may find malformed, and the events of the call.
+    #[inline(always)]
+    pub(crate) fn looked(&mut self, is_malformed: bool, told: &Events)
+        ensures { self.new ≡ record self.old { counts = counted (counted_look self.old.counts is_malformed) told.now } }
+    {
+        if !is_malformed {
+            return count_events(&mut self.counts, told);
+        }
+        self.counts.malformed = one_more(self.counts.malformed);
+        count_events(&mut self.counts, told)
     }
 }

@@ -1,6 +1,5 @@
 //! Frames that are taken, taken again and missed.
 ghost use Rattle.segment_law.specs.Calls.{at_address, takes, repeats, overruns};
-ghost use Rattle.segment_law.specs.Segment.{counted, counted_look};
 ghost use Rattle.segment_law.specs.declared.call.Call.TheVariants.{Take};
 ghost use Rattle.segment_law.specs.declared.reply.Reply.TheVariants.{Done};
 ghost use Rattle.segment_law.specs.Readers.{wanted};
@@ -9,7 +8,7 @@ ghost use Rattle.segment_core.specs.Memory.{MayAskMemory};
 ghost use Rattle.std.specs.Prelude.{◌≡◌, ◌<◌, [], true, false, length, IfOk, OnErr, IfNone, OnSome, IsErrOf};
 ghost use Rattle.bus_order.specs.Bus.{next_frame};
 
-use crate::counting::{count_look, count_repeat};
+use crate::counting::count_repeat;
 use crate::segment::Segment;
 use crate::stop::{Stop, stop_of};
 use bus_frame::Frame;
@@ -157,14 +156,5 @@ impl Segment {
             return None;
         }
         self.bus.frame(self.bus.len() - waiting + 1)
-    }
-
-    /// Counts the result of a station's look at a frame.
-    #[inline(always)]
-    pub(crate) fn looked(&mut self, is_malformed: bool, told: &Events)
-        ensures { self.new ≡ record self.old { counts = counted (counted_look self.old.counts is_malformed) told.now } }
-    {
-        count_look(&mut self.counts, is_malformed);
-        self.count_told(told);
     }
 }
