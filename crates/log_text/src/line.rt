@@ -1,5 +1,5 @@
 //! What a line of a log shows.
-ghost use Rattle.std.specs.Prelude.{◌≡◌, MatchResult, Some, None};
+ghost use Rattle.std.specs.Prelude.{◌≡◌, ◌^◌, nat_le, true, false, MatchResult, Some, None, IfSome, IfNone};
 ghost use Rattle.log_text.specs.Line.{is_mark, is_ended, is_other, long_frame, frame_line, behind_time, timed_line, log_line};
 
 use crate::digits::frame;
@@ -27,8 +27,17 @@ pub enum LogLine {
 #[error("not a log line")]
 pub struct NotLogLine;
 
-/// One more than the largest identifier. Above it candump shows error frames.
-pub(crate) const ID_END: u64 = 0x2000_0000;
+/// The identifier with a number, if it has one: above the largest, candump shows error frames.
+#[inline(always)]
+pub(crate) fn id_of(number: u64) -> Option<CanId>
+    ensures found { IfSome result (λ id. (id ≡ number) × (nat_le (2 ^ 29) number ≡ false)) }
+    ensures none { IfNone result (nat_le (2 ^ 29) number ≡ true) }
+{
+    if number > u64::from(u32::MAX) {
+        return None;
+    }
+    CanId::new(number as u32).ok()
+}
 
 /// Whether a word behind a frame says that it was received or sent, or there is none.
 fn is_mark(word: &[u8]) -> bool
@@ -66,10 +75,12 @@ fn long_frame(time: u64, iface: Iface, id: &[u8], shown: &[u8]) -> Option<LogLin
     ensures { result ≡ long_frame time iface id.now shown.now }
 {
     let number = read_numeral(16, id)?;
-    if is_other(shown) || number >= ID_END {
+    if is_other(shown) {
         return Some(LogLine::Passed);
     }
-    let id = CanId::new(number as u32).ok()?;
+    let Some(id) = id_of(number) else {
+        return Some(LogLine::Passed);
+    };
     let frame = frame(id, shown)?;
     Some(LogLine::Frame {
         time: Some(time),

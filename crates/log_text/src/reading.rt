@@ -3,7 +3,7 @@ ghost use Rattle.std.specs.Prelude.{◌≡◌, MatchResult, Some, None, if◌the
 ghost use Rattle.log_text.specs.Line.{behind_time};
 ghost use Rattle.log_text.specs.Reading.{before_return, trimmed, begins_timed, is_bracket, is_id, begins_shown, form_of, micros_of, stamp_of, before_quote, is_long_count, is_remote, long_shown, shown_line, stamped_line, timed_as, untimed_as, line_as};
 
-use crate::line::{ID_END, LogLine, NotLogLine, frame_line, is_ended};
+use crate::line::{LogLine, NotLogLine, frame_line, id_of, is_ended};
 use crate::screen::{bytes, count};
 use crate::usual::{usual_behind, usual_stamp};
 use bus_frame::{CanId, Frame};
@@ -161,7 +161,10 @@ fn long_shown(time: Option<u64>, iface: Iface, id: u64, text: &[u8]) -> Option<L
     ensures { result ≡ long_shown time iface id text.now }
 {
     let (brackets, text) = next_word(text);
-    if id >= ID_END || is_long_count(brackets) {
+    let Some(id) = id_of(id) else {
+        return Some(LogLine::Passed);
+    };
+    if is_long_count(brackets) {
         return Some(LogLine::Passed);
     }
     let count = count(brackets)?;
@@ -169,7 +172,6 @@ fn long_shown(time: Option<u64>, iface: Iface, id: u64, text: &[u8]) -> Option<L
     if is_remote(first) {
         return Some(LogLine::Passed);
     }
-    let id = CanId::new(id as u32).ok()?;
     let frame = bytes(id, count, before_quote(text))?;
     Some(LogLine::Frame { time, iface, frame })
 }

@@ -2,7 +2,7 @@
 ghost use Rattle.std.specs.Prelude.{◌≡◌, ◌≤◌, option_map, IfSome};
 ghost use Rattle.log_text.specs.Screen.{count_of, byte_of, bytes_in, screen_frame};
 
-use crate::line::{ID_END, LogLine};
+use crate::line::{LogLine, id_of};
 use bus_frame::{CanId, Frame};
 use log_fields::{Iface, next_word};
 use text_digits::{read_numeral, read_pair};
@@ -64,11 +64,8 @@ pub(crate) fn screen_frame(line: &[u8]) -> Option<LogLine>
         return None;
     }
     let number = read_numeral(16, digits)?;
-    if number >= ID_END {
-        return None;
-    }
+    let id = id_of(number)?;
     let count = count(brackets)?;
-    let id = CanId::new(number as u32).ok()?;
     let frame = bytes(id, count, text)?;
     Some(LogLine::Frame {
         time: None,

@@ -6,9 +6,8 @@ ghost use Rattle.log_text.specs.Line.{is_ended, frame_line, behind_time};
 ghost use Rattle.log_text.specs.Reading.{is_id, begins_shown, shown_line, stamped_line};
 
 use crate::digits::frame;
-use crate::line::{ID_END, LogLine};
+use crate::line::{LogLine, id_of};
 use crate::reading::stamp;
-use bus_frame::CanId;
 use log_fields::{Iface, MICROS, next_word};
 use text_digits::read_numeral;
 
@@ -47,10 +46,7 @@ fn usual_frame(time: u64, iface: Iface, text: &[u8]) -> Option<LogLine>
     let (digits, rest) = behind(b' ', text)?.split_at_checked(DIGITS)?;
     let shown = behind(b'#', rest)?;
     let number = read_numeral(16, digits)?;
-    if number >= ID_END {
-        return None;
-    }
-    let id = CanId::new(number as u32).ok()?;
+    let id = id_of(number)?;
     let frame = frame(id, shown)?;
     Some(LogLine::Frame {
         time: Some(time),
