@@ -3,6 +3,7 @@ use Rattle.std.specs.Prelude.{◌≡◌, ℕ, zero, suc, ◌+◌, ◌-◌, ◌%�
 use Rattle.std.specs.Str.{bytes_eq}
 use Rattle.pgn_ids.specs.declared.address.Address.{Address}
 use Rattle.port_table.specs.declared.port.PortId.{PortId}
+use Rattle.tp_wire.specs.declared.constants.TheConstants.{ETP_MAX_SIZE}
 use Rattle.text_digits.specs.Numerals.{pairs_of}
 use Rattle.script_commands.specs.Words.{decimal_word, hex_word, dot_in}
 use Rattle.script_commands.specs.declared.fault.Fault.{Fault}
@@ -89,6 +90,6 @@ unfoldable pub payload_of : List (List ℕ) → Result (List ℕ) Fault
 payload_of [] = Err WrongNumberOfWords
 payload_of (word ∷ []) = data_of word
 payload_of (word ∷ len ∷ []) = if bytes_eq word (codes "fill") then (do
-  n ← number_of 117440506 len
+  n ← number_of (ETP_MAX_SIZE + 1) len
   Ok (filling n)) else Err BadWord
 payload_of (a ∷ b ∷ c ∷ words) = Err WrongNumberOfWords

@@ -1,6 +1,7 @@
 //! What the words of a command mean: addresses, numbers, ports and data. A word that isn't what its place asks for is a bad one.
-ghost use Rattle.std.specs.Prelude.{◌≡◌, ◌≤◌, ◌<◌, ◌-◌, ◌^◌, IfOk};
+ghost use Rattle.std.specs.Prelude.{◌≡◌, ◌≤◌, ◌<◌, ◌+◌, ◌-◌, ◌^◌, IfOk};
 ghost use Rattle.std.specs.Str.{bytes_eq};
+ghost use Rattle.tp_wire.specs.declared.constants.TheConstants.{ETP_MAX_SIZE};
 ghost use Rattle.script_commands.specs.Words.{texts};
 ghost use Rattle.script_commands.specs.Values.{Gives, address_of, addresses_of, bounded_word, number_of, pgn_of, id_of, data_of, port_of, room_of, payload_of, filling};
 
@@ -11,6 +12,7 @@ use message_events::Bytes;
 use pgn_ids::Address;
 use port_table::PortId;
 use std::alloc::{AllocError, Global};
+use tp_wire::constants::ETP_MAX_SIZE;
 
 const BAD_WORD: LineError = LineError::Fault(Fault::BadWord);
 
@@ -18,7 +20,7 @@ const BAD_WORD: LineError = LineError::Fault(Fault::BadWord);
 pub const WRONG_NUMBER: LineError = LineError::Fault(Fault::WrongNumberOfWords);
 
 /// The most bytes that `fill` makes: one more than a message may have.
-const MOST_FILLED: u64 = 117_440_506;
+const MOST_FILLED: u64 = ETP_MAX_SIZE as u64 + 1;
 
 /// Whether a word is this name.
 pub fn is(word: &[u8], name: &str) -> bool
@@ -115,7 +117,7 @@ pub(crate) fn addresses(alloc: Global, words: &[&[u8]]) -> Result<Addresses, Lin
 
 /// `len` bytes, byte i being i modulo 256, from 1.
 fn fill(alloc: Global, len: u64) -> Result<Bytes, AllocError>
-    requires { len ≤ 117440506 }
+    requires { len ≤ ETP_MAX_SIZE + 1 }
     ensures { IfOk result (λ bytes. bytes ≡ filling len) }
 {
     let mut bytes = Vec::with_capacity(alloc, len as usize)?;
@@ -135,8 +137,8 @@ pub(crate) fn data_word(alloc: Global, word: &[u8]) -> Result<Bytes, LineError>
     }
 }
 
-/// The bytes of a message: data in pairs of hexadecimal digits, or `fill` and how many, up to 117,440,506. With no word or more than two
-/// the number is wrong, and any other words are bad. Otherwise it fails only if memory is refused.
+/// The bytes of a message: data in pairs of hexadecimal digits, or `fill` and how many, up to one more than a message may have. With no
+/// word or more than two the number is wrong, and any other words are bad. Otherwise it fails only if memory is refused.
 #[tactic(auto, unfolding(crate::specs::Values::payload_of))]
 pub fn payload(alloc: Global, words: &[&[u8]]) -> Result<Bytes, LineError>
     ensures { Gives (λ b. b) result (payload_of (texts words.now)) }
