@@ -17,6 +17,8 @@ use Rattle.station_lanes.specs.LaneReaders.{refusal_at, is_pending_at, queues_ab
 use Rattle.message_events.specs.declared.event.Event.{Event}
 use Rattle.station_core.specs.Station.{Station, StationStep}
 use Rattle.station_core.specs.Sending.{lane_of, sent, pumped, cancelled}
+use Rattle.station_core.specs.Refusals.{is_queue_full}
+use Rattle.station_core.specs.Refusals as station
 use Rattle.station_core.specs.Taking.{is_malformed_for, taken}
 use Rattle.station_core.specs.Timers.{is_due, fired}
 use Rattle.station_core.specs.Closing.{closed}
@@ -48,7 +50,7 @@ stepped seg i step = Ok (record (with_station seg i step.station) { counts = cou
 
 -- no place is free in the queue
 abbrev pub no_place : Station → Bool
-no_place st = free_places st.queue == 0
+no_place st = is_queue_full st
 
 -- Ports
 
@@ -87,7 +89,7 @@ sends seg to pgn bytes i st =
 
 -- the places that a pump may need
 abbrev pub pump_places : ℕ
-pump_places = 8
+pump_places = station.pump_places
 
 -- why the lane queues nothing, or that it does
 abbrev pub pumps_by : Segment → (to : Address) → ℕ → Station → Option PumpRefused → Answer

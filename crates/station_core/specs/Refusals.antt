@@ -13,6 +13,7 @@ use Rattle.lane_core.specs.declared.refused.PumpRefused.{PumpRefused}
 use Rattle.lane_core.specs.declared.refused.PumpRefused.TheVariants as of_lane
 use Rattle.station_lanes.specs.LaneReaders.{refusal_at, is_pending_at, queues_abort_at}
 use Rattle.station_core.specs.Station.{Station}
+use Rattle.station_core.specs.declared.sending.TheConstants.{MOST_PUMPED}
 use Rattle.station_core.specs.Sending.{lane_of}
 use Rattle.station_core.specs.Timers.{is_due}
 use Rattle.station_core.specs.declared.refused.Refused.{Refused}
@@ -71,7 +72,7 @@ by_lane of_lane.NotYet = NotYet
 
 -- how many places a pump may need
 abbrev pub pump_places : ℕ
-pump_places = 8
+pump_places = MOST_PUMPED
 
 -- why nothing is queued to a destination
 abbrev pub pumping_refusal : Station → (to : Address) → (now : ℕ) → Option Refused
