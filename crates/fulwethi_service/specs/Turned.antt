@@ -5,6 +5,7 @@ use Rattle.live_segment.specs.LiveView.{LiveView, stored_calls}
 use Rattle.live_segment.specs.Rejoining.{CutAs, IsCutCause}
 use Rattle.live_segment.specs.Turns.{StationTurn, point, no_turn}
 use Rattle.live_segment.specs.declared.calls.Piece.{Piece}
+use Rattle.live_segment.specs.declared.calls.TheConstants.{CUT_AT}
 use Rattle.live_segment.specs.declared.refused.NotMade.{NotMade}
 use Rattle.live_segment.specs.declared.turns.Turn.{Turn}
 
@@ -17,9 +18,9 @@ abbrev pub TurnsBelow : ℕ → (p q : LiveView) → (calls : ℕ) → Type 0
 TurnsBelow zero p q calls = (q ≡ p) × (calls ≡ 0)
 TurnsBelow (suc n) p q calls = (m : LiveView) × (below at : ℕ) × TurnsBelow n p m below × TurnAt n m q at × (calls ≡ plus below at)
 
--- the record is cut if it has 900,000 calls
+-- the record is cut if it has as many calls as a record has as a rule
 abbrev pub IsKeptShort : (p q : LiveView) → Type 0
-IsKeptShort p q = ((stored_calls p < 900000) × (q ≡ p)) ⊎ ((900000 ≤ stored_calls p) × ((piece : Piece) × CutAs p q piece))
+IsKeptShort p q = ((stored_calls p < CUT_AT) × (q ≡ p)) ⊎ ((CUT_AT ≤ stored_calls p) × ((piece : Piece) × CutAs p q piece))
 
 -- a round: a long record is cut, and then each station has its turn
 abbrev pub IsRound : (p q : LiveView) → (calls : ℕ) → Type 0

@@ -8,11 +8,8 @@ ghost use Rattle.fulwethi_service.specs.Turned.{IsTurned, IsRound, TurnsBelow, T
 
 use crate::codes::made_code;
 use crate::service_handle::ServiceHandle;
-use live_segment::{Live, NotMade};
+use live_segment::{CUT_AT, Live, NotMade};
 use pgn_ids::Address;
-
-/// How many calls a record has at most before it is cut: with some room below the 1,000,000 that it can have, since a round makes few.
-const MOST_KEPT: usize = 900_000;
 
 /// A turn of each station, again until none made a call, at most so often; `made` is how many calls were made.
 #[unsafe(no_mangle)]
@@ -50,7 +47,7 @@ fn round(live: &mut Live) -> Result<u64, NotMade>
     ensures done { IfOk result (λ calls. IsRound live.old live.new calls) }
     ensures cause { IfErr result (λ e. (live.new ≡ live.old) × IsCutCause live.new e) }
 {
-    if live.calls().len() >= MOST_KEPT {
+    if live.calls().len() >= CUT_AT {
         let _piece = live.cut()?;
     }
     Ok(turn_each(live))

@@ -8,6 +8,9 @@ use stored_calls::{Stored, StoredCalls};
 /// How many calls are stored at most since the last cut.
 pub const MOST_CALLS: usize = 1_000_000;
 
+/// At how many stored calls a record is cut as a rule: 100,000 more can be made while memory for a cut is lacking.
+pub const CUT_AT: usize = 900_000;
+
 /// The calls that were stored between two cuts, each with the client whose message it sends. The pieces of a segment are
 /// numbered from 1.
 #[derive(Debug, Drop)]

@@ -11,6 +11,7 @@ use Rattle.segment_law.specs.declared.refusal.Refusal.{Refusal}
 use Rattle.segment_law.specs.declared.refusal.Refusal.TheVariants.{NoSuchPort, NoSuchStation, SameStation}
 use Rattle.stored_calls.specs.declared.stored.Stored.{Stored}
 use Rattle.live_segment.specs.LiveView.{is_station_of}
+use Rattle.live_segment.specs.declared.calls.TheConstants.{MOST_CALLS}
 use Rattle.script_commands.specs.Words.{words_of}
 use Rattle.script_commands.specs.Values.{◌>>=◌}
 use Rattle.script_commands.specs.Routes.{route_of}
@@ -168,4 +169,4 @@ HasRoom p n = CallsBelow p.now.made n
 
 -- there are so few calls that one more can be made
 abbrev pub FewCalls : Plans → Type 0
-FewCalls p = HasRoom p 1000000
+FewCalls p = HasRoom p MOST_CALLS

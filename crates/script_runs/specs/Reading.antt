@@ -48,7 +48,7 @@ abbrev pub RoomAfter : (P : Type 0) → Grammar P → (P → ℕ → Type 0) →
 RoomAfter P g HasRoom = (p q : P) (line : List ℕ) (n : ℕ) → HasRoom p n → g.step p line ≡ Ok q → HasRoom q (n + 1)
 
 abbrev pub RoomBefore : (P : Type 0) → (P → ℕ → Type 0) → Type 0
-RoomBefore P HasRoom = (p : P) (n : ℕ) → n ≤ 1000000 → HasRoom p n → HasRoom p 1000000
+RoomBefore P HasRoom = (p : P) (n : ℕ) → n ≤ script_limits.lines → HasRoom p n → HasRoom p script_limits.lines
 
 -- the second text is the first, and more
 abbrev pub Begins : List ℕ → List ℕ → Type 0

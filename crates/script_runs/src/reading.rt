@@ -1,5 +1,6 @@
 //! A script that is read whole.
 ghost use Rattle.std.specs.Prelude.{◌≡◌, ℕ, Err, IfSome};
+ghost use Rattle.line_runs.specs.Limits.{script_limits};
 ghost use Rattle.script_runs.specs.Reading.{Grammar, planned_by, Done, IsRead, EachGrows, RoomAfter, RoomBefore};
 
 use line_runs::{Limits, next_line};
@@ -23,7 +24,7 @@ pub trait Planner {
     /// Does what a line asks for. The first fault is answered. Want of memory is the only other error. A line that isn't obeyed prints
     /// nothing.
     fn obey_line(&mut self, alloc: Global, line: &[u8]) -> Result<(), LineError>
-        requires { has_room (state self.old) 1000000 }
+        requires { has_room (state self.old) script_limits.lines }
         ensures { Done lines.text result (state self.old) (state self.new) (lines.step (state self.old) line.now) };
 
     /// What is wrong if the script ends here.

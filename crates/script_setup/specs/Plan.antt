@@ -16,6 +16,7 @@ use Rattle.segment_rings.specs.Submitting.{submit_refusal}
 use Rattle.stored_calls.specs.declared.stored.Stored.{Stored}
 use Rattle.live_segment.specs.Record.{trail}
 use Rattle.live_segment.specs.LiveView.{LiveView, stored, is_station_of}
+use Rattle.live_segment.specs.declared.calls.TheConstants.{MOST_CALLS}
 use Rattle.script_commands.specs.Words.{words_of}
 use Rattle.script_commands.specs.Values.{◌>>=◌}
 use Rattle.script_commands.specs.Commands.{command_of}
@@ -160,4 +161,4 @@ HasRoom p n = CallsBelow p.made n
 
 -- there are so few calls that one more can be made
 abbrev pub FewCalls : Plan → Type 0
-FewCalls p = HasRoom p 1000000
+FewCalls p = HasRoom p MOST_CALLS

@@ -5,6 +5,7 @@ use Rattle.bus_frame.specs.Frames.{CanFrame}
 use Rattle.pgn_ids.specs.Address.{global_address}
 use Rattle.pgn_ids.specs.declared.address.Address.{Address}
 use Rattle.tp_wire.specs.Rows.{written}
+use Rattle.tp_wire.specs.declared.constants.TheConstants.{TP_MAX_WINDOW, ETP_MAX_WINDOW}
 use Rattle.tp_wire.specs.declared.outcome.Outcome.TheVariants as outcome
 use Rattle.tp_wire.specs.declared.wire.Kind.{Kind}
 use Rattle.tp_wire.specs.declared.wire.Kind.TheVariants.{Tp, Etp}
@@ -54,12 +55,12 @@ quiet_broadcast m s d =
 abbrev pub tp_window : Pending → (s d : Address) → ℕ × ℕ → List CanFrame
 tp_window m s d group = written (Cm (Cts group.1 group.0 m.pgn)) d.0 s.0 ∷ tp_packets m s d group
 
--- RTS, then the windows of 16 packets, then the end acknowledgement
+-- RTS, then the windows of as many packets as a TP receiver grants at most, then the end acknowledgement
 abbrev pub quiet_tp : Pending → (s d : Address) → List CanFrame
 quiet_tp m s d =
     let len = length m.bytes in
     written (Cm (Rts len (packet_count len) 255 m.pgn)) s.0 d.0
-    ∷ flat_map (tp_window m s d) (groups 16 (packet_count len))
+    ∷ flat_map (tp_window m s d) (groups TP_MAX_WINDOW (packet_count len))
     ++ written (Cm (EndOfMsgAck len (packet_count len) m.pgn)) d.0 s.0 ∷ []
 
 -- a CTS, a DPO, and the packets that they grant
@@ -69,12 +70,12 @@ etp_window m s d group =
     ∷ written (Cm (EtpDpo group.1 (group.0 - 1) m.pgn)) s.0 d.0
     ∷ etp_packets m s d group
 
--- RTS, then the windows of 64 packets, then the end acknowledgement
+-- RTS, then the windows of as many packets as an ETP receiver grants at most, then the end acknowledgement
 abbrev pub quiet_etp : Pending → (s d : Address) → List CanFrame
 quiet_etp m s d =
     let len = length m.bytes in
     written (Cm (EtpRts len m.pgn)) s.0 d.0
-    ∷ flat_map (etp_window m s d) (groups 64 (packet_count len))
+    ∷ flat_map (etp_window m s d) (groups ETP_MAX_WINDOW (packet_count len))
     ++ written (Cm (EtpEoma len m.pgn)) d.0 s.0 ∷ []
 
 abbrev pub quiet_connection : Kind → Pending → (s d : Address) → List CanFrame

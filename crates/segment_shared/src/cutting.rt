@@ -6,9 +6,6 @@ ghost use Rattle.segment_shared.specs.Cutting.{is_cut_due};
 
 use live_segment::{Live, MOST_CALLS, NotMade, Piece};
 
-/// How many calls a record has as a rule when it is cut: the threads of a program can still make 100,000 while memory for a cut is lacking.
-pub const CUT_AT: usize = 900_000;
-
 /// A keeper of the pieces of a record: it keeps them, writes them to a file, or drops them.
 pub trait PieceKeeper {
     /// Takes a piece. The segment's lock is free at that time, so another worker may hand in a later piece: each has its number. The worker makes
