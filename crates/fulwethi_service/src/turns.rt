@@ -53,13 +53,10 @@ fn round(live: &mut Live) -> Result<u64, NotMade>
     Ok(turn_each(live))
 }
 
-// A turn of each station, and how many calls it made. In the last round of most there is nothing to do.
+// A turn of each station, and how many calls it made.
 fn turn_each(live: &mut Live) -> u64
     ensures { TurnsBelow (length live.old.addresses) live.old live.new result }
 {
-    if live.rests() {
-        return 0;
-    }
     let mut calls = 0u64;
     let count = live.addresses().len();
     for k in 0..count {

@@ -1,8 +1,7 @@
 -- A frame which is none of a station's business is taken: what that leaves, and the turn that does nothing else.
-use Rattle.std.proofs.Common.{◌≡◌, ℕ, ◌+◌, ◌-◌, ◌<◌, ◌^◌, ◌&&◌, ◌||◌, Bool, true, false, nat_lt, List, [], ◌∷◌, ◌++◌, length, map, get_or, inl, inr, Option, Some, None, refl, sym, ◌∙◌, ap, subst, arith}
-use Rattle.std.specs.Prelude.{nat_le, is_some, slice_get}
+use Rattle.std.proofs.Common.{◌≡◌, ℕ, ◌+◌, ◌-◌, ◌<◌, ◌^◌, ◌&&◌, ◌||◌, Bool, true, false, nat_lt, List, [], ◌∷◌, ◌++◌, length, map, Option, None, refl, sym, ◌∙◌, ap, subst, arith}
+use Rattle.std.specs.Prelude.{nat_le, is_some}
 use Rattle.std.proofs.lemmas.Bool.{false≢true, lt-ltb, lt-leb}
-use Rattle.std.proofs.lemmas.Option.{slice_get_within, slice_get-get_or}
 use Rattle.bus_order.specs.Bus.{kept_limit}
 use Rattle.tx_queue.specs.Queue.{queue_limit}
 use Rattle.pgn_ids.specs.declared.address.Address.{Address}
@@ -26,7 +25,7 @@ use Rattle.live_segment.specs.Facts.{Holds, IdsFrom, HaveRoom, OwedWithin, note_
 use Rattle.live_segment.specs.LiveView.{LiveView, Kept, Applied, live_view, client_of, port_of, stored}
 use Rattle.live_segment.specs.Offers.{IsAtRest}
 use Rattle.live_segment.specs.Record.{trail}
-use Rattle.live_segment.specs.Turns.{Point, point, no_turn, one_more, Makes, MakesWhere, PumpsTo, AllRest, Finishes, StationTurn, is_stuck, state_of}
+use Rattle.live_segment.specs.Turns.{Point, point, no_turn, one_more, Makes, MakesWhere, PumpsTo, Finishes, StationTurn, is_stuck, state_of}
 use Rattle.live_segment.specs.declared.turns.Turn.{Turn}
 use Rattle.live_segment.specs.Words.{call_of}
 use Rattle.live_segment.proofs.Applying.{spares_none}
@@ -35,7 +34,6 @@ use Rattle.live_segment.proofs.Holding.{holds-tell}
 use Rattle.live_segment.proofs.Quiet.{below_at_rest}
 use Rattle.live_segment.proofs.Seats.{note_all_none}
 use Rattle.live_segment.proofs.Telling.{ports_untold, clients_untold}
-use Rattle.live_segment.proofs.Working.{before_or_at}
 
 -- What the Take leaves
 
@@ -139,17 +137,3 @@ turn_rests a station rests calm none =
       fires = fires_none a a no_turn station calm refl;
       misses = subst (λ (wanted : Bool). MakesWhere wanted (worker.Overrun station (waiting_at (state_of a) station)) start start) (sym (rests_then (state_of a) station none)) refl;
     })
-
--- one station more does nothing
-abbrev found_or : Address → Option Address → Address
-found_or d None = d
-found_or d (Some a) = a
-
-pub all_more : (n : ℕ) (v : LiveView) (a : Address) → slice_get v.addresses n ≡ Some a → StationTurn a (point v no_turn) (point v no_turn) → AllRest n v → AllRest (n + 1) v
-all_more n v a at turn all k d l = elim (before_or_at k n l) [
-  | inl m ↦ all k d m
-  | inr q ↦
-      let within : n < length v.addresses = slice_get_within v.addresses n a at in
-      let is : get_or v.addresses n d ≡ a = ap (found_or d) (sym (slice_get-get_or v.addresses n d within) ∙ at) in
-      subst (λ (x : Address). StationTurn x (point v no_turn) (point v no_turn)) (sym is ∙ ap (λ (j : ℕ). get_or v.addresses j d) (sym q)) turn
-]

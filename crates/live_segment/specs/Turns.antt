@@ -132,10 +132,6 @@ pub record Finishes (station : Address) (p q : Point) : Type 0 where
   pub fires : MakesWhere (is_due (state_of taken.live) station) (Fire station) taken fired
   pub misses : MakesWhere (is_stuck (state_of fired.live) station) (Overrun station (waiting_at (state_of fired.live) station)) fired q
 
--- a turn of each of the first n stations does nothing
-abbrev pub AllRest : ℕ → LiveView → Type 0
-AllRest n v = (k : ℕ) (d : Address) → k < n → StationTurn (slice_index_or v.addresses k d) (point v no_turn) (point v no_turn)
-
 -- the station of the lowest identifier transmits; if none does, the clock advances by 50 ticks if all rest
 abbrev pub TransmitsOr : Option Address → Point → Point → Type 0
 TransmitsOr (Some station) p q = Makes (Transmit station) p q

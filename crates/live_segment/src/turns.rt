@@ -1,5 +1,5 @@
 //! The turns of workers, each within one hold of the lock.
-ghost use Rattle.std.specs.Prelude.{◌≡◌, ◌<◌, List, length, slice_get, false, IsTrue};
+ghost use Rattle.std.specs.Prelude.{◌≡◌, ◌<◌, List, length, false};
 ghost use Rattle.message_events.specs.declared.event.Event.{Event};
 ghost use Rattle.segment_core.specs.Answers.{reply_with};
 ghost use Rattle.segment_law.specs.Segment.{waiting_at};
@@ -7,7 +7,7 @@ ghost use Rattle.segment_law.specs.Readers.{next_pump, is_due};
 ghost use Rattle.segment_core.specs.Next.{is_active};
 ghost use Rattle.live_segment.specs.declared.call.WorkerCall.TheVariants.{Fire as FireCall, Overrun as OverrunCall};
 ghost use Rattle.live_segment.specs.Offers.{IsAtRest};
-ghost use Rattle.live_segment.specs.Turns.{IsNext, AllRest, Finishes, is_stuck, point, no_turn, one_more, after_refusal, after_reply, after_accept, Makes, Accepts, AcceptsOne, AcceptsBelow, MakesWhere, PumpsTo, StationTurn, BusTurn, state_of};
+ghost use Rattle.live_segment.specs.Turns.{IsNext, Finishes, is_stuck, point, no_turn, one_more, after_refusal, after_reply, after_accept, Makes, Accepts, AcceptsOne, AcceptsBelow, MakesWhere, PumpsTo, StationTurn, BusTurn, state_of};
 
 use crate::call::WorkerCall;
 use crate::live::Live;
@@ -272,48 +272,6 @@ impl Live {
         let mut turn = Turn::new();
         turn.finish(self, station);
         turn
-    }
-
-    /// Whether a turn of each station would do nothing. If this is false, that may be so all the same.
-    pub fn rests(&mut self) -> bool
-        ensures same { self.new ≡ self.old }
-        ensures rests { IsTrue result → AllRest (length self.old.addresses) self.old }
-    {
-        let count = self.addresses().len();
-        for k in 0..count {
-            let Some(station) = self.address_at(k) else {
-                return false;
-            };
-            if !self.rests_at(station) {
-                return false;
-            }
-        }
-        true
-    }
-
-    fn address_at(&self, k: usize) -> Option<Address>
-        ensures { result ≡ slice_get self.now.addresses k }
-    {
-        self.addresses().get(k).copied()
-    }
-
-    // Whether a station's turn would do nothing, as far as is seen by a look.
-    #[inline(always)]
-    fn rests_at(&mut self, station: Address) -> bool
-        ensures same { self.new ≡ self.old }
-        ensures rests { IsTrue result → StationTurn station (point self.old no_turn) (point self.old no_turn) }
-    {
-        let waiting = self.segment().waiting(station);
-        if waiting > 0 {
-            return false;
-        }
-        if self.is_called(station) {
-            return false;
-        }
-        if self.is_active(station) {
-            return false;
-        }
-        true
     }
 
     /// The station whose waiting frame has the lowest identifier, of several the first in the order of their addresses; none if
