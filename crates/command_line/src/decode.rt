@@ -1,13 +1,13 @@
 //! The words of `decode`.
-use crate::parts::{described, each, flag, one, with, with_files, with_number};
+use crate::parts::{described, files, flag, list, of_numbers, valued};
 use crate::refused::Refused;
-use clap::{ArgAction, ArgMatches, Command, value_parser};
+use clap::{Arg, ArgAction, ArgMatches, Command, value_parser};
 use pgn_ids::Address;
 use std::alloc::{AllocError, Global};
 use tp_wire::constants::ETP_MAX_SIZE;
 
 /// What of a log is asked for.
-#[derive(PartialEq, Eq, Drop)]
+#[derive(Debug, PartialEq, Eq, Drop)]
 pub struct OfLog {
     /// Messages of these PGNs; of each PGN if none is named. The addresses likewise.
     pub pgns: Vec<u32>,
@@ -81,64 +81,102 @@ Status:
 
 docs/LOGS.md describes what is read and printed.";
 
+fn numbers_arg<'a>(alloc: Global, name: &'a str, value: &'a str, help: &'a str) -> Arg<'a> {
+    valued(alloc, name, value, ArgAction::Append, help)
+}
+
+fn most_arg<'a>(alloc: Global) -> Arg<'a> {
+    let most = valued(
+        alloc,
+        "max-bytes",
+        "N",
+        ArgAction::Set,
+        "Longest message that is reassembled, in bytes [default: 117440505]",
+    );
+    of_numbers(most, value_parser!(u32).range(1..=i64::from(ETP_MAX_SIZE)))
+}
+
+fn all_arg<'a>(alloc: Global) -> Arg<'a> {
+    flag(
+        alloc,
+        "all",
+        "Also prints frames that belong to no message, as frame FROM TO PGN LENGTH HEX",
+    )
+}
+
+fn json_arg<'a>(alloc: Global) -> Arg<'a> {
+    flag(alloc, "json", "Prints each line as a JSON object")
+}
+
+fn frames_arg<'a>(alloc: Global) -> Arg<'a> {
+    flag(
+        alloc,
+        "frames",
+        "Lists the announcement, windows and end of each message, with time and number",
+    )
+}
+
+fn explain_arg<'a>(alloc: Global) -> Arg<'a> {
+    flag(
+        alloc,
+        "explain",
+        "Also shows fault lists and identifications in words, single frames included",
+    )
+}
+
+fn summary_arg<'a>(alloc: Global) -> Arg<'a> {
+    flag(
+        alloc,
+        "summary",
+        "Ends with a table of the messages: a row for each interface, PGN, sender and destination",
+    )
+}
+
+fn quiet_arg<'a>(alloc: Global) -> Arg<'a> {
+    flag(alloc, "quiet", "Prints neither messages nor frames")
+}
+
+fn strict_arg<'a>(alloc: Global) -> Arg<'a> {
+    flag(alloc, "strict", "Ends at the first wrong line")
+}
+
+/// The arguments of `decode`, in the order of the help.
+fn decode_args<'a>(alloc: Global) -> Result<Vec<Arg<'a>>, AllocError> {
+    let pgn = "Only messages of this PGN, hexadecimal";
+    let from = "Only messages from this address, hexadecimal";
+    let to = "Only messages to this address, FF for those to all";
+    list(
+        alloc,
+        [
+            numbers_arg(alloc, "pgn", "PGN", pgn),
+            numbers_arg(alloc, "from", "A", from),
+            numbers_arg(alloc, "to", "A", to),
+            most_arg(alloc),
+            all_arg(alloc),
+            strict_arg(alloc),
+            json_arg(alloc),
+            frames_arg(alloc),
+            explain_arg(alloc),
+            summary_arg(alloc),
+            quiet_arg(alloc),
+            files(
+                alloc,
+                "Logs in the order of their times, - for standard input [default: -]",
+            )
+            .action(ArgAction::Append),
+        ],
+    )
+}
+
 /// The command as it is parsed, with its help.
 pub(crate) fn decode_command<'a>(alloc: Global) -> Result<Command<'a>, AllocError> {
-    let command = described(
+    described(
         alloc,
         "decode",
         "Prints the messages of logs, reassembled from their packets",
         DECODE_HELP,
-    );
-    let whose = [
-        each("pgn", "PGN", "Only messages of this PGN, hexadecimal"),
-        each("from", "A", "Only messages from this address, hexadecimal"),
-        each(
-            "to",
-            "A",
-            "Only messages to this address, FF for those to all",
-        ),
-    ];
-    let most = one(
-        "max-bytes",
-        "N",
-        "Longest message that is reassembled, in bytes [default: 117440505]",
-    );
-    let sizes = value_parser!(u32).range(1..=i64::from(ETP_MAX_SIZE));
-    let command = with(alloc, command, &whose)?;
-    let command = with_number(alloc, command, &most, sizes)?;
-    let command = with_decode_flags(alloc, command)?;
-    with_files(
-        alloc,
-        command,
-        ArgAction::Append,
-        "Logs in the order of their times, - for standard input [default: -]",
+        decode_args(alloc),
     )
-}
-
-/// The options without a value, in the order of the help.
-fn with_decode_flags<'a>(alloc: Global, command: Command<'a>) -> Result<Command<'a>, AllocError> {
-    let flags = [
-        flag(
-            "all",
-            "Also prints frames that belong to no message, as frame FROM TO PGN LENGTH HEX",
-        ),
-        flag("strict", "Ends at the first wrong line"),
-        flag("json", "Prints each line as a JSON object"),
-        flag(
-            "frames",
-            "Lists the announcement, windows and end of each message, with time and number",
-        ),
-        flag(
-            "explain",
-            "Also shows fault lists and identifications in words, single frames included",
-        ),
-        flag(
-            "summary",
-            "Ends with a table of the messages: a row for each interface, PGN, sender and destination",
-        ),
-        flag("quiet", "Prints neither messages nor frames"),
-    ];
-    with(alloc, command, &flags)
 }
 
 /// The number that hexadecimal digits write, if it is at most `most`.
@@ -160,23 +198,26 @@ fn number(alloc: Global, name: &str, word: &str, most: u32) -> Result<u32, Refus
     }
 }
 
-/// Adds the numbers that an argument names.
-fn add_numbers(
-    numbers: &mut Vec<u32>,
+/// The numbers that an argument names.
+fn numbers(
     alloc: Global,
     matches: &ArgMatches,
     name: &str,
     most: u32,
-) -> Result<(), Refused> {
+) -> Result<Vec<u32>, Refused> {
+    let mut numbers = Vec::new(alloc);
     for word in matches.get_strs(name).unwrap_or(&[]) {
         numbers.push(number(alloc, name, *word, most)?)?;
     }
-    Ok(())
+    Ok(numbers)
 }
 
-/// What its words ask for, but for the numbers that they name.
-fn read_options(alloc: Global, matches: &ArgMatches) -> OfLog {
-    OfLog {
+/// What its words ask for.
+pub(crate) fn read_decode(alloc: Global, matches: &ArgMatches) -> Result<OfLog, Refused> {
+    Ok(OfLog {
+        pgns: numbers(alloc, matches, "pgn", PGN_MOST)?,
+        from: numbers(alloc, matches, "from", ADDRESS_MOST)?,
+        to: numbers(alloc, matches, "to", ADDRESS_MOST)?,
         most: matches.get_one::<u32>("max-bytes").unwrap_or(ETP_MAX_SIZE),
         singles: matches.get_flag("all"),
         strict: matches.get_flag("strict"),
@@ -185,22 +226,5 @@ fn read_options(alloc: Global, matches: &ArgMatches) -> OfLog {
         explain: matches.get_flag("explain"),
         summary: matches.get_flag("summary"),
         quiet: matches.get_flag("quiet"),
-        pgns: Vec::new(alloc),
-        from: Vec::new(alloc),
-        to: Vec::new(alloc),
-    }
-}
-
-/// Adds the numbers that the words name.
-fn add_named(asked: &mut OfLog, alloc: Global, matches: &ArgMatches) -> Result<(), Refused> {
-    add_numbers(&mut asked.pgns, alloc, matches, "pgn", PGN_MOST)?;
-    add_numbers(&mut asked.from, alloc, matches, "from", ADDRESS_MOST)?;
-    add_numbers(&mut asked.to, alloc, matches, "to", ADDRESS_MOST)
-}
-
-/// What its words ask for.
-pub(crate) fn read_decode(alloc: Global, matches: &ArgMatches) -> Result<OfLog, Refused> {
-    let mut asked = read_options(alloc, matches);
-    add_named(&mut asked, alloc, matches)?;
-    Ok(asked)
+    })
 }

@@ -1,14 +1,14 @@
 //! The words of `draw`.
 use crate::decode::{ADDRESS_MOST, hexadecimal};
 use crate::node::{first_of, interface};
-use crate::parts::{Choice, described, flag, one, with, with_files};
+use crate::parts::{described, files, flag, list, valued};
 use crate::refused::Refused;
-use clap::{ArgAction, ArgMatches, Command};
+use clap::{Arg, ArgAction, ArgMatches, Command};
 use log_fields::{MICROS, SECOND};
 use std::alloc::{AllocError, Global};
 
 /// What of a log is drawn.
-#[derive(PartialEq, Eq, Drop)]
+#[derive(Debug, PartialEq, Eq, Drop)]
 pub struct OfDrawing {
     /// The two addresses between which frames are drawn, and of those to all from either; none: of each node.
     pub pair: Option<(u8, u8)>,
@@ -48,50 +48,52 @@ Status:
 
 docs/SCRIPTS.md describes the language, docs/LOGS.md the drawing of a log.";
 
-/// An option that needs `--log`.
-fn of_log<'a>(choice: Choice<'a>) -> Choice<'a> {
-    Choice {
-        needs: Some("log"),
-        ..choice
-    }
+/// An option with a value that says which frames of a log are drawn.
+fn log_arg<'a>(
+    alloc: Global,
+    name: &'a str,
+    value: &'a str,
+    help: &'a str,
+) -> Result<Arg<'a>, AllocError> {
+    valued(alloc, name, value, ArgAction::Set, help).requires_arg("log")
 }
 
-/// The options, in the order of the help.
-fn with_options<'a>(alloc: Global, command: Command<'a>) -> Result<Command<'a>, AllocError> {
-    let choices = [
-        flag("log", "Draws logs of a bus"),
-        of_log(one(
-            "pair",
-            "A-B",
-            "Only frames between these nodes, and from either to all, hexadecimal",
-        )),
-        of_log(one("from", "SECONDS", "No frame before this time")),
-        of_log(one("to", "SECONDS", "No frame after this time")),
-        of_log(one(
-            "interface",
-            "NAME",
-            "Interface whose frames are drawn [default: that of the first frame]",
-        )),
-        of_log(flag("all", "Also draws frames that belong to no message")),
-        of_log(flag("strict", "Ends at the first wrong line")),
-    ];
-    with(alloc, command, &choices)
+/// A flag without a value.
+fn log_flag<'a>(alloc: Global, name: &'a str, help: &'a str) -> Result<Arg<'a>, AllocError> {
+    flag(alloc, name, help).requires_arg("log")
+}
+
+/// The arguments of `draw`, in the order of the help.
+fn draw_args<'a>(alloc: Global) -> Result<Vec<Arg<'a>>, AllocError> {
+    let pair = "Only frames between these nodes, and from either to all, hexadecimal";
+    let from = "No frame before this time";
+    let to = "No frame after this time";
+    let interface = "Interface whose frames are drawn [default: that of the first frame]";
+    let all = "Also draws frames that belong to no message";
+    let read = "Script, or logs in the order of their times, - for standard input [default: -]";
+    list(
+        alloc,
+        [
+            flag(alloc, "log", "Draws logs of a bus"),
+            log_arg(alloc, "pair", "A-B", pair)?,
+            log_arg(alloc, "from", "SECONDS", from)?,
+            log_arg(alloc, "to", "SECONDS", to)?,
+            log_arg(alloc, "interface", "NAME", interface)?,
+            log_flag(alloc, "all", all)?,
+            log_flag(alloc, "strict", "Ends at the first wrong line")?,
+            files(alloc, read).action(ArgAction::Append),
+        ],
+    )
 }
 
 /// The command as it is parsed, with its help.
 pub(crate) fn draw_command<'a>(alloc: Global) -> Result<Command<'a>, AllocError> {
-    let command = described(
+    described(
         alloc,
         "draw",
         "Runs a script and draws it as a sequence diagram, or draws a log",
         DRAW_HELP,
-    );
-    let command = with_options(alloc, command)?;
-    with_files(
-        alloc,
-        command,
-        ArgAction::Append,
-        "Script, or logs in the order of their times, - for standard input [default: -]",
+        draw_args(alloc),
     )
 }
 
@@ -158,9 +160,9 @@ fn read_log(alloc: Global, matches: &ArgMatches) -> Result<OfDrawing, Refused> {
         pair: pair_of(alloc, matches)?,
         from: time_of(alloc, matches, "from")?,
         to: time_of(alloc, matches, "to")?,
+        interface: interface(alloc, matches)?,
         others: matches.get_flag("all"),
         strict: matches.get_flag("strict"),
-        interface: interface(alloc, matches)?,
     })
 }
 

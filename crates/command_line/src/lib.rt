@@ -14,12 +14,12 @@ pub use draw::OfDrawing;
 use draw::{draw_command, read_draw};
 pub use node::{OfNode, OfPort};
 use node::{node_command, read_node};
-use parts::{SCRIPT, add, described, flag, names, one, with, with_files, with_number, within};
+use parts::{SCRIPT, add, described, files, flag, list, named, names, of_numbers, within};
 use refused::{Refused, or_error};
 use std::alloc::{AllocError, Global};
 
 /// What a command line asks for.
-#[derive(PartialEq, Eq, Drop)]
+#[derive(Debug, PartialEq, Eq, Drop)]
 pub enum Asked {
     /// The script is run line by line.
     Script,
@@ -40,7 +40,7 @@ pub enum Asked {
 }
 
 /// A command line.
-#[derive(Drop)]
+#[derive(Debug, PartialEq, Eq, Drop)]
 pub struct Line {
     /// What it asks for.
     pub asked: Asked,
@@ -125,14 +125,20 @@ fn threads_command<'a>(
     about: &'a str,
     help: &'a str,
 ) -> Result<Command<'a>, AllocError> {
-    let turns = one(
-        "turns",
+    let turns = named(
+        alloc,
         "turns",
         "Most turns of a worker, 1 to 1000000000 [default: 1000000]",
-    );
-    let command = described(alloc, name, about, help);
-    let command = with_number(alloc, command, &turns, within(1, 1_000_000_000))?;
-    with_files(alloc, command, ArgAction::Set, SCRIPT)
+    )
+    .action(ArgAction::Set);
+    let turns = of_numbers(turns, within(1, 1_000_000_000));
+    described(
+        alloc,
+        name,
+        about,
+        help,
+        list(alloc, [turns, files(alloc, SCRIPT)]),
+    )
 }
 
 fn live_command<'a>(alloc: Global) -> Result<Command<'a>, AllocError> {
@@ -164,18 +170,18 @@ fn commands<'a>(alloc: Global) -> Result<Vec<Command<'a>>, AllocError> {
 
 /// The program with its own arguments, for a command line that names none of its commands.
 fn without_commands<'a>(alloc: Global) -> Result<Command<'a>, AllocError> {
-    let log = [flag(
+    let log = flag(
+        alloc,
         "log",
         "Prints only the frames, as a log, and the replies on standard error",
-    )];
-    let command = described(
+    );
+    described(
         alloc,
         "j1939bus",
         "Runs a script, and prints the reply to each line",
         PROGRAM_HELP,
-    );
-    let command = with(alloc, command, &log)?;
-    with_files(alloc, command, ArgAction::Set, SCRIPT)
+        list(alloc, [log, files(alloc, SCRIPT)]),
+    )
 }
 
 /// The command as it is parsed, with its help.

@@ -1,14 +1,14 @@
 //! The words of `node`.
 use crate::decode::{PGN_MOST, hexadecimal};
-use crate::parts::{described, each, flag, one, with, with_number, within};
+use crate::parts::{described, flag, list, of_numbers, valued, within};
 use crate::refused::Refused;
-use clap::{Arg, ArgMatches, Command};
+use clap::{Arg, ArgAction, ArgMatches, Command};
 use pgn_ids::Address;
 use std::alloc::{AllocError, Global};
 use tp_wire::constants::ETP_MAX_SIZE;
 
 /// A port that a node opens before it reads a line.
-#[derive(Clone, Copy, PartialEq, Eq)]
+#[derive(Clone, Copy, Debug, PartialEq, Eq)]
 pub struct OfPort {
     /// The PGN of its messages, of 18 bits.
     pub pgn: u32,
@@ -17,7 +17,7 @@ pub struct OfPort {
 }
 
 /// Which node is asked for.
-#[derive(PartialEq, Eq, Drop)]
+#[derive(Debug, PartialEq, Eq, Drop)]
 pub struct OfNode {
     /// The node's address, 0 to 253.
     pub address: u8,
@@ -67,51 +67,80 @@ Status:
 
 docs/REAL-BUS.md describes what is read and printed.";
 
-/// The command with the node's address as its first argument.
-fn with_address<'a>(alloc: Global, command: Command<'a>) -> Result<Command<'a>, AllocError> {
-    let address = Arg::new(alloc, "address")
+fn address_arg<'a>(alloc: Global) -> Arg<'a> {
+    Arg::new(alloc, "address")
         .value_name("ADDRESS")
         .required(true)
-        .help("Address of the station, 00 to FD, hexadecimal");
-    command.arg(address)
+        .help("Address of the station, 00 to FD, hexadecimal")
+}
+
+fn interface_arg<'a>(alloc: Global) -> Arg<'a> {
+    valued(
+        alloc,
+        "interface",
+        "NAME",
+        ArgAction::Set,
+        "Interface of the station [default: that of the first frame]",
+    )
+}
+
+fn port_arg<'a>(alloc: Global) -> Arg<'a> {
+    valued(
+        alloc,
+        "port",
+        "PGN[:MAX]",
+        ArgAction::Append,
+        "Opens a port at the start, as open PGN MAX does [default MAX: 117440505]",
+    )
+}
+
+fn quiet_arg<'a>(alloc: Global) -> Arg<'a> {
+    let quiet = valued(
+        alloc,
+        "quiet",
+        "MS",
+        ArgAction::Set,
+        "Milliseconds of rest after a failed connection, 0 to 10000 [default: 700]",
+    );
+    of_numbers(quiet, within(0, 10_000))
+}
+
+fn strict_arg<'a>(alloc: Global) -> Arg<'a> {
+    flag(alloc, "strict", "Ends at the first wrong line")
+}
+
+fn new_arg<'a>(alloc: Global) -> Arg<'a> {
+    flag(
+        alloc,
+        "new",
+        "Sends messages at once: none left the address in the last 1,250 ms",
+    )
+}
+
+/// The arguments of `node`, in the order of the help.
+fn node_args<'a>(alloc: Global) -> Result<Vec<Arg<'a>>, AllocError> {
+    list(
+        alloc,
+        [
+            address_arg(alloc),
+            interface_arg(alloc),
+            port_arg(alloc),
+            quiet_arg(alloc),
+            strict_arg(alloc),
+            new_arg(alloc),
+        ],
+    )
 }
 
 /// The command as it is parsed, with its help.
 pub(crate) fn node_command<'a>(alloc: Global) -> Result<Command<'a>, AllocError> {
-    let command = described(
+    described(
         alloc,
         "node",
         "Runs one station on a real bus, whose frames are read from standard input",
         NODE_HELP,
-    );
-    let place = [
-        one(
-            "interface",
-            "NAME",
-            "Interface of the station [default: that of the first frame]",
-        ),
-        each(
-            "port",
-            "PGN[:MAX]",
-            "Opens a port at the start, as open PGN MAX does [default MAX: 117440505]",
-        ),
-    ];
-    let quiet = one(
-        "quiet",
-        "MS",
-        "Milliseconds of rest after a failed connection, 0 to 10000 [default: 700]",
-    );
-    let flags = [
-        flag("strict", "Ends at the first wrong line"),
-        flag(
-            "new",
-            "Sends messages at once: none left the address in the last 1,250 ms",
-        ),
-    ];
-    let command = with_address(alloc, command)?;
-    let command = with(alloc, command, &place)?;
-    let command = with_number(alloc, command, &quiet, within(0, 10_000))?;
-    with(alloc, command, &flags)
+        node_args(alloc),
+    )
 }
 
 /// The port that a word writes, if it is one.
@@ -162,11 +191,11 @@ pub(crate) fn read_node(alloc: Global, matches: &ArgMatches) -> Result<OfNode, R
     let address = address_of(alloc, first_of(matches, "address").unwrap_or(""))?;
     Ok(OfNode {
         address,
+        interface: interface(alloc, matches)?,
+        ports: ports(alloc, matches)?,
         quiet: matches.get_one::<u64>("quiet").unwrap_or(QUIET),
         strict: matches.get_flag("strict"),
         again: !matches.get_flag("new"),
-        interface: interface(alloc, matches)?,
-        ports: ports(alloc, matches)?,
     })
 }
 

@@ -7,136 +7,45 @@ use std::alloc::{AllocError, Global};
 /// What help says of the script.
 pub(crate) const SCRIPT: &str = "Script, - for standard input [default: -]";
 
-/// What an option takes.
-#[derive(Clone, Copy)]
-pub(crate) enum Takes<'a> {
-    /// Nothing: it is there or isn't.
-    Nothing,
-    /// A value, which the help calls so.
-    One(&'a str),
-    /// Likewise, each time that it is named.
-    Each(&'a str),
-}
-
-/// An option of a command, written as `--` and its name.
-#[derive(Clone, Copy)]
-pub(crate) struct Choice<'a> {
-    pub(crate) name: &'a str,
-    pub(crate) takes: Takes<'a>,
-    pub(crate) help: &'a str,
-    /// The option without which this one is refused, if there is one.
-    pub(crate) needs: Option<&'a str>,
-}
-
-/// An option without a value.
-pub(crate) fn flag<'a>(name: &'a str, help: &'a str) -> Choice<'a> {
-    Choice {
-        name,
-        takes: Takes::Nothing,
-        help,
-        needs: None,
-    }
-}
-
-/// An option with a value, which the help calls `value`.
-pub(crate) fn one<'a>(name: &'a str, value: &'a str, help: &'a str) -> Choice<'a> {
-    Choice {
-        name,
-        takes: Takes::One(value),
-        help,
-        needs: None,
-    }
-}
-
-/// An option that may be named again, each time with a value.
-pub(crate) fn each<'a>(name: &'a str, value: &'a str, help: &'a str) -> Choice<'a> {
-    Choice {
-        name,
-        takes: Takes::Each(value),
-        help,
-        needs: None,
-    }
-}
-
-/// A command without arguments, and what its help begins and ends with.
+/// A command with its arguments, and what its help begins and ends with.
 pub(crate) fn described<'a>(
     alloc: Global,
     name: &'a str,
     about: &'a str,
     help: &'a str,
-) -> Command<'a> {
-    Command::new(alloc, name).about(about).after_help(help)
-}
-
-/// An option, as an argument.
-fn option_arg<'a>(alloc: Global, choice: &Choice<'a>) -> Arg<'a> {
-    let arg = Arg::new(alloc, choice.name)
-        .long(choice.name)
-        .help(choice.help);
-    match choice.takes {
-        Takes::Nothing => arg.action(ArgAction::SetTrue),
-        Takes::One(value) => arg.value_name(value).action(ArgAction::Set),
-        Takes::Each(value) => arg.value_name(value).action(ArgAction::Append),
-    }
-}
-
-/// An argument that is refused unless the option is there that it needs.
-fn needing<'a>(arg: Arg<'a>, needs: Option<&'a str>) -> Result<Arg<'a>, AllocError> {
-    match needs {
-        Some(other) => arg.requires_arg(other),
-        None => Ok(arg),
-    }
-}
-
-/// A command with one more argument.
-fn with_arg<'a>(
-    command: Command<'a>,
-    arg: Result<Arg<'a>, AllocError>,
+    args: Result<Vec<Arg<'a>>, AllocError>,
 ) -> Result<Command<'a>, AllocError> {
-    command.arg(arg?)
+    let args = args?;
+    Command::new(alloc, name)
+        .about(about)
+        .after_help(help)
+        .args(args)
 }
 
-/// A command with one more option.
-fn with_one<'a>(
-    alloc: Global,
-    command: Command<'a>,
-    choice: &Choice<'a>,
-) -> Result<Command<'a>, AllocError> {
-    with_arg(command, needing(option_arg(alloc, choice), choice.needs))
+/// An argument that is written as `--` and its name.
+pub(crate) fn named<'a>(alloc: Global, name: &'a str, help: &'a str) -> Arg<'a> {
+    Arg::new(alloc, name).long(name).help(help)
 }
 
-/// A command with these options behind its arguments.
-pub(crate) fn with<'a>(
-    alloc: Global,
-    command: Command<'a>,
-    choices: &[Choice<'a>],
-) -> Result<Command<'a>, AllocError> {
-    let mut command = command;
-    for choice in choices {
-        command = with_one(alloc, command, choice)?;
-    }
-    Ok(command)
+/// A flag, which is there or isn't.
+pub(crate) fn flag<'a>(alloc: Global, name: &'a str, help: &'a str) -> Arg<'a> {
+    named(alloc, name, help).action(ArgAction::SetTrue)
 }
 
-/// A command with an option whose value is one of these numbers.
-pub(crate) fn with_number<'a>(
+/// An argument with a value, which the help calls `value`.
+pub(crate) fn valued<'a>(
     alloc: Global,
-    command: Command<'a>,
-    choice: &Choice<'a>,
-    numbers: ValueParser<'a>,
-) -> Result<Command<'a>, AllocError> {
-    command.arg(option_arg(alloc, choice).value_parser(numbers))
-}
-
-/// A command with the names of the files that it reads, one of them or several.
-pub(crate) fn with_files<'a>(
-    alloc: Global,
-    command: Command<'a>,
+    name: &'a str,
+    value: &'a str,
     action: ArgAction,
     help: &'a str,
-) -> Result<Command<'a>, AllocError> {
-    let files = Arg::new(alloc, "files").value_name("FILE").help(help);
-    command.arg(files.action(action))
+) -> Arg<'a> {
+    named(alloc, name, help).value_name(value).action(action)
+}
+
+/// The names of the files that are read.
+pub(crate) fn files<'a>(alloc: Global, help: &'a str) -> Arg<'a> {
+    Arg::new(alloc, "files").value_name("FILE").help(help)
 }
 
 /// The files that were named.
@@ -151,6 +60,20 @@ pub(crate) fn names(alloc: Global, matches: &ArgMatches) -> Result<Vec<String>, 
 /// Numbers of 64 bits from `least` to `most`.
 pub(crate) fn within<'a>(least: i64, most: i64) -> ValueParser<'a> {
     value_parser!(u64).range(least..=most)
+}
+
+/// An argument whose values are numbers of these.
+pub(crate) fn of_numbers<'a>(arg: Arg<'a>, numbers: ValueParser<'a>) -> Arg<'a> {
+    arg.value_parser(numbers)
+}
+
+/// A list of what an array has.
+pub(crate) fn list<T: Drop, const N: usize>(
+    alloc: Global,
+    parts: [T; N],
+) -> Result<Vec<T>, AllocError> {
+    let list = Vec::from_array(alloc, parts)?;
+    Ok(list)
 }
 
 /// A list with one more at its end.
