@@ -35,7 +35,7 @@ mod turns;
 mod wanted;
 
 pub use call::{Owed, WorkerCall};
-pub use calls::{MOST_CALLS, Piece};
+pub use calls::{CUT_AT, MOST_CALLS, Piece};
 pub use closing::Closed;
 pub use detaching::NotDetached;
 pub use ending::{client_agrees, finish, inbox_agrees, pieces_begin};
