@@ -29,22 +29,37 @@ fn ask(options: &mut Options, word: &str) -> bool {
     true
 }
 
+/// Asks for the messages of a PGN or an address, if a word, as `--pgn=FECA`, names one.
+fn ask_for(options: &mut Options, word: &str) -> io::Result<bool> {
+    let (name, value) = word.split_once('=').unwrap_or((word, ""));
+    let Ok(value) = u32::from_str_radix(value, 16) else {
+        return Ok(false);
+    };
+    match name {
+        "--pgn" => options.pgns.name(value)?,
+        "--from" => options.from.name(value)?,
+        "--to" => options.to.name(value)?,
+        _ => return Ok(false),
+    }
+    Ok(true)
+}
+
 /// Asks for what the words of a way to run a case ask for, if the first is `decode` and the others are known.
-fn ask_each(options: &mut Options, way: &str) -> bool {
+fn ask_each(options: &mut Options, way: &str) -> io::Result<bool> {
     let Some(words) = way.strip_prefix("decode") else {
-        return false;
+        return Ok(false);
     };
     for word in words.split_whitespace() {
-        if !ask(options, word) {
-            return false;
+        if !ask(options, word) && !ask_for(options, word)? {
+            return Ok(false);
         }
     }
-    true
+    Ok(true)
 }
 
 impl Recorded {
     /// A log that is decoded in this way, if it is one to decode a log.
-    pub(crate) fn in_way(alloc: Global, way: &str) -> Option<Recorded> {
+    pub(crate) fn in_way(alloc: Global, way: &str) -> io::Result<Option<Recorded>> {
         let mut options = Options {
             pgns: Wanted::all(alloc),
             from: Wanted::all(alloc),
@@ -58,10 +73,10 @@ impl Recorded {
             summary: false,
             quiet: false,
         };
-        if ask_each(&mut options, way) {
-            Some(Recorded { options })
+        if ask_each(&mut options, way)? {
+            Ok(Some(Recorded { options }))
         } else {
-            None
+            Ok(None)
         }
     }
 }

@@ -1,17 +1,19 @@
 //! Runs cases, and compares what each prints with the text that is stated for it, byte for byte. Standard input lists the cases, a line each: the
 //! way in which it is run, and the name of its files. Blank lines there and those that begin with `#` are passed over.
 //!
-//! `NAME.text` is what is to be printed of `NAME.script`, `NAME.log` or `NAME.node`. A case that prints its text is reported by its line. For
+//! `NAME.text` is what is to be printed of `NAME.script`, `NAME.log`, `NAME.node` or `NAME.lines`. A case that prints its text is reported by its line. For
 //! each other one standard error names the case and the line in which it differs, or why it can't be run, and the status is 1 then.
 #![tactic(auto)]
 
 mod decoding;
 mod differing;
+mod meanings;
 mod recording;
 mod runs;
 
 use decoding::Recorded;
 use differing::tell_difference;
+use meanings::Lines;
 use recording::Pictured;
 use runs::{Dialogue, Drawn, Logged, Runs, Scripted};
 use std::alloc::Global;
@@ -76,13 +78,34 @@ fn holds<R: Runs>(
     prints(rt, &mut runs, name, input.as_str(), text.as_str())
 }
 
-/// Whether a case holds whose log is decoded or drawn in this way.
-fn log_holds(rt: &(impl Eprint + AllocGlobal + Files), way: &str, name: &str) -> io::Result<bool> {
-    if let Some(recorded) = Recorded::in_way(rt.alloc(), way) {
-        return holds(rt, recorded, name, "log");
+/// Whether a case holds whose log is decoded in this way.
+fn decoding_holds(
+    rt: &(impl Eprint + AllocGlobal + Files),
+    way: &str,
+    name: &str,
+) -> io::Result<bool> {
+    match Recorded::in_way(rt.alloc(), way)? {
+        Some(recorded) => holds(rt, recorded, name, "log"),
+        None => drawing_holds(rt, way, name),
     }
+}
+
+/// Whether a case holds whose log is drawn in this way.
+fn drawing_holds(
+    rt: &(impl Eprint + AllocGlobal + Files),
+    way: &str,
+    name: &str,
+) -> io::Result<bool> {
     match Pictured::in_way(way) {
         Some(pictured) => holds(rt, pictured, name, "log"),
+        None => lines_hold(rt, way, name),
+    }
+}
+
+/// Whether a case holds whose lines are read in this way.
+fn lines_hold(rt: &(impl Eprint + AllocGlobal + Files), way: &str, name: &str) -> io::Result<bool> {
+    match Lines::in_way(way) {
+        Some(lines) => holds(rt, lines, name, "lines"),
         None => {
             eprintln!(rt; "{name}: no case is run as '{way}'")?;
             Ok(false)
@@ -101,7 +124,7 @@ fn case_holds(rt: &(impl Eprint + AllocGlobal + Files), way: &str, name: &str) -
         "node that starts again" => holds(rt, Dialogue::again(alloc)?, name, "node"),
         "node --strict" => holds(rt, Dialogue::strict(alloc)?, name, "node"),
         "node of any interface" => holds(rt, Dialogue::joining(alloc)?, name, "node"),
-        _ => log_holds(rt, way, name),
+        _ => decoding_holds(rt, way, name),
     }
 }
 

@@ -1,6 +1,6 @@
-//! Tests of scripts: readers, writers and memory that fail, and the command line (`script`); of logs: their lines, and the messages that are put
-//! together of them, with the exact text that is printed (`log`); and of a node on a real bus: what a line of its input means, and readers and
-//! writers that fail (`node`). Scripts and dialogues that print an exact text are cases of the program `script_cases`.
+//! Tests with readers, writers and memory that fail: of scripts (`script`), of logs, and of a listener that is called frame by frame (`log`), and
+//! of a node on a real bus (`node`). Whatever has an exact text that fits a file is a case of the program `script_cases`: scripts, logs and
+//! dialogues, the meanings of their lines, and the command line.
 #![tactic(auto)]
 
 #[cfg(test)]

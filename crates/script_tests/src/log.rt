@@ -1,10 +1,6 @@
-//! Tests of logs: their lines, what of them is asked for, and readers and writers that fail.
-mod decoding;
+//! Tests of logs: a line that is written, what a listener is told, the log of a script, the report of progress, and readers and writers that fail.
 mod failures;
-mod forms;
-mod frames;
 mod lines;
 mod listeners;
-mod logs;
 mod progress;
 mod scripts;

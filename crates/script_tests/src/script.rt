@@ -1,6 +1,4 @@
-//! Tests of scripts that are no cases of `script_cases`: readers, writers and memory that fail, texts that are too long for a file, and the command
-//! line.
-mod command_lines;
+//! Tests of scripts that are no cases of `script_cases`: readers, writers and memory that fail, and texts that are too long for a file.
 mod drawn;
 mod logged;
 mod long_message;

@@ -1,6 +1,5 @@
-//! Tests of a segment, and of the words and the printing of scripts, through what these crates show.
+//! Tests of a segment, and of the printing of scripts, through what these crates show.
 mod calls;
-mod commands;
 mod drains;
 mod memory;
 mod missed;
