@@ -14,14 +14,14 @@ use station_core::{Events, Station};
 use std::alloc::Global;
 use std::marker::Model;
 use std::mem;
-use tp_wire::{Heard, is_transport, read_in_place};
+use tp_wire::{Wire, is_transport, read_in_place};
 
 /// A frame that was read once for all stations: what its identifier says, and what it means, if it is a row of the frame table.
 #[derive(Drop)]
 struct Seen<'a> {
     frame: &'a Frame,
     meaning: IdMeaning,
-    heard: Option<(Heard<'a>, Address, Address)>,
+    heard: Option<(Wire<'a>, Address, Address)>,
 }
 
 impl<'a> Model for Seen<'a> {
@@ -52,8 +52,8 @@ impl<'a> Seen<'a> {
             return true;
         }
         match &self.heard {
-            Some((heard, from, to)) => station
-                .hear_telling(heard, *from, *to, true, now, told)
+            Some((wire, from, to)) => station
+                .hear_telling(wire, *from, *to, true, now, told)
                 .is_ok(),
             None => !is_transport(self.frame),
         }
@@ -136,7 +136,7 @@ fn take_first(
     match read_in_place(frame, &meaning) {
         Some(
             (
-                Heard::Packet {
+                Wire::Packet {
                     kind,
                     sequence,
                     bytes,
@@ -145,7 +145,7 @@ fn take_first(
                 to,
             ),
         ) => {
-            let packet = Heard::Packet {
+            let packet = Wire::Packet {
                 kind,
                 sequence,
                 bytes,
