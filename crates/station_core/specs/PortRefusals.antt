@@ -21,4 +21,3 @@ resumes_unless refused ports number done =
     if not (is_open ports number) then refused NoSuchPort
     else if not (is_paused ports number) then refused PortNotPaused
     else done
-
