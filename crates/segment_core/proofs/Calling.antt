@@ -15,8 +15,8 @@ use Rattle.station_core.specs.Station.{Station, StationStep, new_station}
 use Rattle.station_core.specs.Overruns.{overrun}
 use Rattle.station_core.specs.Memory.{MayLackMemory}
 use Rattle.station_core.specs.Refusals.{IsAnswered, taking_refusal}
-use Rattle.station_core.specs.declared.refused.Refused.{Refused as Cause}
-use Rattle.station_core.specs.declared.refused.Refused.TheVariants as cause
+use Rattle.station_core.specs.declared.refused.Stopped.{Stopped}
+use Rattle.station_core.specs.declared.refused.Stopped.TheVariants as stopped
 use Rattle.segment_law.specs.Segment.{Segment, place_of, station_of, station_at, with_station, counted}
 use Rattle.segment_law.specs.Calls.{Answer, at_address, done, stepped, with_frame, transmits_by, transmits, overruns}
 use Rattle.segment_law.specs.declared.refusal.Refusal.TheVariants as refusal
@@ -92,28 +92,16 @@ transmits_here s t seg a i st old new frame view here within is next free put th
 
 -- A frame that finds no memory is refused for nothing else
 
-free_for_memory : (st : Station) (c : Cause) → IsAnswered (taking_refusal st) (Some c) → stop_of c ≡ stop.OutOfMemory → taking_refusal st ≡ None
-free_for_memory st cause.OutOfMemory none e = none
-free_for_memory st cause.NoSuchStation none e = absurd cc
-free_for_memory st cause.SameStation none e = absurd cc
-free_for_memory st cause.TooShort none e = absurd cc
-free_for_memory st cause.TooLong none e = absurd cc
-free_for_memory st cause.LaneFull none e = absurd cc
-free_for_memory st cause.PortsFull none e = absurd cc
-free_for_memory st cause.NoSuchPort none e = absurd cc
-free_for_memory st cause.PortPaused none e = absurd cc
-free_for_memory st cause.PortNotPaused none e = absurd cc
-free_for_memory st cause.NothingToSend none e = absurd cc
-free_for_memory st cause.NotYet none e = absurd cc
-free_for_memory st cause.NothingDue none e = absurd cc
-free_for_memory st cause.TxFull none e = absurd cc
+free_for_memory : (st : Station) (why : Stopped) → IsAnswered (taking_refusal st) (Some why) → stop_of why ≡ stop.OutOfMemory → taking_refusal st ≡ None
+free_for_memory st stopped.OutOfMemory none e = none
+free_for_memory st (stopped.Refused c) none e = absurd cc
 
 -- The same of a Take of the segment
 
-pub may_ask : (seg : Segment) (a : Address) (i : ℕ) (room : Bool) (st : Station) (frame : CanFrame) (c : Cause) → Some i ≡ place_of seg a → station_of seg a ≡ Some st → Some frame ≡ bus.next_frame seg.bus i
-    → IsAnswered (taking_refusal st) (Some c) → (taking_refusal st ≡ None → room ≡ true) → (taking_refusal st ≡ None → MayLackMemory st frame room) → stop_of c ≡ stop.OutOfMemory → MayAskMemory seg (Take a room)
-may_ask seg a i room st frame c here is next answered with_room lacks e =
-    let none : taking_refusal st ≡ None = free_for_memory st c answered e in
+pub may_ask : (seg : Segment) (a : Address) (i : ℕ) (room : Bool) (st : Station) (frame : CanFrame) (why : Stopped) → Some i ≡ place_of seg a → station_of seg a ≡ Some st → Some frame ≡ bus.next_frame seg.bus i
+    → IsAnswered (taking_refusal st) (Some why) → (taking_refusal st ≡ None → room ≡ true) → (taking_refusal st ≡ None → MayLackMemory st frame room) → stop_of why ≡ stop.OutOfMemory → MayAskMemory seg (Take a room)
+may_ask seg a i room st frame why here is next answered with_room lacks e =
+    let none : taking_refusal st ≡ None = free_for_memory st why answered e in
     let frame_is : next_at seg (place_of seg a) ≡ Some frame = ap (next_at seg) (sym here) ∙ sym next in
     let there : TakeMayLackMemory (Some st) (Some frame) room = lacks none in (
       with_room none,

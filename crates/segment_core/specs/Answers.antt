@@ -1,11 +1,12 @@
 -- How the code answers a call.
 use Rattle.std.specs.Prelude.{◌≡◌, ⊤, [], List, Option, Some, None, Result, Ok, Err, IsOk}
-use Rattle.std.specs.Option.{option_and_then}
+use Rattle.std.specs.Option.{option_map}
 use Rattle.station_core.specs.declared.refused.Refused.{Refused as Cause}
-use Rattle.station_core.specs.declared.refused.Refused.TheVariants as cause
+use Rattle.station_core.specs.declared.refused.Stopped.{Stopped}
+use Rattle.station_core.specs.declared.refused.Stopped.TheVariants as stopped
 use Rattle.segment_law.specs.Segment.{Segment}
 use Rattle.segment_law.specs.declared.refusal.Refusal.{Refusal}
-use Rattle.segment_law.specs.declared.refusal.Refusal.TheVariants as refusal
+use Rattle.segment_law.specs.Refusals.{cause_of}
 use Rattle.segment_law.specs.Calls.{Answer}
 use Rattle.segment_law.specs.declared.reply.Reply.{Reply}
 use Rattle.segment_law.specs.declared.reply.Reply.TheVariants as reply
@@ -71,28 +72,15 @@ abbrev pub refusal_of : Answer → Option Refusal
 refusal_of (Ok step) = None
 refusal_of (Err cause) = Some cause
 
--- how a call ends that a station doesn't do
-abbrev pub stop_of : Cause → Stop
-stop_of cause.NoSuchStation = Refused refusal.NoSuchStation
-stop_of cause.SameStation = Refused refusal.SameStation
-stop_of cause.TooShort = Refused refusal.TooShort
-stop_of cause.TooLong = Refused refusal.TooLong
-stop_of cause.LaneFull = Refused refusal.LaneFull
-stop_of cause.PortsFull = Refused refusal.PortsFull
-stop_of cause.NoSuchPort = Refused refusal.NoSuchPort
-stop_of cause.PortPaused = Refused refusal.PortPaused
-stop_of cause.PortNotPaused = Refused refusal.PortNotPaused
-stop_of cause.NothingToSend = Refused refusal.NothingToSend
-stop_of cause.NotYet = Refused refusal.NotYet
-stop_of cause.NothingDue = Refused refusal.NothingDue
-stop_of cause.TxFull = Refused refusal.TxFull
-stop_of cause.OutOfMemory = OutOfMemory
+-- how a call ends that a station refuses
+abbrev pub stop_for : Cause → Stop
+stop_for cause = Refused (cause_of cause)
 
--- the cause of a call that ended so, if it was refused
-abbrev pub refused_by : Stop → Option Refusal
-refused_by (Refused cause) = Some cause
-refused_by OutOfMemory = None
+-- how a call ends that a station doesn't do
+abbrev pub stop_of : Stopped → Stop
+stop_of (stopped.Refused cause) = stop_for cause
+stop_of stopped.OutOfMemory = OutOfMemory
 
 -- why a call is refused whose station names this cause
 abbrev pub first_refusal : Option Cause → Option Refusal
-first_refusal first = option_and_then (λ cause. refused_by (stop_of cause)) first
+first_refusal first = option_map cause_of first

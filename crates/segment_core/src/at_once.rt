@@ -9,7 +9,7 @@ use crate::counting::count_frame;
 use crate::segment::Segment;
 use bus_frame::Frame;
 use pgn_ids::{Address, read_id};
-use station_core::{Events, Refused};
+use station_core::{Events, Stopped};
 use std::alloc::AllocError;
 
 impl Segment {
@@ -79,8 +79,8 @@ impl Segment {
         let now = self.clock.now();
         let is_malformed = match self.stations[0].take(frame, true, now, told) {
             Ok(is_malformed) => is_malformed,
-            Err(Refused::OutOfMemory) => return Err(AllocError),
-            Err(_) => return Ok(false),
+            Err(Stopped::OutOfMemory) => return Err(AllocError),
+            Err(Stopped::Refused(_)) => return Ok(false),
         };
         count_frame(&mut self.counts);
         self.bus.put_passed(*frame, 1);

@@ -5,7 +5,7 @@ ghost use Rattle.std.specs.Prelude.{[]};
 
 use crate::made::Made;
 use crate::segment::Segment;
-use crate::stop::{Stop, stop_of};
+use crate::stop::{Stop, refused};
 use pgn_ids::{Address, Pgn};
 use port_table::PortId;
 use segment_law::Refusal;
@@ -21,7 +21,7 @@ impl Segment {
         };
         match self.stations[place].open(pgn, max_len) {
             Ok(port) => Ok(Made::Opened(port)),
-            Err(cause) => Err(stop_of(cause)),
+            Err(cause) => Err(refused(cause)),
         }
     }
 
@@ -35,7 +35,7 @@ impl Segment {
         };
         match self.stations[place].close(port.number) {
             Ok(()) => Ok(Made::Done),
-            Err(cause) => Err(stop_of(cause)),
+            Err(cause) => Err(refused(cause)),
         }
     }
 
@@ -49,7 +49,7 @@ impl Segment {
         };
         match self.stations[place].pause(port.number) {
             Ok(()) => Ok(Made::Done),
-            Err(cause) => Err(stop_of(cause)),
+            Err(cause) => Err(refused(cause)),
         }
     }
 
@@ -63,7 +63,7 @@ impl Segment {
         };
         match self.stations[place].resume(port.number) {
             Ok(()) => Ok(Made::Done),
-            Err(cause) => Err(stop_of(cause)),
+            Err(cause) => Err(refused(cause)),
         }
     }
 }

@@ -6,7 +6,7 @@ ghost use Rattle.segment_law.specs.declared.reply.Reply.TheVariants.{Done};
 
 use crate::made::Made;
 use crate::segment::Segment;
-use crate::stop::{Stop, stop_of};
+use crate::stop::{Stop, refused, stop_of};
 use message_events::Bytes;
 use pgn_ids::{Address, Pgn};
 use segment_law::Refusal;
@@ -69,7 +69,7 @@ impl Segment {
                 self.count_told(told);
                 Ok(())
             }
-            Err(cause) => Err(stop_of(cause)),
+            Err(cause) => Err(refused(cause)),
         }
     }
 
@@ -94,7 +94,7 @@ impl Segment {
                 self.tell(events, told);
                 Ok(())
             }
-            Err(cause) => Err(stop_of(cause)),
+            Err(cause) => Err(refused(cause)),
         }
     }
 }

@@ -1,10 +1,10 @@
 //! Why a call isn't done.
 ghost use Rattle.std.specs.Prelude.{◌≡◌};
-ghost use Rattle.segment_core.specs.Answers.{stop_of as stop_of_cause, first_refusal};
+ghost use Rattle.segment_core.specs.Answers.{stop_for, stop_of as stop_of_station, first_refusal};
 ghost use Rattle.segment_core.specs.declared.stop.Stop.TheVariants.{OutOfMemory};
 
 use segment_law::Refusal;
-use station_core::Refused;
+use station_core::{Refused, Stopped};
 use std::alloc::AllocError;
 
 /// Why a call isn't done, and changes nothing.
@@ -24,25 +24,20 @@ impl From<AllocError> for Stop {
     }
 }
 
-/// How a call ends that a station doesn't do.
-pub(crate) fn stop_of(cause: Refused) -> Stop
-    ensures { result ≡ stop_of_cause cause }
+/// How a call ends that a station refuses.
+pub(crate) fn refused(cause: Refused) -> Stop
+    ensures { result ≡ stop_for cause }
 {
-    match cause {
-        Refused::NoSuchStation => Stop::Refused(Refusal::NoSuchStation),
-        Refused::SameStation => Stop::Refused(Refusal::SameStation),
-        Refused::TooShort => Stop::Refused(Refusal::TooShort),
-        Refused::TooLong => Stop::Refused(Refusal::TooLong),
-        Refused::LaneFull => Stop::Refused(Refusal::LaneFull),
-        Refused::PortsFull => Stop::Refused(Refusal::PortsFull),
-        Refused::NoSuchPort => Stop::Refused(Refusal::NoSuchPort),
-        Refused::PortPaused => Stop::Refused(Refusal::PortPaused),
-        Refused::PortNotPaused => Stop::Refused(Refusal::PortNotPaused),
-        Refused::NothingToSend => Stop::Refused(Refusal::NothingToSend),
-        Refused::NotYet => Stop::Refused(Refusal::NotYet),
-        Refused::NothingDue => Stop::Refused(Refusal::NothingDue),
-        Refused::TxFull => Stop::Refused(Refusal::TxFull),
-        Refused::OutOfMemory => Stop::OutOfMemory,
+    Stop::Refused(Refusal::of(cause))
+}
+
+/// How a call ends that a station doesn't do.
+pub(crate) fn stop_of(stopped: Stopped) -> Stop
+    ensures { result ≡ stop_of_station stopped }
+{
+    match stopped {
+        Stopped::Refused(cause) => Stop::Refused(Refusal::of(cause)),
+        Stopped::OutOfMemory => Stop::OutOfMemory,
     }
 }
 
@@ -50,8 +45,8 @@ pub(crate) fn stop_of(cause: Refused) -> Stop
 pub(crate) fn refusal_by(first: Option<Refused>) -> Option<Refusal>
     ensures { result ≡ first_refusal first }
 {
-    match stop_of(first?) {
-        Stop::Refused(refusal) => Some(refusal),
-        Stop::OutOfMemory => None,
+    match first {
+        None => None,
+        Some(cause) => Some(Refusal::of(cause)),
     }
 }

@@ -1,26 +1,22 @@
--- The calls on a segment, each with its refusals in their order, the segment after it, and its answer.
-use Rattle.std.specs.Prelude.{ℕ, ◌+◌, ◌^◌, Bool, true, false, ◌&&◌, not, nat_lt, nat_le, ◌==◌, if◌then◌else◌, List, [], length, Option, Some, None, Result, Ok, Err, slice_get}
+-- The calls on a segment, each with the segment after it and its answer. What a station refuses is told in `station_core`.
+use Rattle.std.specs.Prelude.{ℕ, ◌+◌, ◌^◌, Bool, true, false, ◌&&◌, not, nat_lt, nat_le, if◌then◌else◌, List, [], length, Option, Some, None, Result, Ok, Err, slice_get}
 use Rattle.std.specs.List.{list_all}
 use Rattle.bus_frame.specs.Frames.{CanFrame}
-use Rattle.pgn_ids.specs.Address.{null_address}
 use Rattle.pgn_ids.specs.Pgn.{is_pgn}
 use Rattle.pgn_ids.specs.Identifier.{meaning_of}
 use Rattle.pgn_ids.specs.declared.address.Address.{Address}
-use Rattle.tp_wire.specs.declared.constants.TheConstants.{MIN_SIZE}
-use Rattle.tx_queue.specs.Queue.{free_places, front, behind}
+use Rattle.tx_queue.specs.Queue.{front, behind}
 use Rattle.bus_order.specs.Bus as bus
-use Rattle.port_table.specs.Ports.{are_full, next_id, with_port, is_open, is_paused, with_paused}
-use Rattle.lane_core.specs.Lane.{longest_to, is_full}
+use Rattle.port_table.specs.Ports.{next_id, with_port, with_paused}
 use Rattle.lane_core.specs.declared.refused.PumpRefused.{PumpRefused}
-use Rattle.lane_core.specs.declared.refused.PumpRefused.TheVariants as pump
-use Rattle.station_lanes.specs.LaneReaders.{refusal_at, is_pending_at, queues_abort_at}
 use Rattle.message_events.specs.declared.event.Event.{Event}
 use Rattle.station_core.specs.Station.{Station, StationStep}
 use Rattle.station_core.specs.Sending.{lane_of, sent, pumped, cancelled}
 use Rattle.station_core.specs.Refusals.{is_queue_full}
 use Rattle.station_core.specs.Refusals as station
+use Rattle.station_core.specs.declared.refused.Refused.{Refused as Cause}
 use Rattle.station_core.specs.Taking.{is_malformed_for, taken}
-use Rattle.station_core.specs.Timers.{is_due, fired}
+use Rattle.station_core.specs.Timers.{fired}
 use Rattle.station_core.specs.Closing.{closed}
 use Rattle.station_core.specs.Overruns.{overrun}
 use Rattle.segment_law.specs.Segment.{Segment, place_of, has_station, with_station, counted, counted_frame, counted_look, counted_repeat}
@@ -28,6 +24,7 @@ use Rattle.segment_law.specs.declared.call.Call.{Call}
 use Rattle.segment_law.specs.declared.call.Call.TheVariants.{Open, Close, Send, Pump, Transmit, Take, TakeAgain, Overrun, Tick, Fire, Cancel, Inject, Pause, Resume}
 use Rattle.segment_law.specs.declared.refusal.Refusal.{Refusal}
 use Rattle.segment_law.specs.declared.refusal.Refusal.TheVariants as refusal
+use Rattle.segment_law.specs.Refusals.{cause_of}
 use Rattle.segment_law.specs.declared.reply.Reply.{Reply}
 use Rattle.segment_law.specs.declared.reply.Reply.TheVariants.{Opened, Sent, Refused, Done}
 
@@ -52,40 +49,28 @@ stepped seg i step = Ok (record (with_station seg i step.station) { counts = cou
 abbrev pub no_place : Station → Bool
 no_place st = is_queue_full st
 
+-- a call that its station refuses
+abbrev pub refused : Cause → Answer
+refused cause = Err (cause_of cause)
+
 -- Ports
 
 abbrev pub opens : Segment → (pgn max_len : ℕ) → ℕ → Station → Answer
-opens seg pgn max_len i st =
-    if are_full st.ports then Err refusal.PortsFull
-    else Ok (with_station seg i (record st { ports = with_port st.ports pgn max_len }), Opened (next_id st.ports))
+opens seg pgn max_len i st = station.opens_unless refused st (Ok (with_station seg i (record st { ports = with_port st.ports pgn max_len }), Opened (next_id st.ports)))
 
 abbrev pub closes : Segment → (number : ℕ) → ℕ → Station → Answer
-closes seg number i st =
-    if not (is_open st.ports number) then Err refusal.NoSuchPort
-    else done (with_station seg i (closed st number))
+closes seg number i st = station.closes_unless refused st number (done (with_station seg i (closed st number)))
 
 abbrev pub pauses : Segment → (number : ℕ) → ℕ → Station → Answer
-pauses seg number i st =
-    if not (is_open st.ports number) then Err refusal.NoSuchPort
-    else if is_paused st.ports number then Err refusal.PortPaused
-    else done (with_station seg i (record st { ports = with_paused st.ports number true }))
+pauses seg number i st = station.pauses_unless refused st number (done (with_station seg i (record st { ports = with_paused st.ports number true })))
 
 abbrev pub resumes : Segment → (number : ℕ) → ℕ → Station → Answer
-resumes seg number i st =
-    if not (is_open st.ports number) then Err refusal.NoSuchPort
-    else if not (is_paused st.ports number) then Err refusal.PortNotPaused
-    else done (with_station seg i (record st { ports = with_paused st.ports number false }))
+resumes seg number i st = station.resumes_unless refused st number (done (with_station seg i (record st { ports = with_paused st.ports number false })))
 
 -- Messages
 
 abbrev pub sends : Segment → (to : Address) → (pgn : ℕ) → List ℕ → ℕ → Station → Answer
-sends seg to pgn bytes i st =
-    if to.0 == null_address then Err refusal.NoSuchStation
-    else if st.address.0 == to.0 then Err refusal.SameStation
-    else if nat_lt (length bytes) MIN_SIZE then Err refusal.TooShort
-    else if nat_lt (longest_to to.0) (length bytes) then Err refusal.TooLong
-    else if is_full (lane_of st to) then Err refusal.LaneFull
-    else Ok (with_station seg i (sent st to pgn bytes), Sent ((lane_of st to).sent + 1))
+sends seg to pgn bytes i st = station.sends_unless refused st to (length bytes) (Ok (with_station seg i (sent st to pgn bytes), Sent ((lane_of st to).sent + 1)))
 
 -- the places that a pump may need
 abbrev pub pump_places : ℕ
@@ -93,21 +78,13 @@ pump_places = station.pump_places
 
 -- why the lane queues nothing, or that it does
 abbrev pub pumps_by : Segment → (to : Address) → ℕ → Station → Option PumpRefused → Answer
-pumps_by seg to i st (Some pump.NothingToSend) = Err refusal.NothingToSend
-pumps_by seg to i st (Some pump.NotYet) = Err refusal.NotYet
-pumps_by seg to i st None = if nat_lt (free_places st.queue) pump_places then Err refusal.TxFull else stepped seg i (pumped st to seg.now)
+pumps_by seg to i st why = station.pumps_by refused st why (stepped seg i (pumped st to seg.now))
 
 abbrev pub pumps : Segment → (to : Address) → ℕ → Station → Answer
-pumps seg to i st =
-    if to.0 == null_address then Err refusal.NoSuchStation
-    else pumps_by seg to i st (refusal_at st.lanes to.0 seg.now)
+pumps seg to i st = station.pumps_unless refused st to seg.now (stepped seg i (pumped st to seg.now))
 
 abbrev pub cancels : Segment → (to : Address) → (number : ℕ) → ℕ → Station → Answer
-cancels seg to number i st =
-    if to.0 == null_address then Err refusal.NoSuchStation
-    else if not (is_pending_at st.lanes to.0 number) then Err refusal.NothingToSend
-    else if queues_abort_at st.lanes to.0 number && no_place st then Err refusal.TxFull
-    else stepped seg i (cancelled st to number)
+cancels seg to number i st = station.cancels_unless refused st to number (stepped seg i (cancelled st to number))
 
 -- Frames
 
@@ -132,9 +109,7 @@ looks seg room i st frame = stepped (record seg { counts = counted_look seg.coun
 -- a station takes the next frame of the bus, and frames that no station needs any more are dropped
 abbrev pub takes_by : Segment → (room : Bool) → ℕ → Station → Option CanFrame → Answer
 takes_by seg room i st None = Err refusal.NothingToTake
-takes_by seg room i st (Some frame) =
-    if no_place st then Err refusal.TxFull
-    else looks (record seg { bus = bus.released (bus.taken seg.bus i) }) room i st frame
+takes_by seg room i st (Some frame) = station.takes_unless refused st (looks (record seg { bus = bus.released (bus.taken seg.bus i) }) room i st frame)
 
 abbrev pub takes : Segment → (room : Bool) → ℕ → Station → Answer
 takes seg room i st = takes_by seg room i st (bus.next_frame seg.bus i)
@@ -142,9 +117,7 @@ takes seg room i st = takes_by seg room i st (bus.next_frame seg.bus i)
 -- the frame that was taken last
 abbrev pub repeats_by : Segment → (room : Bool) → ℕ → Station → Option CanFrame → Answer
 repeats_by seg room i st None = Err refusal.NothingToRepeat
-repeats_by seg room i st (Some frame) =
-    if no_place st then Err refusal.TxFull
-    else looks (record seg { counts = counted_repeat seg.counts }) room i st frame
+repeats_by seg room i st (Some frame) = station.takes_unless refused st (looks (record seg { counts = counted_repeat seg.counts }) room i st frame)
 
 abbrev pub repeats : Segment → (room : Bool) → ℕ → Station → Answer
 repeats seg room i st = repeats_by seg room i st (bus.frame_again seg.bus i)
@@ -168,10 +141,7 @@ ticks seg n =
     else done (record seg { now = seg.now + n })
 
 abbrev pub fires : Segment → ℕ → Station → Answer
-fires seg i st =
-    if not (is_due st seg.now) then Err refusal.NothingDue
-    else if no_place st then Err refusal.TxFull
-    else stepped seg i (fired st seg.now)
+fires seg i st = station.fires_unless refused st seg.now (stepped seg i (fired st seg.now))
 
 -- Each call
 

@@ -1,7 +1,25 @@
--- The numbers and names of the causes.
+-- The causes: those of a station among them, their numbers and their names.
 use Rattle.std.specs.Prelude.{ℕ, List, codes}
+use Rattle.station_core.specs.declared.refused.Refused.{Refused}
+use Rattle.station_core.specs.declared.refused.Refused.TheVariants as station
 use Rattle.segment_law.specs.declared.refusal.Refusal.{Refusal}
 use Rattle.segment_law.specs.declared.refusal.Refusal.TheVariants.{IdTooLarge, DataTooLong, BadPgn, WrongPacket, ClockEnd, TxFull, BusFull, TableFull, LaneFull, PgnTaken, PortsFull, NoSuchPort, BadAddresses, NoSuchStation, TooShort, TooLong, SameStation, NothingToTake, NothingToRepeat, NothingDue, NothingToSend, NotYet, StationAddress, RingFull, TraceFull, ClientsFull, PortPaused, PortNotPaused, PiecesDontJoin, NotThisSegment}
+
+-- a station's cause, as one of the segment
+abbrev pub cause_of : Refused → Refusal
+cause_of station.NoSuchStation = NoSuchStation
+cause_of station.SameStation = SameStation
+cause_of station.TooShort = TooShort
+cause_of station.TooLong = TooLong
+cause_of station.LaneFull = LaneFull
+cause_of station.PortsFull = PortsFull
+cause_of station.NoSuchPort = NoSuchPort
+cause_of station.PortPaused = PortPaused
+cause_of station.PortNotPaused = PortNotPaused
+cause_of station.NothingToSend = NothingToSend
+cause_of station.NotYet = NotYet
+cause_of station.NothingDue = NothingDue
+cause_of station.TxFull = TxFull
 
 abbrev pub refusal_number : Refusal → ℕ
 refusal_number IdTooLarge = 1

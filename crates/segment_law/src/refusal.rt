@@ -1,7 +1,8 @@
 //! Why something is refused.
 ghost use Rattle.std.specs.Prelude.{◌≡◌};
-ghost use Rattle.segment_law.specs.Refusals.{refusal_number, refusal_name};
+ghost use Rattle.segment_law.specs.Refusals.{cause_of, refusal_number, refusal_name};
 
+use station_core::Refused;
 use thiserror::Error;
 
 /// Why something is refused: one enum of all causes, in the order of their numbers, 1 to 30. Each is an error with a text of its own.
@@ -100,6 +101,27 @@ pub enum Refusal {
 }
 
 impl Refusal {
+    /// The refusal of a call that its station refuses for this cause.
+    pub fn of(cause: Refused) -> Refusal
+        ensures { result ≡ cause_of cause }
+    {
+        match cause {
+            Refused::NoSuchStation => Refusal::NoSuchStation,
+            Refused::SameStation => Refusal::SameStation,
+            Refused::TooShort => Refusal::TooShort,
+            Refused::TooLong => Refusal::TooLong,
+            Refused::LaneFull => Refusal::LaneFull,
+            Refused::PortsFull => Refusal::PortsFull,
+            Refused::NoSuchPort => Refusal::NoSuchPort,
+            Refused::PortPaused => Refusal::PortPaused,
+            Refused::PortNotPaused => Refusal::PortNotPaused,
+            Refused::NothingToSend => Refusal::NothingToSend,
+            Refused::NotYet => Refusal::NotYet,
+            Refused::NothingDue => Refusal::NothingDue,
+            Refused::TxFull => Refusal::TxFull,
+        }
+    }
+
     /// Its number, 1 to 30.
     pub fn number(self) -> u8
         ensures { result ≡ refusal_number self }

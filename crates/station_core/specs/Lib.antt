@@ -7,5 +7,6 @@ pub mod Sending
 pub mod Timers
 pub mod Closing
 pub mod Overruns
+pub mod PortRefusals
 pub mod Refusals
 pub mod Next

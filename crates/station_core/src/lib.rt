@@ -15,6 +15,6 @@ mod timers;
 
 pub use image::StationImage;
 pub use message_events::{Event, Events, EventsIntoIter, EventsIter};
-pub use refused::{Refused, SendingRefused};
+pub use refused::{Refused, SendingRefused, Stopped};
 pub use sending::MOST_PUMPED;
 pub use station::Station;

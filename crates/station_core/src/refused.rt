@@ -1,14 +1,14 @@
 //! Why a call of a station isn't done.
 ghost use Rattle.std.specs.Prelude.{◌≡◌};
 ghost use Rattle.station_core.specs.Refusals.{by_lane as by_lane_of, by_ports as by_ports_of};
-ghost use Rattle.station_core.specs.declared.refused.Refused.TheVariants.{OutOfMemory};
+ghost use Rattle.station_core.specs.declared.refused.Stopped.TheVariants.{OutOfMemory};
 
 use lane_core::PumpRefused;
 use message_events::Bytes;
 use std::alloc::AllocError;
 use thiserror::Error;
 
-/// Why a call of a station isn't done, which then changes nothing.
+/// Why a station refuses a call, which then changes nothing.
 #[derive(Clone, Copy, Debug, PartialEq, Eq, Error)]
 pub enum Refused {
     /// The destination is the null address, 254, which is no node's.
@@ -50,6 +50,14 @@ pub enum Refused {
     /// The queue has too few free places.
     #[error("too few places of the queue are free")]
     TxFull,
+}
+
+/// Why a call of a station that takes memory isn't done, which then changes nothing.
+#[derive(Clone, Copy, Debug, PartialEq, Eq, Error)]
+pub enum Stopped {
+    /// It is refused.
+    #[error("{0}")]
+    Refused(Refused),
     /// There is no memory.
     #[error("out of memory")]
     OutOfMemory,
@@ -60,16 +68,16 @@ pub enum Refused {
 #[error("{cause}")]
 pub struct SendingRefused {
     /// Why.
-    pub cause: Refused,
+    pub cause: Stopped,
     /// Its bytes.
     pub bytes: Bytes,
 }
 
-impl From<AllocError> for Refused {
-    ghost from_gives = { λ _ refused. refused ≡ OutOfMemory };
+impl From<AllocError> for Stopped {
+    ghost from_gives = { λ _ stopped. stopped ≡ OutOfMemory };
 
-    fn from(_: AllocError) -> Refused {
-        Refused::OutOfMemory
+    fn from(_: AllocError) -> Stopped {
+        Stopped::OutOfMemory
     }
 }
 

@@ -10,7 +10,7 @@ ghost use Rattle.station_lanes.specs.LaneReaders.{missing_at, is_pending_at};
 ghost use Rattle.station_core.specs.Sending.{lane_of, lane_seen, sent, next_pump, pumped, cancelled};
 ghost use Rattle.station_core.specs.Refusals.{IsAnswered, message_refusal as message_refusal_of, sending_refusal, pumping_refusal, cancelling_refusal};
 
-use crate::refused::{Refused, SendingRefused, by_lane};
+use crate::refused::{Refused, SendingRefused, Stopped, by_lane};
 use crate::station::Station;
 use lane_core::{LaneSight, PushRefused, longest_to};
 use message_events::{Bytes, Events};
@@ -66,16 +66,19 @@ impl Station {
         ensures err { OnErr result (self.new ≡ self.old) }
     {
         if let Some(cause) = message_refusal(self.address, to, bytes.len()) {
-            return Err(SendingRefused { cause, bytes });
+            return Err(SendingRefused {
+                cause: Stopped::Refused(cause),
+                bytes,
+            });
         }
         match self.lanes.push(self.alloc, self.address, to, pgn, bytes) {
             Ok(number) => Ok(number),
             Err(PushRefused::LaneFull(bytes)) => Err(SendingRefused {
-                cause: Refused::LaneFull,
+                cause: Stopped::Refused(Refused::LaneFull),
                 bytes,
             }),
             Err(PushRefused::OutOfMemory(bytes)) => Err(SendingRefused {
-                cause: Refused::OutOfMemory,
+                cause: Stopped::OutOfMemory,
                 bytes,
             }),
         }

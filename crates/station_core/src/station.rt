@@ -7,7 +7,7 @@ ghost use Rattle.port_table.specs.Ports.{next_id, is_open, is_paused, with_port,
 ghost use Rattle.station_core.specs.Station.{new_station};
 ghost use Rattle.station_core.specs.Refusals.{IsAnswered, making_refusal, opening_refusal, pausing_refusal, resuming_refusal};
 
-use crate::refused::{Refused, by_ports};
+use crate::refused::{Refused, Stopped, by_ports};
 use bus_frame::Frame;
 use pgn_ids::{Address, Pgn};
 use port_table::{PortId, PortTable};
@@ -70,12 +70,12 @@ impl Station {
     /// The station with this address, without a port. It makes the room of its queue, its lanes' places and its ports.
     ///
     /// `NoSuchStation` if the address isn't that of one node, 0 to 253 (SAE J1939-81); `OutOfMemory`.
-    pub fn new(alloc: Global, address: Address) -> Result<Station, Refused>
+    pub fn new(alloc: Global, address: Address) -> Result<Station, Stopped>
         ensures ok { IfOk result (λ station. station ≡ new_station address) }
         ensures refused { IsAnswered (making_refusal address) (result_err result) }
     {
         if !address.is_one() {
-            return Err(Refused::NoSuchStation);
+            return Err(Stopped::Refused(Refused::NoSuchStation));
         }
         Ok(Station {
             alloc,

@@ -12,7 +12,7 @@ ghost use Rattle.station_core.specs.Refusals.{IsAnswered, taking_refusal};
 ghost use Rattle.station_core.specs.Memory.{MayLackMemory, WireMayLackMemory, CmMayLackMemory};
 ghost use Rattle.station_core.specs.Taking.{packet_kind as packet_kind_of, in_opening, in_lane as lane_taken, abort_taken, cm_taken, answer, request_taken, ack_taken, wire_taken, is_meant_for, looks_at as looks_at_frame, is_malformed_for, wanted, wire_wanted, taken};
 
-use crate::refused::Refused;
+use crate::refused::{Refused, Stopped};
 use crate::station::{Station, enqueue};
 use bus_frame::Frame;
 use message_events::Events;
@@ -115,7 +115,7 @@ impl Station {
         room: bool,
         now: u64,
         told: &mut Events,
-    ) -> Result<bool, Refused>
+    ) -> Result<bool, Stopped>
         requires { told.old ≡ [] }
         ensures ok { OnOk result (taken self.old frame.now room now ≡ record { station = self.new; events = told.new }) }
         ensures malformed { IfOk result (λ is_malformed. is_malformed ≡ is_malformed_for self.old frame.now) }
@@ -126,7 +126,7 @@ impl Station {
         ensures memory { taking_refusal self.old ≡ None → OnErr result (MayLackMemory self.old frame.now room) }
     {
         if let Some(cause) = self.take_refusal() {
-            return Err(cause);
+            return Err(Stopped::Refused(cause));
         }
         let meaning = read_id(frame.id());
         // Most of a bus's frames are other traffic: they are passed over without a call.
@@ -148,7 +148,7 @@ impl Station {
         frame: &Frame,
         now: u64,
         told: &mut Events,
-    ) -> Result<Option<bool>, Refused>
+    ) -> Result<Option<bool>, Stopped>
         requires { told.old ≡ [] }
         ensures ok { IfOk result (λ part. OnSome part (taken self.old frame.now true now ≡ record { station = self.new; events = told.new })) }
         ensures malformed { IfOk result (λ part. IfSome part (λ is_malformed. is_malformed ≡ is_malformed_for self.old frame.now)) }
@@ -161,7 +161,7 @@ impl Station {
         ensures memory { taking_refusal self.old ≡ None → OnErr result (MayLackMemory self.old frame.now true) }
     {
         if let Some(cause) = self.take_refusal() {
-            return Err(cause);
+            return Err(Stopped::Refused(cause));
         }
         let meaning = read_id(frame.id());
         // Most of a bus's frames are other traffic: they are passed over without a call.

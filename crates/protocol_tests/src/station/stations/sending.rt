@@ -33,7 +33,7 @@ fn is_unsent(
 ) {
     match send(rt, alloc, station, to, message) {
         Ok(_) => panic!(rt; "a message is sent"),
-        Err(refused) => same(rt, refused.cause, cause),
+        Err(refused) => same(rt, refused.cause, Stopped::Refused(cause)),
     }
 }
 
@@ -115,7 +115,7 @@ fn has_cancelled(rt: &impl Abort, station: &mut Station) {
 fn only_nodes_have_stations(rt: HostRuntime) {
     for address in [Address::NULL, Address::GLOBAL] {
         let refused = Station::new(rt.alloc(), address).err();
-        same(&rt, refused, Some(Refused::NoSuchStation));
+        same(&rt, refused, Some(Stopped::Refused(Refused::NoSuchStation)));
     }
 }
 

@@ -31,6 +31,6 @@ returns-in-Ok-clause-answer c =
 pub returns-in-Err-clause-answer : goal.returns-in-Err-clause-answer
 returns-in-Err-clause-answer c =
     refuses _ _ _ (at_here c.self.inside _ _ c.in-Some.place c.index_mut.result.now _ c.self.view_is c.in-Some.ensures.value c.in-Some.ensures.within c.index_mut.ensures.value
-    ∙ cancels_by c.args.self.now c.in-Some.place c.index_mut.result.now c.args.to c.args.number) _ _ c.in-Err.cause _ c.stop_of.ensures refl
+    ∙ cancels_by c.args.self.now c.in-Some.place c.index_mut.result.now c.args.to c.args.number) _ _ c.in-Err.cause _ c.refused.ensures refl
     (unchanged_view c.self.inside _ c.in-Some.place _ c.index_mut.result.now c.self.view_is c.in-Err.ensures.err c.index_mut.ensures.value)
     c.in-Err.ensures.refused

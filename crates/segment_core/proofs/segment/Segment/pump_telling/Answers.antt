@@ -34,6 +34,6 @@ pub returns-in-Err-clause-answer : goal.returns-in-Err-clause-answer
 returns-in-Err-clause-answer c =
     let now_is : c.now-now.result ≡ c.args.self.now.now = c.now-now.ensures.value ∙ ap (λ x. x.now) c.self.view_is in
     refuses _ _ _ (at_here c.self.inside _ _ c.in-Some.place c.index_mut.result.now _ c.self.view_is c.in-Some.ensures.value c.in-Some.ensures.within c.index_mut.ensures.value
-    ∙ pumps_are c.args.self.now c.in-Some.place c.index_mut.result.now c.args.to) _ _ c.in-Err.cause _ c.stop_of.ensures refl
+    ∙ pumps_are c.args.self.now c.in-Some.place c.index_mut.result.now c.args.to) _ _ c.in-Err.cause _ c.refused.ensures refl
     (unchanged_view c.self.inside _ c.in-Some.place _ c.index_mut.result.now c.self.view_is c.in-Err.ensures.err c.index_mut.ensures.value)
     (c.in-Err.ensures.refused ∙ ap (pumping_refusal c.index_mut.result.now c.args.to) now_is)

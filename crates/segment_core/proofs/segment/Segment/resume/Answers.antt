@@ -27,7 +27,7 @@ returns c = elim c.match-resume.branch [
       ∙ stepped_view c.self.inside _ c.in-Some.place _ _ _ _ c.self.view_is w.in-Ok.ensures.ok refl)
   | in-Err w ↦ rw w.result-is
       (refuses _ _ _ (at_here c.self.inside _ _ c.in-Some.place c.index_mut.result.now _ c.self.view_is c.in-Some.ensures.value c.in-Some.ensures.within c.index_mut.ensures.value
-      ∙ resumes_by c.args.self.now c.in-Some.place c.index_mut.result.now c.args.port.number) _ _ w.in-Err.cause _ w.stop_of.ensures refl
+      ∙ resumes_by c.args.self.now c.in-Some.place c.index_mut.result.now c.args.port.number) _ _ w.in-Err.cause _ w.refused.ensures refl
       (unchanged_view c.self.inside _ c.in-Some.place _ c.index_mut.result.now c.self.view_is w.in-Err.ensures.err c.index_mut.ensures.value)
       w.in-Err.ensures.refused)
 ]
