@@ -7,6 +7,5 @@ pub mod Sending
 pub mod Timers
 pub mod Closing
 pub mod Overruns
-pub mod PortRefusals
 pub mod Refusals
 pub mod Next

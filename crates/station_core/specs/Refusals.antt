@@ -7,7 +7,6 @@ use Rattle.pgn_ids.specs.declared.address.Address.{Address}
 use Rattle.tx_queue.specs.Queue.{free_places}
 use Rattle.tp_wire.specs.declared.constants.TheConstants.{MIN_SIZE}
 use Rattle.port_table.specs.Refusals as ports
-use Rattle.station_core.specs.PortRefusals as port_rules
 use Rattle.port_table.specs.declared.refused.Refused.{Refused as PortsRefused}
 use Rattle.port_table.specs.declared.refused.Refused.TheVariants as of_ports
 use Rattle.lane_core.specs.Lane.{longest_to, is_full}
@@ -47,16 +46,16 @@ by_ports of_ports.PortPaused = PortPaused
 by_ports of_ports.PortNotPaused = PortNotPaused
 
 abbrev pub opens_unless : {A : Type 0} → (refused : Refused → A) → Station → (done : A) → A
-opens_unless refused st done = port_rules.opens_unless (λ cause. refused (by_ports cause)) st.ports done
+opens_unless refused st done = ports.opens_unless (λ cause. refused (by_ports cause)) st.ports done
 
 abbrev pub closes_unless : {A : Type 0} → (refused : Refused → A) → Station → (number : ℕ) → (done : A) → A
-closes_unless refused st number done = port_rules.closes_unless (λ cause. refused (by_ports cause)) st.ports number done
+closes_unless refused st number done = ports.closes_unless (λ cause. refused (by_ports cause)) st.ports number done
 
 abbrev pub pauses_unless : {A : Type 0} → (refused : Refused → A) → Station → (number : ℕ) → (done : A) → A
-pauses_unless refused st number done = port_rules.pauses_unless (λ cause. refused (by_ports cause)) st.ports number done
+pauses_unless refused st number done = ports.pauses_unless (λ cause. refused (by_ports cause)) st.ports number done
 
 abbrev pub resumes_unless : {A : Type 0} → (refused : Refused → A) → Station → (number : ℕ) → (done : A) → A
-resumes_unless refused st number done = port_rules.resumes_unless (λ cause. refused (by_ports cause)) st.ports number done
+resumes_unless refused st number done = ports.resumes_unless (λ cause. refused (by_ports cause)) st.ports number done
 
 -- Messages
 
