@@ -14,7 +14,7 @@ use station_core::{Events, Station};
 use std::alloc::Global;
 use std::marker::Model;
 use std::mem;
-use tp_wire::{Wire, is_transport, read_in_place};
+use tp_wire::{PacketBytes, Wire, is_transport, read_in_place};
 
 /// A frame that was read once for all stations: what its identifier says, and what it means, if it is a row of the frame table.
 #[derive(Drop)]
@@ -52,9 +52,7 @@ impl<'a> Seen<'a> {
             return true;
         }
         match &self.heard {
-            Some((wire, from, to)) => station
-                .hear(wire, *from, *to, true, now, told)
-                .is_ok(),
+            Some((wire, from, to)) => station.hear(wire, *from, *to, true, now, told).is_ok(),
             None => !is_transport(self.frame),
         }
     }
@@ -133,7 +131,8 @@ fn take_first(
     ensures steps { FirstTell result frame.now now stations.old stations.new course.old course.new counts.old counts.new }
 {
     let meaning = read_id(frame.id());
-    match read_in_place(frame, &meaning) {
+    let heard = read_in_place(frame, &meaning);
+    match &heard {
         Some(
             (
                 Wire::Packet {
@@ -146,18 +145,18 @@ fn take_first(
             ),
         ) => {
             let packet = Wire::Packet {
-                kind,
-                sequence,
-                bytes,
+                kind: *kind,
+                sequence: *sequence,
+                bytes: PacketBytes::new(bytes.array()),
             };
             let seen = Seen {
                 frame,
                 meaning,
-                heard: Some((packet, from, to)),
+                heard: Some((packet, *from, *to)),
             };
             seen.taken_by_first(stations, now, alloc, course, counts)
         }
-        heard => {
+        _ => {
             let seen = Seen {
                 frame,
                 meaning,
