@@ -75,7 +75,7 @@ pub fn submit_refusal(from: Address, to: Address, len: usize) -> Option<Refusal>
     if to == Address::NULL {
         return Some(Refusal::NoSuchStation);
     }
-    if to == from {
+    if from == to {
         return Some(Refusal::SameStation);
     }
     if len < MIN_SIZE as usize {
