@@ -1,7 +1,7 @@
 use Rattle.std.proofs.Common.{◌≡◌, rules}
-use Rattle.segment_core.specs.declared.stop.Stop.TheVariants.{Refused}
-use Rattle.segment_core.specs.Answers.{reply_with}
-use Rattle.segment_core.proofs.Records.{done_stands, refused_stands}
+use Rattle.segment_state.specs.declared.stop.Stop.TheVariants.{Refused}
+use Rattle.segment_state.specs.Answers.{reply_with}
+use Rattle.segment_state.proofs.Records.{done_stands, refused_stands}
 use Rattle.segment_core.proofs.segment.Segment.apply_apart.Goals as goal
 
 pub returns-in-Ok-clause-stands : goal.returns-in-Ok-clause-stands

@@ -3,12 +3,12 @@ use Rattle.segment_law.specs.Calls.{Answer, at_address, takes, replied, events_o
 use Rattle.segment_law.specs.Readers.{wanted, ports_given}
 use Rattle.segment_law.specs.declared.call.Call.TheVariants.{Take}
 use Rattle.segment_law.specs.declared.reply.Reply.TheVariants.{Done}
-use Rattle.segment_core.specs.declared.stop.Stop.{Stop}
-use Rattle.segment_core.specs.declared.stop.Stop.TheVariants.{Refused}
-use Rattle.segment_core.specs.Answers.{IsAnswer, IsPart}
-use Rattle.segment_core.proofs.Kept.{when_some}
+use Rattle.segment_state.specs.declared.stop.Stop.{Stop}
+use Rattle.segment_state.specs.declared.stop.Stop.TheVariants.{Refused}
+use Rattle.segment_state.specs.Answers.{IsAnswer, IsPart}
+use Rattle.segment_state.proofs.Kept.{when_some}
 use Rattle.record_law.proofs.readers.Takes.{wanted_is_given}
-use Rattle.segment_core.proofs.Records.{done_stands, refused_stands, takes_called}
+use Rattle.segment_state.proofs.Records.{done_stands, refused_stands, takes_called}
 use Rattle.segment_core.proofs.segment.Segment.take_unless_whole.Goals as goal
 
 pub returns-in-Ok-Some-clause-stands : goal.returns-in-Ok-Some-clause-stands
