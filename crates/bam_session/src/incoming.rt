@@ -3,7 +3,6 @@ ghost use Rattle.std.specs.Prelude.{◌≡◌, ℕ, ◌<◌, ◌≤◌, true, le
 ghost use Rattle.seg_cut.specs.Packets.{packet_count};
 ghost use Rattle.seg_cut.specs.Join.{IsJoin, joined, wants_last as wants_last_at};
 ghost use Rattle.tick_timers.specs.Timers.{is_due as is_due_at};
-ghost use Rattle.tp_wire.specs.Heard.{meant};
 ghost use Rattle.tp_wire.specs.declared.wire.Kind.TheVariants.{Tp};
 ghost use Rattle.tp_wire.specs.declared.wire.Wire.TheVariants.{Packet};
 ghost use Rattle.bam_session.specs.States.{is_size, announced};
@@ -17,7 +16,7 @@ use pgn_ids::{Address, WirePgn};
 use seg_cut::Join;
 use std::marker::Model;
 use tick_timers::{T1, Timer};
-use tp_wire::{Heard, Kind, Wire};
+use tp_wire::{Kind, Wire};
 
 /// A message to all whose packets are awaited. It must be spent.
 pub struct BamIn {
@@ -83,22 +82,22 @@ impl BamIn {
     /// no packet of this transport, or a packet received before, changes nothing. If a packet is out of order, the message is
     /// to be dropped.
     #[inline(always)]
-    pub fn take(&mut self, heard: &Heard<'_>, now: u64) -> BamLeft
-        ensures { Leads self.old (meant heard.now) now result self.new }
+    pub fn take(&mut self, wire: &Wire<'_>, now: u64) -> BamLeft
+        ensures { Leads self.old wire.now now result self.new }
     {
-        let Heard::Packet {
+        let Wire::Packet {
             kind: Kind::Tp,
             sequence,
             bytes,
-        } = heard
+        } = wire
         else {
             return BamLeft::Nothing;
         };
-        self.take_packet(*sequence, bytes, now)
+        self.take_packet(*sequence, bytes.array(), now)
     }
 
     /// `take`, by value: what follows from the frame.
-    pub fn step(mut self, wire: &Wire, now: u64) -> BamStepped
+    pub fn step(mut self, wire: &Wire<'_>, now: u64) -> BamStepped
         ensures { shown result ≡ stepped self wire.now now }
     {
         let Wire::Packet {
@@ -109,9 +108,9 @@ impl BamIn {
         else {
             return BamStepped::On(self);
         };
-        match self.take_packet(*sequence, bytes, now) {
+        match self.take_packet(*sequence, bytes.array(), now) {
             BamLeft::Nothing => BamStepped::On(self),
-            BamLeft::Message => BamStepped::Complete(self.complete(bytes)),
+            BamLeft::Message => BamStepped::Complete(self.complete(bytes.array())),
             BamLeft::Dropped => {
                 self.end();
                 BamStepped::Dropped
@@ -160,7 +159,7 @@ impl BamIn {
     }
 
     /// Whether a step with this frame would complete the message.
-    pub fn completes(&self, wire: &Wire) -> bool
+    pub fn completes(&self, wire: &Wire<'_>) -> bool
         ensures { result ≡ completes_at self.now wire.now }
     {
         let Wire::Packet {

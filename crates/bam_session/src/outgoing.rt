@@ -13,7 +13,7 @@ use pgn_ids::{Address, Pgn};
 use seg_cut::{packet, packets};
 use std::marker::Model;
 use tick_timers::{BROADCAST_GAP, Timer};
-use tp_wire::{CmFrame, Kind, Wire, write};
+use tp_wire::{CmFrame, Kind, PacketBytes, Wire, write};
 
 /// A message to all whose packets are being queued. It must be spent.
 pub struct BamOut {
@@ -140,10 +140,11 @@ impl BamOut {
         requires { length bytes.now ≡ self.now.len }
         ensures { result ≡ next_packet self.now bytes.now }
     {
+        let seven = packet(bytes, u32::from(self.next));
         let wire = Wire::Packet {
             kind: Kind::Tp,
             sequence: self.next,
-            bytes: packet(bytes, u32::from(self.next)),
+            bytes: PacketBytes::new(&seven),
         };
         write(wire, self.from, Address::GLOBAL)
     }

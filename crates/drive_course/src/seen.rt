@@ -12,14 +12,14 @@ use segment_law::Counts;
 use station_core::{Events, Station};
 use std::marker::Model;
 use std::mem;
-use tp_wire::{Heard, is_transport, read_in_place};
+use tp_wire::{Wire, is_transport, read_in_place};
 
 /// A frame that was read once for all stations: what its identifier says, and what it means, if it is a row of the frame table.
 #[derive(Drop)]
 struct Seen<'a> {
     frame: &'a Frame,
     meaning: IdMeaning,
-    heard: Option<(Heard<'a>, Address, Address)>,
+    heard: Option<(Wire<'a>, Address, Address)>,
 }
 
 impl<'a> Model for Seen<'a> {
@@ -50,8 +50,8 @@ impl<'a> Seen<'a> {
             return true;
         }
         match &self.heard {
-            Some((heard, from, to)) => station
-                .hear_telling(heard, *from, *to, true, now, told)
+            Some((wire, from, to)) => station
+                .hear_telling(wire, *from, *to, true, now, told)
                 .is_ok(),
             None => !is_transport(self.frame),
         }
@@ -135,7 +135,7 @@ pub fn take_first(
     match read_in_place(frame, &meaning) {
         Some(
             (
-                Heard::Packet {
+                Wire::Packet {
                     kind,
                     sequence,
                     bytes,
@@ -144,7 +144,7 @@ pub fn take_first(
                 to,
             ),
         ) => {
-            let packet = Heard::Packet {
+            let packet = Wire::Packet {
                 kind,
                 sequence,
                 bytes,

@@ -112,7 +112,7 @@ pub fn put_packets(out: &mut Vec<u8>, first: u8, last: u8) -> Result<(), AllocEr
 }
 
 #[tactic(auto, unfolding(crate::specs::Words::words_of))]
-fn put_words(out: &mut Vec<u8>, wire: &Wire) -> Result<(), AllocError>
+fn put_words(out: &mut Vec<u8>, wire: &Wire<'_>) -> Result<(), AllocError>
     ensures { OnOk result (out.new.items ≡ out.old.items ++ words_of wire.now) }
 {
     match wire {

@@ -1,7 +1,6 @@
 //! Frames of the destination.
 ghost use Rattle.std.specs.Prelude.{◌≡◌, ◌<◌, ◌++◌, length, OnSome};
 ghost use Rattle.tx_queue.specs.Queue.{queue_limit};
-ghost use Rattle.tp_wire.specs.Heard.{meant};
 ghost use Rattle.originator.specs.Readers.{link_of};
 ghost use Rattle.originator.specs.Cts.{led};
 ghost use Rattle.lane_core.specs.Hear.{heard as heard_lane, connection_heard, abort_heard};
@@ -10,7 +9,7 @@ use crate::lane::Lane;
 use crate::step::Ended;
 use originator::{Ending, OutState};
 use pgn_ids::WirePgn;
-use tp_wire::{CmFrame, Heard, Kind};
+use tp_wire::{CmFrame, Kind, Wire};
 use tx_queue::TxQueue;
 
 // An abort of this transport and PGN.
@@ -25,17 +24,17 @@ fn hear_abort(state: &OutState, kind: Kind, reason: u8, pgn: WirePgn) -> Option<
 
 /// A connection takes an abort, or else what the sender's own step takes. If the frame ends the message, nothing changes.
 #[inline]
-pub(crate) fn hear_frame(state: &mut OutState, heard: &Heard<'_>, now: u64) -> Option<Ending>
-    ensures step { connection_heard state.old (meant heard.now) now ≡ led result state.new }
+pub(crate) fn hear_frame(state: &mut OutState, wire: &Wire<'_>, now: u64) -> Option<Ending>
+    ensures step { connection_heard state.old wire.now now ≡ led result state.new }
     ensures link { link_of state.new ≡ link_of state.old }
     ensures kept { OnSome result (state.new ≡ state.old) }
 {
-    match heard {
-        Heard::Cm(CmFrame::Abort { reason, pgn }) => hear_abort(state, Kind::Tp, *reason, *pgn),
-        Heard::Cm(CmFrame::EtpAbort { reason, pgn }) => {
+    match wire {
+        Wire::Cm(CmFrame::Abort { reason, pgn }) => hear_abort(state, Kind::Tp, *reason, *pgn),
+        Wire::Cm(CmFrame::EtpAbort { reason, pgn }) => {
             hear_abort(state, Kind::Etp, *reason, *pgn)
         }
-        _ => state.take(heard, now),
+        _ => state.take(wire, now),
     }
 }
 
@@ -45,13 +44,13 @@ impl Lane {
     /// Every other frame changes nothing.
     #[inline]
     #[tactic(auto, using(crate::proofs::Keeping::carries_on, crate::proofs::Keeping::calm_on))]
-    pub fn hear(&mut self, heard: &Heard<'_>, now: u64, queue: &mut TxQueue) -> Option<Ended>
+    pub fn hear(&mut self, wire: &Wire<'_>, now: u64, queue: &mut TxQueue) -> Option<Ended>
         requires { length queue.old < queue_limit }
-        ensures lane { self.new ≡ (heard_lane self.old (meant heard.now) now).0 }
-        ensures queued { queue.new ≡ queue.old ++ (heard_lane self.old (meant heard.now) now).1.frames }
-        ensures ended { result ≡ (heard_lane self.old (meant heard.now) now).1.ended }
+        ensures lane { self.new ≡ (heard_lane self.old wire.now now).0 }
+        ensures queued { queue.new ≡ queue.old ++ (heard_lane self.old wire.now now).1.frames }
+        ensures ended { result ≡ (heard_lane self.old wire.now now).1.ended }
     {
-        match self.place.hear(heard, now) {
+        match self.place.hear(wire, now) {
             None => None,
             Some(ending) => self.end_connection(ending, queue),
         }

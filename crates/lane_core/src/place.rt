@@ -1,7 +1,6 @@
 //! What is under way in a lane.
 ghost use Rattle.std.specs.Prelude.{◌≡◌, ◌+◌, ◌<◌, ◌≤◌, ◌++◌, length, true};
 ghost use Rattle.tx_queue.specs.Queue.{queue_limit};
-ghost use Rattle.tp_wire.specs.Heard.{meant};
 ghost use Rattle.originator.specs.Pump.{most_frames};
 ghost use Rattle.bam_session.specs.Sending as bam;
 ghost use Rattle.lane_core.specs.Lane.{Lane};
@@ -15,7 +14,7 @@ use crate::hear::hear_frame;
 use bam_session::BamOut;
 use originator::{Ending, OutState};
 use std::marker::Model;
-use tp_wire::Heard;
+use tp_wire::Wire;
 use tx_queue::TxQueue;
 
 /// How the front message of a lane is under way. It must be spent.
@@ -99,12 +98,12 @@ impl Place {
     /// A connection under way takes a frame of its destination at tick `now`: how that ends the message, if it does, and then
     /// nothing has changed.
     #[inline]
-    pub(crate) fn hear(&mut self, heard: &Heard<'_>, now: u64) -> Option<Ending>
-        ensures step { (lane : Lane) → lane.under_way ≡ self.old → heard_lane lane (meant heard.now) now ≡ after_frame lane self.new result }
+    pub(crate) fn hear(&mut self, wire: &Wire<'_>, now: u64) -> Option<Ending>
+        ensures step { (lane : Lane) → lane.under_way ≡ self.old → heard_lane lane wire.now now ≡ after_frame lane self.new result }
         ensures same { KeepsMessage self.old self.new }
     {
         match &mut self.content {
-            UnderWay::Connection(state) => hear_frame(state, heard, now),
+            UnderWay::Connection(state) => hear_frame(state, wire, now),
             _ => None,
         }
     }

@@ -144,7 +144,7 @@ impl Awaited {
         iface: Iface,
         from: Address,
         to: Address,
-        wire: &Wire,
+        wire: &Wire<'_>,
     ) -> Result<bool, AllocError>
         ensures { IfOk result (λ is. (self.new, is) ≡ wire_met iface from to wire.now self.old) }
     {

@@ -229,7 +229,7 @@ fn follow_wire(
     iface: Iface,
     from: Address,
     to: Address,
-    wire: &Wire,
+    wire: &Wire<'_>,
     place: Place,
     told: &[Told],
 ) -> Result<(), AllocError>

@@ -164,7 +164,7 @@ fn take_wire(
     alloc: Global,
     sessions: &mut Sessions,
     way: Way,
-    wire: &Wire,
+    wire: &Wire<'_>,
     most: u32,
     now: u64,
     told: &mut Vec<Told>,
@@ -178,7 +178,7 @@ fn take_wire(
             kind,
             sequence,
             bytes,
-        } => take_packet(sessions, way.key(*kind), *sequence, *bytes, now, told),
+        } => take_packet(sessions, way.key(*kind), *sequence, *bytes.array(), now, told),
         Wire::Request { .. } => Ok(None),
         Wire::Ack { .. } => Ok(None),
     }

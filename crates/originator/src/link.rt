@@ -13,7 +13,7 @@ use pgn_ids::{Address, Pgn, WirePgn};
 use seg_cut::{packet, packets};
 use std::marker::Model;
 use tp_wire::constants::ANY_WINDOW;
-use tp_wire::{AbortReason, CmFrame, Kind, Wire, write};
+use tp_wire::{AbortReason, CmFrame, Kind, PacketBytes, Wire, write};
 
 /// The message that a connection carries: its transport, the addresses of sender and destination, its PGN and its
 /// length in bytes. The number of its packets is kept.
@@ -178,12 +178,12 @@ impl Link {
             Kind::Tp => k as u8,
             Kind::Etp => (k - (next - 1)) as u8,
         };
-        let bytes = packet(bytes, k);
+        let seven = packet(bytes, k);
         write(
             Wire::Packet {
                 kind: self.kind,
                 sequence,
-                bytes,
+                bytes: PacketBytes::new(&seven),
             },
             self.from,
             self.to,

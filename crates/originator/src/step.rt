@@ -1,13 +1,12 @@
 //! A frame is taken.
 ghost use Rattle.std.specs.Prelude.{◌≡◌, OnSome};
-ghost use Rattle.tp_wire.specs.Heard.{meant};
 ghost use Rattle.originator.specs.Readers.{link_of, KeepsLink};
 ghost use Rattle.originator.specs.Cts.{led};
 ghost use Rattle.originator.specs.Step.{on_end, on_cm, stepped};
 
 use crate::endings::Ending;
 use crate::states::{OutState, Stepped};
-use tp_wire::{CmFrame, Heard, Kind, Wire};
+use tp_wire::{CmFrame, Kind, Wire};
 
 impl OutState {
     /// An end acknowledgement of so many bytes is taken.
@@ -64,19 +63,19 @@ impl OutState {
     /// transport and PGN counts; every other frame leaves the message unchanged. If the frame ends the message, it returns how
     /// and changes nothing: `end` is left to do.
     #[inline]
-    pub fn take(&mut self, heard: &Heard<'_>, now: u64) -> Option<Ending>
-        ensures step { stepped self.old (meant heard.now) now ≡ led result self.new }
+    pub fn take(&mut self, wire: &Wire<'_>, now: u64) -> Option<Ending>
+        ensures step { stepped self.old wire.now now ≡ led result self.new }
         ensures link { link_of self.new ≡ link_of self.old }
         ensures kept { OnSome result (self.new ≡ self.old) }
     {
-        match heard {
-            Heard::Cm(frame) => self.take_cm(frame, now),
+        match wire {
+            Wire::Cm(frame) => self.take_cm(frame, now),
             _ => None,
         }
     }
 
     /// `take`, by value.
-    pub fn step(mut self, wire: &Wire, now: u64) -> Stepped
+    pub fn step(mut self, wire: &Wire<'_>, now: u64) -> Stepped
         ensures value { result ≡ stepped self wire.now now }
         ensures link { KeepsLink (link_of self) result }
     {

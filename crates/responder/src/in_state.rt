@@ -82,7 +82,7 @@ impl InState {
 
     /// Makes the room that the step with this frame needs: in ETP that of the next window, if the step grants it. TP has room for
     /// the whole message since it began. An error changes nothing.
-    pub fn prepare(&mut self, wire: &Wire, room: bool, flow: Flow) -> Result<(), AllocError>
+    pub fn prepare(&mut self, wire: &Wire<'_>, room: bool, flow: Flow) -> Result<(), AllocError>
         ensures etp_alone { OnErr result ((unfinished_of self.old).kind ≡ Etp) }
         ensures ok { OnOk result (self.new ≡ prepared self.old wire.now room flow) }
         ensures ready { OnOk result (IsPrepared self.new wire.now room flow) }
@@ -99,7 +99,7 @@ impl InState {
 
     /// Takes a frame of its peer at tick `now`, as `Receiver::take` does (SAE J1939-21, TP.DT; ISO 11783-3, ETP.CM_DPO,
     /// ETP.DT). It takes no memory, and asks that `prepare` made what it needs.
-    pub fn step(self, wire: &Wire, room: bool, flow: Flow, now: u64) -> Received
+    pub fn step(self, wire: &Wire<'_>, room: bool, flow: Flow, now: u64) -> Received
         requires { IsPrepared self wire.now room flow }
         ensures { result ≡ stepped self wire.now room flow now }
     {
@@ -108,7 +108,7 @@ impl InState {
                 kind,
                 sequence,
                 bytes,
-            } => self.step_packet(*kind, *sequence, bytes, room, flow, now),
+            } => self.step_packet(*kind, *sequence, bytes.array(), room, flow, now),
             Wire::Cm(frame) => self.step_cm(frame, room, flow, now),
             _ => Received::On(self, None),
         }
@@ -211,7 +211,7 @@ impl InState {
 }
 
 // Whether the step with this frame grants a further window.
-fn grants_next(state: &AwaitPacket, wire: &Wire, room: bool, flow: Flow) -> bool
+fn grants_next(state: &AwaitPacket, wire: &Wire<'_>, room: bool, flow: Flow) -> bool
     ensures { result ≡ grants_next_at state.now wire.now room flow }
 {
     match (wire, flow) {

@@ -3,7 +3,6 @@ ghost use Rattle.std.specs.Prelude.{◌≡◌, ℕ, ◌+◌, ◌*◌, ◌<◌, �
 ghost use Rattle.std.specs.Bool.{OnTrue, OnFalse};
 ghost use Rattle.tick_timers.specs.Timers.{is_due as is_due_at};
 ghost use Rattle.tx_queue.specs.Queue.{queue_limit};
-ghost use Rattle.tp_wire.specs.Heard.{meant};
 ghost use Rattle.tp_wire.specs.Reason.{reason_byte};
 ghost use Rattle.tp_wire.specs.Sizes.{IsSizeOf};
 ghost use Rattle.tp_wire.specs.declared.constants.TheConstants.{ETP_MAX_WINDOW};
@@ -39,7 +38,7 @@ use pgn_ids::WirePgn;
 use seg_cut::Join;
 use std::marker::Model;
 use tick_timers::{T1, Timer};
-use tp_wire::{AbortReason, CmFrame, Heard, Kind, Wire};
+use tp_wire::{AbortReason, CmFrame, Kind, Wire};
 use tx_queue::TxQueue;
 
 /// The receiver of a connection: it awaits the packets that it granted, or is on hold and has granted none. It must be spent.
@@ -128,27 +127,27 @@ impl Receiver {
     #[inline(always)]
     pub fn take(
         &mut self,
-        heard: &Heard<'_>,
+        wire: &Wire<'_>,
         room: bool,
         flow: Flow,
         now: u64,
         queue: &mut TxQueue,
     ) -> Left
         requires { length queue.old < queue_limit }
-        ensures { Leads self.old (meant heard.now) room flow now result self.new queue.old queue.new }
+        ensures { Leads self.old wire.now room flow now result self.new queue.old queue.new }
     {
-        match heard {
-            Heard::Packet {
+        match wire {
+            Wire::Packet {
                 kind,
                 sequence,
                 bytes,
             } => {
-                if self.accept(*kind, *sequence, bytes, now) {
+                if self.accept(*kind, *sequence, bytes.array(), now) {
                     return Left::Nothing;
                 }
-                self.take_other(*kind, *sequence, bytes, room, flow, now, queue)
+                self.take_other(*kind, *sequence, bytes.array(), room, flow, now, queue)
             }
-            Heard::Cm(frame) if !self.take_cm(frame) => Left::Abort(AbortReason::Other),
+            Wire::Cm(frame) if !self.take_cm(frame) => Left::Abort(AbortReason::Other),
             _ => Left::Nothing,
         }
     }
@@ -386,7 +385,7 @@ impl Receiver {
     }
 
     /// Whether a step with this frame would complete the message.
-    pub fn completes(&self, wire: &Wire) -> bool
+    pub fn completes(&self, wire: &Wire<'_>) -> bool
         ensures { result ≡ completes_at self.now wire.now }
     {
         let Stage::Awaiting { granted: _, until } = self.stage else {

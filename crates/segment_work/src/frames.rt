@@ -33,7 +33,7 @@ fn cm_work(segment: &Segment, frame: &CmFrame) -> u64
 }
 
 // What a frame costs at a station that looks at it.
-fn wire_work(segment: &Segment, wire: &Wire, to: Address) -> u64
+fn wire_work(segment: &Segment, wire: &Wire<'_>, to: Address) -> u64
     ensures { result ≡ up_to_last (wire_work (turn_terms segment.now) wire.now to.0) }
 {
     match wire {

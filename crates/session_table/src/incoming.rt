@@ -1,7 +1,6 @@
 //! The state of an incoming session, whatever its kind.
 ghost use Rattle.std.specs.Prelude.{◌≡◌, ◌<◌, length};
 ghost use Rattle.tick_timers.specs.Timers.{is_due as is_due_at};
-ghost use Rattle.tp_wire.specs.Heard.{meant};
 ghost use Rattle.tx_queue.specs.Queue.{queue_limit};
 ghost use Rattle.session_table.specs.Incoming.{kind_of, pgn_of, timer_of, ending_frame};
 ghost use Rattle.session_table.specs.Leading.{BroadcastLeads, by_frame, by_timer};
@@ -15,7 +14,7 @@ pub use image::IncomingImage;
 use pgn_ids::WirePgn;
 use responder::{Flow, Left, Receiver};
 use tick_timers::Timer;
-use tp_wire::{AbortReason, Heard};
+use tp_wire::{AbortReason, Wire};
 use tx_queue::TxQueue;
 
 /// The state of an incoming session, whatever its kind. It must be spent.
@@ -74,18 +73,18 @@ impl Incoming {
     #[inline(always)]
     pub fn take(
         &mut self,
-        heard: &Heard<'_>,
+        wire: &Wire<'_>,
         room: bool,
         flow: Flow,
         now: u64,
         queue: &mut TxQueue,
     ) -> Left
         requires { length queue.old < queue_limit }
-        ensures { by_frame (meant heard.now) room flow now self.old result self.new queue.old queue.new }
+        ensures { by_frame wire.now room flow now self.old result self.new queue.old queue.new }
     {
         match self {
-            Incoming::Broadcast(state) => take_broadcast(state, heard, now),
-            Incoming::Connection(state) => state.take(heard, room, flow, now, queue),
+            Incoming::Broadcast(state) => take_broadcast(state, wire, now),
+            Incoming::Connection(state) => state.take(wire, room, flow, now, queue),
         }
     }
 
@@ -127,10 +126,10 @@ impl Incoming {
 
 // A broadcast takes a frame of its source: one whose packets are out of order is to be ended.
 #[inline(always)]
-fn take_broadcast(state: &mut BamIn, heard: &Heard<'_>, now: u64) -> Left
-    ensures { BroadcastLeads state.old (meant heard.now) now result state.new }
+fn take_broadcast(state: &mut BamIn, wire: &Wire<'_>, now: u64) -> Left
+    ensures { BroadcastLeads state.old wire.now now result state.new }
 {
-    match state.take(heard, now) {
+    match state.take(wire, now) {
         BamLeft::Nothing => Left::Nothing,
         BamLeft::Message => Left::Message,
         BamLeft::Dropped => Left::Abort(AbortReason::Other),

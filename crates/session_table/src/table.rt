@@ -10,7 +10,6 @@ ghost use Rattle.session_table.specs.Key.{key_eq};
 ghost use Rattle.session_table.specs.Sessions.{IsHeld, state_at};
 ghost use Rattle.session_table.specs.DueOrder.{IsLeastPicked, first_above, first_due, is_above_low, is_due_now};
 ghost use Rattle.session_table.specs.Leading.{LeadsAt, by_frame, by_timer};
-ghost use Rattle.tp_wire.specs.Heard.{meant};
 ghost use Rattle.tx_queue.specs.Queue.{queue_limit};
 ghost use Rattle.session_table.specs.Refusal.{refusal};
 
@@ -30,7 +29,7 @@ use slab::Slab;
 use std::alloc::{AllocError, Global};
 use std::marker::Model;
 use std::mem;
-use tp_wire::Heard;
+use tp_wire::Wire;
 use tx_queue::TxQueue;
 
 /// Why a session was not opened, with what was handed in. Its state must be spent.
@@ -136,14 +135,14 @@ impl<T> SessionTable<T> {
     pub fn take(
         &mut self,
         key: Key,
-        heard: &Heard<'_>,
+        wire: &Wire<'_>,
         room: bool,
         flow: Flow,
         now: u64,
         queue: &mut TxQueue,
     ) -> Left
         requires { length queue.old < queue_limit }
-        ensures { LeadsAt (by_frame (meant heard.now) room flow now) (state_at self.old key) result self.old key self.new queue.old queue.new }
+        ensures { LeadsAt (by_frame wire.now room flow now) (state_at self.old key) result self.old key self.new queue.old queue.new }
     {
         let Some(at) = find(&self.index, key) else {
             return Left::Nothing;
@@ -154,7 +153,7 @@ impl<T> SessionTable<T> {
         let Slot::Full(_bound, state) = &mut found.slot else {
             return Left::Nothing;
         };
-        state.take(heard, room, flow, now, queue)
+        state.take(wire, room, flow, now, queue)
     }
 
     /// The timer of the state of a key fires at tick `now` (SAE J1939-21, timers T1, T2 and Th): a connection on hold asks again or

@@ -3,7 +3,6 @@ ghost use Rattle.std.specs.Prelude.{◌≡◌, ◌<◌, ◌+◌, ◌++◌, [], t
 ghost use Rattle.std.specs.Bool.{OnTrue, OnFalse};
 ghost use Rattle.std.specs.Result.{result_err};
 ghost use Rattle.pgn_ids.specs.Address.{is_one};
-ghost use Rattle.tp_wire.specs.Heard.{meant};
 ghost use Rattle.tp_wire.specs.Rows.{comes_from};
 ghost use Rattle.tp_wire.specs.declared.wire.Wire.TheVariants.{Cm};
 ghost use Rattle.tx_queue.specs.Queue.{queue_limit};
@@ -22,7 +21,7 @@ use port_table::PortSet;
 use session_table::{Key, SessionKind};
 use station_lanes::outcome;
 use std::alloc::AllocError;
-use tp_wire::{CmFrame, Heard, Kind, Wire, is_transport, read, read_in_place, write};
+use tp_wire::{CmFrame, Kind, PacketBytes, Wire, is_transport, read, read_in_place, write};
 
 /// The control byte of the Acknowledgement that a station sends: negative, since it has no message to send for the PGN (SAE J1939-21).
 const NEGATIVE: u8 = 1;
@@ -40,34 +39,6 @@ fn packet_kind(kind: Kind, to: Address) -> SessionKind
             }
         }
         Kind::Etp => SessionKind::Etp,
-    }
-}
-
-// What a frame means, with a packet's bytes copied.
-fn wire_of(heard: &Heard<'_>) -> Wire
-    ensures { result ≡ meant heard.now }
-{
-    match heard {
-        Heard::Cm(frame) => Wire::Cm(*frame),
-        Heard::Packet {
-            kind,
-            sequence,
-            bytes,
-        } => Wire::Packet {
-            kind: *kind,
-            sequence: *sequence,
-            bytes: **bytes,
-        },
-        Heard::Request { pgn } => Wire::Request { pgn: *pgn },
-        Heard::Ack {
-            control,
-            address,
-            pgn,
-        } => Wire::Ack {
-            control: *control,
-            address: *address,
-            pgn: *pgn,
-        },
     }
 }
 
@@ -112,7 +83,7 @@ impl Station {
     }
 
     /// `wants`, for a frame with this meaning.
-    fn wants_wire(&self, wire: &Wire, from: Address, to: Address) -> (PortSet, u32)
+    fn wants_wire(&self, wire: &Wire<'_>, from: Address, to: Address) -> (PortSet, u32)
         ensures { result ≡ wire_wanted self.now wire.now from to }
     {
         match wire {
@@ -186,10 +157,10 @@ impl Station {
         if !self.is_meant(&meaning) {
             return Ok(false);
         }
-        let Some((heard, from, to)) = read_in_place(frame, &meaning) else {
+        let Some((wire, from, to)) = read_in_place(frame, &meaning) else {
             return Ok(is_transport(frame));
         };
-        self.hear_telling(&heard, from, to, room, now, told)?;
+        self.hear_telling(&wire, from, to, room, now, told)?;
         Ok(false)
     }
 
@@ -221,10 +192,10 @@ impl Station {
         if !self.is_meant(&meaning) {
             return Ok(Some(false));
         }
-        let Some((heard, from, to)) = read_in_place(frame, &meaning) else {
+        let Some((wire, from, to)) = read_in_place(frame, &meaning) else {
             return Ok(Some(is_transport(frame)));
         };
-        if self.hear_part(&heard, from, to, now, told)? {
+        if self.hear_part(&wire, from, to, now, told)? {
             return Ok(None);
         }
         Ok(Some(false))
@@ -234,33 +205,33 @@ impl Station {
     #[inline(always)]
     fn hear_part(
         &mut self,
-        heard: &Heard<'_>,
+        wire: &Wire<'_>,
         from: Address,
         to: Address,
         now: u64,
         told: &mut Events,
     ) -> Result<bool, AllocError>
         requires place { taking_refusal self.old ≡ None }
-        requires source { comes_from (meant heard.now) from.0 ≡ true }
+        requires source { comes_from wire.now from.0 ≡ true }
         requires before { told.old ≡ [] }
-        ensures ok { IfOk result (λ is_whole. OnFalse is_whole (wire_taken self.old (meant heard.now) from to true now ≡ record { station = self.new; events = told.new })) }
-        ensures none { IfOk result (λ is_whole. OnFalse is_whole (wire_wanted self.old (meant heard.now) from to ≡ ([], 0))) }
+        ensures ok { IfOk result (λ is_whole. OnFalse is_whole (wire_taken self.old wire.now from to true now ≡ record { station = self.new; events = told.new })) }
+        ensures none { IfOk result (λ is_whole. OnFalse is_whole (wire_wanted self.old wire.now from to ≡ ([], 0))) }
         ensures whole { IfOk result (λ is_whole. OnTrue is_whole (self.new ≡ self.old)) }
         ensures untold { IfOk result (λ is_whole. OnTrue is_whole (told.new ≡ [])) }
         ensures err { OnErr result (self.new ≡ self.old) }
         ensures silent { OnErr result (told.new ≡ []) }
-        ensures memory { OnErr result (WireMayLackMemory self.old (meant heard.now) from to true) }
+        ensures memory { OnErr result (WireMayLackMemory self.old wire.now from to true) }
     {
-        match heard {
-            Heard::Packet {
+        match wire {
+            Wire::Packet {
                 kind,
                 sequence,
                 bytes,
             } => {
-                let packet = Heard::Packet {
+                let packet = Wire::Packet {
                     kind: *kind,
                     sequence: *sequence,
-                    bytes,
+                    bytes: PacketBytes::new(bytes.array()),
                 };
                 let key = Key {
                     source: from,
@@ -270,7 +241,7 @@ impl Station {
                     .receive(&self.ports, key, &packet, true, now, &mut self.queue)
             }
             _ => {
-                self.hear_telling(heard, from, to, true, now, told)?;
+                self.hear_telling(wire, from, to, true, now, told)?;
                 Ok(false)
             }
         }
@@ -281,7 +252,7 @@ impl Station {
     #[inline(always)]
     pub fn hear_telling(
         &mut self,
-        heard: &Heard<'_>,
+        wire: &Wire<'_>,
         from: Address,
         to: Address,
         room: bool,
@@ -289,26 +260,26 @@ impl Station {
         told: &mut Events,
     ) -> Result<(), AllocError>
         requires place { taking_refusal self.old ≡ None }
-        requires source { comes_from (meant heard.now) from.0 ≡ true }
+        requires source { comes_from wire.now from.0 ≡ true }
         requires before { told.old ≡ [] }
-        ensures ok { OnOk result (wire_taken self.old (meant heard.now) from to room now ≡ record { station = self.new; events = told.new }) }
+        ensures ok { OnOk result (wire_taken self.old wire.now from to room now ≡ record { station = self.new; events = told.new }) }
         ensures err { OnErr result (self.new ≡ self.old) }
         ensures silent { OnErr result (told.new ≡ []) }
         ensures room { OnErr result (room ≡ true) }
-        ensures memory { OnErr result (WireMayLackMemory self.old (meant heard.now) from to room) }
+        ensures memory { OnErr result (WireMayLackMemory self.old wire.now from to room) }
     {
-        match heard {
-            Heard::Packet {
+        match wire {
+            Wire::Packet {
                 kind,
                 sequence,
                 bytes,
             } => {
                 // A copy: the compiler keeps the parts of a local value in registers, whereas it would read them through a reference at
                 // each step. The same holds for a management frame.
-                let packet = Heard::Packet {
+                let packet = Wire::Packet {
                     kind: *kind,
                     sequence: *sequence,
-                    bytes,
+                    bytes: PacketBytes::new(bytes.array()),
                 };
                 let key = Key {
                     source: from,
@@ -320,18 +291,17 @@ impl Station {
                 {
                     return Ok(());
                 }
-                self.sessions
-                    .complete(&self.ports, key, bytes, room, &mut self.queue, told)
+                self.sessions.complete(&self.ports, key, bytes.array(), room, &mut self.queue, told)
             }
-            Heard::Cm(frame) => {
+            Wire::Cm(frame) => {
                 let frame = *frame;
                 self.take_cm(&frame, from, room, now, told)
             }
-            Heard::Request { pgn } => {
+            Wire::Request { pgn } => {
                 self.take_request(from, to, *pgn);
                 Ok(())
             }
-            Heard::Ack { address, pgn, .. } => {
+            Wire::Ack { address, pgn, .. } => {
                 self.take_ack(from, to, *address, *pgn);
                 Ok(())
             }
@@ -357,7 +327,7 @@ impl Station {
         ensures room { OnErr result (room ≡ true) }
         ensures memory { OnErr result (CmMayLackMemory self.old frame.now from room) }
     {
-        let heard = Heard::Cm(*frame);
+        let wire = Wire::Cm(*frame);
         match frame {
             CmFrame::Rts { .. } | CmFrame::Bam { .. } | CmFrame::EtpRts { .. } => {
                 self.take_opening(frame, from, room, now)
@@ -369,7 +339,7 @@ impl Station {
                 };
                 let is_whole = self
                     .sessions
-                    .receive(&self.ports, key, &heard, room, now, &mut self.queue)?;
+                    .receive(&self.ports, key, &wire, room, now, &mut self.queue)?;
                 // It isn't a packet.
                 if is_whole {
                     unreachable!()
@@ -380,15 +350,15 @@ impl Station {
             | CmFrame::EndOfMsgAck { .. }
             | CmFrame::EtpCts { .. }
             | CmFrame::EtpEoma { .. } => {
-                self.in_lane(from, &heard, now, told);
+                self.in_lane(from, &wire, now, told);
                 Ok(())
             }
             CmFrame::Abort { pgn, .. } => {
-                self.take_abort(SessionKind::Tp, from, *pgn, &heard, now, told);
+                self.take_abort(SessionKind::Tp, from, *pgn, &wire, now, told);
                 Ok(())
             }
             CmFrame::EtpAbort { pgn, .. } => {
-                self.take_abort(SessionKind::Etp, from, *pgn, &heard, now, told);
+                self.take_abort(SessionKind::Etp, from, *pgn, &wire, now, told);
                 Ok(())
             }
         }
@@ -422,12 +392,12 @@ impl Station {
 
     // The lane to the source makes its step.
     #[inline(always)]
-    fn in_lane(&mut self, from: Address, heard: &Heard<'_>, now: u64, told: &mut Events)
+    fn in_lane(&mut self, from: Address, wire: &Wire<'_>, now: u64, told: &mut Events)
         requires place { length self.old.queue < queue_limit }
         requires before { told.old ≡ [] }
-        ensures { lane_taken self.old from (meant heard.now) now ≡ record { station = self.new; events = told.new } }
+        ensures { lane_taken self.old from wire.now now ≡ record { station = self.new; events = told.new } }
     {
-        let ended = self.lanes.hear(from, heard, now, &mut self.queue);
+        let ended = self.lanes.hear(from, wire, now, &mut self.queue);
         if ended.is_some() {
             told.tell(outcome(self.address, from, ended));
         }
@@ -439,16 +409,16 @@ impl Station {
         kind: SessionKind,
         from: Address,
         pgn: WirePgn,
-        heard: &Heard<'_>,
+        wire: &Wire<'_>,
         now: u64,
         told: &mut Events,
     )
         requires place { length self.old.queue < queue_limit }
         requires before { told.old ≡ [] }
-        ensures { abort_taken self.old from kind pgn (meant heard.now) now ≡ record { station = self.new; events = told.new } }
+        ensures { abort_taken self.old from kind pgn wire.now now ≡ record { station = self.new; events = told.new } }
     {
         self.sessions.abort(Key { source: from, kind }, pgn);
-        self.in_lane(from, heard, now, told);
+        self.in_lane(from, wire, now, told);
     }
 
     /// A Request to the own address is answered.

@@ -12,7 +12,6 @@ ghost use Rattle.lane_core.specs.Lane.{is_full as is_full_lane, longest_to, push
 ghost use Rattle.lane_core.specs.Refused.{IsHandedBack};
 ghost use Rattle.lane_core.specs.Step.{nothing_to_do};
 ghost use Rattle.tx_queue.specs.Queue.{queue_limit};
-ghost use Rattle.tp_wire.specs.Heard.{meant};
 ghost use Rattle.originator.specs.Pump.{most_frames};
 ghost use Rattle.station_lanes.specs.LaneCalls.{stepped_lanes, step_at, lane_to};
 ghost use Rattle.station_lanes.specs.LaneReaders.{refusal_at, pumping_lane, missing_at, is_pending_at, queues_abort_at, is_due_at, due_lane, overrun_lanes, overrun_events, is_waiting_at, count_below, sight_at, HasNoConnection};
@@ -24,7 +23,7 @@ use lane_core::{Ended, Lane, LaneSight, PumpRefused, PushRefused};
 use message_events::{Bytes, Events};
 use pgn_ids::{Address, Pgn, WirePgn};
 use std::alloc::{AllocError, Global};
-use tp_wire::Heard;
+use tp_wire::Wire;
 use tx_queue::TxQueue;
 
 impl Lanes {
@@ -34,19 +33,19 @@ impl Lanes {
     pub fn hear(
         &mut self,
         to: Address,
-        heard: &Heard<'_>,
+        wire: &Wire<'_>,
         now: u64,
         queue: &mut TxQueue,
     ) -> Option<Ended>
         requires { length queue.old < queue_limit }
-        ensures lanes { self.new ≡ stepped_lanes self.old to.0 (λ lane. heard_lane lane (meant heard.now) now) }
-        ensures queued { queue.new ≡ queue.old ++ (step_at self.old to.0 (λ lane. heard_lane lane (meant heard.now) now)).frames }
-        ensures ended { result ≡ (step_at self.old to.0 (λ lane. heard_lane lane (meant heard.now) now)).ended }
+        ensures lanes { self.new ≡ stepped_lanes self.old to.0 (λ lane. heard_lane lane wire.now now) }
+        ensures queued { queue.new ≡ queue.old ++ (step_at self.old to.0 (λ lane. heard_lane lane wire.now now)).frames }
+        ensures ended { result ≡ (step_at self.old to.0 (λ lane. heard_lane lane wire.now now)).ended }
     {
         let Some(lane) = self.slots[usize::from(to.0)].get_mut() else {
             return None;
         };
-        let ended = lane.hear(heard, now, queue);
+        let ended = lane.hear(wire, now, queue);
         mark_after(
             ended.is_some(),
             lane,

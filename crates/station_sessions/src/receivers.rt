@@ -8,7 +8,6 @@ ghost use Rattle.session_table.specs.Sessions.{state_at};
 ghost use Rattle.session_table.specs.DueOrder.{first_due};
 ghost use Rattle.session_table.specs.declared.TheConstants.{MAX_SESSIONS};
 ghost use Rattle.station_sessions.specs.Steps.{completes as completes_at, size_of};
-ghost use Rattle.tp_wire.specs.Heard.{meant};
 ghost use Rattle.tp_wire.specs.declared.wire.Kind.{Kind};
 ghost use Rattle.tp_wire.specs.declared.wire.Wire.TheVariants.{Packet};
 ghost use Rattle.tx_queue.specs.Queue.{queue_limit};
@@ -33,7 +32,7 @@ use responder::{Flow, Left};
 use session_table::{Incoming, Key, OpenRefused, SessionTable};
 use std::alloc::{AllocError, Global};
 use std::marker::Model;
-use tp_wire::{AbortReason, Heard, Wire};
+use tp_wire::{AbortReason, Wire};
 use tx_queue::TxQueue;
 
 pub(crate) type Table = SessionTable<PortSet>;
@@ -194,7 +193,7 @@ impl Receivers {
 
     /// The ports that the session of a key would give to at the step with this frame, and the size of the message in bytes; no port
     /// and 0 if it would give nothing.
-    pub fn wants(&self, key: Key, wire: &Wire) -> (PortSet, u32)
+    pub fn wants(&self, key: Key, wire: &Wire<'_>) -> (PortSet, u32)
         ensures { result ≡ wanted_by (state_at self.now key) wire.now }
     {
         match self.table.get(key) {
@@ -218,24 +217,24 @@ impl Receivers {
         &mut self,
         ports: &PortTable,
         key: Key,
-        heard: &Heard<'_>,
+        wire: &Wire<'_>,
         room: bool,
         now: u64,
         queue: &mut TxQueue,
     ) -> Result<bool, AllocError>
         requires place { length queue.old < queue_limit }
-        ensures value { IfOk result (λ is_whole. is_whole ≡ completes_by (state_at self.old key) (meant heard.now)) }
-        ensures part { IfOk result (λ is_whole. OnFalse is_whole (Leaves (received ports.now key (meant heard.now) room now self.old) self.new queue.old queue.new [])) }
+        ensures value { IfOk result (λ is_whole. is_whole ≡ completes_by (state_at self.old key) wire.now) }
+        ensures part { IfOk result (λ is_whole. OnFalse is_whole (Leaves (received ports.now key wire.now room now self.old) self.new queue.old queue.new [])) }
         ensures whole { IfOk result (λ is_whole. OnTrue is_whole (self.new ≡ self.old)) }
         ensures waits { IfOk result (λ is_whole. OnTrue is_whole (queue.new ≡ queue.old)) }
         ensures last { IfOk result (λ is_whole. OnTrue is_whole (IsLastAt (state_at self.old key))) }
         ensures err { OnErr result (self.new ≡ self.old) }
         ensures kept { OnErr result (queue.new ≡ queue.old) }
         ensures room { OnErr result (room ≡ true) }
-        ensures memory { OnErr result (wants_memory ports.now key (meant heard.now) room self.old ≡ true) }
+        ensures memory { OnErr result (wants_memory ports.now key wire.now room self.old ≡ true) }
     {
         let flow = self.flow_of(ports, key);
-        match self.table.take(key, heard, room, flow, now, queue) {
+        match self.table.take(key, wire, room, flow, now, queue) {
             Left::Nothing => Ok(false),
             Left::Message => Ok(true),
             Left::Abort(reason) => {
@@ -378,7 +377,7 @@ impl Receivers {
 }
 
 // Whether the step with this frame completes the message of a session.
-fn completes(state: &Incoming, wire: &Wire) -> bool
+fn completes(state: &Incoming, wire: &Wire<'_>) -> bool
     ensures { result ≡ completes_at state.now wire.now }
 {
     match state {

@@ -6,4 +6,3 @@ pub mod Reading
 pub mod Sizes
 pub mod Aborts
 pub mod Kinds
-pub mod Heard

@@ -1,5 +1,6 @@
 //! What a frame means (SAE J1939-21; ISO 11783-3).
-ghost use Rattle.std.specs.Prelude.{◌≡◌, ◌<◌, ◌^◌, ◌↔◌, Some, IfSome};
+ghost use Rattle.std.specs.Prelude.{◌≡◌, ◌<◌, ◌^◌, ◌↔◌, true, Some, IfSome};
+ghost use Rattle.pgn_ids.specs.Identifier.{meaning_of};
 ghost use Rattle.pgn_ids.specs.declared.address.Address.{Address};
 ghost use Rattle.tp_wire.specs.Rows.{goes_to, comes_from, IsRow, Reads};
 ghost use Rattle.tp_wire.specs.Reading.{number_2, number_3, number_4, field_of, tp_cm_of, etp_cm_of, packet_of, request_of, ack_of, body_of, between, reading, is_transport};
@@ -9,9 +10,10 @@ use crate::constants::{
     ACKNOWLEDGEMENT, CONN_ABORT, ETP_CM, ETP_CTS, ETP_DPO, ETP_DT, ETP_EOMA, ETP_RTS, REQUEST,
     TP_BAM, TP_CM, TP_CTS, TP_DT, TP_END_OF_MSG_ACK, TP_RTS,
 };
+use crate::packet::PacketBytes;
 use crate::wire::{CmFrame, Kind, Wire};
 use bus_frame::Frame;
-use pgn_ids::{Address, Pgn, WirePgn, read_id};
+use pgn_ids::{Address, IdMeaning, WirePgn, read_id};
 
 // The number in two bytes, the least first.
 #[inline]
@@ -48,7 +50,7 @@ fn field(p: u8, q: u8, r: u8) -> Option<WirePgn>
 
 // What a frame of TP.CM means.
 #[tactic(auto, unfolding(crate::specs::Reading::tp_cm_of))]
-fn read_tp_cm(bytes: &[u8]) -> Option<Wire>
+fn read_tp_cm(bytes: &[u8]) -> Option<Wire<'_>>
     ensures { result ≡ tp_cm_of bytes.now }
 {
     let [control, b, c, d, e, p, q, r] = bytes else {
@@ -84,7 +86,7 @@ fn read_tp_cm(bytes: &[u8]) -> Option<Wire>
 
 // What a frame of ETP.CM means.
 #[tactic(auto, unfolding(crate::specs::Reading::etp_cm_of))]
-fn read_etp_cm(bytes: &[u8]) -> Option<Wire>
+fn read_etp_cm(bytes: &[u8]) -> Option<Wire<'_>>
     ensures { result ≡ etp_cm_of bytes.now }
 {
     let [control, b, c, d, e, p, q, r] = bytes else {
@@ -118,25 +120,26 @@ fn read_etp_cm(bytes: &[u8]) -> Option<Wire>
 // What a frame of TP.DT or ETP.DT means.
 #[inline(always)]
 #[tactic(auto, unfolding(crate::specs::Reading::packet_of))]
-fn read_packet(kind: Kind, bytes: &[u8]) -> Option<Wire>
+fn read_packet(kind: Kind, bytes: &[u8]) -> Option<Wire<'_>>
     ensures { result ≡ packet_of kind bytes.now }
 {
-    let [sequence, b, c, d, e, p, q, r] = bytes else {
+    let [sequence, _, _, _, _, _, _, _] = bytes else {
         return None;
     };
     if *sequence == 0 {
         return None;
     }
+    let seven = bytes[1..].first_chunk::<7>()?;
     Some(Wire::Packet {
         kind,
         sequence: *sequence,
-        bytes: [*b, *c, *d, *e, *p, *q, *r],
+        bytes: PacketBytes::new(seven),
     })
 }
 
 // What a Request means.
 #[tactic(auto, unfolding(crate::specs::Reading::request_of))]
-fn read_request(bytes: &[u8]) -> Option<Wire>
+fn read_request(bytes: &[u8]) -> Option<Wire<'_>>
     ensures { result ≡ request_of bytes.now }
 {
     let [p, q, r, ..] = bytes else {
@@ -148,7 +151,7 @@ fn read_request(bytes: &[u8]) -> Option<Wire>
 
 // What an Acknowledgement means.
 #[tactic(auto, unfolding(crate::specs::Reading::ack_of))]
-fn read_ack(bytes: &[u8]) -> Option<Wire>
+fn read_ack(bytes: &[u8]) -> Option<Wire<'_>>
     ensures { result ≡ ack_of bytes.now }
 {
     let [control, _, _, _, address, p, q, r] = bytes else {
@@ -162,26 +165,9 @@ fn read_ack(bytes: &[u8]) -> Option<Wire>
     })
 }
 
-// What bytes under a PGN mean.
-#[inline(always)]
-#[tactic(auto, unfolding(crate::specs::Reading::body_of))]
-fn read_body(pgn: Pgn, bytes: &[u8]) -> Option<Wire>
-    ensures { result ≡ body_of pgn bytes.now }
-{
-    match pgn.raw() {
-        TP_CM => read_tp_cm(bytes),
-        TP_DT => read_packet(Kind::Tp, bytes),
-        ETP_CM => read_etp_cm(bytes),
-        ETP_DT => read_packet(Kind::Etp, bytes),
-        REQUEST => read_request(bytes),
-        ACKNOWLEDGEMENT => read_ack(bytes),
-        _ => None,
-    }
-}
-
 // Whether the table has it to this destination.
 #[inline]
-fn goes_to(wire: &Wire, to: Address) -> bool
+fn goes_to(wire: &Wire<'_>, to: Address) -> bool
     ensures { result ≡ goes_to wire.now to.0 }
 {
     match wire {
@@ -199,7 +185,7 @@ fn goes_to(wire: &Wire, to: Address) -> bool
 
 // Whether the table has it from this source.
 #[inline]
-fn comes_from(wire: &Wire, from: Address) -> bool
+fn comes_from(wire: &Wire<'_>, from: Address) -> bool
     ensures { result ≡ comes_from wire.now from.0 }
 {
     match wire {
@@ -210,8 +196,13 @@ fn comes_from(wire: &Wire, from: Address) -> bool
 
 // The meaning from one address to another, if the table allows it between them.
 #[inline(always)]
-fn between(from: Address, to: Address, body: Option<Wire>) -> Option<(Wire, Address, Address)>
-    ensures { result ≡ between from to body }
+fn between<'f>(
+    from: Address,
+    to: Address,
+    body: Option<Wire<'f>>,
+) -> Option<(Wire<'f>, Address, Address)>
+    ensures meaning { result ≡ between from to body.entry }
+    ensures source { IfSome result (λ r. comes_from r.0 r.1.0 ≡ true) }
 {
     let wire = body?;
     if goes_to(&wire, to) && comes_from(&wire, from) {
@@ -221,30 +212,28 @@ fn between(from: Address, to: Address, body: Option<Wire>) -> Option<(Wire, Addr
     }
 }
 
-// The meaning of a frame, with its source and destination. Nearly all frames are data packets: each kind of them has an
-// arm of its own, so that its addresses are tested without a second match on the row.
+/// `read` of a frame whose identifier is read already.
+// Nearly all frames are data packets: each kind of them has an arm of its own, so that its addresses are tested without a
+// second match on the row.
 #[inline(always)]
 #[tactic(auto, unfolding(crate::specs::Reading::reading, crate::specs::Reading::body_of))]
-fn read_row(frame: &Frame) -> Option<(Wire, Address, Address)>
-    ensures { result ≡ reading frame.now }
+pub fn read_in_place<'f>(
+    frame: &'f Frame,
+    meaning: &IdMeaning,
+) -> Option<(Wire<'f>, Address, Address)>
+    requires { meaning.now ≡ meaning_of frame.now.id }
+    ensures meaning { result ≡ reading frame.now }
+    ensures source { IfSome result (λ r. comes_from r.0 r.1.0 ≡ true) }
 {
-    let meaning = read_id(frame.id());
+    let (from, to, bytes) = (meaning.from, meaning.to, frame.bytes());
     match meaning.pgn.raw() {
-        TP_DT => between(
-            meaning.from,
-            meaning.to,
-            read_packet(Kind::Tp, frame.bytes()),
-        ),
-        ETP_DT => between(
-            meaning.from,
-            meaning.to,
-            read_packet(Kind::Etp, frame.bytes()),
-        ),
-        _ => between(
-            meaning.from,
-            meaning.to,
-            read_body(meaning.pgn, frame.bytes()),
-        ),
+        TP_DT => between(from, to, read_packet(Kind::Tp, bytes)),
+        ETP_DT => between(from, to, read_packet(Kind::Etp, bytes)),
+        TP_CM => between(from, to, read_tp_cm(bytes)),
+        ETP_CM => between(from, to, read_etp_cm(bytes)),
+        REQUEST => between(from, to, read_request(bytes)),
+        ACKNOWLEDGEMENT => between(from, to, read_ack(bytes)),
+        _ => None,
     }
 }
 
@@ -255,13 +244,13 @@ fn read_row(frame: &Frame) -> Option<(Wire, Address, Address)>
 /// table's, sequence number 0, or a PGN field above 18 bits. A Request has 3 to 8 bytes, and the first three are read;
 /// all others have 8.
 #[inline(always)]
-pub fn read(frame: &Frame) -> Option<(Wire, Address, Address)>
+pub fn read(frame: &Frame) -> Option<(Wire<'_>, Address, Address)>
     ensures meaning { result ≡ reading frame.now }
     ensures exact { (wire : Wire) (from to : Address) → (result ≡ Some (wire, from, to)) ↔ Reads frame.now wire from.0 to.0 }
     ensures in_table { IfSome result (λ r. IsRow r.0 r.1.0 r.2.0) }
 {
     let _in_range = frame.bytes();
-    read_row(frame)
+    read_in_place(frame, &read_id(frame.id()))
 }
 
 /// Whether the PGN of a frame, its data pages included, is one of the frame table's six: those of TP.CM, TP.DT, ETP.CM,

@@ -4,6 +4,7 @@ ghost use Rattle.tp_wire.specs.Aborts.{connection_abort};
 ghost use Rattle.tp_wire.specs.Reason.{reason_byte};
 ghost use Rattle.tp_wire.specs.Rows.{cm_kind, cm_pgn, kind_of, pgn_of};
 
+use crate::packet::PacketBytes;
 use crate::reason::AbortReason;
 use pgn_ids::{Address, WirePgn};
 
@@ -78,16 +79,16 @@ pub enum CmFrame {
     },
 }
 
-/// What a frame of one of the six PGNs means.
-#[derive(Clone, Copy, Debug, PartialEq, Eq)]
-pub enum Wire {
+/// What a frame of one of the six PGNs means. The bytes of a packet stay in the frame.
+#[derive(Debug, Drop, PartialEq, Eq)]
+pub enum Wire<'f> {
     /// A connection management frame.
     Cm(CmFrame),
     /// TP.DT or ETP.DT: seven bytes with a sequence number from 1.
     Packet {
         kind: Kind,
         sequence: u8,
-        bytes: [u8; 7],
+        bytes: PacketBytes<'f>,
     },
     /// A Request.
     Request {
@@ -153,7 +154,7 @@ impl CmFrame {
     }
 }
 
-impl Wire {
+impl Wire<'_> {
     /// The transport that it belongs to: none of a Request or an Acknowledgement.
     #[inline]
     pub fn kind(&self) -> Option<Kind>

@@ -11,6 +11,7 @@ use crate::constants::{
     REQUEST_PRIORITY, RESERVED, TP_BAM, TP_CM, TP_CTS, TP_DT, TP_END_OF_MSG_ACK, TP_RTS,
     TRANSPORT_PRIORITY,
 };
+use crate::packet::PacketBytes;
 use crate::wire::{CmFrame, Kind, Wire};
 use bus_frame::{CanId, Frame, IdParts};
 use pgn_ids::{Address, WirePgn};
@@ -156,16 +157,22 @@ fn write_cm(frame: CmFrame, from: Address, to: Address) -> Frame
 // The frame of a data row.
 #[inline(always)]
 #[tactic(auto, unfolding(crate::specs::Rows::written))]
-fn write_packet(kind: Kind, sequence: u8, bytes: [u8; 7], from: Address, to: Address) -> Frame
-    ensures value { result ≡ written (Packet kind sequence bytes) from.0 to.0 }
-    ensures widths { HasWidths (Packet kind sequence bytes) }
+fn write_packet(
+    kind: Kind,
+    sequence: u8,
+    bytes: PacketBytes<'_>,
+    from: Address,
+    to: Address,
+) -> Frame
+    ensures value { result ≡ written (Packet kind sequence bytes.entry) from.0 to.0 }
+    ensures widths { HasWidths (Packet kind sequence bytes.entry) }
 {
     let pgn = match kind {
         Kind::Tp => TP_DT,
         Kind::Etp => ETP_DT,
     };
     let mut data = [sequence; 8];
-    data[1..].copy_from_slice(&bytes);
+    data[1..].copy_from_slice(bytes.array());
     Frame::full(pdu1_id(TRANSPORT_PRIORITY, pgn, from, to), data)
 }
 
@@ -204,12 +211,12 @@ fn write_ack(control: u8, address: Address, pgn: WirePgn, from: Address, to: Add
 /// one node for the others (SAE J1939-21, TP.CM and TP.DT; ISO 11783-3, ETP.CM and ETP.DT).
 // Inlined, so that a caller that names the row runs this row alone.
 #[inline(always)]
-pub fn write(wire: Wire, from: Address, to: Address) -> Frame
+pub fn write(wire: Wire<'_>, from: Address, to: Address) -> Frame
     requires numbers { HasNumbers wire }
     requires source { comes_from wire from.0 ≡ true }
     requires destination { goes_to wire to.0 ≡ true }
-    ensures value { result ≡ written wire from.0 to.0 }
-    ensures row { Writes wire from.0 to.0 result }
+    ensures value { result ≡ written wire.entry from.0 to.0 }
+    ensures row { Writes wire.entry from.0 to.0 result }
 {
     match wire {
         Wire::Cm(frame) => write_cm(frame, from, to),
