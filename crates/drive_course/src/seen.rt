@@ -51,7 +51,7 @@ impl<'a> Seen<'a> {
         }
         match &self.heard {
             Some((wire, from, to)) => station
-                .hear_telling(wire, *from, *to, true, now, told)
+                .hear(wire, *from, *to, true, now, told)
                 .is_ok(),
             None => !is_transport(self.frame),
         }

@@ -77,7 +77,7 @@ impl SegmentState {
             return Ok(false);
         }
         let now = self.clock.now();
-        let is_malformed = match self.stations[0].take_telling(frame, true, now, told) {
+        let is_malformed = match self.stations[0].take(frame, true, now, told) {
             Ok(is_malformed) => is_malformed,
             Err(Refused::OutOfMemory) => return Err(AllocError),
             Err(_) => return Ok(false),

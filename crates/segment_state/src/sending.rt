@@ -64,7 +64,7 @@ impl SegmentState {
             return Err(Stop::Refused(Refusal::NoSuchStation));
         };
         let now = self.clock.now();
-        match self.stations[place].pump_telling(to, now, told) {
+        match self.stations[place].pump(to, now, told) {
             Ok(()) => {
                 self.count_told(told);
                 Ok(())

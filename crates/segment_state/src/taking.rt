@@ -53,7 +53,7 @@ impl SegmentState {
             return Err(Stop::Refused(Refusal::NothingToTake));
         };
         let now = self.clock.now();
-        let is_malformed = match self.stations[at].take_telling(frame, room, now, told) {
+        let is_malformed = match self.stations[at].take(frame, room, now, told) {
             Ok(is_malformed) => is_malformed,
             Err(cause) => return Err(stop_of(cause)),
         };
@@ -112,7 +112,7 @@ impl SegmentState {
             return Err(Stop::Refused(Refusal::NothingToRepeat));
         };
         let now = self.clock.now();
-        let is_malformed = match self.stations[place].take_telling(&frame, room, now, told) {
+        let is_malformed = match self.stations[place].take(&frame, room, now, told) {
             Ok(is_malformed) => is_malformed,
             Err(cause) => return Err(stop_of(cause)),
         };

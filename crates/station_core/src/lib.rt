@@ -16,5 +16,5 @@ mod timers;
 pub use image::StationImage;
 pub use message_events::{Event, Events, EventsIntoIter, EventsIter};
 pub use refused::{Refused, SendingRefused};
+pub use sending::MOST_PUMPED;
 pub use station::Station;
-pub use taking::Taken;

@@ -18,8 +18,8 @@ use pgn_ids::{Address, Pgn};
 use station_lanes::outcome;
 use tp_wire::constants::MIN_SIZE;
 
-/// How many frames a pump queues at most.
-pub(crate) const MOST_PUMPED: usize = 8;
+/// How many frames a pump queues at most: so many free places of the queue it asks for.
+pub const MOST_PUMPED: usize = 8;
 
 // Why a message of so many bytes isn't one from a station to a destination: the first cause that holds.
 fn message_refusal(from: Address, to: Address, len: usize) -> Option<Refused>
@@ -132,25 +132,14 @@ impl Station {
         self.lanes.missing(to, now)
     }
 
-    /// Queues the next frames to a destination at tick `now`: at most eight. It takes no memory.
+    /// Queues the next frames to a destination at tick `now`: at most eight. Its event, the outcome of a broadcast whose last packet is
+    /// queued, is put into a place that the caller keeps, and that has no event yet. It takes no memory.
     ///
     /// Refused for the first of these causes that holds: `NoSuchStation` if the destination is 254; `NothingToSend` if no message
     /// is pending or it awaits a frame; `NotYet` if it is too soon for the next frame of a broadcast; and `TxFull` if fewer than
     /// eight places of the queue are free. A refusal changes nothing.
-    pub fn pump(&mut self, to: Address, now: u64) -> Result<Events, Refused>
-        ensures ok { IfOk result (λ events. pumped self.old to now ≡ record { station = self.new; events = events }) }
-        ensures refused { result_err result ≡ pumping_refusal self.old to now }
-        ensures err { OnErr result (self.new ≡ self.old) }
-    {
-        let mut events = Events::none(self.alloc);
-        self.pump_telling(to, now, &mut events)?;
-        Ok(events)
-    }
-
-    /// `pump`, which puts its event, the outcome of a broadcast whose last packet is queued, into a place that the caller keeps,
-    /// and that has no event yet.
     #[inline(always)]
-    pub fn pump_telling(&mut self, to: Address, now: u64, told: &mut Events) -> Result<(), Refused>
+    pub fn pump(&mut self, to: Address, now: u64, told: &mut Events) -> Result<(), Refused>
         requires { told.old ≡ [] }
         ensures ok { OnOk result (pumped self.old to now ≡ record { station = self.new; events = told.new }) }
         ensures refused { result_err result ≡ pumping_refusal self.old to now }

@@ -42,15 +42,6 @@ fn packet_kind(kind: Kind, to: Address) -> SessionKind
     }
 }
 
-/// The result of a station's look at a frame.
-#[derive(Debug, Drop)]
-pub struct Taken {
-    /// Whether it looked at the frame and found it malformed: of one of the frame table's PGNs without being a row of it.
-    pub is_malformed: bool,
-    /// Its events.
-    pub events: Events,
-}
-
 impl Station {
     /// Whether it looks at a frame: the source is another node, and the destination is this one or all.
     pub fn looks_at(&self, frame: &Frame) -> bool
@@ -109,31 +100,16 @@ impl Station {
     }
 
     /// Takes a frame at tick `now`; a frame is taken again by the same call. `room` says whether each port of the set has room for a
-    /// message that the frame completes, and whether there is room to continue with one.
+    /// message that the frame completes, and whether there is room to continue with one. Its events are put into a place that the caller
+    /// keeps, and that has none yet. Returns whether it looked at the frame and found it malformed: of one of the frame table's PGNs
+    /// without being a row of it.
     ///
     /// Refused as `TxFull` exactly if its queue has no free place, and else as `OutOfMemory` if memory is refused. A refusal changes
     /// nothing. It asks for memory only with room, and only for a frame that opens a session, completes a message or grants a window of
     /// ETP.
-    pub fn take(&mut self, frame: &Frame, room: bool, now: u64) -> Result<Taken, Refused>
-        ensures ok { IfOk result (λ step. taken self.old frame.now room now ≡ record { station = self.new; events = step.events }) }
-        ensures malformed { IfOk result (λ step. step.is_malformed ≡ is_malformed_for self.old frame.now) }
-        ensures refused { IsAnswered (taking_refusal self.old) (result_err result) }
-        ensures err { OnErr result (self.new ≡ self.old) }
-        ensures room { taking_refusal self.old ≡ None → OnErr result (room ≡ true) }
-        ensures memory { taking_refusal self.old ≡ None → OnErr result (MayLackMemory self.old frame.now room) }
-    {
-        let mut events = Events::none(self.alloc);
-        let is_malformed = self.take_telling(frame, room, now, &mut events)?;
-        Ok(Taken {
-            is_malformed,
-            events,
-        })
-    }
-
-    /// `take`, which puts its events into a place that the caller keeps, and that has none yet. Returns whether the frame is malformed.
-    /// Events returned by value would be copied at each level.
+    // Events returned by value would be copied at each level.
     #[inline(always)]
-    pub fn take_telling(
+    pub fn take(
         &mut self,
         frame: &Frame,
         room: bool,
@@ -160,11 +136,11 @@ impl Station {
         let Some((wire, from, to)) = read_in_place(frame, &meaning) else {
             return Ok(is_transport(frame));
         };
-        self.hear_telling(&wire, from, to, room, now, told)?;
+        self.hear(&wire, from, to, room, now, told)?;
         Ok(false)
     }
 
-    /// `take_telling` with room, unless the frame completes a message: then this returns None, and nothing has changed yet. So who has to
+    /// `take` with room, unless the frame completes a message: then this returns None, and nothing has changed yet. So who has to
     /// find places for a message first looks at its frame once.
     #[inline(always)]
     pub fn take_part(
@@ -201,7 +177,7 @@ impl Station {
         Ok(Some(false))
     }
 
-    // `hear_telling` with room, unless the frame completes a message: then this returns true, and nothing has changed yet.
+    // `hear` with room, unless the frame completes a message: then this returns true, and nothing has changed yet.
     #[inline(always)]
     fn hear_part(
         &mut self,
@@ -241,16 +217,16 @@ impl Station {
                     .receive(&self.ports, key, &packet, true, now, &mut self.queue)
             }
             _ => {
-                self.hear_telling(wire, from, to, true, now, told)?;
+                self.hear(wire, from, to, true, now, told)?;
                 Ok(false)
             }
         }
     }
 
-    /// `take_telling`, for a frame that the station looks at and that is read already, as one is for many stations. The station's queue
+    /// `take`, for a frame that the station looks at and that is read already, as one is for many stations. The station's queue
     /// has a free place, as `take_refusal` says.
     #[inline(always)]
-    pub fn hear_telling(
+    pub fn hear(
         &mut self,
         wire: &Wire<'_>,
         from: Address,

@@ -2,15 +2,13 @@
 use pgn_ids::Address;
 use port_table::PortSet;
 use segment_core::{Call, Events, Image, Made, Passing, Refusal, Reply, Segment, Tried};
+use station_core::MOST_PUMPED;
 use std::alloc::{AllocError, Global};
 use std::marker::Model;
 use tx_queue::MAX_FRAMES;
 
 /// How many values an address has.
 const ADDRESSES: usize = 256;
-
-/// How many free places of its station's queue a Pump wants.
-const PUMP_PLACES: usize = 8;
 
 /// A segment, which remembers when each of its stations has something to do. Contracts see the segment alone.
 pub struct Watched {
@@ -61,7 +59,7 @@ fn note(calm: &mut Vec<u64>, station: Address, tick: u64)
 fn lacks_places(segment: &Segment, station: Address) -> bool
     ensures { result ≡ lacks_places (station_at segment.now station).queue }
 {
-    MAX_FRAMES - segment.queue_len(station) < PUMP_PLACES
+    MAX_FRAMES - segment.queue_len(station) < MOST_PUMPED
 }
 
 // Forgets what is known of the station that a call names. A frame that leaves its queue may give a Pump its places, and changes nothing else.

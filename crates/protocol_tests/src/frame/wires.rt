@@ -11,44 +11,18 @@ fn frame_of(rt: &impl Abort, id: u32, bytes: &[u8]) -> Frame {
     got(rt, Frame::new(got(rt, CanId::new(id)), bytes))
 }
 
-fn is_heard_as(heard: &Heard<'_>, wire: &Wire) -> bool {
-    let same = match heard {
-        Heard::Cm(frame) => Wire::Cm(*frame),
-        Heard::Packet {
-            kind,
-            sequence,
-            bytes,
-        } => Wire::Packet {
-            kind: *kind,
-            sequence: *sequence,
-            bytes: **bytes,
-        },
-        Heard::Request { pgn } => Wire::Request { pgn: *pgn },
-        Heard::Ack {
-            control,
-            address,
-            pgn,
-        } => Wire::Ack {
-            control: *control,
-            address: *address,
-            pgn: *pgn,
-        },
-    };
-    same == *wire
-}
-
-// Whether it is heard in place from and to these addresses.
-fn is_heard(frame: &Frame, wire: &Wire, from: Address, to: Address) -> bool {
+// Whether it means so from and to these addresses if its identifier is read already.
+fn means_in_place(frame: &Frame, wire: &Wire<'_>, from: Address, to: Address) -> bool {
     match read_in_place(frame, &read_id(frame.id())) {
         None => false,
-        Some((heard, source, destination)) => {
-            is_heard_as(&heard, wire) && source == from && destination == to
+        Some((read_wire, source, destination)) => {
+            read_wire == *wire && source == from && destination == to
         }
     }
 }
 
 // Whether a frame has this meaning, source and destination, and is what is written for them.
-fn means(frame: &Frame, wire: &Wire, from: Address, to: Address) -> bool {
+fn means(frame: &Frame, wire: &Wire<'_>, from: Address, to: Address) -> bool {
     let Some((read_wire, source, destination)) = read(frame) else {
         return false;
     };
@@ -56,7 +30,7 @@ fn means(frame: &Frame, wire: &Wire, from: Address, to: Address) -> bool {
         && source == from
         && destination == to
         && write(read_wire, source, destination) == *frame
-        && is_heard(frame, wire, from, to)
+        && means_in_place(frame, wire, from, to)
 }
 
 // Calls whose result alone a test looks at: their contracts are not carried through it.
@@ -84,7 +58,7 @@ const A_TO_ALL: Ends = (0x21, 0xFF);
 const B_TO_ALL: Ends = (0x35, 0xFF);
 
 // A row of the frame table: a frame of this identifier and these bytes has this meaning, and is what is written for it.
-fn is_row(rt: &impl Abort, id: u32, bytes: [u8; 8], wire: Wire, ends: Ends) {
+fn is_row(rt: &impl Abort, id: u32, bytes: [u8; 8], wire: Wire<'_>, ends: Ends) {
     let frame = frame_of(rt, id, &bytes);
     let (from, to) = ends;
     holds_at(rt, id, is_of_transport(&frame));
@@ -188,7 +162,7 @@ fn rows_of_packets(rt: HostRuntime) {
         Wire::Packet {
             kind: Kind::Tp,
             sequence: 1,
-            bytes: [1, 2, 3, 4, 5, 6, 7],
+            bytes: PacketBytes::new(&[1, 2, 3, 4, 5, 6, 7]),
         },
         A_TO_ALL,
     );
@@ -199,7 +173,7 @@ fn rows_of_packets(rt: HostRuntime) {
         Wire::Packet {
             kind: Kind::Etp,
             sequence: 64,
-            bytes: [0xFA, 0xFF, 0xFF, 0xFF, 0xFF, 0xFF, 0xFF],
+            bytes: PacketBytes::new(&[0xFA, 0xFF, 0xFF, 0xFF, 0xFF, 0xFF, 0xFF]),
         },
         A_TO_B,
     )
@@ -263,7 +237,7 @@ fn the_row_of_an_acknowledgement(rt: HostRuntime) {
 }
 
 // Whether it is read so, whatever is written for it.
-fn is_read_as(frame: &Frame, wire: &Wire, (from, to): Ends) -> bool {
+fn is_read_as(frame: &Frame, wire: &Wire<'_>, (from, to): Ends) -> bool {
     match read(frame) {
         Some((read_wire, source, destination)) => {
             read_wire == *wire && source.0 == from && destination.0 == to
@@ -367,7 +341,7 @@ fn other_traffic_has_no_meaning(rt: HostRuntime) {
     is_foreign(&rt, 0x0CF0_0400)
 }
 
-fn has_fields(rt: &impl Abort, wire: &Wire, kind: Option<Kind>, pgn: Option<WirePgn>) {
+fn has_fields(rt: &impl Abort, wire: &Wire<'_>, kind: Option<Kind>, pgn: Option<WirePgn>) {
     holds(rt, wire.kind() == kind);
     holds(rt, wire.pgn() == pgn);
 }
@@ -390,7 +364,7 @@ fn fields_of_a_meaning(rt: HostRuntime) {
     let packet = Wire::Packet {
         kind: Kind::Tp,
         sequence: 1,
-        bytes: [0xFF; 7],
+        bytes: PacketBytes::new(&[0xFF; 7]),
     };
     has_fields(&rt, &packet, Some(Kind::Tp), None);
     has_fields(&rt, &Wire::Request { pgn }, None, Some(pgn));

@@ -2,7 +2,7 @@ ghost use Rattle.std.specs.Prelude.{◌≡◌};
 ghost use Rattle.bam_session.specs.declared.outgoing.BamPumped.TheVariants as BamPumped;
 
 use crate::checks::{got, holds, same};
-use crate::session::frames::{frame, heard, pgn, shows, wire_pgn};
+use crate::session::frames::{Packet, frame, pgn, shows, wire_pgn};
 use bam_session::*;
 use bus_frame::Frame;
 use pgn_ids::Address;
@@ -10,13 +10,13 @@ use seg_cut::Join;
 use std::alloc::Global;
 use std::process::Abort;
 use tick_timers::T1;
-use tp_wire::{Kind, Wire};
+use tp_wire::Kind;
 
 const SOURCE: Address = Address(0x21);
 
 const M9: [u8; 9] = [1, 2, 3, 4, 5, 6, 7, 8, 9];
 
-const FIRST: Wire = Wire::Packet {
+const FIRST: Packet = Packet {
     kind: Kind::Tp,
     sequence: 1,
     bytes: [1, 2, 3, 4, 5, 6, 7],
@@ -24,14 +24,14 @@ const FIRST: Wire = Wire::Packet {
 
 const LAST_BYTES: [u8; 7] = [8, 9, 0xFF, 0xFF, 0xFF, 0xFF, 0xFF];
 
-const LAST: Wire = Wire::Packet {
+const LAST: Packet = Packet {
     kind: Kind::Tp,
     sequence: 2,
     bytes: LAST_BYTES,
 };
 
 // A packet past the last one.
-const PAST: Wire = Wire::Packet {
+const PAST: Packet = Packet {
     kind: Kind::Tp,
     sequence: 3,
     bytes: [8, 9, 0xFF, 0xFF, 0xFF, 0xFF, 0xFF],
@@ -163,25 +163,28 @@ fn nine_bytes_are_received(rt: HostRuntime) {
     falls_due(&rt, &state, T1);
     same(
         &rt,
-        (state.completes(&FIRST), state.completes(&LAST)),
+        (
+            state.completes(&FIRST.wire()),
+            state.completes(&LAST.wire()),
+        ),
         (false, false),
     );
-    let state = awaits(&rt, state.step(&FIRST, 100));
+    let state = awaits(&rt, state.step(&FIRST.wire(), 100));
     // A repeated packet is ignored, and T1 keeps running.
-    let state = awaits(&rt, state.step(&FIRST, 700));
+    let state = awaits(&rt, state.step(&FIRST.wire(), 700));
     falls_due(&rt, &state, 850);
     same(
         &rt,
         (state.from(), state.pgn().raw(), state.size()),
         (SOURCE, 0xFECA, 9),
     );
-    holds(&rt, state.completes(&LAST));
-    is_complete(&rt, state.step(&LAST, 849));
+    holds(&rt, state.completes(&LAST.wire()));
+    is_complete(&rt, state.step(&LAST.wire(), 849));
 }
 
 // The last packet completes the message.
 fn completes(rt: &impl Abort, mut state: BamIn, now: u64) {
-    match state.take(&heard(&LAST), now) {
+    match state.take(&LAST.wire(), now) {
         BamLeft::Message => same(rt, state.complete(&LAST_BYTES).as_slice(), M9.as_slice()),
         _ => panic!(rt; "not complete"),
     }
@@ -190,11 +193,11 @@ fn completes(rt: &impl Abort, mut state: BamIn, now: u64) {
 #[test]
 fn nine_bytes_are_taken(rt: HostRuntime) {
     let mut state = receiver(&rt, rt.alloc());
-    let went_on = state.take(&heard(&FIRST), 100);
+    let went_on = state.take(&FIRST.wire(), 100);
     // A repeated packet changes nothing, nor does one that is skipped, nor the last one.
-    let again = state.take(&heard(&FIRST), 700);
-    let skipped = state.take(&heard(&PAST), 700);
-    let last = state.take(&heard(&LAST), 700);
+    let again = state.take(&FIRST.wire(), 700);
+    let skipped = state.take(&PAST.wire(), 700);
+    let last = state.take(&LAST.wire(), 700);
     same(&rt, [went_on, again], [BamLeft::Nothing; 2]);
     same(&rt, [skipped, last], [BamLeft::Dropped, BamLeft::Message]);
     falls_due(&rt, &state, 850);
@@ -203,7 +206,7 @@ fn nine_bytes_are_taken(rt: HostRuntime) {
 
 #[test]
 fn a_message_is_dropped(rt: HostRuntime) {
-    is_dropped(&rt, receiver(&rt, rt.alloc()).step(&LAST, 1));
+    is_dropped(&rt, receiver(&rt, rt.alloc()).step(&LAST.wire(), 1));
     receiver(&rt, rt.alloc()).expire();
     receiver(&rt, rt.alloc()).close();
     receiver(&rt, rt.alloc()).overrun();

@@ -1,6 +1,6 @@
 //! Exchanges of node 35 with node 21, frame by frame.
 use crate::checks::{got, holds, same};
-use crate::session::frames::{frame, pgn, shows, wire_pgn};
+use crate::session::frames::{Packet, frame, pgn, shows, wire_pgn};
 use crate::session::received::{aborted, answers, complete, completed, goes_on, on, taken};
 use bus_frame::Frame;
 use pgn_ids::Address;
@@ -16,7 +16,7 @@ use tx_queue::TxQueue;
 const CM_TO_21: u32 = 0x1CEC_2135;
 
 // The last of the nine bytes.
-const LAST: Wire = Wire::Packet {
+const LAST: Packet = Packet {
     kind: Kind::Tp,
     sequence: 2,
     bytes: [8, 9, 255, 255, 255, 255, 255],
@@ -51,7 +51,7 @@ fn begun(
 fn step(
     rt: &impl Abort,
     mut state: InState,
-    wire: &Wire,
+    wire: &Wire<'_>,
     room: bool,
     flow: Flow,
     now: u64,
@@ -75,9 +75,9 @@ fn falls_due(rt: &impl Abort, state: &InState, now: u64) {
 }
 
 // Packet k of the message whose bytes are their places, from 1.
-fn packet(k: u8) -> Wire {
+fn packet(k: u8) -> Packet {
     let first = k.wrapping_mul(7).wrapping_sub(6);
-    Wire::Packet {
+    Packet {
         kind: Kind::Tp,
         sequence: k,
         bytes: [
@@ -94,7 +94,7 @@ fn packet(k: u8) -> Wire {
 
 // A packet inside a window is taken: nothing is queued, and nothing left to do.
 fn takes(rt: &impl Abort, state: &mut Receiver, queue: &mut TxQueue, k: u8, room: bool, now: u64) {
-    let taken = taken(rt, state, queue, &packet(k), room, Flow::Open, now);
+    let taken = taken(rt, state, queue, &packet(k).wire(), room, Flow::Open, now);
     same(rt, taken, (Left::Nothing, None));
 }
 
@@ -109,10 +109,13 @@ fn nine_bytes(rt: &impl Abort, alloc: Global) -> Finished {
     same(rt, state.size(), 9);
     same(
         rt,
-        (state.completes(&LAST), state.completes(&packet(1))),
+        (
+            state.completes(&LAST.wire()),
+            state.completes(&packet(1).wire()),
+        ),
         (true, false),
     );
-    completed(rt, state, &mut queue, &LAST, Flow::Held, 3)
+    completed(rt, state, &mut queue, &LAST.wire(), Flow::Held, 3)
 }
 
 #[test]
@@ -136,7 +139,7 @@ fn take_to_254(
     mut cts: Frame,
 ) -> Frame {
     for k in 1..255 {
-        let (left, answer) = taken(rt, state, queue, &packet(k), true, Flow::Open, 0);
+        let (left, answer) = taken(rt, state, queue, &packet(k).wire(), true, Flow::Open, 0);
         same(
             rt,
             (k, left, answer.is_some()),
@@ -165,7 +168,14 @@ fn the_longest_message_has_sixteen_windows(rt: HostRuntime) {
         CM_TO_21,
         [0x11, 0x0F, 0xF1, 0xFF, 0xFF, 0xCA, 0xFE, 0],
     );
-    let (bytes, end) = completed(&rt, state, &mut queue, &packet(255), Flow::Open, 0).given();
+    let (bytes, end) = completed(
+        &rt,
+        state,
+        &mut queue,
+        &packet(255).wire(),
+        Flow::Open,
+        0,
+    ).given();
     shows(
         &rt,
         end,
@@ -186,14 +196,21 @@ fn a_window_is_what_the_rts_allows(rt: HostRuntime) {
         0x1CEC_8035,
         [0x11, 1, 1, 0xFF, 0xFF, 0x35, 0xEF, 0],
     );
-    let (state, cts) = answers(&rt, step(&rt, state, &packet(1), true, Flow::Open, 0));
+    let (state, cts) = answers(
+        &rt,
+        step(&rt, state, &packet(1).wire(), true, Flow::Open, 0),
+    );
     shows(
         &rt,
         cts,
         0x1CEC_8035,
         [0x11, 1, 2, 0xFF, 0xFF, 0x35, 0xEF, 0],
     );
-    let (_, end) = complete(&rt, step(&rt, state, &packet(2), true, Flow::Open, 0)).given();
+    let (_, end) = complete(
+        &rt,
+        step(&rt, state, &packet(2).wire(), true, Flow::Open, 0),
+    )
+    .given();
     shows(&rt, end, 0x1CEC_8035, [0x13, 9, 0, 2, 0xFF, 0x35, 0xEF, 0]);
 }
 
@@ -201,17 +218,26 @@ fn a_window_is_what_the_rts_allows(rt: HostRuntime) {
 fn window_on_hold(rt: &impl Abort, mut state: InState) {
     for k in 1..16 {
         let flow = if k > 3 { Flow::Held } else { Flow::Open };
-        state = goes_on(rt, step(rt, state, &packet(k), true, flow, 1000));
+        state = goes_on(rt, step(rt, state, &packet(k).wire(), true, flow, 1000));
     }
-    let (state, hold) = answers(rt, step(rt, state, &packet(16), true, Flow::Held, 1000));
+    let (state, hold) = answers(
+        rt,
+        step(rt, state, &packet(16).wire(), true, Flow::Held, 1000),
+    );
     shows(
         rt,
         hold,
         CM_TO_21,
         [0x11, 0, 0x11, 0xFF, 0xFF, 0xCA, 0xFE, 0],
     );
-    let state = goes_on(rt, step(rt, state, &packet(16), true, Flow::Open, 1001));
-    let ended = aborted(rt, step(rt, state, &packet(17), true, Flow::Open, 1001));
+    let state = goes_on(
+        rt,
+        step(rt, state, &packet(16).wire(), true, Flow::Open, 1001),
+    );
+    let ended = aborted(
+        rt,
+        step(rt, state, &packet(17).wire(), true, Flow::Open, 1001),
+    );
     shows(rt, ended, CM_TO_21, abort(0xFA));
 }
 
@@ -255,7 +281,7 @@ fn take_window(rt: &impl Abort, state: &mut Receiver, queue: &mut TxQueue) {
             Left::Abort(AbortReason::Resources),
         ),
     ] {
-        let taken = taken(rt, state, queue, &packet(k), room, flow, now);
+        let taken = taken(rt, state, queue, &packet(k).wire(), room, flow, now);
         same(rt, (k, taken), (k, (left, None)));
     }
     same(rt, (state.is_due(949), state.is_due(950)), (false, true));
@@ -268,7 +294,7 @@ fn end_of_window(rt: &impl Abort, alloc: Global, queue: &mut TxQueue, flow: Flow
     same(rt, state.kind(), Kind::Tp);
     holds(rt, state.peer() == diagnostics(rt));
     take_window(rt, &mut state, queue);
-    let (left, answer) = taken(rt, &mut state, queue, &packet(3), true, flow, 400);
+    let (left, answer) = taken(rt, &mut state, queue, &packet(3).wire(), true, flow, 400);
     same(rt, left, Left::Nothing);
     let granted = if flow == Flow::Held { 0 } else { 1 };
     let cts = frame(rt, CM_TO_21, [0x11, granted, 4, 0xFF, 0xFF, 0xCA, 0xFE, 0]);
@@ -281,7 +307,7 @@ fn a_window_is_followed_by_the_next(rt: HostRuntime) {
     let mut queue = got(&rt, TxQueue::new(rt.alloc()));
     let state = end_of_window(&rt, rt.alloc(), &mut queue, Flow::Open);
     same(&rt, (state.is_due(1649), state.is_due(1650)), (false, true));
-    let (bytes, _) = completed(&rt, state, &mut queue, &packet(4), Flow::Open, 500).given();
+    let (bytes, _) = completed(&rt, state, &mut queue, &packet(4).wire(), Flow::Open, 500).given();
     same(&rt, bytes.len(), 28);
     same(&rt, bytes.last(), Some(&28));
 }
@@ -327,8 +353,11 @@ fn a_hold_ends_where_the_receiver_stands(rt: HostRuntime) {
 // The step of packet `last` at tick 200, after packet 1 of three at tick 100, in windows of two.
 fn third_step(rt: &impl Abort, alloc: Global, last: u8, room: bool) -> Received {
     let (state, _) = begun(rt, alloc, diagnostics(rt), 2, 21, Flow::Open);
-    let (state, _) = on(rt, step(rt, state, &packet(1), true, Flow::Open, 100));
-    step(rt, state, &packet(last), room, Flow::Open, 200)
+    let (state, _) = on(
+        rt,
+        step(rt, state, &packet(1).wire(), true, Flow::Open, 100),
+    );
+    step(rt, state, &packet(last).wire(), room, Flow::Open, 200)
 }
 
 #[test]

@@ -1,6 +1,6 @@
 //! Exact frames of extended exchanges, that calls succeed, and that nothing but a call lets a state go.
 use crate::checks::{got, holds, same};
-use crate::session::frames::{frame, pgn, wire_pgn};
+use crate::session::frames::{Packet, frame, pgn, wire_pgn};
 use crate::session::received::{aborted, answers, completed, goes_on, taken};
 use bus_frame::Frame;
 use etp_session::{InState, OutState, Received, accept, begin};
@@ -28,7 +28,7 @@ fn is_abort(rt: &impl Abort, ended: Frame, reason: u8) {
     );
 }
 
-fn dpo(rt: &impl Abort, packets: u8, offset: u32) -> Wire {
+fn dpo(rt: &impl Abort, packets: u8, offset: u32) -> Wire<'static> {
     Wire::Cm(CmFrame::EtpDpo {
         packets,
         offset,
@@ -36,8 +36,8 @@ fn dpo(rt: &impl Abort, packets: u8, offset: u32) -> Wire {
     })
 }
 
-fn data(sequence: u8, bytes: [u8; 7]) -> Wire {
-    Wire::Packet {
+fn data(sequence: u8, bytes: [u8; 7]) -> Packet {
+    Packet {
         kind: Kind::Etp,
         sequence,
         bytes,
@@ -61,7 +61,7 @@ fn begun_open(rt: &impl Abort, alloc: Global) -> InState {
 }
 
 // Prepares and takes. If memory is refused, the call succeeds when it is made again.
-fn take(rt: &impl Abort, mut state: InState, wire: &Wire, flow: Flow) -> Received {
+fn take(rt: &impl Abort, mut state: InState, wire: &Wire<'_>, flow: Flow) -> Received {
     if state.prepare(wire, true, flow).is_err() {
         got(rt, state.prepare(wire, true, flow));
     }
@@ -73,7 +73,7 @@ fn takes(
     rt: &impl Abort,
     state: &mut Receiver,
     queue: &mut TxQueue,
-    wire: &Wire,
+    wire: &Wire<'_>,
     now: u64,
 ) -> (Left, Option<Frame>) {
     let memory = state.memory();
@@ -99,22 +99,22 @@ fn has_memory(rt: &impl Abort, state: &Receiver, memory: usize) {
 }
 
 // Packet k of a message.
-fn data_at(rt: &impl Abort, message: &[u8], k: u32) -> Wire {
+fn data_at(rt: &impl Abort, message: &[u8], k: u32) -> Packet {
     holds(rt, message.len() <= ETP_MAX_SIZE as usize);
     holds(rt, k >= 1 && k <= packets(message.len() as u32));
     data(((k - 1) % 64) as u8 + 1, packet(message, k))
 }
 
 // The DPO of the window that packet k of so many begins.
-fn dpo_at(rt: &impl Abort, count: u32, k: u32) -> Wire {
+fn dpo_at(rt: &impl Abort, count: u32, k: u32) -> Wire<'static> {
     let before = k.saturating_sub(1);
     dpo(rt, count.saturating_sub(before).min(64) as u8, before)
 }
 
 // A packet completes the message, or doesn't.
-fn completes(rt: &impl Abort, state: &Receiver, message: &[u8], packet: &Wire, is_last: bool) {
+fn completes(rt: &impl Abort, state: &Receiver, message: &[u8], packet: &Packet, is_last: bool) {
     same(rt, state.size() as usize, message.len());
-    same(rt, state.completes(packet), is_last);
+    same(rt, state.completes(&packet.wire()), is_last);
 }
 
 // All packets of a message but the last one are taken, each window behind its DPO. The last CTS and the last DPO.
@@ -124,7 +124,7 @@ fn take_to_last(
     state: &mut Receiver,
     queue: &mut TxQueue,
     mut cts: Frame,
-) -> (Frame, Wire) {
+) -> (Frame, Wire<'static>) {
     holds(rt, message.len() <= ETP_MAX_SIZE as usize);
     let count = packets(message.len() as u32);
     let mut dpo = dpo_at(rt, count, 1);
@@ -135,7 +135,7 @@ fn take_to_last(
         }
         let packet = data_at(rt, message, k);
         completes(rt, state, message, &packet, false);
-        let (left, answer) = takes(rt, state, queue, &packet, 0);
+        let (left, answer) = takes(rt, state, queue, &packet.wire(), 0);
         same(rt, (k, left), (k, Left::Nothing));
         cts = answer.unwrap_or(cts);
     }
@@ -148,8 +148,8 @@ fn exchange(
     rt: &impl Abort,
     alloc: Global,
     size: u32,
-    last_dpo: &Wire,
-    last_packet: &Wire,
+    last_dpo: &Wire<'_>,
+    last_packet: &Packet,
 ) -> (Frame, Frame) {
     let message = got(rt, places(alloc, size));
     let mut queue = got(rt, TxQueue::new(alloc));
@@ -160,7 +160,7 @@ fn exchange(
     let packet = data_at(rt, message.as_slice(), packets(size));
     same(rt, &packet, last_packet);
     completes(rt, &state, message.as_slice(), &packet, true);
-    let (given, end) = completed(rt, state, &mut queue, &packet, Flow::Open, 0).given();
+    let (given, end) = completed(rt, state, &mut queue, &packet.wire(), Flow::Open, 0).given();
     same(rt, given.as_slice(), message.as_slice());
     (cts, end)
 }
@@ -186,12 +186,12 @@ fn long_message(rt: HostRuntime) {
 }
 
 // A session begins, and its first frame ends it by an abort.
-fn is_ended_by(rt: &impl Abort, alloc: Global, wire: &Wire) {
+fn is_ended_by(rt: &impl Abort, alloc: Global, wire: &Wire<'_>) {
     let state = begun_open(rt, alloc);
     is_abort(rt, aborted(rt, take(rt, state, wire, Flow::Open)), 250);
 }
 
-fn goes_on_after(rt: &impl Abort, alloc: Global, wire: &Wire) {
+fn goes_on_after(rt: &impl Abort, alloc: Global, wire: &Wire<'_>) {
     let state = begun_open(rt, alloc);
     goes_on(rt, take(rt, state, wire, Flow::Open)).overrun();
 }
@@ -203,7 +203,7 @@ fn begins(rt: HostRuntime) {
         offset: 0,
         pgn: wire_pgn(&rt, 0xFECB),
     };
-    is_ended_by(&rt, rt.alloc(), &data(1, [0; 7]));
+    is_ended_by(&rt, rt.alloc(), &data(1, [0; 7]).wire());
     is_ended_by(&rt, rt.alloc(), &dpo(&rt, 0, 0));
     is_ended_by(&rt, rt.alloc(), &dpo(&rt, 1, 1));
     is_ended_by(&rt, rt.alloc(), &dpo(&rt, 65, 0));
@@ -215,23 +215,24 @@ fn begins(rt: HostRuntime) {
 fn first_window(rt: &impl Abort, state: InState, flow: Flow) -> Received {
     let mut state = goes_on(rt, take(rt, state, &dpo(rt, 64, 0), flow));
     for sequence in 1..64 {
-        state = goes_on(rt, take(rt, state, &data(sequence, [0; 7]), flow));
+        state = goes_on(rt, take(rt, state, &data(sequence, [0; 7]).wire(), flow));
     }
-    take(rt, state, &data(64, [0; 7]), flow)
+    take(rt, state, &data(64, [0; 7]).wire(), flow)
 }
 
 fn take_three(rt: &impl Abort, state: &mut Receiver, queue: &mut TxQueue) {
     let wrong = Left::Abort(AbortReason::Other);
+    let (first, second, fourth) = (data(1, [0; 7]), data(2, [0; 7]), data(4, [0; 7]));
     for (wire, now, left) in [
         // Packets that no DPO has announced, and a DPO past what was granted.
-        (data(1, [0; 7]), 50, wrong),
+        (first.wire(), 50, wrong),
         (dpo(rt, 3, 1), 50, wrong),
         (dpo(rt, 3, 0), 60, Left::Nothing),
-        (data(1, [0; 7]), 100, Left::Nothing),
-        (data(2, [0; 7]), 200, Left::Nothing),
+        (first.wire(), 100, Left::Nothing),
+        (second.wire(), 200, Left::Nothing),
         // A repeated packet and one that is skipped change nothing.
-        (data(2, [0; 7]), 300, Left::Nothing),
-        (data(4, [0; 7]), 300, wrong),
+        (second.wire(), 300, Left::Nothing),
+        (fourth.wire(), 300, wrong),
     ] {
         same(rt, takes(rt, state, queue, &wire, now), (left, None));
     }
@@ -244,7 +245,7 @@ fn packets_in_a_window_are_taken(rt: HostRuntime) {
     take_three(&rt, &mut state, &mut queue);
     same(&rt, (state.is_due(949), state.is_due(950)), (false, true));
     let cts = from_35(&rt, ETP_CTS, [0x40, 4, 0, 0]);
-    let third = takes(&rt, &mut state, &mut queue, &data(3, [0; 7]), 400);
+    let third = takes(&rt, &mut state, &mut queue, &data(3, [0; 7]).wire(), 400);
     same(&rt, third, (Left::Nothing, Some(cts)));
     has_memory(&rt, &state, 67 * 7);
     state.overrun();
@@ -255,9 +256,17 @@ fn old_offset(rt: HostRuntime) {
     let state = begun_open(&rt, rt.alloc());
     let (state, cts) = answers(&rt, first_window(&rt, state, Flow::Open));
     same(&rt, cts, from_35(&rt, ETP_CTS, [0x40, 0x41, 0, 0]));
-    let state = goes_on(&rt, take(&rt, state, &data(64, [0; 7]), Flow::Open)).into_receiver();
+    let state = goes_on(
+        &rt,
+        take(&rt, state, &data(64, [0; 7]).wire(), Flow::Open),
+    ).into_receiver();
     has_memory(&rt, &state, 2 * 64 * 7);
-    let ended = take(&rt, state.into_state(), &data(65, [0; 7]), Flow::Open);
+    let ended = take(
+        &rt,
+        state.into_state(),
+        &data(65, [0; 7]).wire(),
+        Flow::Open,
+    );
     is_abort(&rt, aborted(&rt, ended), 250);
 }
 
@@ -310,7 +319,7 @@ fn times_out(rt: HostRuntime) {
     let state = begun_open(&rt, rt.alloc());
     falls_due(&rt, &state, 1250);
     let state = goes_on(&rt, take(&rt, state, &dpo(&rt, 64, 0), Flow::Open));
-    let state = goes_on(&rt, take(&rt, state, &data(1, [0; 7]), Flow::Open));
+    let state = goes_on(&rt, take(&rt, state, &data(1, [0; 7]).wire(), Flow::Open));
     falls_due(&rt, &state, 750);
     is_abort(&rt, aborted(&rt, fire(&rt, state, Flow::Open, 750)), 3);
 }

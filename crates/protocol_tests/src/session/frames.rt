@@ -3,7 +3,7 @@ use crate::checks::{got, same};
 pub(crate) use crate::pgns::{pgn, wire_pgn};
 use bus_frame::{CanId, Frame};
 use std::process::Abort;
-use tp_wire::{Heard, Wire};
+use tp_wire::{Kind, PacketBytes, Wire};
 
 pub(crate) fn frame(rt: &impl Abort, id: u32, bytes: [u8; 8]) -> Frame {
     Frame::full(got(rt, CanId::new(id)), bytes)
@@ -14,28 +14,21 @@ pub(crate) fn shows(rt: &impl Abort, shown: Frame, id: u32, bytes: [u8; 8]) {
     same(rt, shown, frame(rt, id, bytes));
 }
 
-/// What a frame with this meaning is heard as.
-pub(crate) fn heard(wire: &Wire) -> Heard<'_> {
-    match wire {
-        Wire::Cm(frame) => Heard::Cm(*frame),
+/// A packet of a transport.
+#[derive(Clone, Copy, Debug, PartialEq, Eq)]
+pub(crate) struct Packet {
+    pub(crate) kind: Kind,
+    pub(crate) sequence: u8,
+    pub(crate) bytes: [u8; 7],
+}
+
+impl Packet {
+    /// What its frame means.
+    pub(crate) fn wire(&self) -> Wire<'_> {
         Wire::Packet {
-            kind,
-            sequence,
-            bytes,
-        } => Heard::Packet {
-            kind: *kind,
-            sequence: *sequence,
-            bytes,
-        },
-        Wire::Request { pgn } => Heard::Request { pgn: *pgn },
-        Wire::Ack {
-            control,
-            address,
-            pgn,
-        } => Heard::Ack {
-            control: *control,
-            address: *address,
-            pgn: *pgn,
-        },
+            kind: self.kind,
+            sequence: self.sequence,
+            bytes: PacketBytes::new(&self.bytes),
+        }
     }
 }

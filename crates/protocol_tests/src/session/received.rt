@@ -1,6 +1,5 @@
 //! What follows from a frame at a receiver, in place or by value. A test ends if something else follows.
 use crate::checks::holds;
-use crate::session::frames::heard;
 use bus_frame::Frame;
 use responder::{Finished, Flow, InState, Left, Received, Receiver};
 use std::process::Abort;
@@ -13,13 +12,13 @@ pub(crate) fn taken(
     rt: &impl Abort,
     state: &mut Receiver,
     queue: &mut TxQueue,
-    wire: &Wire,
+    wire: &Wire<'_>,
     room: bool,
     flow: Flow,
     now: u64,
 ) -> (Left, Option<Frame>) {
     holds(rt, queue.is_empty());
-    let left = state.take(&heard(wire), room, flow, now, queue);
+    let left = state.take(wire, room, flow, now, queue);
     let answer = queue.pop();
     holds(rt, queue.is_empty());
     (left, answer)
@@ -30,12 +29,12 @@ pub(crate) fn completed(
     rt: &impl Abort,
     mut state: Receiver,
     queue: &mut TxQueue,
-    wire: &Wire,
+    wire: &Wire<'_>,
     flow: Flow,
     now: u64,
 ) -> Finished {
     holds(rt, queue.is_empty());
-    let left = state.take(&heard(wire), true, flow, now, queue);
+    let left = state.take(wire, true, flow, now, queue);
     holds(rt, queue.is_empty());
     match (left, wire) {
         (
@@ -45,7 +44,7 @@ pub(crate) fn completed(
                 sequence: _,
                 bytes,
             },
-        ) => state.complete(bytes),
+        ) => state.complete(bytes.array()),
         _ => panic!(rt; "the message is not whole"),
     }
 }

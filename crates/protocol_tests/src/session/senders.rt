@@ -5,7 +5,7 @@ use originator::{Ending, OutOver, OutState, Stepped, begin};
 use pgn_ids::{Address, Pgn};
 use std::alloc::{AllocError, Global};
 use std::process::Abort;
-use tp_wire::{AbortReason, CmFrame, Heard, Kind, Outcome, Wire};
+use tp_wire::{AbortReason, CmFrame, Kind, Outcome, Wire};
 use tx_queue::TxQueue;
 
 const OWN: Address = Address(0x21);
@@ -20,22 +20,22 @@ const PACKET_1: [u8; 8] = [1, 1, 2, 3, 4, 5, 6, 7];
 
 const PACKET_2: [u8; 8] = [2, 8, 9, 0xFF, 0xFF, 0xFF, 0xFF, 0xFF];
 
-fn cts(granted: u8, next: u8, pgn: Pgn) -> Wire {
+fn cts(granted: u8, next: u8, pgn: Pgn) -> Wire<'static> {
     let pgn = pgn.field();
     Wire::Cm(CmFrame::Cts { granted, next, pgn })
 }
 
-fn end(size: u16, packets: u8, pgn: Pgn) -> Wire {
+fn end(size: u16, packets: u8, pgn: Pgn) -> Wire<'static> {
     let pgn = pgn.field();
     Wire::Cm(CmFrame::EndOfMsgAck { size, packets, pgn })
 }
 
-fn etp_cts(granted: u8, next: u32, pgn: Pgn) -> Wire {
+fn etp_cts(granted: u8, next: u32, pgn: Pgn) -> Wire<'static> {
     let pgn = pgn.field();
     Wire::Cm(CmFrame::EtpCts { granted, next, pgn })
 }
 
-fn etp_end(size: u32, pgn: Pgn) -> Wire {
+fn etp_end(size: u32, pgn: Pgn) -> Wire<'static> {
     let pgn = pgn.field();
     Wire::Cm(CmFrame::EtpEoma { size, pgn })
 }
@@ -69,7 +69,7 @@ fn fill(alloc: Global, len: usize) -> Result<Vec<u8>, AllocError> {
 }
 
 /// The message that continues after this frame.
-fn goes_on(rt: &impl Abort, state: OutState, wire: Wire) -> OutState {
+fn goes_on(rt: &impl Abort, state: OutState, wire: Wire<'_>) -> OutState {
     match state.step(&wire, 0) {
         Stepped::On(state) => state,
         Stepped::Over(_) => panic!(rt; "the message ended"),
@@ -77,7 +77,7 @@ fn goes_on(rt: &impl Abort, state: OutState, wire: Wire) -> OutState {
 }
 
 /// How it ended with this frame.
-fn ends(rt: &impl Abort, state: OutState, wire: Wire) -> OutOver {
+fn ends(rt: &impl Abort, state: OutState, wire: Wire<'_>) -> OutOver {
     match state.step(&wire, 0) {
         Stepped::On(state) => {
             let _ = state.overrun();
@@ -181,15 +181,15 @@ fn frames_are_taken_where_the_state_stands(rt: HostRuntime) {
     );
     let mut queue = got(&rt, TxQueue::new(rt.alloc()));
     let mut state = nine_bytes_to(&rt, FOREIGN, got(&rt, Pgn::new(0xFECA)));
-    let of = |granted, next, pgn| Heard::Cm(CmFrame::Cts { granted, next, pgn });
-    let all = Heard::Cm(CmFrame::EndOfMsgAck {
+    let of = |granted, next, pgn| Wire::Cm(CmFrame::Cts { granted, next, pgn });
+    let all = Wire::Cm(CmFrame::EndOfMsgAck {
         size: 9,
         packets: 2,
         pgn,
     });
     let foreign = [
         state.take(&of(2, 1, other), 3),
-        state.take(&Heard::Request { pgn }, 3),
+        state.take(&Wire::Request { pgn }, 3),
         state.take(&all, 3),
     ];
     same(&rt, foreign, [None, None, None]);
@@ -291,7 +291,7 @@ fn note(window: &mut Window, queue: &mut TxQueue) {
 fn whole_window(
     rt: &impl Abort,
     state: OutState,
-    wire: Wire,
+    wire: Wire<'_>,
     message: &[u8],
     queue: &mut TxQueue,
 ) -> (OutState, Window) {

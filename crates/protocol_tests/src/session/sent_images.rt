@@ -5,7 +5,7 @@ use bam_session::BamOut;
 use pgn_ids::Address;
 use std::process::Abort;
 use tp_session::{OutState, begin};
-use tp_wire::{CmFrame, Heard};
+use tp_wire::{CmFrame, Wire};
 use tx_queue::TxQueue;
 
 const M9: [u8; 9] = [1, 2, 3, 4, 5, 6, 7, 8, 9];
@@ -36,7 +36,7 @@ fn a_connection_and_its_image(rt: HostRuntime) {
     };
     let awaits_cts = state.image();
     same(&rt, awaits_cts.is_of(&state), true);
-    same(&rt, state.take(&Heard::Cm(cts), 1), None);
+    same(&rt, state.take(&Wire::Cm(cts), 1), None);
     let sends = state.image();
     same(
         &rt,

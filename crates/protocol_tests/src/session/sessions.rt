@@ -5,7 +5,7 @@ ghost use Rattle.session_table.specs.Sessions.{IsHeld, state_at};
 ghost use Rattle.seg_cut.specs.Join.{with_room};
 
 use crate::checks::{got, holds, same};
-use crate::session::frames::{heard, wire_pgn};
+use crate::session::frames::{Packet, wire_pgn};
 use bam_session::BamIn;
 use pgn_ids::{Address, WirePgn};
 use responder::{Flow, Left, Peer};
@@ -23,13 +23,13 @@ const FROM: Address = Address(0x80);
 
 const TO: Address = Address(0x35);
 
-const FIRST: Wire = Wire::Packet {
+const FIRST: Packet = Packet {
     kind: Kind::Tp,
     sequence: 1,
     bytes: [1, 2, 3, 4, 5, 6, 7],
 };
 
-const LAST: Wire = Wire::Packet {
+const LAST: Packet = Packet {
     kind: Kind::Tp,
     sequence: 2,
     bytes: [1, 2, 3, 4, 5, 6, 7],
@@ -120,14 +120,14 @@ fn take(
     rt: &impl Abort,
     table: &mut SessionTable<u8>,
     key: Key,
-    wire: &Wire,
+    wire: &Wire<'_>,
     now: u64,
     queue: &mut TxQueue,
 ) -> Left
     ensures idle { state_at table.old key ≡ None → table.new ≡ table.old }
 {
     holds(rt, queue.is_empty());
-    table.take(key, &heard(wire), true, Flow::Open, now, queue)
+    table.take(key, wire, true, Flow::Open, now, queue)
 }
 
 fn fire(
@@ -160,7 +160,7 @@ fn left_without(
     rt: &impl Abort,
     table: &mut SessionTable<u8>,
     key: Key,
-    wire: &Wire,
+    wire: &Wire<'_>,
     now: u64,
     queue: &mut TxQueue,
 ) -> Left {
@@ -256,10 +256,10 @@ fn a_packet_is_taken_where_its_session_stands(rt: HostRuntime) {
     let mut table = new_table(rt.alloc());
     let mut queue = new_queue(&rt, rt.alloc());
     let key = key(0x80, SessionKind::Broadcast);
-    let absent = take(&rt, &mut table, key, &FIRST, 100, &mut queue);
+    let absent = take(&rt, &mut table, key, &FIRST.wire(), 100, &mut queue);
     open(&rt, rt.alloc(), &mut table, key);
-    let first = take(&rt, &mut table, key, &FIRST, 100, &mut queue);
-    let last = take(&rt, &mut table, key, &LAST, 200, &mut queue);
+    let first = take(&rt, &mut table, key, &FIRST.wire(), 100, &mut queue);
+    let last = take(&rt, &mut table, key, &LAST.wire(), 200, &mut queue);
     same(
         &rt,
         (absent, first, last),
@@ -270,7 +270,7 @@ fn a_packet_is_taken_where_its_session_stands(rt: HostRuntime) {
         (next_due(&table, 849), next_due(&table, 850)),
         (None, Some(key)),
     );
-    let out = left_without(&rt, &mut table, key, &LAST, 300, &mut queue);
+    let out = left_without(&rt, &mut table, key, &LAST.wire(), 300, &mut queue);
     same(&rt, out, Left::Nothing);
     holds(&rt, queue.is_empty());
 }
@@ -354,7 +354,11 @@ fn is_kept_until_a_packet(
     queue: &mut TxQueue,
 ) {
     same(rt, is_at(image, table, key), true);
-    same(rt, take(rt, table, key, &FIRST, 100, queue), Left::Nothing);
+    same(
+        rt,
+        take(rt, table, key, &FIRST.wire(), 100, queue),
+        Left::Nothing,
+    );
     same(rt, is_at(image, table, key), false);
 }
 

@@ -10,7 +10,7 @@ use lane_core::*;
 use pgn_ids::Address;
 use std::alloc::Global;
 use std::process::Abort;
-use tp_wire::{CmFrame, Heard, Outcome};
+use tp_wire::{CmFrame, Outcome, Wire};
 use tx_queue::TxQueue;
 
 const FROM: Address = Address(0x21);
@@ -158,7 +158,7 @@ fn hear(
     now: u64,
 ) -> (TxQueue, Option<Ended>) {
     let mut queue = got(rt, TxQueue::new(alloc));
-    let ended = lane.hear(&Heard::Cm(frame), now, &mut queue);
+    let ended = lane.hear(&Wire::Cm(frame), now, &mut queue);
     (queue, ended)
 }
 

@@ -1,6 +1,6 @@
 //! Messages to all from 21, received at the ports 35.1 and 35.2. A test ends if memory is refused.
 use crate::checks::{got, holds, same};
-use crate::session::frames::heard;
+use crate::session::frames::Packet;
 use crate::station::frames::{pgn, wire_pgn};
 use bam_session::BamIn;
 use bus_frame::Frame;
@@ -22,13 +22,13 @@ const KEY: Key = Key {
     kind: SessionKind::Broadcast,
 };
 
-const FIRST: Wire = Wire::Packet {
+const FIRST: Packet = Packet {
     kind: Kind::Tp,
     sequence: 1,
     bytes: [1, 2, 3, 4, 5, 6, 7],
 };
 
-const LAST: Wire = Wire::Packet {
+const LAST: Packet = Packet {
     kind: Kind::Tp,
     sequence: 2,
     bytes: [8, 9, 255, 255, 255, 255, 255],
@@ -67,19 +67,16 @@ fn receive(
     alloc: Global,
     sessions: &mut Receivers,
     ports: &PortTable,
-    wire: &Wire,
+    wire: &Wire<'_>,
 ) -> (Option<Frame>, Events) {
     let mut queue = got(rt, TxQueue::new(alloc));
     let mut told = Events::none(alloc);
-    let is_whole = got(
-        rt,
-        sessions.receive(ports, KEY, &heard(wire), true, 0, &mut queue),
-    );
+    let is_whole = got(rt, sessions.receive(ports, KEY, wire, true, 0, &mut queue));
     if !is_whole {
         return (queue.pop(), told);
     }
     if let Wire::Packet { bytes, .. } = wire {
-        let given = sessions.complete(ports, KEY, bytes, true, &mut queue, &mut told);
+        let given = sessions.complete(ports, KEY, bytes.array(), true, &mut queue, &mut told);
         got(rt, given);
     }
     (queue.pop(), told)
@@ -107,7 +104,7 @@ fn tells_nothing(
     alloc: Global,
     sessions: &mut Receivers,
     ports: &PortTable,
-    wire: &Wire,
+    wire: &Wire<'_>,
 ) {
     let (frame, told) = receive(rt, alloc, sessions, ports, wire);
     same(rt, (frame, told.len()), (None, 0));
@@ -119,7 +116,7 @@ fn gives(
     alloc: Global,
     sessions: &mut Receivers,
     ports: &PortTable,
-    wire: &Wire,
+    wire: &Wire<'_>,
     numbers: &[u64],
 ) {
     let (frame, told) = receive(rt, alloc, sessions, ports, wire);
@@ -143,7 +140,7 @@ fn are_none(rt: &impl Abort, sessions: &Receivers, are: bool) {
     same(rt, sessions.is_empty(), are);
 }
 
-fn are_wanted(rt: &impl Abort, sessions: &Receivers, wire: &Wire) {
+fn are_wanted(rt: &impl Abort, sessions: &Receivers, wire: &Wire<'_>) {
     let (set, size) = sessions.wants(KEY, wire);
     same(rt, (set.len(), size), (2, 9));
 }
@@ -153,10 +150,17 @@ fn given_at_both_ports_once(rt: HostRuntime) {
     let ports = two_ports(&rt, rt.alloc());
     let mut sessions = announce(&rt, rt.alloc(), &ports);
     same(&rt, sessions.others(KEY), 0);
-    tells_nothing(&rt, rt.alloc(), &mut sessions, &ports, &FIRST);
-    are_wanted(&rt, &sessions, &LAST);
-    gives(&rt, rt.alloc(), &mut sessions, &ports, &LAST, &[1, 2]);
-    tells_nothing(&rt, rt.alloc(), &mut sessions, &ports, &LAST);
+    tells_nothing(&rt, rt.alloc(), &mut sessions, &ports, &FIRST.wire());
+    are_wanted(&rt, &sessions, &LAST.wire());
+    gives(
+        &rt,
+        rt.alloc(),
+        &mut sessions,
+        &ports,
+        &LAST.wire(),
+        &[1, 2],
+    );
+    tells_nothing(&rt, rt.alloc(), &mut sessions, &ports, &LAST.wire());
 }
 
 #[test]
@@ -164,8 +168,8 @@ fn one_of_its_ports_closes(rt: HostRuntime) {
     let ports = two_ports(&rt, rt.alloc());
     let mut sessions = announce(&rt, rt.alloc(), &ports);
     ends(&rt, &mut sessions, 1);
-    tells_nothing(&rt, rt.alloc(), &mut sessions, &ports, &FIRST);
-    gives(&rt, rt.alloc(), &mut sessions, &ports, &LAST, &[2]);
+    tells_nothing(&rt, rt.alloc(), &mut sessions, &ports, &FIRST.wire());
+    gives(&rt, rt.alloc(), &mut sessions, &ports, &LAST.wire(), &[2]);
 }
 
 #[test]
@@ -244,7 +248,7 @@ fn until_a_packet_is_taken(
 ) {
     let image = image(rt, sessions);
     are_of(rt, sessions, &image, true);
-    tells_nothing(rt, alloc, sessions, ports, &FIRST);
+    tells_nothing(rt, alloc, sessions, ports, &FIRST.wire());
     are_of(rt, sessions, &image, false);
 }
 

@@ -9,7 +9,7 @@ use crate::station::frames::pgn;
 use message_events::Bytes;
 use pgn_ids::Address;
 use station_core::*;
-use std::alloc::Global;
+use std::alloc::{AllocGlobal, Global};
 use std::process::Abort;
 
 const M9: [u8; 9] = [1, 2, 3, 4, 5, 6, 7, 8, 9];
@@ -46,7 +46,8 @@ fn sends(rt: &impl Abort, alloc: Global, station: &mut Station, to: Address) {
 }
 
 // The next frames to station 35 are queued, and there is no event.
-fn pumps(rt: &impl Abort, station: &mut Station) {
-    let events = got(rt, station.pump(B, 0));
-    same(rt, events.len(), 0);
+fn pumps(rt: &(impl Abort + AllocGlobal), station: &mut Station) {
+    let mut told = Events::none(rt.alloc());
+    got(rt, station.pump(B, 0, &mut told));
+    same(rt, told.len(), 0);
 }

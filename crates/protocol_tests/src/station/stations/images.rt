@@ -2,7 +2,7 @@
 use super::{A, B, new_station, open, pumps, sends};
 use crate::checks::{got, same};
 use station_core::*;
-use std::alloc::Global;
+use std::alloc::{AllocGlobal, Global};
 use std::process::Abort;
 
 fn image(rt: &impl Abort, station: &Station) -> StationImage {
@@ -21,7 +21,7 @@ enum Change {
     Frame,
 }
 
-fn make(rt: &impl Abort, alloc: Global, station: &mut Station, change: Change) {
+fn make(rt: &(impl Abort + AllocGlobal), alloc: Global, station: &mut Station, change: Change) {
     match change {
         Change::Port => open(rt, station),
         Change::Message => sends(rt, alloc, station, B),
@@ -30,7 +30,7 @@ fn make(rt: &impl Abort, alloc: Global, station: &mut Station, change: Change) {
 }
 
 // The station equals its image until it is changed.
-fn until(rt: &impl Abort, alloc: Global, station: &mut Station, by: Change) {
+fn until(rt: &(impl Abort + AllocGlobal), alloc: Global, station: &mut Station, by: Change) {
     let image = image(rt, station);
     is_of(rt, station, &image, true);
     make(rt, alloc, station, by);

@@ -5,61 +5,62 @@ use crate::station::frames::frame;
 use bus_frame::Frame;
 use pgn_ids::read_id;
 use station_core::*;
-use std::alloc::Global;
+use std::alloc::{AllocGlobal, Global};
 use std::process::Abort;
 use tp_wire::read_in_place;
 
 // A frame by its identifier and its bytes.
 type Shown = (u32, [u8; 8]);
 
-fn frame_of(rt: &impl Abort, shown: &Shown) -> Frame {
+fn frame_of(rt: &(impl Abort + AllocGlobal), shown: &Shown) -> Frame {
     frame(rt, shown.0, &shown.1)
 }
 
 // Station 35 with one port.
-fn station_35(rt: &impl Abort, alloc: Global) -> Station {
+fn station_35(rt: &(impl Abort + AllocGlobal), alloc: Global) -> Station {
     let mut station = new_station(rt, alloc, B);
     open(rt, &mut station);
     station
 }
 
 // Takes a frame. If memory is refused once, it is taken again.
-fn take(rt: &impl Abort, station: &mut Station, shown: &Shown) -> Events {
+fn take(rt: &(impl Abort + AllocGlobal), station: &mut Station, shown: &Shown) -> Events {
     let frame = frame_of(rt, shown);
-    match station.take(&frame, true, 0) {
-        Ok(taken) => taken.events,
-        Err(_) => got(rt, station.take(&frame, true, 0)).events,
+    let mut told = Events::none(rt.alloc());
+    if station.take(&frame, true, 0, &mut told).is_err() {
+        got(rt, station.take(&frame, true, 0, &mut told));
     }
+    told
 }
 
 // It answers a frame with this one, and has no event.
-fn answers(rt: &impl Abort, station: &mut Station, shown: &Shown, answer: &Shown) {
+fn answers(rt: &(impl Abort + AllocGlobal), station: &mut Station, shown: &Shown, answer: &Shown) {
     same(rt, take(rt, station, shown).len(), 0);
     same(rt, station.pop(), Some(frame_of(rt, answer)));
 }
 
 // It doesn't answer a frame, and has no event.
-fn is_silent(rt: &impl Abort, station: &mut Station, shown: &Shown) {
+fn is_silent(rt: &(impl Abort + AllocGlobal), station: &mut Station, shown: &Shown) {
     same(rt, take(rt, station, shown).len(), 0);
     same(rt, station.pop(), None);
 }
 
 // The frame in front leaves, and is this one.
-fn pops(rt: &impl Abort, station: &mut Station, shown: &Shown) {
+fn pops(rt: &(impl Abort + AllocGlobal), station: &mut Station, shown: &Shown) {
     let frame = frame_of(rt, shown);
     same(rt, station.front(), Some(frame));
     same(rt, station.pop(), Some(frame));
 }
 
 // A last packet is reported as one of nine bytes for port 1.
-fn wants_nine(rt: &impl Abort, station: &Station, shown: &Shown) {
+fn wants_nine(rt: &(impl Abort + AllocGlobal), station: &Station, shown: &Shown) {
     let (ports, size) = station.wants(&frame_of(rt, shown));
     same(rt, ports.numbers(), [1].as_slice());
     same(rt, size, 9);
 }
 
 // A last packet gives nine bytes at port 1.
-fn gives_nine(rt: &impl Abort, station: &mut Station, shown: &Shown) {
+fn gives_nine(rt: &(impl Abort + AllocGlobal), station: &mut Station, shown: &Shown) {
     let events = take(rt, station, shown);
     same(rt, events.len(), 1);
     match events.get(0) {
@@ -69,28 +70,31 @@ fn gives_nine(rt: &impl Abort, station: &mut Station, shown: &Shown) {
 }
 
 // The station does so too if the packet was read before.
-fn hears_nine(rt: &impl Abort, alloc: Global, station: &mut Station, shown: &Shown) {
+fn hears_nine(
+    rt: &(impl Abort + AllocGlobal),
+    alloc: Global,
+    station: &mut Station,
+    shown: &Shown,
+) {
     let frame = frame_of(rt, shown);
     let mut told = Events::none(alloc);
-    let Some((heard, from, to)) = read_in_place(&frame, &read_id(frame.id())) else {
+    let Some((wire, from, to)) = read_in_place(&frame, &read_id(frame.id())) else {
         panic!(rt; "a packet without a meaning")
     };
     holds(rt, station.take_refusal().is_none());
-    got(
-        rt,
-        station.hear_telling(&heard, from, to, true, 0, &mut told),
-    );
+    got(rt, station.hear(&wire, from, to, true, 0, &mut told));
     same(rt, told.len(), 1);
 }
 
 // A frame that has no meaning changes nothing.
-fn is_malformed(rt: &impl Abort, station: &mut Station, shown: &Shown) {
-    let taken = got(rt, station.take(&frame_of(rt, shown), true, 0));
-    same(rt, (taken.is_malformed, taken.events.len()), (true, 0));
+fn is_malformed(rt: &(impl Abort + AllocGlobal), station: &mut Station, shown: &Shown) {
+    let mut told = Events::none(rt.alloc());
+    let is_malformed = got(rt, station.take(&frame_of(rt, shown), true, 0, &mut told));
+    same(rt, (is_malformed, told.len()), (true, 0));
 }
 
 // Calls whose result alone a test looks at: their contracts are not carried through it.
-fn overruns(rt: &impl Abort, station: &mut Station) {
+fn overruns(rt: &(impl Abort + AllocGlobal), station: &mut Station) {
     same(rt, got(rt, station.overrun()).len(), 0);
 }
 
@@ -107,7 +111,7 @@ fn is_resumed(station: &mut Station, number: u64) -> bool {
 }
 
 // It is due at this tick, and not at the one before, when it refuses to fire. It has no event.
-fn fires(rt: &impl Abort, station: &mut Station, now: u64) {
+fn fires(rt: &(impl Abort + AllocGlobal), station: &mut Station, now: u64) {
     let before = now.saturating_sub(1);
     same(
         rt,
@@ -190,7 +194,7 @@ const ABORT: Shown = (
 
 // The steps of a test are a function of their own, which owns nothing: each step adds a part of the proof for all that
 // a test owns.
-fn give_a_message(rt: &impl Abort, station: &mut Station) {
+fn give_a_message(rt: &(impl Abort + AllocGlobal), station: &mut Station) {
     is_silent(rt, station, &OTHER_TRAFFIC);
     is_malformed(rt, station, &NO_PACKET);
     answers(rt, station, &RTS, &CTS);
@@ -206,7 +210,7 @@ fn a_message_is_given(rt: HostRuntime) {
     give_a_message(&rt, &mut station);
 }
 
-fn give_what_was_read(rt: &impl Abort, alloc: Global, station: &mut Station) {
+fn give_what_was_read(rt: &(impl Abort + AllocGlobal), alloc: Global, station: &mut Station) {
     answers(rt, station, &RTS, &CTS);
     is_silent(rt, station, &FIRST);
     hears_nine(rt, alloc, station, &LAST);
@@ -219,7 +223,7 @@ fn a_message_is_given_by_what_was_read(rt: HostRuntime) {
     give_what_was_read(&rt, rt.alloc(), &mut station);
 }
 
-fn refuse_a_session(rt: &impl Abort, station: &mut Station) {
+fn refuse_a_session(rt: &(impl Abort + AllocGlobal), station: &mut Station) {
     answers(rt, station, &RTS, &CTS);
     answers(rt, station, &WRONG_RTS, &ABORT);
     is_silent(rt, station, &WRONG_PACKET);
@@ -231,7 +235,7 @@ fn a_refused_session_replaces_the_older(rt: HostRuntime) {
     refuse_a_session(&rt, &mut station);
 }
 
-fn miss_frames(rt: &impl Abort, station: &mut Station) {
+fn miss_frames(rt: &(impl Abort + AllocGlobal), station: &mut Station) {
     answers(rt, station, &RTS, &CTS);
     overruns(rt, station);
     is_silent(rt, station, &WRONG_PACKET);
@@ -243,7 +247,7 @@ fn an_overrun_ends_sessions(rt: HostRuntime) {
     miss_frames(&rt, &mut station);
 }
 
-fn close_the_port(rt: &impl Abort, station: &mut Station) {
+fn close_the_port(rt: &(impl Abort + AllocGlobal), station: &mut Station) {
     answers(rt, station, &RTS, &CTS);
     same(rt, is_closed(station, 1), true);
     pops(rt, station, &NO_RESOURCES);
@@ -258,7 +262,7 @@ fn a_closed_port_ends_its_session(rt: HostRuntime) {
     close_the_port(&rt, &mut station);
 }
 
-fn answer_requests(rt: &impl Abort, station: &mut Station) {
+fn answer_requests(rt: &(impl Abort + AllocGlobal), station: &mut Station) {
     answers(rt, station, &REQUEST, &ACKNOWLEDGEMENT);
     is_silent(rt, station, &REQUEST_TO_ALL);
     is_malformed(rt, station, &MALFORMED);
@@ -270,7 +274,7 @@ fn requests_are_answered(rt: HostRuntime) {
     answer_requests(&rt, &mut station);
 }
 
-fn pause_the_port(rt: &impl Abort, station: &mut Station) {
+fn pause_the_port(rt: &(impl Abort + AllocGlobal), station: &mut Station) {
     same(rt, is_paused(station, 1), true);
     answers(rt, station, &RTS, &HOLD);
     same(rt, is_resumed(station, 1), true);

@@ -3,7 +3,7 @@ use super::{A, B, M9, new_station, open, pumps, send, sends};
 use crate::checks::same;
 use pgn_ids::Address;
 use station_core::*;
-use std::alloc::Global;
+use std::alloc::{AllocGlobal, Global};
 use std::process::Abort;
 use tp_wire::Outcome;
 
@@ -38,9 +38,16 @@ fn is_unsent(
 }
 
 // The next frames to all are queued, or not yet: there are so many outcomes, and so many frames are then queued.
-fn pumps_to_all(rt: &impl Abort, station: &mut Station, now: u64, told: Option<usize>, len: usize) {
-    match station.pump(Address::GLOBAL, now) {
-        Ok(events) => same(rt, Some(events.len()), told),
+fn pumps_to_all(
+    rt: &(impl Abort + AllocGlobal),
+    station: &mut Station,
+    now: u64,
+    told: Option<usize>,
+    len: usize,
+) {
+    let mut events = Events::none(rt.alloc());
+    match station.pump(Address::GLOBAL, now, &mut events) {
+        Ok(()) => same(rt, Some(events.len()), told),
         Err(cause) => same(rt, (cause, None), (Refused::NotYet, told)),
     }
     same(rt, station.queue_len(), len);
@@ -69,7 +76,7 @@ fn is_cancelled(rt: &impl Abort, events: &Events) {
 }
 
 // What a station without a port and a message refuses.
-fn is_bare(rt: &impl Abort, station: &mut Station) {
+fn is_bare(rt: &(impl Abort + AllocGlobal), station: &mut Station) {
     let expected = [
         None,
         Some(Refused::NoSuchPort),
@@ -82,7 +89,8 @@ fn is_bare(rt: &impl Abort, station: &mut Station) {
         Some(Refused::NothingToSend),
     ];
     same(rt, refusals(station, 8).as_slice(), expected.as_slice());
-    same(rt, station.pump(B, 0).err(), Some(Refused::NothingToSend));
+    let pumped = station.pump(B, 0, &mut Events::none(rt.alloc()));
+    same(rt, pumped.err(), Some(Refused::NothingToSend));
 }
 
 // With a port and a message it refuses less.
@@ -112,7 +120,7 @@ fn only_nodes_have_stations(rt: HostRuntime) {
 }
 
 // The announcement of a message to all and its packets are queued; the last one ends it.
-fn pump_to_all(rt: &impl Abort, station: &mut Station) {
+fn pump_to_all(rt: &(impl Abort + AllocGlobal), station: &mut Station) {
     pumps_to_all(rt, station, 0, Some(0), 1);
     pumps_to_all(rt, station, 49, None, 1);
     pumps_to_all(rt, station, 50, Some(0), 2);
@@ -141,7 +149,7 @@ fn messages_are_refused(rt: HostRuntime) {
     );
 }
 
-fn begin_and_cancel(rt: &impl Abort, station: &mut Station) {
+fn begin_and_cancel(rt: &(impl Abort + AllocGlobal), station: &mut Station) {
     has_port_and_message(rt, station);
     pumps(rt, station);
     is_pending(rt, station);

@@ -12,7 +12,7 @@ use Rattle.segment_state.proofs.state.SegmentState.inject_and_take.Goals as goal
 pub invariant_of-self-2 : goal.invariant_of-self-2
 invariant_of-self-2 c =
     let s = c.self.inside in
-    let m = inside_moved s 0 c.take_telling.new.self c.index_mut.result.now c.put_passed.new.self c.self.invariant c.index_mut.ensures.value
+    let m = inside_moved s 0 c.take.new.self c.index_mut.result.now c.put_passed.new.self c.self.invariant c.index_mut.ensures.value
     (ap (λ x. x.station.address) (sym c.in-Ok.ensures.ok) ∙ taken_keeps c.index_mut.result.now c.args.frame.now true c.now-now.result)
     (ap (λ (b : Bus). length b.cursors) c.put_passed.ensures.passed ∙ passed_cursors 1 (put s.bus c.args.frame.now)) in
     record { few = m.few; cursors = m.cursors; places = m.places; in_place = m.in_place }
@@ -23,6 +23,6 @@ returns-clause-made c =
     let from_is : c.read_id.result ≡ meaning_of c.args.frame.now.id = c.read_id.ensures ∙ ap meaning_of c.id.ensures.value in
     let foreign : has_station c.args.self.now (meaning_of c.args.frame.now.id).from ≡ false =
     ap (λ m. has_station c.args.self.now m.from) (sym from_is) ∙ ap is_some (sym c.place_of-2.ensures.value) ∙ sym c.is_some.ensures ∙ c.if-is_some.false in
-    inject_taken c.self.inside c.args.self.now c.args.station c.in-Some.place c.now-now.result c.index_mut.result.now c.take_telling.new.self c.args.frame.now c.take_telling.new.told c.in-Ok.is_malformed c.put_passed.new.self c.count_frame.new.counts c.looked.new.self
+    inject_taken c.self.inside c.args.self.now c.args.station c.in-Some.place c.now-now.result c.index_mut.result.now c.take.new.self c.args.frame.now c.take.new.told c.in-Ok.is_malformed c.put_passed.new.self c.count_frame.new.counts c.looked.new.self
     c.fits_frame.ensures c.self.invariant c.self.view_is c.are_level.ensures.sound (sym c.are_level.ensures.value ∙ c.if-not-are_level.false) c.in-Some.ensures.value zero c.in-Some.ensures.within
     foreign c.index_mut.ensures.value c.in-Ok.ensures.refused c.now-now.ensures.value c.in-Ok.ensures.ok c.in-Ok.ensures.malformed c.count_frame.ensures c.put_passed.ensures.passed c.looked.ensures

@@ -16,11 +16,11 @@ index_mut-requires c = within_here c.self.inside c.args.self.now c.in-Some.place
 
 pub invariant_of-self : goal.invariant_of-self
 invariant_of-self c =
-    inside_kept c.self.inside c.in-Some.place c.pump_telling.new.self c.index_mut.result.now c.self.invariant c.index_mut.ensures.value (ap (λ s. s.station.address) (sym c.in-Ok.ensures.ok))
+    inside_kept c.self.inside c.in-Some.place c.pump.new.self c.index_mut.result.now c.self.invariant c.index_mut.ensures.value (ap (λ s. s.station.address) (sym c.in-Ok.ensures.ok))
 
 pub invariant_of-self-in-Err : goal.invariant_of-self-in-Err
 invariant_of-self-in-Err c =
-    inside_kept c.self.inside c.in-Some.place c.pump_telling.new.self c.index_mut.result.now c.self.invariant c.index_mut.ensures.value (ap (λ st. st.address) c.in-Err.ensures.err)
+    inside_kept c.self.inside c.in-Some.place c.pump.new.self c.index_mut.result.now c.self.invariant c.index_mut.ensures.value (ap (λ st. st.address) c.in-Err.ensures.err)
 
 pub returns-in-Ok-clause-answer : goal.returns-in-Ok-clause-answer
 returns-in-Ok-clause-answer c =
@@ -28,7 +28,7 @@ returns-in-Ok-clause-answer c =
     at_here c.self.inside _ _ c.in-Some.place c.index_mut.result.now _ c.self.view_is c.in-Some.ensures.value c.in-Some.ensures.within c.index_mut.ensures.value
     ∙ goes_on _ _ _ (pumps_are c.args.self.now c.in-Some.place c.index_mut.result.now c.args.to) (ap (pumping_refusal c.index_mut.result.now c.args.to) (sym now_is) ∙ sym c.in-Ok.ensures.refused)
     ∙ ap (stepped c.args.self.now c.in-Some.place) (ap (pumped c.index_mut.result.now c.args.to) (sym now_is) ∙ c.in-Ok.ensures.ok)
-    ∙ told_view c.self.inside _ c.in-Some.place c.pump_telling.new.self c.pump_telling.new.told _ _ c.self.view_is c.count_told.ensures refl
+    ∙ told_view c.self.inside _ c.in-Some.place c.pump.new.self c.pump.new.told _ _ c.self.view_is c.count_told.ensures refl
 
 pub returns-in-Err-clause-answer : goal.returns-in-Err-clause-answer
 returns-in-Err-clause-answer c =

@@ -20,11 +20,11 @@ index_mut-requires c = within_here c.self.inside c.args.self.now c.in-Some.place
 
 pub invariant_of-self : goal.invariant_of-self
 invariant_of-self c =
-    inside_kept c.self.inside c.in-Some.place c.take_telling.new.self c.index_mut.result.now c.self.invariant c.index_mut.ensures.value (ap (λ st. st.address) c.in-Err.ensures.err)
+    inside_kept c.self.inside c.in-Some.place c.take.new.self c.index_mut.result.now c.self.invariant c.index_mut.ensures.value (ap (λ st. st.address) c.in-Err.ensures.err)
 
 pub invariant_of-self-2 : goal.invariant_of-self-2
 invariant_of-self-2 c =
-    let kept = inside_kept c.self.inside c.in-Some.place c.take_telling.new.self c.index_mut.result.now c.self.invariant c.index_mut.ensures.value
+    let kept = inside_kept c.self.inside c.in-Some.place c.take.new.self c.index_mut.result.now c.self.invariant c.index_mut.ensures.value
     (ap (λ s. s.station.address) (sym c.in-Ok.ensures.ok) ∙ taken_keeps c.index_mut.result.now c.in-Some-again.frame c.args.room c.now-now.result) in
     record { few = kept.few; cursors = kept.cursors; places = kept.places; in_place = kept.in_place }
 
@@ -33,7 +33,7 @@ returns-clause-answer c =
     let now_is : c.now-now.result ≡ c.args.self.now.now = c.now-now.ensures.value ∙ ap (λ x. x.now) c.self.view_is in
     at_here c.self.inside _ _ c.in-Some.place c.index_mut.result.now _ c.self.view_is c.in-Some.ensures.value c.in-Some.ensures.within c.index_mut.ensures.value
     ∙ repeats_is _ c.args.room c.in-Some.place c.index_mut.result.now c.in-Some-again.frame _ (c.in-Some-again.ensures.frame ∙ ap (λ x. frame_again x.bus c.in-Some.place) c.self.view_is) c.in-Ok.ensures.refused (ap (λ n. taken c.index_mut.result.now c.in-Some-again.frame c.args.room n) (sym now_is) ∙ c.in-Ok.ensures.ok)
-    ∙ repeated_view c.self.inside _ c.in-Some.place c.index_mut.result.now c.in-Some-again.frame c.take_telling.new.self c.take_telling.new.told c.in-Ok.is_malformed c.count_repeat.new.counts _ _ c.self.view_is c.in-Ok.ensures.malformed c.count_repeat.ensures c.looked.ensures refl
+    ∙ repeated_view c.self.inside _ c.in-Some.place c.index_mut.result.now c.in-Some-again.frame c.take.new.self c.take.new.told c.in-Ok.is_malformed c.count_repeat.new.counts _ _ c.self.view_is c.in-Ok.ensures.malformed c.count_repeat.ensures c.looked.ensures refl
 
 pub returns-in-Err-clause-answer : goal.returns-in-Err-clause-answer
 returns-in-Err-clause-answer c =

@@ -29,7 +29,7 @@ index_mut-requires c = within_here c.self.inside c.args.self.now c.in-Some.at c.
 
 pub invariant_of-self : goal.invariant_of-self
 invariant_of-self c =
-    inside_kept c.self.inside c.in-Some.at c.take_telling.new.self c.index_mut.result.now c.self.invariant c.index_mut.ensures.value (ap (λ st. st.address) c.in-Err.ensures.err)
+    inside_kept c.self.inside c.in-Some.at c.take.new.self c.index_mut.result.now c.self.invariant c.index_mut.ensures.value (ap (λ st. st.address) c.in-Err.ensures.err)
 
 pub pass-requires-clause-cursor : goal.pass-requires-clause-cursor
 pass-requires-clause-cursor c = cursor_here c.self.inside c.args.self.now c.in-Some.at c.self.invariant c.self.view_is c.in-Some.ensures.within
@@ -39,7 +39,7 @@ pass-requires-clause-waits c = c.in-Some-peek.ensures.waits.0 refl
 
 pub invariant_of-self-2 : goal.invariant_of-self-2
 invariant_of-self-2 c =
-    inside_moved c.self.inside c.in-Some.at c.take_telling.new.self c.index_mut.result.now c.pass.new.self c.self.invariant c.index_mut.ensures.value
+    inside_moved c.self.inside c.in-Some.at c.take.new.self c.index_mut.result.now c.pass.new.self c.self.invariant c.index_mut.ensures.value
     (ap (λ s. s.station.address) (sym c.in-Ok.ensures.ok) ∙ taken_keeps c.index_mut.result.now c.in-Some-peek.frame.now c.args.room c.now-now.result)
     (ap (λ b. length b.cursors) c.pass.ensures.passed ∙ length-set c.self.inside.bus.cursors c.in-Some.at _)
 
@@ -49,7 +49,7 @@ returns-clause-answer c =
     let next : Some c.in-Some-peek.frame.now ≡ next_frame c.args.self.now.bus c.in-Some.at = c.in-Some-peek.ensures.frame ∙ ap (λ x. next_frame x.bus c.in-Some.at) c.self.view_is in
     at_here c.self.inside _ _ c.in-Some.at c.index_mut.result.now _ c.self.view_is c.in-Some.ensures.value c.in-Some.ensures.within c.index_mut.ensures.value
     ∙ takes_is _ c.args.room c.in-Some.at c.index_mut.result.now c.in-Some-peek.frame.now _ next c.in-Ok.ensures.refused (ap (λ n. taken c.index_mut.result.now c.in-Some-peek.frame.now c.args.room n) (sym now_is) ∙ c.in-Ok.ensures.ok)
-    ∙ taken_view c.self.inside _ c.in-Some.at c.index_mut.result.now c.in-Some-peek.frame.now c.take_telling.new.self c.take_telling.new.told c.in-Ok.is_malformed (moved c.self.inside.bus c.in-Some.at) _ _ _ c.self.view_is c.in-Ok.ensures.malformed refl c.pass.ensures.passed c.looked.ensures refl
+    ∙ taken_view c.self.inside _ c.in-Some.at c.index_mut.result.now c.in-Some-peek.frame.now c.take.new.self c.take.new.told c.in-Ok.is_malformed (moved c.self.inside.bus c.in-Some.at) _ _ _ c.self.view_is c.in-Ok.ensures.malformed refl c.pass.ensures.passed c.looked.ensures refl
 
 pub returns-in-Err-clause-answer : goal.returns-in-Err-clause-answer
 returns-in-Err-clause-answer c =
