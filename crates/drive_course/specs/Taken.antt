@@ -1,5 +1,5 @@
 -- Stations that take a frame with room, one after another.
-use Rattle.std.specs.Prelude.{◌≡◌, ℕ, zero, suc, false, List, [], ◌++◌, Some, None, slice_get, slice_set}
+use Rattle.std.specs.Prelude.{◌≡◌, ℕ, zero, suc, true, false, List, [], ◌++◌, Some, None, slice_get, slice_set}
 use Rattle.bus_frame.specs.Frames.{CanFrame}
 use Rattle.message_events.specs.declared.event.Event.{Event}
 use Rattle.station_core.specs.Station.{Station}

@@ -132,18 +132,21 @@ pub fn take_first(
     ensures steps { FirstTell result frame.now now stations.old stations.new course.old course.new counts.old counts.new }
 {
     let meaning = read_id(frame.id());
-    match read_in_place(frame, &meaning) {
-        Some(
-            (
-                Wire::Packet {
-                    kind,
-                    sequence,
-                    bytes,
-                },
-                from,
-                to,
-            ),
-        ) => {
+    let Some(heard) = read_in_place(frame, &meaning) else {
+        let seen = Seen {
+            frame,
+            meaning,
+            heard: None,
+        };
+        return seen.taken_by_first(stations, now, course, counts);
+    };
+    let (wire, from, to) = heard;
+    match wire {
+        Wire::Packet {
+            kind,
+            sequence,
+            bytes,
+        } => {
             let packet = Wire::Packet {
                 kind,
                 sequence,
@@ -156,11 +159,11 @@ pub fn take_first(
             };
             seen.taken_by_first(stations, now, course, counts)
         }
-        heard => {
+        wire => {
             let seen = Seen {
                 frame,
                 meaning,
-                heard,
+                heard: Some((wire, from, to)),
             };
             seen.taken_by_first(stations, now, course, counts)
         }
