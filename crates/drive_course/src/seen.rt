@@ -50,9 +50,7 @@ impl<'a> Seen<'a> {
             return true;
         }
         match &self.heard {
-            Some((wire, from, to)) => station
-                .hear(wire, *from, *to, true, now, told)
-                .is_ok(),
+            Some((wire, from, to)) => station.hear(wire, *from, *to, true, now, told).is_ok(),
             None => !is_transport(self.frame),
         }
     }

@@ -168,7 +168,12 @@ fn put_apart(seg: &mut SegmentState, station: Address, course: &mut Course) -> R
 }
 
 // Pumps the lane, and again at its time if it is too soon.
-fn pump_lane(seg: &mut SegmentState, from: Address, to: Address, course: &mut Course) -> Result<(), Stop>
+fn pump_lane(
+    seg: &mut SegmentState,
+    from: Address,
+    to: Address,
+    course: &mut Course,
+) -> Result<(), Stop>
     ensures { (start : State) (d : Drive) → IsCourse None start d seg.old course.old → Went start (pumps from to d) seg.new course.new result }
 {
     one_byte(to);
@@ -183,7 +188,12 @@ fn pump_lane(seg: &mut SegmentState, from: Address, to: Address, course: &mut Co
 }
 
 // The lane is pumped after a Tick of what is missing.
-fn pump_in_time(seg: &mut SegmentState, from: Address, to: Address, course: &mut Course) -> Result<(), Stop>
+fn pump_in_time(
+    seg: &mut SegmentState,
+    from: Address,
+    to: Address,
+    course: &mut Course,
+) -> Result<(), Stop>
     ensures { (start : State) (d : Drive) → IsCourse None start d seg.old course.old → Went start (makes (makes d (Tick (missing_at (station_at seg.old from).lanes to.0 seg.old.now))) (Pump from to)) seg.new course.new result }
 {
     let missing = seg.missing(from, to);
@@ -192,7 +202,12 @@ fn pump_in_time(seg: &mut SegmentState, from: Address, to: Address, course: &mut
 }
 
 // The lane is pumped.
-fn pump_once(seg: &mut SegmentState, from: Address, to: Address, course: &mut Course) -> Result<(), Stop>
+fn pump_once(
+    seg: &mut SegmentState,
+    from: Address,
+    to: Address,
+    course: &mut Course,
+) -> Result<(), Stop>
     ensures { (start : State) (d : Drive) → IsCourse None start d seg.old course.old → Went start (makes d (Pump from to)) seg.new course.new result }
 {
     one_byte(to);
@@ -205,7 +220,12 @@ fn pump_once(seg: &mut SegmentState, from: Address, to: Address, course: &mut Co
 
 // Makes room in a course for the event of a pump. Memory is taken only once that isn't refused.
 #[inline(always)]
-fn make_pump_part(seg: &SegmentState, from: Address, to: Address, course: &mut Course) -> Result<(), Stop>
+fn make_pump_part(
+    seg: &SegmentState,
+    from: Address,
+    to: Address,
+    course: &mut Course,
+) -> Result<(), Stop>
     ensures room { OnOk result (vec_len course.new.parts < vec_capacity course.new.parts) }
     ensures same { SameTold course.old course.new }
     ensures stopped { IfErr result (λ stop. IsAnswer (at_address seg.now from (pumping seg.now to)) seg.now seg.now (Err stop)) }

@@ -20,13 +20,7 @@ impl SegmentState {
             return 0;
         };
         let now = self.clock.now();
-        let taken = take_first(
-            &mut self.stations,
-            &frame,
-            now,
-            course,
-            &mut self.counts,
-        );
+        let taken = take_first(&mut self.stations, &frame, now, course, &mut self.counts);
         self.bus.pass_first(taken);
         taken
     }
@@ -35,11 +29,7 @@ impl SegmentState {
     /// `transmit` and `take_abreast`. Returns how many do. The frame is read and sorted before it is put on the bus, where it replaces the
     /// newest if all of them take it. None if they aren't level or there is no such frame; then nothing changes.
     #[inline(always)]
-    pub fn put_abreast(
-        &mut self,
-        station: Address,
-        course: &mut Course,
-    ) -> Option<usize>
+    pub fn put_abreast(&mut self, station: Address, course: &mut Course) -> Option<usize>
         requires room { vec_len course.old.frames < vec_capacity course.old.frames }
         ensures put { IfSome result (λ n. PutAbreast station n self.old self.new course.old course.new) }
         ensures none { IfNone result (self.new ≡ self.old) }
@@ -54,13 +44,7 @@ impl SegmentState {
         count_frame(&mut self.counts);
         course.put(Some(frame));
         let now = self.clock.now();
-        let taken = take_first(
-            &mut self.stations,
-            &frame,
-            now,
-            course,
-            &mut self.counts,
-        );
+        let taken = take_first(&mut self.stations, &frame, now, course, &mut self.counts);
         self.bus.put_passed(frame, taken);
         Some(taken)
     }

@@ -4,8 +4,8 @@ ghost use Rattle.std.specs.Bool.{OnTrue, OnFalse};
 ghost use Rattle.segment_law.specs.declared.call.Call.TheVariants.{Transmit, Inject};
 ghost use Rattle.segment_state.specs.PutTaken.{PutTaken};
 
-use crate::values::fits_frame;
 use crate::state::SegmentState;
+use crate::values::fits_frame;
 use bus_frame::Frame;
 use drive_course::count_frame;
 use pgn_ids::{Address, read_id};

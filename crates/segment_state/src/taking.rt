@@ -64,11 +64,7 @@ impl SegmentState {
 
     /// `take_telling` with room, unless the frame completes a message: then this returns None, and nothing has changed yet.
     #[inline(always)]
-    pub fn take_part(
-        &mut self,
-        station: Address,
-        told: &mut Events,
-    ) -> Result<Option<()>, Stop>
+    pub fn take_part(&mut self, station: Address, told: &mut Events) -> Result<Option<()>, Stop>
         requires { told.old ≡ [] }
         ensures answer { IsPart told.new (at_address self.old station (takes self.old true)) self.old self.new result }
         ensures none { IfOk result (λ part. OnSome part (wanted self.old station false ≡ ([], 0))) }
