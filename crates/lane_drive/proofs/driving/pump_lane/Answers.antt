@@ -3,7 +3,7 @@ use Rattle.drive_course.specs.Joined.{joined}
 use Rattle.segment_law.specs.Drive.{Driven}
 use Rattle.lane_drive.specs.Drives.{HasGone, too_soon}
 use Rattle.segment_state.specs.declared.stop.Stop.TheVariants.{Refused}
-use Rattle.lane_drive.proofs.Causes.{cause_refused}
+use Rattle.segment_state.proofs.Causes.{cause_refused}
 use Rattle.lane_drive.proofs.Steps.{pumps_once, pumps_later, pump_stopped}
 use Rattle.lane_drive.proofs.driving.pump_lane.Goals as goal
 
