@@ -7,7 +7,6 @@ use std::marker::Model;
 use text_digits::{put_decimal, put_text};
 
 /// A line of words, which contracts see as a list of bytes: it has neither an indent nor a line feed.
-#[derive(Debug)]
 pub struct Line {
     text: Vec<u8>,
 }

@@ -6,7 +6,7 @@ use std::alloc::AllocError;
 use text_digits::{put_decimal, put_text};
 
 /// The thing that an identification names.
-#[derive(Clone, Copy, Debug, PartialEq, Eq)]
+#[derive(Clone, Copy)]
 pub enum Kind {
     /// A vehicle (PGN FEEC).
     Vehicle,

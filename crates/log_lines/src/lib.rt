@@ -9,11 +9,13 @@
 #![tactic(auto)]
 
 mod explained;
+mod fields;
 mod frames;
 mod listing;
 mod meanings;
 mod members;
 mod objects;
+mod parts;
 mod rows;
 mod strings;
 mod table;

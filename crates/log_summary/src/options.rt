@@ -10,7 +10,7 @@ use std::alloc::{AllocError, Global};
 use std::marker::Model;
 
 /// Numbers that are asked for. If none is named, each is.
-#[derive(Debug, Drop)]
+#[derive(Drop)]
 pub struct Wanted {
     named: Vec<u32>,
 }
@@ -61,7 +61,7 @@ impl Wanted {
 }
 
 /// What of a log is printed and counted.
-#[derive(Debug, Drop)]
+#[derive(Drop)]
 pub struct Options {
     /// Messages of these PGNs.
     pub pgns: Wanted,
