@@ -8,7 +8,7 @@ use Rattle.log_courses.specs.declared.course.Course.{Course}
 use Rattle.log_courses.specs.declared.course.Place.{Place}
 use Rattle.log_reports.specs.declared.told.Told.{Told}
 use Rattle.log_reports.specs.declared.told.Told.TheVariants.{Given, Aborted, Lost}
-use Rattle.explained_messages.specs.Groups.{explained}
+use Rattle.log_reports.specs.Groups.{explained}
 use Rattle.log_lines.specs.Explained.{words_lines}
 use Rattle.log_lines.specs.Listing.{mark_lines}
 use Rattle.log_lines.specs.Text.{told_line, single_line, wrong_line}

@@ -9,13 +9,12 @@ ghost use Rattle.bus_decode.specs.Telling.{in_words, words_told, message_text, s
 
 use crate::followed::{Followed, sum_up};
 use bus_frame::Frame;
-use explained_messages::{Line, explain};
 use log_courses::{Course, Place};
 use log_lines::{
     put_explained, put_marks, put_row_objects, put_single, put_single_object, put_table, put_told,
     put_told_object, put_wrong, put_wrong_object,
 };
-use log_reports::Told;
+use log_reports::{Line, Told, explain};
 use log_summary::{Options, Summary};
 use log_text::Iface;
 use pgn_ids::{Pgn, read_id};

@@ -3,7 +3,7 @@ ghost use Rattle.std.specs.Prelude.{◌≡◌, ◌++◌, OnOk};
 ghost use Rattle.log_lines.specs.Explained.{words_line, words_lines};
 
 use crate::parts::{Part, put_parts};
-use explained_messages::Line;
+use log_reports::Line;
 use std::alloc::AllocError;
 
 fn put_line(out: &mut Vec<u8>, line: &Line) -> Result<(), AllocError>

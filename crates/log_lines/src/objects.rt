@@ -6,24 +6,23 @@ ghost use Rattle.log_lines.specs.Json.{given_members, aborted_members, lost_memb
 use crate::fields::Field;
 use crate::members::{Member, put_line};
 use bus_frame::Frame;
-use explained_messages::Line;
 use log_courses::{Course, Detail};
 use log_fields::Iface;
-use log_reports::{Cause, Key, Told, cause_words};
+use log_reports::{Cause, Key, Line, Told, cause_words};
 use pgn_ids::{Address, Pgn, read_id};
 use std::alloc::AllocError;
 
 /// The line of a message that was given.
 #[tactic(auto, unfolding(crate::specs::Json::given_members))]
-fn put_given(
+fn put_given<'a>(
     out: &mut Vec<u8>,
     detail: Detail,
     now: u64,
-    course: &Course,
-    explained: &[Line],
-    key: &Key,
+    course: &'a Course,
+    explained: &'a [Line],
+    key: &'a Key,
     pgn: Pgn,
-    bytes: &[u8],
+    bytes: &'a [u8],
 ) -> Result<(), AllocError>
     ensures { OnOk result (out.new.items ≡ out.old.items ++ object_line (given_members detail now course.now explained.now key.now pgn bytes.now)) }
 {
@@ -46,12 +45,12 @@ fn put_given(
 
 /// The line of a message that is lost.
 #[tactic(auto, unfolding(crate::specs::Json::lost_members))]
-fn put_lost(
+fn put_lost<'a>(
     out: &mut Vec<u8>,
     detail: Detail,
     now: u64,
-    course: &Course,
-    key: &Key,
+    course: &'a Course,
+    key: &'a Key,
     pgn: Pgn,
     have: u32,
     size: u32,
@@ -78,12 +77,12 @@ fn put_lost(
 
 /// The line of a message that was aborted.
 #[tactic(auto, unfolding(crate::specs::Json::aborted_members))]
-fn put_aborted(
+fn put_aborted<'a>(
     out: &mut Vec<u8>,
     detail: Detail,
     now: u64,
-    course: &Course,
-    key: &Key,
+    course: &'a Course,
+    key: &'a Key,
     pgn: Pgn,
     reason: u8,
     who: Address,
@@ -147,17 +146,15 @@ pub fn put_told_object(
     }
 }
 
-/// The line of a frame that carries nothing of a message, seen at a time in microseconds, with these lines that say what it means, if there are
-/// any.
 #[tactic(auto, unfolding(crate::specs::Json::frame_members))]
-pub fn put_single_object(
+fn put_frame<'a>(
     out: &mut Vec<u8>,
     now: u64,
-    iface: Iface,
-    explained: &[Line],
-    frame: &Frame,
+    iface: &'a Iface,
+    explained: &'a [Line],
+    frame: &'a Frame,
 ) -> Result<(), AllocError>
-    ensures { OnOk result (out.new.items ≡ out.old.items ++ single_object now iface explained.now frame.now) }
+    ensures { OnOk result (out.new.items ≡ out.old.items ++ single_object now iface.now explained.now frame.now) }
 {
     let meaning = read_id(frame.id());
     let bytes = frame.bytes();
@@ -172,6 +169,20 @@ pub fn put_single_object(
         Member::Field(Field::Number("to", u64::from(meaning.to.0))),
     ];
     put_line(out, &Field::Hex("data", bytes), &others)
+}
+
+/// The line of a frame that carries nothing of a message, seen at a time in microseconds, with these lines that say what it means, if there are
+/// any.
+pub fn put_single_object(
+    out: &mut Vec<u8>,
+    now: u64,
+    iface: Iface,
+    explained: &[Line],
+    frame: &Frame,
+) -> Result<(), AllocError>
+    ensures { OnOk result (out.new.items ≡ out.old.items ++ single_object now iface explained.now frame.now) }
+{
+    put_frame(out, now, &iface, explained, frame)
 }
 
 /// The line of a wrong line, by its number.

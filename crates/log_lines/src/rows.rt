@@ -88,11 +88,11 @@ fn put_line(out: &mut Vec<u8>, aborts: &[AbortCount], others: &[Member]) -> Resu
 
 /// The line of a row of an interface that has so many frames.
 #[tactic(auto, unfolding(crate::specs::Rows::row_members))]
-fn put_row(
+fn put_row<'a>(
     out: &mut Vec<u8>,
-    row: &Row,
+    row: &'a Row,
     aborts: &[AbortCount],
-    lost: &[LossCount],
+    lost: &'a [LossCount],
     all: u64,
 ) -> Result<(), AllocError>
     ensures { OnOk result (out.new.items ≡ out.old.items ++ object_line (row_members row.now aborts.now lost.now all)) }

@@ -10,11 +10,11 @@ use pgn_ids::{Address, Pgn, read_id};
 use std::alloc::AllocError;
 
 /// When something was seen, on which interface, what it is, between which addresses it went, and its PGN.
-fn put_head(
+fn put_head<'a>(
     out: &mut Vec<u8>,
     now: u64,
-    iface: &Iface,
-    what: &str,
+    iface: &'a Iface,
+    what: &'a str,
     from: Address,
     to: Address,
     pgn: Pgn,

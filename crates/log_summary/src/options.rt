@@ -2,9 +2,8 @@
 ghost use Rattle.std.specs.Prelude.{◌≡◌, [], ◌∷◌, ◌++◌, OnOk};
 ghost use Rattle.log_summary.specs.Options.{is_among, takes, is_asked_for, is_told_asked, shows, sums_up, shows_singles, is_single_asked, follows, detail_of};
 
-use explained_messages::has_form;
 use log_courses::Detail;
-use log_reports::{Told, key_told, pgn_told};
+use log_reports::{Told, has_form, key_told, pgn_told};
 use pgn_ids::{Address, Pgn};
 use std::alloc::{AllocError, Global};
 use std::marker::Model;
