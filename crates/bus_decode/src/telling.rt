@@ -55,6 +55,7 @@ fn put_lines(out: &mut Vec<u8>, now: u64, told: &Told, words: &[Line]) -> Result
 }
 
 /// Puts the report on a message at a time.
+#[tactic(auto, unfolding(crate::specs::Telling::message_text))]
 fn put_message(
     alloc: Global,
     out: &mut Vec<u8>,
@@ -144,6 +145,7 @@ fn put_plain(
 }
 
 /// Puts the reports at the end of the log. If courses are followed, those of the reports are taken out.
+#[tactic(auto, unfolding(crate::specs::Telling::told_text, crate::specs::Followed::left_followed))]
 pub(crate) fn tell(
     alloc: Global,
     out: &mut Vec<u8>,
@@ -162,6 +164,7 @@ pub(crate) fn tell(
 }
 
 /// Puts the reports at a frame. If courses are followed, those of the messages that continue have one frame more.
+#[tactic(auto, unfolding(crate::specs::Telling::told_text, crate::specs::Followed::heard_followed))]
 pub(crate) fn tell_frame(
     alloc: Global,
     out: &mut Vec<u8>,
@@ -198,6 +201,7 @@ fn put_summary(
 }
 
 /// Puts the summary of a log that has ended, if it is asked for.
+#[tactic(auto, unfolding(crate::specs::Telling::summary_text))]
 pub(crate) fn tell_summary(
     alloc: Global,
     out: &mut Vec<u8>,
@@ -247,6 +251,7 @@ fn put_in_words(
 }
 
 /// Puts a frame that carries nothing of a message, if it is asked for.
+#[tactic(auto, unfolding(crate::specs::Telling::single_text))]
 pub(crate) fn tell_single(
     alloc: Global,
     out: &mut Vec<u8>,
@@ -267,6 +272,7 @@ pub(crate) fn tell_single(
 }
 
 /// A wrong line, by its number.
+#[tactic(auto, unfolding(crate::specs::Telling::wrong_text))]
 pub(crate) fn tell_wrong(
     out: &mut Vec<u8>,
     options: &Options,

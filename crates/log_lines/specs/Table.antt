@@ -48,5 +48,5 @@ row_lines s r = row_line r (frames_on r.iface s) ++ abort_lines (aborts_of r s) 
 unfoldable pub header_line : List ℕ
 header_line = codes "interface         pgn from   to    given      bytes       mean    longest  again  share\n"
 
-abbrev pub table_text : Summary → List ℕ
+unfoldable pub table_text : Summary → List ℕ
 table_text s = header_line ++ flat_map (row_lines s) (rows_of s)

@@ -52,17 +52,17 @@ abbrev pub lost_line : ℕ → Key → (pgn have size : ℕ) → Cause → List 
 lost_line now key pgn have size cause = head_text now key (codes " lost ") pgn ++ loss_text have size cause
 
 -- the line of a report at a time
-abbrev pub told_line : ℕ → Told → List ℕ
+unfoldable pub told_line : ℕ → Told → List ℕ
 told_line now (Given key pgn bytes) = given_line now key pgn bytes
 told_line now (Aborted key pgn reason who) = aborted_line now key pgn reason who
 told_line now (Lost key pgn have size cause) = lost_line now key pgn have size cause
 
 -- a wrong line, by its number
-abbrev pub wrong_line : ℕ → List ℕ
+unfoldable pub wrong_line : ℕ → List ℕ
 wrong_line n = codes "line " ++ decimal n ++ codes ": not a log line\n"
 
 -- a frame that carries nothing of a message
-abbrev pub single_line : ℕ → Iface → CanFrame → List ℕ
+unfoldable pub single_line : ℕ → Iface → CanFrame → List ℕ
 single_line now iface frame =
     let m = meaning_of frame.id in
     place_text now iface (codes " frame ") ++ way_text m.from m.to m.pgn ++ message_text frame.bytes

@@ -18,6 +18,7 @@ fn put_line(out: &mut Vec<u8>, line: &Line) -> Result<(), AllocError>
 }
 
 /// Lines of words, each indented by two blanks.
+#[tactic(auto, unfolding(crate::specs::Explained::words_lines))]
 pub fn put_explained(out: &mut Vec<u8>, lines: &[Line]) -> Result<(), AllocError>
     ensures { OnOk result (out.new.items ≡ out.old.items ++ words_lines lines.now) }
 {

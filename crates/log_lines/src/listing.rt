@@ -49,6 +49,7 @@ fn put_mark(out: &mut Vec<u8>, mark: &Mark) -> Result<(), AllocError>
 }
 
 /// The lines of frames of a message, each indented by two blanks.
+#[tactic(auto, unfolding(crate::specs::Listing::mark_lines))]
 pub fn put_marks(out: &mut Vec<u8>, marks: &[Mark]) -> Result<(), AllocError>
     ensures { OnOk result (out.new.items ≡ out.old.items ++ mark_lines marks.now) }
 {

@@ -107,6 +107,7 @@ fn put_aborted<'a>(
 
 /// The line of a report at a time in microseconds, with its course, and with the course's frames if frames are listed. A message that was given
 /// has these lines of its meaning, if there are any.
+#[tactic(auto, unfolding(crate::specs::Json::told_object))]
 pub fn put_told_object(
     out: &mut Vec<u8>,
     detail: Detail,
@@ -146,7 +147,7 @@ pub fn put_told_object(
     }
 }
 
-#[tactic(auto, unfolding(crate::specs::Json::frame_members))]
+#[tactic(auto, unfolding(crate::specs::Json::frame_members, crate::specs::Json::single_object))]
 fn put_frame<'a>(
     out: &mut Vec<u8>,
     now: u64,
@@ -186,7 +187,7 @@ pub fn put_single_object(
 }
 
 /// The line of a wrong line, by its number.
-#[tactic(auto, unfolding(crate::specs::Json::wrong_members))]
+#[tactic(auto, unfolding(crate::specs::Json::wrong_members, crate::specs::Json::wrong_object))]
 pub fn put_wrong_object(out: &mut Vec<u8>, number: u64) -> Result<(), AllocError>
     ensures { OnOk result (out.new.items ≡ out.old.items ++ wrong_object number) }
 {

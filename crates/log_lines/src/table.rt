@@ -127,6 +127,7 @@ fn put_header(out: &mut Vec<u8>) -> Result<(), AllocError>
 }
 
 /// A line that names the columns, and the lines of each row.
+#[tactic(auto, unfolding(crate::specs::Table::table_text))]
 pub fn put_table(alloc: Global, out: &mut Vec<u8>, summary: &Summary) -> Result<(), AllocError>
     ensures { OnOk result (out.new.items ≡ out.old.items ++ table_text summary.now) }
 {

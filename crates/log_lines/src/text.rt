@@ -105,6 +105,7 @@ fn put_lost(
 }
 
 /// The line of a report at a time, in microseconds.
+#[tactic(auto, unfolding(crate::specs::Text::told_line))]
 pub fn put_told(out: &mut Vec<u8>, now: u64, told: &Told) -> Result<(), AllocError>
     ensures { OnOk result (out.new.items ≡ out.old.items ++ told_line now told.now) }
 {
@@ -127,6 +128,7 @@ pub fn put_told(out: &mut Vec<u8>, now: u64, told: &Told) -> Result<(), AllocErr
 }
 
 /// The line of a wrong line, by its number.
+#[tactic(auto, unfolding(crate::specs::Text::wrong_line))]
 pub fn put_wrong(out: &mut Vec<u8>, number: u64) -> Result<(), AllocError>
     ensures { OnOk result (out.new.items ≡ out.old.items ++ wrong_line number) }
 {
@@ -139,6 +141,7 @@ pub fn put_wrong(out: &mut Vec<u8>, number: u64) -> Result<(), AllocError>
 }
 
 /// The line of a frame that carries nothing of a message, seen at a time in microseconds.
+#[tactic(auto, unfolding(crate::specs::Text::single_line))]
 pub fn put_single(
     out: &mut Vec<u8>,
     now: u64,

@@ -13,7 +13,7 @@ abbrev pub has_form : ℕ → Bool
 has_form pgn = is_faults pgn || pgn == 0xFEDA || pgn == 0xFEEB || pgn == 0xFEEC || pgn == 0xFDC5
 
 -- the lines of a message with these bytes, none if its PGN has no form
-abbrev pub explained : (pgn : ℕ) → List ℕ → List (List ℕ)
+unfoldable pub explained : (pgn : ℕ) → List ℕ → List (List ℕ)
 explained pgn bytes =
     if is_faults pgn then fault_list bytes
     else if pgn == 0xFEDA then software_identification bytes

@@ -42,6 +42,7 @@ pub fn has_form(pgn: Pgn) -> bool
 }
 
 /// The lines of a message, none if its PGN has no form. It fails only if memory is refused.
+#[tactic(auto, unfolding(crate::specs::Groups::explained))]
 pub fn explain(alloc: Global, pgn: Pgn, bytes: &[u8]) -> Result<Vec<Line>, AllocError>
     ensures { IfOk result (λ lines. lines.items ≡ explained pgn bytes.now) }
 {
