@@ -13,7 +13,7 @@ use std::io::{BufRead, Write};
 use text_lines::tell;
 
 /// What is wrong with a line of a log, in the order in which it is looked for.
-#[derive(Clone, Copy)]
+#[derive(Clone, Copy, PartialEq, Eq)]
 pub enum Fault {
     /// There are more than 2^64 - 2 lines.
     TooManyLines,
@@ -36,7 +36,7 @@ impl fmt::Display for Fault {
 }
 
 /// Why a log wasn't read to its end.
-#[derive(Clone, Copy)]
+#[derive(Clone, Copy, PartialEq, Eq)]
 pub enum Cause {
     /// The reader failed.
     ReadFailed,

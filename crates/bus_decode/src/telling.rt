@@ -1,9 +1,7 @@
 //! The printed text of the reports, as the options say.
-ghost use Rattle.std.specs.Prelude.{◌≡◌, ◌++◌, IfOk, OnOk, if◌then◌else◌};
+ghost use Rattle.std.specs.Prelude.{◌≡◌, ◌++◌, IfOk, OnOk};
 ghost use Rattle.log_lines.specs.Explained.{words_lines};
 ghost use Rattle.log_lines.specs.Text.{told_line};
-ghost use Rattle.log_lines.specs.Rows.{row_objects};
-ghost use Rattle.log_lines.specs.Table.{table_text};
 ghost use Rattle.bus_decode.specs.Followed.{after_each, left_followed, heard_followed};
 ghost use Rattle.bus_decode.specs.Telling.{in_words, words_told, message_text, shown_text, followed_text, plain_line, plain_text, told_text, summary_text, frame_text, single_text, wrong_text};
 
@@ -185,21 +183,6 @@ pub(crate) fn tell_frame(
     followed.hear(alloc, options, iface, frame, place, told)
 }
 
-fn put_summary(
-    alloc: Global,
-    out: &mut Vec<u8>,
-    options: &Options,
-    summary: &Summary,
-) -> Result<(), AllocError>
-    ensures { OnOk result (out.new.items ≡ out.old.items ++ (if options.now.json then row_objects summary.now else table_text summary.now)) }
-{
-    if options.json {
-        put_row_objects(alloc, out, summary)
-    } else {
-        put_table(alloc, out, summary)
-    }
-}
-
 /// Puts the summary of a log that has ended, if it is asked for.
 #[tactic(auto, unfolding(crate::specs::Telling::summary_text))]
 pub(crate) fn tell_summary(
@@ -210,10 +193,14 @@ pub(crate) fn tell_summary(
 ) -> Result<(), AllocError>
     ensures { OnOk result (out.new.items ≡ out.old.items ++ summary_text options.now summary.now) }
 {
-    if options.summary {
-        return put_summary(alloc, out, options, summary);
+    if !options.summary {
+        return Ok(());
     }
-    Ok(())
+    if options.json {
+        put_row_objects(alloc, out, summary)
+    } else {
+        put_table(alloc, out, summary)
+    }
 }
 
 /// A frame that carries nothing of a message, with what its bytes mean in words.
