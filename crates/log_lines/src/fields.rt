@@ -52,12 +52,7 @@ pub(crate) fn put_number(
 
 /// A member that is a text.
 #[tactic(auto, unfolding(crate::specs::Objects::member_text))]
-fn put_string(
-    out: &mut Vec<u8>,
-    later: bool,
-    name: &str,
-    text: &[u8],
-) -> Result<(), AllocError>
+fn put_string(out: &mut Vec<u8>, later: bool, name: &str, text: &[u8]) -> Result<(), AllocError>
     ensures { OnOk result (out.new.items ≡ out.old.items ++ member_text later name.now (string text.now)) }
 {
     put_key(out, later, name)?;
@@ -76,12 +71,7 @@ fn put_digits(out: &mut Vec<u8>, bytes: &[u8]) -> Result<(), AllocError>
 
 /// A member that is the text of bytes.
 #[tactic(auto, unfolding(crate::specs::Objects::member_text))]
-fn put_hex(
-    out: &mut Vec<u8>,
-    later: bool,
-    name: &str,
-    bytes: &[u8],
-) -> Result<(), AllocError>
+fn put_hex(out: &mut Vec<u8>, later: bool, name: &str, bytes: &[u8]) -> Result<(), AllocError>
     ensures { OnOk result (out.new.items ≡ out.old.items ++ member_text later name.now (string (unspaced bytes.now))) }
 {
     put_key(out, later, name)?;
@@ -108,7 +98,11 @@ fn put_fields(out: &mut Vec<u8>, fields: &[Field]) -> Result<(), AllocError>
 }
 
 /// An object within another one, of numbers and texts.
-pub(crate) fn put_object(out: &mut Vec<u8>, first: &Field, others: &[Field]) -> Result<(), AllocError>
+pub(crate) fn put_object(
+    out: &mut Vec<u8>,
+    first: &Field,
+    others: &[Field],
+) -> Result<(), AllocError>
     ensures { OnOk result (out.new.items ≡ out.old.items ++ compact_text (object_of (field_named first.now ∷ map field_named others.now))) }
 {
     put_text(out, "{")?;

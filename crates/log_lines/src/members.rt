@@ -67,7 +67,11 @@ pub(crate) fn put_rest(out: &mut Vec<u8>, members: &[Member]) -> Result<(), Allo
 }
 
 /// The line of an object.
-pub(crate) fn put_line(out: &mut Vec<u8>, first: &Field, others: &[Member]) -> Result<(), AllocError>
+pub(crate) fn put_line(
+    out: &mut Vec<u8>,
+    first: &Field,
+    others: &[Member],
+) -> Result<(), AllocError>
     ensures { OnOk result (out.new.items ≡ out.old.items ++ object_line (field_named first.now ∷ members_named others.now)) }
 {
     put_text(out, "{")?;

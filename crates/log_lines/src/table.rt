@@ -1,6 +1,6 @@
 //! The table of a summary.
 ghost use Rattle.std.specs.Prelude.{◌≡◌, ◌++◌, flat_map, OnOk};
-ghost use Rattle.log_lines.specs.Table.{name_text, abort_line, abort_lines, loss_line, loss_lines, row_line, row_lines, header_line, table_text};
+ghost use Rattle.log_lines.specs.Table.{name_text, way_text, given_text, rest_text, abort_line, abort_lines, loss_line, loss_lines, row_line, row_lines, header_line, table_text};
 
 use crate::parts::{Part, put_blanks, put_parts};
 use log_fields::Iface;
@@ -20,8 +20,9 @@ fn put_name(out: &mut Vec<u8>, iface: &Iface) -> Result<(), AllocError>
     put_blanks(out, NAME.saturating_sub(name.len()))
 }
 
-fn put_row(out: &mut Vec<u8>, row: &Row, all: u64) -> Result<(), AllocError>
-    ensures { OnOk result (out.new.items ≡ out.old.items ++ row_line row.now all) }
+/// The columns that identify the row.
+fn put_way(out: &mut Vec<u8>, row: &Row) -> Result<(), AllocError>
+    ensures { OnOk result (out.new.items ≡ out.old.items ++ way_text row.now) }
 {
     put_name(out, &row.iface)?;
     let parts = [
@@ -31,6 +32,15 @@ fn put_row(out: &mut Vec<u8>, row: &Row, all: u64) -> Result<(), AllocError>
         Part::Address(row.from),
         Part::Text("   "),
         Part::Address(row.to),
+    ];
+    put_parts(out, &parts)
+}
+
+/// The messages that were given, what was asked for again, and the share of so many frames.
+fn put_counts(out: &mut Vec<u8>, row: &Row, all: u64) -> Result<(), AllocError>
+    ensures { OnOk result (out.new.items ≡ out.old.items ++ (given_text row.now ++ rest_text row.now all)) }
+{
+    let parts = [
         Part::Column(8, row.given),
         Part::Column(10, row.bytes),
         Part::Column(10, row.mean()),
@@ -40,6 +50,13 @@ fn put_row(out: &mut Vec<u8>, row: &Row, all: u64) -> Result<(), AllocError>
         Part::Text("\n"),
     ];
     put_parts(out, &parts)
+}
+
+fn put_row(out: &mut Vec<u8>, row: &Row, all: u64) -> Result<(), AllocError>
+    ensures { OnOk result (out.new.items ≡ out.old.items ++ row_line row.now all) }
+{
+    put_way(out, row)?;
+    put_counts(out, row, all)
 }
 
 fn put_abort(out: &mut Vec<u8>, abort: &AbortCount) -> Result<(), AllocError>
