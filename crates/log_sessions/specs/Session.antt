@@ -94,17 +94,13 @@ patience to = if to.0 == global_address then T1 * 1000 else CONNECTION_PATIENCE
 abbrev pub is_silent : (to : Address) → Session → (now : ℕ) → Bool
 is_silent to s now = nat_le (patience to) (now - s.heard)
 
--- the highest time
-abbrev last_time : ℕ
-last_time = 2 ^ 64 - 1
-
--- from when on it is silent, if no frame of it is seen
+-- from when on it is silent, if no frame of it is seen: at the last time at the latest
 abbrev pub due : (to : Address) → Session → ℕ
-due to s = min (s.heard + patience to) last_time
+due to s = min (s.heard + patience to) (2 ^ 64 - 1)
 
--- from when on any message can be silent whose last frame is seen now: the ends of a broadcast wait least
+-- from when on a message can be silent whose last frame is seen now: the ends of a broadcast wait least
 abbrev pub soonest : (now : ℕ) → ℕ
-soonest now = min (now + T1 * 1000) last_time
+soonest now = min (now + T1 * 1000) (2 ^ 64 - 1)
 
 -- all of it was received
 abbrev pub given_of : Key → (pgn : ℕ) → Join → Option Told
