@@ -24,10 +24,12 @@ fields_put (Ok done) a b fs p = p ∙ ap (λ s. a ++ s) (fields_closed fs)
 fields_put (Err error) a b fs p = tt
 
 by_frames : (detail : Detail) (marks : List Mark) (ns : List Named) → frames_text detail marks ++ rest_text ns ≡ rest_text (with_frames detail marks ns)
+unfolding with_frames
 by_frames Ends marks ns = refl
 by_frames Frames marks ns = refl
 
 by_explained : (lines : List (List ℕ)) (ns : List Named) → explained_text lines ++ rest_text ns ≡ rest_text (with_explained lines ns)
+unfolding with_explained
 by_explained [] ns = refl
 by_explained (l ∷ ls) ns = refl
 
