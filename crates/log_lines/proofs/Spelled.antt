@@ -22,7 +22,6 @@ later_ones (m ∷ ms) =
 
 -- the line of an object that has a member
 pub line_spelled : (m : Named) (ms : List Named) → object_line (m ∷ ms) ≡ codes "{" ++ (member_text false m.0 m.1 ++ rest_text ms)
-unfolding object_line
 line_spelled m ms =
     let rest : List ℕ = members_text true (members_from ms) in
     ap (λ s. 123 ∷ (s ++ codes "\n")) (one_more false m.0 m.1 rest)

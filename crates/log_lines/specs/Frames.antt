@@ -36,7 +36,7 @@ abbrev pub frames_array : List Mark → Data
 frames_array marks = array_of (map mark_object marks)
 
 -- with these members behind that one, if frames are listed
-unfoldable pub with_frames : Detail → List Mark → List Named → List Named
+abbrev pub with_frames : Detail → List Mark → List Named → List Named
 with_frames Ends marks rest = rest
 with_frames Frames marks rest = (codes "frames", frames_array marks) ∷ rest
 

@@ -1,14 +1,15 @@
 -- The printed text of a log as JSON: an object a line, with its members in the order of their names. Times are in microseconds.
 use Rattle.std.specs.Prelude.{ℕ, List, [], ◌∷◌, length, codes}
 use Rattle.bus_frame.specs.Frames.{CanFrame}
-use Rattle.log_lines.specs.Objects.{Named, count_of, object_line}
+use Rattle.log_lines.specs.Objects.{Named, object_of, count_of, object_line}
 use Rattle.pgn_ids.specs.Identifier.{meaning_of}
 use Rattle.pgn_ids.specs.declared.address.Address.{Address}
-use Rattle.serde_json.specs.Data.{string}
+use Rattle.serde_json.specs.Data.{Data, string}
 use Rattle.text_digits.specs.Digits.{unspaced}
 use Rattle.log_fields.specs.Iface.{name_of}
 use Rattle.log_fields.specs.declared.iface.Iface.{Iface}
 use Rattle.log_courses.specs.declared.course.Course.{Course}
+use Rattle.log_courses.specs.declared.course.Place.{Place}
 use Rattle.log_courses.specs.declared.marks.Detail.{Detail}
 use Rattle.log_reports.specs.declared.key.Key.{Key}
 use Rattle.log_reports.specs.declared.told.Cause.{Cause}
@@ -17,7 +18,10 @@ use Rattle.log_reports.specs.declared.told.Told.{Told}
 use Rattle.log_reports.specs.declared.told.Told.TheVariants.{Given, Aborted, Lost}
 use Rattle.log_lines.specs.Meanings.{with_explained}
 use Rattle.log_lines.specs.Frames.{with_frames}
-use Rattle.log_lines.specs.Members.{place_object}
+
+-- the number and the time of a frame
+abbrev pub place_object : Place → Data
+place_object p = object_of ((codes "number", count_of p.number) ∷ (codes "time", count_of p.time) ∷ [])
 
 -- the place of a message of a length, and how it ended
 abbrev pub measured_members : (now : ℕ) → Iface → (kind : List ℕ) → Course → (size pgn : ℕ) → (to : Address) → List Named
@@ -69,7 +73,7 @@ aborted_members detail now c key pgn reason who =
     ∷ abort_members now c key pgn reason)
 
 -- a frame that carries nothing of a message
-unfoldable pub frame_members : (now : ℕ) → Iface → (explained : List (List ℕ)) → (from to : Address) → (pgn : ℕ) → List ℕ → List Named
+abbrev pub frame_members : (now : ℕ) → Iface → (explained : List (List ℕ)) → (from to : Address) → (pgn : ℕ) → List ℕ → List Named
 frame_members now iface explained from to pgn bytes =
     (codes "data", string (unspaced bytes))
     ∷ with_explained explained ((codes "from", count_of from.0)
@@ -80,7 +84,7 @@ frame_members now iface explained from to pgn bytes =
     ∷ (codes "time", count_of now)
     ∷ (codes "to", count_of to.0) ∷ [])
 
-unfoldable pub wrong_members : ℕ → List Named
+abbrev pub wrong_members : ℕ → List Named
 wrong_members n = (codes "kind", string (codes "wrong line")) ∷ (codes "line", count_of n) ∷ []
 
 -- the object of a report at a time, with its course and its meaning in words

@@ -3,11 +3,8 @@ pub mod Text
 pub mod Listing
 pub mod Explained
 pub mod Objects
-pub mod Fields
 pub mod Meanings
 pub mod Frames
-pub mod Losses
-pub mod Members
 pub mod Json
 pub mod Table
 pub mod Rows

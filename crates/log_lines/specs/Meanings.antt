@@ -7,7 +7,7 @@ abbrev pub explained_array : List (List ℕ) → Data
 explained_array lines = array_of (map string lines)
 
 -- with these members behind that one, if there are lines
-unfoldable pub with_explained : List (List ℕ) → List Named → List Named
+abbrev pub with_explained : List (List ℕ) → List Named → List Named
 with_explained [] rest = rest
 with_explained (l ∷ ls) rest = (codes "explained", explained_array (l ∷ ls)) ∷ rest
 

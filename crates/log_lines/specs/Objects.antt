@@ -28,7 +28,7 @@ abbrev pub count_of : ℕ → Data
 count_of n = number (unsigned n)
 
 -- the text of an object, alone on a line
-unfoldable pub object_line : List Named → List ℕ
+abbrev pub object_line : List Named → List ℕ
 object_line ms = compact_text (object_of ms) ++ codes "\n"
 
 -- The text of a member, after another one or as the first

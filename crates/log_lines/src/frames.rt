@@ -4,7 +4,8 @@ ghost use Rattle.log_lines.specs.Objects.{object_of, items_from, member_text};
 ghost use Rattle.serde_json.specs.Written.{comma_if, compact_text, items_text};
 ghost use Rattle.log_lines.specs.Frames.{plain_members, ranged_members, step_members, mark_object, frames_array, frames_text};
 
-use crate::fields::{Field, put_comma, put_key, put_object};
+use crate::members::{put_comma, put_key, put_number};
+use crate::objects::put_word;
 use log_courses::{Detail, Mark, Place, Step};
 use std::alloc::AllocError;
 use text_digits::put_text;
@@ -13,11 +14,11 @@ use text_digits::put_text;
 fn put_plain(out: &mut Vec<u8>, kind: &str, place: Place) -> Result<(), AllocError>
     ensures { OnOk result (out.new.items ≡ out.old.items ++ compact_text (object_of (plain_members kind.now place))) }
 {
-    let others = [
-        Field::Number("number", place.number),
-        Field::Number("time", place.time),
-    ];
-    put_object(out, &Field::Text("kind", kind.as_bytes()), &others)
+    put_text(out, "{")?;
+    put_word(out, false, "kind", kind)?;
+    put_number(out, true, "number", place.number)?;
+    put_number(out, true, "time", place.time)?;
+    put_text(out, "}")
 }
 
 /// A frame's object with the packets from one to another.
@@ -30,13 +31,13 @@ fn put_ranged(
 ) -> Result<(), AllocError>
     ensures { OnOk result (out.new.items ≡ out.old.items ++ compact_text (object_of (ranged_members kind.now place first last))) }
 {
-    let others = [
-        Field::Text("kind", kind.as_bytes()),
-        Field::Number("number", place.number),
-        Field::Number("time", place.time),
-        Field::Number("to", last),
-    ];
-    put_object(out, &Field::Number("from", first), &others)
+    put_text(out, "{")?;
+    put_number(out, false, "from", first)?;
+    put_word(out, true, "kind", kind)?;
+    put_number(out, true, "number", place.number)?;
+    put_number(out, true, "time", place.time)?;
+    put_number(out, true, "to", last)?;
+    put_text(out, "}")
 }
 
 fn put_step(out: &mut Vec<u8>, place: Place, step: Step) -> Result<(), AllocError>

@@ -9,7 +9,6 @@
 #![tactic(auto)]
 
 mod explained;
-mod fields;
 mod frames;
 mod listing;
 mod meanings;

@@ -5,7 +5,7 @@ ghost use Rattle.serde_json.specs.Data.{string};
 ghost use Rattle.serde_json.specs.Written.{comma_if, compact_text, items_text};
 ghost use Rattle.log_lines.specs.Meanings.{explained_array, explained_text};
 
-use crate::fields::{put_comma, put_key};
+use crate::members::{put_comma, put_key};
 use crate::strings::put_quoted;
 use log_reports::Line;
 use std::alloc::AllocError;

@@ -1,80 +1,79 @@
-//! Members of a line's object behind its first one, and the line that they end.
-ghost use Rattle.std.specs.Prelude.{◌≡◌, ◌∷◌, ◌++◌, true, OnOk};
-ghost use Rattle.log_lines.specs.Objects.{member_text, object_line, rest_text};
-ghost use Rattle.log_lines.specs.Fields.{field_named};
-ghost use Rattle.log_lines.specs.Members.{place_object, behind_text, more_text, members_named};
+//! Members of an object. `later` says whether another one precedes it.
+ghost use Rattle.std.specs.Prelude.{◌≡◌, ◌++◌, OnOk};
+ghost use Rattle.serde_json.specs.Data.{string};
+ghost use Rattle.serde_json.specs.Written.{comma_if};
+ghost use Rattle.json.specs.Print.{quoted};
+ghost use Rattle.text_digits.specs.Digits.{unspaced};
+ghost use Rattle.log_lines.specs.Objects.{key_text, member_text, count_of};
 
-use crate::fields::{Field, put_field, put_key, put_object};
-use crate::frames::put_frames;
-use crate::meanings::put_explained;
-use crate::rows::put_losses;
-use log_courses::{Detail, Mark, Place};
-use log_reports::Line;
-use log_summary::LossCount;
+use crate::strings::put_quoted;
 use std::alloc::AllocError;
-use text_digits::put_text;
+use text_digits::{put_bytes, put_decimal, put_text};
 
-/// A member behind another one.
-#[derive(Clone, Copy)]
-pub(crate) enum Member<'a> {
-    Field(Field<'a>),
-    /// The place of a frame in the log.
-    Place(&'a str, Place),
-    /// The frames of a message, if they are listed.
-    Frames(Detail, &'a [Mark]),
-    /// A meaning in words, if there are lines of it.
-    Explained(&'a [Line]),
-    /// The messages that are lost, by their causes.
-    Losses(&'a [LossCount]),
+pub(crate) fn put_comma(out: &mut Vec<u8>, later: bool) -> Result<(), AllocError>
+    ensures { OnOk result (out.new.items ≡ out.old.items ++ comma_if later) }
+{
+    if later { put_text(out, ",") } else { Ok(()) }
 }
 
+/// The name of a member and its colon, behind which its value is to be put.
+#[tactic(auto, unfolding(crate::specs::Objects::key_text))]
+pub(crate) fn put_key(out: &mut Vec<u8>, later: bool, name: &str) -> Result<(), AllocError>
+    ensures { OnOk result (out.new.items ≡ out.old.items ++ key_text later name.now) }
+{
+    put_comma(out, later)?;
+    put_quoted(out, name.as_bytes())?;
+    put_text(out, ":")
+}
+
+/// A member that is a number.
 #[tactic(auto, unfolding(crate::specs::Objects::member_text))]
-fn put_place(out: &mut Vec<u8>, name: &str, place: Place) -> Result<(), AllocError>
-    ensures { OnOk result (out.new.items ≡ out.old.items ++ member_text true name.now (place_object place)) }
+pub(crate) fn put_number(
+    out: &mut Vec<u8>,
+    later: bool,
+    name: &str,
+    n: u64,
+) -> Result<(), AllocError>
+    ensures { OnOk result (out.new.items ≡ out.old.items ++ member_text later name.now (count_of n)) }
 {
-    put_key(out, true, name)?;
-    let time = [Field::Number("time", place.time)];
-    put_object(out, &Field::Number("number", place.number), &time)
+    put_key(out, later, name)?;
+    put_decimal(out, n)
 }
 
-fn put_member(out: &mut Vec<u8>, member: &Member) -> Result<(), AllocError>
-    ensures { OnOk result (out.new.items ≡ out.old.items ++ behind_text member.now) }
+/// A member that is a text.
+#[tactic(auto, unfolding(crate::specs::Objects::member_text))]
+pub(crate) fn put_string(
+    out: &mut Vec<u8>,
+    later: bool,
+    name: &str,
+    text: &[u8],
+) -> Result<(), AllocError>
+    ensures { OnOk result (out.new.items ≡ out.old.items ++ member_text later name.now (string text.now)) }
 {
-    match member {
-        Member::Field(field) => put_field(out, true, field),
-        Member::Place(name, place) => put_place(out, *name, *place),
-        Member::Frames(detail, marks) => put_frames(out, *detail, *marks),
-        Member::Explained(lines) => put_explained(out, *lines),
-        Member::Losses(lost) => put_losses(out, *lost),
-    }
+    put_key(out, later, name)?;
+    put_quoted(out, text)
 }
 
-fn put_members(out: &mut Vec<u8>, members: &[Member]) -> Result<(), AllocError>
-    ensures { OnOk result (out.new.items ≡ out.old.items ++ more_text members.now) }
+/// Bytes in hexadecimal digits, quoted: none of them is escaped.
+fn put_digits(out: &mut Vec<u8>, bytes: &[u8]) -> Result<(), AllocError>
+    ensures { OnOk result (out.new.items ≡ out.old.items ++ quoted (unspaced bytes.now)) }
 {
-    for member in members {
-        put_member(out, member)?;
-    }
+    out.push(b'"')?;
+    put_bytes(out, bytes)?;
+    out.push(b'"')?;
     Ok(())
 }
 
-/// The members, and what ends the line.
-pub(crate) fn put_rest(out: &mut Vec<u8>, members: &[Member]) -> Result<(), AllocError>
-    ensures { OnOk result (out.new.items ≡ out.old.items ++ rest_text (members_named members.now)) }
-{
-    put_members(out, members)?;
-    put_text(out, "}\n")
-}
-
-/// The line of an object.
-pub(crate) fn put_line(
+/// A member that is the text of bytes: two hexadecimal digits each, in upper case.
+#[tactic(auto, unfolding(crate::specs::Objects::member_text))]
+pub(crate) fn put_hex(
     out: &mut Vec<u8>,
-    first: &Field,
-    others: &[Member],
+    later: bool,
+    name: &str,
+    bytes: &[u8],
 ) -> Result<(), AllocError>
-    ensures { OnOk result (out.new.items ≡ out.old.items ++ object_line (field_named first.now ∷ members_named others.now)) }
+    ensures { OnOk result (out.new.items ≡ out.old.items ++ member_text later name.now (string (unspaced bytes.now))) }
 {
-    put_text(out, "{")?;
-    put_field(out, false, first)?;
-    put_rest(out, others)
+    put_key(out, later, name)?;
+    put_digits(out, bytes)
 }

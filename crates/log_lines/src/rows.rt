@@ -1,14 +1,15 @@
 //! The rows of a summary, as objects of JSON.
 ghost use Rattle.std.specs.Prelude.{◌≡◌, ◌∷◌, ◌++◌, map, flat_map, codes, true, false, OnOk};
 ghost use Rattle.json.specs.Print.{quoted};
-ghost use Rattle.log_lines.specs.Objects.{count_of, member_text, object_line, members_from};
-ghost use Rattle.log_lines.specs.Losses.{loss_member, losses_object};
-ghost use Rattle.log_lines.specs.Members.{members_named};
+ghost use Rattle.log_lines.specs.Objects.{count_of, member_text, object_line, rest_text, members_from};
+ghost use Rattle.serde_json.specs.Data.{string};
 ghost use Rattle.serde_json.specs.Written.{comma_if, compact_text, members_text};
-ghost use Rattle.log_lines.specs.Rows.{abort_member, aborts_object, row_members, row_object, row_objects};
+ghost use Rattle.log_fields.specs.Iface.{name_of};
+ghost use Rattle.log_summary.specs.Rows.{mean_of, share_of};
+ghost use Rattle.log_lines.specs.Rows.{abort_member, aborts_object, loss_member, losses_object, last_members, row_members, row_object, row_objects};
 
-use crate::fields::{Field, put_key, put_number};
-use crate::members::{Member, put_rest};
+use crate::members::{put_key, put_number, put_string};
+use crate::objects::{put_address, put_interface, put_pgn};
 use itoa::Buffer;
 use log_reports::cause_words;
 use log_summary::{AbortCount, LossCount, Row, Summary};
@@ -69,7 +70,7 @@ fn put_loss_counts(out: &mut Vec<u8>, lost: &[LossCount]) -> Result<(), AllocErr
 }
 
 #[tactic(auto, unfolding(crate::specs::Objects::member_text))]
-pub(crate) fn put_losses(out: &mut Vec<u8>, lost: &[LossCount]) -> Result<(), AllocError>
+fn put_losses(out: &mut Vec<u8>, lost: &[LossCount]) -> Result<(), AllocError>
     ensures { OnOk result (out.new.items ≡ out.old.items ++ member_text true (codes "losses") (losses_object lost.now)) }
 {
     put_key(out, true, "losses")?;
@@ -77,42 +78,56 @@ pub(crate) fn put_losses(out: &mut Vec<u8>, lost: &[LossCount]) -> Result<(), Al
     put_loss_counts(out, lost)
 }
 
-/// The line of an object whose first member are the aborts.
-fn put_line(out: &mut Vec<u8>, aborts: &[AbortCount], others: &[Member]) -> Result<(), AllocError>
-    ensures { OnOk result (out.new.items ≡ out.old.items ++ object_line ((codes "aborts", aborts_object aborts.now) ∷ members_named others.now)) }
+fn put_kind(out: &mut Vec<u8>) -> Result<(), AllocError>
+    ensures { OnOk result (out.new.items ≡ out.old.items ++ member_text true (codes "kind") (string (codes "summary"))) }
 {
-    put_text(out, "{")?;
-    put_aborts(out, aborts)?;
-    put_rest(out, others)
+    put_string(out, true, "kind", b"summary")
 }
 
-/// The line of a row of an interface that has so many frames.
-#[tactic(auto, unfolding(crate::specs::Rows::row_members))]
-fn put_row<'a>(
+fn put_mean(out: &mut Vec<u8>, row: &Row) -> Result<(), AllocError>
+    ensures { OnOk result (out.new.items ≡ out.old.items ++ member_text true (codes "mean") (count_of (mean_of row.now))) }
+{
+    put_number(out, true, "mean", row.mean())
+}
+
+fn put_share(out: &mut Vec<u8>, row: &Row, all: u64) -> Result<(), AllocError>
+    ensures { OnOk result (out.new.items ≡ out.old.items ++ member_text true (codes "share") (count_of (share_of row.now.frames all))) }
+{
+    put_number(out, true, "share", row.share(all))
+}
+
+/// The rest of the line, of so many frames of the interface.
+fn put_last(out: &mut Vec<u8>, row: &Row, lost: &[LossCount], all: u64) -> Result<(), AllocError>
+    ensures { OnOk result (out.new.items ≡ out.old.items ++ rest_text (last_members row.now lost.now all)) }
+{
+    put_number(out, true, "longest", row.longest)?;
+    put_losses(out, lost)?;
+    put_mean(out, row)?;
+    put_pgn(out, row.pgn)?;
+    put_share(out, row, all)?;
+    put_address(out, "to", row.to)?;
+    put_text(out, "}\n")
+}
+
+fn put_row(
     out: &mut Vec<u8>,
-    row: &'a Row,
+    row: &Row,
     aborts: &[AbortCount],
-    lost: &'a [LossCount],
+    lost: &[LossCount],
     all: u64,
 ) -> Result<(), AllocError>
     ensures { OnOk result (out.new.items ≡ out.old.items ++ object_line (row_members row.now aborts.now lost.now all)) }
 {
-    let others = [
-        Member::Field(Field::Number("again", row.again)),
-        Member::Field(Field::Number("bytes", row.bytes)),
-        Member::Field(Field::Number("frames", row.frames)),
-        Member::Field(Field::Number("from", u64::from(row.from.0))),
-        Member::Field(Field::Number("given", row.given)),
-        Member::Field(Field::Text("interface", row.iface.name())),
-        Member::Field(Field::Text("kind", b"summary")),
-        Member::Field(Field::Number("longest", row.longest)),
-        Member::Losses(lost),
-        Member::Field(Field::Number("mean", row.mean())),
-        Member::Field(Field::Number("pgn", u64::from(row.pgn.raw()))),
-        Member::Field(Field::Number("share", row.share(all))),
-        Member::Field(Field::Number("to", u64::from(row.to.0))),
-    ];
-    put_line(out, aborts, &others)
+    put_text(out, "{")?;
+    put_aborts(out, aborts)?;
+    put_number(out, true, "again", row.again)?;
+    put_number(out, true, "bytes", row.bytes)?;
+    put_number(out, true, "frames", row.frames)?;
+    put_address(out, "from", row.from)?;
+    put_number(out, true, "given", row.given)?;
+    put_interface(out, row.iface)?;
+    put_kind(out)?;
+    put_last(out, row, lost, all)
 }
 
 #[tactic(auto, unfolding(crate::specs::Rows::row_object))]

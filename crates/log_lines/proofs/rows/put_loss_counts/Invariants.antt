@@ -1,7 +1,7 @@
 use Rattle.std.proofs.Common.{◌≡◌, ◌++◌, drop, map, false}
 use Rattle.serde_json.specs.Written.{members_text}
 use Rattle.log_lines.specs.Objects.{members_from}
-use Rattle.log_lines.specs.Losses.{loss_member}
+use Rattle.log_lines.specs.Rows.{loss_member}
 use Rattle.log_lines.proofs.rows.put_loss_counts.Given as goal
 
 abbrev pub invariant-loop-one : goal.invariant-loop-one
