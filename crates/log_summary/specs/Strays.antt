@@ -1,13 +1,10 @@
 -- The frames of a log that belong to no message.
-use Rattle.std.specs.Prelude.{ℕ, ◌+◌, ◌-◌, ◌^◌, List, ◌++◌, codes, min, Option, Some, None}
+use Rattle.std.specs.Prelude.{ℕ, List, ◌++◌, codes, Option, Some, None}
 use Rattle.std.specs.Fmt.{decimal}
+use Rattle.log_courses.specs.Course.{more}
 use Rattle.log_reports.specs.declared.stray.Stray.{Stray}
 use Rattle.log_reports.specs.declared.stray.Stray.TheVariants.{Packet, Window, Acknowledgement}
 use Rattle.log_summary.specs.declared.strays.Strays.{Strays}
-
--- one more, within 64 bits
-abbrev pub more : ℕ → ℕ
-more n = min (n + 1) (2 ^ 64 - 1)
 
 abbrev pub no_strays : Strays
 no_strays = record { packets = 0; windows = 0; acknowledgements = 0 }

@@ -3,11 +3,12 @@ ghost use Rattle.std.specs.Prelude.{◌≡◌, Some};
 ghost use Rattle.std.specs.Fmt.{DisplaysOnOk};
 ghost use Rattle.log_summary.specs.Strays.{no_strays, with_stray, parts_text, ends_text, strays_text};
 
+use crate::counts::more;
 use log_reports::Stray;
 use std::fmt;
 
 /// The frames of a transport that belong to no message, by their kind. A number that would pass 2^64 - 1 stays there.
-#[derive(Clone, Copy, Debug, PartialEq, Eq)]
+#[derive(Clone, Copy, PartialEq, Eq)]
 pub struct Strays {
     /// Packets.
     pub packets: u64,
@@ -35,11 +36,9 @@ impl Strays {
     {
         match stray {
             None => {}
-            Some(Stray::Packet) => self.packets = self.packets.saturating_add(1),
-            Some(Stray::Window) => self.windows = self.windows.saturating_add(1),
-            Some(Stray::Acknowledgement) => {
-                self.acknowledgements = self.acknowledgements.saturating_add(1);
-            }
+            Some(Stray::Packet) => self.packets = more(self.packets),
+            Some(Stray::Window) => self.windows = more(self.windows),
+            Some(Stray::Acknowledgement) => self.acknowledgements = more(self.acknowledgements),
         }
     }
 }
