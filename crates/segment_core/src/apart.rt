@@ -31,10 +31,11 @@ impl Segment {
         // A law, for the last clause: the call does nothing.
         the_headline_holds();
         fits(&call);
-        match self.state.call_apart(call, told) {
-            Ok(made) => Ok(made),
-            Err(Stop::Refused(cause)) => Ok(Made::Refused(cause)),
-            Err(Stop::OutOfMemory) => Err(AllocError),
-        }
+        let made = match self.state.call_apart(call, told) {
+            Ok(made) => made,
+            Err(Stop::Refused(cause)) => return Ok(Made::Refused(cause)),
+            Err(Stop::OutOfMemory) => return Err(AllocError),
+        };
+        Ok(made)
     }
 }

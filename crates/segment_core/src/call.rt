@@ -58,11 +58,12 @@ impl Segment {
         // A law, for the last clause: the call does nothing.
         the_headline_holds();
         fits(&call);
-        match self.state.call(call, told) {
-            Ok(made) => Ok(made),
-            Err(Stop::Refused(cause)) => Ok(Made::Refused(cause)),
-            Err(Stop::OutOfMemory) => Err(AllocError),
-        }
+        let made = match self.state.call(call, told) {
+            Ok(made) => made,
+            Err(Stop::Refused(cause)) => return Ok(Made::Refused(cause)),
+            Err(Stop::OutOfMemory) => return Err(AllocError),
+        };
+        Ok(made)
     }
 
     /// Makes the Take of a station with room, as `apply_telling`, unless its frame completes a message: then nothing has changed yet. So
@@ -89,10 +90,11 @@ impl Segment {
         // A law, for the last clause: the call does nothing.
         the_headline_holds();
         match self.state.take_part(station, told) {
-            Ok(Some(())) => Ok(Tried::Done),
-            Ok(None) => Ok(Tried::Whole),
-            Err(Stop::Refused(cause)) => Ok(Tried::Refused(cause)),
-            Err(Stop::OutOfMemory) => Err(AllocError),
+            Ok(Some(())) => {}
+            Ok(None) => return Ok(Tried::Whole),
+            Err(Stop::Refused(cause)) => return Ok(Tried::Refused(cause)),
+            Err(Stop::OutOfMemory) => return Err(AllocError),
         }
+        Ok(Tried::Done)
     }
 }

@@ -15,7 +15,7 @@ use std::marker::Model;
 /// The state of a segment as plain data: its clock, its stations by rising address, its bus and its counts. Nothing in it
 /// has to be spent, and no call changes it.
 pub struct Image {
-    now: u64,
+    tick: u64,
     stations: Vec<StationImage>,
     bus: BusImage,
     counts: Counts,
@@ -29,13 +29,13 @@ impl Model for Image {
 
     ghost coded = { segment_code };
 
-    ghost view = { λ i. record { now = i.now; stations = i.stations.items; bus = i.bus; counts = i.counts } };
+    ghost view = { λ i. record { now = i.tick; stations = i.stations.items; bus = i.bus; counts = i.counts } };
 }
 
 impl Drop for Image {
     fn drop(self) {
         let Image {
-            now: _,
+            tick: _,
             stations: _,
             bus: _,
             counts: _,
@@ -51,7 +51,7 @@ impl Segment {
         let stations = images(self.alloc, self.stations())?;
         let bus = self.bus().image(self.alloc)?;
         Ok(Image {
-            now: self.now(),
+            tick: self.now(),
             stations,
             bus,
             counts: self.counts(),
@@ -64,7 +64,7 @@ impl Image {
     pub fn is_of(&self, segment: &Segment) -> bool
         ensures { IsTrue result ↔ (self.now ≡ segment.now) }
     {
-        self.now == segment.now()
+        self.tick == segment.now()
             && are_of(&self.stations, segment.stations())
             && self.bus.is_of(segment.bus())
             && is_same(&self.counts, &segment.counts())

@@ -88,7 +88,6 @@ impl Segment {
 
     /// The counts, each up to the last value of `u64`: those of the segment's record.
     #[inline]
-    #[tactic(auto, using(record_law::proofs::readers::Recorded::counts_are_recorded))]
     pub fn counts(&self) -> Counts
         ensures value { result ≡ self.now.counts }
         ensures of_record { (addresses : List AddressValue) (steps : Record) → StandsAt addresses steps self.now → result ≡ counts_over addresses steps }

@@ -5,8 +5,8 @@ use Rattle.segment_state.specs.Answers.{reply_with}
 use Rattle.segment_state.proofs.Records.{done_stands, refused_stands}
 use Rattle.segment_core.proofs.segment.Segment.apply_apart.Goals as goal
 
-pub returns-in-Ok-clause-stands : goal.returns-in-Ok-clause-stands
-returns-in-Ok-clause-stands c = λ addresses steps stands.
+pub returns-clause-stands : goal.returns-clause-stands
+returns-clause-stands c = λ addresses steps stands.
     done_stands c.self.inside.state c.call_apart.new.self c.args.call (reply_with c.in-Ok.made c.call_apart.new.told) c.fits.ensures c.in-Ok.ensures.answer
     addresses steps (subst (λ seg. StandsAt addresses steps seg) (sym c.self.view_is) stands)
 
@@ -16,8 +16,8 @@ returns-in-Err-Refused-clause-stands c = λ addresses steps stands.
     refused_stands c.self.inside.state c.call_apart.new.self c.args.call c.in-Err-Refused.cause c.in-Err-Refused.field-0 c.fits.ensures is c.in-Err-Refused.ensures.answer
     addresses steps (subst (λ seg. StandsAt addresses steps seg) (sym c.self.view_is) stands)
 
-pub returns-in-Ok-clause-headline : goal.returns-in-Ok-clause-headline
-returns-in-Ok-clause-headline c = λ addresses steps. c.the_headline_holds.ensures addresses steps _
+pub returns-clause-headline : goal.returns-clause-headline
+returns-clause-headline c = λ addresses steps. c.the_headline_holds.ensures addresses steps _
 
 pub returns-in-Err-Refused-clause-headline : goal.returns-in-Err-Refused-clause-headline
 returns-in-Err-Refused-clause-headline c = λ addresses steps. c.the_headline_holds.ensures addresses steps _

@@ -12,8 +12,8 @@ use Rattle.record_law.proofs.readers.Takes.{wanted_is_given}
 use Rattle.segment_state.proofs.Records.{done_stands, refused_stands, takes_called}
 use Rattle.segment_core.proofs.segment.Segment.take_unless_whole.Goals as goal
 
-pub returns-in-Ok-Some-clause-stands : goal.returns-in-Ok-Some-clause-stands
-returns-in-Ok-Some-clause-stands c = λ addresses steps stands.
+pub returns-clause-stands : goal.returns-clause-stands
+returns-clause-stands c = λ addresses steps stands.
     let seg = c.self.inside.state in
     done_stands seg c.take_part.new.self (Take c.args.station true) (Done c.take_part.new.told) refl
     (takes_called seg c.args.station true
@@ -28,8 +28,8 @@ returns-in-Err-Refused-clause-stands c = λ addresses steps stands.
     (subst (λ (a : Answer). IsAnswer a seg c.take_part.new.self (Err c.in-Err-Refused.field-0)) (sym (takes_called seg c.args.station true)) c.in-Err-Refused.ensures.answer)
     addresses steps (subst (λ s. StandsAt addresses steps s) (sym c.self.view_is) stands)
 
-pub returns-in-Ok-Some-clause-headline : goal.returns-in-Ok-Some-clause-headline
-returns-in-Ok-Some-clause-headline c = λ addresses steps. c.the_headline_holds.ensures addresses steps _
+pub returns-clause-headline : goal.returns-clause-headline
+returns-clause-headline c = λ addresses steps. c.the_headline_holds.ensures addresses steps _
 
 pub returns-in-Ok-None-clause-headline : goal.returns-in-Ok-None-clause-headline
 returns-in-Ok-None-clause-headline c = λ addresses steps. c.the_headline_holds.ensures addresses steps _
@@ -40,8 +40,8 @@ returns-in-Err-Refused-clause-headline c = λ addresses steps. c.the_headline_ho
 pub returns-in-Err-OutOfMemory-clause-headline : goal.returns-in-Err-OutOfMemory-clause-headline
 returns-in-Err-OutOfMemory-clause-headline c = λ addresses steps. c.the_headline_holds.ensures addresses steps _
 
-pub returns-in-Ok-Some-clause-none : goal.returns-in-Ok-Some-clause-none
-returns-in-Ok-Some-clause-none c =
+pub returns-clause-none : goal.returns-clause-none
+returns-clause-none c =
     subst (λ s. (wanted s c.args.station false).0 ≡ []) c.self.view_is
     (ap (λ (w : List ℕ × ℕ). w.0) (when_some (wanted c.self.inside.state c.args.station false ≡ ([], 0)) c.in-Ok-Some.field-0 c.in-Ok-Some.field-0-0 c.in-Ok-Some.field-0-is c.in-Ok-Some.ensures.none))
 
