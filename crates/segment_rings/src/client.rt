@@ -3,16 +3,15 @@ use crate::bell::Bell;
 use crate::kept::Kept;
 use crate::mark::Mark;
 use crate::words::{Note, Submission};
-use lane_core::longest_to;
 use message_events::Bytes;
 use pgn_ids::{Address, Pgn};
 use rtrb::{Consumer, Producer};
 use segment_law::Refusal;
+use station_core::message_refusal;
 use std::alloc::{AllocError, Global};
 use std::marker::Model;
 use std::sync::Wait;
 use std::thread;
-use tp_wire::constants::MIN_SIZE;
 
 /// A submission that was refused, or, without a refusal, for which there was no memory. The bytes are handed back.
 #[derive(Debug, Drop)]
@@ -72,19 +71,10 @@ ghost use Rattle.segment_rings.specs.Submitting.{submit_refusal as submit_refusa
 pub fn submit_refusal(from: Address, to: Address, len: usize) -> Option<Refusal>
     ensures { result ≡ submit_refusal_of from to len }
 {
-    if to == Address::NULL {
-        return Some(Refusal::NoSuchStation);
+    match message_refusal(from, to, len) {
+        Some(cause) => Some(Refusal::of(cause)),
+        None => None,
     }
-    if from == to {
-        return Some(Refusal::SameStation);
-    }
-    if len < MIN_SIZE as usize {
-        return Some(Refusal::TooShort);
-    }
-    if len > longest_to(to) {
-        return Some(Refusal::TooLong);
-    }
-    None
 }
 
 // The refusal, or want of memory, with the bytes that are handed back.

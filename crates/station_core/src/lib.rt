@@ -16,5 +16,5 @@ mod timers;
 pub use image::StationImage;
 pub use message_events::{Event, Events, EventsIntoIter, EventsIter};
 pub use refused::{Refused, SendingRefused, Stopped};
-pub use sending::MOST_PUMPED;
+pub use sending::{MOST_PUMPED, message_refusal};
 pub use station::Station;

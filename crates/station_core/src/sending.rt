@@ -21,8 +21,9 @@ use tp_wire::constants::MIN_SIZE;
 /// How many frames a pump queues at most: so many free places of the queue it asks for.
 pub const MOST_PUMPED: usize = 8;
 
-// Why a message of so many bytes isn't one from a station to a destination: the first cause that holds.
-fn message_refusal(from: Address, to: Address, len: usize) -> Option<Refused>
+/// Why a message of so many bytes isn't one from a station to a destination: the first that holds of `NoSuchStation` if the destination is
+/// 254, `SameStation`, `TooShort` and `TooLong` (SAE J1939-21; ISO 11783-3).
+pub fn message_refusal(from: Address, to: Address, len: usize) -> Option<Refused>
     ensures value { result ≡ message_refusal_of from to len }
     ensures destination { result ≡ None → (is_one to.0 || to.0 == global_address) ≡ true }
     ensures least { result ≡ None → MIN_SIZE ≤ len }
