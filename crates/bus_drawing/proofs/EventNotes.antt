@@ -2,7 +2,7 @@
 use Rattle.std.proofs.Common.{◌≡◌, List, [], ◌∷◌, ◌++◌, refl, sym, ◌∙◌, ap}
 use Rattle.std.specs.List.{flat_map}
 use Rattle.std.proofs.lemmas.Grind.{flat_map-append}
-use Rattle.segment_core.specs.Joined.{joined}
+use Rattle.drive_course.specs.Joined.{joined}
 use Rattle.message_events.specs.declared.event.Event.{Event}
 use Rattle.bus_drawing.specs.Notes.{event_note, notes}
 

@@ -5,8 +5,8 @@ use Rattle.tick_timers.specs.Due.{IsDueFrom, IsNextFrom}
 use Rattle.station_lanes.specs.LaneReaders.{least_below}
 use Rattle.station_lanes.proofs.Counting.{same_up_to, least_is, none_from}
 use Rattle.segment_law.specs.Segment.{Segment}
-use Rattle.segment_core.specs.Due.{any_due}
-use Rattle.segment_core.specs.Next.{any_work}
+use Rattle.segment_state.specs.Due.{any_due}
+use Rattle.segment_state.specs.Next.{any_work}
 use Rattle.bus_node.specs.Due.{works_at, next_work}
 use Rattle.bus_node.specs.Time.{due_below}
 

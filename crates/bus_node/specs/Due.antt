@@ -2,7 +2,7 @@
 use Rattle.std.specs.Prelude.{ℕ, ◌-◌, ◌^◌, min, max, Bool, ◌&&◌, nat_le, nat_lt, if◌then◌else◌, Option, Some, None}
 use Rattle.station_lanes.specs.LaneReaders.{least_below}
 use Rattle.segment_law.specs.Segment.{Segment}
-use Rattle.segment_core.specs.Next.{any_work}
+use Rattle.segment_state.specs.Next.{any_work}
 use Rattle.bus_node.specs.Rests.{plus, wakes}
 use Rattle.bus_node.specs.Node.{Node}
 use Rattle.bus_node.specs.Time.{due_below, is_pacing}

@@ -10,8 +10,8 @@ use Rattle.segment_law.specs.Readers.{front_at, pumps_to}
 use Rattle.segment_law.specs.declared.call.Call.TheVariants.{Pump, Tick, Fire}
 use Rattle.segment_law.specs.declared.refusal.Refusal.{Refusal}
 use Rattle.segment_law.specs.declared.refusal.Refusal.TheVariants.{NotYet}
-use Rattle.segment_core.specs.Answers.{refusal_of}
-use Rattle.segment_core.specs.Due.{any_due}
+use Rattle.segment_state.specs.Answers.{refusal_of}
+use Rattle.segment_state.specs.Due.{any_due}
 use Rattle.bus_node.specs.Rests.{is_at_rest, wakes}
 use Rattle.bus_node.specs.Node.{Node, called}
 use Rattle.bus_node.specs.Clock.{tick_at, started, has_jumped}

@@ -3,7 +3,7 @@ use Rattle.std.specs.Prelude.{ℕ, List, [], ◌++◌, length, unwrap_or, codes}
 use Rattle.std.specs.Fmt.{decimal}
 use Rattle.segment_law.specs.Segment.{Segment}
 use Rattle.segment_law.specs.Drive.{events_in}
-use Rattle.segment_core.specs.Joined.{joined}
+use Rattle.drive_course.specs.Joined.{joined}
 use Rattle.script_text.specs.Parts.{line}
 use Rattle.script_text.specs.Replies.{refusal_text, no_memory}
 use Rattle.line_runs.specs.declared.running.Told.{Told}

@@ -1,6 +1,6 @@
 //! The printed text of a drive.
 ghost use Rattle.std.specs.Prelude.{◌≡◌, ◌++◌, OnOk};
-ghost use Rattle.segment_core.specs.Joined.{joined};
+ghost use Rattle.drive_course.specs.Joined.{joined};
 ghost use Rattle.script_text.specs.Replies.{event_lines, drive_lines};
 
 use script_text::{print_drove, print_events, print_frames};

@@ -21,7 +21,7 @@ use Rattle.segment_law.specs.Readers.{pumps_to, next_pump}
 use Rattle.segment_law.specs.declared.call.Call.TheVariants.{Pump, Transmit, Take, Fire}
 use Rattle.segment_law.specs.declared.refusal.Refusal.{Refusal}
 use Rattle.segment_law.specs.declared.refusal.Refusal.TheVariants as refusal
-use Rattle.segment_core.specs.Answers.{refusal_of}
+use Rattle.segment_state.specs.Answers.{refusal_of}
 use Rattle.segment_drain.specs.Chosen.{node, can, lowest, is_for_bus, or_else, pump_of, makes_room, waits_until, next_tick, unblocked, untaken, next_of}
 use Rattle.segment_drain.specs.declared.choosing.Next.{Next}
 use Rattle.segment_drain.specs.declared.choosing.Next.TheVariants.{Make}

@@ -43,8 +43,8 @@ use Rattle.segment_law.specs.declared.call.Call.TheVariants.{Transmit, Take, Fir
 use Rattle.segment_law.specs.declared.refusal.Refusal.TheVariants as refusal
 use Rattle.record_law.proofs.Maps.{state_empty}
 use Rattle.record_law.proofs.Segments.{found_there, has_address}
-use Rattle.segment_core.specs.Answers.{refusal_of}
-use Rattle.segment_core.specs.Next.{at_tick, passes, has_work, any_work}
+use Rattle.segment_state.specs.Answers.{refusal_of}
+use Rattle.segment_state.specs.Next.{at_tick, passes, has_work, any_work}
 use Rattle.exchange_law.proofs.broadcasts.Quiets.{station_is, queues, rests}
 use Rattle.exchange_law.proofs.broadcasts.Turns.{Rests}
 use Rattle.work_law.proofs.StationCalls.{least_found, due_there}

@@ -26,7 +26,7 @@ use Rattle.segment_law.proofs.FitStations.{taken_stays}
 use Rattle.segment_law.proofs.Reaching.{reached_call, as_it_is, slice_get_same, slice_get_other}
 use Rattle.record_law.proofs.Segments.{found_there, has_address}
 use Rattle.record_law.proofs.Tests.{equal_or_not}
-use Rattle.segment_core.specs.Answers.{refusal_of}
+use Rattle.segment_state.specs.Answers.{refusal_of}
 use Rattle.exchange_law.proofs.broadcasts.Sweeps.{took, take_is}
 use Rattle.segment_drain.specs.Chosen.{node, can, next_of}
 use Rattle.segment_drain.specs.declared.choosing.Next.TheVariants.{Make}

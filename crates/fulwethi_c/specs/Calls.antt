@@ -15,9 +15,9 @@ use Rattle.segment_law.specs.declared.reply.Reply.TheVariants.{Opened, Sent}
 use Rattle.segment_law.specs.declared.refusal.Refusal.{Refusal}
 use Rattle.segment_core.specs.declared.segment.NewRefused.{NewRefused}
 use Rattle.segment_core.specs.declared.segment.NewRefused.TheVariants as made
-use Rattle.segment_core.specs.Due.{any_due}
-use Rattle.segment_core.specs.Next.{any_work}
-use Rattle.segment_core.specs.Answers.{refusal_of}
+use Rattle.segment_state.specs.Due.{any_due}
+use Rattle.segment_state.specs.Next.{any_work}
+use Rattle.segment_state.specs.Answers.{refusal_of}
 use Rattle.one_station.specs.Node.{Node, Did, new_node, again_node, answered}
 use Rattle.one_station.specs.Answers.{IsAnswered, IsFed, front_calls}
 use Rattle.one_station.specs.Events.{IsTaken}

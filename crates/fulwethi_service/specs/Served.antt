@@ -10,8 +10,8 @@ use Rattle.segment_law.specs.Readers.{front_at}
 use Rattle.segment_law.specs.declared.refusal.Refusal.{Refusal}
 use Rattle.segment_law.specs.declared.reply.Reply.{Reply}
 use Rattle.segment_law.specs.declared.reply.Reply.TheVariants as reply
-use Rattle.segment_core.specs.Due.{any_due}
-use Rattle.segment_core.specs.Next.{any_work}
+use Rattle.segment_state.specs.Due.{any_due}
+use Rattle.segment_state.specs.Next.{any_work}
 use Rattle.live_segment.specs.LiveView.{LiveView, SameLive, LacksMemory, Laws}
 use Rattle.live_segment.specs.Record.{trail}
 use Rattle.live_segment.specs.Turns.{IsAnswered, IsNext, state_of}

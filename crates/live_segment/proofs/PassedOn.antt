@@ -14,9 +14,9 @@ use Rattle.segment_law.specs.declared.reply.Reply.TheVariants.{Done}
 use Rattle.segment_law.proofs.Drifting.{stands_drifts}
 use Rattle.reply_law.specs.Replies.{reply_of, Follows}
 use Rattle.reply_law.proofs.Following.{follows}
-use Rattle.segment_core.specs.Next.{is_active}
-use Rattle.segment_core.specs.Passing.{PassesBy}
-use Rattle.segment_core.proofs.PassedBy.{none_there}
+use Rattle.segment_state.specs.Next.{is_active}
+use Rattle.segment_state.specs.Passing.{PassesBy}
+use Rattle.segment_state.proofs.PassedBy.{none_there}
 use Rattle.segment_rings.specs.Views.{SeatView, DoorView}
 use Rattle.stored_calls.specs.declared.stored.Stored.{Stored}
 use Rattle.live_segment.specs.declared.call.Owed.{Owed}

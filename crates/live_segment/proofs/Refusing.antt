@@ -7,7 +7,7 @@ use Rattle.station_core.specs.Station.{Station}
 use Rattle.segment_law.specs.Segment.{Segment, place_of}
 use Rattle.segment_law.specs.Calls.{Answer, at_station, at_place, at_address, called, no_place, takes_by, takes, repeats_by, repeats}
 use Rattle.segment_law.specs.declared.refusal.Refusal.{Refusal}
-use Rattle.segment_core.specs.Answers.{refusal_of}
+use Rattle.segment_state.specs.Answers.{refusal_of}
 use Rattle.live_segment.specs.declared.call.WorkerCall.{WorkerCall}
 use Rattle.live_segment.specs.declared.call.WorkerCall.TheVariants.{Pump, Transmit, Take, TakeAgain, Overrun, Tick, Fire, Cancel, Inject, Pause, Resume}
 use Rattle.live_segment.specs.declared.calls.TheConstants.{MOST_CALLS}

@@ -9,7 +9,7 @@ use Rattle.pgn_ids.specs.declared.address.Address.{Address}
 use Rattle.message_events.specs.declared.event.Event.{Event}
 use Rattle.segment_law.specs.Segment.{Segment}
 use Rattle.segment_law.specs.Calls.{called, events_of}
-use Rattle.segment_core.specs.Answers.{refusal_of}
+use Rattle.segment_state.specs.Answers.{refusal_of}
 use Rattle.segment_law.specs.Record.{StandsAt}
 use Rattle.segment_law.specs.declared.call.Call.{Call}
 use Rattle.segment_law.specs.declared.reply.Reply.{Reply}

@@ -8,7 +8,7 @@ use Rattle.segment_law.specs.declared.call.Call.{Call}
 use Rattle.segment_law.specs.declared.call.Call.TheVariants.{Send}
 use Rattle.segment_law.specs.declared.refusal.Refusal.{Refusal as Cause}
 use Rattle.segment_law.specs.declared.refusal.Refusal.TheVariants.{TraceFull}
-use Rattle.segment_core.specs.Answers.{refusal_of}
+use Rattle.segment_state.specs.Answers.{refusal_of}
 use Rattle.segment_law.specs.declared.reply.Reply.{Reply}
 use Rattle.segment_law.specs.declared.reply.Reply.TheVariants.{Sent, Refused}
 use Rattle.reply_law.specs.Replies.{reply_of}

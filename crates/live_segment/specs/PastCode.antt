@@ -2,7 +2,7 @@
 use Rattle.std.specs.Prelude.{ℕ, List, Option, refl}
 use Rattle.std.specs.Coded.{Coded, code_by, coded×, coded_ℕ, coded_list, coded_option}
 use Rattle.segment_law.specs.Segment.{Segment}
-use Rattle.segment_core.specs.SegmentCode.{segment_code}
+use Rattle.segment_state.specs.SegmentCode.{segment_code}
 use Rattle.stored_calls.specs.declared.stored.Stored.{Stored}
 use Rattle.stored_calls.specs.contracts.stored.Stored as stored
 use Rattle.live_segment.specs.declared.calls.Piece.{Piece}

@@ -71,10 +71,10 @@ impl Drop for Live {
 
 impl Live {
     ghost use Rattle.std.specs.Prelude.{◌≡◌, ◌≤◌, ◌<◌, [], Bool, false, IfOk, OnErr, IfErr, Ok, IsFalse};
-    ghost use Rattle.segment_core.specs.Answers.{reply_with};
-    ghost use Rattle.segment_core.specs.declared.made.Made.TheVariants as made;
+    ghost use Rattle.segment_state.specs.Answers.{reply_with};
+    ghost use Rattle.segment_state.specs.declared.made.Made.TheVariants as made;
     ghost use Rattle.segment_law.specs.Headline.{Headline};
-    ghost use Rattle.segment_core.specs.Next.{is_active};
+    ghost use Rattle.segment_state.specs.Next.{is_active};
     ghost use Rattle.segment_law.specs.Record.{StandsAt};
     ghost use Rattle.segment_law.specs.declared.reply.Reply.TheVariants.{Refused};
     ghost use Rattle.segment_law.specs.declared.refusal.Refusal.TheVariants.{TraceFull};

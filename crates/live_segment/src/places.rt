@@ -5,7 +5,7 @@ ghost use Rattle.live_segment.specs.Past.{count_since};
 ghost use Rattle.live_segment.specs.Words.{call_of, wanted_by};
 ghost use Rattle.pgn_ids.specs.declared.address.Address.{Address};
 ghost use Rattle.segment_law.specs.Record.{Record, StandsAt};
-ghost use Rattle.segment_core.specs.Answers.{reply_with};
+ghost use Rattle.segment_state.specs.Answers.{reply_with};
 ghost use Rattle.reply_law.specs.Replies.{reply_of, left_by, Follows};
 ghost use Rattle.live_segment.specs.Facts.{NoneAt, PortsApart, SameDoors};
 ghost use Rattle.live_segment.specs.Places.{times, IsPlaceIn, RoomAt, LacksRoom, HavePlaces, LacksPlace, AtLeast, IsFound};

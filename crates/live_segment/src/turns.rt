@@ -1,10 +1,10 @@
 //! The turns of workers, each within one hold of the lock.
 ghost use Rattle.std.specs.Prelude.{◌≡◌, ◌<◌, List, length, false};
 ghost use Rattle.message_events.specs.declared.event.Event.{Event};
-ghost use Rattle.segment_core.specs.Answers.{reply_with};
+ghost use Rattle.segment_state.specs.Answers.{reply_with};
 ghost use Rattle.segment_law.specs.Segment.{waiting_at};
 ghost use Rattle.segment_law.specs.Readers.{next_pump, is_due};
-ghost use Rattle.segment_core.specs.Next.{is_active};
+ghost use Rattle.segment_state.specs.Next.{is_active};
 ghost use Rattle.live_segment.specs.declared.call.WorkerCall.TheVariants.{Fire as FireCall, Overrun as OverrunCall};
 ghost use Rattle.live_segment.specs.Offers.{IsAtRest};
 ghost use Rattle.live_segment.specs.Turns.{IsNext, Finishes, is_stuck, point, no_turn, one_more, after_refusal, after_reply, after_accept, Makes, Accepts, AcceptsOne, AcceptsBelow, MakesWhere, PumpsTo, StationTurn, BusTurn, state_of};

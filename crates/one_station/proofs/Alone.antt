@@ -26,7 +26,7 @@ use Rattle.segment_law.proofs.FitStations.{Stays, taken_stays, pumped_stays, can
 use Rattle.segment_law.proofs.Reaching.{as_it_is}
 use Rattle.record_law.proofs.EachCall.{Holds, Accepted, each_called}
 use Rattle.broadcast_law.proofs.Buses.{put_next}
-use Rattle.segment_core.specs.Memory.{KeepsTwo}
+use Rattle.segment_state.specs.Memory.{KeepsTwo}
 use Rattle.one_station.specs.Looks.{comes_on_bus}
 use Rattle.one_station.specs.NodeFields.{IsAlone, HasLookedAtAll}
 

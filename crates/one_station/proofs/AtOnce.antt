@@ -10,7 +10,7 @@ use Rattle.segment_law.specs.declared.call.Call.{Call}
 use Rattle.segment_law.specs.declared.call.Call.TheVariants.{Transmit, Take, Inject}
 use Rattle.segment_law.specs.declared.reply.Reply.{Reply}
 use Rattle.segment_law.specs.declared.reply.Reply.TheVariants.{Done}
-use Rattle.segment_core.specs.PutTaken.{PutTaken}
+use Rattle.segment_state.specs.PutTaken.{PutTaken}
 use Rattle.one_station.specs.Node.{Node}
 use Rattle.one_station.specs.NodeFields.{IsStood, HasLookedAtAll}
 use Rattle.one_station.specs.Looks.{comes_on_bus, Tells, Puts}

@@ -14,7 +14,7 @@ use Rattle.segment_law.specs.declared.refusal.Refusal.{Refusal}
 use Rattle.segment_law.specs.declared.reply.Reply.{Reply}
 use Rattle.segment_law.specs.declared.reply.Reply.TheVariants as replies
 use Rattle.segment_law.specs.declared.reply.Reply.TheVariants.{Done}
-use Rattle.segment_core.specs.Answers.{refusal_of}
+use Rattle.segment_state.specs.Answers.{refusal_of}
 use Rattle.record_law.proofs.Replies.{refused_for}
 use Rattle.one_station.specs.Node.{Node, Did, answered}
 use Rattle.one_station.specs.NodeFields.{IsStood}

@@ -21,8 +21,8 @@ use Rattle.segment_law.specs.declared.reply.Reply.TheVariants.{Done}
 use Rattle.segment_law.proofs.Records.{stands_reached}
 use Rattle.record_law.proofs.EachCall.{Holds, Accepted, each_called}
 use Rattle.record_law.proofs.Replies.{IsReplyTo, fits}
-use Rattle.segment_core.specs.Answers.{refusal_of}
-use Rattle.segment_core.specs.Memory.{MayAskMemory}
+use Rattle.segment_state.specs.Answers.{refusal_of}
+use Rattle.segment_state.specs.Memory.{MayAskMemory}
 use Rattle.one_station.specs.Node.{Node}
 use Rattle.one_station.specs.Looks.{comes_on_bus, Tells, Puts, PassesBy, HasLooked}
 use Rattle.one_station.specs.NodeFields.{IsStood, IsAlone, HasLookedAtAll}

@@ -12,7 +12,7 @@ use Rattle.segment_law.specs.declared.call.Call.{Call}
 use Rattle.segment_law.specs.declared.call.Call.TheVariants.{Pump, Transmit, Take, Overrun, Inject}
 use Rattle.segment_law.specs.declared.refusal.Refusal.{Refusal}
 use Rattle.segment_law.specs.declared.refusal.Refusal.TheVariants as refusal
-use Rattle.segment_core.specs.Answers.{refusal_of}
+use Rattle.segment_state.specs.Answers.{refusal_of}
 use Rattle.one_station.specs.Node.{Node, Did}
 use Rattle.one_station.specs.declared.error.NodeError.{NodeError}
 use Rattle.one_station.specs.declared.error.NodeError.TheVariants.{Refused, ClockPassed, Starting, OutOfMemory}

@@ -6,7 +6,7 @@ use Rattle.pgn_ids.specs.contracts.address.Address as address
 use Rattle.message_events.specs.declared.event.Event.{Event}
 use Rattle.message_events.specs.contracts.event.Event as event
 use Rattle.segment_law.specs.Segment.{Segment}
-use Rattle.segment_core.specs.SegmentCode.{segment_code}
+use Rattle.segment_state.specs.SegmentCode.{segment_code}
 use Rattle.one_station.specs.Node.{Node}
 
 abbrev Parts : Type 0

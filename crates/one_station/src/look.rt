@@ -4,7 +4,7 @@ ghost use Rattle.std.specs.Bool.{OnTrue, OnFalse};
 ghost use Rattle.std.specs.VecDeque.{deque_len, deque_capacity};
 ghost use Rattle.segment_law.specs.Calls.{called};
 ghost use Rattle.segment_law.specs.declared.call.Call.TheVariants.{Take};
-ghost use Rattle.segment_core.specs.Memory.{MayAskMemory};
+ghost use Rattle.segment_state.specs.Memory.{MayAskMemory};
 ghost use Rattle.one_station.specs.Told.{told_events, IsFrontFirst};
 ghost use Rattle.one_station.specs.Looks.{comes_on_bus, Tells, Puts, IsPut, PassesBy, HasLooked};
 

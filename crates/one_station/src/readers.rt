@@ -3,7 +3,7 @@ ghost use Rattle.std.specs.Prelude.{◌≡◌, ℕ, List, length};
 ghost use Rattle.segment_law.specs.Calls.{called};
 ghost use Rattle.segment_law.specs.Readers.{lane_seen, queue_len};
 ghost use Rattle.segment_law.specs.declared.call.Call.TheVariants.{Send};
-ghost use Rattle.segment_core.specs.Answers.{refusal_of};
+ghost use Rattle.segment_state.specs.Answers.{refusal_of};
 
 use crate::node::Node;
 use pgn_ids::Address;

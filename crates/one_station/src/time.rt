@@ -2,8 +2,8 @@
 ghost use Rattle.std.specs.Prelude.{◌≡◌, ◌<◌, ◌≤◌, ◌-◌, ◌↔◌, IsErrOf, OnErr};
 ghost use Rattle.tick_timers.specs.Due.{IsDueFrom, IsNextFrom};
 ghost use Rattle.segment_law.specs.declared.call.Call.TheVariants.{Tick, Fire};
-ghost use Rattle.segment_core.specs.Due.{any_due};
-ghost use Rattle.segment_core.specs.Next.{any_work};
+ghost use Rattle.segment_state.specs.Due.{any_due};
+ghost use Rattle.segment_state.specs.Next.{any_work};
 ghost use Rattle.one_station.specs.Answers.{IsAnswered};
 
 use crate::error::NodeError;

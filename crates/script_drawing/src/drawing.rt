@@ -1,6 +1,6 @@
 //! The drawing of a line's telling.
 ghost use Rattle.std.specs.Prelude.{◌≡◌, ◌++◌, OnOk, option_to_list};
-ghost use Rattle.segment_core.specs.Joined.{joined};
+ghost use Rattle.drive_course.specs.Joined.{joined};
 ghost use Rattle.bus_drawing.specs.Notes.{notes};
 ghost use Rattle.frame_arrows.specs.Runs.{arrows};
 

@@ -6,9 +6,9 @@ use Rattle.segment_law.specs.Segment.{Segment, lane_at}
 use Rattle.segment_law.specs.Record.{Record, StandsAt}
 use Rattle.segment_law.specs.Drive.{driven}
 use Rattle.segment_law.specs.Quiet.{quiet, is_at_rest, IsSettled, IsQuiet, IsUndisturbed, IsQuietExchange}
-use Rattle.segment_core.specs.Drives.{IsDriven}
+use Rattle.lane_drive.specs.Drives.{IsDriven}
 use Rattle.segment_core.specs.Undisturbed.{IsQuietDrive}
-use Rattle.segment_core.specs.declared.driven.Driven as ran
+use Rattle.drive_course.specs.declared.driven.Driven as ran
 use Rattle.std.specs.Prelude.{IsTrue}
 
 pub quiet_drive : ((d : Address) → IsQuietExchange d) → (addresses : List Address) (steps : Record) (before seg : Segment) (from to : Address) (m : Pending) (turns : ℕ) (done : ran.Driven)

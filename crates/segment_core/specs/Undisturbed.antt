@@ -5,7 +5,7 @@ use Rattle.lane_core.specs.declared.message.Pending.{Pending}
 use Rattle.segment_law.specs.Segment.{Segment, lane_at}
 use Rattle.segment_law.specs.Quiet.{quiet, quiet_events, is_at_rest, IsSettled}
 use Rattle.segment_law.specs.declared.end.DriveEnd.TheVariants as end
-use Rattle.segment_core.specs.declared.driven.Driven as ran
+use Rattle.drive_course.specs.declared.driven.Driven as ran
 
 -- exactly the message's frames are put, a turn each, the events are exactly the message's, and all is at rest again
 pub record IsQuietDrive (before : Segment) (from to : Address) (m : Pending) (seg : Segment) (done : ran.Driven) : Type 0 where

@@ -11,12 +11,11 @@ use segment_law::Counts;
 use station_core::{Station, StationImage};
 use std::alloc::{AllocError, Global};
 use std::marker::Model;
-use tick_timers::Clock;
 
 /// The state of a segment as plain data: its clock, its stations by rising address, its bus and its counts. Nothing in it
 /// has to be spent, and no call changes it.
 pub struct Image {
-    clock: Clock,
+    now: u64,
     stations: Vec<StationImage>,
     bus: BusImage,
     counts: Counts,
@@ -24,19 +23,19 @@ pub struct Image {
 
 impl Model for Image {
     ghost use Rattle.segment_law.specs.Segment.{Segment};
-    ghost use Rattle.segment_core.specs.SegmentCode.{segment_code};
+    ghost use Rattle.segment_state.specs.SegmentCode.{segment_code};
 
     ghost Value = { Segment };
 
     ghost coded = { segment_code };
 
-    ghost view = { λ i. record { now = i.clock; stations = i.stations.items; bus = i.bus; counts = i.counts } };
+    ghost view = { λ i. record { now = i.now; stations = i.stations.items; bus = i.bus; counts = i.counts } };
 }
 
 impl Drop for Image {
     fn drop(self) {
         let Image {
-            clock: _,
+            now: _,
             stations: _,
             bus: _,
             counts: _,
@@ -49,13 +48,13 @@ impl Segment {
     pub fn image(&self) -> Result<Image, AllocError>
         ensures { IfOk result (λ image. image ≡ self.now) }
     {
-        let stations = images(self.alloc, &self.stations)?;
-        let bus = self.bus.image(self.alloc)?;
+        let stations = images(self.alloc, self.stations())?;
+        let bus = self.bus().image(self.alloc)?;
         Ok(Image {
-            clock: self.clock,
+            now: self.now(),
             stations,
             bus,
-            counts: self.counts,
+            counts: self.counts(),
         })
     }
 }
@@ -65,10 +64,10 @@ impl Image {
     pub fn is_of(&self, segment: &Segment) -> bool
         ensures { IsTrue result ↔ (self.now ≡ segment.now) }
     {
-        self.clock.now() == segment.clock.now()
-            && are_of(&self.stations, &segment.stations)
-            && self.bus.is_of(&segment.bus)
-            && is_same(&self.counts, &segment.counts)
+        self.now == segment.now()
+            && are_of(&self.stations, segment.stations())
+            && self.bus.is_of(segment.bus())
+            && is_same(&self.counts, &segment.counts())
     }
 }
 

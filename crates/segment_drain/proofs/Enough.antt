@@ -16,7 +16,7 @@ use Rattle.segment_law.specs.Reached.{IsReached}
 use Rattle.segment_law.proofs.Records.{stands_reached}
 use Rattle.segment_law.proofs.Drifting.{stands_drifts}
 use Rattle.message_events.specs.declared.event.Event.{Event}
-use Rattle.segment_core.specs.Next.{any_work}
+use Rattle.segment_state.specs.Next.{any_work}
 use Rattle.work_law.specs.Work.{work}
 use Rattle.work_law.specs.Course.{each_turn}
 use Rattle.work_law.specs.Storm.{allowances, WorkFalls, OverrunsFall, NoStorm}

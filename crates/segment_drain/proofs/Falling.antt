@@ -55,8 +55,8 @@ use Rattle.segment_law.proofs.Drifting.{drifts_reached}
 use Rattle.segment_law.proofs.Reaching.{reached_call, slice_get_same}
 use Rattle.record_law.proofs.Segments.{found_there, has_address}
 use Rattle.record_law.proofs.Tests.{on_test, equal_or_not}
-use Rattle.segment_core.specs.Answers.{refusal_of}
-use Rattle.segment_core.specs.Next.{has_work, any_work}
+use Rattle.segment_state.specs.Answers.{refusal_of}
+use Rattle.segment_state.specs.Next.{has_work, any_work}
 use Rattle.work_law.specs.Work.{Terms, plain, terms_of, work}
 use Rattle.work_law.specs.Storm.{timer_asks, fire_asks, fire_asks_at, allowance, spent, Falls, WorkFalls, OverrunsFall}
 use Rattle.work_law.proofs.Choosing.{found_below}

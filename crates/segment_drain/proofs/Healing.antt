@@ -40,7 +40,7 @@ use Rattle.segment_law.specs.declared.call.Call.{Call}
 use Rattle.segment_law.specs.declared.call.Call.TheVariants as ask
 use Rattle.segment_law.specs.declared.refusal.Refusal.{Refusal}
 use Rattle.segment_law.specs.declared.refusal.Refusal.TheVariants as refusal
-use Rattle.segment_core.specs.Next.{any_work}
+use Rattle.segment_state.specs.Next.{any_work}
 use Rattle.work_law.specs.Rest.{is_turn, HasRested, AllEnded, Rests, Ends}
 use Rattle.work_law.specs.Storm.{WorkFalls, OverrunsFall}
 use Rattle.work_law.proofs.Choosing.{found_below}

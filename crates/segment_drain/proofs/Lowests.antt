@@ -5,7 +5,7 @@ use Rattle.tick_timers.specs.Due.{IsNextFrom}
 use Rattle.station_lanes.specs.LaneReaders.{least_below}
 use Rattle.station_lanes.proofs.Counting.{same_up_to, none_below, least_is, none_from}
 use Rattle.segment_law.specs.Segment.{Segment, waiting_at}
-use Rattle.segment_core.specs.Next.{any_work}
+use Rattle.segment_state.specs.Next.{any_work}
 use Rattle.segment_drain.specs.Chosen.{can, node, lowest, most_waiting, next_tick}
 use Rattle.segment_drain.specs.declared.kind.Kind.{Kind}
 

@@ -28,8 +28,8 @@ use Rattle.segment_law.specs.declared.reply.Reply.{Reply}
 use Rattle.segment_law.specs.declared.reply.Reply.TheVariants.{Done}
 use Rattle.segment_law.proofs.Records.{stands_reached}
 use Rattle.segment_law.proofs.Drifting.{stands_drifts}
-use Rattle.segment_core.specs.Answers.{refusal_of}
-use Rattle.segment_core.specs.Next.{has_work, any_work}
+use Rattle.segment_state.specs.Answers.{refusal_of}
+use Rattle.segment_state.specs.Next.{has_work, any_work}
 use Rattle.record_law.proofs.Segments.{found_passes}
 use Rattle.work_law.specs.Rest.{is_turn, HasStopped, IsJammed, Rests, Ends, HasRested}
 use Rattle.work_law.proofs.Choosing.{found_below}

@@ -13,8 +13,8 @@ use Rattle.segment_law.specs.declared.call.Call.{Call}
 use Rattle.segment_law.specs.declared.call.Call.TheVariants.{Pump, Transmit, Take, Overrun, Tick, Fire}
 use Rattle.segment_law.specs.declared.refusal.Refusal.{Refusal}
 use Rattle.segment_law.specs.declared.refusal.Refusal.TheVariants as refusal
-use Rattle.segment_core.specs.Answers.{refusal_of}
-use Rattle.segment_core.specs.Next.{any_work}
+use Rattle.segment_state.specs.Answers.{refusal_of}
+use Rattle.segment_state.specs.Next.{any_work}
 use Rattle.segment_drain.specs.declared.end.DrainEnd.TheVariants as end
 use Rattle.segment_drain.specs.declared.kind.Kind.{Kind}
 use Rattle.segment_drain.specs.declared.kind.Kind.TheVariants as kind

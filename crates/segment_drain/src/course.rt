@@ -1,7 +1,7 @@
 //! What a drain did so far.
 ghost use Rattle.std.specs.Prelude.{◌≡◌, ◌<◌, ◌+◌, ◌++◌, ◌^◌, [], List, OnOk, OnErr, map, option_to_list, vec_len, vec_capacity};
 ghost use Rattle.bus_frame.specs.Frames.{CanFrame};
-ghost use Rattle.segment_core.specs.Joined.{joined};
+ghost use Rattle.drive_course.specs.Joined.{joined};
 ghost use Rattle.segment_drain.specs.Drains.{HasRoom, IsSame};
 
 use crate::drained::Drained;
@@ -55,7 +55,7 @@ impl Course {
     }
 
     /// Notes the frame that a call put at this tick, and its events. There is room for them.
-    #[tactic(auto, using(segment_core::proofs::Joining::joined_push))]
+    #[tactic(auto, using(drive_course::proofs::Joining::joined_push))]
     pub(crate) fn note(&mut self, now: u64, put: Option<Frame>, events: Events)
         requires room { HasRoom self.old }
         requires few { self.old.turns + 1 < 2 ^ 64 }

@@ -27,15 +27,15 @@ use Rattle.segment_law.specs.declared.reply.Reply.TheVariants.{Refused, Done}
 use Rattle.segment_law.proofs.Reaching.{position_kept, slice_get_same}
 use Rattle.record_law.proofs.EachCall.{OfStation, Accepted, each_applied}
 use Rattle.record_law.proofs.Segments.{found_passes, found_there}
-use Rattle.segment_core.specs.Answers.{made_as, reply_with}
-use Rattle.segment_core.specs.Next.{at_tick, is_active}
-use Rattle.segment_core.specs.Passing.{IsPassing}
-use Rattle.segment_core.specs.declared.made.Tried.{Tried}
-use Rattle.segment_core.specs.declared.made.Tried.TheVariants as tried
-use Rattle.segment_core.specs.declared.passing.Passing.{Passing}
-use Rattle.segment_core.specs.declared.passing.Passing.TheVariants.{Passed, Rests, Busy}
-use Rattle.segment_core.proofs.Addresses.{closed_keeps, taken_keeps, fired_keeps}
-use Rattle.segment_core.proofs.Nexts.{active_as}
+use Rattle.segment_state.specs.Answers.{made_as, reply_with}
+use Rattle.segment_state.specs.Next.{at_tick, is_active}
+use Rattle.segment_state.specs.Passing.{IsPassing}
+use Rattle.segment_state.specs.declared.made.Tried.{Tried}
+use Rattle.segment_state.specs.declared.made.Tried.TheVariants as tried
+use Rattle.segment_state.specs.declared.passing.Passing.{Passing}
+use Rattle.segment_state.specs.declared.passing.Passing.TheVariants.{Passed, Rests, Busy}
+use Rattle.segment_state.proofs.Addresses.{closed_keeps, taken_keeps, fired_keeps}
+use Rattle.segment_state.proofs.Nexts.{active_as}
 use Rattle.watched_segment.specs.Calm.{AreCalm, forgotten, lacks_places, known_after}
 use Rattle.watched_segment.proofs.Sent.{still_room, active_still}
 

@@ -17,8 +17,8 @@ use Rattle.segment_law.specs.Segment.{Segment, place_of, station_of}
 use Rattle.segment_law.specs.Calls.{pumps, pumps_by, stepped}
 use Rattle.segment_law.specs.declared.refusal.Refusal.TheVariants as refusal
 use Rattle.segment_law.specs.Readers.{pumps_to, next_pump, is_due, is_due_of}
-use Rattle.segment_core.specs.Next.{at_tick, is_active}
-use Rattle.segment_core.proofs.Pumping.{pumps_to_is}
+use Rattle.segment_state.specs.Next.{at_tick, is_active}
+use Rattle.segment_state.proofs.Pumping.{pumps_to_is}
 use Rattle.watched_segment.specs.Calm.{lacks_places}
 
 pub still_room : (queue : List CanFrame) → lacks_places queue ≡ false → lacks_places (behind queue) ≡ false

@@ -7,7 +7,7 @@ use Rattle.station_core.specs.Refusals.{pump_places}
 use Rattle.segment_law.specs.Segment.{Segment, station_at}
 use Rattle.segment_law.specs.declared.call.Call.{Call}
 use Rattle.segment_law.specs.declared.call.Call.TheVariants.{Open, Close, Send, Pump, Transmit, Take, TakeAgain, Overrun, Tick, Fire, Cancel, Inject, Pause, Resume}
-use Rattle.segment_core.specs.Next.{at_tick, is_active}
+use Rattle.segment_state.specs.Next.{at_tick, is_active}
 
 -- one tick for each address
 abbrev pub AreCalm : List ℕ → Segment → Type 0

@@ -19,7 +19,7 @@ pub struct Watched {
 
 impl Model for Watched {
     ghost use Rattle.segment_law.specs.Segment.{Segment};
-    ghost use Rattle.segment_core.specs.SegmentCode.{segment_code};
+    ghost use Rattle.segment_state.specs.SegmentCode.{segment_code};
     ghost use Rattle.watched_segment.specs.Calm.{AreCalm};
 
     ghost Value = { Segment };
@@ -96,9 +96,9 @@ impl Watched {
     ghost use Rattle.segment_law.specs.Readers.{wanted};
     ghost use Rattle.segment_law.specs.Record.{Record, StandsAt};
     ghost use Rattle.segment_law.specs.declared.call.Call.TheVariants.{Open, Send, Take};
-    ghost use Rattle.segment_core.specs.Answers.{made_as, refusal_of, reply_with};
-    ghost use Rattle.segment_core.specs.Next.{is_active};
-    ghost use Rattle.segment_core.specs.Passing.{passing_at, IsPassing};
+    ghost use Rattle.segment_state.specs.Answers.{made_as, refusal_of, reply_with};
+    ghost use Rattle.segment_state.specs.Next.{is_active};
+    ghost use Rattle.segment_state.specs.Passing.{passing_at, IsPassing};
 
     /// A segment of whose stations nothing is known yet. It takes memory for a tick for each address.
     pub fn new(alloc: Global, segment: Segment) -> Result<Watched, AllocError>

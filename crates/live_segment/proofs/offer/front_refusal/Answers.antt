@@ -3,7 +3,7 @@ use Rattle.std.proofs.lemmas.List.{get_or_read}
 use Rattle.pgn_ids.specs.declared.address.Address.{Address}
 use Rattle.segment_law.specs.Calls.{called}
 use Rattle.segment_law.specs.declared.call.Call.TheVariants.{Send}
-use Rattle.segment_core.specs.Answers.{refusal_of}
+use Rattle.segment_state.specs.Answers.{refusal_of}
 use Rattle.segment_rings.specs.Views.{SeatView}
 use Rattle.live_segment.specs.Offers.{IsCauseFor, send_call}
 use Rattle.live_segment.proofs.offer.front_refusal.Goals as goal

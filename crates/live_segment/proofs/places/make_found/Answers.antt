@@ -1,6 +1,6 @@
 use Rattle.std.proofs.Common.{◌≡◌, ℕ, true, [], List, Option, sym, subst}
 use Rattle.std.specs.Prelude.{OnSome}
-use Rattle.segment_core.specs.declared.made.Made.{Made}
+use Rattle.segment_state.specs.declared.made.Made.{Made}
 use Rattle.live_segment.proofs.Doors.{same_doors-refl}
 use Rattle.live_segment.proofs.Ready.{found_nothing}
 use Rattle.live_segment.specs.Words.{wanted_by}

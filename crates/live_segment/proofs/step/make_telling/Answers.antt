@@ -2,8 +2,8 @@ use Rattle.std.proofs.Common.{◌≡◌, subst}
 use Rattle.segment_law.specs.Segment.{Segment}
 use Rattle.segment_law.specs.Calls.{applied}
 use Rattle.segment_law.specs.declared.reply.Reply.{Reply}
-use Rattle.segment_core.specs.Answers.{reply_with}
-use Rattle.segment_core.specs.declared.made.Made.{Made}
+use Rattle.segment_state.specs.Answers.{reply_with}
+use Rattle.segment_state.specs.declared.made.Made.{Made}
 use Rattle.reply_law.specs.Replies.{Follows}
 use Rattle.segment_law.proofs.Drifting.{stands_drifts}
 use Rattle.reply_law.proofs.Following.{follows}

@@ -8,10 +8,10 @@ use Rattle.segment_law.specs.Record.{Record, StandsAt}
 use Rattle.segment_law.specs.declared.call.Call.{Call}
 use Rattle.segment_law.specs.declared.call.Call.TheVariants.{Take}
 use Rattle.segment_law.specs.declared.reply.Reply.{Reply}
-use Rattle.segment_core.specs.Answers.{made_as, reply_with}
-use Rattle.segment_core.specs.declared.made.Made.{Made}
-use Rattle.segment_core.specs.declared.made.Tried.{Tried}
-use Rattle.segment_core.specs.declared.made.Tried.TheVariants as tried_as
+use Rattle.segment_state.specs.Answers.{made_as, reply_with}
+use Rattle.segment_state.specs.declared.made.Made.{Made}
+use Rattle.segment_state.specs.declared.made.Tried.{Tried}
+use Rattle.segment_state.specs.declared.made.Tried.TheVariants as tried_as
 use Rattle.live_segment.specs.declared.call.WorkerCall.{WorkerCall}
 use Rattle.live_segment.specs.declared.call.WorkerCall.TheVariants as worker
 use Rattle.live_segment.specs.Words.{call_of}

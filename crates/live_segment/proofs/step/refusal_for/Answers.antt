@@ -1,7 +1,7 @@
 use Rattle.std.proofs.Common.{true, ap, ◌∙◌}
 use Rattle.segment_law.specs.Calls.{called}
 use Rattle.segment_law.specs.declared.call.Call.{Call}
-use Rattle.segment_core.specs.Answers.{refusal_of}
+use Rattle.segment_state.specs.Answers.{refusal_of}
 use Rattle.live_segment.proofs.Refusing.{room_no_cause}
 use Rattle.live_segment.proofs.step.refusal_for.Goals as goal
 

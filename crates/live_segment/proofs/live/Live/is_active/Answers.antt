@@ -1,6 +1,6 @@
 use Rattle.std.proofs.Common.{◌∙◌, refl, ap}
 use Rattle.segment_law.specs.Segment.{Segment}
-use Rattle.segment_core.specs.Next.{is_active}
+use Rattle.segment_state.specs.Next.{is_active}
 use Rattle.live_segment.specs.LiveView.{LiveView}
 use Rattle.live_segment.specs.Turns.{state_of}
 use Rattle.live_segment.proofs.Viewed.{holds_at}

@@ -7,8 +7,8 @@ use Rattle.segment_law.specs.Record.{StandsAt}
 use Rattle.segment_law.specs.declared.call.Call.{Call}
 use Rattle.segment_law.specs.declared.reply.Reply.{Reply}
 use Rattle.segment_law.specs.declared.reply.Reply.TheVariants.{Done, Refused}
-use Rattle.segment_core.specs.Answers.{refusal_of, reply_with}
-use Rattle.segment_core.specs.declared.made.Made.{Made}
+use Rattle.segment_state.specs.Answers.{refusal_of, reply_with}
+use Rattle.segment_state.specs.declared.made.Made.{Made}
 use Rattle.reply_law.specs.Replies.{reply_of, left_by, opens, IsRefusal, IsAnsweredBy, Follows}
 use Rattle.segment_rings.specs.Views.{SeatView}
 use Rattle.stored_calls.specs.declared.stored.Stored.{Stored}

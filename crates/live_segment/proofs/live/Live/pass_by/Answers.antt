@@ -2,8 +2,8 @@ use Rattle.std.proofs.Common.{◌≡◌, ◌+◌, ◌<◌, ◌^◌, List, [], �
 use Rattle.std.specs.Prelude.{is_err, OnOk}
 use Rattle.segment_law.specs.declared.call.Call.TheVariants.{Take}
 use Rattle.segment_law.specs.Segment.{Segment, waiting_at}
-use Rattle.segment_core.specs.Passing.{IsPassing as IsPassingOn, PassesBy}
-use Rattle.segment_core.specs.declared.passing.Passing.TheVariants.{Passed, Rests}
+use Rattle.segment_state.specs.Passing.{IsPassing as IsPassingOn, PassesBy}
+use Rattle.segment_state.specs.declared.passing.Passing.TheVariants.{Passed, Rests}
 use Rattle.stored_calls.specs.declared.stored.Stored.{Stored}
 use Rattle.live_segment.specs.declared.calls.TheConstants.{MOST_CALLS}
 use Rattle.live_segment.specs.Facts.{Holds}

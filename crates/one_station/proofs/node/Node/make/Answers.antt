@@ -1,6 +1,6 @@
 use Rattle.std.proofs.Common.{ap}
-use Rattle.segment_core.specs.Answers.{reply_with}
-use Rattle.segment_core.specs.declared.made.Made.{Made}
+use Rattle.segment_state.specs.Answers.{reply_with}
+use Rattle.segment_state.specs.declared.made.Made.{Made}
 use Rattle.one_station.specs.Told.{told_events}
 use Rattle.one_station.proofs.Made.{make_refused, stood_on}
 use Rattle.one_station.proofs.Resting.{rested}

@@ -1,7 +1,7 @@
 use Rattle.std.proofs.Common.{Bool, refl, subst}
 use Rattle.std.specs.Bool.{OnTrue}
 use Rattle.segment_law.specs.declared.call.Call.TheVariants.{Inject}
-use Rattle.segment_core.specs.PutTaken.{PutTaken}
+use Rattle.segment_state.specs.PutTaken.{PutTaken}
 use Rattle.one_station.proofs.AtOnce.{looked_at_once}
 use Rattle.one_station.proofs.node.Node.take_at_once.Goals as goal
 

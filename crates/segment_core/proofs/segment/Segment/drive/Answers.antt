@@ -1,47 +1,13 @@
-use Rattle.std.proofs.Common.{◌∙◌}
-use Rattle.segment_core.specs.Joined.{joined}
+use Rattle.std.proofs.Common.{subst}
 use Rattle.segment_law.specs.Drive.{driven}
-use Rattle.segment_core.proofs.Turns.{turning_begins, turning_goes, turning_ends, turning_stops, all_turns, drive_stops}
+use Rattle.lane_drive.specs.Drives.{IsDriven}
 use Rattle.segment_core.proofs.Undisturbed.{quiet_drive}
 use Rattle.segment_core.proofs.segment.Segment.drive.Goals as goal
 
-pub loop-init : goal.loop-init
-loop-init c = turning_begins c.args.self.now c.args.from c.args.to c.args.turns c.new-course.result.frames.items c.new-course.result.parts.items c.new-course.ensures.frames c.new-course.ensures.parts
+pub returns-clause-undisturbed : goal.returns-clause-undisturbed
+returns-clause-undisturbed c = λ addresses steps m stands quiet many ends.
+    quiet_drive c.messages_are_undisturbed.ensures addresses steps c.args.self.now c.drive.new.seg c.args.from c.args.to m c.args.turns c.drive.result stands quiet many
+    (subst (λ seg. IsDriven (driven seg c.args.from c.args.to c.args.turns) c.drive.new.seg c.drive.result) c.self.view_is (c.drive.ensures.done ends))
 
-pub loop-preserved : goal.loop-preserved
-loop-preserved c =
-    turning_goes c.args.self.now c.args.from c.args.to c.args.turns c.loop.counter c.loop.self c.turn.new.self c.loop.course.frames.items c.turn.new.course.frames.items c.loop.course.parts.items c.turn.new.course.parts.items
-    c.loop.invariant c.loop-test.true (λ d h. c.in_default.ensures c.args.self.now d h)
-
-pub returns-in-Err : goal.returns-in-Err
-returns-in-Err c =
-    let put = c.turn.new.course.frames.items in
-    let parts = c.turn.new.course.parts.items in
-    let gone = turning_stops c.args.self.now c.args.from c.args.to c.args.turns c.loop.counter c.loop.self c.turn.new.self c.loop.course.frames.items put c.loop.course.parts.items parts c.in-Err.stop
-    c.loop.invariant c.loop-test.true (λ d h. c.in-Err.ensures c.args.self.now d h) in
-    let says = drive_stops c.args.self.now (driven c.args.self.now c.args.from c.args.to c.args.turns) c.turn.new.self put (joined parts) c.ended.result c.in-Err.stop gone
-    (record { turns = c.ended.ensures.turns; frames = c.ended.ensures.frames; events = c.ended.ensures.events; end = c.ended.ensures.end ∙ c.end_at.ensures }) in
-    record {
-      done = says.done_is;
-      begun = says.begun_is;
-      stands = says.stands_is;
-      undisturbed = λ addresses steps m stands quiet many ends.
-          quiet_drive c.messages_are_undisturbed.ensures addresses steps c.args.self.now c.turn.new.self c.args.from c.args.to m c.args.turns c.ended.result stands quiet many (says.done_is ends);
-      headline = λ addresses steps. c.the_headline_holds.ensures addresses steps c.turn.new.self;
-    }
-
-pub returns : goal.returns
-returns c =
-    let put = c.loop.course.frames.items in
-    let parts = c.loop.course.parts.items in
-    let shown = turning_ends c.args.self.now c.args.from c.args.to c.args.turns c.loop.counter c.loop.self put parts c.loop.invariant c.loop-test.false in
-    let says = all_turns c.args.self.now (driven c.args.self.now c.args.from c.args.to c.args.turns) c.loop.self put (joined parts) c.ended-2.result shown
-    (record { turns = c.ended-2.ensures.turns; frames = c.ended-2.ensures.frames; events = c.ended-2.ensures.events; end = c.ended-2.ensures.end }) in
-    record {
-      done = says.done_is;
-      begun = says.begun_is;
-      stands = says.stands_is;
-      undisturbed = λ addresses steps m stands quiet many ends.
-          quiet_drive c.messages_are_undisturbed.ensures addresses steps c.args.self.now c.loop.self c.args.from c.args.to m c.args.turns c.ended-2.result stands quiet many (says.done_is ends);
-      headline = λ addresses steps. c.the_headline_holds.ensures addresses steps c.loop.self;
-    }
+pub returns-clause-headline : goal.returns-clause-headline
+returns-clause-headline c = λ addresses steps. c.the_headline_holds.ensures addresses steps _

@@ -1,6 +1,6 @@
 use Rattle.std.proofs.Common.{ℕ, List, sym, subst}
-use Rattle.segment_core.specs.Answers.{reply_with}
-use Rattle.segment_core.specs.declared.made.Made.{Made}
+use Rattle.segment_state.specs.Answers.{reply_with}
+use Rattle.segment_state.specs.declared.made.Made.{Made}
 use Rattle.watched_segment.specs.Calm.{AreCalm}
 use Rattle.watched_segment.proofs.Known.{calm_answered}
 use Rattle.watched_segment.proofs.watched.Watched.apply_apart.Goals as goal

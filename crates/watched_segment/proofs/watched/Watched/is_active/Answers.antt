@@ -1,6 +1,6 @@
 use Rattle.std.proofs.Common.{rules, ◌≡◌, false, get_or, sym, ap, ◌∙◌, arith}
 use Rattle.segment_law.specs.Segment.{Segment}
-use Rattle.segment_core.specs.Next.{is_active}
+use Rattle.segment_state.specs.Next.{is_active}
 use Rattle.watched_segment.proofs.watched.Watched.is_active.Goals as goal
 
 pub returns-then-now-tick-clause-value : goal.returns-then-now-tick-clause-value

@@ -1,7 +1,7 @@
 use Rattle.std.proofs.Common.{ℕ, ◌-◌, ◌^◌, List, Some, None, sym, ap, ◌∙◌, subst, arith}
 use Rattle.segment_law.specs.Segment.{Segment}
 use Rattle.tick_timers.specs.Due.{IsDueFrom}
-use Rattle.segment_core.specs.Next.{at_tick, is_active}
+use Rattle.segment_state.specs.Next.{at_tick, is_active}
 use Rattle.watched_segment.specs.Calm.{AreCalm}
 use Rattle.watched_segment.proofs.Known.{more_known, calm_before, calm_always, active_now}
 use Rattle.watched_segment.proofs.watched.Watched.look.Goals as goal

@@ -1,0 +1,4 @@
+pub mod Joined
+pub mod DriveFields
+pub mod SeenFields
+pub mod Taken

@@ -1,0 +1,5 @@
+pub mod Drives
+pub mod Sweeps
+pub mod Steps
+pub mod Turns
+pub mod Together

@@ -1,0 +1,2 @@
+pub mod Transmits
+pub mod Drives

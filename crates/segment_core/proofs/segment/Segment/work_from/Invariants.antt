@@ -1,6 +1,0 @@
-use Rattle.tick_timers.specs.Due.{IsDueFrom}
-use Rattle.segment_core.proofs.Nexts.{any_of}
-use Rattle.segment_core.proofs.segment.Segment.work_from.Given as goal
-
-abbrev pub invariant-loop-station : goal.invariant-loop-station
-invariant-loop-station l = IsDueFrom (any_of l.self l.station-index) l.tick

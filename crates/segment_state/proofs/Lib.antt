@@ -1,0 +1,15 @@
+pub mod Addresses
+pub mod Placing
+pub mod Stations
+pub mod Kept
+pub mod Calling
+pub mod Refusals
+pub mod Causes
+pub mod Pumping
+pub mod Records
+pub mod Lanes
+pub mod Together
+pub mod Dues
+pub mod Nexts
+pub mod AtOnce
+pub mod PassedBy

@@ -1,0 +1,67 @@
+use Rattle.std.proofs.Common.{◌≡◌, length, Some, Err, refl, sym, ap, ◌∙◌, length-set}
+use Rattle.bus_order.specs.Bus.{taken as moved, next_frame}
+use Rattle.station_core.specs.Taking.{taken}
+use Rattle.segment_law.specs.Calls.{takes_by, takes}
+use Rattle.segment_law.specs.declared.refusal.Refusal.TheVariants.{NothingToTake}
+use Rattle.segment_state.proofs.Addresses.{taken_keeps}
+use Rattle.segment_state.proofs.Refusals.{takes_are, stops}
+use Rattle.segment_state.proofs.Stations.{at_none}
+use Rattle.segment_state.proofs.Kept.{inside_kept, inside_moved, at_here, takes_is, taken_view, unchanged_view}
+use Rattle.segment_state.proofs.Calling.{within_here, cursor_here, at_any, of_here, may_ask}
+use Rattle.segment_state.specs.declared.stop.Stop.TheVariants.{OutOfMemory}
+use Rattle.segment_state.proofs.state.SegmentState.take_telling.Goals as goal
+
+pub returns-in_default-clause-answer : goal.returns-in_default-clause-answer
+returns-in_default-clause-answer c = (at_none c.args.self.now c.args.station (takes c.args.self.now c.args.room) (sym c.place_of.ensures.value ∙ c.in_default.is), refl)
+
+pub peek-requires : goal.peek-requires
+peek-requires c = cursor_here c.self.inside c.args.self.now c.in-Some.at c.self.invariant c.self.view_is c.in-Some.ensures.within
+
+pub returns-in_default-peek-clause-answer : goal.returns-in_default-peek-clause-answer
+returns-in_default-peek-clause-answer c = (
+  at_any c.args.self.now c.args.station c.in-Some.at (takes c.args.self.now c.args.room) (Err NothingToTake) c.in-Some.ensures.value c.in-Some.ensures.within
+      (λ st. ap (takes_by c.args.self.now c.args.room c.in-Some.at st) (ap (λ x. next_frame x.bus c.in-Some.at) (sym c.self.view_is) ∙ sym c.in_default-peek.ensures.frame)),
+  refl,
+)
+
+pub index_mut-requires : goal.index_mut-requires
+index_mut-requires c = within_here c.self.inside c.args.self.now c.in-Some.at c.self.view_is c.in-Some.ensures.within
+
+pub invariant_of-self : goal.invariant_of-self
+invariant_of-self c =
+    inside_kept c.self.inside c.in-Some.at c.take.new.self c.index_mut.result.now c.self.invariant c.index_mut.ensures.value (ap (λ st. st.address) c.in-Err.ensures.err)
+
+pub pass-requires-clause-cursor : goal.pass-requires-clause-cursor
+pass-requires-clause-cursor c = cursor_here c.self.inside c.args.self.now c.in-Some.at c.self.invariant c.self.view_is c.in-Some.ensures.within
+
+pub pass-requires-clause-waits : goal.pass-requires-clause-waits
+pass-requires-clause-waits c = c.in-Some-peek.ensures.waits.0 refl
+
+pub invariant_of-self-2 : goal.invariant_of-self-2
+invariant_of-self-2 c =
+    inside_moved c.self.inside c.in-Some.at c.take.new.self c.index_mut.result.now c.pass.new.self c.self.invariant c.index_mut.ensures.value
+    (ap (λ s. s.station.address) (sym c.in-Ok.ensures.ok) ∙ taken_keeps c.index_mut.result.now c.in-Some-peek.frame.now c.args.room c.now-now.result)
+    (ap (λ b. length b.cursors) c.pass.ensures.passed ∙ length-set c.self.inside.bus.cursors c.in-Some.at _)
+
+pub returns-clause-answer : goal.returns-clause-answer
+returns-clause-answer c =
+    let now_is : c.now-now.result ≡ c.args.self.now.now = c.now-now.ensures.value ∙ ap (λ x. x.now) c.self.view_is in
+    let next : Some c.in-Some-peek.frame.now ≡ next_frame c.args.self.now.bus c.in-Some.at = c.in-Some-peek.ensures.frame ∙ ap (λ x. next_frame x.bus c.in-Some.at) c.self.view_is in
+    at_here c.self.inside _ _ c.in-Some.at c.index_mut.result.now _ c.self.view_is c.in-Some.ensures.value c.in-Some.ensures.within c.index_mut.ensures.value
+    ∙ takes_is _ c.args.room c.in-Some.at c.index_mut.result.now c.in-Some-peek.frame.now _ next c.in-Ok.ensures.refused (ap (λ n. taken c.index_mut.result.now c.in-Some-peek.frame.now c.args.room n) (sym now_is) ∙ c.in-Ok.ensures.ok)
+    ∙ taken_view c.self.inside _ c.in-Some.at c.index_mut.result.now c.in-Some-peek.frame.now c.take.new.self c.take.new.told c.in-Ok.is_malformed (moved c.self.inside.bus c.in-Some.at) _ _ _ c.self.view_is c.in-Ok.ensures.malformed refl c.pass.ensures.passed c.looked.ensures refl
+
+pub returns-in-Err-clause-answer : goal.returns-in-Err-clause-answer
+returns-in-Err-clause-answer c =
+    stops _ _ _ (at_here c.self.inside _ _ c.in-Some.at c.index_mut.result.now _ c.self.view_is c.in-Some.ensures.value c.in-Some.ensures.within c.index_mut.ensures.value
+    ∙ takes_are c.args.self.now c.in-Some.at c.index_mut.result.now c.args.room c.in-Some-peek.frame.now (c.in-Some-peek.ensures.frame ∙ ap (λ x. next_frame x.bus c.in-Some.at) c.self.view_is)) _ _ c.in-Err.cause _ c.stop_of.ensures refl
+    (unchanged_view c.self.inside _ c.in-Some.at _ c.index_mut.result.now c.self.view_is c.in-Err.ensures.err c.index_mut.ensures.value)
+    c.in-Err.ensures.refused
+
+pub returns-in-Err-clause-memory : goal.returns-in-Err-clause-memory
+returns-in-Err-clause-memory c = λ e.
+    let stops : c.stop_of.result ≡ OutOfMemory = cc in
+    may_ask c.args.self.now c.args.station c.in-Some.at c.args.room c.index_mut.result.now c.in-Some-peek.frame.now c.in-Err.cause c.in-Some.ensures.value
+    (of_here c.self.inside c.args.self.now c.args.station c.in-Some.at c.index_mut.result.now c.self.view_is c.in-Some.ensures.value c.in-Some.ensures.within c.index_mut.ensures.value)
+    (c.in-Some-peek.ensures.frame ∙ ap (λ x. next_frame x.bus c.in-Some.at) c.self.view_is)
+    c.in-Err.ensures.refused c.in-Err.ensures.room c.in-Err.ensures.memory (sym c.stop_of.ensures ∙ stops)

@@ -1,0 +1,11 @@
+pub mod Places
+pub mod Answers
+pub mod Memory
+pub mod SegmentCode
+pub mod StateFields
+pub mod Followed
+pub mod Abreast
+pub mod Due
+pub mod Next
+pub mod PutTaken
+pub mod Passing
