@@ -27,7 +27,7 @@ after_each options place [] f = f
 after_each options place (t ∷ ts) f = after_each options place ts (after_told options place t f)
 
 -- the reports at the end of the log, if courses are followed
-abbrev pub left_followed : Options → Place → List Told → Followed → Followed
+unfoldable pub left_followed : Options → Place → List Told → Followed → Followed
 left_followed options place told f = if follows options then after_each options place told f else f
 
 -- a frame is seen, of a message or of none
@@ -39,5 +39,5 @@ abbrev pub with_frame_of : Options → Iface → CanFrame → Place → List Tol
 with_frame_of options iface frame place told f = record { courses = followed (detail_of options) iface frame place told f.courses; summary = frame_summed options iface f.summary }
 
 -- the courses of the reports are taken out, and the frame is seen, if courses are followed
-abbrev pub heard_followed : Options → Iface → CanFrame → Place → List Told → Followed → Followed
+unfoldable pub heard_followed : Options → Iface → CanFrame → Place → List Told → Followed → Followed
 heard_followed options iface frame place told f = if follows options then with_frame_of options iface frame place told (after_each options place told f) else f

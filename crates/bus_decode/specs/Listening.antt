@@ -15,7 +15,7 @@ use Rattle.log_decode.specs.View.{State, bus_at}
 use Rattle.log_decode.specs.Decoder.{taken, ended}
 use Rattle.log_decode.specs.Stray.{stray_seen}
 use Rattle.log_courses.specs.Strays.{stray_left}
-use Rattle.log_summary.specs.Strays.{more}
+use Rattle.log_courses.specs.Course.{more}
 use Rattle.log_summary.specs.Counts.{with_frame, with_strays, with_each}
 use Rattle.log_reports.specs.declared.stray.Stray.{Stray}
 use Rattle.log_reports.specs.declared.told.Told.{Told}

@@ -8,7 +8,7 @@ use Rattle.log_courses.specs.declared.course.Course.{Course}
 use Rattle.log_courses.specs.declared.course.Place.{Place}
 use Rattle.log_reports.specs.declared.told.Told.{Told}
 use Rattle.log_reports.specs.declared.told.Told.TheVariants.{Given, Aborted, Lost}
-use Rattle.explained_messages.specs.Groups.{explained}
+use Rattle.log_reports.specs.Groups.{explained}
 use Rattle.log_lines.specs.Explained.{words_lines}
 use Rattle.log_lines.specs.Listing.{mark_lines}
 use Rattle.log_lines.specs.Text.{told_line, single_line, wrong_line}
@@ -32,7 +32,7 @@ words_told options (Aborted key pgn reason who) = []
 words_told options (Lost key pgn have size cause) = []
 
 -- the text of a report at a time, with its words, and with the frames that are listed of its course
-abbrev pub message_text : Options → (now : ℕ) → Course → Told → List ℕ
+unfoldable pub message_text : Options → (now : ℕ) → Course → Told → List ℕ
 message_text options now c t =
     if options.json then told_object (detail_of options) now c (words_told options t) t
     else (told_line now t ++ words_lines (words_told options t)) ++ mark_lines c.marks
@@ -54,11 +54,11 @@ abbrev pub plain_text : (now : ℕ) → Options → List Told → List ℕ
 plain_text now options told = flat_map (plain_line now options) told
 
 -- the text of the reports at a frame
-abbrev pub told_text : Place → Options → List Told → Followed → List ℕ
+unfoldable pub told_text : Place → Options → List Told → Followed → List ℕ
 told_text place options told f = if follows options then followed_text place options told f else plain_text place.time options told
 
 -- the summary of a log that has ended, if it is asked for
-abbrev pub summary_text : Options → Summary → List ℕ
+unfoldable pub summary_text : Options → Summary → List ℕ
 summary_text options s = if options.summary then (if options.json then row_objects s else table_text s) else []
 
 -- a frame that carries nothing of a message, in words too
@@ -66,11 +66,11 @@ abbrev pub frame_text : (now : ℕ) → Iface → Options → CanFrame → List 
 frame_text now iface options frame words = if options.json then single_object now iface words frame else single_line now iface frame ++ words_lines words
 
 -- a frame that carries nothing of a message, if it is asked for
-abbrev pub single_text : (now : ℕ) → Iface → Options → CanFrame → List ℕ
+unfoldable pub single_text : (now : ℕ) → Iface → Options → CanFrame → List ℕ
 single_text now iface options frame =
     let m = meaning_of frame.id in
     if is_single_asked options m.pgn && is_asked_for options m.from m.to m.pgn then frame_text now iface options frame (in_words options m.pgn frame.bytes) else []
 
 -- a wrong line, by its number
-abbrev pub wrong_text : Options → ℕ → List ℕ
+unfoldable pub wrong_text : Options → ℕ → List ℕ
 wrong_text options n = if options.json then wrong_object n else wrong_line n

@@ -179,26 +179,22 @@ pub(crate) fn take_line(
 /// The log ends. The output of that is put behind what `out` holds.
 pub(crate) fn take_end(
     alloc: Global,
-    listener: Listener,
+    listener: &mut Listener,
     counts: &mut Counts,
     options: &Options,
     out: &mut Vec<u8>,
 ) -> Result<(), AllocError>
-    ensures counts { OnOk result (counts.new ≡ ended_counts options.now (listener, counts.old)) }
-    ensures text { OnOk result (out.new.items ≡ out.old.items ++ ended_text options.now (listener, counts.old)) }
+    ensures counts { OnOk result (counts.new ≡ ended_counts options.now (listener.old, counts.old)) }
+    ensures text { OnOk result (out.new.items ≡ out.old.items ++ ended_text options.now (listener.old, counts.old)) }
 {
-    let Listener {
-        decoder,
-        mut followed,
-        awaited: _,
-    } = listener;
     let place = Place {
         number: counts.frames,
-        time: decoder.time(),
+        time: listener.decoder.time(),
     };
     let mut told = Vec::new(alloc);
-    decoder.finish(&mut told)?;
+    listener.decoder.finish(&mut told)?;
     counts.add_each(options, told.as_slice());
-    tell(alloc, out, place, options, told.as_slice(), &mut followed)?;
-    tell_summary(alloc, out, options, &followed.summary)
+    let told = told.as_slice();
+    tell(alloc, out, place, options, told, &mut listener.followed)?;
+    tell_summary(alloc, out, options, &listener.followed.summary)
 }

@@ -13,7 +13,7 @@ use std::io::{BufRead, Write};
 use text_lines::tell;
 
 /// What is wrong with a line of a log, in the order in which it is looked for.
-#[derive(Clone, Copy, Debug, PartialEq, Eq)]
+#[derive(Clone, Copy, PartialEq, Eq)]
 pub enum Fault {
     /// There are more than 2^64 - 2 lines.
     TooManyLines,
@@ -36,7 +36,7 @@ impl fmt::Display for Fault {
 }
 
 /// Why a log wasn't read to its end.
-#[derive(Clone, Copy, Debug, PartialEq, Eq)]
+#[derive(Clone, Copy, PartialEq, Eq)]
 pub enum Cause {
     /// The reader failed.
     ReadFailed,
@@ -49,14 +49,14 @@ pub enum Cause {
 }
 
 /// The line at which reading a log ended, and why. Lines count from 1.
-#[derive(Clone, Copy, Debug, PartialEq, Eq)]
+#[derive(Clone, Copy)]
 pub struct LogFault {
     pub line: u64,
     pub cause: Cause,
 }
 
 /// The result of reading a log.
-#[derive(Clone, Copy, Debug, PartialEq, Eq)]
+#[derive(Clone, Copy)]
 pub struct Decoded {
     /// What was counted.
     pub counts: Counts,
@@ -75,29 +75,28 @@ fn failed(line: u64, cause: Cause, counts: Counts) -> Decoded
 
 /// The log ends: the output of that is written and flushed.
 #[tactic(auto, using(text_lines::proofs::Known::front_none, crate::proofs::RunSteps::keeps_front))]
-fn end_run<W: Write>(alloc: Global, options: &Options, run: Run, writer: &mut W) -> Decoded
-    ensures { Ended result (W.contents writer.old) (W.contents writer.new) (last_outcome options.now (run.listener, run.counts)) }
+fn end_run<W: Write>(alloc: Global, options: &Options, run: &mut Run, writer: &mut W) -> Decoded
+    ensures { Ended result (W.contents writer.old) (W.contents writer.new) (last_outcome options.now (run.old.listener, run.old.counts)) }
 {
-    let Run {
-        listener,
-        form: _,
-        mut counts,
-        number,
-        mut is_flushed,
-        mut told,
-    } = run;
-    let Ok(()) = flush_told(&mut is_flushed, writer) else {
-        return failed(number, Cause::WriteFailed, counts);
+    let Ok(()) = flush_told(&mut run.is_flushed, writer) else {
+        return failed(run.number, Cause::WriteFailed, run.counts);
     };
-    told.clear();
-    let Ok(()) = take_end(alloc, listener, &mut counts, options, &mut told) else {
-        return failed(number, Cause::OutOfMemory, counts);
+    run.told.clear();
+    let ended = take_end(
+        alloc,
+        &mut run.listener,
+        &mut run.counts,
+        options,
+        &mut run.told,
+    );
+    let Ok(()) = ended else {
+        return failed(run.number, Cause::OutOfMemory, run.counts);
     };
-    let Ok(()) = tell(writer, told.as_slice()) else {
-        return failed(number, Cause::WriteFailed, counts);
+    let Ok(()) = tell(writer, run.told.as_slice()) else {
+        return failed(run.number, Cause::WriteFailed, run.counts);
     };
     Decoded {
-        counts,
+        counts: run.counts,
         fault: None,
     }
 }
@@ -135,7 +134,7 @@ pub fn run_decode<R: BufRead, W: Write>(
     'lines: loop {
         match take_next(alloc, options, &mut run, &mut line, reader, writer) {
             Ok(true) => {}
-            Ok(false) => return end_run(alloc, options, run, writer),
+            Ok(false) => return end_run(alloc, options, &mut run, writer),
             Err(cause) => {
                 let cause = last_cause(cause, &mut run.is_flushed, writer);
                 return failed(run.number, cause, run.counts);

@@ -1,21 +1,18 @@
 //! The printed text of the reports, as the options say.
-ghost use Rattle.std.specs.Prelude.{◌≡◌, ◌++◌, IfOk, OnOk, if◌then◌else◌};
+ghost use Rattle.std.specs.Prelude.{◌≡◌, ◌++◌, IfOk, OnOk};
 ghost use Rattle.log_lines.specs.Explained.{words_lines};
 ghost use Rattle.log_lines.specs.Text.{told_line};
-ghost use Rattle.log_lines.specs.Rows.{row_objects};
-ghost use Rattle.log_lines.specs.Table.{table_text};
 ghost use Rattle.bus_decode.specs.Followed.{after_each, left_followed, heard_followed};
 ghost use Rattle.bus_decode.specs.Telling.{in_words, words_told, message_text, shown_text, followed_text, plain_line, plain_text, told_text, summary_text, frame_text, single_text, wrong_text};
 
 use crate::followed::{Followed, sum_up};
 use bus_frame::Frame;
-use explained_messages::{Line, explain};
 use log_courses::{Course, Place};
 use log_lines::{
     put_explained, put_marks, put_row_objects, put_single, put_single_object, put_table, put_told,
     put_told_object, put_wrong, put_wrong_object,
 };
-use log_reports::Told;
+use log_reports::{Line, Told, explain};
 use log_summary::{Options, Summary};
 use log_text::Iface;
 use pgn_ids::{Pgn, read_id};
@@ -56,6 +53,7 @@ fn put_lines(out: &mut Vec<u8>, now: u64, told: &Told, words: &[Line]) -> Result
 }
 
 /// Puts the report on a message at a time.
+#[tactic(auto, unfolding(crate::specs::Telling::message_text))]
 fn put_message(
     alloc: Global,
     out: &mut Vec<u8>,
@@ -145,6 +143,7 @@ fn put_plain(
 }
 
 /// Puts the reports at the end of the log. If courses are followed, those of the reports are taken out.
+#[tactic(auto, unfolding(crate::specs::Telling::told_text, crate::specs::Followed::left_followed))]
 pub(crate) fn tell(
     alloc: Global,
     out: &mut Vec<u8>,
@@ -163,6 +162,7 @@ pub(crate) fn tell(
 }
 
 /// Puts the reports at a frame. If courses are followed, those of the messages that continue have one frame more.
+#[tactic(auto, unfolding(crate::specs::Telling::told_text, crate::specs::Followed::heard_followed))]
 pub(crate) fn tell_frame(
     alloc: Global,
     out: &mut Vec<u8>,
@@ -183,22 +183,8 @@ pub(crate) fn tell_frame(
     followed.hear(alloc, options, iface, frame, place, told)
 }
 
-fn put_summary(
-    alloc: Global,
-    out: &mut Vec<u8>,
-    options: &Options,
-    summary: &Summary,
-) -> Result<(), AllocError>
-    ensures { OnOk result (out.new.items ≡ out.old.items ++ (if options.now.json then row_objects summary.now else table_text summary.now)) }
-{
-    if options.json {
-        put_row_objects(alloc, out, summary)
-    } else {
-        put_table(alloc, out, summary)
-    }
-}
-
 /// Puts the summary of a log that has ended, if it is asked for.
+#[tactic(auto, unfolding(crate::specs::Telling::summary_text))]
 pub(crate) fn tell_summary(
     alloc: Global,
     out: &mut Vec<u8>,
@@ -207,10 +193,14 @@ pub(crate) fn tell_summary(
 ) -> Result<(), AllocError>
     ensures { OnOk result (out.new.items ≡ out.old.items ++ summary_text options.now summary.now) }
 {
-    if options.summary {
-        return put_summary(alloc, out, options, summary);
+    if !options.summary {
+        return Ok(());
     }
-    Ok(())
+    if options.json {
+        put_row_objects(alloc, out, summary)
+    } else {
+        put_table(alloc, out, summary)
+    }
 }
 
 /// A frame that carries nothing of a message, with what its bytes mean in words.
@@ -248,6 +238,7 @@ fn put_in_words(
 }
 
 /// Puts a frame that carries nothing of a message, if it is asked for.
+#[tactic(auto, unfolding(crate::specs::Telling::single_text))]
 pub(crate) fn tell_single(
     alloc: Global,
     out: &mut Vec<u8>,
@@ -268,6 +259,7 @@ pub(crate) fn tell_single(
 }
 
 /// A wrong line, by its number.
+#[tactic(auto, unfolding(crate::specs::Telling::wrong_text))]
 pub(crate) fn tell_wrong(
     out: &mut Vec<u8>,
     options: &Options,

@@ -9,7 +9,7 @@ use std::alloc::{AllocError, Global};
 use tp_wire::CmFrame;
 
 /// The place of a frame in a log.
-#[derive(Clone, Copy, Debug, PartialEq, Eq)]
+#[derive(Clone, Copy)]
 pub struct Place {
     /// The frame's number among the frames of the log, from 1.
     pub number: u64,
@@ -18,7 +18,7 @@ pub struct Place {
 }
 
 /// The frames of a message. A count that would pass 2^64 - 1 stays there.
-#[derive(Debug, Drop)]
+#[derive(Drop)]
 pub struct Course {
     pub pgn: Pgn,
     /// Its first frame, the announcement.

@@ -7,7 +7,7 @@ use std::alloc::{AllocError, Global};
 use std::marker::Model;
 
 /// What a frame is in the course of a message.
-#[derive(Clone, Copy, Debug, PartialEq, Eq)]
+#[derive(Clone, Copy)]
 pub enum Step {
     /// It announces the message, or announces it again.
     Announcement,
@@ -22,7 +22,7 @@ pub enum Step {
 }
 
 /// What is kept of a course.
-#[derive(Clone, Copy, Debug, PartialEq, Eq)]
+#[derive(Clone, Copy)]
 pub enum Detail {
     /// Its first and last frame, and its counts.
     Ends,
@@ -31,14 +31,14 @@ pub enum Detail {
 }
 
 /// A frame that is listed.
-#[derive(Clone, Copy, Debug, PartialEq, Eq)]
+#[derive(Clone, Copy)]
 pub struct Mark {
     pub place: Place,
     pub step: Step,
 }
 
 /// The frames that are listed of a message, in their order.
-#[derive(Debug, Drop)]
+#[derive(Drop)]
 pub struct Marks {
     items: Vec<Mark>,
 }

@@ -116,8 +116,8 @@ impl Decoder {
 
     /// The log ends: each message that is still under way is reported, by interface, and for each in the order in which they were
     /// announced. It fails only if memory is refused.
-    pub fn finish(self, told: &mut Vec<Told>) -> Result<(), AllocError>
-        ensures { OnOk result (told.new.items ≡ told.old.items ++ ended self.buses) }
+    pub fn finish(&self, told: &mut Vec<Told>) -> Result<(), AllocError>
+        ensures { OnOk result (told.new.items ≡ told.old.items ++ ended self.now.buses) }
     {
         finish_all(&self.buses, told)
     }

@@ -178,7 +178,14 @@ fn take_wire(
             kind,
             sequence,
             bytes,
-        } => take_packet(sessions, way.key(*kind), *sequence, *bytes.array(), now, told),
+        } => take_packet(
+            sessions,
+            way.key(*kind),
+            *sequence,
+            *bytes.array(),
+            now,
+            told,
+        ),
         Wire::Request { .. } => Ok(None),
         Wire::Ack { .. } => Ok(None),
     }

@@ -6,7 +6,7 @@ ghost use Rattle.log_drawing.specs.Counts.{no_counts, more, lines_text, frames_t
 use std::fmt;
 
 /// What was counted of a log. A number that would pass 2^64 - 1 stays there.
-#[derive(Clone, Copy, Debug, PartialEq, Eq)]
+#[derive(Clone, Copy)]
 pub struct Counts {
     /// Lines that were read.
     pub lines: u64,

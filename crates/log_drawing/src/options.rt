@@ -8,7 +8,7 @@ use pgn_ids::{Address, read_id};
 use tp_wire::is_transport;
 
 /// Two nodes.
-#[derive(Clone, Copy, Debug, PartialEq, Eq)]
+#[derive(Clone, Copy)]
 pub struct Pair {
     /// The participant that is drawn first.
     pub first: Address,
@@ -17,7 +17,7 @@ pub struct Pair {
 }
 
 /// What of a log is drawn.
-#[derive(Clone, Copy, Debug, PartialEq, Eq)]
+#[derive(Clone, Copy)]
 pub struct Options {
     /// Frames between these two, in either direction, and from either of them to all; if none are named, those of all nodes.
     pub pair: Option<Pair>,

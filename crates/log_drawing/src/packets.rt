@@ -10,7 +10,7 @@ use std::alloc::AllocError;
 use text_digits::put_text;
 
 /// Packets that follow on one another, which aren't drawn yet, since the next one may follow on them.
-#[derive(Clone, Copy, Debug, PartialEq, Eq)]
+#[derive(Clone, Copy)]
 pub(crate) struct Packets {
     /// The packets.
     pub(crate) run: Run,

@@ -12,7 +12,7 @@ use std::alloc::AllocError;
 use text_digits::{put_decimal, put_text};
 
 /// How far a drawing is.
-#[derive(Clone, Copy, Debug, PartialEq, Eq)]
+#[derive(Clone, Copy)]
 pub(crate) struct Picture {
     /// The form of the log's lines: that of its first line that has one.
     pub(crate) form: Option<Form>,

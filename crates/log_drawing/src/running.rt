@@ -17,7 +17,7 @@ use std::io::{BufRead, Write};
 use text_lines::tell;
 
 /// The result of drawing a log.
-#[derive(Clone, Copy, Debug, PartialEq, Eq)]
+#[derive(Clone, Copy)]
 pub struct Drawn {
     /// What was counted.
     pub counts: Counts,

@@ -5,5 +5,5 @@ use Rattle.std.specs.Prelude.{ℕ, List, ◌++◌, flat_map, codes}
 abbrev pub words_line : List ℕ → List ℕ
 words_line line = codes "  " ++ line ++ codes "\n"
 
-abbrev pub words_lines : List (List ℕ) → List ℕ
+unfoldable pub words_lines : List (List ℕ) → List ℕ
 words_lines lines = flat_map words_line lines

@@ -88,16 +88,16 @@ abbrev pub wrong_members : ℕ → List Named
 wrong_members n = (codes "kind", string (codes "wrong line")) ∷ (codes "line", count_of n) ∷ []
 
 -- the object of a report at a time, with its course and its meaning in words
-abbrev pub told_object : Detail → (now : ℕ) → Course → (explained : List (List ℕ)) → Told → List ℕ
+unfoldable pub told_object : Detail → (now : ℕ) → Course → (explained : List (List ℕ)) → Told → List ℕ
 told_object detail now c explained (Given key pgn bytes) = object_line (given_members detail now c explained key pgn bytes)
 told_object detail now c explained (Aborted key pgn reason who) = object_line (aborted_members detail now c key pgn reason who)
 told_object detail now c explained (Lost key pgn have size cause) = object_line (lost_members detail now c key pgn have size cause)
 
 -- a frame that carries nothing of a message
-abbrev pub single_object : (now : ℕ) → Iface → (explained : List (List ℕ)) → CanFrame → List ℕ
+unfoldable pub single_object : (now : ℕ) → Iface → (explained : List (List ℕ)) → CanFrame → List ℕ
 single_object now iface explained frame =
     let m = meaning_of frame.id in
     object_line (frame_members now iface explained m.from m.to m.pgn frame.bytes)
 
-abbrev pub wrong_object : ℕ → List ℕ
+unfoldable pub wrong_object : ℕ → List ℕ
 wrong_object n = object_line (wrong_members n)

@@ -1,3 +1,4 @@
+pub mod Parts
 pub mod Text
 pub mod Listing
 pub mod Explained

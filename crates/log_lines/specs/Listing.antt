@@ -22,5 +22,5 @@ step_text End = codes " end\n"
 abbrev pub mark_line : Mark → List ℕ
 mark_line m = codes "  " ++ time_text m.place.time ++ codes " " ++ decimal m.place.number ++ step_text m.step
 
-abbrev pub mark_lines : List Mark → List ℕ
+unfoldable pub mark_lines : List Mark → List ℕ
 mark_lines marks = flat_map mark_line marks

@@ -48,5 +48,5 @@ row_members r aborts lost all =
 unfoldable pub row_object : Summary → Row → List ℕ
 row_object s r = object_line (row_members r (aborts_of r s) (losses_of r) (frames_on r.iface s))
 
-abbrev pub row_objects : Summary → List ℕ
+unfoldable pub row_objects : Summary → List ℕ
 row_objects s = flat_map (row_object s) (rows_of s)

@@ -1,8 +1,6 @@
 -- The table of a summary: a line that names the columns, and for each row a line and what its messages were aborted and lost for.
 use Rattle.std.specs.Prelude.{ℕ, ◌-◌, List, ◌++◌, length, replicate, flat_map, codes}
 use Rattle.std.specs.Fmt.{decimal}
-use Rattle.pgn_ids.specs.declared.address.Address.{Address}
-use Rattle.text_digits.specs.Digits.{digits}
 use Rattle.log_fields.specs.Iface.{name_of}
 use Rattle.log_fields.specs.declared.iface.Iface.{Iface}
 use Rattle.log_reports.specs.Causes.{cause_words}
@@ -10,21 +8,15 @@ use Rattle.log_summary.specs.Rows.{Summary, rows_of, aborts_of, losses_of, frame
 use Rattle.log_summary.specs.declared.row.LossCount.{LossCount}
 use Rattle.log_summary.specs.declared.row.Row.{Row}
 use Rattle.log_summary.specs.declared.summary.AbortCount.{AbortCount}
-
--- a text behind a blank, in a column of so many characters, at its right side
-abbrev pub column : (width : ℕ) → List ℕ → List ℕ
-column width text = codes " " ++ replicate (width - length text) 32 ++ text
+use Rattle.log_lines.specs.Parts.{address_text, pgn_text, column}
 
 -- a name, in a column of fifteen
 abbrev pub name_text : Iface → List ℕ
 name_text iface = name_of iface ++ replicate (15 - length (name_of iface)) 32
 
-abbrev pub address_text : Address → List ℕ
-address_text a = codes "   " ++ digits 16 2 a.0
-
 -- the columns of a row's interface, PGN and addresses
 abbrev pub way_text : Row → List ℕ
-way_text r = name_text r.iface ++ codes " " ++ digits 16 5 r.pgn ++ address_text r.from ++ address_text r.to
+way_text r = name_text r.iface ++ codes " " ++ pgn_text r.pgn ++ codes "   " ++ address_text r.from ++ codes "   " ++ address_text r.to
 
 -- how many were given, their bytes, how long they took on average, and the longest of them
 abbrev pub given_text : Row → List ℕ
@@ -56,5 +48,5 @@ row_lines s r = row_line r (frames_on r.iface s) ++ abort_lines (aborts_of r s) 
 unfoldable pub header_line : List ℕ
 header_line = codes "interface         pgn from   to    given      bytes       mean    longest  again  share\n"
 
-abbrev pub table_text : Summary → List ℕ
+unfoldable pub table_text : Summary → List ℕ
 table_text s = header_line ++ flat_map (row_lines s) (rows_of s)

@@ -4,7 +4,7 @@ use Rattle.std.specs.Fmt.{decimal}
 use Rattle.bus_frame.specs.Frames.{CanFrame}
 use Rattle.pgn_ids.specs.Identifier.{meaning_of}
 use Rattle.pgn_ids.specs.declared.address.Address.{Address}
-use Rattle.text_digits.specs.Digits.{digits, unspaced}
+use Rattle.text_digits.specs.Digits.{unspaced}
 use Rattle.log_fields.specs.Iface.{name_of}
 use Rattle.log_fields.specs.Time.{time_text}
 use Rattle.log_fields.specs.declared.iface.Iface.{Iface}
@@ -13,23 +13,15 @@ use Rattle.log_reports.specs.declared.told.Cause.{Cause}
 use Rattle.log_reports.specs.Causes.{cause_words}
 use Rattle.log_reports.specs.declared.told.Told.{Told}
 use Rattle.log_reports.specs.declared.told.Told.TheVariants.{Given, Aborted, Lost}
+use Rattle.log_lines.specs.Parts.{address_text, pgn_text}
 
 -- the time, the interface, and what was seen there
 abbrev pub place_text : ℕ → Iface → List ℕ → List ℕ
 place_text now iface what = time_text now ++ codes " " ++ name_of iface ++ what
 
-unfoldable pub address_text : Address → List ℕ
-address_text a = digits 16 2 a.0
-
-unfoldable pub pgn_text : ℕ → List ℕ
-pgn_text pgn = digits 16 5 pgn
-
-abbrev pub ends_text : (from to : Address) → List ℕ
-ends_text from to = address_text from ++ codes " " ++ address_text to ++ codes " "
-
 -- the words for the addresses between which a message goes, and for its PGN
 abbrev pub way_text : (from to : Address) → ℕ → List ℕ
-way_text from to pgn = ends_text from to ++ pgn_text pgn ++ codes " "
+way_text from to pgn = address_text from ++ codes " " ++ address_text to ++ codes " " ++ pgn_text pgn ++ codes " "
 
 -- how many bytes, and the bytes
 abbrev pub message_text : List ℕ → List ℕ
@@ -60,21 +52,17 @@ abbrev pub lost_line : ℕ → Key → (pgn have size : ℕ) → Cause → List 
 lost_line now key pgn have size cause = head_text now key (codes " lost ") pgn ++ loss_text have size cause
 
 -- the line of a report at a time
-abbrev pub told_line : ℕ → Told → List ℕ
+unfoldable pub told_line : ℕ → Told → List ℕ
 told_line now (Given key pgn bytes) = given_line now key pgn bytes
 told_line now (Aborted key pgn reason who) = aborted_line now key pgn reason who
 told_line now (Lost key pgn have size cause) = lost_line now key pgn have size cause
 
--- a number between texts
-unfoldable pub between_texts : List ℕ → ℕ → List ℕ → List ℕ
-between_texts before n behind = before ++ decimal n ++ behind
-
 -- a wrong line, by its number
-abbrev pub wrong_line : ℕ → List ℕ
-wrong_line n = between_texts (codes "line ") n (codes ": not a log line\n")
+unfoldable pub wrong_line : ℕ → List ℕ
+wrong_line n = codes "line " ++ decimal n ++ codes ": not a log line\n"
 
 -- a frame that carries nothing of a message
-abbrev pub single_line : ℕ → Iface → CanFrame → List ℕ
+unfoldable pub single_line : ℕ → Iface → CanFrame → List ℕ
 single_line now iface frame =
     let m = meaning_of frame.id in
     place_text now iface (codes " frame ") ++ way_text m.from m.to m.pgn ++ message_text frame.bytes

@@ -14,6 +14,7 @@ mod listing;
 mod meanings;
 mod members;
 mod objects;
+mod parts;
 mod rows;
 mod strings;
 mod table;

@@ -2,20 +2,23 @@
 ghost use Rattle.std.specs.Prelude.{◌≡◌, ◌++◌, OnOk};
 ghost use Rattle.log_lines.specs.Listing.{range_text, step_text, mark_line, mark_lines};
 
+use crate::parts::{Part, put_parts};
 use log_courses::{Mark, Step};
-use log_fields::put_time;
 use std::alloc::AllocError;
-use text_digits::{put_decimal, put_text};
+use text_digits::put_text;
 
 /// Packets from one to another.
 fn put_range(out: &mut Vec<u8>, what: &str, first: u64, last: u64) -> Result<(), AllocError>
     ensures { OnOk result (out.new.items ≡ out.old.items ++ range_text what.now first last) }
 {
-    put_text(out, what)?;
-    put_decimal(out, first)?;
-    put_text(out, " ")?;
-    put_decimal(out, last)?;
-    put_text(out, "\n")
+    let parts = [
+        Part::Text(what),
+        Part::Number(first),
+        Part::Text(" "),
+        Part::Number(last),
+        Part::Text("\n"),
+    ];
+    put_parts(out, &parts)
 }
 
 /// What a frame does.
@@ -35,14 +38,18 @@ fn put_step(out: &mut Vec<u8>, step: Step) -> Result<(), AllocError>
 fn put_mark(out: &mut Vec<u8>, mark: &Mark) -> Result<(), AllocError>
     ensures { OnOk result (out.new.items ≡ out.old.items ++ mark_line mark.now) }
 {
-    put_text(out, "  ")?;
-    put_time(out, mark.place.time)?;
-    put_text(out, " ")?;
-    put_decimal(out, mark.place.number)?;
+    let parts = [
+        Part::Text("  "),
+        Part::Time(mark.place.time),
+        Part::Text(" "),
+        Part::Number(mark.place.number),
+    ];
+    put_parts(out, &parts)?;
     put_step(out, mark.step)
 }
 
 /// The lines of frames of a message, each indented by two blanks.
+#[tactic(auto, unfolding(crate::specs::Listing::mark_lines))]
 pub fn put_marks(out: &mut Vec<u8>, marks: &[Mark]) -> Result<(), AllocError>
     ensures { OnOk result (out.new.items ≡ out.old.items ++ mark_lines marks.now) }
 {

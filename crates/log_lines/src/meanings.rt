@@ -7,7 +7,7 @@ ghost use Rattle.log_lines.specs.Meanings.{explained_array, explained_text};
 
 use crate::members::{put_comma, put_key};
 use crate::strings::put_quoted;
-use explained_messages::Line;
+use log_reports::Line;
 use std::alloc::AllocError;
 use text_digits::put_text;
 

@@ -10,10 +10,9 @@ use crate::frames::put_frames;
 use crate::meanings::put_explained;
 use crate::members::{put_hex, put_key, put_number, put_string};
 use bus_frame::Frame;
-use explained_messages::Line;
 use log_courses::{Course, Detail, Place};
 use log_fields::Iface;
-use log_reports::{Cause, Key, Told, cause_words};
+use log_reports::{Cause, Key, Line, Told, cause_words};
 use pgn_ids::{Address, Pgn, read_id};
 use std::alloc::AllocError;
 use text_digits::put_text;
@@ -219,6 +218,7 @@ fn put_aborted(
 
 /// The line of a report at a time in microseconds, with its course, and with the course's frames if frames are listed. A message that was given
 /// has these lines of its meaning, if there are any.
+#[tactic(auto, unfolding(crate::specs::Json::told_object))]
 pub fn put_told_object(
     out: &mut Vec<u8>,
     detail: Detail,
@@ -292,6 +292,7 @@ fn put_frame(
 
 /// The line of a frame that carries nothing of a message, seen at a time in microseconds, with these lines that say what it means, if there are
 /// any.
+#[tactic(auto, unfolding(crate::specs::Json::single_object))]
 pub fn put_single_object(
     out: &mut Vec<u8>,
     now: u64,

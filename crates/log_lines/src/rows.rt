@@ -160,6 +160,7 @@ fn put_each(
 }
 
 /// An object for each row.
+#[tactic(auto, unfolding(crate::specs::Rows::row_objects))]
 pub fn put_row_objects(
     alloc: Global,
     out: &mut Vec<u8>,

@@ -1,42 +1,16 @@
 //! The table of a summary.
-ghost use Rattle.std.specs.Prelude.{◌≡◌, ◌++◌, replicate, flat_map, OnOk};
-ghost use Rattle.std.specs.Fmt.{decimal};
-ghost use Rattle.log_lines.specs.Table.{column, name_text, address_text, way_text, given_text, rest_text, abort_line, abort_lines, loss_line, loss_lines, row_line, row_lines, header_line, table_text};
+ghost use Rattle.std.specs.Prelude.{◌≡◌, ◌++◌, flat_map, OnOk};
+ghost use Rattle.log_lines.specs.Table.{name_text, way_text, given_text, rest_text, abort_line, abort_lines, loss_line, loss_lines, row_line, row_lines, header_line, table_text};
 
-use itoa::Buffer;
+use crate::parts::{Part, put_blanks, put_parts};
 use log_fields::Iface;
 use log_reports::cause_words;
 use log_summary::{AbortCount, LossCount, Row, Summary};
-use pgn_ids::Address;
 use std::alloc::{AllocError, Global};
-use text_digits::{put_decimal, put_digits, put_text};
+use text_digits::put_text;
 
 /// How many characters a name has at most.
 const NAME: usize = 15;
-
-fn put_blanks(out: &mut Vec<u8>, n: usize) -> Result<(), AllocError>
-    ensures { OnOk result (out.new.items ≡ out.old.items ++ replicate n 32) }
-{
-    for _at in 0..n {
-        out.push(b' ')?;
-    }
-    Ok(())
-}
-
-/// A text behind a blank and, if it is shorter than its column, as many blanks as it is shorter.
-fn put_column(out: &mut Vec<u8>, width: usize, text: &[u8]) -> Result<(), AllocError>
-    ensures { OnOk result (out.new.items ≡ out.old.items ++ column width text.now) }
-{
-    put_text(out, " ")?;
-    put_blanks(out, width.saturating_sub(text.len()))?;
-    out.extend_from_slice(text)
-}
-
-fn put_count(out: &mut Vec<u8>, width: usize, n: u64) -> Result<(), AllocError>
-    ensures { OnOk result (out.new.items ≡ out.old.items ++ column width (decimal n)) }
-{
-    put_column(out, width, Buffer::new().format(n).as_bytes())
-}
 
 fn put_name(out: &mut Vec<u8>, iface: &Iface) -> Result<(), AllocError>
     ensures { OnOk result (out.new.items ≡ out.old.items ++ name_text iface.now) }
@@ -46,59 +20,56 @@ fn put_name(out: &mut Vec<u8>, iface: &Iface) -> Result<(), AllocError>
     put_blanks(out, NAME.saturating_sub(name.len()))
 }
 
-fn put_address(out: &mut Vec<u8>, address: Address) -> Result<(), AllocError>
-    ensures { OnOk result (out.new.items ≡ out.old.items ++ address_text address) }
-{
-    put_text(out, "   ")?;
-    put_digits(out, 16, 2, u64::from(address.0))
-}
-
 /// The columns that identify the row.
 fn put_way(out: &mut Vec<u8>, row: &Row) -> Result<(), AllocError>
     ensures { OnOk result (out.new.items ≡ out.old.items ++ way_text row.now) }
 {
     put_name(out, &row.iface)?;
-    put_text(out, " ")?;
-    put_digits(out, 16, 5, u64::from(row.pgn.raw()))?;
-    put_address(out, row.from)?;
-    put_address(out, row.to)
+    let parts = [
+        Part::Text(" "),
+        Part::Pgn(row.pgn),
+        Part::Text("   "),
+        Part::Address(row.from),
+        Part::Text("   "),
+        Part::Address(row.to),
+    ];
+    put_parts(out, &parts)
 }
 
-/// The messages that were given.
-fn put_given(out: &mut Vec<u8>, row: &Row) -> Result<(), AllocError>
-    ensures { OnOk result (out.new.items ≡ out.old.items ++ given_text row.now) }
+/// The messages that were given, what was asked for again, and the share of so many frames.
+fn put_counts(out: &mut Vec<u8>, row: &Row, all: u64) -> Result<(), AllocError>
+    ensures { OnOk result (out.new.items ≡ out.old.items ++ (given_text row.now ++ rest_text row.now all)) }
 {
-    put_count(out, 8, row.given)?;
-    put_count(out, 10, row.bytes)?;
-    put_count(out, 10, row.mean())?;
-    put_count(out, 10, row.longest)
-}
-
-/// What was asked for again, and the share of so many frames.
-fn put_rest(out: &mut Vec<u8>, row: &Row, all: u64) -> Result<(), AllocError>
-    ensures { OnOk result (out.new.items ≡ out.old.items ++ rest_text row.now all) }
-{
-    put_count(out, 6, row.again)?;
-    put_count(out, 6, row.share(all))?;
-    put_text(out, "\n")
+    let parts = [
+        Part::Column(8, row.given),
+        Part::Column(10, row.bytes),
+        Part::Column(10, row.mean()),
+        Part::Column(10, row.longest),
+        Part::Column(6, row.again),
+        Part::Column(6, row.share(all)),
+        Part::Text("\n"),
+    ];
+    put_parts(out, &parts)
 }
 
 fn put_row(out: &mut Vec<u8>, row: &Row, all: u64) -> Result<(), AllocError>
     ensures { OnOk result (out.new.items ≡ out.old.items ++ row_line row.now all) }
 {
     put_way(out, row)?;
-    put_given(out, row)?;
-    put_rest(out, row, all)
+    put_counts(out, row, all)
 }
 
 fn put_abort(out: &mut Vec<u8>, abort: &AbortCount) -> Result<(), AllocError>
     ensures { OnOk result (out.new.items ≡ out.old.items ++ abort_line abort.now) }
 {
-    put_text(out, "  aborted ")?;
-    put_decimal(out, abort.count)?;
-    put_text(out, " reason ")?;
-    put_decimal(out, u64::from(abort.reason))?;
-    put_text(out, "\n")
+    let parts = [
+        Part::Text("  aborted "),
+        Part::Number(abort.count),
+        Part::Text(" reason "),
+        Part::Number(u64::from(abort.reason)),
+        Part::Text("\n"),
+    ];
+    put_parts(out, &parts)
 }
 
 fn put_aborts(out: &mut Vec<u8>, aborts: &[AbortCount]) -> Result<(), AllocError>
@@ -113,11 +84,14 @@ fn put_aborts(out: &mut Vec<u8>, aborts: &[AbortCount]) -> Result<(), AllocError
 fn put_loss(out: &mut Vec<u8>, lost: &LossCount) -> Result<(), AllocError>
     ensures { OnOk result (out.new.items ≡ out.old.items ++ loss_line lost.now) }
 {
-    put_text(out, "  lost ")?;
-    put_decimal(out, lost.count)?;
-    put_text(out, " ")?;
-    put_text(out, cause_words(lost.cause))?;
-    put_text(out, "\n")
+    let parts = [
+        Part::Text("  lost "),
+        Part::Number(lost.count),
+        Part::Text(" "),
+        Part::Text(cause_words(lost.cause)),
+        Part::Text("\n"),
+    ];
+    put_parts(out, &parts)
 }
 
 fn put_losses(out: &mut Vec<u8>, lost: &[LossCount]) -> Result<(), AllocError>
@@ -170,6 +144,7 @@ fn put_header(out: &mut Vec<u8>) -> Result<(), AllocError>
 }
 
 /// A line that names the columns, and the lines of each row.
+#[tactic(auto, unfolding(crate::specs::Table::table_text))]
 pub fn put_table(alloc: Global, out: &mut Vec<u8>, summary: &Summary) -> Result<(), AllocError>
     ensures { OnOk result (out.new.items ≡ out.old.items ++ table_text summary.now) }
 {

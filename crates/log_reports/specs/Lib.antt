@@ -1,3 +1,12 @@
 pub mod Causes
 pub mod Keys
 pub mod Told
+pub mod Lines
+pub mod Faults
+pub mod Lamps
+pub mod Padding
+pub mod List
+pub mod Fields
+pub mod Naming
+pub mod Texts
+pub mod Groups

@@ -4,7 +4,6 @@ ghost use Rattle.std.specs.Prelude.{◌≡◌, length};
 use std::marker::Model;
 
 /// The bytes of a message, which contracts see as a list.
-#[derive(Debug)]
 pub struct Bytes {
     items: Vec<u8>,
 }

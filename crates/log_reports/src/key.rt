@@ -7,7 +7,7 @@ use pgn_ids::Address;
 use tp_wire::Kind;
 
 /// A transport.
-#[derive(Clone, Copy, Debug, PartialEq, Eq, Hash)]
+#[derive(Clone, Copy, PartialEq, Eq, Hash)]
 pub enum Transport {
     /// The transport protocol (SAE J1939-21).
     Tp,
@@ -29,7 +29,7 @@ impl Transport {
 
 /// The key of a message under way: on an interface, a node sends at most one at a time to each destination, 255 for a broadcast, by each
 /// transport.
-#[derive(Clone, Copy, Debug, PartialEq, Eq, Hash)]
+#[derive(Clone, Copy, PartialEq, Eq, Hash)]
 pub struct Key {
     pub iface: Iface,
     /// The node that sends the message.

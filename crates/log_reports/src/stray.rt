@@ -1,7 +1,7 @@
 //! Frames of a transport that belong to no message under way.
 
 /// A frame that carries a part of a message, or steers one, if no such message is under way.
-#[derive(Clone, Copy, Debug, PartialEq, Eq)]
+#[derive(Clone, Copy)]
 pub enum Stray {
     /// A packet.
     Packet,

@@ -8,7 +8,7 @@ use crate::key::Key;
 use pgn_ids::{Address, Pgn};
 
 /// Why a message is lost to the listener.
-#[derive(Clone, Copy, Debug, PartialEq, Eq)]
+#[derive(Clone, Copy, PartialEq, Eq)]
 pub enum Cause {
     /// A packet of a broadcast is missing: a later one was seen.
     Missing,
@@ -45,7 +45,7 @@ pub fn cause_words(cause: Cause) -> &'static str
 }
 
 /// The report on a message, whose key says where it was seen and between which nodes.
-#[derive(Debug, Drop)]
+#[derive(Drop)]
 pub enum Told {
     /// All of it was received.
     Given {

@@ -1,5 +1,5 @@
 -- A message under way, as a listener sees it (SAE J1939-21, transport protocol; ISO 11783-3, extended transport protocol).
-use Rattle.std.specs.Prelude.{ℕ, ◌+◌, ◌-◌, ◌*◌, List, length, Bool, true, ◌&&◌, ◌==◌, nat_lt, nat_le, max, if◌then◌else◌, Option, Some, None}
+use Rattle.std.specs.Prelude.{ℕ, ◌+◌, ◌-◌, ◌*◌, ◌^◌, List, length, Bool, true, ◌&&◌, ◌==◌, nat_lt, nat_le, max, min, if◌then◌else◌, Option, Some, None}
 use Rattle.pgn_ids.specs.Address.{global_address}
 use Rattle.pgn_ids.specs.Pgn.{clean}
 use Rattle.pgn_ids.specs.declared.address.Address.{Address}
@@ -93,6 +93,14 @@ patience to = if to.0 == global_address then T1 * 1000 else CONNECTION_PATIENCE
 -- no frame of it was seen for so long
 abbrev pub is_silent : (to : Address) → Session → (now : ℕ) → Bool
 is_silent to s now = nat_le (patience to) (now - s.heard)
+
+-- from when on it is silent, if no frame of it is seen: at the last time at the latest
+abbrev pub due : (to : Address) → Session → ℕ
+due to s = min (s.heard + patience to) (2 ^ 64 - 1)
+
+-- from when on a message can be silent whose last frame is seen now: the ends of a broadcast wait least
+abbrev pub soonest : (now : ℕ) → ℕ
+soonest now = min (now + T1 * 1000) (2 ^ 64 - 1)
 
 -- all of it was received
 abbrev pub given_of : Key → (pgn : ℕ) → Join → Option Told

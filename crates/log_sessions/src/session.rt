@@ -1,10 +1,9 @@
 //! A message under way, as a listener sees it.
 ghost use Rattle.pgn_ids.specs.Pgn.{clean};
-ghost use Rattle.std.specs.Prelude.{◌≡◌, ◌==◌, ◌+◌, ◌*◌, ◌≤◌, length, true, OnOk, IfOk, Some};
+ghost use Rattle.std.specs.Prelude.{◌≡◌, ◌==◌, length, true, OnOk, IfOk, Some};
 ghost use Rattle.seg_cut.specs.Join.{wants};
-ghost use Rattle.log_sessions.specs.Session.{first_window, opened, accepted, renewed, packet_heard, is_within, sequence_heard, cm_heard, acknowledged, heard, abort_heard, is_silent, patience, given_of, told_of, is_again};
+ghost use Rattle.log_sessions.specs.Session.{first_window, opened, accepted, renewed, packet_heard, is_within, sequence_heard, cm_heard, acknowledged, heard, abort_heard, is_silent, patience, due, soonest, given_of, told_of, is_again};
 ghost use Rattle.log_sessions.specs.declared.session.Fate.TheVariants.{GoesOn, Lost};
-ghost use Rattle.tick_timers.specs.declared.durations.TheConstants.{T1};
 
 use log_fields::TICK;
 use log_reports::{Bytes, Cause, Key, Told, Transport};
@@ -16,7 +15,7 @@ use tp_wire::CmFrame;
 use tp_wire::constants::ETP_MAX_WINDOW;
 
 /// What becomes of a message under way by a frame.
-#[derive(Clone, Copy, PartialEq, Eq)]
+#[derive(Clone, Copy)]
 pub enum Fate {
     /// It continues.
     GoesOn,
@@ -29,7 +28,7 @@ pub enum Fate {
 }
 
 /// A message under way.
-#[derive(Debug, Drop)]
+#[derive(Drop)]
 pub struct Session {
     /// The PGN field that announced it.
     pgn: WirePgn,
@@ -248,9 +247,9 @@ impl Session {
         now.saturating_sub(self.heard) >= patience(to)
     }
 
-    /// A time before which it isn't silent, if no frame of it is seen.
+    /// The time from which it is silent, if no frame of it is seen; 2^64 - 1 if that is later.
     pub fn due(&self, to: Address) -> u64
-        ensures { result ≤ self.now.heard + patience to }
+        ensures { result ≡ due to self.now }
     {
         self.heard.saturating_add(patience(to))
     }
@@ -295,9 +294,9 @@ impl Session {
     }
 }
 
-/// The earliest time at which a message can be silent whose last frame is seen at this one.
+/// The earliest time at which a message can be silent whose last frame is seen at this one; 2^64 - 1 if that is later.
 pub fn soonest(now: u64) -> u64
-    ensures { result ≤ now + T1 * 1000 }
+    ensures { result ≡ soonest now }
 {
     now.saturating_add(T1 * TICK)
 }

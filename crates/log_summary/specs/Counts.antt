@@ -7,7 +7,8 @@ use Rattle.log_reports.specs.declared.stray.Stray.{Stray}
 use Rattle.log_reports.specs.declared.told.Told.{Told}
 use Rattle.log_reports.specs.declared.told.Told.TheVariants.{Given, Aborted, Lost}
 use Rattle.log_summary.specs.Options.{is_told_asked}
-use Rattle.log_summary.specs.Strays.{more, no_strays, with_stray}
+use Rattle.log_courses.specs.Course.{more}
+use Rattle.log_summary.specs.Strays.{no_strays, with_stray}
 use Rattle.log_summary.specs.declared.counts.Counts.{Counts}
 use Rattle.log_summary.specs.declared.options.Options.{Options}
 

@@ -1,7 +1,7 @@
 -- What of a log is asked for.
 use Rattle.std.specs.Prelude.{ℕ, List, [], ◌∷◌, length, Bool, false, not, ◌&&◌, ◌||◌, ◌==◌, if◌then◌else◌}
 use Rattle.pgn_ids.specs.declared.address.Address.{Address}
-use Rattle.explained_messages.specs.Groups.{has_form}
+use Rattle.log_reports.specs.Groups.{has_form}
 use Rattle.log_reports.specs.Told.{key_told, pgn_told}
 use Rattle.log_courses.specs.declared.marks.Detail.{Detail}
 use Rattle.log_courses.specs.declared.marks.Detail.TheVariants.{Ends, Frames}

@@ -1,13 +1,10 @@
 -- The frames of a log that belong to no message.
-use Rattle.std.specs.Prelude.{ℕ, ◌+◌, ◌-◌, ◌^◌, List, ◌++◌, codes, min, Option, Some, None}
+use Rattle.std.specs.Prelude.{ℕ, List, ◌++◌, codes, Option, Some, None}
 use Rattle.std.specs.Fmt.{decimal}
+use Rattle.log_courses.specs.Course.{more}
 use Rattle.log_reports.specs.declared.stray.Stray.{Stray}
 use Rattle.log_reports.specs.declared.stray.Stray.TheVariants.{Packet, Window, Acknowledgement}
 use Rattle.log_summary.specs.declared.strays.Strays.{Strays}
-
--- one more, within 64 bits
-abbrev pub more : ℕ → ℕ
-more n = min (n + 1) (2 ^ 64 - 1)
 
 abbrev pub no_strays : Strays
 no_strays = record { packets = 0; windows = 0; acknowledgements = 0 }
@@ -19,12 +16,6 @@ with_stray (Some Packet) s = record s { packets = more s.packets }
 with_stray (Some Window) s = record s { windows = more s.windows }
 with_stray (Some Acknowledgement) s = record s { acknowledgements = more s.acknowledgements }
 
-abbrev pub parts_text : Strays → List ℕ
-parts_text s = codes "stray packets " ++ decimal s.packets ++ codes " windows " ++ decimal s.windows
-
-abbrev pub ends_text : Strays → List ℕ
-ends_text s = codes " acknowledgements " ++ decimal s.acknowledgements
-
 -- each number behind its name
 abbrev pub strays_text : Strays → List ℕ
-strays_text s = parts_text s ++ ends_text s
+strays_text s = codes "stray packets " ++ decimal s.packets ++ codes " windows " ++ decimal s.windows ++ codes " acknowledgements " ++ decimal s.acknowledgements

@@ -1,7 +1,7 @@
 //! What was counted of a log.
 ghost use Rattle.std.specs.Prelude.{◌≡◌, Some};
 ghost use Rattle.std.specs.Fmt.{DisplaysOnOk};
-ghost use Rattle.log_summary.specs.Strays.{more};
+ghost use Rattle.log_courses.specs.Course.{more};
 ghost use Rattle.log_summary.specs.Counts.{no_counts, with_told, with_asked, with_each, with_frame, with_strays, lines_text, frames_text, messages_text, rest_text, counts_text};
 
 use crate::options::Options;
@@ -12,7 +12,7 @@ use std::fmt;
 use tp_wire::{is_transport, read};
 
 /// What was counted of a log. A number that would pass 2^64 - 1 stays there.
-#[derive(Clone, Copy, Debug, PartialEq, Eq)]
+#[derive(Clone, Copy, PartialEq, Eq)]
 pub struct Counts {
     /// Lines that were read.
     pub lines: u64,
@@ -38,8 +38,8 @@ pub struct Counts {
     pub lost: u64,
 }
 
-/// One more.
-fn more(n: u64) -> u64
+/// One more, up to the last value.
+pub(crate) fn more(n: u64) -> u64
     ensures { result ≡ more n }
 {
     n.saturating_add(1)

@@ -2,15 +2,14 @@
 ghost use Rattle.std.specs.Prelude.{◌≡◌, [], ◌∷◌, ◌++◌, OnOk};
 ghost use Rattle.log_summary.specs.Options.{is_among, takes, is_asked_for, is_told_asked, shows, sums_up, shows_singles, is_single_asked, follows, detail_of};
 
-use explained_messages::has_form;
 use log_courses::Detail;
-use log_reports::{Told, key_told, pgn_told};
+use log_reports::{Told, has_form, key_told, pgn_told};
 use pgn_ids::{Address, Pgn};
 use std::alloc::{AllocError, Global};
 use std::marker::Model;
 
 /// Numbers that are asked for. If none is named, each is.
-#[derive(Debug, Drop)]
+#[derive(Drop)]
 pub struct Wanted {
     named: Vec<u32>,
 }
@@ -61,7 +60,7 @@ impl Wanted {
 }
 
 /// What of a log is printed and counted.
-#[derive(Debug, Drop)]
+#[derive(Drop)]
 pub struct Options {
     /// Messages of these PGNs.
     pub pgns: Wanted,

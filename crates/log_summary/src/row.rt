@@ -1,8 +1,8 @@
 //! The messages of a PGN between two nodes, and how they ended.
 ghost use Rattle.std.specs.Prelude.{◌≡◌, ◌++◌, OnOk, IfOk, flat_map};
-ghost use Rattle.log_courses.specs.Course.{more};
 ghost use Rattle.log_summary.specs.Rows.{new_row, no_losses, with_loss, lost_of, lost_for, losses_of, with_given, with_course, with_end, with_told, mean_of, share_of};
 
+use crate::counts::more;
 use log_courses::Course;
 use log_fields::Iface;
 use log_reports::{Cause, Key, Told};
@@ -65,13 +65,6 @@ const CAUSES: [Cause; 8] = [
     Cause::TooLong,
     Cause::Unsound,
 ];
-
-/// One more, up to the last value.
-fn more(n: u64) -> u64
-    ensures { result ≡ more n }
-{
-    n.saturating_add(1)
-}
 
 impl Losses {
     fn none() -> Losses

@@ -1,13 +1,13 @@
 //! The frames of a log that belong to no message.
 ghost use Rattle.std.specs.Prelude.{◌≡◌, Some};
-ghost use Rattle.std.specs.Fmt.{DisplaysOnOk};
-ghost use Rattle.log_summary.specs.Strays.{no_strays, with_stray, parts_text, ends_text, strays_text};
+ghost use Rattle.log_summary.specs.Strays.{no_strays, with_stray, strays_text};
 
+use crate::counts::more;
 use log_reports::Stray;
 use std::fmt;
 
 /// The frames of a transport that belong to no message, by their kind. A number that would pass 2^64 - 1 stays there.
-#[derive(Clone, Copy, Debug, PartialEq, Eq)]
+#[derive(Clone, Copy, PartialEq, Eq)]
 pub struct Strays {
     /// Packets.
     pub packets: u64,
@@ -35,36 +35,25 @@ impl Strays {
     {
         match stray {
             None => {}
-            Some(Stray::Packet) => self.packets = self.packets.saturating_add(1),
-            Some(Stray::Window) => self.windows = self.windows.saturating_add(1),
-            Some(Stray::Acknowledgement) => {
-                self.acknowledgements = self.acknowledgements.saturating_add(1);
-            }
+            Some(Stray::Packet) => self.packets = more(self.packets),
+            Some(Stray::Window) => self.windows = more(self.windows),
+            Some(Stray::Acknowledgement) => self.acknowledgements = more(self.acknowledgements),
         }
     }
-}
-
-/// What parts of messages there were.
-fn put_parts<W: fmt::Write>(strays: &Strays, f: &mut fmt::Formatter<W>) -> fmt::Result
-    ensures { DisplaysOnOk W.write_str_gives f.old result (Some (parts_text strays.now)) f.new }
-{
-    let (packets, windows) = (strays.packets, strays.windows);
-    write!(f, "stray packets {packets} windows {windows}")
-}
-
-/// What ends of messages there were.
-fn put_ends<W: fmt::Write>(strays: &Strays, f: &mut fmt::Formatter<W>) -> fmt::Result
-    ensures { DisplaysOnOk W.write_str_gives f.old result (Some (ends_text strays.now)) f.new }
-{
-    let acknowledgements = strays.acknowledgements;
-    write!(f, " acknowledgements {acknowledgements}")
 }
 
 impl fmt::Display for Strays {
     ghost output = { λ s. Some (strays_text s) };
 
     fn fmt<W: fmt::Write>(&self, f: &mut fmt::Formatter<W>) -> fmt::Result {
-        put_parts(self, f)?;
-        put_ends(self, f)
+        let Strays {
+            packets,
+            windows,
+            acknowledgements,
+        } = *self;
+        write!(
+            f,
+            "stray packets {packets} windows {windows} acknowledgements {acknowledgements}"
+        )
     }
 }

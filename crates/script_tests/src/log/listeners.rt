@@ -61,7 +61,7 @@ fn silence(rt: &impl Abort, alloc: Global, decoder: &mut Decoder, told: &mut Vec
     same(rt, decoder.time(), 1_501_000);
 }
 
-fn finishes(rt: &impl Abort, decoder: Decoder, told: &mut Vec<Told>) {
+fn finishes(rt: &impl Abort, decoder: &Decoder, told: &mut Vec<Told>) {
     got(rt, decoder.finish(told));
     same(rt, told.len(), 2);
 }
@@ -85,7 +85,7 @@ fn a_listener_is_told_of_a_message_and_of_silence(rt: HostRuntime) {
     let mut decoder = Decoder::new(rt.alloc(), 1_785);
     let mut told = Vec::new(rt.alloc());
     message_and_silence(&rt, rt.alloc(), &mut decoder, &mut told);
-    finishes(&rt, decoder, &mut told)
+    finishes(&rt, &decoder, &mut told)
 }
 
 fn is_given(told: &Told) -> bool {
