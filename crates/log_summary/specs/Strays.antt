@@ -16,6 +16,12 @@ with_stray (Some Packet) s = record s { packets = more s.packets }
 with_stray (Some Window) s = record s { windows = more s.windows }
 with_stray (Some Acknowledgement) s = record s { acknowledgements = more s.acknowledgements }
 
+abbrev pub parts_text : Strays → List ℕ
+parts_text s = codes "stray packets " ++ decimal s.packets ++ codes " windows " ++ decimal s.windows
+
+abbrev pub ends_text : Strays → List ℕ
+ends_text s = codes " acknowledgements " ++ decimal s.acknowledgements
+
 -- each number behind its name
 abbrev pub strays_text : Strays → List ℕ
-strays_text s = codes "stray packets " ++ decimal s.packets ++ codes " windows " ++ decimal s.windows ++ codes " acknowledgements " ++ decimal s.acknowledgements
+strays_text s = parts_text s ++ ends_text s

@@ -1,6 +1,7 @@
 //! The frames of a log that belong to no message.
 ghost use Rattle.std.specs.Prelude.{◌≡◌, Some};
-ghost use Rattle.log_summary.specs.Strays.{no_strays, with_stray, strays_text};
+ghost use Rattle.std.specs.Fmt.{DisplaysOnOk};
+ghost use Rattle.log_summary.specs.Strays.{no_strays, with_stray, parts_text, ends_text, strays_text};
 
 use crate::counts::more;
 use log_reports::Stray;
@@ -42,18 +43,27 @@ impl Strays {
     }
 }
 
+/// What parts of messages there were.
+fn put_parts<W: fmt::Write>(strays: &Strays, f: &mut fmt::Formatter<W>) -> fmt::Result
+    ensures { DisplaysOnOk W.write_str_gives f.old result (Some (parts_text strays.now)) f.new }
+{
+    let (packets, windows) = (strays.packets, strays.windows);
+    write!(f, "stray packets {packets} windows {windows}")
+}
+
+/// What ends of messages there were.
+fn put_ends<W: fmt::Write>(strays: &Strays, f: &mut fmt::Formatter<W>) -> fmt::Result
+    ensures { DisplaysOnOk W.write_str_gives f.old result (Some (ends_text strays.now)) f.new }
+{
+    let acknowledgements = strays.acknowledgements;
+    write!(f, " acknowledgements {acknowledgements}")
+}
+
 impl fmt::Display for Strays {
     ghost output = { λ s. Some (strays_text s) };
 
     fn fmt<W: fmt::Write>(&self, f: &mut fmt::Formatter<W>) -> fmt::Result {
-        let Strays {
-            packets,
-            windows,
-            acknowledgements,
-        } = *self;
-        write!(
-            f,
-            "stray packets {packets} windows {windows} acknowledgements {acknowledgements}"
-        )
+        put_parts(self, f)?;
+        put_ends(self, f)
     }
 }

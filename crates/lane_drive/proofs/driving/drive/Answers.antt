@@ -2,7 +2,6 @@ use Rattle.std.proofs.Common.{◌∙◌}
 use Rattle.drive_course.specs.Joined.{joined}
 use Rattle.segment_law.specs.Drive.{driven}
 use Rattle.lane_drive.proofs.Turns.{turning_begins, turning_goes, turning_ends, turning_stops, all_turns, drive_stops}
-use Rattle.lane_drive.proofs.Undisturbed.{quiet_drive}
 use Rattle.lane_drive.proofs.driving.drive.Goals as goal
 
 pub loop-init : goal.loop-init
@@ -25,9 +24,6 @@ returns-in-Err c =
       done = says.done_is;
       begun = says.begun_is;
       stands = says.stands_is;
-      undisturbed = λ addresses steps m stands quiet many ends.
-          quiet_drive c.messages_are_undisturbed.ensures addresses steps c.args.seg.now c.turn.new.seg c.args.from c.args.to m c.args.turns c.ended.result stands quiet many (says.done_is ends);
-      headline = λ addresses steps. c.the_headline_holds.ensures addresses steps c.turn.new.seg;
     }
 
 pub returns : goal.returns
@@ -41,7 +37,4 @@ returns c =
       done = says.done_is;
       begun = says.begun_is;
       stands = says.stands_is;
-      undisturbed = λ addresses steps m stands quiet many ends.
-          quiet_drive c.messages_are_undisturbed.ensures addresses steps c.args.seg.now c.loop.seg c.args.from c.args.to m c.args.turns c.ended-2.result stands quiet many (says.done_is ends);
-      headline = λ addresses steps. c.the_headline_holds.ensures addresses steps c.loop.seg;
     }

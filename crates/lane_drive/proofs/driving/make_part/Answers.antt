@@ -1,6 +1,6 @@
 use Rattle.std.proofs.Common.{◌≡◌, Err, refl, sym, ◌∙◌, rules}
 use Rattle.segment_state.specs.declared.stop.Stop.TheVariants.{OutOfMemory}
-use Rattle.lane_drive.proofs.Causes.{cause_refused, no_cause_passes}
+use Rattle.segment_state.proofs.Causes.{cause_refused, no_cause_passes}
 use Rattle.lane_drive.proofs.driving.make_part.Goals as goal
 
 pub returns-in-Some-clause-stopped : goal.returns-in-Some-clause-stopped
