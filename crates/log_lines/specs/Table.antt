@@ -26,7 +26,7 @@ given_text r = column 8 (decimal r.given) ++ column 10 (decimal r.bytes) ++ colu
 abbrev pub rest_text : Row → (all : ℕ) → List ℕ
 rest_text r all = column 6 (decimal r.again) ++ column 6 (decimal (share_of r.frames all)) ++ codes "\n"
 
-abbrev pub row_line : Row → (all : ℕ) → List ℕ
+unfoldable pub row_line : Row → (all : ℕ) → List ℕ
 row_line r all = way_text r ++ given_text r ++ rest_text r all
 
 abbrev pub abort_line : AbortCount → List ℕ
@@ -41,7 +41,7 @@ loss_line l = codes "  lost " ++ decimal l.count ++ codes " " ++ cause_words l.c
 abbrev pub loss_lines : List LossCount → List ℕ
 loss_lines lost = flat_map loss_line lost
 
-abbrev pub row_lines : Summary → Row → List ℕ
+unfoldable pub row_lines : Summary → Row → List ℕ
 row_lines s r = row_line r (frames_on r.iface s) ++ abort_lines (aborts_of r s) ++ loss_lines (losses_of r)
 
 -- the names of the columns

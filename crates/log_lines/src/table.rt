@@ -52,6 +52,7 @@ fn put_counts(out: &mut Vec<u8>, row: &Row, all: u64) -> Result<(), AllocError>
     put_parts(out, &parts)
 }
 
+#[tactic(auto, unfolding(crate::specs::Table::row_line))]
 fn put_row(out: &mut Vec<u8>, row: &Row, all: u64) -> Result<(), AllocError>
     ensures { OnOk result (out.new.items ≡ out.old.items ++ row_line row.now all) }
 {
@@ -104,6 +105,7 @@ fn put_losses(out: &mut Vec<u8>, lost: &[LossCount]) -> Result<(), AllocError>
 }
 
 /// The lines of a row.
+#[tactic(auto, unfolding(crate::specs::Table::row_lines))]
 fn put_lines(
     alloc: Global,
     out: &mut Vec<u8>,
