@@ -1,5 +1,9 @@
 use Rattle.std.proofs.Common.{rules, ◌≡◌, ℕ, true, false, [], List, Option, Ok, Err, refl, sym, ap, ◌∙◌, subst}
-use Rattle.segment_law.specs.Calls.{Answer, at_address, takes, replied, events_of}
+use Rattle.std.specs.Prelude.{IsOk}
+use Rattle.segment_law.specs.Segment.{Segment}
+use Rattle.segment_law.specs.Calls.{Answer, at_address, takes, called, applied, replied, events_of}
+use Rattle.segment_law.specs.declared.reply.Reply.TheVariants as reply
+use Rattle.segment_state.specs.Memory.{MayAskMemory}
 use Rattle.segment_law.specs.Record.{StandsAt}
 use Rattle.segment_law.specs.Readers.{wanted, ports_given}
 use Rattle.segment_law.specs.declared.call.Call.TheVariants.{Take}
@@ -54,3 +58,23 @@ returns-in-Err-Refused-clause-none c =
     subst (λ s. (wanted s c.args.station false).0 ≡ []) c.self.view_is
     (wanted_is_given seg c.args.station false
     ∙ ap (λ (a : Answer). ports_given (events_of (replied seg a).1)) (takes_called seg c.args.station true ∙ refused.0))
+
+pub returns-in-Err-Refused-clause-ok : goal.returns-in-Err-Refused-clause-ok
+returns-in-Err-Refused-clause-ok c =
+    let seg = c.self.inside.state in
+    let asked : Answer = at_address seg c.args.station (takes seg true) in
+    let refused : (asked ≡ Err c.in-Err-Refused.cause) × (c.take_part.new.self ≡ seg) = subst (λ (s : Stop). IsAnswer asked seg c.take_part.new.self (Err s)) c.in-Err-Refused.field-0-is c.in-Err-Refused.ensures.answer in
+    subst (λ (s : Segment). applied s (Take c.args.station true) ≡ (c.take_part.new.self, reply.Refused c.in-Err-Refused.cause)) c.self.view_is
+    (ap (λ (a : Answer). replied seg a) (takes_called seg c.args.station true ∙ refused.0) ∙ ap (λ (s : Segment). (s, reply.Refused c.in-Err-Refused.cause)) (sym refused.1))
+
+pub returns-in-Err-OutOfMemory-clause-not_refused : goal.returns-in-Err-OutOfMemory-clause-not_refused
+returns-in-Err-OutOfMemory-clause-not_refused c =
+    let seg = c.self.inside.state in
+    let asked : Answer = at_address seg c.args.station (takes seg true) in
+    let left : IsOk asked × (c.take_part.new.self ≡ seg) = subst (λ (s : Stop). IsAnswer asked seg c.take_part.new.self (Err s)) c.in-Err-OutOfMemory.field-0-is c.in-Err-OutOfMemory.ensures.answer in
+    subst (λ (s : Segment). IsOk (called s (Take c.args.station true))) c.self.view_is
+    (subst (λ (a : Answer). IsOk a) (sym (takes_called seg c.args.station true)) left.0)
+
+pub returns-in-Err-OutOfMemory-clause-memory : goal.returns-in-Err-OutOfMemory-clause-memory
+returns-in-Err-OutOfMemory-clause-memory c =
+    subst (λ (s : Segment). MayAskMemory s (Take c.args.station true)) c.self.view_is (c.in-Err-OutOfMemory.ensures.memory (ap Err c.in-Err-OutOfMemory.field-0-is))
