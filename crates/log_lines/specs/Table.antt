@@ -42,7 +42,7 @@ abbrev pub loss_lines : List LossCount → List ℕ
 loss_lines lost = flat_map loss_line lost
 
 unfoldable pub row_lines : Summary → Row → List ℕ
-row_lines s r = row_line r (frames_on r.iface s) ++ abort_lines (aborts_of r s) ++ loss_lines (losses_of r)
+row_lines s r = row_line r (frames_on r.iface s) ++ (abort_lines (aborts_of r s) ++ loss_lines (losses_of r))
 
 -- the names of the columns
 unfoldable pub header_line : List ℕ

@@ -105,7 +105,6 @@ fn put_losses(out: &mut Vec<u8>, lost: &[LossCount]) -> Result<(), AllocError>
 }
 
 /// The lines of a row.
-#[tactic(auto, unfolding(crate::specs::Table::row_lines))]
 fn put_lines(
     alloc: Global,
     out: &mut Vec<u8>,
