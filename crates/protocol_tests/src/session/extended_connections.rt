@@ -220,22 +220,41 @@ fn first_window(rt: &impl Abort, state: InState, flow: Flow) -> Received {
     take(rt, state, &data(64, [0; 7]).wire(), flow)
 }
 
+// A frame leaves this to do, and queues nothing.
+fn leaves(
+    rt: &impl Abort,
+    state: &mut Receiver,
+    queue: &mut TxQueue,
+    wire: &Wire<'_>,
+    now: u64,
+    left: Left,
+) {
+    same(rt, takes(rt, state, queue, wire, now), (left, None));
+}
+
+// A packet leaves this to do, and queues nothing.
+fn packet_leaves(
+    rt: &impl Abort,
+    state: &mut Receiver,
+    queue: &mut TxQueue,
+    sequence: u8,
+    now: u64,
+    left: Left,
+) {
+    leaves(rt, state, queue, &data(sequence, [0; 7]).wire(), now, left);
+}
+
 fn take_three(rt: &impl Abort, state: &mut Receiver, queue: &mut TxQueue) {
     let wrong = Left::Abort(AbortReason::Other);
-    let (first, second, fourth) = (data(1, [0; 7]), data(2, [0; 7]), data(4, [0; 7]));
-    for (wire, now, left) in [
-        // Packets that no DPO has announced, and a DPO past what was granted.
-        (first.wire(), 50, wrong),
-        (dpo(rt, 3, 1), 50, wrong),
-        (dpo(rt, 3, 0), 60, Left::Nothing),
-        (first.wire(), 100, Left::Nothing),
-        (second.wire(), 200, Left::Nothing),
-        // A repeated packet and one that is skipped change nothing.
-        (second.wire(), 300, Left::Nothing),
-        (fourth.wire(), 300, wrong),
-    ] {
-        same(rt, takes(rt, state, queue, &wire, now), (left, None));
-    }
+    // Packets that no DPO has announced, and a DPO past what was granted.
+    packet_leaves(rt, state, queue, 1, 50, wrong);
+    leaves(rt, state, queue, &dpo(rt, 3, 1), 50, wrong);
+    leaves(rt, state, queue, &dpo(rt, 3, 0), 60, Left::Nothing);
+    packet_leaves(rt, state, queue, 1, 100, Left::Nothing);
+    packet_leaves(rt, state, queue, 2, 200, Left::Nothing);
+    // A repeated packet and one that is skipped change nothing.
+    packet_leaves(rt, state, queue, 2, 300, Left::Nothing);
+    packet_leaves(rt, state, queue, 4, 300, wrong);
 }
 
 #[test]
