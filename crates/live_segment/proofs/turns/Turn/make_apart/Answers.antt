@@ -4,7 +4,7 @@ use Rattle.segment_core.specs.declared.made.Made.{Made}
 use Rattle.segment_core.specs.declared.made.Made.TheVariants as made
 use Rattle.segment_core.specs.Answers.{reply_with}
 use Rattle.live_segment.proofs.Working.{answered_when}
-use Rattle.live_segment.proofs.turns.Turn.make.Goals as goal
+use Rattle.live_segment.proofs.turns.Turn.make_apart.Goals as goal
 
 pub returns-in-Ok : goal.returns-in-Ok
 returns-in-Ok c =
