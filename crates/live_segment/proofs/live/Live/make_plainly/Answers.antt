@@ -140,7 +140,7 @@ returns-then-try_plainly c =
     viewed (λ (u v : LiveView). IsMadePlainly u c.args.call.now v true) _ i.stopped addrs i.calls.pieces c.push_reserved.new.self.pieces xs ys c.push_reserved.new.self.items ss ts ts ds gs c.self.view_is calls (c.push_reserved.ensures.pieces ∙ c.reserve.ensures.pieces) refl
     (room, (es, applied_as keeps addrs st xs ys ss ts ds ds gs c.args.call.now (Done es) true [] c.self.invariant.0.at rep refl found (λ e. absurd (false≢true (sym e))) clients ports closed))
 
-pub invariant_of-self-else-try_plainly : goal.invariant_of-self-3
+pub invariant_of-self-else-try_plainly : goal.invariant_of-self-else-try_plainly
 invariant_of-self-else-try_plainly c = holds_at _ _ _ _ _ _ _ _ _ _ _ _ _ _ _ (on_false _ _ c.if-try_plainly.false (c.try_plainly.ensures.same c.self.inside.addresses.items (trail c.self.inside.addresses.items c.self.inside.calls.items).steps c.self.invariant.0.stands)) c.reserve.ensures.items c.reserve.ensures.pieces c.reserve.ensures.image refl refl refl c.self.invariant.0 c.self.invariant.1
 
 pub returns : goal.returns
