@@ -23,6 +23,7 @@ mod news;
 mod offer;
 mod passing;
 mod places;
+mod plain;
 mod readers;
 mod refused;
 mod rejoining;

@@ -1,9 +1,15 @@
 //! One call on the segment, and why it would be refused.
 ghost use Rattle.std.specs.Prelude.{◌≡◌, ◌++◌, ◌∷◌, [], Bool, true, List, IfOk, IsOk, OnErr, IfSome, OnSome, IfNone};
+ghost use Rattle.std.specs.Bool.{OnTrue, OnFalse};
 ghost use Rattle.pgn_ids.specs.declared.address.Address.{Address};
 ghost use Rattle.segment_law.specs.Calls.{called};
 ghost use Rattle.segment_law.specs.Record.{Record, StandsAt};
+<<<<<<< HEAD
 ghost use Rattle.segment_state.specs.Answers.{refusal_of, reply_with};
+=======
+ghost use Rattle.segment_law.specs.declared.reply.Reply.TheVariants.{Done};
+ghost use Rattle.segment_core.specs.Answers.{refusal_of, reply_with};
+>>>>>>> h-turns
 ghost use Rattle.live_segment.specs.Words.{call_of, wanted_by};
 ghost use Rattle.reply_law.specs.Replies.{reply_of, left_by, Follows};
 
@@ -43,8 +49,42 @@ pub(crate) fn make_telling(
     segment.apply_apart(call, told)
 }
 
-/// `make_telling` with room, unless the call may give a message: then this returns None, and nothing has changed yet. A Take may give
-/// one exactly if its frame completes it; of a TakeAgain that isn't looked at.
+/// Makes a call with room, which puts its events into a place that has none yet, unless it may give a message: a Take may give one
+/// exactly if its frame completes it. Then, and if the call is refused or finds no memory, this returns false, and nothing has changed.
+#[inline(always)]
+pub(crate) fn try_plainly(segment: &mut Watched, call: WorkerCall, told: &mut Events) -> bool
+    requires { told.old ≡ [] }
+    ensures reply { OnTrue result (Done told.new ≡ reply_of segment.old (call_of call true)) }
+    ensures after { OnTrue result (segment.new ≡ left_by segment.old (call_of call true)) }
+    ensures none { OnTrue result ((wanted_by segment.old call).ports ≡ []) }
+    ensures same { (addresses : List Address) (steps : Record) → StandsAt addresses steps segment.old → OnFalse result (segment.new ≡ segment.old) }
+    ensures stands { (addresses : List Address) (steps : Record) → StandsAt addresses steps segment.old → OnTrue result (StandsAt addresses (steps ++ (call_of call true, Done told.new) ∷ []) segment.new) }
+    ensures follows { (addresses : List Address) (steps : Record) → StandsAt addresses steps segment.old → OnTrue result (Follows segment.old (call_of call true) segment.new (Done told.new)) }
+{
+    match call {
+        WorkerCall::Take { station } => match segment.take_unless_whole(station, told) {
+            Ok(tried) => match tried {
+                Tried::Done => true,
+                Tried::Whole => false,
+                Tried::Refused(_) => false,
+            },
+            Err(_) => false,
+        },
+        WorkerCall::TakeAgain { station: _ } => false,
+        _ => match make_telling(segment, call.with_room(true), told) {
+            Ok(made) => match made {
+                Made::Done => true,
+                Made::Refused(_) => false,
+                Made::Opened(_) => false,
+                Made::Sent(_) => false,
+            },
+            Err(_) => false,
+        },
+    }
+}
+
+/// `make_telling` with room, unless the call takes a frame, and so may give a message: then this returns None, and nothing has
+/// changed yet.
 #[inline(always)]
 pub(crate) fn make_ungiven(
     segment: &mut Watched,
@@ -62,11 +102,7 @@ pub(crate) fn make_ungiven(
     ensures follows { (addresses : List Address) (steps : Record) → StandsAt addresses steps segment.old → IfOk result (λ part. IfSome part (λ m. Follows segment.old (call_of call true) segment.new (reply_with m told.new))) }
 {
     match call {
-        WorkerCall::Take { station } => match segment.take_unless_whole(station, told)? {
-            Tried::Done => Ok(Some(Made::Done)),
-            Tried::Whole => Ok(None),
-            Tried::Refused(cause) => Ok(Some(Made::Refused(cause))),
-        },
+        WorkerCall::Take { station: _ } => Ok(None),
         WorkerCall::TakeAgain { station: _ } => Ok(None),
         _ => Ok(Some(make_telling(segment, call.with_room(true), told)?)),
     }

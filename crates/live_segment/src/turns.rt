@@ -77,9 +77,21 @@ impl Turn {
         }
     }
 
-    // Makes a call; each caller names which.
+    // Makes a call; each caller names which. The usual one gives no message.
     #[inline(always)]
-    fn make(&mut self, live: &mut Live, call: WorkerCall)
+    fn make(&mut self, live: &mut Live, call: &WorkerCall)
+        ensures { Makes call.now (point live.old self.old) (point live.new self.new) }
+    {
+        if live.make_plainly(call) {
+            self.add();
+            return;
+        }
+        self.make_apart(live, *call);
+    }
+
+    // `make`, for a call that may give a message, is refused or finds no memory. A turn isn't paid at its entry for what few calls do.
+    #[inline(never)]
+    fn make_apart(&mut self, live: &mut Live, call: WorkerCall)
         ensures { Makes call (point live.old self.old) (point live.new self.new) }
     {
         let mut told = Events::none(live.alloc);
@@ -142,7 +154,7 @@ impl Turn {
         ensures { PumpsTo (next_pump (state_of live.old) station) station (point live.old self.old) (point live.new self.new) }
     {
         if let Some(to) = live.segment().next_pump(station) {
-            self.make(live, WorkerCall::Pump { station, to });
+            self.make(live, &WorkerCall::Pump { station, to });
         }
     }
 
@@ -152,7 +164,17 @@ impl Turn {
         ensures { MakesWhere is_wanted call (point live.old self.old) (point live.new self.new) }
     {
         if is_wanted {
-            self.make(live, call);
+            self.make(live, &call);
+        }
+    }
+
+    // `make_where`, for a call that few turns make.
+    #[inline(always)]
+    fn make_apart_where(&mut self, live: &mut Live, is_wanted: bool, call: WorkerCall)
+        ensures { MakesWhere is_wanted call (point live.old self.old) (point live.new self.new) }
+    {
+        if is_wanted {
+            self.make_apart(live, call);
         }
     }
 
@@ -164,7 +186,7 @@ impl Turn {
     {
         if live.is_active(station) {
             let is_due = live.segment().is_due(station);
-            self.make_where(live, is_due, WorkerCall::Fire { station });
+            self.make_apart_where(live, is_due, WorkerCall::Fire { station });
         }
     }
 
@@ -181,6 +203,7 @@ impl Turn {
 
     // A station whose queue is full takes nothing more. If so many frames wait for it that the bus is full, no station can
     // transmit either, and nothing would go on: it misses the frames that wait.
+    #[inline(always)]
     fn miss(&mut self, live: &mut Live, station: Address)
         ensures { MakesWhere (is_stuck (state_of live.old) station) (OverrunCall station (waiting_at (state_of live.old) station)) (point live.old self.old) (point live.new self.new) }
     {
@@ -188,7 +211,7 @@ impl Turn {
         // Among the frames that the bus keeps is the one that the station took last.
         let most_waiting = MAX_KEPT as u64 - 1;
         let is_stuck = waiting >= most_waiting && live.segment().queue_len(station) >= MAX_FRAMES;
-        self.make_where(
+        self.make_apart_where(
             live,
             is_stuck,
             WorkerCall::Overrun {
@@ -289,7 +312,7 @@ impl Live {
     {
         let mut turn = Turn::new();
         if let Some(station) = self.lowest() {
-            turn.make(self, WorkerCall::Transmit { station });
+            turn.make(self, &WorkerCall::Transmit { station });
             return turn;
         }
         let is_idle = self.segment().is_idle();

@@ -1,13 +1,29 @@
+<<<<<<< HEAD
 use Rattle.std.proofs.Common.{◌≡◌, inl, ap, rules}
 use Rattle.segment_law.specs.declared.refusal.Refusal.TheVariants.{TraceFull}
 use Rattle.segment_state.specs.declared.made.Made.{Made}
 use Rattle.segment_state.specs.declared.made.Made.TheVariants as made
 use Rattle.segment_state.specs.Answers.{reply_with}
 use Rattle.live_segment.proofs.Working.{answered_when}
+=======
+use Rattle.std.proofs.Common.{◌≡◌, true, false, inl, inr, subst}
+use Rattle.segment_law.specs.declared.reply.Reply.TheVariants.{Done}
+use Rattle.live_segment.specs.LiveView.{LiveView}
+use Rattle.live_segment.specs.Passing.{IsMadePlainly}
+use Rattle.live_segment.specs.Turns.{Makes, point}
+>>>>>>> h-turns
 use Rattle.live_segment.proofs.turns.Turn.make.Goals as goal
 
-pub returns-in-Ok : goal.returns-in-Ok
-returns-in-Ok c =
-    let told = c.apply_telling.new.told in
-    let r = reply_with c.in-Ok.made told in
-    inl (r, answered_when c.args.live.now c.apply_telling.new.self c.args.call r (λ full. let h = c.in-Ok.ensures.full full in let is : c.in-Ok.made ≡ made.Refused TraceFull = search rules in (ap (λ (m : Made). reply_with m told) is, h.1)) c.in-Ok.ensures.applied, c.answered.ensures told)
+pub returns-then-make_plainly : goal.returns-then-make_plainly
+returns-then-make_plainly c =
+    let a = c.args.live.now in
+    let b = c.make_plainly.new.self in
+    let p : IsMadePlainly a c.args.call.now b true = subst (IsMadePlainly a c.args.call.now b) c.if-make_plainly.true c.make_plainly.ensures in
+    inl (Done p.1.0, inr (p.0, (true, p.1.1)), c.add.ensures)
+
+pub returns : goal.returns
+returns c =
+    let a = c.args.live.now in
+    let b = c.make_plainly.new.self in
+    let same : b ≡ a = subst (IsMadePlainly a c.args.call.now b) c.if-make_plainly.false c.make_plainly.ensures in
+    subst (λ (u : LiveView). Makes c.args.call.now (point u c.args.self.now) (point c.make_apart.new.live c.make_apart.new.self)) same c.make_apart.ensures
