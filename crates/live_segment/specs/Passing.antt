@@ -4,16 +4,10 @@ use Rattle.message_events.specs.declared.event.Event.{Event}
 use Rattle.pgn_ids.specs.declared.address.Address.{Address}
 use Rattle.segment_law.specs.Segment.{waiting_at}
 use Rattle.segment_law.specs.declared.reply.Reply.TheVariants.{Done}
-<<<<<<< HEAD
 use Rattle.segment_state.specs.Passing.{PassesBy}
 use Rattle.segment_state.specs.declared.passing.Passing.{Passing}
 use Rattle.segment_state.specs.declared.passing.Passing.TheVariants.{Passed, Rests, Busy}
-=======
-use Rattle.segment_core.specs.Passing.{PassesBy}
-use Rattle.segment_core.specs.declared.passing.Passing.{Passing}
-use Rattle.segment_core.specs.declared.passing.Passing.TheVariants.{Passed, Rests, Busy}
 use Rattle.live_segment.specs.declared.call.WorkerCall.{WorkerCall}
->>>>>>> h-turns
 use Rattle.live_segment.specs.declared.call.WorkerCall.TheVariants.{Take}
 use Rattle.live_segment.specs.declared.calls.TheConstants.{MOST_CALLS}
 use Rattle.live_segment.specs.LiveView.{LiveView, Applied, stored_calls}

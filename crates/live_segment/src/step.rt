@@ -4,12 +4,8 @@ ghost use Rattle.std.specs.Bool.{OnTrue, OnFalse};
 ghost use Rattle.pgn_ids.specs.declared.address.Address.{Address};
 ghost use Rattle.segment_law.specs.Calls.{called};
 ghost use Rattle.segment_law.specs.Record.{Record, StandsAt};
-<<<<<<< HEAD
-ghost use Rattle.segment_state.specs.Answers.{refusal_of, reply_with};
-=======
 ghost use Rattle.segment_law.specs.declared.reply.Reply.TheVariants.{Done};
-ghost use Rattle.segment_core.specs.Answers.{refusal_of, reply_with};
->>>>>>> h-turns
+ghost use Rattle.segment_state.specs.Answers.{refusal_of, reply_with};
 ghost use Rattle.live_segment.specs.Words.{call_of, wanted_by};
 ghost use Rattle.reply_law.specs.Replies.{reply_of, left_by, Follows};
 

@@ -8,10 +8,10 @@ use Rattle.segment_law.specs.Calls.{applied, is_send}
 use Rattle.segment_law.specs.Record.{Record, StandsAt}
 use Rattle.segment_law.specs.declared.call.Call.TheVariants.{Take}
 use Rattle.segment_law.specs.declared.reply.Reply.{Reply}
-use Rattle.segment_core.specs.Answers.{made_as, reply_with}
-use Rattle.segment_core.specs.declared.made.Made.{Made}
-use Rattle.segment_core.specs.declared.made.Tried.{Tried}
-use Rattle.segment_core.specs.declared.made.Tried.TheVariants as tried
+use Rattle.segment_state.specs.Answers.{made_as, reply_with}
+use Rattle.segment_state.specs.declared.made.Made.{Made}
+use Rattle.segment_state.specs.declared.made.Tried.{Tried}
+use Rattle.segment_state.specs.declared.made.Tried.TheVariants as tried
 use Rattle.reply_law.specs.Replies.{Follows, IsAnsweredBy, IsRefusal, opens}
 use Rattle.segment_law.proofs.Drifting.{stands_drifts}
 use Rattle.reply_law.proofs.Following.{follows}

@@ -1,17 +1,8 @@
-<<<<<<< HEAD
-use Rattle.std.proofs.Common.{◌≡◌, inl, ap, rules}
-use Rattle.segment_law.specs.declared.refusal.Refusal.TheVariants.{TraceFull}
-use Rattle.segment_state.specs.declared.made.Made.{Made}
-use Rattle.segment_state.specs.declared.made.Made.TheVariants as made
-use Rattle.segment_state.specs.Answers.{reply_with}
-use Rattle.live_segment.proofs.Working.{answered_when}
-=======
 use Rattle.std.proofs.Common.{◌≡◌, true, false, inl, inr, subst}
 use Rattle.segment_law.specs.declared.reply.Reply.TheVariants.{Done}
 use Rattle.live_segment.specs.LiveView.{LiveView}
 use Rattle.live_segment.specs.Passing.{IsMadePlainly}
 use Rattle.live_segment.specs.Turns.{Makes, point}
->>>>>>> h-turns
 use Rattle.live_segment.proofs.turns.Turn.make.Goals as goal
 
 pub returns-then-make_plainly : goal.returns-then-make_plainly

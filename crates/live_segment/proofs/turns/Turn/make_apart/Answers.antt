@@ -1,8 +1,8 @@
 use Rattle.std.proofs.Common.{◌≡◌, inl, ap, rules}
 use Rattle.segment_law.specs.declared.refusal.Refusal.TheVariants.{TraceFull}
-use Rattle.segment_core.specs.declared.made.Made.{Made}
-use Rattle.segment_core.specs.declared.made.Made.TheVariants as made
-use Rattle.segment_core.specs.Answers.{reply_with}
+use Rattle.segment_state.specs.declared.made.Made.{Made}
+use Rattle.segment_state.specs.declared.made.Made.TheVariants as made
+use Rattle.segment_state.specs.Answers.{reply_with}
 use Rattle.live_segment.proofs.Working.{answered_when}
 use Rattle.live_segment.proofs.turns.Turn.make_apart.Goals as goal
 
