@@ -13,7 +13,7 @@ use std::io::{BufRead, Write};
 use text_lines::tell;
 
 /// What is wrong with a line of a log, in the order in which it is looked for.
-#[derive(Clone, Copy, PartialEq, Eq)]
+#[derive(Clone, Copy, Debug, PartialEq, Eq)]
 pub enum Fault {
     /// There are more than 2^64 - 2 lines.
     TooManyLines,
@@ -36,7 +36,7 @@ impl fmt::Display for Fault {
 }
 
 /// Why a log wasn't read to its end.
-#[derive(Clone, Copy, PartialEq, Eq)]
+#[derive(Clone, Copy, Debug, PartialEq, Eq)]
 pub enum Cause {
     /// The reader failed.
     ReadFailed,
@@ -49,7 +49,7 @@ pub enum Cause {
 }
 
 /// The line at which reading a log ended, and why. Lines count from 1.
-#[derive(Clone, Copy)]
+#[derive(Clone, Copy, Debug, PartialEq, Eq)]
 pub struct LogFault {
     pub line: u64,
     pub cause: Cause,
