@@ -1,4 +1,4 @@
-use Rattle.std.proofs.Common.{◌≡◌, ℕ, ◌+◌, ◌<◌, ◌≤◌, List, [], ◌∷◌, ◌++◌, length, map, get_or, set, refl, sym, ap, ◌∙◌, arith, subst, inl, inr, Some, None, IsOk, ◌^◌}
+use Rattle.std.proofs.Common.{◌≡◌, ℕ, ◌+◌, ◌<◌, ◌≤◌, List, ◌∷◌, ◌++◌, length, map, get_or, set, refl, sym, ap, ◌∙◌, arith, subst, inl, inr, Some, None, IsOk, ◌^◌, []}
 use Rattle.std.proofs.lemmas.Bool.{false≢true}
 use Rattle.std.specs.Prelude.{vec_len, vec_capacity}
 use Rattle.std.proofs.lemmas.List.{get_or_default}
@@ -11,23 +11,27 @@ use Rattle.reply_law.specs.Replies.{reply_of, left_by, IsRefusal, IsAnsweredBy, 
 use Rattle.segment_law.specs.declared.refusal.Refusal.TheVariants.{TraceFull}
 use Rattle.segment_rings.specs.Views.{SeatView, new_seat, popped_one}
 use Rattle.stored_calls.specs.declared.stored.Stored.{Stored}
-use Rattle.live_segment.specs.declared.call.Owed.{Owed}
-use Rattle.live_segment.specs.declared.calls.Piece.{Piece}
-use Rattle.live_segment.specs.declared.calls.TheConstants.{MOST_CALLS}
-use Rattle.live_segment.specs.declared.offer.Ready.{Ready}
+use Rattle.live_record.specs.declared.owed.Owed.{Owed}
+use Rattle.live_record.specs.declared.calls.Piece.{Piece}
+use Rattle.live_record.specs.declared.calls.TheConstants.{MOST_CALLS}
+use Rattle.live_calls.specs.declared.offer.Ready.{Ready}
 use Rattle.live_segment.specs.declared.refused.Accepted.TheVariants as accepted
-use Rattle.live_segment.specs.Record.{owed_by, trail}
-use Rattle.live_segment.specs.Past.{count_since}
+use Rattle.live_record.specs.Record.{owed_by, trail, stored}
+use Rattle.live_record.specs.Past.{count_since}
 use Rattle.live_segment.specs.Facts.{Holds}
-use Rattle.live_segment.specs.LiveView.{LiveView, seat_free, stored, keep}
-use Rattle.live_segment.specs.Offers.{IsReadyToSend, IsCauseFor, LacksRoomToSend, HasSpace, AcceptedAs, LacksMemoryFor, send_call, owed_for}
-use Rattle.live_segment.proofs.Trails.{accepted_le}
-use Rattle.live_segment.proofs.Doors.{same_doors-refl}
+use Rattle.live_segment.specs.LiveView.{LiveView, seat_free, keep}
+use Rattle.live_calls.specs.Offers.{IsReadyToSend, IsCauseFor, LacksRoomToSend, HasSpace}
+use Rattle.live_segment.specs.Offers.{AcceptedAs, LacksMemoryFor}
+use Rattle.live_ends.specs.Offers.{send_call, owed_for}
+use Rattle.live_record.proofs.Trails.{accepted_le}
+use Rattle.live_ends.proofs.Doors.{same_doors-refl}
 use Rattle.live_segment.proofs.Fronts.{none_at, empty_at, waits_at, free_is}
-use Rattle.live_segment.proofs.Holding.{holds-same, same_live, on_err}
+use Rattle.live_segment.proofs.Holding.{holds-same, same_live}
+use Rattle.live_ends.proofs.Results.{on_err}
 use Rattle.live_segment.proofs.Viewed.{holds_at, stays, viewed, still}
 use Rattle.live_segment.proofs.Keeping.{cut_with, notes_kept-same, notes_kept-set}
-use Rattle.live_segment.proofs.SeatsSame.{same_seats-refl, clients-same}
+use Rattle.live_ends.proofs.SeatsSame.{same_seats-refl}
+use Rattle.live_segment.proofs.SeatsSame.{clients-same}
 use Rattle.live_segment.proofs.Sending.{holds-send, sent_for, refused_send, popped_at, same_front, lacks_memory_for}
 use Rattle.live_segment.proofs.Openings.{refused_reply}
 use Rattle.live_segment.proofs.Refusing.{no_cause}

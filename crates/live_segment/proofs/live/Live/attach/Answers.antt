@@ -1,12 +1,13 @@
-use Rattle.std.proofs.Common.{◌≡◌, ◌++◌, [], ◌∷◌, length, map, refl, sym, ap, ◌∙◌, ℕ, List}
+use Rattle.std.proofs.Common.{◌≡◌, ◌++◌, ◌∷◌, length, map, refl, sym, ap, ◌∙◌, ℕ, List, []}
 use Rattle.std.proofs.lemmas.List.{length-map}
 use Rattle.pgn_ids.specs.declared.address.Address.{Address}
 use Rattle.segment_rings.specs.Ends.{ClientEnd, new_client_end}
 use Rattle.segment_rings.specs.Views.{SeatView, DoorView, new_seat}
-use Rattle.live_segment.specs.Homes.{SeatsView}
+use Rattle.live_ends.specs.Homes.{SeatsView}
 use Rattle.stored_calls.specs.declared.stored.Stored.{Stored}
 use Rattle.live_segment.specs.LiveView.{LiveView, ClientView, Attached, Kept, live_view, keep, client_of}
-use Rattle.live_segment.proofs.Holding.{holds-attach, no_ok, on_err}
+use Rattle.live_segment.proofs.Holding.{holds-attach}
+use Rattle.live_ends.proofs.Results.{no_ok, on_err}
 use Rattle.live_segment.proofs.Keeping.{cut_with, notes_kept-push}
 use Rattle.live_segment.proofs.Viewed.{holds_at, viewed}
 use Rattle.live_segment.proofs.live.Live.attach.Goals as goal

@@ -1,10 +1,10 @@
-use Rattle.std.proofs.Common.{◌≡◌, [], ◌∷◌, ◌++◌, List, sym, ap, ◌∙◌, length, arith}
+use Rattle.std.proofs.Common.{◌≡◌, ◌∷◌, ◌++◌, List, sym, ap, ◌∙◌, length, arith, []}
 use Rattle.std.proofs.lemmas.List.{length_push}
-use Rattle.live_segment.specs.declared.calls.Piece.{Piece}
-use Rattle.live_segment.specs.Past.{joined}
-use Rattle.live_segment.specs.Record.{trail}
+use Rattle.live_record.specs.declared.calls.Piece.{Piece}
+use Rattle.live_record.specs.Past.{joined}
+use Rattle.live_record.specs.Record.{trail}
 use Rattle.live_segment.proofs.Cuts.{holds-cut, cut_as}
-use Rattle.live_segment.proofs.Pieces.{joined_push}
+use Rattle.live_record.proofs.Pieces.{joined_push}
 use Rattle.live_segment.proofs.live.Live.cut.Goals as goal
 
 -- pieces with one more are some

@@ -1,5 +1,5 @@
-use Rattle.live_segment.specs.Past.{count_since}
-use Rattle.std.proofs.Common.{◌≡◌, Bool, ◌<◌, List, [], ◌∷◌, ◌++◌, length, map, true, false, None, refl, sym, ap, ◌∙◌, subst, ◌^◌, ◌+◌}
+use Rattle.live_record.specs.Past.{count_since}
+use Rattle.std.proofs.Common.{◌≡◌, Bool, ◌<◌, List, ◌∷◌, ◌++◌, length, map, true, false, None, refl, sym, ap, ◌∙◌, subst, ◌^◌, ◌+◌, []}
 use Rattle.std.proofs.lemmas.Bool.{false≢true}
 use Rattle.segment_law.specs.Segment.{Segment}
 use Rattle.segment_law.specs.Calls.{called, is_send}
@@ -12,22 +12,25 @@ use Rattle.segment_state.specs.declared.made.Made.{Made}
 use Rattle.reply_law.specs.Replies.{reply_of, left_by, opens, IsRefusal, IsAnsweredBy, Follows}
 use Rattle.segment_rings.specs.Views.{SeatView}
 use Rattle.stored_calls.specs.declared.stored.Stored.{Stored}
-use Rattle.live_segment.specs.declared.call.Owed.{Owed}
-use Rattle.live_segment.specs.declared.calls.TheConstants.{MOST_CALLS}
-use Rattle.live_segment.specs.Words.{call_of, wanted_by}
-use Rattle.live_segment.specs.Record.{settle_notes, settle_owed, trail}
-use Rattle.live_segment.specs.Facts.{IdsFrom, HaveRoom, OwedWithin, note_all, Holds, give_all}
-use Rattle.live_segment.specs.Places.{IsFound}
-use Rattle.live_segment.specs.LiveView.{LiveView, Applied, LacksMemory, stored, port_of, SparesClosed, keep, stored_calls}
-use Rattle.live_segment.proofs.Applying.{applied_as, refused_as, told_as, given_as, found_false, never_opens, never_sends}
-use Rattle.live_segment.proofs.Doors.{apart-same, give_all_unplaced}
+use Rattle.live_record.specs.declared.owed.Owed.{Owed}
+use Rattle.live_record.specs.declared.calls.TheConstants.{MOST_CALLS}
+use Rattle.live_calls.specs.Words.{call_of, wanted_by}
+use Rattle.live_record.specs.Record.{settle_notes, settle_owed, trail, stored}
+use Rattle.live_ends.specs.Ends.{IdsFrom, HaveRoom, OwedWithin, note_all, give_all}
+use Rattle.live_segment.specs.Facts.{Holds}
+use Rattle.live_calls.specs.Places.{IsFound}
+use Rattle.live_segment.specs.LiveView.{LiveView, Applied, LacksMemory, port_of, SparesClosed, keep, stored_calls}
+use Rattle.live_segment.proofs.Applying.{applied_as, refused_as, told_as, given_as, found_false}
+use Rattle.live_calls.proofs.Applying.{never_opens, never_sends}
+use Rattle.live_ends.proofs.Doors.{apart-same, give_all_unplaced}
 use Rattle.live_segment.proofs.Openings.{refused_reply}
 use Rattle.live_segment.proofs.Ready.{found_ready, none_given}
 use Rattle.live_segment.proofs.Refusing.{lacks_memory}
 use Rattle.live_segment.proofs.Holding.{holds-same, holds-tell}
 use Rattle.live_segment.proofs.Keeping.{cut_with, notes_kept-all, given_kept-all, given_kept-same}
 use Rattle.live_segment.proofs.Viewed.{holds_at, stays, viewed, still, few_kept}
-use Rattle.live_segment.proofs.SeatsSame.{same_seats-refl, ports-same}
+use Rattle.live_ends.proofs.SeatsSame.{same_seats-refl}
+use Rattle.live_segment.proofs.SeatsSame.{ports-same}
 use Rattle.live_segment.proofs.live.Live.make.Goals as goal
 
 pub tell-requires-clause-apart : goal.tell-requires-clause-apart

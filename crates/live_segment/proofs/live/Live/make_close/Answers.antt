@@ -1,4 +1,4 @@
-use Rattle.std.proofs.Common.{◌≡◌, ◌<◌, List, [], ◌∷◌, ◌++◌, length, map, None, refl, sym, ap, ◌∙◌, subst, ◌^◌, ◌+◌}
+use Rattle.std.proofs.Common.{◌≡◌, ◌<◌, List, ◌∷◌, ◌++◌, length, map, None, refl, sym, ap, ◌∙◌, subst, ◌^◌, ◌+◌, []}
 use Rattle.std.proofs.lemmas.Bool.{false≢true}
 use Rattle.segment_law.specs.Record.{StandsAt}
 use Rattle.segment_law.specs.declared.call.Call.TheVariants.{Close}
@@ -7,15 +7,15 @@ use Rattle.segment_law.specs.declared.reply.Reply.TheVariants.{Done, Refused}
 use Rattle.reply_law.specs.Replies.{reply_of, IsRefusal, IsAnsweredBy, Follows}
 use Rattle.segment_rings.specs.Views.{SeatView}
 use Rattle.stored_calls.specs.declared.stored.Stored.{Stored}
-use Rattle.live_segment.specs.declared.call.Owed.{Owed}
-use Rattle.live_segment.specs.declared.calls.TheConstants.{MOST_CALLS}
-use Rattle.live_segment.specs.Record.{settle_notes, settle_owed, trail}
-use Rattle.live_segment.specs.Facts.{IdsFrom, HaveRoom, OwedWithin, note_all}
-use Rattle.live_segment.specs.LiveView.{LiveView, client_of, port_of, stored, keep, stored_calls}
+use Rattle.live_record.specs.declared.owed.Owed.{Owed}
+use Rattle.live_record.specs.declared.calls.TheConstants.{MOST_CALLS}
+use Rattle.live_record.specs.Record.{settle_notes, settle_owed, trail, stored}
+use Rattle.live_ends.specs.Ends.{IdsFrom, HaveRoom, OwedWithin, note_all}
+use Rattle.live_segment.specs.LiveView.{LiveView, client_of, port_of, keep, stored_calls}
 use Rattle.live_segment.specs.Reports.{CloseMade}
 use Rattle.live_segment.proofs.Applying.{told_as}
 use Rattle.live_segment.proofs.Closings.{close_made}
-use Rattle.live_segment.proofs.Doors.{give_all_unplaced}
+use Rattle.live_ends.proofs.Doors.{give_all_unplaced}
 use Rattle.live_segment.proofs.Telling.{clients_untold}
 use Rattle.live_segment.proofs.Holding.{holds-tell}
 use Rattle.live_segment.proofs.Ready.{none_ready}

@@ -1,4 +1,4 @@
-use Rattle.std.proofs.Common.{◌≡◌, ◌+◌, ◌<◌, ◌^◌, Bool, List, [], ◌∷◌, ◌++◌, length, map, true, false, None, Result, Ok, Err, refl, sym, ap, ◌∙◌, subst}
+use Rattle.std.proofs.Common.{◌≡◌, ◌+◌, ◌<◌, ◌^◌, Bool, List, ◌∷◌, ◌++◌, length, true, false, None, Result, Ok, Err, refl, sym, ap, ◌∙◌, subst, []}
 use Rattle.std.specs.Prelude.{is_err, OnOk}
 use Rattle.std.specs.Bool.{OnTrue, OnFalse}
 use Rattle.std.proofs.lemmas.Bool.{false≢true}
@@ -8,16 +8,17 @@ use Rattle.segment_law.specs.Record.{StandsAt}
 use Rattle.reply_law.specs.Replies.{reply_of, left_by, Follows}
 use Rattle.segment_rings.specs.Views.{SeatView}
 use Rattle.stored_calls.specs.declared.stored.Stored.{Stored}
-use Rattle.live_segment.specs.declared.call.Owed.{Owed}
-use Rattle.live_segment.specs.declared.calls.TheConstants.{MOST_CALLS}
-use Rattle.live_segment.specs.Words.{call_of, wanted_by}
-use Rattle.live_segment.specs.Record.{settle_notes, settle_owed, trail}
-use Rattle.live_segment.specs.Facts.{IdsFrom, HaveRoom, OwedWithin, note_all, give_all}
-use Rattle.live_segment.specs.Places.{IsFound, EnoughFor}
-use Rattle.live_segment.specs.LiveView.{LiveView, keep, live_view, stored, stored_calls}
+use Rattle.live_record.specs.declared.owed.Owed.{Owed}
+use Rattle.live_record.specs.declared.calls.TheConstants.{MOST_CALLS}
+use Rattle.live_calls.specs.Words.{call_of, wanted_by}
+use Rattle.live_record.specs.Record.{settle_notes, settle_owed, trail, stored}
+use Rattle.live_ends.specs.Ends.{IdsFrom, HaveRoom, OwedWithin, note_all}
+use Rattle.live_calls.specs.Places.{IsFound}
+use Rattle.live_segment.specs.LiveView.{LiveView, keep, live_view, stored_calls}
 use Rattle.live_segment.specs.Passing.{IsMadePlainly}
 use Rattle.live_segment.proofs.Applying.{applied_as, told_as, given_as}
-use Rattle.live_segment.proofs.Ready.{found_ready, found_nothing}
+use Rattle.live_segment.proofs.Ready.{found_ready}
+use Rattle.live_calls.proofs.Ready.{found_nothing}
 use Rattle.live_segment.proofs.Holding.{holds-tell}
 use Rattle.live_segment.proofs.Keeping.{cut_with, notes_kept-all, given_kept-all}
 use Rattle.live_segment.proofs.Viewed.{holds_at, unchanged, viewed, few_kept}

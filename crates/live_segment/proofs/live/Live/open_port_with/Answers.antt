@@ -1,4 +1,4 @@
-use Rattle.std.proofs.Common.{◌≡◌, ℕ, ◌<◌, ◌++◌, List, [], ◌∷◌, length, None, refl, inr, sym, ap, ◌∙◌, subst, ◌^◌, ◌+◌}
+use Rattle.std.proofs.Common.{◌≡◌, ℕ, ◌<◌, ◌++◌, List, ◌∷◌, length, None, refl, inr, sym, ap, ◌∙◌, subst, ◌^◌, ◌+◌, []}
 use Rattle.std.proofs.lemmas.Bool.{false≢true}
 use Rattle.segment_law.specs.Record.{StandsAt}
 use Rattle.segment_law.specs.declared.call.Call.TheVariants.{Open}
@@ -10,11 +10,12 @@ use Rattle.segment_state.specs.Answers.{refusal_of}
 use Rattle.reply_law.specs.Replies.{reply_of, IsRefusal, IsAnsweredBy, Follows}
 use Rattle.segment_rings.specs.Views.{DoorView, new_door}
 use Rattle.stored_calls.specs.declared.stored.Stored.{Stored}
-use Rattle.live_segment.specs.Record.{trail}
+use Rattle.live_record.specs.Record.{trail, stored}
 use Rattle.live_segment.specs.declared.refused.NotMade.{NotMade}
 use Rattle.live_segment.specs.declared.refused.NotMade.TheVariants as not_made
-use Rattle.live_segment.specs.LiveView.{LiveView, stored, keep, IsOpenCause, OpenedWith}
-use Rattle.live_segment.proofs.Holding.{holds-open, on_err}
+use Rattle.live_segment.specs.LiveView.{LiveView, keep, IsOpenCause, OpenedWith}
+use Rattle.live_segment.proofs.Holding.{holds-open}
+use Rattle.live_ends.proofs.Results.{on_err}
 use Rattle.live_segment.proofs.Openings.{refused_reply, open_free, open_lacks, open_cause, opened_for, out_of_memory}
 use Rattle.live_segment.proofs.Keeping.{cut_with, given_kept-push}
 use Rattle.live_segment.proofs.Viewed.{holds_at, unchanged, viewed, few_kept}

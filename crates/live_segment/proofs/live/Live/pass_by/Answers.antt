@@ -1,15 +1,15 @@
-use Rattle.std.proofs.Common.{◌≡◌, ◌+◌, ◌<◌, ◌^◌, List, [], ◌∷◌, ◌++◌, length, true, false, None, Result, Ok, Err, refl, sym, ap, ◌∙◌, subst}
+use Rattle.std.proofs.Common.{◌≡◌, ◌+◌, ◌<◌, ◌^◌, List, ◌∷◌, ◌++◌, length, true, false, None, Result, Ok, Err, refl, sym, ap, ◌∙◌, subst, []}
 use Rattle.std.specs.Prelude.{is_err, OnOk}
 use Rattle.segment_law.specs.declared.call.Call.TheVariants.{Take}
 use Rattle.segment_law.specs.Segment.{Segment, waiting_at}
 use Rattle.segment_state.specs.Passing.{IsPassing as IsPassingOn, PassesBy}
 use Rattle.segment_state.specs.declared.passing.Passing.TheVariants.{Passed, Rests}
 use Rattle.stored_calls.specs.declared.stored.Stored.{Stored}
-use Rattle.live_segment.specs.declared.calls.TheConstants.{MOST_CALLS}
+use Rattle.live_record.specs.declared.calls.TheConstants.{MOST_CALLS}
 use Rattle.live_segment.specs.Facts.{Holds}
-use Rattle.live_segment.specs.LiveView.{LiveView, keep, live_view, stored, stored_calls}
+use Rattle.live_segment.specs.LiveView.{LiveView, keep, live_view, stored_calls}
+use Rattle.live_record.specs.Record.{stored, trail}
 use Rattle.live_segment.specs.Passing.{IsPassing}
-use Rattle.live_segment.specs.Record.{trail}
 use Rattle.live_segment.proofs.PassedOn.{holds-passed, passed_as, passes_at}
 use Rattle.live_segment.proofs.Viewed.{holds_at, unchanged, viewed, few_kept}
 use Rattle.live_segment.proofs.live.Live.pass_by.Goals as goal

@@ -1,7 +1,8 @@
 use Rattle.std.proofs.Common.{get_or, map, refl, sym, ap, ◌∙◌, subst, List}
 use Rattle.segment_rings.specs.Views.{DoorView, closed_door, new_door}
-use Rattle.live_segment.specs.Facts.{Holds, IsCut, NoneAt}
-use Rattle.live_segment.specs.Places.{IsPlaceIn}
+use Rattle.live_segment.specs.Facts.{Holds, IsCut}
+use Rattle.live_ends.specs.Ends.{NoneAt}
+use Rattle.live_ends.specs.Places.{IsPlaceIn}
 use Rattle.live_segment.specs.LiveView.{port_of}
 use Rattle.live_segment.proofs.Holding.{holds-close_door}
 use Rattle.live_segment.proofs.Keeping.{cut_with, given_kept-set}
