@@ -1,5 +1,5 @@
 -- Seats and doors that are cut, one by one.
-use Rattle.std.proofs.Common.{suc, ◌-◌, List, ◌∷◌, arith, []}
+use Rattle.std.proofs.Common.{suc, List, ◌∷◌, arith, []}
 use Rattle.segment_rings.specs.Views.{SeatView, DoorView, CutSeat, CutDoor}
 use Rattle.live_ends.specs.Ends.{CutSeats, CutDoors}
 

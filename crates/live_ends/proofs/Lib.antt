@@ -1,8 +1,8 @@
 pub mod Lists
 pub mod Results
-pub mod Seats
+pub mod Noting
 pub mod SeatsSame
-pub mod Doors
+pub mod Giving
 pub mod Buffers
 pub mod Preparing
 pub mod Only

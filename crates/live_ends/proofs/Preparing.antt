@@ -6,7 +6,7 @@ use Rattle.segment_law.specs.Told.{same_port}
 use Rattle.segment_rings.specs.Views.{DoorView, SameDoor}
 use Rattle.live_ends.specs.Ends.{NoneAt, PortsApart, SameDoors}
 use Rattle.live_ends.specs.Places.{times, port, RoomAt, LacksRoom, IsPrepared, Prepared, HavePlaces, LacksPlace}
-use Rattle.live_ends.proofs.Doors.{none_at, same_port-sym}
+use Rattle.live_ends.proofs.Giving.{none_at, same_port-sym}
 
 -- one port
 

@@ -9,10 +9,10 @@ mod offer;
 mod places;
 mod seating;
 mod settle;
-mod tell;
+mod telling;
 
 pub use all_doors::Doors;
 pub use offer::{Front, count_owed, send_of};
 pub use places::{door_of, make_buffers, prepare_all};
 pub use seating::Seats;
-pub use tell::tell;
+pub use telling::tell;

@@ -125,7 +125,6 @@ pub(crate) fn store(
     requires owed { vec_len owed.old < vec_capacity owed.old }
     ensures stored { (s : SeatView) → (x : Submission) × IsStored (slice_index_or seats.old.items k s) k number x calls.old.items calls.new.items owed.old.items owed.new.items seats.old.items seats.new.items }
     ensures pieces { calls.new.pieces ≡ calls.old.pieces }
-    ensures image { calls.new.image ≡ calls.old.image }
 {
     let seat = &mut seats[k];
     let station = seat.station();

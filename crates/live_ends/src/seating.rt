@@ -88,7 +88,8 @@ impl Seats {
     ghost use Rattle.live_record.specs.declared.calls.TheConstants.{MOST_CALLS};
     ghost use Rattle.live_record.specs.Past.{count_since};
     ghost use Rattle.live_ends.specs.Ends.{IdsFrom, HaveRoom, OwedWithin, SameSeats, CutSeats, note_all};
-    ghost use Rattle.live_ends.specs.Offers.{IsStored};
+    ghost use Rattle.live_ends.specs.Offers.{IsFrontIn, IsStored};
+    ghost use Rattle.live_ends.specs.declared.offer.Front.TheVariants as front;
     ghost use Rattle.live_ends.specs.Homes.{AreSilent};
     ghost use Rattle.message_events.specs.declared.event.Event.{Event as EventValue};
 

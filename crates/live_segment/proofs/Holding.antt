@@ -22,9 +22,9 @@ use Rattle.live_record.specs.Record.{accepted, notes_of, owed_by, settle_notes, 
 use Rattle.live_ends.specs.Ends.{IdsFrom, HaveRoom, note_all, OwedWithin, NoneAt, PortsApart, give_all, SameDoors, SameSeats}
 use Rattle.live_segment.specs.Facts.{PopsAccepted, HasNotes, IsEndOf, PushesNotes, PushesGiven, DoorsKnown, Holds, NotedWithin, HaveSenders, seat_station}
 use Rattle.live_segment.specs.LiveView.{live_view, SameLive, Kept}
-use Rattle.live_ends.proofs.Seats.{notes_of-append, length-note_all, within-more, owed_by-none}
+use Rattle.live_ends.proofs.Noting.{notes_of-append, length-note_all, within-more, owed_by-none}
 use Rattle.live_segment.proofs.Noted.{stations-note_all, noted-append, settle_notes-within, noted-more, notes_of-none, has_more, has_first}
-use Rattle.live_ends.proofs.Doors.{apart-same, apart-give_all}
+use Rattle.live_ends.proofs.Giving.{apart-same, apart-give_all}
 use Rattle.live_segment.proofs.Doors.{pushes-same, pushes-give_all, known-same, known-give_all, known-more, known-push, each-append, each-more, given_unknown, apart-push, pushes-push}
 use Rattle.live_record.proofs.Trails.{trail-nil, trail-snoc, accepted-append, sent_in_false}
 use Rattle.live_segment.proofs.Senders.{senders-append, senders-more, nobody_sends, accepted-none}

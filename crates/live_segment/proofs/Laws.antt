@@ -12,7 +12,7 @@ use Rattle.live_segment.specs.declared.report.ClientReport.{ClientReport}
 use Rattle.live_segment.specs.declared.report.InboxReport.{InboxReport}
 use Rattle.segment_rings.specs.Ends.{ClientEnd, InboxEnd}
 use Rattle.live_segment.specs.Reports.{client_gone, gone_of, notes_gone, HasPort, IsClientReport, IsInboxReport, AreClientReports, AreInboxReports}
-use Rattle.live_ends.proofs.Doors.{none_at, same_port-refl, same_port-sym}
+use Rattle.live_ends.proofs.Giving.{none_at, same_port-refl, same_port-sym}
 use Rattle.stored_calls.specs.declared.stored.Stored.{Stored}
 use Rattle.segment_rings.specs.declared.words.Note.{Note}
 use Rattle.live_record.specs.declared.owed.Owed.{Owed}

@@ -11,7 +11,7 @@ use Rattle.live_record.specs.Record.{find_owed, note_found, notes_of, notes_at, 
 use Rattle.live_ends.specs.Ends.{note_all, OwedWithin}
 use Rattle.live_segment.specs.Facts.{NotedWithin, HasNotes, seat_station}
 use Rattle.live_record.proofs.Equal.{apart}
-use Rattle.live_ends.proofs.Seats.{find_within, within_after_event}
+use Rattle.live_ends.proofs.Noting.{find_within, within_after_event}
 
 pub has_more : (b : Bool) (xs ys ns : List Note) → HasNotes b xs ys → HasNotes b (noted_after b xs ns) (ys ++ ns)
 has_more true xs ys ns h = ap (λ (l : List Note). l ++ ns) h

@@ -30,10 +30,10 @@ use Rattle.live_segment.specs.Turns.{Point, point, no_turn, one_more, Makes, Mak
 use Rattle.live_segment.specs.declared.turns.Turn.{Turn}
 use Rattle.live_calls.specs.Words.{call_of}
 use Rattle.live_segment.proofs.Applying.{spares_none}
-use Rattle.live_ends.proofs.Doors.{give_all_unplaced}
+use Rattle.live_ends.proofs.Giving.{give_all_unplaced}
 use Rattle.live_segment.proofs.Holding.{holds-tell}
 use Rattle.live_segment.proofs.Resting.{below_at_rest}
-use Rattle.live_ends.proofs.Seats.{note_all_none}
+use Rattle.live_ends.proofs.Noting.{note_all_none}
 use Rattle.live_segment.proofs.Telling.{ports_untold, clients_untold}
 
 -- What the Take leaves

@@ -11,8 +11,8 @@ use Rattle.live_record.specs.Record.{notes_of}
 use Rattle.live_ends.specs.Ends.{IdsFrom, NoneAt, PortsApart, note_all, give_all}
 use Rattle.live_segment.specs.LiveView.{ClientView, PortView, client_of, port_of, port_after, clients_after}
 use Rattle.live_segment.specs.Reports.{closing, gone, gone_clients, gone_ports}
-use Rattle.live_ends.proofs.Doors.{none_at, same_port-sym, same_port-refl}
-use Rattle.live_ends.proofs.Seats.{noted_none}
+use Rattle.live_ends.proofs.Giving.{none_at, same_port-sym, same_port-refl}
+use Rattle.live_ends.proofs.Noting.{noted_none}
 
 pub ports_told : (es : List Event) (ds : List DoorView) → map port_of (give_all es ds) ≡ map (port_after es) (map port_of ds)
 ports_told es [] = refl

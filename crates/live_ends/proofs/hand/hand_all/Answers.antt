@@ -3,7 +3,7 @@ use Rattle.std.proofs.lemmas.List.{at_drop_more, at_drop_all}
 use Rattle.message_events.specs.declared.event.Event.{Event}
 use Rattle.live_ends.specs.Ends.{PortsApart, give_all}
 use Rattle.live_ends.specs.Places.{TakesAll, EnoughFor}
-use Rattle.live_ends.proofs.Doors.{give_all-append, give_all_none, takes-front, takes-rest, apart-give_all}
+use Rattle.live_ends.proofs.Giving.{give_all-append, give_all_none, takes-front, takes-rest, apart-give_all}
 use Rattle.live_ends.proofs.Buffers.{enough-front}
 use Rattle.live_ends.proofs.hand.hand_all.Goals as goal
 

@@ -5,7 +5,7 @@ use Rattle.segment_rings.specs.declared.words.Delivery.{Delivery}
 use Rattle.segment_rings.specs.Views.{DoorView, with_delivery, has_pushed_news}
 use Rattle.live_ends.specs.Ends.{NoneAt, give_all}
 use Rattle.live_ends.specs.Places.{TakesAll, EnoughFor, IsPlaceIn}
-use Rattle.live_ends.proofs.Doors.{give_absent, give_at, takes_at, give_all_none}
+use Rattle.live_ends.proofs.Giving.{give_absent, give_at, takes_at, give_all_none}
 use Rattle.live_ends.proofs.Buffers.{popped_two}
 use Rattle.live_ends.proofs.Waiting.{marks_in}
 use Rattle.live_ends.proofs.hand.hand_one.Goals as goal

@@ -2,7 +2,7 @@ use Rattle.std.proofs.Common.{◌≡◌, ◌<◌, length, get_or, false, sym, ap
 use Rattle.port_table.specs.declared.port.PortId.{PortId}
 use Rattle.segment_law.specs.Told.{same_port}
 use Rattle.segment_rings.specs.Views.{DoorView}
-use Rattle.live_ends.proofs.Doors.{none_more, same_port-sym}
+use Rattle.live_ends.proofs.Giving.{none_more, same_port-sym}
 use Rattle.live_ends.proofs.places.door_of.Goals as goal
 
 pub loop-k-preserved : goal.loop-k-preserved

@@ -3,7 +3,7 @@ use Rattle.std.specs.Prelude.{IsTrue}
 use Rattle.segment_rings.specs.Views.{DoorView, SameDoor}
 use Rattle.live_ends.specs.Ends.{NoneAt}
 use Rattle.live_ends.specs.Places.{IsPlaceIn, RoomAt}
-use Rattle.live_ends.proofs.Doors.{same_doors-refl, same_doors-set}
+use Rattle.live_ends.proofs.Giving.{same_doors-refl, same_doors-set}
 use Rattle.live_ends.proofs.Preparing.{room_absent, room_at}
 use Rattle.live_ends.proofs.Results.{on_ok}
 use Rattle.live_ends.proofs.places.prepare.Goals as goal

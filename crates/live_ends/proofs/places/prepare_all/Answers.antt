@@ -1,7 +1,7 @@
 use Rattle.std.proofs.Common.{ℕ, ◌<◌, List, length, take, get_or, sym, arith, subst}
 use Rattle.std.proofs.lemmas.List.{take_more, take_all}
 use Rattle.live_ends.specs.Places.{times, port, RoomAt, LacksRoom, Prepared}
-use Rattle.live_ends.proofs.Doors.{same_doors-refl, same_doors-trans, apart-same}
+use Rattle.live_ends.proofs.Giving.{same_doors-refl, same_doors-trans, apart-same}
 use Rattle.live_ends.proofs.Preparing.{prepared_none, prepared_same, prepared_more, prepared_all, lacks_place, times_at}
 use Rattle.live_ends.proofs.places.prepare_all.Goals as goal
 

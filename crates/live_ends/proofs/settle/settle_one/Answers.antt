@@ -4,7 +4,7 @@ use Rattle.live_record.specs.declared.owed.Owed.{Owed}
 use Rattle.segment_rings.specs.Views.{SeatView, with_note, has_noted_news}
 use Rattle.live_record.specs.Record.{note_found, owed_by}
 use Rattle.live_ends.specs.Ends.{note_all}
-use Rattle.live_ends.proofs.Seats.{find_within, id_at, free_at, spare_at, note_at, note_all_none, has_owed}
+use Rattle.live_ends.proofs.Noting.{find_within, id_at, free_at, spare_at, note_at, note_all_none, has_owed}
 use Rattle.live_ends.proofs.Waiting.{marks_in}
 use Rattle.live_ends.proofs.settle.settle_one.Goals as goal
 

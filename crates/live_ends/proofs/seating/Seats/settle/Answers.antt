@@ -3,7 +3,7 @@ use Rattle.std.proofs.lemmas.List.{at_drop_more, at_drop_all}
 use Rattle.message_events.specs.declared.event.Event.{Event}
 use Rattle.live_record.specs.Record.{settle_notes, settle_owed, notes_at, owed_after}
 use Rattle.live_ends.specs.Ends.{IdsFrom, note_all}
-use Rattle.live_ends.proofs.Seats.{note_all-append, note_all_none, ids-note_all, room-note_all, length-note_all, owed_after_event, within_after_event}
+use Rattle.live_ends.proofs.Noting.{note_all-append, note_all_none, ids-note_all, room-note_all, length-note_all, owed_after_event, within_after_event}
 use Rattle.live_ends.proofs.seating.Seats.settle.Goals as goal
 
 pub loop-event-preserved : goal.loop-event-preserved

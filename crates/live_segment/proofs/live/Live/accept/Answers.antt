@@ -24,7 +24,7 @@ use Rattle.live_calls.specs.Offers.{IsReadyToSend, IsCauseFor, LacksRoomToSend, 
 use Rattle.live_segment.specs.Offers.{AcceptedAs, LacksMemoryFor}
 use Rattle.live_ends.specs.Offers.{send_call, owed_for}
 use Rattle.live_record.proofs.Trails.{accepted_le}
-use Rattle.live_ends.proofs.Doors.{same_doors-refl}
+use Rattle.live_ends.proofs.Giving.{same_doors-refl}
 use Rattle.live_segment.proofs.Fronts.{none_at, empty_at, waits_at, free_is}
 use Rattle.live_segment.proofs.Holding.{holds-same, same_live}
 use Rattle.live_ends.proofs.Results.{on_err}

@@ -22,7 +22,7 @@ use Rattle.live_calls.specs.Places.{IsFound}
 use Rattle.live_segment.specs.LiveView.{LiveView, Applied, LacksMemory, port_of, SparesClosed, keep, stored_calls}
 use Rattle.live_segment.proofs.Applying.{applied_as, refused_as, told_as, given_as, found_false}
 use Rattle.live_calls.proofs.Applying.{never_opens, never_sends}
-use Rattle.live_ends.proofs.Doors.{apart-same, give_all_unplaced}
+use Rattle.live_ends.proofs.Giving.{apart-same, give_all_unplaced}
 use Rattle.live_segment.proofs.Openings.{refused_reply}
 use Rattle.live_segment.proofs.Ready.{found_ready, none_given}
 use Rattle.live_segment.proofs.Refusing.{lacks_memory}

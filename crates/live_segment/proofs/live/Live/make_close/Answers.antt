@@ -15,7 +15,7 @@ use Rattle.live_segment.specs.LiveView.{LiveView, client_of, port_of, keep, stor
 use Rattle.live_segment.specs.Reports.{CloseMade}
 use Rattle.live_segment.proofs.Applying.{told_as}
 use Rattle.live_segment.proofs.Closings.{close_made}
-use Rattle.live_ends.proofs.Doors.{give_all_unplaced}
+use Rattle.live_ends.proofs.Giving.{give_all_unplaced}
 use Rattle.live_segment.proofs.Telling.{clients_untold}
 use Rattle.live_segment.proofs.Holding.{holds-tell}
 use Rattle.live_segment.proofs.Ready.{none_ready}

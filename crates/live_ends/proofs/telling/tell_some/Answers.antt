@@ -6,10 +6,10 @@ use Rattle.live_record.specs.Record.{settle_notes, settle_owed, notes_at, owed_a
 use Rattle.live_ends.specs.Ends.{IdsFrom, PortsApart, give_all, note_all}
 use Rattle.live_ends.specs.Places.{TakesAll, EnoughFor}
 use Rattle.live_ends.proofs.Buffers.{enough-front}
-use Rattle.live_ends.proofs.Doors.{give_all-append, give_all_none, takes-front, takes-rest, apart-give_all}
-use Rattle.live_ends.proofs.Seats.{note_all-append, note_all_none, ids-note_all, room-note_all, length-note_all, owed_after_event, within_after_event}
+use Rattle.live_ends.proofs.Giving.{give_all-append, give_all_none, takes-front, takes-rest, apart-give_all}
+use Rattle.live_ends.proofs.Noting.{note_all-append, note_all_none, ids-note_all, room-note_all, length-note_all, owed_after_event, within_after_event}
 use Rattle.live_ends.proofs.Lists.{first_of, untold}
-use Rattle.live_ends.proofs.tell.tell_some.Goals as goal
+use Rattle.live_ends.proofs.telling.tell_some.Goals as goal
 
 pub returns-in_default-clause-doors : goal.returns-in_default-clause-doors
 returns-in_default-clause-doors c =

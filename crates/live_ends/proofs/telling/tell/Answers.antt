@@ -2,10 +2,10 @@ use Rattle.std.proofs.Common.{◌≡◌, length, List, refl, sym, ap, ◌∙◌,
 use Rattle.message_events.specs.declared.event.Event.{Event}
 use Rattle.live_record.specs.Record.{settle_notes}
 use Rattle.live_ends.specs.Ends.{give_all, note_all}
-use Rattle.live_ends.proofs.Doors.{give_all_none}
-use Rattle.live_ends.proofs.Seats.{note_all_none}
+use Rattle.live_ends.proofs.Giving.{give_all_none}
+use Rattle.live_ends.proofs.Noting.{note_all_none}
 use Rattle.live_ends.proofs.Lists.{no_items}
-use Rattle.live_ends.proofs.tell.tell.Goals as goal
+use Rattle.live_ends.proofs.telling.tell.Goals as goal
 
 pub returns-then-is_empty-clause-doors : goal.returns-then-is_empty-clause-doors
 returns-then-is_empty-clause-doors c =
