@@ -37,7 +37,7 @@ on_false false P e h = h
 on_false true P e h = absurd cc
 
 pub invariant_of-self : goal.invariant_of-self
-invariant_of-self c = holds_at _ _ _ _ _ _ _ _ _ _ _ _ _ _ _ refl c.reserve.ensures.items c.reserve.ensures.pieces c.reserve.ensures.image refl refl refl c.self.invariant.0 c.self.invariant.1
+invariant_of-self c = holds_at _ _ _ _ _ _ _ _ _ _ _ _ _ _ _ refl c.reserve.ensures.items c.reserve.ensures.pieces refl refl refl refl c.self.invariant.0 c.self.invariant.1
 
 pub returns-then-is_err : goal.returns-then-is_err
 returns-then-is_err c =
@@ -110,7 +110,7 @@ invariant_of-self-then-try_plainly c =
     let ids = subst (IdsFrom 0) seats c.tell.ensures.ids in
     let rm = subst (λ (u : List SeatView). HaveRoom (settle_owed ws es) u) seats (subst (λ (u : List Owed). HaveRoom u c.tell.new.seats.items) owed c.tell.ensures.room) in
     let within = subst (λ (u : List SeatView). OwedWithin (length u) (settle_owed ws es)) seats (subst (λ (u : List Owed). OwedWithin (length c.tell.new.seats.items) u) owed c.tell.ensures.within) in
-    holds_at _ _ _ _ _ _ _ _ _ _ _ _ _ _ _ refl calls (c.push_reserved.ensures.pieces ∙ c.reserve.ensures.pieces) (c.push_reserved.ensures.image ∙ c.reserve.ensures.image) owed seats c.tell.ensures.doors
+    holds_at _ _ _ _ _ _ _ _ _ _ _ _ _ _ _ refl calls (c.push_reserved.ensures.pieces ∙ c.reserve.ensures.pieces) refl owed seats c.tell.ensures.doors
     (holds-tell addrs st next xs ws ss ds call es h few (sym rep) left stands f ids rm within) (cut_with _ _ _ _ _ _ _ (notes_kept-all (settle_notes ws es) ss) (given_kept-all es ds) c.self.invariant.1)
 
 pub returns-then-try_plainly : goal.returns-then-try_plainly
@@ -142,7 +142,7 @@ returns-then-try_plainly c =
     (room, (es, applied_as keeps addrs st xs ys ss ts ds ds gs c.args.call.now (Done es) true [] c.self.invariant.0.at rep refl found (λ e. absurd (false≢true (sym e))) clients ports closed))
 
 pub invariant_of-self-else-try_plainly : goal.invariant_of-self-else-try_plainly
-invariant_of-self-else-try_plainly c = holds_at _ _ _ _ _ _ _ _ _ _ _ _ _ _ _ (on_false _ _ c.if-try_plainly.false (c.try_plainly.ensures.same c.self.inside.addresses.items (trail c.self.inside.addresses.items c.self.inside.calls.items).steps c.self.invariant.0.stands)) c.reserve.ensures.items c.reserve.ensures.pieces c.reserve.ensures.image refl refl refl c.self.invariant.0 c.self.invariant.1
+invariant_of-self-else-try_plainly c = holds_at _ _ _ _ _ _ _ _ _ _ _ _ _ _ _ (on_false _ _ c.if-try_plainly.false (c.try_plainly.ensures.same c.self.inside.addresses.items (trail c.self.inside.addresses.items c.self.inside.calls.items).steps c.self.invariant.0.stands)) c.reserve.ensures.items c.reserve.ensures.pieces refl refl refl refl c.self.invariant.0 c.self.invariant.1
 
 pub returns : goal.returns
 returns c =
