@@ -1,4 +1,4 @@
-//! One call on a segment with its ends: what it needs is found first, and then it is made, stored and told, or nothing has changed.
+//! One call on a segment with its ends: all that it needs is found first, and then it is made, or nothing has changed.
 #![tactic(auto)]
 
 mod call;
