@@ -2,7 +2,7 @@ use Rattle.std.proofs.Common.{◌≡◌, ℕ, ◌+◌, ◌<◌, length, get_or, 
 use Rattle.std.proofs.lemmas.List.{get_or_default}
 use Rattle.pgn_ids.specs.declared.address.Address.{Address}
 use Rattle.watched_segment.specs.Lowest.{IsLowest}
-use Rattle.watched_segment.proofs.Lowest.{stands_none, stands_kept, stands_new}
+use Rattle.watched_segment.proofs.Fronts.{stands_none, stands_kept, stands_new}
 use Rattle.watched_segment.proofs.lowest.lowest_front.Goals as goal
 
 abbrev none : Address

@@ -1,4 +1,4 @@
-use Rattle.watched_segment.proofs.Lowest.{Stands}
+use Rattle.watched_segment.proofs.Fronts.{Stands}
 use Rattle.watched_segment.proofs.lowest.lowest_front.Given as goal
 
 abbrev pub invariant-loop-address : goal.invariant-loop-address
