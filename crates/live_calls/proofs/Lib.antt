@@ -1,4 +1,4 @@
 pub mod Applying
 pub mod Refusing
-pub mod Ready
+pub mod Nothing
 pub mod Fronts

@@ -3,7 +3,6 @@ use Rattle.std.specs.Prelude.{◌≡◌, ℕ, ◌<◌, List, ◌∷◌, slice_in
 use mathlib.Core.List.{IsPrefix}
 use Rattle.segment_law.specs.Segment.{Segment}
 use Rattle.segment_law.specs.Calls.{called}
-use Rattle.segment_law.specs.declared.call.Call.TheVariants.{Send}
 use Rattle.segment_law.specs.declared.refusal.Refusal.{Refusal as Cause}
 use Rattle.segment_state.specs.Answers.{refusal_of}
 use Rattle.segment_rings.specs.declared.words.Submission.{Submission}

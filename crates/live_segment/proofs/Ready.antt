@@ -18,7 +18,7 @@ use Rattle.live_segment.specs.LiveView.{port_of, SparesClosed}
 use Rattle.live_ends.specs.Places.{times, HasPlaces, HavePlaces, TakesAll, AtLeast, EnoughFor}
 use Rattle.live_calls.specs.Places.{IsFound}
 use Rattle.live_ends.proofs.Lists.{no_items}
-use Rattle.live_calls.proofs.Ready.{have_none, at_least_0}
+use Rattle.live_calls.proofs.Nothing.{have_none, at_least_0}
 
 same_address : (a b : Address) → a.0 ≡ b.0 → a ≡ b
 same_address a b e = λ i. record { 0 = e i }

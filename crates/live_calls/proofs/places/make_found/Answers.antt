@@ -2,7 +2,7 @@ use Rattle.std.proofs.Common.{◌≡◌, ℕ, true, List, Option, sym, subst, []
 use Rattle.std.specs.Prelude.{OnSome}
 use Rattle.segment_state.specs.declared.made.Made.{Made}
 use Rattle.live_ends.proofs.Giving.{same_doors-refl}
-use Rattle.live_calls.proofs.Ready.{found_nothing}
+use Rattle.live_calls.proofs.Nothing.{found_nothing}
 use Rattle.live_calls.specs.Words.{wanted_by}
 use Rattle.live_calls.specs.Places.{IsFound}
 use Rattle.live_calls.proofs.places.make_found.Goals as goal

@@ -18,7 +18,7 @@ use Rattle.live_segment.specs.LiveView.{LiveView, keep, live_view, stored_calls}
 use Rattle.live_segment.specs.Passing.{IsMadePlainly}
 use Rattle.live_segment.proofs.Applying.{applied_as, told_as, given_as}
 use Rattle.live_segment.proofs.Ready.{found_ready}
-use Rattle.live_calls.proofs.Ready.{found_nothing}
+use Rattle.live_calls.proofs.Nothing.{found_nothing}
 use Rattle.live_segment.proofs.Holding.{holds-tell}
 use Rattle.live_segment.proofs.Keeping.{cut_with, notes_kept-all, given_kept-all}
 use Rattle.live_segment.proofs.Viewed.{holds_at, unchanged, viewed, few_kept}
