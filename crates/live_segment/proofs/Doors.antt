@@ -1,5 +1,5 @@
 -- What was given at the doors, and which of their ports are known.
-use Rattle.std.proofs.Common.{◌≡◌, ◌+◌, ◌-◌, false, List, ◌∷◌, ◌++◌, refl, sym, ◌∙◌, ap, subst, []}
+use Rattle.std.proofs.Common.{◌≡◌, false, List, ◌∷◌, ◌++◌, refl, sym, ◌∙◌, ap, subst, []}
 use Rattle.port_table.specs.declared.port.PortId.{PortId}
 use Rattle.message_events.specs.declared.event.Event.{Event}
 use Rattle.message_events.specs.declared.event.Event.TheVariants as event

@@ -1,5 +1,5 @@
 -- The notes of clients that are there.
-use Rattle.std.proofs.Common.{◌≡◌, ℕ, ◌+◌, ◌-◌, ◌<◌, ◌≤◌, ◌==◌, Bool, true, false, List, ◌∷◌, ◌++◌, map, Option, Some, None, refl, sym, ◌∙◌, ap, arith, append-nil, append_assoc, []}
+use Rattle.std.proofs.Common.{◌≡◌, ℕ, ◌+◌, ◌<◌, ◌≤◌, ◌==◌, Bool, true, false, List, ◌∷◌, ◌++◌, map, Option, Some, None, refl, sym, ◌∙◌, ap, arith, append-nil, append_assoc, []}
 use Rattle.tp_wire.specs.declared.outcome.Outcome.{Outcome}
 use Rattle.pgn_ids.specs.declared.address.Address.{Address}
 use Rattle.segment_rings.specs.declared.words.Note.{Note}

@@ -1,5 +1,5 @@
 -- What holds of a shared segment at every moment.
-use Rattle.std.specs.Prelude.{◌≡◌, ℕ, ◌-◌, ◌≤◌, ◌<◌, ◌^◌, Bool, true, false, List, ◌∷◌, length, drop, map, Option, Some, None, slice_get, []}
+use Rattle.std.specs.Prelude.{◌≡◌, ℕ, ◌≤◌, ◌<◌, ◌^◌, Bool, true, false, List, ◌∷◌, length, drop, map, Option, Some, None, slice_get, []}
 use mathlib.Core.List.{IsPrefix}
 use Rattle.pgn_ids.specs.declared.address.Address.{Address}
 use Rattle.message_events.specs.declared.event.Event.{Event}

@@ -1,20 +1,17 @@
 -- Whether a submission is accepted, and what its acceptance changes.
-use Rattle.std.specs.Prelude.{◌≡◌, ℕ, ◌+◌, ◌<◌, ◌≤◌, true, false, ◌∷◌, ◌++◌, length, slice_index_or, slice_index, slice_set, ◌⊎◌, Some, None, []}
+use Rattle.std.specs.Prelude.{◌≡◌, ℕ, ◌<◌, ◌≤◌, true, false, ◌∷◌, ◌++◌, length, slice_index_or, slice_index, slice_set, ◌⊎◌, Some, None, []}
 use mathlib.Core.List.{IsPrefix}
 use Rattle.pgn_ids.specs.declared.address.Address.{Address}
 use Rattle.segment_law.specs.Calls.{called}
-use Rattle.segment_law.specs.declared.call.Call.TheVariants.{Send}
 use Rattle.segment_law.specs.declared.refusal.Refusal.TheVariants.{TraceFull}
 use Rattle.segment_state.specs.Answers.{refusal_of}
 use Rattle.segment_law.specs.declared.reply.Reply.{Reply}
 use Rattle.segment_law.specs.declared.reply.Reply.TheVariants.{Sent, Refused}
 use Rattle.reply_law.specs.Replies.{reply_of}
 use Rattle.segment_rings.specs.declared.words.Submission.{Submission}
-use Rattle.live_record.specs.declared.owed.Owed.{Owed}
 use Rattle.live_record.specs.declared.calls.TheConstants.{MOST_CALLS}
 use Rattle.live_segment.specs.declared.refused.Accepted.{Accepted}
 use Rattle.live_segment.specs.declared.refused.Accepted.TheVariants as accepted
-use Rattle.live_ends.specs.declared.offer.Front.TheVariants as front
 use Rattle.live_record.specs.Record.{owed_by, trail, stored}
 use Rattle.live_segment.specs.LiveView.{ClientView, LiveView, SameLive, stored_calls}
 use Rattle.live_ends.specs.Offers.{send_call}
