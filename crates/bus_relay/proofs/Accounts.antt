@@ -13,9 +13,9 @@ use Rattle.live_segment.specs.declared.report.ClientReport.{ClientReport}
 use Rattle.live_segment.specs.declared.report.InboxReport.{InboxReport}
 use Rattle.live_segment.specs.LiveView.{LiveView, Laws}
 use Rattle.live_segment.proofs.Uncut.{left_uncut, rest_uncut}
-use Rattle.live_segment.specs.Record.{accepted, given, notes_of, trail}
+use Rattle.live_record.specs.Record.{accepted, given, notes_of, trail}
 use Rattle.live_segment.specs.Reports.{AreClientReports, AreInboxReports}
-use Rattle.live_segment.proofs.Prefixes.{prefix_length}
+use Rattle.live_record.proofs.Prefixes.{prefix_length}
 use Rattle.port_relay.specs.Relaying.{IsRelayed}
 use Rattle.port_relay.specs.Working.{relayed_to}
 use Rattle.port_relay.specs.declared.relaying.Relayed.{Relayed}

@@ -3,7 +3,7 @@ use Rattle.std.specs.Prelude.{◌≡◌, ℕ, List, [], ◌++◌, cond, Bool, tr
 use Rattle.pgn_ids.specs.declared.address.Address.{Address}
 use Rattle.port_table.specs.declared.port.PortId.{PortId}
 use Rattle.segment_law.specs.Headline.{Headline}
-use Rattle.live_segment.specs.Record.{Trail, trail}
+use Rattle.live_record.specs.Record.{Trail, trail}
 use Rattle.stored_calls.specs.declared.stored.Stored.{Stored}
 use Rattle.live_segment.specs.LiveView.{LiveView, Laws}
 use Rattle.script_text.specs.Parts.{line}

@@ -1,6 +1,6 @@
 //! The text that is printed once the threads have ended.
 ghost use Rattle.std.specs.Prelude.{◌≡◌, ◌++◌, true, false, Option, OnOk, IfOk};
-ghost use Rattle.live_segment.specs.Record.{trail};
+ghost use Rattle.live_record.specs.Record.{trail};
 ghost use Rattle.segment_report.specs.Noted.{all_noted};
 ghost use Rattle.segment_report.specs.Texts.{below, clients_at};
 ghost use Rattle.bus_relay.specs.Carriages.{Carries, CarriesWhole};

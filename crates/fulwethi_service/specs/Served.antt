@@ -13,10 +13,11 @@ use Rattle.segment_law.specs.declared.reply.Reply.TheVariants as reply
 use Rattle.segment_state.specs.Due.{any_due}
 use Rattle.segment_state.specs.Next.{any_work}
 use Rattle.live_segment.specs.LiveView.{LiveView, SameLive, LacksMemory, Laws}
-use Rattle.live_segment.specs.Record.{trail}
-use Rattle.live_segment.specs.Turns.{IsAnswered, IsNext, state_of}
-use Rattle.live_segment.specs.declared.call.WorkerCall.{WorkerCall}
-use Rattle.live_segment.specs.declared.call.WorkerCall.TheVariants.{Inject, Overrun, Tick}
+use Rattle.live_record.specs.Record.{trail}
+use Rattle.live_segment.specs.Turns.{IsAnswered, state_of}
+use Rattle.watched_segment.specs.Lowest.{IsNext}
+use Rattle.live_calls.specs.declared.call.WorkerCall.{WorkerCall}
+use Rattle.live_calls.specs.declared.call.WorkerCall.TheVariants.{Inject, Overrun, Tick}
 use Rattle.c_parts.specs.Calls.{IsMadeOn}
 use Rattle.c_parts.specs.Shown.{shown_frame}
 use Rattle.c_parts.specs.declared.shown.CFrame.{CFrame}

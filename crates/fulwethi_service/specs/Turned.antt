@@ -4,8 +4,8 @@ use Rattle.segment_law.specs.Segment.{plus}
 use Rattle.live_segment.specs.LiveView.{LiveView, stored_calls}
 use Rattle.live_segment.specs.Rejoining.{CutAs, IsCutCause}
 use Rattle.live_segment.specs.Turns.{StationTurn, point, no_turn}
-use Rattle.live_segment.specs.declared.calls.Piece.{Piece}
-use Rattle.live_segment.specs.declared.calls.TheConstants.{CUT_AT}
+use Rattle.live_record.specs.declared.calls.Piece.{Piece}
+use Rattle.live_record.specs.declared.calls.TheConstants.{CUT_AT}
 use Rattle.live_segment.specs.declared.refused.NotMade.{NotMade}
 use Rattle.live_segment.specs.declared.turns.Turn.{Turn}
 

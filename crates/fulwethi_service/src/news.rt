@@ -1,6 +1,6 @@
 //! Which clients and inboxes have news, and how many messages found no place in an inbox.
 ghost use Rattle.std.specs.Prelude.{◌≡◌, IsSome};
-ghost use Rattle.live_segment.specs.TurnedAway.{count_turned_away};
+ghost use Rattle.live_record.specs.TurnedAway.{count_turned_away};
 ghost use Rattle.c_parts.specs.Calls.{IsRead};
 ghost use Rattle.c_parts.specs.Codes.{found_code};
 ghost use Rattle.fulwethi_service.specs.Served.{IsServed};

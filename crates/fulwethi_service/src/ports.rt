@@ -1,6 +1,6 @@
 //! The pause of a port.
 ghost use Rattle.std.specs.Prelude.{IsSome};
-ghost use Rattle.live_segment.specs.declared.call.WorkerCall.TheVariants.{Pause, Resume};
+ghost use Rattle.live_calls.specs.declared.call.WorkerCall.TheVariants.{Pause, Resume};
 ghost use Rattle.fulwethi_service.specs.Codes.{reply_code};
 ghost use Rattle.fulwethi_service.specs.Served.{IsServed, IsAsked};
 

@@ -1,25 +1,25 @@
 -- A call of a thread was made.
-use Rattle.std.proofs.Common.{◌≡◌, ℕ, ◌<◌, ◌⊎◌, Bool, true, false, List, [], ◌∷◌, map, get_or, None, refl, sym, ◌∙◌, ap, subst, inl, inr}
+use Rattle.std.proofs.Common.{◌≡◌, ℕ, ◌<◌, ◌⊎◌, Bool, true, false, List, ◌∷◌, map, get_or, None, refl, sym, ◌∙◌, ap, subst, inl, inr, []}
 use Rattle.std.proofs.lemmas.List.{length-map, get_or-map}
 use Rattle.pgn_ids.specs.declared.address.Address.{Address}
 use Rattle.port_table.specs.declared.port.PortId.{PortId}
 use Rattle.segment_law.specs.Segment.{Segment}
 use Rattle.message_events.specs.declared.event.Event.{Event}
-use Rattle.segment_law.specs.Calls.{events_of, is_send}
+use Rattle.segment_law.specs.Calls.{events_of}
 use Rattle.segment_law.specs.declared.refusal.Refusal.{Refusal}
 use Rattle.segment_law.specs.declared.reply.Reply.{Reply}
 use Rattle.segment_law.specs.declared.reply.Reply.TheVariants.{Refused, Done}
-use Rattle.reply_law.specs.Replies.{reply_of, opens}
+use Rattle.reply_law.specs.Replies.{reply_of}
 use Rattle.segment_rings.specs.Views.{SeatView, DoorView, new_door}
 use Rattle.stored_calls.specs.declared.stored.Stored.{Stored}
-use Rattle.live_segment.specs.declared.call.Owed.{Owed}
-use Rattle.live_segment.specs.declared.call.WorkerCall.{WorkerCall}
-use Rattle.live_segment.specs.declared.call.WorkerCall.TheVariants.{Pump, Transmit, Take, TakeAgain, Overrun, Tick, Fire, Cancel, Inject, Pause, Resume}
-use Rattle.live_segment.specs.Words.{call_of, wanted_by}
-use Rattle.live_segment.specs.Record.{settle_notes, trail}
-use Rattle.live_segment.specs.Facts.{IdsFrom, note_all, give_all}
-use Rattle.live_segment.specs.Places.{times, LacksPlace, IsFound}
-use Rattle.live_segment.specs.LiveView.{stored, client_of, port_of, door_free, PortView, live_view, NoPlace, Applied, SparesClosed, calls_after, port_after, clients_after, told_clients, Kept}
+use Rattle.live_record.specs.declared.owed.Owed.{Owed}
+use Rattle.live_calls.specs.declared.call.WorkerCall.{WorkerCall}
+use Rattle.live_calls.specs.Words.{call_of, wanted_by}
+use Rattle.live_record.specs.Record.{settle_notes, trail, stored}
+use Rattle.live_ends.specs.Ends.{IdsFrom, note_all, give_all}
+use Rattle.live_ends.specs.Places.{times, LacksPlace}
+use Rattle.live_calls.specs.Places.{IsFound}
+use Rattle.live_segment.specs.LiveView.{client_of, port_of, door_free, PortView, live_view, NoPlace, Applied, SparesClosed, calls_after, port_after, clients_after, told_clients, Kept}
 use Rattle.live_segment.proofs.Telling.{ports_told, clients_told, ports_untold, clients_untold}
 
 -- no place was found for what is wanted
@@ -99,30 +99,3 @@ told_as keeps addresses xs ws ss ts ds es ids owes is =
 
 pub given_as : (es : List Event) (ds gs hs : List DoorView) → map port_of gs ≡ map port_of ds → hs ≡ give_all es gs → map port_of hs ≡ map (port_after es) (map port_of ds)
 given_as es ds gs hs same is = ap (map port_of) is ∙ ports_told es gs ∙ ap (map (port_after es)) same
-
--- a worker's call opens nothing and sends nothing
-pub never_opens : (call : WorkerCall) (room : Bool) → opens (call_of call room) ≡ false
-never_opens (Pump a to) room = refl
-never_opens (Transmit a) room = refl
-never_opens (Take a) room = refl
-never_opens (TakeAgain a) room = refl
-never_opens (Overrun a n) room = refl
-never_opens (Tick n) room = refl
-never_opens (Fire a) room = refl
-never_opens (Cancel a to n) room = refl
-never_opens (Inject frame) room = refl
-never_opens (Pause q) room = refl
-never_opens (Resume q) room = refl
-
-pub never_sends : (call : WorkerCall) (room : Bool) → is_send (call_of call room) ≡ false
-never_sends (Pump a to) room = refl
-never_sends (Transmit a) room = refl
-never_sends (Take a) room = refl
-never_sends (TakeAgain a) room = refl
-never_sends (Overrun a n) room = refl
-never_sends (Tick n) room = refl
-never_sends (Fire a) room = refl
-never_sends (Cancel a to n) room = refl
-never_sends (Inject frame) room = refl
-never_sends (Pause q) room = refl
-never_sends (Resume q) room = refl

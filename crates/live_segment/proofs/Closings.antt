@@ -10,9 +10,9 @@ use Rattle.segment_rings.specs.Ends.{InboxEnd, closes}
 use Rattle.segment_rings.specs.Views.{SeatView, DoorView}
 use Rattle.stored_calls.specs.declared.stored.Stored.{Stored}
 use Rattle.live_segment.specs.declared.closing.Closed.{Closed}
-use Rattle.live_segment.specs.declared.calls.TheConstants.{MOST_CALLS}
-use Rattle.live_segment.specs.Record.{trail}
-use Rattle.live_segment.specs.LiveView.{LiveView, live_view, stored_calls, client_of, port_of, stored, calls_after, told_clients, Kept}
+use Rattle.live_record.specs.declared.calls.TheConstants.{MOST_CALLS}
+use Rattle.live_record.specs.Record.{trail, stored}
+use Rattle.live_segment.specs.LiveView.{LiveView, live_view, stored_calls, client_of, port_of, calls_after, told_clients, Kept}
 use Rattle.live_segment.specs.Reports.{HasPort, IsRest, CloseMade, ClosedFor, PortClosed, closing}
 
 -- a Close was made, and answered so

@@ -1,5 +1,5 @@
 -- A cut leaves what holds, and changes no more than what is kept and what is known of the rings' free places.
-use Rattle.std.proofs.Common.{◌≡◌, ℕ, suc, ◌+◌, ◌-◌, ◌<◌, ◌≤◌, Bool, true, false, List, [], ◌∷◌, ◌++◌, length, drop, map, get_or, refl, sym, ◌∙◌, ap, subst, arith}
+use Rattle.std.proofs.Common.{◌≡◌, ℕ, ◌+◌, ◌-◌, ◌<◌, ◌≤◌, Bool, true, false, List, ◌∷◌, ◌++◌, length, drop, map, get_or, refl, sym, ◌∙◌, ap, subst, arith, []}
 use Rattle.std.proofs.lemmas.List.{get_or-map, length-map, drop-drop, drop_at}
 use Rattle.std.specs.Prelude.{slice_index}
 use Rattle.pgn_ids.specs.declared.address.Address.{Address}
@@ -13,40 +13,16 @@ use Rattle.segment_rings.specs.Tails.{known_out}
 use Rattle.segment_rings.specs.Ends.{ring_places}
 use Rattle.segment_rings.specs.Views.{SeatView, DoorView, CutSeat, CutDoor, new_seat, new_door}
 use Rattle.stored_calls.specs.declared.stored.Stored.{Stored}
-use Rattle.live_segment.specs.declared.call.Owed.{Owed}
-use Rattle.live_segment.specs.declared.calls.Piece.{Piece}
-use Rattle.live_segment.specs.Record.{accepted, given, notes_of, owed_by, trail}
-use Rattle.live_segment.specs.Past.{joined}
-use Rattle.live_segment.specs.Facts.{IdsFrom, HaveRoom, PopsAccepted, HasNotes, IsEndOf, PushesNotes, PushesGiven, NoneAt, PortsApart, DoorsKnown, HaveSenders, OwedWithin, NotedWithin, Holds, seat_station, CutSeats, CutDoors}
+use Rattle.live_record.specs.declared.owed.Owed.{Owed}
+use Rattle.live_record.specs.declared.calls.Piece.{Piece}
+use Rattle.live_record.specs.Record.{accepted, given, notes_of, owed_by, trail}
+use Rattle.live_record.specs.Past.{joined}
+use Rattle.live_ends.specs.Ends.{IdsFrom, HaveRoom, NoneAt, PortsApart, OwedWithin, CutSeats, CutDoors}
+use Rattle.live_segment.specs.Facts.{PopsAccepted, HasNotes, IsEndOf, PushesNotes, PushesGiven, DoorsKnown, HaveSenders, NotedWithin, Holds, seat_station}
 use Rattle.live_segment.specs.LiveView.{LiveView, ClientView, PortView, live_view, keep, client_of, port_of, seat_seen, seat_free, door_free}
 use Rattle.live_segment.specs.Rejoining.{CutClient, CutPort, CutClients, CutPorts, CutAs}
-use Rattle.live_segment.proofs.Prefixes.{prefix_length}
-
--- seat by seat, and door by door
-
-abbrev pub AllCut : List SeatView → List SeatView → Type 0
-AllCut [] [] = Unit {0}
-AllCut [] (t ∷ ts) = ⊥
-AllCut (s ∷ ss) [] = ⊥
-AllCut (s ∷ ss) (t ∷ ts) = CutSeat s t × AllCut ss ts
-
-pub all_cut : (ss ts : List SeatView) → CutSeats ss ts → AllCut ss ts
-all_cut [] [] h = tt
-all_cut [] (t ∷ ts) h = absurd (omega (arith, h.0))
-all_cut (s ∷ ss) [] h = absurd (omega (arith, h.0))
-all_cut (s ∷ ss) (t ∷ ts) h = (h.1 0 s (omega arith), all_cut ss ts (omega (arith, h.0), λ k d l. h.1 (suc k) d (omega arith)))
-
-abbrev pub AllDoorsCut : List DoorView → List DoorView → Type 0
-AllDoorsCut [] [] = Unit {0}
-AllDoorsCut [] (e ∷ es) = ⊥
-AllDoorsCut (d ∷ ds) [] = ⊥
-AllDoorsCut (d ∷ ds) (e ∷ es) = CutDoor d e × AllDoorsCut ds es
-
-pub all_doors_cut : (ds es : List DoorView) → CutDoors ds es → AllDoorsCut ds es
-all_doors_cut [] [] h = tt
-all_doors_cut [] (e ∷ es) h = absurd (omega (arith, h.0))
-all_doors_cut (d ∷ ds) [] h = absurd (omega (arith, h.0))
-all_doors_cut (d ∷ ds) (e ∷ es) h = (h.1 0 d (omega arith), all_doors_cut ds es (omega (arith, h.0), λ k x l. h.1 (suc k) x (omega arith)))
+use Rattle.live_record.proofs.Prefixes.{prefix_length}
+use Rattle.live_ends.proofs.Cuts.{AllCut, all_cut, AllDoorsCut, all_doors_cut}
 
 -- the seats
 

@@ -1,7 +1,6 @@
 -- What holds stays so.
-use Rattle.std.proofs.Common.{◌≡◌, ℕ, zero, suc, ◌+◌, ◌<◌, false, true, List, [], ◌∷◌, ◌++◌, length, map, set, get_or, None, refl, sym, ◌∙◌, ap, subst, arith, append-nil, length-append, ◌^◌}
+use Rattle.std.proofs.Common.{◌≡◌, ℕ, zero, suc, ◌+◌, ◌<◌, false, List, ◌∷◌, ◌++◌, length, map, set, get_or, None, refl, sym, ◌∙◌, ap, subst, arith, append-nil, length-append, ◌^◌, []}
 use Rattle.std.proofs.lemmas.List.{length_push, length-map, length-set, map-append, drop-append-le}
-use Rattle.std.specs.Prelude.{Result, Ok, Err, IsErr, IfOk, OnErr}
 use Rattle.pgn_ids.specs.declared.address.Address.{Address}
 use Rattle.port_table.specs.declared.port.PortId.{PortId}
 use Rattle.message_events.specs.declared.event.Event.{Event}
@@ -18,14 +17,19 @@ use Rattle.segment_rings.specs.declared.words.Submission.{Submission}
 use Rattle.segment_rings.specs.declared.words.Note.{Note}
 use Rattle.segment_rings.specs.Views.{SeatView, DoorView, new_seat, new_door, closed_seat, closed_door, noted_after}
 use Rattle.stored_calls.specs.declared.stored.Stored.{Stored}
-use Rattle.live_segment.specs.declared.call.Owed.{Owed}
-use Rattle.live_segment.specs.Record.{accepted, notes_of, owed_by, settle_notes, settle_owed, owe, Trail, trail, step}
-use Rattle.live_segment.specs.Facts.{IdsFrom, HaveRoom, note_all, OwedWithin, PopsAccepted, HasNotes, IsEndOf, PushesNotes, PushesGiven, NoneAt, PortsApart, DoorsKnown, give_all, SameDoors, SameSeats, Holds, NotedWithin, HaveSenders, seat_station}
-use Rattle.live_segment.specs.LiveView.{stored, live_view, SameLive, Kept}
-use Rattle.live_segment.proofs.Seats.{notes_of-append, length-note_all, stations-note_all, noted-append, settle_notes-within, noted-more, within-more, notes_of-none, owed_by-none, has_more, has_first}
-use Rattle.live_segment.proofs.Doors.{apart-same, pushes-same, apart-give_all, pushes-give_all, known-same, known-give_all, known-more, known-push, each-append, each-more, given_unknown, apart-push, pushes-push}
-use Rattle.live_segment.proofs.Trails.{trail-nil, trail-snoc, accepted-append, senders-append, senders-more, nobody_sends, accepted-none, sent_in_false}
-use Rattle.live_segment.proofs.SeatsSame.{ids-same, room-same, length-same, stations-same, pops-same, notes-same, clients-same, ports-same}
+use Rattle.live_record.specs.declared.owed.Owed.{Owed}
+use Rattle.live_record.specs.Record.{accepted, notes_of, owed_by, settle_notes, settle_owed, owe, Trail, trail, step, stored}
+use Rattle.live_ends.specs.Ends.{IdsFrom, HaveRoom, note_all, OwedWithin, NoneAt, PortsApart, give_all, SameDoors, SameSeats}
+use Rattle.live_segment.specs.Facts.{PopsAccepted, HasNotes, IsEndOf, PushesNotes, PushesGiven, DoorsKnown, Holds, NotedWithin, HaveSenders, seat_station}
+use Rattle.live_segment.specs.LiveView.{live_view, SameLive, Kept}
+use Rattle.live_ends.proofs.Noting.{notes_of-append, length-note_all, within-more, owed_by-none}
+use Rattle.live_segment.proofs.Noted.{stations-note_all, noted-append, settle_notes-within, noted-more, notes_of-none, has_more, has_first}
+use Rattle.live_ends.proofs.Giving.{apart-same, apart-give_all}
+use Rattle.live_segment.proofs.Doors.{pushes-same, pushes-give_all, known-same, known-give_all, known-more, known-push, each-append, each-more, given_unknown, apart-push, pushes-push}
+use Rattle.live_record.proofs.Trails.{trail-nil, trail-snoc, accepted-append, sent_in_false}
+use Rattle.live_segment.proofs.Senders.{senders-append, senders-more, nobody_sends, accepted-none}
+use Rattle.live_ends.proofs.SeatsSame.{ids-same, room-same, length-same}
+use Rattle.live_segment.proofs.SeatsSame.{stations-same, pops-same, notes-same, clients-same, ports-same}
 
 pub holds-new : (addresses : List Address) (st : Segment) → st ≡ new_segment addresses → StandsAt addresses [] st → Holds addresses st [] [] [] []
 holds-new addresses st is stands = record {
@@ -148,14 +152,6 @@ holds-tell addresses st next xs ws ss ds call es h few r left stands f ids rm wi
           rw (length-note_all (settle_notes ws es) ss)
           (subst (λ (u : List (ℕ × Note)). NotedWithin (length ss) u) nts (noted-append (length ss) t.noted (settle_notes ws es) h.noted (settle_notes-within (length ss) ws es h.within)));
     }
-
-pub on_err : {T E P : Type 0} (r : Result T E) → P → OnErr r P
-on_err (Ok x) p = tt
-on_err (Err e) p = p
-
-pub no_ok : {T E : Type 0} (P : T → Type 0) (r : Result T E) → IsErr r → IfOk r P
-no_ok P (Ok x) e = absurd (let no : false ≡ true = e in cc)
-no_ok P (Err x) e = tt
 
 pub same_live : (keeps : Kept) (addresses : List Address) (xs : List Stored) (ss ts : List SeatView) (ds es : List DoorView) → SameSeats ss ts → SameDoors ds es → SameLive (live_view keeps addresses xs ss ds) (live_view keeps addresses xs ts es)
 same_live keeps addresses xs ss ts ds es s d = record { addresses = refl; calls = refl; clients = clients-same ss ts s; ports = ports-same ds es d; stopped = refl; pieces = refl }

@@ -1,13 +1,14 @@
 -- Before the first cut each note and each delivery is kept: only a cut changes how many aren't.
-use Rattle.std.proofs.Common.{◌≡◌, ℕ, zero, suc, ◌<◌, List, [], ◌∷◌, ◌++◌, length, map, set, get_or, Option, ◌∙◌, arith}
+use Rattle.std.proofs.Common.{◌≡◌, ℕ, zero, suc, ◌<◌, List, ◌∷◌, ◌++◌, length, map, set, get_or, Option, ◌∙◌, arith, []}
 use Rattle.std.proofs.lemmas.List.{length-map}
 use Rattle.pgn_ids.specs.declared.address.Address.{Address}
 use Rattle.message_events.specs.declared.event.Event.{Event}
 use Rattle.segment_law.specs.Segment.{Segment}
 use Rattle.segment_rings.specs.declared.words.Note.{Note}
 use Rattle.segment_rings.specs.Views.{SeatView, DoorView}
-use Rattle.live_segment.specs.declared.calls.Piece.{Piece}
-use Rattle.live_segment.specs.Facts.{note_all, give_all, SameSeats, SameDoors, KeepNotes, KeepGiven, IsCut}
+use Rattle.live_record.specs.declared.calls.Piece.{Piece}
+use Rattle.live_ends.specs.Ends.{note_all, give_all, SameSeats, SameDoors}
+use Rattle.live_segment.specs.Facts.{KeepNotes, KeepGiven, IsCut}
 use Rattle.live_segment.specs.LiveView.{ClientView, PortView, client_of, port_of, KeepsUncut}
 
 pub cut_with : (addresses : List Address) (ps : List Piece) (i : Option Segment) (ss ts : List SeatView) (ds es : List DoorView) → (KeepNotes ss → KeepNotes ts) → (KeepGiven ds → KeepGiven es) → IsCut addresses ps i ss ds → IsCut addresses ps i ts es

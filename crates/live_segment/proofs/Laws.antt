@@ -1,4 +1,4 @@
-use Rattle.std.proofs.Common.{◌≡◌, ℕ, zero, suc, ◌+◌, ◌<◌, ◌≤◌, true, false, Option, List, [], ◌∷◌, ◌++◌, length, drop, map, get_or, refl, sym, ◌∙◌, ap, subst, arith}
+use Rattle.std.proofs.Common.{◌≡◌, ℕ, zero, suc, ◌+◌, ◌<◌, ◌≤◌, true, false, Option, List, ◌∷◌, ◌++◌, length, drop, map, get_or, refl, sym, ◌∙◌, ap, subst, arith, []}
 use Rattle.std.proofs.lemmas.List.{get_or-map, length-map}
 use Rattle.std.specs.Option.{option_map}
 use Rattle.std.proofs.lemmas.Option.{slice_get-map, slice_get-get_or}
@@ -12,14 +12,15 @@ use Rattle.live_segment.specs.declared.report.ClientReport.{ClientReport}
 use Rattle.live_segment.specs.declared.report.InboxReport.{InboxReport}
 use Rattle.segment_rings.specs.Ends.{ClientEnd, InboxEnd}
 use Rattle.live_segment.specs.Reports.{client_gone, gone_of, notes_gone, HasPort, IsClientReport, IsInboxReport, AreClientReports, AreInboxReports}
-use Rattle.live_segment.proofs.Doors.{none_at, same_port-refl, same_port-sym}
+use Rattle.live_ends.proofs.Giving.{none_at, same_port-refl, same_port-sym}
 use Rattle.stored_calls.specs.declared.stored.Stored.{Stored}
 use Rattle.segment_rings.specs.declared.words.Note.{Note}
-use Rattle.live_segment.specs.declared.call.Owed.{Owed}
+use Rattle.live_record.specs.declared.owed.Owed.{Owed}
 use Rattle.segment_rings.specs.Views.{SeatView, DoorView, new_door}
-use Rattle.live_segment.specs.Record.{accepted, given, notes_of, trail}
-use Rattle.live_segment.specs.Facts.{IdsFrom, PopsAccepted, HasNotes, PushesNotes, PushesGiven, NoneAt, PortsApart, Holds, HaveSenders, seat_station}
-use Rattle.live_segment.specs.Past.{HasPast}
+use Rattle.live_record.specs.Record.{accepted, given, notes_of, trail}
+use Rattle.live_ends.specs.Ends.{IdsFrom, NoneAt, PortsApart}
+use Rattle.live_segment.specs.Facts.{PopsAccepted, HasNotes, PushesNotes, PushesGiven, Holds, HaveSenders, seat_station}
+use Rattle.live_record.specs.Past.{HasPast}
 use Rattle.live_segment.specs.LiveView.{LiveView, ClientView, PortView, live_view, client_of, port_of, stations_of, KeepsUncut, Laws, Kept}
 
 popped : (n c : ℕ) (xs : List Stored) (ss : List SeatView) (v : ClientView) → c < length ss → IdsFrom n ss → PopsAccepted xs ss → (get_or (map client_of ss) c v).popped ≡ accepted (n + c) xs

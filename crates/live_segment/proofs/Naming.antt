@@ -1,5 +1,5 @@
 -- A client or a port is named among those that have news: nothing else of it changes.
-use Rattle.std.proofs.Common.{◌≡◌, ℕ, zero, suc, ◌+◌, ◌<◌, false, true, List, [], ◌∷◌, length, map, set, get_or, refl, sym, ap, ◌∙◌, subst, arith}
+use Rattle.std.proofs.Common.{◌≡◌, ℕ, zero, suc, ◌+◌, ◌<◌, false, true, List, ◌∷◌, length, map, set, get_or, refl, sym, ap, ◌∙◌, subst, arith, []}
 use Rattle.std.proofs.lemmas.List.{length-map, length-set, get_or-map, map-set}
 use Rattle.pgn_ids.specs.declared.address.Address.{Address}
 use Rattle.port_table.specs.declared.port.PortId.{PortId}
@@ -8,11 +8,11 @@ use Rattle.segment_law.specs.Segment.{Segment}
 use Rattle.segment_rings.specs.declared.words.Note.{Note}
 use Rattle.segment_rings.specs.Views.{SeatView, DoorView, named_seat, named_door, has_noted_news, has_pushed_news, new_seat, new_door}
 use Rattle.stored_calls.specs.declared.stored.Stored.{Stored}
-use Rattle.live_segment.specs.declared.call.Owed.{Owed}
-use Rattle.live_segment.specs.Record.{trail}
-use Rattle.live_segment.specs.Facts.{IdsFrom, HaveRoom, OwedWithin, PopsAccepted, PushesNotes, PushesGiven, NoneAt, PortsApart, DoorsKnown, Holds, NotedWithin, HaveSenders, seat_station, SameSeats, SameDoors, CutSeats, CutDoors}
+use Rattle.live_record.specs.declared.owed.Owed.{Owed}
+use Rattle.live_record.specs.Record.{trail}
+use Rattle.live_ends.specs.Ends.{IdsFrom, HaveRoom, OwedWithin, NoneAt, PortsApart}
+use Rattle.live_segment.specs.Facts.{PopsAccepted, PushesNotes, PushesGiven, DoorsKnown, Holds, NotedWithin, HaveSenders, seat_station}
 use Rattle.live_segment.specs.LiveView.{ClientView, PortView, live_view, Kept, client_of, port_of}
-use Rattle.live_segment.proofs.Cuts.{AllCut, all_cut, AllDoorsCut, all_doors_cut}
 use Rattle.live_segment.specs.News.{client_has_news, port_has_news, client_named, port_named, ClientNamed, PortNamed, NoNews}
 
 named-gives : (es : List Event) (k : ℕ) (d : DoorView) (ds : List DoorView) → PushesGiven es ds → PushesGiven es (set ds k (named_door (get_or ds k d)))
@@ -102,38 +102,6 @@ holds-name_seat addresses st xs ws ss ds k d h =
       senders = subst (λ (qs : List Address). HaveSenders qs xs) (sym (noted-stations k d ss)) h.senders;
       noted = subst (λ (m : ℕ). NotedWithin m (trail addresses xs).noted) (sym n) h.noted;
     }
-
--- the marks of those that have news
-
-pub marks-same : (ss ts : List SeatView) → SameSeats ss ts → map has_noted_news ts ≡ map has_noted_news ss
-marks-same [] [] s = refl
-marks-same [] (t ∷ ts) s = absurd s
-marks-same (x ∷ ss) [] s = absurd s
-marks-same (x ∷ ss) (t ∷ ts) s = let a = s.0.named in let b = s.0.noted in let r = marks-same ss ts s.1 in cc
-
-marks-all_cut : (ss ts : List SeatView) → AllCut ss ts → map has_noted_news ts ≡ map has_noted_news ss
-marks-all_cut [] [] s = refl
-marks-all_cut [] (t ∷ ts) s = absurd s
-marks-all_cut (x ∷ ss) [] s = absurd s
-marks-all_cut (x ∷ ss) (t ∷ ts) s = let a = s.0.named in let b = s.0.noted in let r = marks-all_cut ss ts s.1 in cc
-
-pub marks-cut : (ss ts : List SeatView) → CutSeats ss ts → map has_noted_news ts ≡ map has_noted_news ss
-marks-cut ss ts c = marks-all_cut ss ts (all_cut ss ts c)
-
-pub door_marks-same : (ds es : List DoorView) → SameDoors ds es → map has_pushed_news es ≡ map has_pushed_news ds
-door_marks-same [] [] s = refl
-door_marks-same [] (e ∷ es) s = absurd s
-door_marks-same (d ∷ ds) [] s = absurd s
-door_marks-same (d ∷ ds) (e ∷ es) s = let a = s.0.named in let b = s.0.pushed in let r = door_marks-same ds es s.1 in cc
-
-door_marks-all_cut : (ds es : List DoorView) → AllDoorsCut ds es → map has_pushed_news es ≡ map has_pushed_news ds
-door_marks-all_cut [] [] s = refl
-door_marks-all_cut [] (e ∷ es) s = absurd s
-door_marks-all_cut (d ∷ ds) [] s = absurd s
-door_marks-all_cut (d ∷ ds) (e ∷ es) s = let a = s.0.named in let b = s.0.pushed in let r = door_marks-all_cut ds es s.1 in cc
-
-pub door_marks-cut : (ds es : List DoorView) → CutDoors ds es → map has_pushed_news es ≡ map has_pushed_news ds
-door_marks-cut ds es c = door_marks-all_cut ds es (all_doors_cut ds es c)
 
 -- what is seen of it
 

@@ -1,5 +1,5 @@
 -- Why an Open is refused: what the segment says of it beforehand is what it answers.
-use Rattle.std.proofs.Common.{◌≡◌, ℕ, ◌<◌, Option, Some, None, Ok, Err, List, [], ◌∷◌, ◌++◌, map, refl, sym, ap, ◌∙◌, subst, inl}
+use Rattle.std.proofs.Common.{◌≡◌, ℕ, ◌<◌, Option, Some, None, Ok, Err, List, ◌∷◌, ◌++◌, map, refl, sym, ap, ◌∙◌, subst, inl, []}
 use Rattle.std.proofs.lemmas.Option.{same_Some}
 use Rattle.std.specs.Prelude.{Result, IsErr, IfErr}
 use Rattle.std.specs.Result.{IsErrAnd}
@@ -16,12 +16,12 @@ use Rattle.reply_law.specs.Replies.{reply_of}
 use Rattle.segment_rings.specs.Ends.{InboxEnd, new_inbox_end}
 use Rattle.segment_rings.specs.Views.{SeatView, DoorView, new_door}
 use Rattle.stored_calls.specs.declared.stored.Stored.{Stored}
-use Rattle.live_segment.specs.declared.calls.TheConstants.{MOST_CALLS}
+use Rattle.live_record.specs.declared.calls.TheConstants.{MOST_CALLS}
 use Rattle.live_segment.specs.declared.refused.NotMade.{NotMade}
 use Rattle.live_segment.specs.declared.refused.NotMade.TheVariants as not_made
-use Rattle.live_segment.specs.Record.{trail}
-use Rattle.live_segment.specs.Past.{count_since}
-use Rattle.live_segment.specs.LiveView.{LiveView, live_view, port_of, new_port_view, stored, IsOpenCause, OpenedWith, Kept}
+use Rattle.live_record.specs.Record.{trail, stored}
+use Rattle.live_record.specs.Past.{count_since}
+use Rattle.live_segment.specs.LiveView.{LiveView, live_view, port_of, new_port_view, IsOpenCause, OpenedWith, Kept}
 
 pub refused_reply : (st : Segment) (c : Refusal) (x : Answer) → Some c ≡ refusal_of x → Refused c ≡ (replied st x).1
 refused_reply st c (Ok step) e = absurd (cc)

@@ -1,5 +1,5 @@
 -- A frame which is none of a station's business is taken: what that leaves, and the turn that does nothing else.
-use Rattle.std.proofs.Common.{◌≡◌, ℕ, ◌+◌, ◌-◌, ◌<◌, ◌^◌, ◌&&◌, ◌||◌, Bool, true, false, nat_lt, List, [], ◌∷◌, ◌++◌, length, map, Option, None, refl, sym, ◌∙◌, ap, subst, arith}
+use Rattle.std.proofs.Common.{◌≡◌, ℕ, ◌+◌, ◌-◌, ◌<◌, ◌^◌, ◌&&◌, ◌||◌, Bool, true, false, nat_lt, List, ◌∷◌, ◌++◌, length, map, Option, None, refl, sym, ◌∙◌, ap, subst, arith, []}
 use Rattle.std.specs.Prelude.{nat_le, is_some}
 use Rattle.std.proofs.lemmas.Bool.{false≢true, lt-ltb, lt-leb}
 use Rattle.bus_order.specs.Bus.{kept_limit}
@@ -19,20 +19,21 @@ use Rattle.segment_state.specs.Passing.{PassesBy}
 use Rattle.segment_state.proofs.PassedBy.{none_there}
 use Rattle.segment_rings.specs.Views.{SeatView, DoorView}
 use Rattle.stored_calls.specs.declared.stored.Stored.{Stored}
-use Rattle.live_segment.specs.declared.call.Owed.{Owed}
-use Rattle.live_segment.specs.declared.call.WorkerCall.TheVariants as worker
-use Rattle.live_segment.specs.Facts.{Holds, IdsFrom, HaveRoom, OwedWithin, note_all, give_all}
-use Rattle.live_segment.specs.LiveView.{LiveView, Kept, Applied, live_view, client_of, port_of, stored}
+use Rattle.live_record.specs.declared.owed.Owed.{Owed}
+use Rattle.live_calls.specs.declared.call.WorkerCall.TheVariants as worker
+use Rattle.live_segment.specs.Facts.{Holds}
+use Rattle.live_ends.specs.Ends.{IdsFrom, HaveRoom, OwedWithin, note_all, give_all}
+use Rattle.live_segment.specs.LiveView.{LiveView, Kept, Applied, live_view, client_of, port_of}
+use Rattle.live_record.specs.Record.{stored, trail}
 use Rattle.live_segment.specs.Offers.{IsAtRest}
-use Rattle.live_segment.specs.Record.{trail}
 use Rattle.live_segment.specs.Turns.{Point, point, no_turn, one_more, Makes, MakesWhere, PumpsTo, Finishes, StationTurn, is_stuck, state_of}
 use Rattle.live_segment.specs.declared.turns.Turn.{Turn}
-use Rattle.live_segment.specs.Words.{call_of}
+use Rattle.live_calls.specs.Words.{call_of}
 use Rattle.live_segment.proofs.Applying.{spares_none}
-use Rattle.live_segment.proofs.Doors.{give_all_unplaced}
+use Rattle.live_ends.proofs.Giving.{give_all_unplaced}
 use Rattle.live_segment.proofs.Holding.{holds-tell}
-use Rattle.live_segment.proofs.Quiet.{below_at_rest}
-use Rattle.live_segment.proofs.Seats.{note_all_none}
+use Rattle.live_segment.proofs.Resting.{below_at_rest}
+use Rattle.live_ends.proofs.Noting.{note_all_none}
 use Rattle.live_segment.proofs.Telling.{ports_untold, clients_untold}
 
 -- What the Take leaves

@@ -1,5 +1,5 @@
 -- What a call gives has room, where its places were found.
-use Rattle.std.proofs.Common.{◌≡◌, ℕ, zero, suc, ◌+◌, ◌*◌, ◌<◌, ◌≤◌, ◌==◌, ◌&&◌, Bool, true, false, cond, List, [], ◌∷◌, ◌++◌, length, map, refl, sym, ap, ◌∙◌, subst, arith, eqb-true}
+use Rattle.std.proofs.Common.{◌≡◌, ℕ, zero, suc, ◌+◌, ◌*◌, ◌<◌, ◌≤◌, ◌==◌, ◌&&◌, Bool, true, false, cond, List, ◌∷◌, ◌++◌, length, map, refl, sym, ap, ◌∙◌, subst, arith, eqb-true, []}
 use Rattle.pgn_ids.specs.declared.address.Address.{Address}
 use Rattle.port_table.specs.declared.port.PortId.{PortId}
 use Rattle.message_events.specs.declared.event.Event.{Event}
@@ -10,13 +10,15 @@ use Rattle.reply_law.specs.Replies.{EachAt, EachShort, expected}
 use Rattle.reply_law.proofs.Gives.{none_short}
 use Rattle.segment_rings.specs.declared.words.Delivery.{Delivery}
 use Rattle.segment_rings.specs.Views.{DoorView}
-use Rattle.live_segment.specs.declared.call.WorkerCall.{WorkerCall}
-use Rattle.live_segment.specs.declared.call.WorkerCall.TheVariants.{Pump, Transmit, Take, TakeAgain, Overrun, Tick, Fire, Cancel, Inject, Pause, Resume}
-use Rattle.live_segment.specs.declared.wanted.Wanted.{Wanted}
-use Rattle.live_segment.specs.Words.{call_of, wanted_by}
-use Rattle.live_segment.specs.Record.{given}
+use Rattle.live_calls.specs.declared.call.WorkerCall.{WorkerCall}
+use Rattle.live_calls.specs.declared.call.WorkerCall.TheVariants.{Pump, Transmit, Take, TakeAgain, Overrun, Tick, Fire, Cancel, Inject, Pause, Resume}
+use Rattle.live_calls.specs.Words.{call_of, wanted_by}
+use Rattle.live_record.specs.Record.{given}
 use Rattle.live_segment.specs.LiveView.{port_of, SparesClosed}
-use Rattle.live_segment.specs.Places.{times, HasPlaces, HavePlaces, TakesAll, AtLeast, EnoughFor, IsFound}
+use Rattle.live_ends.specs.Places.{times, HasPlaces, HavePlaces, TakesAll, AtLeast, EnoughFor}
+use Rattle.live_calls.specs.Places.{IsFound}
+use Rattle.live_ends.proofs.Lists.{no_items}
+use Rattle.live_calls.proofs.Nothing.{have_none, at_least_0}
 
 same_address : (a b : Address) → a.0 ≡ b.0 → a ≡ b
 same_address a b e = λ i. record { 0 = e i }
@@ -55,26 +57,10 @@ pub takes_all : (a : Address) (n : ℕ) (es : List Event) (ds : List DoorView) �
 takes_all a n es [] at h = tt
 takes_all a n es (d ∷ ds) at h = let t = door_takes a n es d at h.0 in (t.0, t.1, takes_all a n es ds at h.1)
 
-have_none : (a : Address) (ds : List DoorView) → HavePlaces a [] ds
-have_none a [] = tt
-have_none a (d ∷ ds) = (λ _. (omega arith, omega arith, λ some. absurd (omega (arith, some))), have_none a ds)
-
-at_least_0 : (bs : List ℕ) → AtLeast 0 bs
-at_least_0 [] = tt
-at_least_0 (b ∷ bs) = (omega arith, at_least_0 bs)
-
--- a call that gives nothing needs no place
-pub found_nothing : (w : Wanted) (ds : List DoorView) → w.ports ≡ [] → IsFound w ds true []
-found_nothing w ds none = (subst (λ (ns : List ℕ). HavePlaces w.station ns ds) (sym none) (have_none w.station ds), ((let l : length w.ports ≡ 0 = ap length none in omega (arith, l)), tt))
-
 each_short : (a : Address) (n : ℕ) (es : List Event) → EachAt a n es → EachShort n es
 each_short a n [] h = tt
 each_short a n (event.Given p f t g b ∷ es) h = (h.0.1, each_short a n es h.1)
 each_short a n (event.Outcome f t k o ∷ es) h = (tt, each_short a n es h.1)
-
-pub no_items : {T : Type 0} (xs : List T) → length xs ≤ 0 → xs ≡ []
-no_items [] l = refl
-no_items (x ∷ xs) l = absurd (omega (arith, l))
 
 -- a closed port is given nothing
 door_spares : (a : Address) (n : ℕ) (es : List Event) (d : DoorView) → EachAt a n es → HasPlaces a (ports_given es) d → d.active ≡ false → given d.port es ≡ []

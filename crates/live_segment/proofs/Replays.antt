@@ -1,5 +1,5 @@
 -- Calls that are made once more.
-use Rattle.std.proofs.Common.{◌≡◌, ℕ, ◌+◌, ◌<◌, List, [], ◌∷◌, ◌++◌, length, take, get_or, true, refl, sym, ◌∙◌, ap, subst, append-nil, append_assoc}
+use Rattle.std.proofs.Common.{◌≡◌, ℕ, ◌+◌, ◌<◌, List, ◌∷◌, ◌++◌, length, take, get_or, true, refl, sym, ◌∙◌, ap, subst, append-nil, append_assoc, []}
 use Rattle.std.proofs.lemmas.List.{take_more}
 use Rattle.std.specs.List.{list_all}
 use Rattle.pgn_ids.specs.declared.address.Address.{Address}
@@ -12,7 +12,7 @@ use Rattle.segment_law.proofs.Booleans.{both_pass}
 use Rattle.segment_law.proofs.Records.{stands_on}
 use Rattle.reply_law.specs.Replies.{reply_of, left_by}
 use Rattle.stored_calls.specs.declared.stored.Stored.{Stored}
-use Rattle.live_segment.specs.Record.{Trail, start, step, trail_from, trail}
+use Rattle.live_record.specs.Record.{Trail, start, step, trail_from, trail}
 use Rattle.live_segment.specs.Rejoining.{StandsAfter}
 use Rattle.live_segment.proofs.Holding.{stands-more, state-more}
 

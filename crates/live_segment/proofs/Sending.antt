@@ -1,5 +1,5 @@
 -- A client's message was stored.
-use Rattle.std.proofs.Common.{◌≡◌, ◌≢◌, ℕ, zero, suc, ◌+◌, ◌<◌, ◌==◌, true, false, cond, List, [], ◌∷◌, ◌++◌, length, map, set, get_or, Some, None, refl, sym, ◌∙◌, ap, subst, arith, append-nil, length-set, zero-add, ◌^◌}
+use Rattle.std.proofs.Common.{◌≡◌, ◌≢◌, ℕ, zero, suc, ◌+◌, ◌<◌, ◌==◌, true, false, cond, List, ◌∷◌, ◌++◌, length, map, set, get_or, Some, None, refl, sym, ◌∙◌, ap, subst, arith, append-nil, length-set, zero-add, ◌^◌, []}
 use Rattle.std.proofs.lemmas.List.{length_push, length-map, get_or-map, map-set}
 use Rattle.std.proofs.lemmas.Option.{slice_get-map, slice_get-get_or}
 use Rattle.std.specs.Option.{option_map}
@@ -19,18 +19,22 @@ use Rattle.segment_rings.specs.declared.words.Submission.{Submission}
 use Rattle.segment_rings.specs.declared.words.Note.{Note}
 use Rattle.segment_rings.specs.Views.{SeatView, DoorView, popped_one}
 use Rattle.stored_calls.specs.declared.stored.Stored.{Stored}
-use Rattle.live_segment.specs.declared.call.Owed.{Owed}
-use Rattle.live_segment.specs.declared.calls.TheConstants.{MOST_CALLS}
-use Rattle.live_segment.specs.Record.{accepted, owed_by, settle_notes, settle_owed, owe, Trail, trail, step}
-use Rattle.live_segment.specs.Facts.{IdsFrom, HaveRoom, OwedWithin, PopsAccepted, PushesNotes, PushesGiven, Holds, NotedWithin, HaveSenders, seat_station}
-use Rattle.live_segment.specs.Past.{count_since}
-use Rattle.live_segment.specs.LiveView.{ClientView, live_view, stored, client_of, port_of, seat_seen, seat_free, Kept}
-use Rattle.live_segment.specs.Offers.{send_call, owed_for, popped_client, SentFor, RefusedSend, IsCauseFor, LacksRoomToSend, LacksMemoryFor}
+use Rattle.live_record.specs.declared.owed.Owed.{Owed}
+use Rattle.live_record.specs.declared.calls.TheConstants.{MOST_CALLS}
+use Rattle.live_record.specs.Record.{accepted, owed_by, settle_notes, settle_owed, owe, Trail, trail, step, stored}
+use Rattle.live_ends.specs.Ends.{IdsFrom, HaveRoom, OwedWithin}
+use Rattle.live_segment.specs.Facts.{PopsAccepted, PushesNotes, PushesGiven, Holds, NotedWithin, HaveSenders, seat_station}
+use Rattle.live_record.specs.Past.{count_since}
+use Rattle.live_segment.specs.LiveView.{ClientView, live_view, client_of, port_of, seat_seen, seat_free, Kept}
+use Rattle.live_ends.specs.Offers.{send_call, owed_for}
+use Rattle.live_segment.specs.Offers.{popped_client, SentFor, RefusedSend, LacksMemoryFor}
+use Rattle.live_calls.specs.Offers.{IsCauseFor, LacksRoomToSend}
 use Rattle.live_segment.proofs.Doors.{known-more, each-more}
 use Rattle.live_segment.proofs.Fronts.{waits_at, free_is}
 use Rattle.live_segment.proofs.Holding.{stands-more, state-more}
-use Rattle.live_segment.proofs.Seats.{apart, together}
-use Rattle.live_segment.proofs.Trails.{trail-snoc, made-trail, accepted-append, senders-append}
+use Rattle.live_record.proofs.Equal.{apart, together}
+use Rattle.live_record.proofs.Trails.{trail-snoc, made-trail, accepted-append}
+use Rattle.live_segment.proofs.Senders.{senders-append}
 
 pub owed_by-append : (c : ℕ) (ws : List Owed) (w : Owed) → owed_by c (ws ++ w ∷ []) ≡ owed_by c ws + cond (w.client == c) 1 0
 owed_by-append c [] w = omega arith

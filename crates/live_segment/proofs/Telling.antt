@@ -1,6 +1,5 @@
 -- What a call tells goes to the clients and ports as they are shown: their lists grow, and nothing else of them changes.
-use Rattle.std.proofs.Common.{◌≡◌, ℕ, zero, suc, ◌+◌, ◌<◌, true, false, List, [], ◌∷◌, ◌++◌, length, map, set, get_or, drop, None, Some, refl, ap, ◌∙◌, subst, arith, append-nil}
-use Rattle.std.specs.Prelude.{slice_get}
+use Rattle.std.proofs.Common.{◌≡◌, ℕ, zero, suc, ◌+◌, ◌<◌, true, false, List, ◌∷◌, ◌++◌, length, map, set, get_or, refl, ap, ◌∙◌, subst, arith, append-nil, []}
 use Rattle.port_table.specs.declared.port.PortId.{PortId}
 use Rattle.message_events.specs.declared.event.Event.{Event}
 use Rattle.segment_law.specs.Told.{same_port}
@@ -8,12 +7,12 @@ use Rattle.segment_rings.specs.declared.words.Note.{Note}
 use Rattle.segment_rings.specs.declared.words.Delivery.{Delivery}
 use Rattle.segment_rings.specs.Views.{SeatView, DoorView, closed_seat, closed_door, noted_after}
 use Rattle.segment_rings.specs.Ends.{ClientEnd, InboxEnd}
-use Rattle.live_segment.specs.Record.{notes_of}
-use Rattle.live_segment.specs.Facts.{IdsFrom, NoneAt, PortsApart, note_all, give_all}
+use Rattle.live_record.specs.Record.{notes_of}
+use Rattle.live_ends.specs.Ends.{IdsFrom, NoneAt, PortsApart, note_all, give_all}
 use Rattle.live_segment.specs.LiveView.{ClientView, PortView, client_of, port_of, port_after, clients_after}
 use Rattle.live_segment.specs.Reports.{closing, gone, gone_clients, gone_ports}
-use Rattle.live_segment.proofs.Doors.{none_at, same_port-sym, same_port-refl}
-use Rattle.live_segment.proofs.Seats.{noted_none}
+use Rattle.live_ends.proofs.Giving.{none_at, same_port-sym, same_port-refl}
+use Rattle.live_ends.proofs.Noting.{noted_none}
 
 pub ports_told : (es : List Event) (ds : List DoorView) → map port_of (give_all es ds) ≡ map (port_after es) (map port_of ds)
 ports_told es [] = refl
@@ -78,13 +77,3 @@ gone_clients-more (d ∷ cs) c vs = gone_clients-more cs c (gone vs d.id)
 pub gone_ports-more : (is : List InboxEnd) (i : InboxEnd) (ps : List PortView) → gone_ports (is ++ i ∷ []) ps ≡ map (closing i.port) (gone_ports is ps)
 gone_ports-more [] i ps = refl
 gone_ports-more (j ∷ is) i ps = gone_ports-more is i (map (closing j.port) ps)
-
--- the events of a call by the first of them
-
-pub untold : (es : List Event) → slice_get es 0 ≡ None → es ≡ []
-untold [] none = refl
-untold (e ∷ es) none = absurd cc
-
-pub first_of : (es : List Event) (e : Event) → slice_get es 0 ≡ Some e → es ≡ e ∷ drop 1 es
-first_of [] e is = absurd cc
-first_of (x ∷ es) e is = let same : x ≡ e = cc in ap (λ (y : Event). y ∷ es) same

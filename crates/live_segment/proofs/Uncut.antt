@@ -1,14 +1,14 @@
 -- A segment of which nothing was cut.
-use Rattle.std.proofs.Common.{◌≡◌, ℕ, zero, suc, ◌<◌, Bool, true, false, cond, List, [], ◌∷◌, ◌++◌, length, drop, get_or, refl, subst, arith}
+use Rattle.std.proofs.Common.{◌≡◌, ℕ, zero, suc, ◌<◌, Bool, true, false, cond, List, ◌∷◌, ◌++◌, length, drop, get_or, refl, subst, arith, []}
 use Rattle.port_table.specs.declared.port.PortId.{PortId}
 use Rattle.segment_law.specs.Told.{same_port}
 use Rattle.segment_rings.specs.declared.words.Delivery.{Delivery}
 use Rattle.segment_rings.specs.Ends.{ClientEnd, InboxEnd}
 use Rattle.std.specs.Prelude.{slice_get}
-use Rattle.live_segment.specs.declared.calls.Piece.{Piece}
+use Rattle.live_record.specs.declared.calls.Piece.{Piece}
 use Rattle.live_segment.specs.declared.report.ClientReport.{ClientReport}
-use Rattle.live_segment.specs.Record.{accepted, given, notes_of, trail}
-use Rattle.live_segment.specs.Past.{joined, since}
+use Rattle.live_record.specs.Record.{accepted, given, notes_of, trail}
+use Rattle.live_record.specs.Past.{joined, since}
 use Rattle.live_segment.specs.LiveView.{LiveView, ClientView, PortView, Laws}
 use Rattle.live_segment.specs.Reports.{client_gone, gone_of, notes_gone, given_gone, IsRest, IsClientReport}
 

@@ -5,11 +5,12 @@ use Rattle.pgn_ids.specs.declared.address.Address.{Address}
 use Rattle.segment_law.specs.Segment.{Segment}
 use Rattle.segment_rings.specs.Views.{SeatView, DoorView}
 use Rattle.stored_calls.specs.declared.stored.Stored.{Stored}
-use Rattle.live_segment.specs.declared.call.Owed.{Owed}
-use Rattle.live_segment.specs.declared.calls.Piece.{Piece}
-use Rattle.live_segment.specs.declared.calls.TheConstants.{MOST_CALLS}
-use Rattle.live_segment.specs.Facts.{SameDoors, SameSeats, Holds, IsCut}
-use Rattle.live_segment.specs.Past.{count_since}
+use Rattle.live_record.specs.declared.owed.Owed.{Owed}
+use Rattle.live_record.specs.declared.calls.Piece.{Piece}
+use Rattle.live_record.specs.declared.calls.TheConstants.{MOST_CALLS}
+use Rattle.live_ends.specs.Ends.{SameDoors, SameSeats}
+use Rattle.live_segment.specs.Facts.{Holds, IsCut}
+use Rattle.live_record.specs.Past.{count_since}
 use Rattle.live_segment.specs.LiveView.{LiveView, live_view, keep, SameLive, port_of}
 use Rattle.live_segment.proofs.Holding.{holds-same}
 use Rattle.live_segment.proofs.SeatsSame.{clients-same, ports-same}

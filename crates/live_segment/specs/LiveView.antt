@@ -1,12 +1,11 @@
 -- What a contract sees of a shared segment.
-use Rattle.std.specs.Prelude.{◌≡◌, ℕ, ◌+◌, ◌≤◌, ◌<◌, ◌==◌, ◌&&◌, Bool, true, false, cond, List, [], ◌∷◌, ◌++◌, length, map, Option, None, slice_index_or, slice_index, ◌⊎◌}
+use Rattle.std.specs.Prelude.{◌≡◌, ℕ, ◌+◌, ◌≤◌, ◌<◌, ◌==◌, ◌&&◌, Bool, true, false, cond, List, ◌∷◌, ◌++◌, length, map, None, slice_index_or, slice_index, ◌⊎◌, []}
 use Rattle.std.specs.List.{list_any}
 use Rattle.pgn_ids.specs.declared.address.Address.{Address}
 use Rattle.port_table.specs.declared.port.PortId.{PortId}
 use Rattle.segment_law.specs.Record.{StandsAt}
 use Rattle.message_events.specs.declared.event.Event.{Event}
 use Rattle.segment_law.specs.Calls.{called, events_of}
-use Rattle.segment_law.specs.declared.call.Call.{Call}
 use Rattle.segment_law.specs.declared.call.Call.TheVariants.{Open}
 use Rattle.segment_law.specs.declared.reply.Reply.{Reply}
 use Rattle.segment_law.specs.declared.reply.Reply.TheVariants.{Opened, Sent, Refused, Done}
@@ -19,16 +18,16 @@ use Rattle.segment_rings.specs.declared.words.Delivery.{Delivery}
 use Rattle.segment_rings.specs.Ends.{ClientEnd, new_client_end, InboxEnd, new_inbox_end, ring_places}
 use Rattle.segment_rings.specs.Views.{SeatView, DoorView, noted_after}
 use Rattle.stored_calls.specs.declared.stored.Stored.{Stored}
-use Rattle.live_segment.specs.declared.call.WorkerCall.{WorkerCall}
+use Rattle.live_calls.specs.declared.call.WorkerCall.{WorkerCall}
 use Rattle.live_segment.specs.declared.refused.NotMade.{NotMade}
 use Rattle.live_segment.specs.declared.refused.NotMade.TheVariants as not_made
-use Rattle.live_segment.specs.Words.{call_of, wanted_by}
-use Rattle.live_segment.specs.Places.{times}
-use Rattle.live_segment.specs.Record.{accepted, given, notes_of, settle_notes, trail}
+use Rattle.live_calls.specs.Words.{call_of, wanted_by}
+use Rattle.live_ends.specs.Places.{times}
+use Rattle.live_record.specs.Record.{accepted, given, notes_of, settle_notes, trail, stored}
 use Rattle.live_segment.specs.Facts.{HasNotes, HaveSenders}
-use Rattle.live_segment.specs.declared.calls.Piece.{Piece}
-use Rattle.live_segment.specs.declared.calls.TheConstants.{MOST_CALLS}
-use Rattle.live_segment.specs.Past.{count_since, since, HasPast}
+use Rattle.live_record.specs.declared.calls.Piece.{Piece}
+use Rattle.live_record.specs.declared.calls.TheConstants.{MOST_CALLS}
+use Rattle.live_record.specs.Past.{count_since, since, HasPast}
 
 -- popped, noted: what went out of the client's submissions and into its notes; named: how many notes there were when it was last named
 -- among those that have news; notes_gone: how many of its first notes are kept no more
@@ -126,9 +125,6 @@ pub record SameLive (a b : LiveView) : Type 0 where
   pub calls : b.calls ≡ a.calls
   pub clients : b.clients ≡ a.clients
   pub ports : b.ports ≡ a.ports
-
-abbrev pub stored : Option ℕ → Call → Stored
-stored by call = record { by = by; call = call }
 
 -- a refused call is not stored
 abbrev pub calls_after : Reply → List Stored → Stored → List Stored

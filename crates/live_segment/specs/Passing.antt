@@ -7,9 +7,9 @@ use Rattle.segment_law.specs.declared.reply.Reply.TheVariants.{Done}
 use Rattle.segment_state.specs.Passing.{PassesBy}
 use Rattle.segment_state.specs.declared.passing.Passing.{Passing}
 use Rattle.segment_state.specs.declared.passing.Passing.TheVariants.{Passed, Rests, Busy}
-use Rattle.live_segment.specs.declared.call.WorkerCall.{WorkerCall}
-use Rattle.live_segment.specs.declared.call.WorkerCall.TheVariants.{Take}
-use Rattle.live_segment.specs.declared.calls.TheConstants.{MOST_CALLS}
+use Rattle.live_calls.specs.declared.call.WorkerCall.{WorkerCall}
+use Rattle.live_calls.specs.declared.call.WorkerCall.TheVariants.{Take}
+use Rattle.live_record.specs.declared.calls.TheConstants.{MOST_CALLS}
 use Rattle.live_segment.specs.LiveView.{LiveView, Applied, stored_calls}
 use Rattle.live_segment.specs.Turns.{state_of}
 

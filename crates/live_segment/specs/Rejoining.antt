@@ -1,5 +1,5 @@
 -- A segment is cut, and its pieces are joined again.
-use Rattle.std.specs.Prelude.{◌≡◌, ℕ, ◌+◌, ◌≤◌, ◌<◌, true, false, List, [], ◌∷◌, ◌++◌, length, map, Option, Some, None, slice_index, slice_index_or}
+use Rattle.std.specs.Prelude.{◌≡◌, ℕ, ◌+◌, ◌≤◌, ◌<◌, true, false, List, ◌∷◌, ◌++◌, length, map, Option, Some, None, slice_index, slice_index_or, []}
 use Rattle.pgn_ids.specs.declared.address.Address.{Address}
 use Rattle.segment_law.specs.Segment.{Segment}
 use Rattle.segment_law.specs.Record.{StandsAt}
@@ -10,11 +10,11 @@ use Rattle.segment_law.specs.declared.refusal.Refusal.TheVariants.{TraceFull, Pi
 use Rattle.segment_rings.specs.Tails.{known_out}
 use Rattle.segment_rings.specs.Ends.{ring_places}
 use Rattle.stored_calls.specs.declared.stored.Stored.{Stored}
-use Rattle.live_segment.specs.declared.calls.Piece.{Piece}
+use Rattle.live_record.specs.declared.calls.Piece.{Piece}
 use Rattle.live_segment.specs.declared.refused.NotMade.{NotMade}
 use Rattle.live_segment.specs.declared.refused.NotMade.TheVariants as not_made
-use Rattle.live_segment.specs.Record.{trail}
-use Rattle.live_segment.specs.Past.{joined, NumberedAfter, IsPastCounts, HasCounts}
+use Rattle.live_record.specs.Record.{trail}
+use Rattle.live_record.specs.Past.{joined, NumberedAfter, IsPastCounts, HasCounts}
 use Rattle.live_segment.specs.LiveView.{LiveView, ClientView, PortView, since_cut}
 
 -- so many places of the ring of the client's notes are known to be free: the notes that are known to be out of it are no longer kept,

@@ -1,5 +1,5 @@
 -- What is reported once the threads have ended.
-use Rattle.std.specs.Prelude.{◌≡◌, ℕ, zero, suc, ◌<◌, ◌≤◌, ◌⊎◌, false, cond, List, [], ◌∷◌, ◌++◌, length, drop, map, slice_get, slice_index_or, Option, Some, None}
+use Rattle.std.specs.Prelude.{◌≡◌, ℕ, zero, suc, ◌<◌, ◌≤◌, ◌⊎◌, false, cond, List, ◌∷◌, ◌++◌, length, drop, map, slice_get, slice_index_or, Option, Some, None, []}
 use mathlib.Core.List.{IsPrefix}
 use Rattle.port_table.specs.declared.port.PortId.{PortId}
 use Rattle.segment_law.specs.Told.{same_port}
@@ -10,14 +10,14 @@ use Rattle.segment_rings.specs.declared.words.Submission.{Submission}
 use Rattle.segment_rings.specs.declared.words.Delivery.{Delivery}
 use Rattle.segment_rings.specs.Ends.{ClientEnd, InboxEnd, closes}
 use Rattle.live_segment.specs.declared.closing.Closed.{Closed}
-use Rattle.live_segment.specs.declared.calls.TheConstants.{MOST_CALLS}
+use Rattle.live_record.specs.declared.calls.TheConstants.{MOST_CALLS}
 use Rattle.live_segment.specs.declared.refused.NotMade.{NotMade}
 use Rattle.live_segment.specs.declared.refused.NotMade.TheVariants as not_made
 use Rattle.live_segment.specs.declared.report.ClientReport.{ClientReport}
 use Rattle.live_segment.specs.declared.report.InboxReport.{InboxReport}
-use Rattle.live_segment.specs.Record.{accepted, given, notes_of, trail}
-use Rattle.live_segment.specs.Past.{joined}
-use Rattle.live_segment.specs.LiveView.{LiveView, ClientView, PortView, stored, stored_calls, since_cut, calls_after, told_clients}
+use Rattle.live_record.specs.Record.{accepted, given, notes_of, trail, stored}
+use Rattle.live_record.specs.Past.{joined}
+use Rattle.live_segment.specs.LiveView.{LiveView, ClientView, PortView, stored_calls, since_cut, calls_after, told_clients}
 
 -- how many messages of client c were accepted before the last cut
 abbrev pub accepted_before : LiveView → ℕ → ℕ

@@ -1,45 +1,27 @@
 -- What the turns of workers do.
-use Rattle.std.specs.Prelude.{◌≡◌, ℕ, zero, suc, ◌-◌, ◌<◌, ◌≤◌, ◌⊎◌, Bool, true, false, ◌&&◌, cond, List, length, Option, Some, None, MatchOption, slice_index_or, nat_lt, nat_le}
-use Rattle.bus_frame.specs.Frames.{CanFrame}
+use Rattle.std.specs.Prelude.{◌≡◌, ℕ, zero, suc, ◌-◌, ◌<◌, ◌≤◌, ◌⊎◌, Bool, true, false, ◌&&◌, cond, length, Option, Some, None, nat_lt, nat_le}
 use Rattle.tx_queue.specs.Queue.{queue_limit}
 use Rattle.bus_order.specs.Bus.{kept_limit}
 use Rattle.pgn_ids.specs.declared.address.Address.{Address}
 use Rattle.segment_law.specs.Segment.{Segment, plus, waiting_at}
-use Rattle.segment_law.specs.Readers.{front_at, queue_len, next_pump, is_due, is_idle}
+use Rattle.segment_law.specs.Readers.{queue_len, next_pump, is_due, is_idle}
 use Rattle.segment_law.specs.declared.refusal.Refusal.{Refusal}
 use Rattle.segment_law.specs.declared.refusal.Refusal.TheVariants.{TraceFull}
 use Rattle.segment_law.specs.declared.reply.Reply.{Reply}
 use Rattle.segment_law.specs.declared.reply.Reply.TheVariants.{Opened, Sent, Refused, Done}
-use Rattle.live_segment.specs.declared.call.WorkerCall.{WorkerCall}
-use Rattle.live_segment.specs.declared.call.WorkerCall.TheVariants.{Pump, Transmit, Take, Overrun, Tick, Fire}
-use Rattle.live_segment.specs.declared.calls.TheConstants.{MOST_CALLS}
+use Rattle.live_calls.specs.declared.call.WorkerCall.{WorkerCall}
+use Rattle.live_calls.specs.declared.call.WorkerCall.TheVariants.{Pump, Transmit, Take, Overrun, Tick, Fire}
+use Rattle.live_record.specs.declared.calls.TheConstants.{MOST_CALLS}
 use Rattle.live_segment.specs.declared.refused.Accepted.{Accepted}
 use Rattle.live_segment.specs.declared.refused.Accepted.TheVariants as accepted
 use Rattle.live_segment.specs.declared.turns.Turn.{Turn}
-use Rattle.live_segment.specs.Record.{trail}
+use Rattle.live_record.specs.Record.{trail}
 use Rattle.live_segment.specs.LiveView.{LiveView, SameLive, Applied, LacksMemory, stored_calls}
 use Rattle.live_segment.specs.Offers.{AcceptedAs, LacksMemoryFor, IsClientOf}
+use Rattle.watched_segment.specs.Lowest.{IsNext}
 
 abbrev pub state_of : LiveView → Segment
 state_of v = (trail v.addresses v.calls).state
-
--- none of the first n stations has a frame to transmit
-abbrev pub NoneWaits : Segment → List Address → ℕ → Type 0
-NoneWaits seg addresses n = (k : ℕ) (d : Address) → k < n → front_at seg (slice_index_or addresses k d) ≡ None
-
--- among the first n stations it is the one whose first frame has the lowest identifier, of several the first
-pub record IsLowest (seg : Segment) (addresses : List Address) (n id : ℕ) (a : Address) : Type 0 where
-  pub place : ℕ
-  pub within : place < n
-  pub is : (d : Address) → slice_index_or addresses place d ≡ a
-  pub bytes : List ℕ
-  pub front : front_at seg a ≡ Some (record { id = id; bytes = bytes })
-  pub least : (k : ℕ) (d : Address) (other : CanFrame) → k < n → front_at seg (slice_index_or addresses k d) ≡ Some other → id ≤ other.id
-  pub first : (k : ℕ) (d : Address) (other : CanFrame) → k < place → front_at seg (slice_index_or addresses k d) ≡ Some other → id < other.id
-
--- the station that transmits next, or that none has a frame
-abbrev pub IsNext : Segment → List Address → Option Address → Type 0
-IsNext seg addresses next = MatchOption next (NoneWaits seg addresses (length addresses)) (λ a. (id : ℕ) × IsLowest seg addresses (length addresses) id a)
 
 -- a segment in the course of a turn, and what the turn did so far
 pub record Point : Type 0 where

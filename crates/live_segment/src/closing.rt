@@ -3,16 +3,13 @@ ghost use Rattle.std.specs.Prelude.{◌≡◌, ◌<◌, ◌≤◌, length, slice
 ghost use Rattle.segment_rings.specs.Ends.{closes};
 ghost use Rattle.segment_rings.specs.Views.{DoorView, closed_door};
 
-use crate::all_doors::Doors;
-use crate::calls::MOST_CALLS;
-use crate::compare::copy_deliveries;
 use crate::ending::{inbox_agrees, report_inbox};
 use crate::live::Live;
-use crate::places::door_of;
 use crate::refused::NotMade;
 use crate::report::InboxReport;
-use crate::step::make;
-use crate::tell::tell;
+use live_calls::make;
+use live_ends::{Doors, door_of, tell};
+use live_record::{MOST_CALLS, copy_deliveries};
 use segment_core::{Call, PortId, Refusal, Reply};
 use segment_rings::{Delivery, Inbox};
 use std::alloc::AllocError;

@@ -1,35 +1,13 @@
 //! A segment hands out the calls that are stored, and continues.
 ghost use Rattle.std.specs.Prelude.{◌≡◌, length, IfOk, IfErr, OnErr, IsTrue, ◌↔◌};
-ghost use Rattle.live_segment.specs.Record.{trail};
-ghost use Rattle.live_segment.specs.Past.{joined};
+ghost use Rattle.live_record.specs.Record.{trail};
+ghost use Rattle.live_record.specs.Past.{joined};
 ghost use Rattle.live_segment.specs.Rejoining.{CutAs, IsCutCause};
-ghost use Rattle.live_segment.specs.Facts.{CutSeats, CutDoors};
 
-use crate::calls::Piece;
 use crate::live::Live;
 use crate::refused::NotMade;
+use live_record::Piece;
 use segment_core::{Refusal, Segment};
-use segment_rings::{Door, Seat};
-
-/// Each client's notes that are known to be read are kept no more.
-pub(crate) fn cut_seats(seats: &mut Vec<Seat>)
-    ensures { CutSeats seats.old.items seats.new.items }
-{
-    for k in 0..seats.len() {
-        let seat = &mut seats[k];
-        seat.cut();
-    }
-}
-
-/// Each port's deliveries that are known to be received are kept no more.
-pub(crate) fn cut_doors(doors: &mut Vec<Door>)
-    ensures { CutDoors doors.old.items doors.new.items }
-{
-    for k in 0..doors.len() {
-        let door = &mut doors[k];
-        door.cut();
-    }
-}
 
 impl Live {
     /// Hands out all calls that are stored, and stores the next ones from the start. The segment, its clients and its ports are not
@@ -51,7 +29,8 @@ impl Live {
         let image = self.segment.image()?;
         self.seats.cut_seats();
         self.doors.cut_doors();
-        Ok(self.calls.cut(self.alloc, image))
+        self.image = Some(image);
+        Ok(self.calls.cut(self.alloc))
     }
 
     /// How many pieces were cut.
@@ -67,7 +46,7 @@ impl Live {
         requires count { length pieces.now ≡ length self.now.pieces }
         ensures { IsTrue result ↔ ((trail self.now.addresses (joined pieces.now)).state ≡ (trail self.now.addresses (joined self.now.pieces)).state) }
     {
-        match self.calls.image() {
+        match &self.image {
             Some(image) => image.is_of(segment),
             None => true,
         }

@@ -1,19 +1,18 @@
 //! What is reported once the threads have ended.
 ghost use Rattle.std.specs.Prelude.{◌≡◌, ◌<◌, length, drop, IfOk, OnOk, OnErr, IfErr, IsTrue, ◌↔◌, MatchOption, true, false, ◌≤◌};
 ghost use mathlib.Core.List.{IsPrefix};
-ghost use Rattle.live_segment.specs.Record.{accepted};
-ghost use Rattle.live_segment.specs.Past.{joined};
+ghost use Rattle.live_record.specs.Record.{accepted};
+ghost use Rattle.live_record.specs.Past.{joined};
 ghost use Rattle.live_segment.specs.LiveView.{stored_calls};
 ghost use Rattle.live_segment.specs.Reports.{accepted_before as accepted_before_of, submitted_since as submitted_since_of, notes_gone, given_gone, HasPort, HasSubmitted, HasRead, HasReceived, ClientAgrees, InboxAgrees, IsClientReport, IsInboxReport, AreClientReports, AreInboxReports, EachClientAgrees, EachInboxAgrees, Retired};
 
-use crate::calls::Piece;
-use crate::compare::{
-    accepted_begin, begins, copy_deliveries, copy_submissions, count_accepted, kept_from,
+use crate::live::Live;
+use crate::report::{ClientReport, FinishRefused, InboxReport, Report};
+use live_ends::door_of;
+use live_record::{
+    Piece, accepted_begin, begins, copy_deliveries, copy_left, count_accepted, kept_from,
     notes_begin, pieces_accepted_begin,
 };
-use crate::live::Live;
-use crate::places::door_of;
-use crate::report::{ClientReport, FinishRefused, InboxReport, Report};
 use segment_core::PortId;
 use segment_rings::{Client, Delivery, Inbox, Note, Submission};
 use std::alloc::{AllocError, Global};
@@ -140,7 +139,7 @@ fn report_client(alloc: Global, live: &Live, client: &Client) -> Result<ClientRe
         unreachable!()
     };
     let taken = count_accepted(live.calls(), id);
-    let left = copy_submissions(alloc, &submitted[taken..])?;
+    let left = copy_left(alloc, submitted, taken)?;
     let Some(notes) = live.notes_of(id) else {
         unreachable!()
     };

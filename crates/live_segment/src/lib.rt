@@ -8,39 +8,26 @@
 //! the calls of its record.
 #![tactic(auto)]
 
-mod all_doors;
-mod call;
-mod calls;
 mod closing;
-mod compare;
 mod cutting;
 mod detaching;
 mod ending;
-mod hand;
-mod home;
 mod live;
 mod news;
-mod offer;
 mod passing;
-mod places;
 mod plain;
 mod readers;
 mod refused;
 mod rejoining;
 mod report;
-mod seating;
-mod settle;
-mod step;
-mod tell;
 mod turns;
-mod wanted;
 
-pub use call::{Owed, WorkerCall};
-pub use calls::{CUT_AT, MOST_CALLS, Piece};
 pub use closing::Closed;
 pub use detaching::NotDetached;
 pub use ending::{client_agrees, finish, inbox_agrees, pieces_begin};
 pub use live::Live;
+pub use live_calls::WorkerCall;
+pub use live_record::{CUT_AT, MOST_CALLS, Owed, Piece};
 pub use news::News;
 pub use refused::{Accepted, NotMade};
 pub use rejoining::{RejoinRefused, rejoin};

@@ -2,17 +2,14 @@
 ghost use Rattle.std.specs.Prelude.{◌≡◌, ◌≤◌, map, true};
 ghost use Rattle.live_segment.specs.LiveView.{is_station_of, clients_at, client_of};
 
-use crate::all_doors::Doors;
-use crate::call::{Owed, WorkerCall};
-use crate::calls::Calls;
-use crate::offer::Ready;
-use crate::places::{Found, make_found};
 use crate::refused::{Accepted, NotMade};
-use crate::seating::Seats;
-use crate::step::{make, refusal_for};
-use crate::tell::tell;
+use live_calls::{Found, Ready, WorkerCall, find_ready, make, make_found, refusal_for};
+use live_ends::{Doors, Seats, tell};
+use live_record::{Calls, Owed};
 use pgn_ids::{Address, Pgn};
-use segment_core::{Call, Events, Made, NewRefused, Refusal, Reply, Segment, the_headline_holds};
+use segment_core::{
+    Call, Events, Image, Made, NewRefused, Refusal, Reply, Segment, the_headline_holds,
+};
 use segment_law::Counts;
 use segment_rings::{Client, Doorway, Inbox, Places, Seat};
 use std::alloc::{AllocError, Global};
@@ -39,6 +36,8 @@ pub struct Live {
     pub(crate) owed: Vec<Owed>,
     pub(crate) seats: Seats,
     pub(crate) doors: Doors,
+    // The segment as it stood at the last cut.
+    pub(crate) image: Option<Image>,
     pub(crate) stopped: bool,
 }
 
@@ -50,7 +49,7 @@ impl Model for Live {
 
     ghost view = { λ s. live_view (keep s.stopped s.calls.pieces) s.addresses.items s.calls.items s.seats.items s.doors.items };
 
-    ghost invariant = { λ s. Holds s.addresses.items s.segment s.calls.items s.owed.items s.seats.items s.doors.items × IsCut s.addresses.items s.calls.pieces s.calls.image s.seats.items s.doors.items };
+    ghost invariant = { λ s. Holds s.addresses.items s.segment s.calls.items s.owed.items s.seats.items s.doors.items × IsCut s.addresses.items s.calls.pieces s.image s.seats.items s.doors.items };
 }
 
 impl Drop for Live {
@@ -64,6 +63,7 @@ impl Drop for Live {
             owed: _,
             seats: _,
             doors: _,
+            image: _,
             stopped: _,
         } = self;
     }
@@ -78,11 +78,11 @@ impl Live {
     ghost use Rattle.segment_law.specs.Record.{StandsAt};
     ghost use Rattle.segment_law.specs.declared.reply.Reply.TheVariants.{Refused};
     ghost use Rattle.segment_law.specs.declared.refusal.Refusal.TheVariants.{TraceFull};
-    ghost use Rattle.live_segment.specs.declared.calls.TheConstants.{MOST_CALLS};
-    ghost use Rattle.live_segment.specs.Record.{trail};
+    ghost use Rattle.live_record.specs.declared.calls.TheConstants.{MOST_CALLS};
+    ghost use Rattle.live_record.specs.Record.{trail};
     ghost use Rattle.live_segment.specs.LiveView.{live_view, keep, stored_calls, since_cut, halted, SameLive, Applied, LacksMemory, Attached, Laws, OpenedFor, OpenedWith, IsOpenCause};
     ghost use Rattle.live_segment.specs.Offers.{AcceptedAs, LacksMemoryFor, IsAtRest};
-    ghost use Rattle.live_segment.specs.TurnedAway.{count_turned_away};
+    ghost use Rattle.live_record.specs.TurnedAway.{count_turned_away};
     ghost use Rattle.live_segment.specs.Refusals.{IsAnsweredBy, making_refusal, attaching_refusal};
     ghost use Rattle.std.specs.Result.{result_err};
 
@@ -114,6 +114,7 @@ impl Live {
             owed: Vec::new(alloc),
             seats,
             doors: Doors::new(alloc),
+            image: None,
             stopped: false,
         })
     }
@@ -180,6 +181,8 @@ impl Live {
     ///
     /// Refused if no more calls can be stored, and then if the segment refuses the call. Want of memory is returned only for a call that
     /// isn't refused. A refused call and want of memory change nothing.
+    // Its caller says which call it is, and only what that call does is left then.
+    #[inline(always)]
     pub fn apply(&mut self, call: WorkerCall) -> Result<Reply, AllocError>
         ensures full { MOST_CALLS ≤ stored_calls self.old → (result ≡ Ok (Refused TraceFull)) × (self.new ≡ self.old) }
         ensures applied { stored_calls self.old < MOST_CALLS → IfOk result (λ r. (room : Bool) × Applied self.old self.new call r room) }
@@ -278,11 +281,12 @@ impl Live {
             return Ok(Accepted::Empty);
         }
         let k = client as usize;
-        match self.seats.make_ready(
+        match find_ready(
             self.alloc,
             &self.segment,
             &mut self.calls,
             &mut self.owed,
+            &mut self.seats,
             k,
         )? {
             Ready::Empty => Ok(Accepted::Empty),

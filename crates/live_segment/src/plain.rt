@@ -1,10 +1,9 @@
 //! A call that gives no message, as most calls do.
 ghost use Rattle.live_segment.specs.Passing.{IsMadePlainly};
 
-use crate::call::WorkerCall;
 use crate::live::Live;
-use crate::step::try_plainly;
-use crate::tell::tell;
+use live_calls::{WorkerCall, try_plainly};
+use live_ends::tell;
 use segment_core::Events;
 use stored_calls::Stored;
 

@@ -1,11 +1,11 @@
 //! The readers of a shared segment: its clients, what each submitted and was noted, and what each port was given.
 ghost use Rattle.std.specs.Prelude.{◌≡◌, ◌≤◌, ◌<◌, length, drop, MatchOption, slice_index_or};
-ghost use Rattle.live_segment.specs.Record.{trail, accepted, given, notes_of};
+ghost use Rattle.live_record.specs.Record.{trail, accepted, given, notes_of};
 ghost use Rattle.live_segment.specs.LiveView.{ClientView};
 ghost use Rattle.live_segment.specs.Reports.{HasPort, notes_gone, given_gone};
 
 use crate::live::Live;
-use crate::places::door_of;
+use live_ends::door_of;
 use pgn_ids::Address;
 use segment_core::PortId;
 use segment_rings::{Delivery, Note};

@@ -1,12 +1,12 @@
 //! The pieces of a segment are joined again: the calls of its whole record.
 ghost use Rattle.std.specs.Prelude.{◌≡◌, ◌++◌, map, IfOk, OnOk, IfErr, IsTrue, ◌↔◌, List};
 ghost use Rattle.segment_law.specs.Segment.{are_addresses};
-ghost use Rattle.live_segment.specs.Past.{joined, NumberedAfter};
+ghost use Rattle.live_record.specs.Past.{joined, NumberedAfter};
 ghost use Rattle.stored_calls.specs.declared.stored.Stored.{Stored as StoredCall};
 ghost use Rattle.live_segment.specs.Rejoining.{IsJoined, IsJoinCause, StandsAfter, call_in};
 
-use crate::calls::Piece;
 use crate::live::Live;
+use live_record::Piece;
 use pgn_ids::Address;
 use segment_core::{Call, NewRefused, Refusal, Segment, the_headline_holds};
 use std::alloc::{AllocError, Global};

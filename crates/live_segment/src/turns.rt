@@ -5,17 +5,19 @@ ghost use Rattle.segment_state.specs.Answers.{reply_with};
 ghost use Rattle.segment_law.specs.Segment.{waiting_at};
 ghost use Rattle.segment_law.specs.Readers.{next_pump, is_due};
 ghost use Rattle.segment_state.specs.Next.{is_active};
-ghost use Rattle.live_segment.specs.declared.call.WorkerCall.TheVariants.{Fire as FireCall, Overrun as OverrunCall};
+ghost use Rattle.live_calls.specs.declared.call.WorkerCall.TheVariants.{Fire as FireCall, Overrun as OverrunCall};
+ghost use Rattle.watched_segment.specs.Lowest.{IsNext};
 ghost use Rattle.live_segment.specs.Offers.{IsAtRest};
-ghost use Rattle.live_segment.specs.Turns.{IsNext, Finishes, is_stuck, point, no_turn, one_more, after_refusal, after_reply, after_accept, Makes, Accepts, AcceptsOne, AcceptsBelow, MakesWhere, PumpsTo, StationTurn, BusTurn, state_of};
+ghost use Rattle.live_segment.specs.Turns.{Finishes, is_stuck, point, no_turn, one_more, after_refusal, after_reply, after_accept, Makes, Accepts, AcceptsOne, AcceptsBelow, MakesWhere, PumpsTo, StationTurn, BusTurn, state_of};
 
-use crate::call::WorkerCall;
 use crate::live::Live;
 use crate::refused::Accepted;
 use bus_order::MAX_KEPT;
+use live_calls::WorkerCall;
 use pgn_ids::Address;
-use segment_core::{Events, Made, Passing, Refusal, Segment};
+use segment_core::{Events, Made, Passing, Refusal};
 use tx_queue::MAX_FRAMES;
+use watched_segment::lowest_front;
 
 /// What one turn did: how many calls were applied, up to the last value, and whether the worker ends since no more calls can
 /// be stored.
@@ -232,26 +234,6 @@ fn one_call() -> Turn
     turn
 }
 
-// The station whose first frame has the lowest identifier, of several the first.
-fn next_of(segment: &Segment, addresses: &[Address]) -> Option<Address>
-    ensures { IsNext segment.now addresses.now result }
-{
-    let mut lowest = None;
-    let mut least = u32::MAX;
-    for address in addresses {
-        let Some(frame) = segment.front(*address) else {
-            continue;
-        };
-        let raw = frame.id().raw();
-        if raw >= least {
-            continue;
-        }
-        least = raw;
-        lowest = Some(*address);
-    }
-    lowest
-}
-
 impl Live {
     /// One turn of a station's worker: it accepts once for each client of the station, by rising number, and then makes at most
     /// one Pump, one Take and one Fire, each if there is something to do. If its queue of 64 frames is full then and 4,095
@@ -302,7 +284,7 @@ impl Live {
     pub fn lowest(&self) -> Option<Address>
         ensures { IsNext (state_of self.now) self.now.addresses result }
     {
-        next_of(self.segment(), self.addresses())
+        lowest_front(self.segment(), self.addresses())
     }
 
     /// One turn of the bus's worker: the waiting frame of the lowest identifier is put on the bus; or the clock advances by 50

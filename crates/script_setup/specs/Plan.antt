@@ -14,9 +14,10 @@ use Rattle.reply_law.specs.Replies.{reply_of}
 use Rattle.segment_rings.specs.Ends.{InboxEnd}
 use Rattle.segment_rings.specs.Submitting.{submit_refusal}
 use Rattle.stored_calls.specs.declared.stored.Stored.{Stored}
-use Rattle.live_segment.specs.Record.{trail}
-use Rattle.live_segment.specs.LiveView.{LiveView, stored, is_station_of}
-use Rattle.live_segment.specs.declared.calls.TheConstants.{MOST_CALLS}
+use Rattle.live_record.specs.Record.{trail}
+use Rattle.live_segment.specs.LiveView.{LiveView, is_station_of}
+use Rattle.live_record.specs.Record.{stored}
+use Rattle.live_record.specs.declared.calls.TheConstants.{MOST_CALLS}
 use Rattle.script_commands.specs.Words.{words_of}
 use Rattle.script_commands.specs.Values.{◌>>=◌}
 use Rattle.script_commands.specs.Commands.{command_of}

@@ -4,7 +4,7 @@ use Rattle.pgn_ids.specs.declared.address.Address.{Address}
 use Rattle.port_table.specs.declared.port.PortId.{PortId}
 use Rattle.segment_rings.specs.declared.words.Delivery.{Delivery}
 use Rattle.segment_rings.specs.declared.words.Note.{Note}
-use Rattle.live_segment.specs.Record.{Trail, given, notes_of}
+use Rattle.live_record.specs.Record.{Trail, given, notes_of}
 use Rattle.script_text.specs.Parts.{port_text, line}
 use Rattle.script_text.specs.Replies.{given_text, ended_text}
 

@@ -1,7 +1,7 @@
 //! The text that is printed once the threads have ended.
 ghost use Rattle.std.specs.Prelude.{◌≡◌, ◌++◌, OnOk, IfOk, IfErr};
 ghost use Rattle.script_runs.specs.declared.ending.Lost.TheVariants.{NotThisSegment};
-ghost use Rattle.live_segment.specs.Record.{trail};
+ghost use Rattle.live_record.specs.Record.{trail};
 ghost use Rattle.segment_report.specs.Ending.{Came, end_text};
 ghost use Rattle.segment_report.specs.Known.{AreKnown, IsThisSegment};
 ghost use Rattle.segment_report.specs.Noted.{HasRunOut};

@@ -1,7 +1,7 @@
 //! The text of what threads leave of a segment.
 ghost use Rattle.std.specs.Prelude.{◌≡◌, ◌++◌, ◌==◌, ◌<◌, ◌≤◌, ◌↔◌, [], true, false, suc, length, All, OnOk, IfErr, IsTrue, MatchOption};
 ghost use Rattle.script_runs.specs.declared.ending.Lost.TheVariants.{NotThisSegment};
-ghost use Rattle.live_segment.specs.Record.{trail, given, notes_of};
+ghost use Rattle.live_record.specs.Record.{trail, given, notes_of};
 ghost use Rattle.live_segment.specs.Reports.{HasPort};
 ghost use Rattle.segment_report.specs.Texts.{below, given_lines, port_lines, ports_at, numbered_lines, highest, outcome_lines, clients_at};
 ghost use Rattle.segment_report.specs.Known.{ArePorts, ArePortsAt, HaveClients, HaveClientsAt};

@@ -1,5 +1,5 @@
 use Rattle.std.proofs.Common.{◌≡◌, ℕ, Bool, List, ◌++◌, sym, ap, ◌∙◌, subst, append_assoc}
-use Rattle.live_segment.specs.Record.{trail}
+use Rattle.live_record.specs.Record.{trail}
 use Rattle.bus_relay.specs.Ending.{end_text}
 use Rattle.bus_relay.proofs.text.print_end.Goals as goal
 

@@ -1,9 +1,9 @@
 use Rattle.std.proofs.Common.{◌≡◌, ℕ, ◌+◌, List, length, sym, ap, ◌∙◌, arith, length-append}
 use Rattle.stored_calls.specs.declared.stored.Stored.{Stored}
-use Rattle.live_segment.specs.Record.{accepted}
-use Rattle.live_segment.specs.Past.{joined}
+use Rattle.live_record.specs.Record.{accepted}
+use Rattle.live_record.specs.Past.{joined}
 use Rattle.live_segment.specs.LiveView.{LiveView, Laws, since_cut}
-use Rattle.live_segment.proofs.Trails.{accepted-append}
+use Rattle.live_record.proofs.Trails.{accepted-append}
 use Rattle.live_segment.proofs.ending.accepted_before.Goals as goal
 
 -- what was accepted was accepted before the last cut or since

@@ -1,4 +1,4 @@
-use Rattle.std.proofs.Common.{◌≡◌, ◌+◌, ◌++◌, [], ◌∷◌, ◌<◌, length, take, sym, ap, ◌∙◌, arith, subst}
+use Rattle.std.proofs.Common.{◌≡◌, ◌+◌, ◌++◌, ◌∷◌, ◌<◌, length, take, sym, ap, ◌∙◌, arith, subst, []}
 use Rattle.std.proofs.lemmas.List.{take_more}
 use Rattle.segment_rings.specs.Ends.{ClientEnd}
 use Rattle.live_segment.specs.Reports.{ClientAgrees}

@@ -1,8 +1,8 @@
-use Rattle.std.proofs.Common.{◌≡◌, ◌+◌, ◌<◌, [], ◌∷◌, ◌++◌, length, take, true, false, sym, ap, ◌∙◌, subst, arith}
+use Rattle.std.proofs.Common.{◌≡◌, ◌+◌, ◌<◌, ◌∷◌, ◌++◌, length, take, true, false, sym, ap, ◌∙◌, subst, arith, []}
 use Rattle.std.proofs.lemmas.List.{take_more, length-take-le}
-use Rattle.live_segment.specs.declared.calls.Piece.{Piece}
-use Rattle.live_segment.specs.Past.{NumberedAfter}
-use Rattle.live_segment.proofs.Pieces.{numbered_at, numbered_push}
+use Rattle.live_record.specs.declared.calls.Piece.{Piece}
+use Rattle.live_record.specs.Past.{NumberedAfter}
+use Rattle.live_record.proofs.Pieces.{numbered_at, numbered_push}
 use Rattle.live_segment.proofs.rejoining.are_numbered.Goals as goal
 
 pub returns-then-piece-i : goal.returns-then-piece-i

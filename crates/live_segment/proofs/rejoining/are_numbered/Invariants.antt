@@ -1,5 +1,5 @@
 use Rattle.std.proofs.Common.{take}
-use Rattle.live_segment.specs.Past.{NumberedAfter}
+use Rattle.live_record.specs.Past.{NumberedAfter}
 use Rattle.live_segment.proofs.rejoining.are_numbered.Given as goal
 
 abbrev pub invariant-loop-i : goal.invariant-loop-i

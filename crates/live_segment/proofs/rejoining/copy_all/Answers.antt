@@ -1,11 +1,11 @@
-use Rattle.std.proofs.Common.{◌≡◌, ◌+◌, ◌<◌, List, [], ◌∷◌, ◌++◌, length, take, map, sym, ap, ◌∙◌, arith}
+use Rattle.std.proofs.Common.{◌≡◌, ◌+◌, ◌<◌, List, ◌∷◌, ◌++◌, length, take, map, sym, ap, ◌∙◌, arith, []}
 use Rattle.std.proofs.lemmas.List.{take_more, map-append}
 use Rattle.segment_law.specs.declared.call.Call.{Call}
 use Rattle.stored_calls.specs.declared.stored.Stored.{Stored}
-use Rattle.live_segment.specs.declared.calls.Piece.{Piece}
-use Rattle.live_segment.specs.Past.{joined}
+use Rattle.live_record.specs.declared.calls.Piece.{Piece}
+use Rattle.live_record.specs.Past.{joined}
 use Rattle.live_segment.specs.Rejoining.{call_in}
-use Rattle.live_segment.proofs.Pieces.{joined_push}
+use Rattle.live_record.proofs.Pieces.{joined_push}
 use Rattle.live_segment.proofs.rejoining.copy_all.Goals as goal
 
 pub loop-piece-preserved : goal.loop-piece-preserved

@@ -1,5 +1,5 @@
 use Rattle.std.proofs.Common.{◌≡◌, map, take}
-use Rattle.live_segment.specs.Past.{joined}
+use Rattle.live_record.specs.Past.{joined}
 use Rattle.live_segment.specs.Rejoining.{call_in}
 use Rattle.live_segment.proofs.rejoining.copy_all.Given as goal
 

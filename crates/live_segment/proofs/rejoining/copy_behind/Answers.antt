@@ -1,4 +1,4 @@
-use Rattle.std.proofs.Common.{◌≡◌, ◌+◌, ◌<◌, List, [], ◌∷◌, ◌++◌, length, take, get_or, map, sym, ap, ◌∙◌, arith, append_assoc}
+use Rattle.std.proofs.Common.{◌≡◌, ◌+◌, ◌<◌, List, ◌∷◌, ◌++◌, length, take, get_or, map, sym, ap, ◌∙◌, arith, append_assoc, []}
 use Rattle.std.proofs.lemmas.List.{map_more}
 use Rattle.segment_law.specs.declared.call.Call.{Call}
 use Rattle.stored_calls.specs.declared.stored.Stored.{Stored}

@@ -1,7 +1,7 @@
 use Rattle.std.proofs.Common.{◌<◌, ◌++◌, length, take, refl, sym, ap, arith}
 use Rattle.segment_law.specs.Segment.{Segment}
 use Rattle.segment_law.specs.declared.reply.Reply.{Reply}
-use Rattle.live_segment.specs.Record.{trail}
+use Rattle.live_record.specs.Record.{trail}
 use Rattle.live_segment.proofs.Replays.{next_more}
 use Rattle.live_segment.proofs.rejoining.make_all.Goals as goal
 

@@ -2,9 +2,9 @@ use Rattle.std.proofs.Common.{◌≡◌, List, ◌++◌, length, map, sym, ap, �
 use Rattle.pgn_ids.specs.declared.address.Address.{Address}
 use Rattle.segment_law.specs.Record.{StandsAt}
 use Rattle.stored_calls.specs.declared.stored.Stored.{Stored}
-use Rattle.live_segment.specs.declared.calls.Piece.{Piece}
-use Rattle.live_segment.specs.Record.{trail}
-use Rattle.live_segment.specs.Past.{joined, NumberedAfter}
+use Rattle.live_record.specs.declared.calls.Piece.{Piece}
+use Rattle.live_record.specs.Record.{trail}
+use Rattle.live_record.specs.Past.{joined, NumberedAfter}
 use Rattle.live_segment.specs.LiveView.{since_cut}
 use Rattle.live_segment.specs.Rejoining.{StandsAfter, call_in, all_calls}
 use Rattle.live_segment.proofs.Replays.{same_after}

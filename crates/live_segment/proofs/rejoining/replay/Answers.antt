@@ -1,13 +1,13 @@
-use Rattle.std.proofs.Common.{◌≡◌, ◌+◌, ◌<◌, List, [], ◌∷◌, ◌++◌, length, take, sym, ap, ◌∙◌, subst, arith}
+use Rattle.std.proofs.Common.{◌≡◌, ◌+◌, ◌<◌, List, ◌∷◌, ◌++◌, length, take, sym, ap, ◌∙◌, subst, arith, []}
 use Rattle.std.proofs.lemmas.List.{take_more}
 use Rattle.segment_law.specs.Record.{StandsAt}
 use Rattle.stored_calls.specs.declared.stored.Stored.{Stored}
-use Rattle.live_segment.specs.declared.calls.Piece.{Piece}
-use Rattle.live_segment.specs.Record.{Trail}
-use Rattle.live_segment.specs.Past.{joined}
+use Rattle.live_record.specs.declared.calls.Piece.{Piece}
+use Rattle.live_record.specs.Record.{Trail}
+use Rattle.live_record.specs.Past.{joined}
 use Rattle.live_segment.specs.Rejoining.{StandsAfter}
-use Rattle.live_segment.proofs.Trails.{trail-nil}
-use Rattle.live_segment.proofs.Pieces.{joined_push}
+use Rattle.live_record.proofs.Trails.{trail-nil}
+use Rattle.live_record.proofs.Pieces.{joined_push}
 use Rattle.live_segment.proofs.rejoining.replay.Goals as goal
 
 pub loop-piece-init : goal.loop-piece-init

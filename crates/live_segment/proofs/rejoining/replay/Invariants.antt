@@ -1,5 +1,5 @@
 use Rattle.std.proofs.Common.{take}
-use Rattle.live_segment.specs.Past.{joined}
+use Rattle.live_record.specs.Past.{joined}
 use Rattle.live_segment.specs.Rejoining.{StandsAfter}
 use Rattle.live_segment.proofs.rejoining.replay.Given as goal
 

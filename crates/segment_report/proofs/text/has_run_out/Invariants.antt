@@ -1,5 +1,5 @@
 use Rattle.std.proofs.Common.{◌≡◌, ◌≤◌, length, drop}
-use Rattle.live_segment.specs.Record.{trail}
+use Rattle.live_record.specs.Record.{trail}
 use Rattle.segment_report.specs.Noted.{all_noted}
 use Rattle.segment_report.proofs.text.has_run_out.Given as goal
 

@@ -1,6 +1,6 @@
 use Rattle.std.proofs.Common.{◌≡◌, ◌<◌, ◌++◌, ℕ}
 use Rattle.std.specs.Prelude.{All}
-use Rattle.live_segment.specs.Record.{trail}
+use Rattle.live_record.specs.Record.{trail}
 use Rattle.segment_report.specs.Texts.{below, clients_at}
 use Rattle.segment_report.specs.Known.{HaveClientsAt}
 use Rattle.segment_report.proofs.text.print_clients.Given as goal

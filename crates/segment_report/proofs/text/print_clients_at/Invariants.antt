@@ -1,7 +1,7 @@
 use Rattle.std.proofs.Common.{◌≡◌, ◌<◌, ◌++◌, ℕ, length, drop}
 use Rattle.std.specs.Prelude.{slice_index_or}
 use Rattle.pgn_ids.specs.declared.address.Address.{Address}
-use Rattle.live_segment.specs.Record.{trail}
+use Rattle.live_record.specs.Record.{trail}
 use Rattle.segment_report.specs.Texts.{clients_at}
 use Rattle.segment_report.proofs.text.print_clients_at.Given as goal
 

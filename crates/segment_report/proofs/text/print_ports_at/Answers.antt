@@ -3,7 +3,7 @@ use Rattle.std.specs.Prelude.{slice_index_or}
 use Rattle.std.proofs.lemmas.Bool.{eqb-false}
 use Rattle.std.proofs.lemmas.List.{get_or_default, append-nil}
 use Rattle.port_table.specs.declared.port.PortId.{PortId}
-use Rattle.live_segment.specs.Record.{given, trail}
+use Rattle.live_record.specs.Record.{given, trail}
 use Rattle.live_segment.specs.Reports.{HasPort}
 use Rattle.segment_report.specs.Texts.{port_lines}
 use Rattle.segment_report.proofs.Belows.{one_put}

@@ -1,6 +1,6 @@
 use Rattle.std.proofs.Common.{◌≡◌, ℕ, ◌<◌, ◌≤◌, length, drop, subst}
 use Rattle.std.specs.Prelude.{MatchOption}
-use Rattle.live_segment.specs.Record.{notes_of, trail}
+use Rattle.live_record.specs.Record.{notes_of, trail}
 use Rattle.live_segment.proofs.Uncut.{notes_uncut}
 use Rattle.segment_report.proofs.text.whole_notes.Goals as goal
 

@@ -1,12 +1,13 @@
-use Rattle.std.proofs.Common.{◌≡◌, ◌++◌, [], ◌∷◌, length, map, refl, sym, ap, ◌∙◌, ℕ, List}
+use Rattle.std.proofs.Common.{◌≡◌, ◌++◌, ◌∷◌, length, map, refl, sym, ap, ◌∙◌, ℕ, List, []}
 use Rattle.std.proofs.lemmas.List.{length-map}
 use Rattle.pgn_ids.specs.declared.address.Address.{Address}
 use Rattle.segment_rings.specs.Ends.{ClientEnd, new_client_end}
 use Rattle.segment_rings.specs.Views.{SeatView, DoorView, new_seat}
-use Rattle.live_segment.specs.Homes.{SeatsView}
+use Rattle.live_ends.specs.Homes.{SeatsView}
 use Rattle.stored_calls.specs.declared.stored.Stored.{Stored}
 use Rattle.live_segment.specs.LiveView.{LiveView, ClientView, Attached, Kept, live_view, keep, client_of}
-use Rattle.live_segment.proofs.Holding.{holds-attach, no_ok, on_err}
+use Rattle.live_segment.proofs.Holding.{holds-attach}
+use Rattle.live_ends.proofs.Results.{no_ok, on_err}
 use Rattle.live_segment.proofs.Keeping.{cut_with, notes_kept-push}
 use Rattle.live_segment.proofs.Viewed.{holds_at, viewed}
 use Rattle.live_segment.proofs.live.Live.attach.Goals as goal
@@ -30,17 +31,17 @@ attached_for keeps addresses xs ss ds station free spare n c is e = record {
 pub invariant_of-self : goal.invariant_of-self
 invariant_of-self c =
     let i = c.self.inside in
-    holds_at i.addresses.items i.segment i.segment i.calls.items i.calls.items i.calls.pieces i.calls.pieces i.calls.image i.calls.image i.owed.items i.owed.items i.seats.items c.reserve.new.self.items i.doors.items i.doors.items refl refl refl refl refl c.reserve.ensures.items refl c.self.invariant.0 c.self.invariant.1
+    holds_at i.addresses.items i.segment i.segment i.calls.items i.calls.items i.calls.pieces i.calls.pieces i.image i.image i.owed.items i.owed.items i.seats.items c.reserve.new.self.items i.doors.items i.doors.items refl refl refl refl refl c.reserve.ensures.items refl c.self.invariant.0 c.self.invariant.1
 
 pub invariant_of-self-in_err-seat : goal.invariant_of-self-in_err-seat
 invariant_of-self-in_err-seat c =
     let i = c.self.inside in
-    holds_at i.addresses.items i.segment i.segment i.calls.items i.calls.items i.calls.pieces i.calls.pieces i.calls.image i.calls.image i.owed.items i.owed.items i.seats.items c.bell.new.self.items i.doors.items i.doors.items refl refl refl refl refl (ap (λ (u : SeatsView). u.items) c.bell.ensures ∙ c.reserve.ensures.items) refl c.self.invariant.0 c.self.invariant.1
+    holds_at i.addresses.items i.segment i.segment i.calls.items i.calls.items i.calls.pieces i.calls.pieces i.image i.image i.owed.items i.owed.items i.seats.items c.bell.new.self.items i.doors.items i.doors.items refl refl refl refl refl (ap (λ (u : SeatsView). u.items) c.bell.ensures ∙ c.reserve.ensures.items) refl c.self.invariant.0 c.self.invariant.1
 
 pub invariant_of-self-in_err-bell : goal.invariant_of-self-in_err-bell
 invariant_of-self-in_err-bell c =
     let i = c.self.inside in
-    holds_at i.addresses.items i.segment i.segment i.calls.items i.calls.items i.calls.pieces i.calls.pieces i.calls.image i.calls.image i.owed.items i.owed.items i.seats.items c.bell.new.self.items i.doors.items i.doors.items refl refl refl refl refl (ap (λ (u : SeatsView). u.items) c.bell.ensures ∙ c.reserve.ensures.items) refl c.self.invariant.0 c.self.invariant.1
+    holds_at i.addresses.items i.segment i.segment i.calls.items i.calls.items i.calls.pieces i.calls.pieces i.image i.image i.owed.items i.owed.items i.seats.items c.bell.new.self.items i.doors.items i.doors.items refl refl refl refl refl (ap (λ (u : SeatsView). u.items) c.bell.ensures ∙ c.reserve.ensures.items) refl c.self.invariant.0 c.self.invariant.1
 
 pub invariant_of-self-2 : goal.invariant_of-self-2
 invariant_of-self-2 c =
@@ -50,7 +51,7 @@ invariant_of-self-2 c =
     let s = c.in_ok-seat.seat in
     let e : s ≡ new_seat (length ss) c.args.station s.free s.spare = c.in_ok-seat.ensures.seat ∙ ap (λ (k : ℕ). new_seat k c.args.station s.free s.spare) n in
     let seats : c.push_reserved.new.self.items ≡ ss ++ new_seat (length ss) c.args.station s.free s.spare ∷ [] = c.push_reserved.ensures.items ∙ ap (λ (u : List SeatView). u ++ s ∷ []) (ap (λ (u : SeatsView). u.items) c.bell.ensures ∙ c.reserve.ensures.items) ∙ ap (λ (u : SeatView). ss ++ u ∷ []) e in
-    holds_at i.addresses.items i.segment i.segment i.calls.items i.calls.items i.calls.pieces i.calls.pieces i.calls.image i.calls.image i.owed.items i.owed.items (ss ++ new_seat (length ss) c.args.station s.free s.spare ∷ []) c.push_reserved.new.self.items i.doors.items i.doors.items refl refl refl refl refl seats refl
+    holds_at i.addresses.items i.segment i.segment i.calls.items i.calls.items i.calls.pieces i.calls.pieces i.image i.image i.owed.items i.owed.items (ss ++ new_seat (length ss) c.args.station s.free s.spare ∷ []) c.push_reserved.new.self.items i.doors.items i.doors.items refl refl refl refl refl seats refl
     (holds-attach i.addresses.items i.segment i.calls.items i.owed.items ss i.doors.items c.args.station s.free s.spare c.self.invariant.0) (cut_with _ _ _ _ _ _ _ (notes_kept-push ss (new_seat (length ss) c.args.station s.free s.spare) refl) (λ k0. k0) c.self.invariant.1)
 
 pub returns-clause-attached : goal.returns-clause-attached

@@ -2,10 +2,10 @@ use Rattle.std.proofs.Common.{◌<◌, ◌≤◌, List, refl, subst, inl, inr}
 use Rattle.std.specs.Prelude.{IsTrue}
 use Rattle.port_table.specs.declared.port.PortId.{PortId}
 use Rattle.segment_rings.specs.Views.{DoorView}
-use Rattle.live_segment.specs.declared.calls.TheConstants.{MOST_CALLS}
-use Rattle.live_segment.specs.Facts.{NoneAt}
+use Rattle.live_record.specs.declared.calls.TheConstants.{MOST_CALLS}
+use Rattle.live_ends.specs.Ends.{NoneAt}
 use Rattle.live_segment.specs.LiveView.{LiveView, stored_calls}
-use Rattle.live_segment.specs.Places.{IsPlaceIn}
+use Rattle.live_ends.specs.Places.{IsPlaceIn}
 use Rattle.live_segment.proofs.Laws.{no_port, port_seen}
 use Rattle.live_segment.proofs.live.Live.close_on.Goals as goal
 

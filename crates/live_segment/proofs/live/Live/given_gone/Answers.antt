@@ -1,7 +1,7 @@
 use Rattle.std.proofs.Common.{List, sym, ap, ◌∙◌, subst}
 use Rattle.segment_rings.specs.Views.{DoorView}
-use Rattle.live_segment.specs.Facts.{NoneAt}
-use Rattle.live_segment.specs.Places.{IsPlaceIn}
+use Rattle.live_ends.specs.Ends.{NoneAt}
+use Rattle.live_ends.specs.Places.{IsPlaceIn}
 use Rattle.live_segment.proofs.Laws.{has_port, no_port, given_gone_at}
 use Rattle.live_segment.proofs.live.Live.given_gone.Goals as goal
 

@@ -2,9 +2,9 @@ use Rattle.std.proofs.Common.{ℕ, List, drop, get_or, sym, ap, ◌∙◌, subst
 use Rattle.port_table.specs.declared.port.PortId.{PortId}
 use Rattle.segment_rings.specs.declared.words.Delivery.{Delivery}
 use Rattle.segment_rings.specs.Views.{DoorView}
-use Rattle.live_segment.specs.Record.{given, trail}
-use Rattle.live_segment.specs.Facts.{NoneAt}
-use Rattle.live_segment.specs.Places.{IsPlaceIn}
+use Rattle.live_record.specs.Record.{given, trail}
+use Rattle.live_ends.specs.Ends.{NoneAt}
+use Rattle.live_ends.specs.Places.{IsPlaceIn}
 use Rattle.live_segment.proofs.Laws.{pushed_at, has_port, no_port, given_gone_at}
 use Rattle.live_segment.proofs.live.Live.given_to.Goals as goal
 

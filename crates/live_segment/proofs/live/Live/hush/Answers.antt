@@ -1,5 +1,5 @@
 use Rattle.std.proofs.Common.{◌∙◌, refl, ap}
-use Rattle.live_segment.specs.Homes.{SeatsView}
+use Rattle.live_ends.specs.Homes.{SeatsView}
 use Rattle.live_segment.specs.LiveView.{live_view, keep}
 use Rattle.live_segment.proofs.Viewed.{holds_at}
 use Rattle.live_segment.proofs.live.Live.hush.Goals as goal

@@ -1,8 +1,8 @@
 use Rattle.std.proofs.Common.{◌∙◌, refl, ap, subst}
-use Rattle.live_segment.specs.Homes.{SeatsView}
+use Rattle.live_ends.specs.Homes.{SeatsView}
 use Rattle.live_segment.specs.LiveView.{LiveView, live_view, keep}
 use Rattle.live_segment.specs.Offers.{IsAtRest}
-use Rattle.live_segment.proofs.Quiet.{rests_at}
+use Rattle.live_segment.proofs.Resting.{rests_at}
 use Rattle.live_segment.proofs.Viewed.{holds_at}
 use Rattle.live_segment.proofs.live.Live.is_called.Goals as goal
 

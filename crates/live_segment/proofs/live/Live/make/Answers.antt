@@ -1,5 +1,5 @@
-use Rattle.live_segment.specs.Past.{count_since}
-use Rattle.std.proofs.Common.{◌≡◌, Bool, ◌<◌, List, [], ◌∷◌, ◌++◌, length, map, true, false, None, refl, sym, ap, ◌∙◌, subst, ◌^◌, ◌+◌}
+use Rattle.live_record.specs.Past.{count_since}
+use Rattle.std.proofs.Common.{◌≡◌, Bool, ◌<◌, List, ◌∷◌, ◌++◌, length, map, true, false, None, refl, sym, ap, ◌∙◌, subst, ◌^◌, ◌+◌, []}
 use Rattle.std.proofs.lemmas.Bool.{false≢true}
 use Rattle.segment_law.specs.Segment.{Segment}
 use Rattle.segment_law.specs.Calls.{called, is_send}
@@ -12,22 +12,25 @@ use Rattle.segment_state.specs.declared.made.Made.{Made}
 use Rattle.reply_law.specs.Replies.{reply_of, left_by, opens, IsRefusal, IsAnsweredBy, Follows}
 use Rattle.segment_rings.specs.Views.{SeatView}
 use Rattle.stored_calls.specs.declared.stored.Stored.{Stored}
-use Rattle.live_segment.specs.declared.call.Owed.{Owed}
-use Rattle.live_segment.specs.declared.calls.TheConstants.{MOST_CALLS}
-use Rattle.live_segment.specs.Words.{call_of, wanted_by}
-use Rattle.live_segment.specs.Record.{settle_notes, settle_owed, trail}
-use Rattle.live_segment.specs.Facts.{IdsFrom, HaveRoom, OwedWithin, note_all, Holds, give_all}
-use Rattle.live_segment.specs.Places.{IsFound}
-use Rattle.live_segment.specs.LiveView.{LiveView, Applied, LacksMemory, stored, port_of, SparesClosed, keep, stored_calls}
-use Rattle.live_segment.proofs.Applying.{applied_as, refused_as, told_as, given_as, found_false, never_opens, never_sends}
-use Rattle.live_segment.proofs.Doors.{apart-same, give_all_unplaced}
+use Rattle.live_record.specs.declared.owed.Owed.{Owed}
+use Rattle.live_record.specs.declared.calls.TheConstants.{MOST_CALLS}
+use Rattle.live_calls.specs.Words.{call_of, wanted_by}
+use Rattle.live_record.specs.Record.{settle_notes, settle_owed, trail, stored}
+use Rattle.live_ends.specs.Ends.{IdsFrom, HaveRoom, OwedWithin, note_all, give_all}
+use Rattle.live_segment.specs.Facts.{Holds}
+use Rattle.live_calls.specs.Places.{IsFound}
+use Rattle.live_segment.specs.LiveView.{LiveView, Applied, LacksMemory, port_of, SparesClosed, keep, stored_calls}
+use Rattle.live_segment.proofs.Applying.{applied_as, refused_as, told_as, given_as, found_false}
+use Rattle.live_calls.proofs.Applying.{never_opens, never_sends}
+use Rattle.live_ends.proofs.Giving.{apart-same, give_all_unplaced}
 use Rattle.live_segment.proofs.Openings.{refused_reply}
 use Rattle.live_segment.proofs.Ready.{found_ready, none_given}
 use Rattle.live_segment.proofs.Refusing.{lacks_memory}
 use Rattle.live_segment.proofs.Holding.{holds-same, holds-tell}
 use Rattle.live_segment.proofs.Keeping.{cut_with, notes_kept-all, given_kept-all, given_kept-same}
 use Rattle.live_segment.proofs.Viewed.{holds_at, stays, viewed, still, few_kept}
-use Rattle.live_segment.proofs.SeatsSame.{same_seats-refl, ports-same}
+use Rattle.live_ends.proofs.SeatsSame.{same_seats-refl}
+use Rattle.live_segment.proofs.SeatsSame.{ports-same}
 use Rattle.live_segment.proofs.live.Live.make.Goals as goal
 
 pub tell-requires-clause-apart : goal.tell-requires-clause-apart
@@ -79,7 +82,6 @@ invariant_of-self-in-Done c =
     let h : Holds addrs st xs ws ss ds = holds-same _ _ _ _ _ _ _ _ (same_seats-refl ss) c.make_found.ensures.same c.self.invariant.0 in
     let few : length xs + 1 < 2 ^ 64 = c.make_found.ensures.few (subst (λ (v : LiveView). stored_calls v < MOST_CALLS) (sym c.self.view_is) c.requires.few) in
     let pieces : c.push_reserved.new.self.pieces ≡ c.self.inside.calls.pieces = c.push_reserved.ensures.pieces ∙ c.make_found.ensures.pieces in
-    let image : c.push_reserved.new.self.image ≡ c.self.inside.calls.image = c.push_reserved.ensures.image ∙ c.make_found.ensures.image in
     let rep : reply_of st call ≡ Done es = sym c.in-Ok.ensures.reply ∙ (ap (λ (m : Made). reply_with m es) c.in-Done.is) in
     let left : next ≡ left_by st call = c.in-Ok.ensures.after in
     let stands0 = c.in-Ok.ensures.stands addrs steps c.self.invariant.0.stands in
@@ -93,14 +95,14 @@ invariant_of-self-in-Done c =
     let ids = subst (IdsFrom 0) seats c.tell.ensures.ids in
     let rm = subst (λ (u : List SeatView). HaveRoom (settle_owed ws es) u) seats (subst (λ (u : List Owed). HaveRoom u c.tell.new.seats.items) owed c.tell.ensures.room) in
     let within = subst (λ (u : List SeatView). OwedWithin (length u) (settle_owed ws es)) seats (subst (λ (u : List Owed). OwedWithin (length c.tell.new.seats.items) u) owed c.tell.ensures.within) in
-    holds_at _ _ _ _ _ _ _ _ _ _ _ _ _ _ _ refl calls pieces image owed seats doors (holds-tell addrs st next xs ws ss ds call es h few rep left stands f ids rm within) (cut_with _ _ _ _ _ _ _ (notes_kept-all (settle_notes ws es) ss) (λ k0. given_kept-all es ds (given_kept-same c.self.inside.doors.items ds c.make_found.ensures.same k0)) c.self.invariant.1)
+    holds_at _ _ _ _ _ _ _ _ _ _ _ _ _ _ _ refl calls pieces refl owed seats doors (holds-tell addrs st next xs ws ss ds call es h few rep left stands f ids rm within) (cut_with _ _ _ _ _ _ _ (notes_kept-all (settle_notes ws es) ss) (λ k0. given_kept-all es ds (given_kept-same c.self.inside.doors.items ds c.make_found.ensures.same k0)) c.self.invariant.1)
 
 pub invariant_of-self-in-Refused-1 : goal.invariant_of-self-in-Refused-1
 invariant_of-self-in-Refused-1 c =
     let addrs = c.self.inside.addresses.items in
     let f0 = c.in-Ok.ensures.follows addrs (trail addrs c.self.inside.calls.items).steps c.self.invariant.0.stands in
     let same = f0.refused (subst IsRefusal (sym (ap (λ (m : Made). reply_with m c.make_found.new.told) c.in-Refused.is)) tt) in
-    stays _ _ _ _ _ _ _ _ _ _ _ _ _ _ _ same c.make_found.ensures.items c.make_found.ensures.pieces c.make_found.ensures.image refl (same_seats-refl _) c.make_found.ensures.same c.self.invariant
+    stays _ _ _ _ _ _ _ _ _ _ _ _ _ _ _ same c.make_found.ensures.items c.make_found.ensures.pieces refl refl (same_seats-refl _) c.make_found.ensures.same c.self.invariant
 
 pub returns-in-Done-clause-applied : goal.returns-in-Done-clause-applied
 returns-in-Done-clause-applied c =
@@ -184,10 +186,10 @@ pub make_found-requires-clause-apart : goal.make_found-requires-clause-apart
 make_found-requires-clause-apart c = c.self.invariant.0.apart
 
 pub invariant_of-self : goal.invariant_of-self
-invariant_of-self c = stays _ _ _ _ _ _ _ _ _ _ _ _ _ _ _ c.in_default.ensures.err c.make_found.ensures.items c.make_found.ensures.pieces c.make_found.ensures.image refl (same_seats-refl _) c.make_found.ensures.same c.self.invariant
+invariant_of-self c = stays _ _ _ _ _ _ _ _ _ _ _ _ _ _ _ c.in_default.ensures.err c.make_found.ensures.items c.make_found.ensures.pieces refl refl (same_seats-refl _) c.make_found.ensures.same c.self.invariant
 
 pub invariant_of-self-in_default : goal.invariant_of-self-in_default
-invariant_of-self-in_default c = stays _ _ _ _ _ _ _ _ _ _ _ _ _ _ _ c.in_default.ensures.err c.make_found.ensures.items c.make_found.ensures.pieces c.make_found.ensures.image refl (same_seats-refl _) c.make_found.ensures.same c.self.invariant
+invariant_of-self-in_default c = stays _ _ _ _ _ _ _ _ _ _ _ _ _ _ _ c.in_default.ensures.err c.make_found.ensures.items c.make_found.ensures.pieces refl refl (same_seats-refl _) c.make_found.ensures.same c.self.invariant
 
 pub returns-in-Some-clause-applied : goal.returns-in-Some-clause-applied
 returns-in-Some-clause-applied c =

@@ -1,4 +1,4 @@
-use Rattle.std.proofs.Common.{◌≡◌, ◌+◌, ◌<◌, ◌^◌, Bool, List, [], ◌∷◌, ◌++◌, length, map, true, false, None, Result, Ok, Err, refl, sym, ap, ◌∙◌, subst}
+use Rattle.std.proofs.Common.{◌≡◌, ◌+◌, ◌<◌, ◌^◌, Bool, List, ◌∷◌, ◌++◌, length, true, false, None, Result, Ok, Err, refl, sym, ap, ◌∙◌, subst, []}
 use Rattle.std.specs.Prelude.{is_err, OnOk}
 use Rattle.std.specs.Bool.{OnTrue, OnFalse}
 use Rattle.std.proofs.lemmas.Bool.{false≢true}
@@ -8,16 +8,17 @@ use Rattle.segment_law.specs.Record.{StandsAt}
 use Rattle.reply_law.specs.Replies.{reply_of, left_by, Follows}
 use Rattle.segment_rings.specs.Views.{SeatView}
 use Rattle.stored_calls.specs.declared.stored.Stored.{Stored}
-use Rattle.live_segment.specs.declared.call.Owed.{Owed}
-use Rattle.live_segment.specs.declared.calls.TheConstants.{MOST_CALLS}
-use Rattle.live_segment.specs.Words.{call_of, wanted_by}
-use Rattle.live_segment.specs.Record.{settle_notes, settle_owed, trail}
-use Rattle.live_segment.specs.Facts.{IdsFrom, HaveRoom, OwedWithin, note_all, give_all}
-use Rattle.live_segment.specs.Places.{IsFound, EnoughFor}
-use Rattle.live_segment.specs.LiveView.{LiveView, keep, live_view, stored, stored_calls}
+use Rattle.live_record.specs.declared.owed.Owed.{Owed}
+use Rattle.live_record.specs.declared.calls.TheConstants.{MOST_CALLS}
+use Rattle.live_calls.specs.Words.{call_of, wanted_by}
+use Rattle.live_record.specs.Record.{settle_notes, settle_owed, trail, stored}
+use Rattle.live_ends.specs.Ends.{IdsFrom, HaveRoom, OwedWithin, note_all}
+use Rattle.live_calls.specs.Places.{IsFound}
+use Rattle.live_segment.specs.LiveView.{LiveView, keep, live_view, stored_calls}
 use Rattle.live_segment.specs.Passing.{IsMadePlainly}
 use Rattle.live_segment.proofs.Applying.{applied_as, told_as, given_as}
-use Rattle.live_segment.proofs.Ready.{found_ready, found_nothing}
+use Rattle.live_segment.proofs.Ready.{found_ready}
+use Rattle.live_calls.proofs.Nothing.{found_nothing}
 use Rattle.live_segment.proofs.Holding.{holds-tell}
 use Rattle.live_segment.proofs.Keeping.{cut_with, notes_kept-all, given_kept-all}
 use Rattle.live_segment.proofs.Viewed.{holds_at, unchanged, viewed, few_kept}
@@ -36,7 +37,7 @@ on_false false P e h = h
 on_false true P e h = absurd cc
 
 pub invariant_of-self : goal.invariant_of-self
-invariant_of-self c = holds_at _ _ _ _ _ _ _ _ _ _ _ _ _ _ _ refl c.reserve.ensures.items c.reserve.ensures.pieces c.reserve.ensures.image refl refl refl c.self.invariant.0 c.self.invariant.1
+invariant_of-self c = holds_at _ _ _ _ _ _ _ _ _ _ _ _ _ _ _ refl c.reserve.ensures.items c.reserve.ensures.pieces refl refl refl refl c.self.invariant.0 c.self.invariant.1
 
 pub returns-then-is_err : goal.returns-then-is_err
 returns-then-is_err c =
@@ -109,7 +110,7 @@ invariant_of-self-then-try_plainly c =
     let ids = subst (IdsFrom 0) seats c.tell.ensures.ids in
     let rm = subst (λ (u : List SeatView). HaveRoom (settle_owed ws es) u) seats (subst (λ (u : List Owed). HaveRoom u c.tell.new.seats.items) owed c.tell.ensures.room) in
     let within = subst (λ (u : List SeatView). OwedWithin (length u) (settle_owed ws es)) seats (subst (λ (u : List Owed). OwedWithin (length c.tell.new.seats.items) u) owed c.tell.ensures.within) in
-    holds_at _ _ _ _ _ _ _ _ _ _ _ _ _ _ _ refl calls (c.push_reserved.ensures.pieces ∙ c.reserve.ensures.pieces) (c.push_reserved.ensures.image ∙ c.reserve.ensures.image) owed seats c.tell.ensures.doors
+    holds_at _ _ _ _ _ _ _ _ _ _ _ _ _ _ _ refl calls (c.push_reserved.ensures.pieces ∙ c.reserve.ensures.pieces) refl owed seats c.tell.ensures.doors
     (holds-tell addrs st next xs ws ss ds call es h few (sym rep) left stands f ids rm within) (cut_with _ _ _ _ _ _ _ (notes_kept-all (settle_notes ws es) ss) (given_kept-all es ds) c.self.invariant.1)
 
 pub returns-then-try_plainly : goal.returns-then-try_plainly
@@ -141,7 +142,7 @@ returns-then-try_plainly c =
     (room, (es, applied_as keeps addrs st xs ys ss ts ds ds gs c.args.call.now (Done es) true [] c.self.invariant.0.at rep refl found (λ e. absurd (false≢true (sym e))) clients ports closed))
 
 pub invariant_of-self-else-try_plainly : goal.invariant_of-self-else-try_plainly
-invariant_of-self-else-try_plainly c = holds_at _ _ _ _ _ _ _ _ _ _ _ _ _ _ _ (on_false _ _ c.if-try_plainly.false (c.try_plainly.ensures.same c.self.inside.addresses.items (trail c.self.inside.addresses.items c.self.inside.calls.items).steps c.self.invariant.0.stands)) c.reserve.ensures.items c.reserve.ensures.pieces c.reserve.ensures.image refl refl refl c.self.invariant.0 c.self.invariant.1
+invariant_of-self-else-try_plainly c = holds_at _ _ _ _ _ _ _ _ _ _ _ _ _ _ _ (on_false _ _ c.if-try_plainly.false (c.try_plainly.ensures.same c.self.inside.addresses.items (trail c.self.inside.addresses.items c.self.inside.calls.items).steps c.self.invariant.0.stands)) c.reserve.ensures.items c.reserve.ensures.pieces refl refl refl refl c.self.invariant.0 c.self.invariant.1
 
 pub returns : goal.returns
 returns c =

@@ -1,7 +1,7 @@
 use Rattle.std.proofs.Common.{◌≡◌, ◌<◌, List, length, set, get_or, refl, sym, ap, ◌∙◌, subst, arith, length-set, get_or-set_same}
 use Rattle.segment_rings.specs.Views.{SeatView, DoorView, named_seat, named_door, new_seat, new_door}
-use Rattle.live_segment.specs.Homes.{SeatsView}
-use Rattle.live_segment.specs.Waiting.{DoorsView}
+use Rattle.live_ends.specs.Homes.{SeatsView}
+use Rattle.live_ends.specs.Waiting.{DoorsView}
 use Rattle.live_segment.specs.LiveView.{LiveView, live_view, keep}
 use Rattle.live_segment.specs.News.{ClientNamed, PortNamed, NoNews}
 use Rattle.live_segment.proofs.Keeping.{cut_with, notes_kept-set, given_kept-set}

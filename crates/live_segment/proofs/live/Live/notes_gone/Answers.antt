@@ -2,7 +2,7 @@ use Rattle.std.proofs.Common.{◌≡◌, ℕ, ◌+◌, ◌<◌, ◌≤◌, lengt
 use Rattle.std.proofs.lemmas.List.{length-map}
 use Rattle.segment_rings.specs.Views.{SeatView}
 use Rattle.live_segment.specs.LiveView.{keep}
-use Rattle.live_segment.specs.Record.{notes_of, trail}
+use Rattle.live_record.specs.Record.{notes_of, trail}
 use Rattle.live_segment.proofs.Laws.{gone_at, notes_gone_at}
 use Rattle.live_segment.proofs.live.Live.notes_gone.Goals as goal
 

@@ -1,7 +1,7 @@
 use Rattle.std.proofs.Common.{◌≡◌, ℕ, ◌+◌, ◌<◌, length, drop, get_or, sym, ap, ◌∙◌, arith}
 use Rattle.std.proofs.lemmas.List.{length-map}
 use Rattle.segment_rings.specs.Views.{SeatView}
-use Rattle.live_segment.specs.Record.{notes_of, trail}
+use Rattle.live_record.specs.Record.{notes_of, trail}
 use Rattle.live_segment.specs.LiveView.{keep}
 use Rattle.live_segment.proofs.Laws.{kept_at, notes_gone_at}
 use Rattle.live_segment.proofs.live.Live.notes_of.Goals as goal

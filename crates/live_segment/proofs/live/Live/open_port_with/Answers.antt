@@ -1,4 +1,4 @@
-use Rattle.std.proofs.Common.{◌≡◌, ℕ, ◌<◌, ◌++◌, List, [], ◌∷◌, length, None, refl, inr, sym, ap, ◌∙◌, subst, ◌^◌, ◌+◌}
+use Rattle.std.proofs.Common.{◌≡◌, ℕ, ◌<◌, ◌++◌, List, ◌∷◌, length, None, refl, inr, sym, ap, ◌∙◌, subst, ◌^◌, ◌+◌, []}
 use Rattle.std.proofs.lemmas.Bool.{false≢true}
 use Rattle.segment_law.specs.Record.{StandsAt}
 use Rattle.segment_law.specs.declared.call.Call.TheVariants.{Open}
@@ -10,11 +10,12 @@ use Rattle.segment_state.specs.Answers.{refusal_of}
 use Rattle.reply_law.specs.Replies.{reply_of, IsRefusal, IsAnsweredBy, Follows}
 use Rattle.segment_rings.specs.Views.{DoorView, new_door}
 use Rattle.stored_calls.specs.declared.stored.Stored.{Stored}
-use Rattle.live_segment.specs.Record.{trail}
+use Rattle.live_record.specs.Record.{trail, stored}
 use Rattle.live_segment.specs.declared.refused.NotMade.{NotMade}
 use Rattle.live_segment.specs.declared.refused.NotMade.TheVariants as not_made
-use Rattle.live_segment.specs.LiveView.{LiveView, stored, keep, IsOpenCause, OpenedWith}
-use Rattle.live_segment.proofs.Holding.{holds-open, on_err}
+use Rattle.live_segment.specs.LiveView.{LiveView, keep, IsOpenCause, OpenedWith}
+use Rattle.live_segment.proofs.Holding.{holds-open}
+use Rattle.live_ends.proofs.Results.{on_err}
 use Rattle.live_segment.proofs.Openings.{refused_reply, open_free, open_lacks, open_cause, opened_for, out_of_memory}
 use Rattle.live_segment.proofs.Keeping.{cut_with, given_kept-push}
 use Rattle.live_segment.proofs.Viewed.{holds_at, unchanged, viewed, few_kept}
@@ -33,35 +34,34 @@ invariant_of-self-in-Opened c =
     let steps = (trail addrs xs).steps in
     let few : length xs + 1 < 2 ^ 64 = c.reserve.ensures.few (c.is_full.ensures.few c.if-is_full.false) in
     let pieces : c.push_reserved-in-Opened.new.self.pieces ≡ c.self.inside.calls.pieces = c.push_reserved-in-Opened.ensures.pieces ∙ c.reserve.ensures.pieces in
-    let image : c.push_reserved-in-Opened.new.self.image ≡ c.self.inside.calls.image = c.push_reserved-in-Opened.ensures.image ∙ c.reserve.ensures.image in
     let rep : reply_of st call ≡ Opened p = sym c.in_ok-port.ensures.reply ∙ c.in-Opened.is in
     let stands : StandsAt addrs (steps ++ (call, Opened p) ∷ []) next = subst (λ (u : Reply). StandsAt addrs (steps ++ (call, u) ∷ []) next) c.in-Opened.is (c.in_ok-port.ensures.stands addrs steps c.self.invariant.0.stands) in
     let f : Follows st call next (Opened p) = subst (Follows st call next) c.in-Opened.is (c.in_ok-port.ensures.follows addrs steps c.self.invariant.0.stands) in
     let doors : c.push_reserved.new.self.items ≡ ds ++ new_door p c.args.places d.free d.spare ∷ [] = c.push_reserved.ensures.items ∙ ap (λ (u : List DoorView). u ++ d ∷ []) c.reserve-2.ensures.items ∙ ap (λ (u : DoorView). ds ++ u ∷ []) (c.open-door.ensures.door ∙ ap (λ (n : ℕ). new_door p n d.free d.spare) c.in_ok-doorway.ensures) in
     let calls : c.push_reserved-in-Opened.new.self.items ≡ xs ++ stored None call ∷ [] = c.push_reserved-in-Opened.ensures.items ∙ ap (λ (u : List Stored). u ++ stored None call ∷ []) c.reserve.ensures.items in
-    holds_at _ _ _ _ _ _ _ _ _ _ _ _ _ _ _ refl calls pieces image refl refl doors (holds-open addrs st next xs c.self.inside.owed.items c.self.inside.seats.items ds c.args.station c.args.pgn c.args.max_len c.args.places d.free d.spare p c.self.invariant.0 few rep c.in_ok-port.ensures.after stands f) (cut_with _ _ _ _ _ _ _ (λ k0. k0) (given_kept-push ds (new_door p c.args.places d.free d.spare) refl) c.self.invariant.1)
+    holds_at _ _ _ _ _ _ _ _ _ _ _ _ _ _ _ refl calls pieces refl refl refl doors (holds-open addrs st next xs c.self.inside.owed.items c.self.inside.seats.items ds c.args.station c.args.pgn c.args.max_len c.args.places d.free d.spare p c.self.invariant.0 few rep c.in_ok-port.ensures.after stands f) (cut_with _ _ _ _ _ _ _ (λ k0. k0) (given_kept-push ds (new_door p c.args.places d.free d.spare) refl) c.self.invariant.1)
 
 pub invariant_of-self : goal.invariant_of-self
 invariant_of-self c =
     let i = c.self.inside in
-    holds_at c.self.inside.addresses.items c.self.inside.segment c.self.inside.segment c.self.inside.calls.items c.reserve.new.self.items c.self.inside.calls.pieces c.reserve.new.self.pieces c.self.inside.calls.image c.reserve.new.self.image c.self.inside.owed.items c.self.inside.owed.items c.self.inside.seats.items c.self.inside.seats.items c.self.inside.doors.items c.self.inside.doors.items refl c.reserve.ensures.items c.reserve.ensures.pieces c.reserve.ensures.image refl refl refl c.self.invariant.0 c.self.invariant.1
+    holds_at c.self.inside.addresses.items c.self.inside.segment c.self.inside.segment c.self.inside.calls.items c.reserve.new.self.items c.self.inside.calls.pieces c.reserve.new.self.pieces c.self.inside.image c.self.inside.image c.self.inside.owed.items c.self.inside.owed.items c.self.inside.seats.items c.self.inside.seats.items c.self.inside.doors.items c.self.inside.doors.items refl c.reserve.ensures.items c.reserve.ensures.pieces refl refl refl refl c.self.invariant.0 c.self.invariant.1
 
 pub invariant_of-self-in_err-reserve-2 : goal.invariant_of-self-in_err-reserve-2
 invariant_of-self-in_err-reserve-2 c =
     let i = c.self.inside in
-    holds_at c.self.inside.addresses.items c.self.inside.segment c.self.inside.segment c.self.inside.calls.items c.reserve.new.self.items c.self.inside.calls.pieces c.reserve.new.self.pieces c.self.inside.calls.image c.reserve.new.self.image c.self.inside.owed.items c.self.inside.owed.items c.self.inside.seats.items c.self.inside.seats.items c.self.inside.doors.items c.reserve-2.new.self.items refl c.reserve.ensures.items c.reserve.ensures.pieces c.reserve.ensures.image refl refl c.reserve-2.ensures.items c.self.invariant.0 c.self.invariant.1
+    holds_at c.self.inside.addresses.items c.self.inside.segment c.self.inside.segment c.self.inside.calls.items c.reserve.new.self.items c.self.inside.calls.pieces c.reserve.new.self.pieces c.self.inside.image c.self.inside.image c.self.inside.owed.items c.self.inside.owed.items c.self.inside.seats.items c.self.inside.seats.items c.self.inside.doors.items c.reserve-2.new.self.items refl c.reserve.ensures.items c.reserve.ensures.pieces refl refl refl c.reserve-2.ensures.items c.self.invariant.0 c.self.invariant.1
 
 pub invariant_of-self-in_err-port : goal.invariant_of-self-in_err-port
 invariant_of-self-in_err-port c =
     let i = c.self.inside in
-    holds_at c.self.inside.addresses.items c.self.inside.segment c.make.new.segment c.self.inside.calls.items c.reserve.new.self.items c.self.inside.calls.pieces c.reserve.new.self.pieces c.self.inside.calls.image c.reserve.new.self.image c.self.inside.owed.items c.self.inside.owed.items c.self.inside.seats.items c.self.inside.seats.items c.self.inside.doors.items c.reserve-2.new.self.items c.in_err-port.ensures.err c.reserve.ensures.items c.reserve.ensures.pieces c.reserve.ensures.image refl refl c.reserve-2.ensures.items c.self.invariant.0 c.self.invariant.1
+    holds_at c.self.inside.addresses.items c.self.inside.segment c.make.new.segment c.self.inside.calls.items c.reserve.new.self.items c.self.inside.calls.pieces c.reserve.new.self.pieces c.self.inside.image c.self.inside.image c.self.inside.owed.items c.self.inside.owed.items c.self.inside.seats.items c.self.inside.seats.items c.self.inside.doors.items c.reserve-2.new.self.items c.in_err-port.ensures.err c.reserve.ensures.items c.reserve.ensures.pieces refl refl refl c.reserve-2.ensures.items c.self.invariant.0 c.self.invariant.1
 
 pub invariant_of-self-in-Refused-1 : goal.invariant_of-self-in-Refused-1
 invariant_of-self-in-Refused-1 c =
     let addrs = c.self.inside.addresses.items in
     let f = c.in_ok-port.ensures.follows addrs (trail addrs c.self.inside.calls.items).steps c.self.invariant.0.stands in
     let same = f.refused (subst IsRefusal (sym c.in-Refused.is) tt) in
-    holds_at c.self.inside.addresses.items c.self.inside.segment c.make.new.segment c.self.inside.calls.items c.reserve.new.self.items c.self.inside.calls.pieces c.reserve.new.self.pieces c.self.inside.calls.image c.reserve.new.self.image c.self.inside.owed.items c.self.inside.owed.items c.self.inside.seats.items c.self.inside.seats.items c.self.inside.doors.items c.reserve-2.new.self.items same c.reserve.ensures.items c.reserve.ensures.pieces c.reserve.ensures.image refl refl c.reserve-2.ensures.items c.self.invariant.0 c.self.invariant.1
+    holds_at c.self.inside.addresses.items c.self.inside.segment c.make.new.segment c.self.inside.calls.items c.reserve.new.self.items c.self.inside.calls.pieces c.reserve.new.self.pieces c.self.inside.image c.self.inside.image c.self.inside.owed.items c.self.inside.owed.items c.self.inside.seats.items c.self.inside.seats.items c.self.inside.doors.items c.reserve-2.new.self.items same c.reserve.ensures.items c.reserve.ensures.pieces refl refl refl c.reserve-2.ensures.items c.self.invariant.0 c.self.invariant.1
 
 pub returns-in-Some-clause-refused : goal.returns-in-Some-clause-refused
 returns-in-Some-clause-refused c =

@@ -1,15 +1,15 @@
-use Rattle.std.proofs.Common.{◌≡◌, ◌+◌, ◌<◌, ◌^◌, List, [], ◌∷◌, ◌++◌, length, true, false, None, Result, Ok, Err, refl, sym, ap, ◌∙◌, subst}
+use Rattle.std.proofs.Common.{◌≡◌, ◌+◌, ◌<◌, ◌^◌, List, ◌∷◌, ◌++◌, length, true, false, None, Result, Ok, Err, refl, sym, ap, ◌∙◌, subst, []}
 use Rattle.std.specs.Prelude.{is_err, OnOk}
 use Rattle.segment_law.specs.declared.call.Call.TheVariants.{Take}
 use Rattle.segment_law.specs.Segment.{Segment, waiting_at}
 use Rattle.segment_state.specs.Passing.{IsPassing as IsPassingOn, PassesBy}
 use Rattle.segment_state.specs.declared.passing.Passing.TheVariants.{Passed, Rests}
 use Rattle.stored_calls.specs.declared.stored.Stored.{Stored}
-use Rattle.live_segment.specs.declared.calls.TheConstants.{MOST_CALLS}
+use Rattle.live_record.specs.declared.calls.TheConstants.{MOST_CALLS}
 use Rattle.live_segment.specs.Facts.{Holds}
-use Rattle.live_segment.specs.LiveView.{LiveView, keep, live_view, stored, stored_calls}
+use Rattle.live_segment.specs.LiveView.{LiveView, keep, live_view, stored_calls}
+use Rattle.live_record.specs.Record.{stored, trail}
 use Rattle.live_segment.specs.Passing.{IsPassing}
-use Rattle.live_segment.specs.Record.{trail}
 use Rattle.live_segment.proofs.PassedOn.{holds-passed, passed_as, passes_at}
 use Rattle.live_segment.proofs.Viewed.{holds_at, unchanged, viewed, few_kept}
 use Rattle.live_segment.proofs.live.Live.pass_by.Goals as goal
@@ -19,7 +19,7 @@ ok_unless (Ok x) P e h = h
 ok_unless (Err x) P e h = absurd cc
 
 pub invariant_of-self : goal.invariant_of-self
-invariant_of-self c = holds_at _ _ _ _ _ _ _ _ _ _ _ _ _ _ _ refl c.reserve.ensures.items c.reserve.ensures.pieces c.reserve.ensures.image refl refl refl c.self.invariant.0 c.self.invariant.1
+invariant_of-self c = holds_at _ _ _ _ _ _ _ _ _ _ _ _ _ _ _ refl c.reserve.ensures.items c.reserve.ensures.pieces refl refl refl refl c.self.invariant.0 c.self.invariant.1
 
 pub returns-then-is_err : goal.returns-then-is_err
 returns-then-is_err c =
@@ -29,7 +29,7 @@ returns-then-is_err c =
 pub invariant_of-self-in-Busy : goal.invariant_of-self-in-Busy
 invariant_of-self-in-Busy c =
     let same = subst (IsPassingOn c.self.inside.segment c.args.station c.pass_by.new.self) c.in-Busy.is c.pass_by.ensures.made in
-    holds_at _ _ _ _ _ _ _ _ _ _ _ _ _ _ _ same c.reserve.ensures.items c.reserve.ensures.pieces c.reserve.ensures.image refl refl refl c.self.invariant.0 c.self.invariant.1
+    holds_at _ _ _ _ _ _ _ _ _ _ _ _ _ _ _ same c.reserve.ensures.items c.reserve.ensures.pieces refl refl refl refl c.self.invariant.0 c.self.invariant.1
 
 pub returns-in-Busy : goal.returns-in-Busy
 returns-in-Busy c =
@@ -39,7 +39,7 @@ returns-in-Busy c =
 pub invariant_of-self-in-Rests : goal.invariant_of-self-in-Rests
 invariant_of-self-in-Rests c =
     let rests = subst (IsPassingOn c.self.inside.segment c.args.station c.pass_by.new.self) c.in-Rests.is c.pass_by.ensures.made in
-    holds_at _ _ _ _ _ _ _ _ _ _ _ _ _ _ _ rests.1 c.reserve.ensures.items c.reserve.ensures.pieces c.reserve.ensures.image refl refl refl c.self.invariant.0 c.self.invariant.1
+    holds_at _ _ _ _ _ _ _ _ _ _ _ _ _ _ _ rests.1 c.reserve.ensures.items c.reserve.ensures.pieces refl refl refl refl c.self.invariant.0 c.self.invariant.1
 
 pub returns-in-Rests : goal.returns-in-Rests
 returns-in-Rests c =
@@ -67,7 +67,7 @@ invariant_of-self-in-Passed c =
     let few : length i.calls.items + 1 < 2 ^ 64 = c.reserve.ensures.few (c.is_full.ensures.few c.if-is_full.false) in
     let x : Stored = stored None (Take c.args.station true) in
     let calls : c.push_reserved.new.self.items ≡ i.calls.items ++ x ∷ [] = c.push_reserved.ensures.items ∙ ap (λ (u : List Stored). u ++ x ∷ []) c.reserve.ensures.items in
-    holds_at _ _ _ _ _ _ _ _ _ _ _ _ _ _ _ refl calls (c.push_reserved.ensures.pieces ∙ c.reserve.ensures.pieces) (c.push_reserved.ensures.image ∙ c.reserve.ensures.image) refl refl refl
+    holds_at _ _ _ _ _ _ _ _ _ _ _ _ _ _ _ refl calls (c.push_reserved.ensures.pieces ∙ c.reserve.ensures.pieces) refl refl refl refl
     (holds-passed i.addresses.items i.segment c.pass_by.new.self i.calls.items i.owed.items i.seats.items i.doors.items c.args.station c.self.invariant.0 few p) c.self.invariant.1
 
 pub returns-in-Passed : goal.returns-in-Passed

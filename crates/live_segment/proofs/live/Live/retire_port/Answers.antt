@@ -1,7 +1,8 @@
 use Rattle.std.proofs.Common.{get_or, map, refl, sym, ap, ◌∙◌, subst, List}
 use Rattle.segment_rings.specs.Views.{DoorView, closed_door, new_door}
-use Rattle.live_segment.specs.Facts.{Holds, IsCut, NoneAt}
-use Rattle.live_segment.specs.Places.{IsPlaceIn}
+use Rattle.live_segment.specs.Facts.{Holds, IsCut}
+use Rattle.live_ends.specs.Ends.{NoneAt}
+use Rattle.live_ends.specs.Places.{IsPlaceIn}
 use Rattle.live_segment.specs.LiveView.{port_of}
 use Rattle.live_segment.proofs.Holding.{holds-close_door}
 use Rattle.live_segment.proofs.Keeping.{cut_with, given_kept-set}
@@ -17,7 +18,7 @@ invariant_of-self c =
     let e = c.close.ensures d in
     let h = holds-close_door i.addresses.items i.segment i.calls.items i.owed.items i.seats.items ds k d c.self.invariant.0 in
     let cut = cut_with _ _ _ _ _ _ _ (λ k0. k0) (given_kept-set k ds d (closed_door (get_or ds k d)) refl) c.self.invariant.1 in
-    (subst (Holds i.addresses.items i.segment i.calls.items i.owed.items i.seats.items) (sym e) h, subst (IsCut i.addresses.items i.calls.pieces i.calls.image i.seats.items) (sym e) cut)
+    (subst (Holds i.addresses.items i.segment i.calls.items i.owed.items i.seats.items) (sym e) h, subst (IsCut i.addresses.items i.calls.pieces i.image i.seats.items) (sym e) cut)
 
 pub returns-in-Some-clause-ports : goal.returns-in-Some-clause-ports
 returns-in-Some-clause-ports c =

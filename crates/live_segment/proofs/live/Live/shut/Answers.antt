@@ -20,7 +20,7 @@ invariant_of-self c =
     let ds = i.doors.items in
     let d = new_door c.args.inbox.now.port 0 0 0 in
     let h : Holds i.addresses.items i.segment i.calls.items i.owed.items i.seats.items c.hand_over.new.doors.items = subst (Holds i.addresses.items i.segment i.calls.items i.owed.items i.seats.items) (sym (c.hand_over.ensures.doors d)) (holds-close_door i.addresses.items i.segment i.calls.items i.owed.items i.seats.items ds k d c.self-2.invariant.0) in
-    let cut : IsCut i.addresses.items i.calls.pieces i.calls.image i.seats.items c.hand_over.new.doors.items = subst (IsCut i.addresses.items i.calls.pieces i.calls.image i.seats.items) (sym (c.hand_over.ensures.doors d))
+    let cut : IsCut i.addresses.items i.calls.pieces i.image i.seats.items c.hand_over.new.doors.items = subst (IsCut i.addresses.items i.calls.pieces i.image i.seats.items) (sym (c.hand_over.ensures.doors d))
     (cut_with _ _ _ _ _ _ _ (λ k0. k0) (given_kept-set k ds d (closed_door (get_or ds k d)) refl) c.self-2.invariant.1) in
     (h, cut)
 

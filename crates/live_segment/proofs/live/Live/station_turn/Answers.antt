@@ -1,10 +1,10 @@
-use Rattle.std.proofs.Common.{◌≡◌, false, true, [], sym, ap, ◌∙◌, refl, subst, inl, inr}
+use Rattle.std.proofs.Common.{◌≡◌, false, true, sym, ap, ◌∙◌, refl, subst, inl, inr, []}
 use Rattle.pgn_ids.specs.declared.address.Address.{Address}
 use Rattle.segment_law.specs.declared.reply.Reply.TheVariants.{Done}
 use Rattle.segment_state.specs.Next.{is_active}
 use Rattle.segment_state.specs.declared.passing.Passing.{Passing}
 use Rattle.segment_state.specs.declared.passing.Passing.TheVariants.{Passed, Rests, Busy}
-use Rattle.live_segment.specs.declared.call.WorkerCall.TheVariants.{Take}
+use Rattle.live_calls.specs.declared.call.WorkerCall.TheVariants.{Take}
 use Rattle.live_segment.specs.LiveView.{LiveView}
 use Rattle.live_segment.specs.Offers.{IsAtRest}
 use Rattle.live_segment.specs.Passing.{IsPassing}

@@ -1,7 +1,7 @@
 use Rattle.std.proofs.Common.{◌≡◌, ℕ, ◌+◌, ◌<◌, length, sym, ap, ◌∙◌, arith, subst}
 use Rattle.std.proofs.lemmas.List.{length-map}
 use Rattle.segment_rings.specs.Views.{SeatView}
-use Rattle.live_segment.specs.Record.{accepted}
+use Rattle.live_record.specs.Record.{accepted}
 use Rattle.live_segment.specs.LiveView.{LiveView}
 use Rattle.live_segment.proofs.Sending.{popped_at}
 use Rattle.live_segment.proofs.live.Live.taken_of.Goals as goal

@@ -1,7 +1,7 @@
 use Rattle.std.proofs.Common.{length, sym, subst, arith}
 use Rattle.live_segment.specs.LiveView.{LiveView}
 use Rattle.live_segment.specs.Turns.{AcceptsBelow, point}
-use Rattle.live_segment.proofs.Quiet.{below_at_rest}
+use Rattle.live_segment.proofs.Resting.{below_at_rest}
 use Rattle.live_segment.proofs.turns.Turn.accept_all.Goals as goal
 
 pub returns-else-is_called : goal.returns-else-is_called

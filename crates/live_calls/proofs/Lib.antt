@@ -1,0 +1,4 @@
+pub mod Applying
+pub mod Refusing
+pub mod Nothing
+pub mod Fronts

@@ -1,0 +1,3 @@
+pub mod Words
+pub mod Places
+pub mod Offers

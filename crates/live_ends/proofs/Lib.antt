@@ -1,0 +1,13 @@
+pub mod Lists
+pub mod Results
+pub mod Noting
+pub mod SeatsSame
+pub mod Giving
+pub mod Buffers
+pub mod Preparing
+pub mod Only
+pub mod Waiting
+pub mod Cuts
+pub mod Marks
+pub mod Quiet
+pub mod Fronts

@@ -1,0 +1,6 @@
+pub mod Equal
+pub mod Trails
+pub mod Prefixes
+pub mod Pieces
+pub mod Held
+pub mod TurnedAway

@@ -1,0 +1,4 @@
+pub mod Record
+pub mod TurnedAway
+pub mod Past
+pub mod PastCode

@@ -1,9 +1,0 @@
-use Rattle.std.proofs.Common.{◌≡◌, ◌≤◌, length, take}
-use Rattle.live_segment.specs.Record.{accepted}
-use Rattle.live_segment.proofs.compare.accepted_begin.Given as goal
-
-abbrev pub invariant-loop-at : goal.invariant-loop-at
-invariant-loop-at l = record {
-  within : l.n ≤ length l.submitted;
-  same : take l.n l.submitted ≡ accepted l.client (take l.at l.calls.items);
-}

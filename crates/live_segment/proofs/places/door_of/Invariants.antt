@@ -1,6 +1,0 @@
-use Rattle.std.proofs.Common.{take}
-use Rattle.live_segment.specs.Facts.{NoneAt}
-use Rattle.live_segment.proofs.places.door_of.Given as goal
-
-abbrev pub invariant-loop-k : goal.invariant-loop-k
-invariant-loop-k l = NoneAt l.port (take l.k l.doors)
