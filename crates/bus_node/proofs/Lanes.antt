@@ -6,7 +6,7 @@ use Rattle.pgn_ids.specs.declared.address.Address.{Address}
 use Rattle.station_lanes.specs.LaneReaders.{least_below, found_or}
 use Rattle.station_lanes.proofs.Counting.{none_below, least_is}
 use Rattle.segment_law.specs.Readers.{pumps_to, next_pump}
-use Rattle.bus_node.specs.Rests.{is_at_rest}
+use Rattle.node_parts.specs.Rests.{is_at_rest}
 use Rattle.bus_node.specs.Node.{Node}
 use Rattle.bus_node.specs.Time.{may_pump, next_lane}
 

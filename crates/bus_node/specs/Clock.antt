@@ -1,7 +1,7 @@
 -- How the times that lines say and the ticks of the clock belong together.
 use Rattle.std.specs.Prelude.{ℕ, ◌-◌, ◌*◌, ◌/◌, ◌^◌, min, Bool, nat_lt, if◌then◌else◌, Some, None, unwrap_or, codes}
 use Rattle.script_text.specs.Parts.{line}
-use Rattle.bus_node.specs.Rests.{plus}
+use Rattle.node_parts.specs.Sums.{plus}
 use Rattle.bus_node.specs.Node.{Node, told}
 
 -- the time of the clock's tick: a thousand microseconds each from the tick on at which the time began to count

@@ -3,7 +3,8 @@ use Rattle.std.specs.Prelude.{ℕ, ◌-◌, ◌^◌, min, max, Bool, ◌&&◌, n
 use Rattle.station_lanes.specs.LaneReaders.{least_below}
 use Rattle.segment_law.specs.Segment.{Segment}
 use Rattle.segment_state.specs.Next.{any_work}
-use Rattle.bus_node.specs.Rests.{plus, wakes}
+use Rattle.node_parts.specs.Sums.{plus}
+use Rattle.node_parts.specs.Rests.{wakes}
 use Rattle.bus_node.specs.Node.{Node}
 use Rattle.bus_node.specs.Time.{due_below, is_pacing}
 

@@ -1,4 +1,3 @@
-pub mod Rests
 pub mod LineCounts
 pub mod Node
 pub mod WrongLines

@@ -1,7 +1,7 @@
 -- How many lines were read, and how many of them were wrong.
 use Rattle.std.specs.Prelude.{ℕ, List, ◌++◌, codes}
 use Rattle.std.specs.Fmt.{decimal}
-use Rattle.bus_node.specs.Rests.{plus}
+use Rattle.node_parts.specs.Sums.{plus}
 use Rattle.bus_node.specs.declared.line_counts.LineCounts.{LineCounts}
 
 -- none was read

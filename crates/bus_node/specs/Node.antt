@@ -1,21 +1,20 @@
 -- A node: one station on a real bus, and the text of its calls.
 use Rattle.std.specs.Prelude.{◌≡◌, ℕ, ◌<◌, Bool, true, false, List, [], ◌++◌, length, Option, None}
-use Rattle.bus_frame.specs.Frames.{CanFrame}
 use Rattle.pgn_ids.specs.declared.address.Address.{Address}
 use Rattle.log_fields.specs.declared.iface.Iface.{Iface}
 use Rattle.segment_law.specs.Calls.{applied}
 use Rattle.segment_law.specs.declared.call.Call.{Call}
 use Rattle.script_text.specs.Replies.{reply_line, event_lines}
 use Rattle.one_station.specs.Node.{Node as Station, new_node as new_station, again_node as again_station, makes}
-use Rattle.bus_node.specs.Rests.{plus, no_rests, rested}
+use Rattle.node_parts.specs.Rests.{no_rests, rest_end, rested}
+use Rattle.node_parts.specs.Echoes.{Echoes, no_echoes}
 use Rattle.bus_node.specs.LineCounts.{no_lines}
 use Rattle.bus_node.specs.declared.line_counts.LineCounts.{LineCounts}
 
 -- the station; the interface that its frames are shown on, and whether that was named or a frame of it was shown; whether a frame of
 -- another one was reported; for how many ticks a destination rests after a connection to it failed; for each destination the tick until
--- which it rests; the tick from which the time counts, and the time of that tick in microseconds; the frames put that the bus hasn't
--- shown since, and the one of them that it showed last; the tick before which no conflict is reported; whether a wrong line ends the
--- run; how many lines were read; and the text of the line so far
+-- which it rests; the tick from which the time counts, and the time of that tick in microseconds; what it remembers of the
+-- frames that it put; whether a wrong line ends the run; how many lines were read; and the text of the line so far
 pub record Node : Type 0 where
   pub station : Station
   pub iface : Iface
@@ -25,16 +24,14 @@ pub record Node : Type 0 where
   pub rests : List ℕ
   pub since : ℕ
   pub start : Option ℕ
-  pub unseen : List CanFrame
-  pub last_echo : Option CanFrame
-  pub silent_until : ℕ
+  pub echoes : Echoes
   pub strict : Bool
   pub counts : LineCounts
   pub text : List ℕ
 
 -- nothing was done yet
 abbrev pub node_with : Station → Iface → (quiet : ℕ) → Node
-node_with station iface quiet = record { station = station; iface = iface; knows_iface = true; knows_other = false; quiet = quiet; rests = no_rests; since = 0; start = None; unseen = []; last_echo = None; silent_until = 0; strict = false; counts = no_lines; text = [] }
+node_with station iface quiet = record { station = station; iface = iface; knows_iface = true; knows_other = false; quiet = quiet; rests = no_rests; since = 0; start = None; echoes = no_echoes; strict = false; counts = no_lines; text = [] }
 
 abbrev pub new_node : Address → Iface → (quiet : ℕ) → Node
 new_node address iface quiet = node_with (new_station address) iface quiet
@@ -47,12 +44,12 @@ abbrev pub told : Node → List ℕ → Node
 told n text = record n { text = n.text ++ text }
 
 -- the tick until which a destination rests whose connection fails now
-abbrev pub rest_end : Node → ℕ
-rest_end n = plus n.station.segment.now n.quiet
+abbrev pub rests_until : Node → ℕ
+rests_until n = rest_end n.station.segment.now n.quiet
 
 -- the station's events are printed, a line each, and the destinations of connections that failed rest
 abbrev pub events_told : Node → Node
-events_told n = record n { station = record n.station { events = [] }; rests = rested (rest_end n) n.rests n.station.events; text = n.text ++ event_lines n.station.events }
+events_told n = record n { station = record n.station { events = [] }; rests = rested (rests_until n) n.rests n.station.events; text = n.text ++ event_lines n.station.events }
 
 -- the station did something, and its events are printed
 abbrev pub with_station : Node → Station → Node

@@ -12,7 +12,10 @@ use Rattle.segment_law.specs.declared.refusal.Refusal.{Refusal}
 use Rattle.segment_law.specs.declared.refusal.Refusal.TheVariants.{NotYet}
 use Rattle.segment_state.specs.Answers.{refusal_of}
 use Rattle.segment_state.specs.Due.{any_due}
-use Rattle.bus_node.specs.Rests.{is_at_rest, wakes}
+use Rattle.node_parts.specs.Rests.{is_at_rest, wakes}
+use Rattle.node_parts.specs.Stop.{next_stop}
+use Rattle.node_parts.specs.declared.stop.Stop.{Stop}
+use Rattle.node_parts.specs.declared.stop.Stop.TheVariants.{Timer, Last, Here}
 use Rattle.bus_node.specs.Node.{Node, called}
 use Rattle.bus_node.specs.Clock.{tick_at, started, has_jumped}
 use Rattle.bus_node.specs.Putting.{putting}
@@ -50,12 +53,14 @@ at_tick tick n = called n (Tick (tick - n.station.segment.now))
 abbrev pub fired : Node → Node
 fired n = called n (Fire n.station.address)
 
--- the clock advances to a timer, which fires, or to the horizon; none if it is there
+-- the clock advances to a timer, which fires, or to the end; none if it is there
+abbrev pub stopped : ℕ → Node → Stop → Option Node
+stopped end n (Timer tick) = Some (fired (at_tick tick n))
+stopped end n Last = Some (at_tick end n)
+stopped end n Here = None
+
 abbrev pub waited : ℕ → Node → Option Node
-waited end n = elim (due_below (end + 1) n.station.segment) [
-  | Some tick ↦ Some (fired (at_tick tick n))
-  | None ↦ if nat_lt n.station.segment.now end then Some (at_tick end n) else None
-]
+waited end n = stopped end n (next_stop n.station.segment.now (due_below (end + 1) n.station.segment) end)
 
 -- the next frames to a destination are queued; if there are none, time passes
 abbrev pub pumped : ℕ → Node → Option Address → Option Node

@@ -12,7 +12,6 @@ mod lane_counts;
 mod line_counts;
 mod node;
 mod putting;
-mod rests;
 mod running;
 mod telling;
 mod time;

@@ -6,15 +6,13 @@ ghost use Rattle.bus_node.specs.Acting.{begun};
 ghost use Rattle.bus_node.specs.Outcome.{at_first};
 
 use crate::line_counts::LineCounts;
-use crate::rests::Rests;
-use bus_frame::Frame;
 use log_text::Iface;
 use message_events::Events;
+use node_parts::{Echoes, Rests};
 use pgn_ids::Address;
 use script_text::print_events;
 use segment_core::NewRefused;
 use std::alloc::{AllocError, Global};
-use std::collections::VecDeque;
 use std::marker::Model;
 
 /// One station on a real bus, what it remembers of that bus, and the text of the line so far.
@@ -34,12 +32,8 @@ pub struct Node {
     pub(crate) since: u64,
     /// The time of that tick, in microseconds; none if no time was seen yet.
     pub(crate) start: Option<u64>,
-    /// The frames that it put and that the bus hasn't shown since, the oldest first.
-    pub(crate) unseen: VecDeque<Frame>,
-    /// The one of them that the bus showed last.
-    pub(crate) last_echo: Option<Frame>,
-    /// The tick before which no conflict of addresses is reported.
-    pub(crate) silent_until: u64,
+    /// The frames that it put and that the bus has yet to show.
+    pub(crate) echoes: Echoes,
     /// Whether a wrong line ends the run; else it is reported and passed over.
     pub(crate) strict: bool,
     pub(crate) counts: LineCounts,
@@ -70,9 +64,7 @@ impl Drop for Node {
             rests: _,
             since: _,
             start: _,
-            unseen: _,
-            last_echo: _,
-            silent_until: _,
+            echoes: _,
             strict: _,
             counts: _,
             text: _,
@@ -130,9 +122,7 @@ impl Node {
             rests: Rests::none(),
             since: 0,
             start: None,
-            unseen: VecDeque::new(alloc),
-            last_echo: None,
-            silent_until: 0,
+            echoes: Echoes::none(alloc),
             strict: false,
             counts: LineCounts::none(),
             text: Vec::new(alloc),
@@ -169,8 +159,8 @@ impl Node {
         let Some(event) = self.station.take_event() else {
             return Ok(false);
         };
-        let until = self.station.now().saturating_add(self.quiet);
-        self.rests.rest_by(until, &event);
+        let now = self.station.now();
+        self.rests.rest_by(now, self.quiet, &event);
         print_events(&mut self.text, &Events::of(self.alloc, Some(event)))?;
         Ok(true)
     }

@@ -5,6 +5,7 @@ ghost use Rattle.bus_node.specs.Node.{called};
 ghost use Rattle.bus_node.specs.Time.{due_below, is_not_yet, is_pacing, horizon, may_pump, next_lane, at_tick, fired, waited, step, go_on, most_steps, settled, leapt, at_time, Stepped};
 
 use crate::node::Node;
+use node_parts::{Stop, next_stop};
 use one_station::Node as Station;
 use pgn_ids::Address;
 use segment_core::{Call, Refusal};
@@ -129,16 +130,19 @@ impl Node {
     fn wait(&mut self, last: u64) -> Result<bool, AllocError>
         ensures { IfOk result (λ went_on. Stepped went_on self.old self.new (waited last self.old)) }
     {
-        if let Some(tick) = due_up_to(&self.station, last) {
-            self.go_to(tick)?;
-            self.fire()?;
-            return Ok(true);
+        let due = due_up_to(&self.station, last);
+        match next_stop(self.station.now(), due, last) {
+            Stop::Timer(tick) => {
+                self.go_to(tick)?;
+                self.fire()?;
+                Ok(true)
+            }
+            Stop::Last => {
+                self.go_to(last)?;
+                Ok(true)
+            }
+            Stop::Here => Ok(false),
         }
-        if self.station.now() >= last {
-            return Ok(false);
-        }
-        self.go_to(last)?;
-        Ok(true)
     }
 
     // Does the next thing up to a tick, and returns whether there was any.

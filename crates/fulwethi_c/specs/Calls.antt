@@ -20,11 +20,11 @@ use Rattle.segment_state.specs.Next.{any_work}
 use Rattle.segment_state.specs.Answers.{refusal_of}
 use Rattle.one_station.specs.Node.{Node, Did, new_node, again_node, answered}
 use Rattle.one_station.specs.Answers.{IsAnswered, IsFed, front_calls}
-use Rattle.one_station.specs.Events.{IsTaken}
+use Rattle.node_parts.specs.Events.{IsTaken}
 use Rattle.one_station.specs.declared.error.Fed.{Fed}
 use Rattle.one_station.specs.declared.error.NodeError.{NodeError}
 use Rattle.one_station.specs.declared.error.NodeError.TheVariants.{Refused, ClockPassed, Starting, OutOfMemory}
-use Rattle.one_station.specs.declared.error.TakeError.{TakeError}
+use Rattle.node_parts.specs.declared.told.TakeError.{TakeError}
 use Rattle.c_parts.specs.declared.shown.CFrame.{CFrame}
 use Rattle.c_parts.specs.Shown.{shown_frame}
 use Rattle.fulwethi_c.specs.declared.shown.CEvent.{CEvent}

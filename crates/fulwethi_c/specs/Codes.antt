@@ -12,8 +12,8 @@ use Rattle.one_station.specs.declared.error.Fed.{Fed}
 use Rattle.one_station.specs.declared.error.Fed.TheVariants.{Taken, WithoutRoom, PassedBy}
 use Rattle.one_station.specs.declared.error.Missed.{Missed}
 use Rattle.one_station.specs.declared.error.Missed.TheVariants as missed
-use Rattle.one_station.specs.declared.error.TakeError.{TakeError}
-use Rattle.one_station.specs.declared.error.TakeError.TheVariants.{Nothing, TooLittleRoom}
+use Rattle.node_parts.specs.declared.told.TakeError.{TakeError}
+use Rattle.node_parts.specs.declared.told.TakeError.TheVariants.{Nothing, TooLittleRoom}
 
 abbrev pub error_code : NodeError → ℕ
 error_code (Refused cause) = refusal_number cause

@@ -52,10 +52,14 @@ took_at_once now segment after address events told left missed quiet frame view 
       took_in now segment p.between after address events events left missed quiet (Inject frame) Taken view refl (puts segment after address (Inject frame) told p) (takes segment after address (Inject frame) told p events left is),
     )
 
--- the node's own
+-- the node's own, which is put and passed by
+pub passed_apart : (now : Node) (segment mid after : Segment) (address : Address) (events : List Event) (missed : Bool) (quiet : ℕ) (done : Unit {0}) → node_of segment address events missed quiet ≡ now → IsOk (called segment (Transmit address))
+    → Puts segment (Transmit address) mid → Puts mid (Take address true) after → IsPassedBy now (node_of after address events missed quiet) (Ok done)
+passed_apart now segment mid after address events missed quiet done view passes comes silent =
+    subst (λ (n : Node). IsPassedBy n (node_of after address events missed quiet) (Ok done)) view
+    (ap as_error (none_of (called segment (Transmit address)) passes), did_two (node_of segment address events missed quiet) (Transmit address) (Take address true) mid after events events (comes events) (silent events))
+
+-- at once
 pub passed_at_once : (now : Node) (segment after : Segment) (address : Address) (events : List Event) (missed : Bool) (quiet : ℕ) (done : Unit {0}) → node_of segment address events missed quiet ≡ now → PutTaken segment (Transmit address) address after [] → IsPassedBy now (node_of after address events missed quiet) (Ok done)
 passed_at_once now segment after address events missed quiet done view p =
-    let node : Node = node_of segment address events missed quiet in
-    let silent : Puts p.between (Take address true) after = tells_quietly p.between after (Take address true) p.taken p.taken_stands in
-    subst (λ (n : Node). IsPassedBy n (node_of after address events missed quiet) (Ok done)) view
-    (ap as_error (none_of (called segment (Transmit address)) (ok segment after address (Transmit address) [] p)), did_two node (Transmit address) (Take address true) p.between after events events (puts segment after address (Transmit address) [] p events) (silent events))
+    passed_apart now segment p.between after address events missed quiet done view (ok segment after address (Transmit address) [] p) (puts segment after address (Transmit address) [] p) (tells_quietly p.between after (Take address true) p.taken p.taken_stands)

@@ -1,4 +1,3 @@
-pub mod Joining
 pub mod Made
 pub mod Alone
 pub mod Own

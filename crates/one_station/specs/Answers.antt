@@ -1,10 +1,10 @@
 -- How a node answers.
-use Rattle.std.specs.Prelude.{◌≡◌, Bool, true, false, nat_lt, nat_le, ◌==◌, if◌then◌else◌, List, [], ◌∷◌, Option, Some, None, Result, Ok, Err, IsOk}
+use Rattle.std.specs.Prelude.{◌≡◌, Bool, true, false, nat_lt, nat_le, if◌then◌else◌, List, [], ◌∷◌, Option, Some, None, Result, Ok, Err, IsOk}
 use Rattle.std.specs.Option.{option_map}
 use Rattle.bus_frame.specs.Frames.{CanFrame}
-use Rattle.pgn_ids.specs.Identifier.{meaning_of}
 use Rattle.pgn_ids.specs.declared.address.Address.{Address}
 use Rattle.tx_queue.specs.Queue.{queue_limit}
+use Rattle.node_parts.specs.Source.{comes_from}
 use Rattle.segment_law.specs.Segment.{waiting_at}
 use Rattle.segment_law.specs.Calls.{Answer, called}
 use Rattle.segment_law.specs.Readers.{queue_len, front_at, next_pump}
@@ -92,7 +92,7 @@ IsUnready before after = (before.has_missed ≡ true) × IsOk (called before.seg
 
 -- the frame has the station's own source address
 abbrev pub is_own : Node → CanFrame → Bool
-is_own node frame = (meaning_of frame.id).from.0 == node.address.0
+is_own node frame = comes_from node.address frame
 
 -- no place is free in the transmit queue
 abbrev pub is_queue_full : Node → Bool

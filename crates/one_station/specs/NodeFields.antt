@@ -6,11 +6,10 @@ use Rattle.station_core.specs.Station.{Station}
 use Rattle.segment_law.specs.Segment.{Segment}
 use Rattle.segment_law.specs.Record.{Record, StandsAt}
 use Rattle.one_station.specs.Node.{Node}
-use Rattle.one_station.specs.Told.{told_events, IsFrontFirst}
 use Rattle.one_station.specs.declared.node.Node.TheInside.{Inside}
 
 abbrev pub node_value : Inside → Node
-node_value node = record { segment = node.segment; address = node.address; events = told_events node.told; has_missed = node.has_missed; quiet_until = node.quiet_until }
+node_value node = record { segment = node.segment; address = node.address; events = node.told.events; has_missed = node.has_missed; quiet_until = node.quiet_until }
 
 -- a segment with this station alone, at which some calls led to it
 abbrev pub IsStood : Address → Segment → Type 0
@@ -27,6 +26,5 @@ abbrev pub HasLookedAtAll : Address → Segment → Type 0
 HasLookedAtAll address segment = IsAlone address segment × (waiting segment.bus 0 ≡ 0)
 
 pub record IsNodeInside (node : Inside) : Type 0 where
-  pub front_first : IsFrontFirst node.told
   pub stood : IsStood node.address node.segment
   pub looked : HasLookedAtAll node.address node.segment

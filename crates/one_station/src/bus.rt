@@ -10,10 +10,11 @@ ghost use Rattle.one_station.specs.Answers.{IsAnswered, IsFed, IsTakenIn, IsSent
 
 use crate::error::{Fed, NodeError};
 use crate::look::{look, pass, put};
-use crate::node::{Node, ended, make_one};
+use crate::node::{Node, make_one};
 use broadcast_law::stations_queue_their_own;
 use bus_frame::Frame;
-use pgn_ids::{Address, read_id};
+use node_parts::comes_from;
+use pgn_ids::Address;
 use segment_core::{Call, Events, Refusal};
 use std::alloc::AllocError;
 use tx_queue::MAX_FRAMES;
@@ -44,7 +45,7 @@ impl Node {
     fn early_refusal(&self, frame: &Frame) -> Option<NodeError>
         ensures { result ≡ first_cause self.now frame.now None }
     {
-        if read_id(frame.id()).from.0 == self.address.0 {
+        if comes_from(frame, self.address) {
             return Some(NodeError::Refused(Refusal::StationAddress));
         }
         if self.segment.queue_len(self.address) >= MAX_FRAMES {
@@ -75,7 +76,7 @@ impl Node {
         ensures other { IfOk result (λ is_taken. OnFalse is_taken (self.new ≡ self.old)) }
         ensures err { OnErr result (self.new ≡ self.old) }
     {
-        if !self.told.has_place_to_give(self.owed) {
+        if !self.told.has_place_to_give() {
             return Ok(false);
         }
         let mut events = Events::none(self.alloc);
@@ -88,7 +89,6 @@ impl Node {
             Err(error) => return Err(error),
         }
         if !events.is_empty() {
-            self.owed = self.owed.saturating_sub(ended(&events));
             self.told.keep(events);
         }
         Ok(true)
@@ -100,7 +100,7 @@ impl Node {
         requires { first_cause self.old frame None ≡ None }
         ensures { IsTakenIn self.old frame self.new result }
     {
-        match make_one(&self.segment, &mut self.told, self.owed, &frame) {
+        match make_one(&self.segment, &mut self.told, &frame) {
             Ok(()) => {}
             Err(error) => return Err(error),
         }
@@ -108,14 +108,7 @@ impl Node {
             return Err(NodeError::Refused(cause));
         }
         let station = self.address;
-        Ok(look(
-            self.alloc,
-            &mut self.segment,
-            &mut self.told,
-            &mut self.owed,
-            station,
-            room,
-        ))
+        Ok(look(self.alloc, &mut self.segment, &mut self.told, station, room))
     }
 
     /// The first frame of the transmit queue, or none if that is empty. It is what `front` returns then, and stays the first until

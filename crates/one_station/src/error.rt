@@ -42,14 +42,3 @@ pub enum Missed {
     /// There was no memory for that. The node remembers it, and tries again at each `feed` and `sent`.
     Waits,
 }
-
-/// Why no event is taken. The events that wait stay as they are.
-#[derive(Clone, Copy, Debug, PartialEq, Eq, Error)]
-pub enum TakeError {
-    /// No event waits.
-    #[error("no event waits")]
-    Nothing,
-    /// The bytes of the event are so many, more than the room has places.
-    #[error("the event has more bytes than the room")]
-    TooLittleRoom(usize),
-}

@@ -1,9 +1,9 @@
 //! The events: a message that is given at a port, or the outcome of one that was sent.
 ghost use Rattle.std.specs.Prelude.{◌≡◌, drop, slice_get, option_copied};
-ghost use Rattle.one_station.specs.Events.{IsTaken, IsCopied, event_bytes};
+ghost use Rattle.node_parts.specs.Events.{IsTaken};
 
-use crate::error::TakeError;
 use crate::node::Node;
+use node_parts::TakeError;
 use segment_core::Event;
 
 impl Node {
@@ -31,38 +31,6 @@ impl Node {
         ensures taken { IsTaken self.old.events room.old self.new.events room.new result }
         ensures rest { self.new ≡ record self.old { events = self.new.events } }
     {
-        let Some(event) = self.told.next() else {
-            return Err(TakeError::Nothing);
-        };
-        match copy_bytes(event, room) {
-            Ok(len) => {
-                let _taken = self.told.take();
-                Ok(len)
-            }
-            Err(error) => Err(error),
-        }
+        self.told.take_bytes(room)
     }
-}
-
-// The bytes of a message; an outcome has none.
-fn bytes_of(event: &Event) -> &[u8]
-    ensures { result.now ≡ event_bytes event.now }
-{
-    match event {
-        Event::Given { bytes, .. } => bytes.as_slice(),
-        Event::Outcome { .. } => &[],
-    }
-}
-
-// Copies the bytes of an event to the front of the room, if they fit.
-fn copy_bytes(event: &Event, room: &mut [u8]) -> Result<usize, TakeError>
-    ensures { IsCopied event.now room.old room.new result }
-{
-    let bytes = bytes_of(event);
-    let len = bytes.len();
-    if len > room.len() {
-        return Err(TakeError::TooLittleRoom(len));
-    }
-    room[..len].copy_from_slice(bytes);
-    Ok(len)
 }

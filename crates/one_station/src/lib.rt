@@ -16,9 +16,9 @@ mod ports;
 mod readers;
 mod starting;
 mod time;
-mod told;
 
 pub use durations::SILENCE;
-pub use error::{Fed, Missed, NodeError, TakeError};
+pub use error::{Fed, Missed, NodeError};
 pub use node::Node;
+pub use node_parts::TakeError;
 pub use segment_core::{Bytes, Call, Counts, Event, LaneSight, NewRefused, PortId, Refusal};

@@ -1,16 +1,13 @@
 //! The inner bus of a node, which has room for the one frame that is on it beside the one that was looked at last.
 ghost use Rattle.std.specs.Prelude.{◌≡◌, ◌<◌, Bool, true, IsOk, OnOk, OnErr};
-ghost use Rattle.std.specs.Bool.{OnTrue, OnFalse};
-ghost use Rattle.std.specs.VecDeque.{deque_len, deque_capacity};
 ghost use Rattle.segment_law.specs.Calls.{called};
 ghost use Rattle.segment_law.specs.declared.call.Call.TheVariants.{Take};
 ghost use Rattle.segment_state.specs.Memory.{MayAskMemory};
-ghost use Rattle.one_station.specs.Told.{told_events, IsFrontFirst};
 ghost use Rattle.one_station.specs.Looks.{comes_on_bus, Tells, Puts, IsPut, PassesBy, HasLooked};
 
 use crate::error::Fed;
-use crate::node::{ended, make_room};
-use crate::told::Told;
+use crate::node::make_room;
+use node_parts::{Taker, Told};
 use pgn_ids::Address;
 use segment_core::{Call, Events, Made, Refusal, Reply, Segment};
 use std::alloc::{AllocError, Global};
@@ -48,82 +45,63 @@ pub(crate) fn pass(segment: &mut Segment, station: Address)
     }
 }
 
+/// The station with this address, which takes the next frame of its inner bus.
+#[derive(Drop)]
+struct Looker {
+    alloc: Global,
+    station: Address,
+}
+
+impl Taker for Looker {
+    type Bus = Segment;
+
+    ghost may_take = { λ l segment. (room : Bool) → IsOk (called segment (Take l.station room)) };
+
+    ghost takes = { λ l room before waiting after left. Tells before waiting (Take l.station room) after left };
+
+    #[inline(always)]
+    fn take_with_room(&self, segment: &mut Segment, told: &mut Told) -> bool {
+        let take = Call::Take {
+            station: self.station,
+            room: true,
+        };
+        match make_room(segment, told, &take) {
+            Ok(()) => {}
+            Err(_) => return false,
+        }
+        match tell(self.alloc, segment, told, self.station, true) {
+            Ok(()) => true,
+            Err(_) => false,
+        }
+    }
+
+    #[inline(never)]
+    fn take_without_room(&self, segment: &mut Segment, told: &mut Told) {
+        match tell(self.alloc, segment, told, self.station, false) {
+            Ok(()) => {}
+            Err(_) => unreachable!(),
+        }
+    }
+}
+
 /// The station takes the next frame: with room, if that is to be tried and finds memory, or without.
 #[inline(always)]
 pub(crate) fn look(
     alloc: Global,
     segment: &mut Segment,
     told: &mut Told,
-    owed: &mut usize,
     station: Address,
     room: bool,
 ) -> Fed
     requires passes { (room : Bool) → IsOk (called segment.old (Take station room)) }
-    requires sound { IsFrontFirst told.old }
-    requires place { deque_len told.old.parts < deque_capacity told.old.parts }
-    ensures looked { HasLooked segment.old (told_events told.old) station segment.new (told_events told.new) result }
-    ensures sound { IsFrontFirst told.new }
+    requires place { 0 < told.old.free }
+    ensures { HasLooked segment.old told.old.events station segment.new told.new.events result }
 {
-    if !room {
-        return look_without_room(alloc, segment, told, owed, station);
-    }
-    if look_with_room(alloc, segment, told, owed, station) {
+    let looker = Looker { alloc, station };
+    if node_parts::look(&looker, segment, told, room) {
         return Fed::Taken;
     }
-    look_without_room(alloc, segment, told, owed, station)
-}
-
-// It takes it with room, if there is memory for it.
-#[inline(always)]
-fn look_with_room(
-    alloc: Global,
-    segment: &mut Segment,
-    told: &mut Told,
-    owed: &mut usize,
-    station: Address,
-) -> bool
-    requires passes { IsOk (called segment.old (Take station true)) }
-    requires sound { IsFrontFirst told.old }
-    requires place { deque_len told.old.parts < deque_capacity told.old.parts }
-    ensures taken { OnTrue result (Tells segment.old (told_events told.old) (Take station true) segment.new (told_events told.new)) }
-    ensures other { OnFalse result (segment.new ≡ segment.old) }
-    ensures untold { OnFalse result (told_events told.new ≡ told_events told.old) }
-    ensures sound { IsFrontFirst told.new }
-    ensures place { OnFalse result (deque_len told.new.parts < deque_capacity told.new.parts) }
-{
-    let take = Call::Take {
-        station,
-        room: true,
-    };
-    match make_room(segment, told, *owed, &take) {
-        Ok(()) => {}
-        Err(_) => return false,
-    }
-    match tell(alloc, segment, told, owed, station, true) {
-        Ok(()) => true,
-        Err(_) => false,
-    }
-}
-
-// It takes it without.
-#[inline(never)]
-fn look_without_room(
-    alloc: Global,
-    segment: &mut Segment,
-    told: &mut Told,
-    owed: &mut usize,
-    station: Address,
-) -> Fed
-    requires passes { (room : Bool) → IsOk (called segment.old (Take station room)) }
-    requires sound { IsFrontFirst told.old }
-    requires place { deque_len told.old.parts < deque_capacity told.old.parts }
-    ensures looked { HasLooked segment.old (told_events told.old) station segment.new (told_events told.new) result }
-    ensures sound { IsFrontFirst told.new }
-{
-    match tell(alloc, segment, told, owed, station, false) {
-        Ok(()) => Fed::WithoutRoom,
-        Err(_) => unreachable!(),
-    }
+    Fed::WithoutRoom
 }
 
 // It takes it with room or without, which isn't refused. There is a place for the events.
@@ -132,24 +110,20 @@ fn tell(
     alloc: Global,
     segment: &mut Segment,
     told: &mut Told,
-    owed: &mut usize,
     station: Address,
     room: bool,
 ) -> Result<(), AllocError>
     requires passes { IsOk (called segment.old (Take station room)) }
-    requires sound { IsFrontFirst told.old }
-    requires place { deque_len told.old.parts < deque_capacity told.old.parts }
-    ensures done { OnOk result (Tells segment.old (told_events told.old) (Take station room) segment.new (told_events told.new)) }
+    requires place { 0 < told.old.free }
+    ensures done { OnOk result (Tells segment.old told.old.events (Take station room) segment.new told.new.events) }
     ensures memory { OnErr result (MayAskMemory segment.old (Take station room)) }
     ensures other { OnErr result (segment.new ≡ segment.old) }
     ensures untold { OnErr result (told.new ≡ told.old) }
-    ensures sound { IsFrontFirst told.new }
 {
     let mut events = Events::none(alloc);
     match segment.apply_telling(Call::Take { station, room }, &mut events) {
         Ok(Made::Done) => {
             if !events.is_empty() {
-                *owed = owed.saturating_sub(ended(&events));
                 told.keep(events);
             }
             Ok(())

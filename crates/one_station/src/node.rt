@@ -1,6 +1,5 @@
 //! A node: one station, and its events.
 ghost use Rattle.std.specs.Prelude.{◌≡◌, ◌<◌, ◌∷◌, ◌↔◌, [], false, IfOk, IfErr, OnOk, IsErrOf};
-ghost use Rattle.std.specs.VecDeque.{deque_len, deque_capacity};
 ghost use Rattle.segment_law.specs.Segment.{are_addresses};
 ghost use Rattle.segment_law.specs.Calls.{called};
 ghost use Rattle.segment_law.specs.Record.{StandsAt};
@@ -8,14 +7,13 @@ ghost use Rattle.segment_law.specs.declared.call.Call.TheVariants.{Inject};
 ghost use Rattle.one_station.specs.Node.{new_node};
 ghost use Rattle.one_station.specs.Answers.{IsAnswered, IsStopped};
 ghost use Rattle.one_station.specs.Looks.{comes_on_bus};
-ghost use Rattle.one_station.specs.Told.{told_events, IsFrontFirst};
 
 use crate::error::NodeError;
-use crate::told::Told;
 use bus_frame::Frame;
+use node_parts::Told;
 use pgn_ids::Address;
-use segment_core::{Call, Event, Events, Made, NewRefused, Segment};
-use std::alloc::{AllocError, Global};
+use segment_core::{Call, Events, Made, NewRefused, Segment};
+use std::alloc::Global;
 use std::marker::Model;
 
 /// One station on a bus that the program owns.
@@ -30,8 +28,6 @@ pub struct Node {
     pub(crate) told: Told,
     /// Frames were missed, and what was under way has yet to end.
     pub(crate) has_missed: bool,
-    /// How many messages have no outcome yet.
-    pub(crate) owed: usize,
     /// The tick before which it sends no message.
     pub(crate) quiet_until: u64,
 }
@@ -58,7 +54,6 @@ impl Drop for Node {
             address: _,
             told: _,
             has_missed: _,
-            owed: _,
             quiet_until: _,
         } = self;
     }
@@ -85,7 +80,6 @@ impl Node {
             address,
             told,
             has_missed: false,
-            owed: 0,
             quiet_until: 0,
         })
     }
@@ -103,36 +97,17 @@ impl Node {
         requires { comes_on_bus call ≡ false }
         ensures { IsAnswered self.old call self.new result }
     {
-        make_room(&self.segment, &mut self.told, self.owed, &call)?;
+        make_room(&self.segment, &mut self.told, &call)?;
         let mut events = Events::none(self.alloc);
         match self.segment.apply_telling(call, &mut events) {
             Ok(Made::Refused(cause)) => Err(NodeError::Refused(cause)),
             Ok(Made::Done) => {
-                self.owed = self.owed.saturating_sub(ended(&events));
                 self.told.keep(events);
                 Ok(())
             }
             Ok(_) => Ok(()),
             Err(_) => Err(NodeError::OutOfMemory),
         }
-    }
-}
-
-/// Makes the place of the outcome of one more message.
-pub(crate) fn make_place(told: &mut Told, owed: usize) -> Result<(), AllocError>
-    requires { IsFrontFirst told.old }
-    ensures events { told_events told.new ≡ told_events told.old }
-    ensures sound { IsFrontFirst told.new }
-{
-    told.reserve(owed)
-}
-
-/// How many messages have ended by the events of a call. No call gives a message and ends one.
-#[inline(always)]
-pub(crate) fn ended(events: &Events) -> usize {
-    match events.get(0) {
-        Some(Event::Outcome { .. }) => events.len(),
-        _ => 0,
     }
 }
 
@@ -149,34 +124,25 @@ fn gives(segment: &Segment, call: &Call) -> bool {
 
 /// Makes a place for the events of a call, unless the call is refused.
 #[inline(always)]
-pub(crate) fn make_room(
-    segment: &Segment,
-    told: &mut Told,
-    owed: usize,
-    call: &Call,
-) -> Result<(), NodeError>
-    requires { IsFrontFirst told.old }
-    ensures events { told_events told.new ≡ told_events told.old }
-    ensures sound { IsFrontFirst told.new }
-    ensures room { OnOk result (deque_len told.new.parts < deque_capacity told.new.parts) }
-    ensures kept { deque_len told.old.parts < deque_capacity told.old.parts → deque_len told.new.parts < deque_capacity told.new.parts }
+pub(crate) fn make_room(segment: &Segment, told: &mut Told, call: &Call) -> Result<(), NodeError>
+    ensures events { told.new.events ≡ told.old.events }
+    ensures room { OnOk result (0 < told.new.free) }
+    ensures kept { 0 < told.old.free → 0 < told.new.free }
     ensures err { IfErr result (λ error. IsStopped (called segment.now call.now) error) }
 {
     // Usually there is one, whatever the events are.
-    if told.has_place_to_give(owed) {
+    if told.has_place_to_give() {
         return Ok(());
     }
-    find_room(segment, told, owed, call)
+    find_room(segment, told, call)
 }
 
 // `make_room`, if no place is free for a message that is given.
 #[inline(never)]
-fn find_room(segment: &Segment, told: &mut Told, owed: usize, call: &Call) -> Result<(), NodeError>
-    requires { IsFrontFirst told.old }
-    ensures events { told_events told.new ≡ told_events told.old }
-    ensures sound { IsFrontFirst told.new }
-    ensures room { OnOk result (deque_len told.new.parts < deque_capacity told.new.parts) }
-    ensures kept { deque_len told.old.parts < deque_capacity told.old.parts → deque_len told.new.parts < deque_capacity told.new.parts }
+fn find_room(segment: &Segment, told: &mut Told, call: &Call) -> Result<(), NodeError>
+    ensures events { told.new.events ≡ told.old.events }
+    ensures room { OnOk result (0 < told.new.free) }
+    ensures kept { 0 < told.old.free → 0 < told.new.free }
     ensures err { IfErr result (λ error. IsStopped (called segment.now call.now) error) }
 {
     if told.has_room() && !gives(segment, call) {
@@ -185,27 +151,20 @@ fn find_room(segment: &Segment, told: &mut Told, owed: usize, call: &Call) -> Re
     if let Some(cause) = segment.refusal(call) {
         return Err(NodeError::Refused(cause));
     }
-    match told.reserve(owed) {
+    match told.reserve() {
         Ok(()) => Ok(()),
         Err(_) => Err(NodeError::OutOfMemory),
     }
 }
 
 /// Makes a place for the events of a frame that another node puts, unless there is one or the frame is refused.
-pub(crate) fn make_one(
-    segment: &Segment,
-    told: &mut Told,
-    owed: usize,
-    frame: &Frame,
-) -> Result<(), NodeError>
-    requires { IsFrontFirst told.old }
-    ensures events { told_events told.new ≡ told_events told.old }
-    ensures sound { IsFrontFirst told.new }
-    ensures room { OnOk result (deque_len told.new.parts < deque_capacity told.new.parts) }
+pub(crate) fn make_one(segment: &Segment, told: &mut Told, frame: &Frame) -> Result<(), NodeError>
+    ensures events { told.new.events ≡ told.old.events }
+    ensures room { OnOk result (0 < told.new.free) }
     ensures err { IfErr result (λ error. IsStopped (called segment.now (Inject frame.now)) error) }
 {
     if told.has_room() {
         return Ok(());
     }
-    make_room(segment, told, owed, &Call::Inject { frame: *frame })
+    make_room(segment, told, &Call::Inject { frame: *frame })
 }

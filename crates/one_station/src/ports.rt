@@ -7,7 +7,7 @@ ghost use Rattle.one_station.specs.Answers.{IsAnswered};
 ghost use Rattle.one_station.specs.declared.error.NodeError.TheVariants.{Starting};
 
 use crate::error::NodeError;
-use crate::node::{Node, make_place};
+use crate::node::Node;
 use pgn_ids::{Address, Pgn};
 use segment_core::{Bytes, Call, PortId, Reply};
 
@@ -123,7 +123,7 @@ impl Node {
         if let Some(cause) = self.segment.send_refusal(from, to, bytes.len()) {
             return Err(NodeError::Refused(cause));
         }
-        if make_place(&mut self.told, self.owed).is_err() {
+        if self.told.reserve().is_err() {
             return Err(NodeError::OutOfMemory);
         }
         let send = Call::Send {
@@ -134,7 +134,7 @@ impl Node {
         };
         match self.segment.apply(send) {
             Ok(Reply::Sent(number)) => {
-                self.owed = self.owed.saturating_add(1);
+                self.told.owe();
                 Ok(number)
             }
             Ok(Reply::Refused(cause)) => Err(NodeError::Refused(cause)),

@@ -1,5 +1,5 @@
 use Rattle.std.proofs.Common.{sym, ◌∙◌, ap}
-use Rattle.bus_node.specs.Rests.{is_at_rest}
+use Rattle.node_parts.specs.Rests.{is_at_rest}
 use Rattle.bus_node.specs.NodeFields.{node_value}
 use Rattle.bus_node.specs.Time.{next_lane}
 use Rattle.bus_node.proofs.Lanes.{next_awake}

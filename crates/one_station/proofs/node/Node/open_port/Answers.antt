@@ -1,7 +1,6 @@
 use Rattle.std.proofs.Common.{refl, ap, ◌∙◌}
 use Rattle.segment_law.specs.declared.call.Call.TheVariants.{Open}
 use Rattle.segment_law.specs.declared.reply.Reply.TheVariants.{Sent, Done}
-use Rattle.one_station.specs.Told.{told_events}
 use Rattle.record_law.proofs.Replies.{fits}
 use Rattle.one_station.proofs.Made.{make_refused, stood_on}
 use Rattle.one_station.proofs.Resting.{rested}
@@ -9,7 +8,7 @@ use Rattle.one_station.proofs.node.Node.open_port.Goals as goal
 
 pub returns-in-Ok-Refused-clause-answered : goal.returns-in-Ok-Refused-clause-answered
 returns-in-Ok-Refused-clause-answered c =
-    make_refused c.args.self.now c.self.inside.segment c.apply.new.self c.self.inside.address (told_events c.self.inside.told) (told_events c.self.inside.told) c.self.inside.has_missed c.self.inside.quiet_until
+    make_refused c.args.self.now c.self.inside.segment c.apply.new.self c.self.inside.address c.self.inside.told.events c.self.inside.told.events c.self.inside.has_missed c.self.inside.quiet_until
     (λ a. Open a c.args.pgn c.args.max_len) c.in-Ok-Refused.field-0 c.in-Ok-Refused.cause c.self.view_is refl c.in-Ok-Refused.ensures.ok c.in-Ok-Refused.field-0-is
 
 pub unreachable-requires : goal.unreachable-requires
@@ -24,14 +23,12 @@ unreachable-requires-in-Ok-Done c =
 
 pub invariant_of-self : goal.invariant_of-self
 invariant_of-self c = record {
-  front_first = c.self.invariant.front_first;
   stood = stood_on c.self.inside.address c.self.inside.segment c.apply.new.self (Open c.self.inside.address c.args.pgn c.args.max_len) c.in-Ok-Opened.field-0 c.in-Ok-Opened.ensures.stands c.self.invariant.stood;
   looked = rested c.self.inside.address c.self.inside.segment c.apply.new.self (Open c.self.inside.address c.args.pgn c.args.max_len) c.in-Ok-Opened.field-0 c.self.invariant.stood c.self.invariant.looked refl c.in-Ok-Opened.ensures.ok;
 }
 
 pub invariant_of-self-in-Ok-Refused : goal.invariant_of-self-in-Ok-Refused
 invariant_of-self-in-Ok-Refused c = record {
-  front_first = c.self.invariant.front_first;
   stood = stood_on c.self.inside.address c.self.inside.segment c.apply.new.self (Open c.self.inside.address c.args.pgn c.args.max_len) c.in-Ok-Refused.field-0 c.in-Ok-Refused.ensures.stands c.self.invariant.stood;
   looked = rested c.self.inside.address c.self.inside.segment c.apply.new.self (Open c.self.inside.address c.args.pgn c.args.max_len) c.in-Ok-Refused.field-0 c.self.invariant.stood c.self.invariant.looked refl c.in-Ok-Refused.ensures.ok;
 }

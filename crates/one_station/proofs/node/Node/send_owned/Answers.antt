@@ -1,7 +1,6 @@
 use Rattle.std.proofs.Common.{refl, ap, ◌∙◌}
 use Rattle.segment_law.specs.declared.call.Call.TheVariants.{Send}
 use Rattle.segment_law.specs.declared.reply.Reply.TheVariants.{Opened, Done}
-use Rattle.one_station.specs.Told.{told_events}
 use Rattle.record_law.proofs.Replies.{fits}
 use Rattle.one_station.proofs.Made.{make_refused, stood_on}
 use Rattle.one_station.proofs.Resting.{rested}
@@ -9,8 +8,8 @@ use Rattle.one_station.proofs.node.Node.send_owned.Goals as goal
 
 pub returns-in-Ok-Refused-clause-answered : goal.returns-in-Ok-Refused-clause-answered
 returns-in-Ok-Refused-clause-answered c =
-    make_refused c.args.self.now c.self.inside.segment c.apply.new.self c.self.inside.address (told_events c.self.inside.told) (told_events c.make_place.new.told) c.self.inside.has_missed c.self.inside.quiet_until
-    (λ a. Send a c.args.to c.args.pgn c.args.bytes) c.in-Ok-Refused.field-0 c.in-Ok-Refused.cause c.self.view_is c.make_place.ensures.events
+    make_refused c.args.self.now c.self.inside.segment c.apply.new.self c.self.inside.address c.self.inside.told.events c.reserve.new.self.events c.self.inside.has_missed c.self.inside.quiet_until
+    (λ a. Send a c.args.to c.args.pgn c.args.bytes) c.in-Ok-Refused.field-0 c.in-Ok-Refused.cause c.self.view_is c.reserve.ensures.events
     c.in-Ok-Refused.ensures.ok c.in-Ok-Refused.field-0-is
 
 pub unreachable-requires : goal.unreachable-requires
@@ -25,14 +24,12 @@ unreachable-requires-in-Ok-Done c =
 
 pub invariant_of-self-in-Ok-Sent : goal.invariant_of-self-in-Ok-Sent
 invariant_of-self-in-Ok-Sent c = record {
-  front_first = c.make_place.ensures.sound;
   stood = stood_on c.self.inside.address c.self.inside.segment c.apply.new.self (Send c.self.inside.address c.args.to c.args.pgn c.args.bytes) c.in-Ok-Sent.field-0 c.in-Ok-Sent.ensures.stands c.self.invariant.stood;
   looked = rested c.self.inside.address c.self.inside.segment c.apply.new.self (Send c.self.inside.address c.args.to c.args.pgn c.args.bytes) c.in-Ok-Sent.field-0 c.self.invariant.stood c.self.invariant.looked refl c.in-Ok-Sent.ensures.ok;
 }
 
 pub invariant_of-self-in-Ok-Refused : goal.invariant_of-self-in-Ok-Refused
 invariant_of-self-in-Ok-Refused c = record {
-  front_first = c.make_place.ensures.sound;
   stood = stood_on c.self.inside.address c.self.inside.segment c.apply.new.self (Send c.self.inside.address c.args.to c.args.pgn c.args.bytes) c.in-Ok-Refused.field-0 c.in-Ok-Refused.ensures.stands c.self.invariant.stood;
   looked = rested c.self.inside.address c.self.inside.segment c.apply.new.self (Send c.self.inside.address c.args.to c.args.pgn c.args.bytes) c.in-Ok-Refused.field-0 c.self.invariant.stood c.self.invariant.looked refl c.in-Ok-Refused.ensures.ok;
 }

@@ -1,6 +1,6 @@
 //! Destinations that rest: a connection to them failed, and nothing is queued to them for a while.
 ghost use Rattle.std.specs.Prelude.{◌≡◌};
-ghost use Rattle.bus_node.specs.Rests.{HasAll, no_rests, is_at_rest, resting, is_failure, rest_by, wakes};
+ghost use Rattle.node_parts.specs.Rests.{HasAll, no_rests, is_at_rest, resting, is_failure, rest_end, rest_by, wakes};
 
 use message_events::Event;
 use pgn_ids::Address;
@@ -9,13 +9,13 @@ use tp_wire::Outcome;
 
 /// For each destination the tick before which nothing is queued to it.
 #[derive(Drop)]
-pub(crate) struct Rests {
+pub struct Rests {
     until: [u64; 256],
 }
 
 impl Model for Rests {
     ghost use Rattle.std.specs.Prelude.{List, ℕ};
-    ghost use Rattle.bus_node.specs.Rests.{HasAll};
+    ghost use Rattle.node_parts.specs.Rests.{HasAll};
 
     ghost Value = { List ℕ };
 
@@ -41,14 +41,14 @@ fn is_failure(outcome: Outcome) -> bool
 
 impl Rests {
     /// No destination rests.
-    pub(crate) fn none() -> Rests
+    pub fn none() -> Rests
         ensures { result ≡ no_rests }
     {
         Rests { until: [0; 256] }
     }
 
     /// Whether a destination rests at a tick.
-    pub(crate) fn is_at_rest(&self, now: u64, to: Address) -> bool
+    pub fn is_at_rest(&self, now: u64, to: Address) -> bool
         ensures { result ≡ is_at_rest self.now now to.0 }
     {
         now < self.until[to.0 as usize]
@@ -61,10 +61,11 @@ impl Rests {
         self.until[to.0 as usize] = until;
     }
 
-    /// The destination of a connection that failed rests until a tick.
-    pub(crate) fn rest_by(&mut self, until: u64, event: &Event)
-        ensures { self.new ≡ rest_by until self.old event.now }
+    /// If a connection failed by this event, its destination rests from the tick `now` on for `quiet` ticks.
+    pub fn rest_by(&mut self, now: u64, quiet: u64, event: &Event)
+        ensures { self.new ≡ rest_by (rest_end now quiet) self.old event.now }
     {
+        let until = now.saturating_add(quiet);
         match event {
             Event::Given { .. } => {}
             Event::Outcome { to, outcome, .. } => {
@@ -76,7 +77,7 @@ impl Rests {
     }
 
     /// The first tick above `now` at which one no longer rests, if that is below `end`, else `end`.
-    pub(crate) fn wakes(&self, now: u64, end: u64) -> u64
+    pub fn wakes(&self, now: u64, end: u64) -> u64
         ensures { result ≡ wakes now end self.now }
     {
         self.until.iter().fold(end, |first, until| {

@@ -1,13 +1,10 @@
 -- Destinations that rest: a connection to them failed, and nothing is queued to them for a while.
-use Rattle.std.specs.Prelude.{◌≡◌, ℕ, ◌+◌, ◌-◌, ◌^◌, min, Bool, true, false, nat_lt, if◌then◌else◌, List, length, replicate, fold, slice_set, slice_index_or}
+use Rattle.std.specs.Prelude.{◌≡◌, ℕ, min, Bool, true, false, nat_lt, if◌then◌else◌, List, length, replicate, fold, slice_set, slice_index_or}
 use Rattle.tp_wire.specs.declared.outcome.Outcome.{Outcome}
 use Rattle.tp_wire.specs.declared.outcome.Outcome.TheVariants.{Acknowledged, Broadcast, Aborted, TimedOut, Overrun, Cancelled, Unreachable}
 use Rattle.message_events.specs.declared.event.Event.{Event}
 use Rattle.message_events.specs.declared.event.Event.TheVariants as events
-
--- a sum, within 64 bits
-abbrev pub plus : ℕ → ℕ → ℕ
-plus a b = min (a + b) (2 ^ 64 - 1)
+use Rattle.node_parts.specs.Sums.{plus}
 
 -- a tick for each destination
 abbrev pub HasAll : List ℕ → Type 0
@@ -33,6 +30,10 @@ is_failure Acknowledged = false
 is_failure Broadcast = false
 is_failure Cancelled = false
 is_failure Unreachable = false
+
+-- the tick until which a destination rests whose connection fails now, if each rests for so many ticks
+abbrev pub rest_end : (now quiet : ℕ) → ℕ
+rest_end now quiet = plus now quiet
 
 abbrev pub rest_by : (until : ℕ) → List ℕ → Event → List ℕ
 rest_by until rests (events.Given port from to pgn bytes) = rests

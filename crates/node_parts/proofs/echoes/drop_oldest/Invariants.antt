@@ -1,5 +1,5 @@
 use Rattle.std.proofs.Common.{◌≡◌, drop}
-use Rattle.bus_node.proofs.putting.drop_oldest.Given as goal
+use Rattle.node_parts.proofs.echoes.drop_oldest.Given as goal
 
 abbrev pub invariant-loop : goal.invariant-loop
 invariant-loop l = l.frames.items ≡ drop l.counter l.fn.frames.items

@@ -2,8 +2,8 @@
 use Rattle.std.specs.Prelude.{◌≡◌, ℕ, ◌<◌, List, [], ◌++◌, length, drop, Option, Some, None, slice_get, Result, Ok, Err}
 use Rattle.message_events.specs.declared.event.Event.{Event}
 use Rattle.message_events.specs.declared.event.Event.TheVariants.{Given, Outcome}
-use Rattle.one_station.specs.declared.error.TakeError.{TakeError}
-use Rattle.one_station.specs.declared.error.TakeError.TheVariants.{Nothing, TooLittleRoom}
+use Rattle.node_parts.specs.declared.told.TakeError.{TakeError}
+use Rattle.node_parts.specs.declared.told.TakeError.TheVariants.{Nothing, TooLittleRoom}
 
 -- the bytes of a message; an outcome has none
 abbrev pub event_bytes : Event → List ℕ

@@ -1,0 +1,9 @@
+pub mod Source
+pub mod Told
+pub mod ToldFields
+pub mod Events
+pub mod Sums
+pub mod Rests
+pub mod Echoes
+pub mod EchoFields
+pub mod Stop
