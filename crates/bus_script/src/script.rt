@@ -19,7 +19,7 @@ struct Script<S> {
 }
 
 impl<S: Sheet> Obeyer for Script<S> {
-    ghost use Rattle.std.specs.Prelude.{Option};
+    ghost use Rattle.std.specs.Prelude.{Option, ⊤};
     ghost use Rattle.segment_law.specs.Segment.{Segment};
     ghost use Rattle.bus_script.specs.Script.{told_in};
 
@@ -34,6 +34,8 @@ impl<S: Sheet> Obeyer for Script<S> {
     ghost text_told = { λ s. S.text_shown s.sheet };
 
     ghost log_told = { λ s. S.log_shown s.sheet };
+
+    ghost kept = { λ _ _. ⊤ };
 
     #[tactic(auto, using(crate::proofs::Shown::was_told))]
     fn obey_line(&mut self, alloc: Global, line: &[u8]) -> Result<Told, LineError> {

@@ -97,19 +97,19 @@ module _ (S : Type 0) where
       abbrev After : S → ℕ → List (List ℕ) → Result (S × List ℕ) Fault → Future S
       After s n lines r = record { told = then_rest n r (λ (u : S). outcome_from m step u (n + 1) lines); left = state_after r s (λ (u : S). left_from m step u (n + 1) lines) }
 
-      first : (s : S) (n : ℕ) (line : List ℕ) (lines : List (List ℕ)) (r : Result (S × List ℕ) Fault) → numbered_line m step s n line ≡ r → After s n lines r ≡ further m step s n (line ∷ lines)
-      first s n line lines r e = rw (first_told s n line lines, first_left s n line lines, e) refl
+      first_line : (s : S) (n : ℕ) (line : List ℕ) (lines : List (List ℕ)) (r : Result (S × List ℕ) Fault) → numbered_line m step s n line ≡ r → After s n lines r ≡ further m step s n (line ∷ lines)
+      first_line s n line lines r e = rw (first_told s n line lines, first_left s n line lines, e) refl
 
       line_done : (s t : S) (n : ℕ) (p line : List ℕ) (lines : List (List ℕ)) (a b : Option (List ℕ)) → above m n line ≡ None → step s line ≡ Ok (t, p) → Appends a b p
           → GoesOn a b (further m step t (n + 1) lines) (further m step s n (line ∷ lines))
       line_done s t n p line lines a b w e written =
-          subst (λ x. GoesOn a b (further m step t (n + 1) lines) x) (first s n line lines (Ok (t, p)) (numbered s n line (Ok (t, p)) w e))
+          subst (λ x. GoesOn a b (further m step t (n + 1) lines) x) (first_line s n line lines (Ok (t, p)) (numbered s n line (Ok (t, p)) w e))
           record { text = appends_then a b p (outcome_from m step t (n + 1) lines).text written; fault = refl; left = refl }
 
       fault_stops : (s t : S) (n : ℕ) (line : List ℕ) (lines : List (List ℕ)) (f : Fault) (a b : Option (List ℕ)) → numbered_line m step s n line ≡ Err f → (t ≡ s) ⊎ kept s t → Keeps a b
           → StoppedBy kept n (causes.Fault f) t a b (further m step s n (line ∷ lines))
       fault_stops s t n line lines f a b e k same =
-          subst (λ x. StoppedBy kept n (causes.Fault f) t a b x) (first s n line lines (Err f) e) ((keeps_none a b same, refl), k)
+          subst (λ x. StoppedBy kept n (causes.Fault f) t a b x) (first_line s n line lines (Err f) e) ((keeps_none a b same, refl), k)
 
       line_stops : (cause : Cause) (s t : S) (n : ℕ) (line : List ℕ) (lines : List (List ℕ)) (a b : Option (List ℕ)) → above m n line ≡ None → Stops cause step kept s t line a b
           → StoppedBy kept n cause t a b (further m step s n (line ∷ lines))
@@ -117,7 +117,7 @@ module _ (S : Type 0) where
       line_stops causes.ReadFailed s t n line lines a b w o = absurd o
       line_stops causes.OutOfMemory s t n line lines a b w o = (keeps_front a b _ o, tt)
       line_stops causes.WriteFailed s t n line lines a b w o = (
-        subst (λ (x : Future S). IsFront a b x.told.text) (first s n line lines (Ok (t, o.0)) (numbered s n line (Ok (t, o.0)) w o.1))
+        subst (λ (x : Future S). IsFront a b x.told.text) (first_line s n line lines (Ok (t, o.0)) (numbered s n line (Ok (t, o.0)) w o.1))
             (front_then a b o.0 (outcome_from m step t (n + 1) lines).text o.2),
         tt,
       )
@@ -154,32 +154,32 @@ module _ (S : Type 0) where
           → Takes (Err causes.WriteFailed) m step kept s t old new ra rb a c
       unflushed_line s t old new None rb a b c w k = tt
       unflushed_line s t old new (Some all) None a b c w k = absurd w.2
-      unflushed_line s t old new (Some all) (Some rest) a b c w k = λ r. ((w.2 r).0, kept_front a b c _ (goes_front a b _ _ (w.2 r).1) k, tt)
+      unflushed_line s t old new (Some all) (Some rest) a b c w k = λ r. ((w.2 r).0, (kept_front a b c _ (goes_front a b _ _ (w.2 r).1) k, tt))
 
       -- no line was read
       pub not_read : (s : S) (run : Run) (line : List ℕ) (cause : Cause) (ra rb a : Option (List ℕ)) → Read m run.number (Err cause) line ra rb → Takes (Err cause) m step kept s s run run ra rb a a
       not_read s run line cause None rb a reads = tt
       not_read s run line (causes.Fault f) (Some all) rb a reads = λ r.
           (r, rw reads.2 (fault_stops s s run.number reads.0 reads.1 f a a (ap (λ (wrong : Option Fault). unless_above wrong (step s reads.0)) reads.3) (inl refl) (keeps_same a)))
-      not_read s run line causes.ReadFailed (Some all) rb a reads = λ r. (r, keeps_front a a _ (keeps_same a), tt)
-      not_read s run line causes.OutOfMemory (Some all) rb a reads = λ r. (r, keeps_front a a _ (keeps_same a), tt)
+      not_read s run line causes.ReadFailed (Some all) rb a reads = λ r. (r, (keeps_front a a _ (keeps_same a), tt))
+      not_read s run line causes.OutOfMemory (Some all) rb a reads = λ r. (r, (keeps_front a a _ (keeps_same a), tt))
       not_read s run line causes.WriteFailed (Some all) rb a reads = absurd reads
 
       pub unread : (s : S) (run : Run) (ra rb a : Option (List ℕ)) → Takes (Err causes.ReadFailed) m step kept s s run run ra rb a a
       unread s run None rb a = tt
-      unread s run (Some all) rb a = λ r. (r, keeps_front a a _ (keeps_same a), tt)
+      unread s run (Some all) rb a = λ r. (r, (keeps_front a a _ (keeps_same a), tt))
 
       pub none_left : (s : S) (run : Run) (line : List ℕ) (ra rb a : Option (List ℕ)) → Read m run.number (Ok false) line ra rb → Takes (Ok End) m step kept s s run run ra rb a a
-      none_left s run line None rb a reads = (tt, refl, refl, refl, keeps_same a)
+      none_left s run line None rb a reads = (tt, (refl, refl, refl, keeps_same a))
       none_left s run line (Some all) None a reads = absurd reads
-      none_left s run line (Some all) (Some rest) a reads = (reads, refl, refl, refl, keeps_same a)
+      none_left s run line (Some all) (Some rest) a reads = (reads, (refl, refl, refl, keeps_same a))
 
       pub none_held : (s : S) (run : Run) (held : List ℕ) (ra rb a : Option (List ℕ)) → length held ≡ 0 → IfSome ra (λ all. length held ≡ 0 → all ≡ []) → Takes (Ok End) m step kept s s run run ra rb a a
-      none_held s run held None rb a none end = (tt, refl, refl, refl, keeps_same a)
-      none_held s run held (Some all) rb a none end = (ap lines_of (end none), refl, refl, refl, keeps_same a)
+      none_held s run held None rb a none end = (tt, (refl, refl, refl, keeps_same a))
+      none_held s run held (Some all) rb a none end = (ap lines_of (end none), (refl, refl, refl, keeps_same a))
 
       pub left_open : (s : S) (run : Run) (ra rb a : Option (List ℕ)) → Keeps ra rb → Takes (Ok Open) m step kept s s run run ra rb a a
-      left_open s run ra rb a k = (k, refl, refl, refl, keeps_same a)
+      left_open s run ra rb a k = (k, (refl, refl, refl, keeps_same a))
 
       -- A line that isn't taken where it lies, and then copied
 
@@ -195,12 +195,12 @@ module _ (S : Type 0) where
           by (Some all) (Some rest) None h v = absurd v
           by (Some all) (Some rest) (Some behind) h v = λ r.
               let g : GoesOn c d (further m step t new.number (lines_of behind)) (further m step s old.number (lines_of all)) = rw (sym o.1.0, sym o.1.1, sym h) (v r).1 in
-              (sym o.1.2.0 ∙ (v r).0, goes_before a c d _ _ (keeps_both a b c o.1.2.1 k) g)
+              (sym o.1.2 ∙ (v r).0, goes_before a c d _ _ (keeps_both a b c o.1.3 k) g)
 
       pub next_end : (s u t : S) (old mid new : Run) (ra rb rc a b c d : Option (List ℕ)) → Takes (Ok Open) m step kept s u old mid ra rb a b → Keeps b c
           → Takes (Ok End) m step kept u t mid new rb rc c d → Takes (Ok End) m step kept s t old new ra rc a d
       next_end s u t old mid new ra rb rc a b c d o k w =
-          (by ra rb o.0 w.0, w.1.0 ∙ o.1.0, w.1.1 ∙ o.1.1, w.1.2.0 ∙ o.1.2.0, keeps_both a c d (keeps_both a b c o.1.2.1 k) w.1.2.1)
+          (by ra rb o.0 w.0, (w.1.0 ∙ o.1.0, w.1.1 ∙ o.1.1, w.1.2 ∙ o.1.2, keeps_both a c d (keeps_both a b c o.1.3 k) w.1.3))
         where
           by : (x y : Option (List ℕ)) → Keeps x y → IfSome y (λ all. lines_of all ≡ []) → IfSome x (λ all. lines_of all ≡ [])
           by None y h e = tt
@@ -217,7 +217,7 @@ module _ (S : Type 0) where
           by (Some all) None h v = absurd h
           by (Some all) (Some rest) h v = λ r.
               let e : StoppedBy kept new.number cause t c d (further m step s old.number (lines_of all)) = rw (sym o.1.0, sym o.1.1, sym h) (v r).1 in
-              (sym o.1.2.0 ∙ (v r).0, stopped_before new.number cause t a c d _ (keeps_both a b c o.1.2.1 k) e)
+              (sym o.1.2 ∙ (v r).0, stopped_before new.number cause t a c d _ (keeps_both a b c o.1.3 k) e)
 
       pub next_taken : (s u t : S) (old mid new : Run) (x : Result Bool Cause) (ra rb rc a b c d : Option (List ℕ)) → Takes (Ok Open) m step kept s u old mid ra rb a b → Keeps b c
           → TakesNext x m step kept u t mid new rb rc c d → TakesNext x m step kept s t old new ra rc a d
@@ -228,7 +228,7 @@ module _ (S : Type 0) where
       pub next_unwritten : (s u : S) (old mid : Run) (ra rb a b c : Option (List ℕ)) → Takes (Ok Open) m step kept s u old mid ra rb a b → Keeps b c
           → Takes (Err causes.WriteFailed) m step kept s u old mid ra rb a c
       next_unwritten s u old mid None rb a b c o k = tt
-      next_unwritten s u old mid (Some all) rb a b c o k = λ r. (sym o.1.2.0 ∙ r, keeps_front a c _ (keeps_both a b c o.1.2.1 k), tt)
+      next_unwritten s u old mid (Some all) rb a b c o k = λ r. (sym o.1.2 ∙ r, (keeps_front a c _ (keeps_both a b c o.1.3 k), tt))
 
       -- what came of the next line, by its name
       pub turns_as : (turn as_known : Turn) (s t : S) (old new : Run) (ra rb a b : Option (List ℕ)) → turn ≡ as_known → Takes (Ok turn) m step kept s t old new ra rb a b → Takes (Ok as_known) m step kept s t old new ra rb a b
@@ -292,7 +292,7 @@ module _ (S : Type 0) where
       at_end first s t old new (Some all) None rc a b c d inv w k = absurd inv
       at_end first s t old new (Some all) (Some rest) rc a b c d inv w k = λ r.
           let none : further m step s old.number (lines_of rest) ≡ record { told = record { text = []; fault = None }; left = t } = rw (w.0, no_told s old.number, no_left s old.number, w.1.0) refl in
-          goes_kept a b d _ _ (subst (λ o. GoesOn a b o (further m step first 1 (lines_of all))) none (inv (sym w.1.2.0 ∙ r))) (keeps_both b c d w.1.2.1 k)
+          goes_kept a b d _ _ (subst (λ o. GoesOn a b o (further m step first 1 (lines_of all))) none (inv (sym w.1.2 ∙ r))) (keeps_both b c d w.1.3 k)
 
       pub ended_all : (t : S) (refused : Bool) (ra a b : Option (List ℕ)) (first : S) → EndsAll t refused ra a b first
           → IfSome ra (λ input. Ended record { fault = None; memory_refused = refused } a b (outcome m step first input))
@@ -308,34 +308,3 @@ module _ (S : Type 0) where
       pub unflushed_all : (t : S) (refused : Bool) (n : ℕ) (ra a b : Option (List ℕ)) (first : S) → EndsAll t refused ra a b first → EndsSo t refused n causes.WriteFailed ra a b first
       unflushed_all t refused n None a b first e = tt
       unflushed_all t refused n (Some all) a b first e = λ r. (goes_front a b _ _ (e r), tt)
-
-    -- A line that is obeyed
-
-    module _ (step : Steps S) where
-      pub was_refused : (told : Told) (earlier after : Bool) (s t : S) (line p : List ℕ) → after ≡ or_refused told earlier → Obeyed (Ok told) t p (step s line) → after ≡ false
-          → (earlier ≡ false) × (step s line ≡ Ok (t, p))
-      was_refused Answered earlier after s t line p e o r = (sym e ∙ r, o)
-      was_refused NoMemory earlier after s t line p e o r = let bad : true ≡ false = sym e ∙ r in cc
-
-      pub obeyed : (done : Unit {0}) (told : Told) (s t : S) (old new : Run) (line p : List ℕ) (a b : Option (List ℕ)) → new.number ≡ old.number + 1 → new.memory_refused ≡ or_refused told old.memory_refused
-          → Obeyed (Ok told) t p (step s line) → Appends a b p → Obeys (Ok done) step kept s t old new line a b
-      obeyed done told s t old new line p a b n e o written = (
-        n,
-        λ r.
-            let d = was_refused told old.memory_refused new.memory_refused s t line p e o r in
-            (d.0, p, d.1, written),
-      )
-
-      pub unwritten : (told : Told) (s t : S) (old new : Run) (line p : List ℕ) (a b : Option (List ℕ)) → new.number ≡ old.number → new.memory_refused ≡ or_refused told old.memory_refused
-          → Obeyed (Ok told) t p (step s line) → IsFront a b p → Obeys (Err causes.WriteFailed) step kept s t old new line a b
-      unwritten told s t old new line p a b n e o written = (
-        n,
-        λ r.
-            let d = was_refused told old.memory_refused new.memory_refused s t line p e o r in
-            (d.0, p, d.1, written),
-      )
-
-      pub not_obeyed : (error : LineError) (s t : S) (run : Run) (line p : List ℕ) (a : Option (List ℕ)) → Obeyed (Err error) t p (step s line)
-          → ((f : Fault) → ◌≡◌ {A = Result Told LineError} (Err error) (Err (errors.Fault f)) → kept s t) → Obeys (Err (cause_of error)) step kept s t run run line a a
-      not_obeyed errors.OutOfMemory s t run line p a o k = (refl, λ r. (r, keeps_same a))
-      not_obeyed (errors.Fault f) s t run line p a o k = (refl, λ r. (r, o, k f refl, keeps_same a))

@@ -82,7 +82,7 @@ pub trait Obeyer {
     ghost log_told: { Self → List ℕ };
 
     // What is kept at a fault of a line, between the state before it and the state that it leaves.
-    ghost kept: { Self.State → Self.State → Type 0 } = { λ _ _. ⊤ };
+    ghost kept: { Self.State → Self.State → Type 0 };
 
     // What holds if a line may find no memory, and the next one be obeyed.
     ghost may_lack: { Type 0 } = { ⊤ };
