@@ -1,31 +1,23 @@
 -- A run that goes on by a line.
-use Rattle.std.proofs.Common.{◌≡◌, ◌⊎◌, inl, inr, ℕ, ◌+◌, ◌≤◌, List, [], ◌∷◌, ◌++◌, length, Option, Some, None, Result, Ok, Err, true, false, refl, sym, ◌∙◌, ap, subst, Bool, IfSome}
+use Rattle.std.proofs.Common.{◌≡◌, ◌⊎◌, inl, inr, ℕ, ◌+◌, ◌≤◌, List, [], ◌∷◌, ◌++◌, Option, Some, None, Result, Ok, Err, true, false, refl, sym, ◌∙◌, ap, subst, Bool, IfSome}
 use Rattle.std.specs.Io.KnownBytes.{Appends, Keeps, append_known}
 use Rattle.text_lines.specs.Known.{Known, IsFront}
 use Rattle.text_lines.specs.Lines.{lines_of}
-use Rattle.script_commands.specs.Ending.{cause_of}
 use Rattle.script_commands.specs.declared.ending.Cause.{Cause}
 use Rattle.script_commands.specs.declared.ending.Cause.TheVariants as causes
-use Rattle.script_commands.specs.declared.fault.LineError.{LineError}
-use Rattle.script_commands.specs.declared.fault.LineError.TheVariants as errors
 use Rattle.script_commands.specs.declared.fault.Fault.{Fault}
-use Rattle.line_runs.specs.Limits.{above, unless_above, IsAbove, Read}
-use Rattle.line_runs.specs.Outcome.{Steps, numbered_line, Outcome, then_rest, outcome_from, outcome, state_after, left_from, left, or_refused, Obeyed}
-use Rattle.line_runs.specs.Ending.{EndedByCause, Ended, Left, KeptByCause, Kept, IsLastCause}
-use Rattle.line_runs.specs.Taking.{Future, further, GoesOn, StoppedBy, Unless, Stops, Obeys, IsAsBefore, Takes, TakesNext}
+use Rattle.line_runs.specs.Limits.{above, unless_above, Read}
+use Rattle.line_runs.specs.Outcome.{Steps, numbered_line, then_rest, outcome_from, outcome, state_after, left_from, left}
+use Rattle.line_runs.specs.Ending.{Ended, Left}
+use Rattle.line_runs.specs.Taking.{Future, further, GoesOn, StoppedBy, Unless, Stops, Obeys, Takes, TakesNext}
 use Rattle.line_runs.specs.declared.limits.Limits.{Limits}
-use Rattle.line_runs.specs.declared.running.Told.{Told}
-use Rattle.line_runs.specs.declared.running.Told.TheVariants.{Answered, NoMemory}
 use Rattle.line_runs.specs.declared.taking.Run.{Run}
 use Rattle.line_runs.specs.declared.taking.Turn.{Turn}
 use Rattle.line_runs.specs.declared.taking.Turn.TheVariants.{Line, End, Open}
-use Rattle.line_runs.proofs.Written.{keeps_same, keeps_both, keeps_appends, keeps_none, keeps_front, front_all, kept_front, front_kept, appends_kept, appends_then, front_then, appends_all, appends_end, appends_start, appends_none}
+use Rattle.line_runs.proofs.Written.{keeps_same, keeps_both, keeps_appends, keeps_none, keeps_front, kept_front, front_kept, appends_then, front_then, appends_none}
 
 module _ (S : Type 0) where
   -- What goes on
-
-  goes_again : (a b c : Option (List ℕ)) (rest some whole : Future S) → GoesOn a b some whole → GoesOn b c rest some → GoesOn a c rest whole
-  goes_again a b c rest some whole w v = record { text = appends_end a b c rest.told.text some.told.text whole.told.text v.text w.text; fault = v.fault ∙ w.fault; left = v.left ∙ w.left }
 
   goes_kept : (a b c : Option (List ℕ)) (rest whole : Future S) → GoesOn a b rest whole → Keeps b c → GoesOn a c rest whole
   goes_kept a b c rest whole w k = record { text = by a b c w.text k; fault = w.fault; left = w.left }
@@ -44,41 +36,12 @@ module _ (S : Type 0) where
 
   -- What ends a run
 
-  front_more : (a b c : Option (List ℕ)) (rest whole : List ℕ) → Appends a (append_known b rest) whole → IsFront b c rest → IsFront a c whole
-  front_more a b c rest whole w written = (written.0, appends_end a b c written.0 rest whole written.1 w)
-
   module _ (kept : S → S → Type 0) where
-    stopped_more : (n : ℕ) (cause : Cause) (t : S) (a b c : Option (List ℕ)) (rest whole : Future S) → GoesOn a b rest whole → StoppedBy kept n cause t b c rest → StoppedBy kept n cause t a c whole
-    stopped_more n (causes.Fault f) t a b c rest whole w e =
-        ((appends_all a b c rest.told.text whole.told.text e.0.0 w.text, sym w.fault ∙ e.0.1), subst (λ l. (t ≡ l) ⊎ kept l t) w.left e.1)
-    stopped_more n causes.ReadFailed t a b c rest whole w e = (front_more a b c rest.told.text whole.told.text w.text e.0, tt)
-    stopped_more n causes.OutOfMemory t a b c rest whole w e = (front_more a b c rest.told.text whole.told.text w.text e.0, tt)
-    stopped_more n causes.WriteFailed t a b c rest whole w e = (front_more a b c rest.told.text whole.told.text w.text e.0, tt)
-
     stopped_before : (n : ℕ) (cause : Cause) (t : S) (a b c : Option (List ℕ)) (o : Future S) → Keeps a b → StoppedBy kept n cause t b c o → StoppedBy kept n cause t a c o
     stopped_before n (causes.Fault f) t a b c o k e = ((keeps_appends a b c o.told.text k e.0.0, e.0.1), e.1)
     stopped_before n causes.ReadFailed t a b c o k e = (front_kept a b c o.told.text k e.0, tt)
     stopped_before n causes.OutOfMemory t a b c o k e = (front_kept a b c o.told.text k e.0, tt)
     stopped_before n causes.WriteFailed t a b c o k e = (front_kept a b c o.told.text k e.0, tt)
-
-    stopped_kept : (n : ℕ) (cause : Cause) (t : S) (a b c : Option (List ℕ)) (o : Future S) → StoppedBy kept n cause t a b o → Keeps b c → StoppedBy kept n cause t a c o
-    stopped_kept n (causes.Fault f) t a b c o e k = ((appends_kept a b c o.told.text e.0.0 k, e.0.1), e.1)
-    stopped_kept n causes.ReadFailed t a b c o e k = (kept_front a b c o.told.text e.0 k, tt)
-    stopped_kept n causes.OutOfMemory t a b c o e k = (kept_front a b c o.told.text e.0 k, tt)
-    stopped_kept n causes.WriteFailed t a b c o e k = (kept_front a b c o.told.text e.0 k, tt)
-
-    -- whatever ends it, a front was written
-    stopped_front : (n : ℕ) (cause : Cause) (t : S) (a b : Option (List ℕ)) (o : Future S) → StoppedBy kept n cause t a b o → IsFront a b o.told.text
-    stopped_front n (causes.Fault f) t a b o e = front_all a b o.told.text e.0.0
-    stopped_front n causes.ReadFailed t a b o e = e.0
-    stopped_front n causes.OutOfMemory t a b o e = e.0
-    stopped_front n causes.WriteFailed t a b o e = e.0
-
-    stopped_last : (n : ℕ) (cause last : Cause) (t : S) (a b : Option (List ℕ)) (o : Future S) → IsLastCause cause last → StoppedBy kept n cause t a b o → StoppedBy kept n last t a b o
-    stopped_last n cause causes.WriteFailed t a b o i e = (stopped_front n cause t a b o e, tt)
-    stopped_last n cause causes.ReadFailed t a b o i e = subst (λ x. StoppedBy kept n x t a b o) i e
-    stopped_last n cause causes.OutOfMemory t a b o i e = subst (λ x. StoppedBy kept n x t a b o) i e
-    stopped_last n cause (causes.Fault f) t a b o i e = subst (λ x. StoppedBy kept n x t a b o) i e
 
     module _ (m : Limits) (step : Steps S) where
       -- A line and those behind it
@@ -169,18 +132,6 @@ module _ (S : Type 0) where
       unread s run None rb a = tt
       unread s run (Some all) rb a = λ r. (r, (keeps_front a a _ (keeps_same a), tt))
 
-      pub none_left : (s : S) (run : Run) (line : List ℕ) (ra rb a : Option (List ℕ)) → Read m run.number (Ok false) line ra rb → Takes (Ok End) m step kept s s run run ra rb a a
-      none_left s run line None rb a reads = (tt, (refl, refl, refl, keeps_same a))
-      none_left s run line (Some all) None a reads = absurd reads
-      none_left s run line (Some all) (Some rest) a reads = (reads, (refl, refl, refl, keeps_same a))
-
-      pub none_held : (s : S) (run : Run) (held : List ℕ) (ra rb a : Option (List ℕ)) → length held ≡ 0 → IfSome ra (λ all. length held ≡ 0 → all ≡ []) → Takes (Ok End) m step kept s s run run ra rb a a
-      none_held s run held None rb a none end = (tt, (refl, refl, refl, keeps_same a))
-      none_held s run held (Some all) rb a none end = (ap lines_of (end none), (refl, refl, refl, keeps_same a))
-
-      pub left_open : (s : S) (run : Run) (ra rb a : Option (List ℕ)) → Keeps ra rb → Takes (Ok Open) m step kept s s run run ra rb a a
-      left_open s run ra rb a k = (k, (refl, refl, refl, keeps_same a))
-
       -- A line that isn't taken where it lies, and then copied
 
       pub next_line : (s u t : S) (old mid new : Run) (ra rb rc a b c d : Option (List ℕ)) → Takes (Ok Open) m step kept s u old mid ra rb a b → Keeps b c
@@ -243,37 +194,6 @@ module _ (S : Type 0) where
       abbrev pub Inv : (first s : S) → Run → (ra rb a b : Option (List ℕ)) → Type 0
       Inv first s run ra rb a b = Known ra rb (λ all rest. run.memory_refused ≡ false → GoesOn a b (further m step s run.number (lines_of rest)) (further m step first 1 (lines_of all)))
 
-      pub at_first : (s : S) (run : Run) (ra a : Option (List ℕ)) → run.number ≡ 1 → Inv s s run ra ra a a
-      at_first s run None a n = tt
-      at_first s run (Some all) a n = λ r. rw n record { text = appends_start a _; fault = refl; left = refl }
-
-      pub at_line : (first s t : S) (old new : Run) (ra rb rc a b c : Option (List ℕ)) → Inv first s old ra rb a b → Takes (Ok Line) m step kept s t old new rb rc b c → Inv first t new ra rc a c
-      at_line first s t old new None rb rc a b c inv w = tt
-      at_line first s t old new (Some all) None rc a b c inv w = absurd inv
-      at_line first s t old new (Some all) (Some rest) None a b c inv w = absurd w.2
-      at_line first s t old new (Some all) (Some rest) (Some behind) a b c inv w = λ r. goes_again a b c _ _ _ (inv (w.2 r).0) (w.2 r).1
-
-      abbrev pub EndsSo : (t : S) → (refused : Bool) → ℕ → Cause → (ra a b : Option (List ℕ)) → (first : S) → Type 0
-      EndsSo t refused n cause ra a b first = IfSome ra (λ input. refused ≡ false → StoppedBy kept n cause t a b (further m step first 1 (lines_of input)))
-
-      pub at_cause : (first s t : S) (old new : Run) (cause last : Cause) (ra rb rc a b c d : Option (List ℕ)) → Inv first s old ra rb a b → Takes (Err cause) m step kept s t old new rb rc b c
-          → Keeps c d → IsLastCause cause last → EndsSo t new.memory_refused new.number last ra a d first
-      at_cause first s t old new cause last None rb rc a b c d inv w k l = tt
-      at_cause first s t old new cause last (Some all) None rc a b c d inv w k l = absurd inv
-      at_cause first s t old new cause last (Some all) (Some rest) rc a b c d inv w k l = λ r.
-          stopped_last new.number cause last t a d _ l
-          (stopped_kept new.number cause t a c d _ (stopped_more new.number cause t a b c _ _ (inv (w r).0) (w r).1) k)
-
-      pub ended_so : (t : S) (refused : Bool) (n : ℕ) (cause : Cause) (ra a b : Option (List ℕ)) (first : S) → EndsSo t refused n cause ra a b first
-          → IfSome ra (λ input. Ended record { fault = Some record { line = n; cause = cause }; memory_refused = refused } a b (outcome m step first input))
-      ended_so t refused n cause None a b first e = tt
-      ended_so t refused n cause (Some all) a b first e = λ r. (e r).0
-
-      pub kept_so : (t : S) (refused : Bool) (n : ℕ) (cause : Cause) (ra a b : Option (List ℕ)) (first : S) → EndsSo t refused n cause ra a b first
-          → IfSome ra (λ input. Kept kept record { fault = Some record { line = n; cause = cause }; memory_refused = refused } t (left m step first input))
-      kept_so t refused n cause None a b first e = tt
-      kept_so t refused n cause (Some all) a b first e = λ r. (e r).1
-
       -- with no line left
       no_told : (s : S) (n : ℕ) → outcome_from m step s n [] ≡ record { text = []; fault = None }
       unfolding outcome_from
@@ -303,8 +223,3 @@ module _ (S : Type 0) where
           → IfSome ra (λ input. Left record { fault = None; memory_refused = refused } t (left m step first input))
       left_all t refused None a b first e = tt
       left_all t refused (Some all) a b first e = λ r f. (e r).left
-
-      -- the last flush failed
-      pub unflushed_all : (t : S) (refused : Bool) (n : ℕ) (ra a b : Option (List ℕ)) (first : S) → EndsAll t refused ra a b first → EndsSo t refused n causes.WriteFailed ra a b first
-      unflushed_all t refused n None a b first e = tt
-      unflushed_all t refused n (Some all) a b first e = λ r. (goes_front a b _ _ (e r), tt)

@@ -54,12 +54,6 @@ kept_front (Some s) (Some t) (Some u) x h k = (h.0, ap (λ v. v ++ h.0) k ∙ h.
 pub front_kept : (a b c : Option (List ℕ)) (x : List ℕ) → Keeps a b → IsFront b c x → IsFront a c x
 front_kept a b c x k h = (h.0, keeps_appends a b (append_known c h.0) x k h.1)
 
-pub appends_kept : (a b c : Option (List ℕ)) (x : List ℕ) → Appends a b x → Keeps b c → Appends a c x
-appends_kept None b c x h k = tt
-appends_kept (Some s) None c x h k = absurd h
-appends_kept (Some s) (Some t) None x h k = k
-appends_kept (Some s) (Some t) (Some u) x h k = k ∙ h
-
 -- what was written and what follows
 pub appends_then : (a b : Option (List ℕ)) (p rest : List ℕ) → Appends a b p → Appends a (append_known b rest) (p ++ rest)
 appends_then None b p rest h = tt
@@ -73,23 +67,6 @@ front_then a b p rest h = by a b h.0 h.1
     by None y more q = ([], tt)
     by (Some s) None more q = absurd q
     by (Some s) (Some t) more q = (more ++ rest, sym (append_assoc t more rest) ∙ ap (λ v. v ++ rest) q ∙ append_assoc s p rest)
-
--- one after another
-pub appends_all : (a b c : Option (List ℕ)) (x all : List ℕ) → Appends b c x → Appends a (append_known b x) all → Appends a c all
-appends_all None b c x all p q = tt
-appends_all (Some s) None c x all p q = absurd q
-appends_all (Some s) (Some t) None x all p q = p
-appends_all (Some s) (Some t) (Some u) x all p q = p ∙ q
-
-pub appends_end : (a b c : Option (List ℕ)) (more text all : List ℕ) → Appends b (append_known c more) text → Appends a (append_known b text) all → Appends a (append_known c more) all
-appends_end None b c more text all p q = tt
-appends_end (Some s) None c more text all p q = absurd q
-appends_end (Some s) (Some t) None more text all p q = absurd p
-appends_end (Some s) (Some t) (Some u) more text all p q = p ∙ q
-
-pub appends_start : (a : Option (List ℕ)) (all : List ℕ) → Appends a (append_known a all) all
-appends_start None all = tt
-appends_start (Some s) all = refl
 
 pub appends_none : (a b : Option (List ℕ)) (all : List ℕ) → Appends a (append_known b []) all → Appends a b all
 appends_none None b all q = tt
