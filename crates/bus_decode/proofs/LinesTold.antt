@@ -2,7 +2,6 @@
 use Rattle.std.proofs.Common.{◌≡◌, List, [], ◌++◌, ℕ, Result, Ok, Err, sym, ◌∙◌, ap}
 use Rattle.script_commands.specs.declared.fault.Fault.{Fault}
 use Rattle.line_runs.specs.Outcome as lines
-use Rattle.line_runs.specs.declared.running.Told.{Told}
 use Rattle.line_runs.specs.declared.running.Told.TheVariants.{Answered}
 use Rattle.log_courses.specs.Course.{more}
 use Rattle.bus_decode.specs.Listening.{Listening, Step, Read, line_seen}

@@ -5,7 +5,9 @@ use Rattle.script_commands.specs.declared.ending.Cause.TheVariants as causes
 use Rattle.script_commands.specs.declared.ending.ScriptFault.{ScriptFault}
 use Rattle.line_runs.specs.Ending.{EndedBy}
 use Rattle.log_summary.specs.declared.counts.Counts.{Counts}
-use Rattle.bus_decode.specs.Outcome.{Outcome}
+use Rattle.log_summary.specs.declared.options.Options.{Options}
+use Rattle.bus_decode.specs.Listening.{Hearing}
+use Rattle.bus_decode.specs.Outcome.{Outcome, last_outcome}
 use Rattle.bus_decode.specs.declared.running.Decoded.{Decoded}
 
 -- the counts are those of the log, unless a read or a write failed or memory was refused
@@ -21,3 +23,8 @@ CountedBy (Some f) counts of_log = CountedByCause f.cause counts of_log
 
 abbrev pub Ended : Decoded → Option (List ℕ) → Option (List ℕ) → Outcome → Type 0
 Ended d a b o = EndedBy d.fault a b o.told × CountedBy d.fault d.counts o.counts
+
+-- after the lines, which ended by a fault or not, with what was heard and counted
+abbrev pub EndsRun : Option ScriptFault → Decoded → Options → Hearing → Option (List ℕ) → Option (List ℕ) → Type 0
+EndsRun None d options s a b = Ended d a b (last_outcome options s)
+EndsRun (Some f) d options s a b = (d ≡ record { counts = s.1; fault = Some f }) × (a ≡ b)

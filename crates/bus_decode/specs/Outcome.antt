@@ -1,5 +1,5 @@
 -- The outcome of a log: that of its lines up to its fault, or else of its lines and its end.
-use Rattle.std.specs.Prelude.{ℕ, List, [], ◌++◌, Option, Some, None, Result, Ok, Err}
+use Rattle.std.specs.Prelude.{ℕ, List, [], ◌++◌, Some, None, Result, Ok, Err}
 use Rattle.script_commands.specs.declared.fault.Fault.{Fault}
 use Rattle.script_commands.specs.declared.fault.Fault.TheVariants.{NotLogLine}
 use Rattle.script_commands.specs.declared.fault.LineError.{LineError as ScriptError}

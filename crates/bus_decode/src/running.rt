@@ -1,8 +1,8 @@
 //! A log, read line by line.
 ghost use Rattle.std.specs.Prelude.{◌≡◌, IfSome};
 ghost use Rattle.line_runs.specs.Ending.{status_of};
-ghost use Rattle.bus_decode.specs.Outcome.{last_outcome, outcome};
-ghost use Rattle.bus_decode.specs.Ending.{Ended};
+ghost use Rattle.bus_decode.specs.Outcome.{outcome};
+ghost use Rattle.bus_decode.specs.Ending.{EndsRun, Ended};
 
 use crate::listening::take_end;
 use crate::taking::{Run, number_behind};
@@ -41,18 +41,30 @@ fn failed(line: u64, cause: Cause, counts: Counts) -> Decoded
     }
 }
 
-/// The log ends: the output of that is written and flushed.
+/// The lines are read: at the end of the log the output of that is written and flushed; at a fault nothing is.
 #[tactic(auto, using(text_lines::proofs::Known::front_none))]
-fn end_run<W: Write>(alloc: Global, run: &mut Run, writer: &mut W) -> Decoded
-    ensures { Ended result (W.contents writer.old) (W.contents writer.new) (last_outcome run.old.options.now (run.old.listener, run.old.counts)) }
+fn end_run<W: Write>(
+    alloc: Global,
+    options: &Options,
+    run: &mut Run,
+    fault: Option<ScriptFault>,
+    writer: &mut W,
+) -> Decoded
+    ensures { EndsRun fault result options.now (run.old.listener, run.old.counts) (W.contents writer.old) (W.contents writer.new) }
 {
+    if fault.is_some() {
+        return Decoded {
+            counts: run.counts,
+            fault,
+        };
+    }
     let number = number_behind(&run.counts);
     run.told.clear();
     let ended = take_end(
         alloc,
         &mut run.listener,
         &mut run.counts,
-        run.options,
+        options,
         &mut run.told,
     );
     let Ok(()) = ended else {
@@ -87,11 +99,5 @@ pub fn run_decode<R: BufRead, W: Write>(
     let mut run = Run::new(alloc, options);
     let mut nowhere = io::sink();
     let ran = run_lines(alloc, &limits, &mut run, reader, writer, &mut nowhere);
-    match ran.fault {
-        None => end_run(alloc, &mut run, writer),
-        Some(fault) => Decoded {
-            counts: run.counts,
-            fault: Some(fault),
-        },
-    }
+    end_run(alloc, options, &mut run, ran.fault, writer)
 }
