@@ -11,4 +11,4 @@ mod telling;
 
 pub use log_summary::{Counts, Options, Strays, Wanted};
 pub use running::{Decoded, run_decode};
-pub use script_commands::{Cause, Fault, ScriptFault};
+pub use script_commands::{Cause, ScriptFault};
