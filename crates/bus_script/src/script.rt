@@ -52,8 +52,8 @@ impl<S: Sheet> Obeyer for Script<S> {
     }
 }
 
-/// Runs a script: reads its lines to the end of the input, obeys each, and writes and flushes what the sheet shows of it, its log first,
-/// before the next line is read. It ends at the first fault, at 1,000,001 lines at the latest.
+/// Runs a script: reads its lines to the end of the input, obeys each, and writes what the sheet shows of it, its log first, before the next line
+/// is obeyed. It ends at the first fault, at 1,000,001 lines at the latest.
 pub fn run_on<R: BufRead, T: Write, L: Write, S: Sheet + Drop>(
     alloc: Global,
     sheet: S,

@@ -2,6 +2,7 @@
 use Rattle.std.proofs.Common.{◌≡◌, ◌⊎◌, inl, inr, ℕ, ◌+◌, ◌≤◌, List, [], ◌∷◌, ◌++◌, Option, Some, None, Result, Ok, Err, true, false, refl, sym, ◌∙◌, ap, subst, Bool, IfSome}
 use Rattle.std.specs.Io.KnownBytes.{Appends, Keeps, append_known}
 use Rattle.text_lines.specs.Known.{Known, IsFront}
+use Rattle.text_lines.proofs.Known.{appends_keeps}
 use Rattle.text_lines.specs.Lines.{lines_of}
 use Rattle.script_commands.specs.declared.ending.Cause.{Cause}
 use Rattle.script_commands.specs.declared.ending.Cause.TheVariants as causes
@@ -9,11 +10,9 @@ use Rattle.script_commands.specs.declared.fault.Fault.{Fault}
 use Rattle.line_runs.specs.Limits.{above, unless_above, Read}
 use Rattle.line_runs.specs.Outcome.{Steps, numbered_line, then_rest, outcome_from, outcome, state_after, left_from, left}
 use Rattle.line_runs.specs.Ending.{Ended, Left}
-use Rattle.line_runs.specs.Taking.{Future, further, GoesOn, StoppedBy, Unless, Stops, Obeys, Takes, TakesNext}
+use Rattle.line_runs.specs.Taking.{Future, further, GoesOn, StoppedBy, Unless, Stops, Obeys, IsFlushedAfter, IsAsBefore, Takes}
 use Rattle.line_runs.specs.declared.limits.Limits.{Limits}
 use Rattle.line_runs.specs.declared.taking.Run.{Run}
-use Rattle.line_runs.specs.declared.taking.Turn.{Turn}
-use Rattle.line_runs.specs.declared.taking.Turn.TheVariants.{Line, End, Open}
 use Rattle.line_runs.proofs.Written.{keeps_same, keeps_both, keeps_appends, keeps_none, keeps_front, kept_front, front_kept, appends_then, front_then, appends_none}
 
 module _ (S : Type 0) where
@@ -42,6 +41,12 @@ module _ (S : Type 0) where
     stopped_before n causes.ReadFailed t a b c o k e = (front_kept a b c o.told.text k e.0, tt)
     stopped_before n causes.OutOfMemory t a b c o k e = (front_kept a b c o.told.text k e.0, tt)
     stopped_before n causes.WriteFailed t a b c o k e = (front_kept a b c o.told.text k e.0, tt)
+
+    stopped_kept : (n : ℕ) (cause : Cause) (t : S) (a b c : Option (List ℕ)) (o : Future S) → StoppedBy kept n cause t a b o → Keeps b c → StoppedBy kept n cause t a c o
+    stopped_kept n (causes.Fault f) t a b c o e k = ((appends_keeps a b c o.told.text e.0.0 k, e.0.1), e.1)
+    stopped_kept n causes.ReadFailed t a b c o e k = (kept_front a b c o.told.text e.0 k, tt)
+    stopped_kept n causes.OutOfMemory t a b c o e k = (kept_front a b c o.told.text e.0 k, tt)
+    stopped_kept n causes.WriteFailed t a b c o e k = (kept_front a b c o.told.text e.0 k, tt)
 
     module _ (m : Limits) (step : Steps S) where
       -- A line and those behind it
@@ -87,8 +92,8 @@ module _ (S : Type 0) where
 
       -- The next line of a reader
 
-      pub taken_line : (done : Unit {0}) (s t : S) (old new : Run) (line : List ℕ) (ra rb a b : Option (List ℕ)) → old.number ≤ m.lines → Read m old.number (Ok true) line ra rb
-          → Obeys (Ok done) step kept s t old new line a b → Takes (Ok Line) m step kept s t old new ra rb a b
+      taken_line : (done : Unit {0}) (s t : S) (old new : Run) (line : List ℕ) (ra rb a b : Option (List ℕ)) → old.number ≤ m.lines → Read m old.number (Ok true) line ra rb
+          → Obeys (Ok done) step kept s t old new line a b → Takes (Ok true) m step kept s t old new ra rb a b
       taken_line done s t old new line None rb a b few reads o = (o.0, few, tt)
       taken_line done s t old new line (Some all) None a b few reads o = absurd reads.1
       taken_line done s t old new line (Some all) (Some rest) a b few reads o = (
@@ -99,7 +104,7 @@ module _ (S : Type 0) where
             (d.0, rw (o.0, reads.1) (line_done s t old.number d.1.0 line (lines_of rest) a b reads.0 d.1.1 d.1.2)),
       )
 
-      pub failed_line : (s t : S) (old new : Run) (line : List ℕ) (cause : Cause) (ra rb a b : Option (List ℕ)) → Read m old.number (Ok true) line ra rb
+      failed_line : (s t : S) (old new : Run) (line : List ℕ) (cause : Cause) (ra rb a b : Option (List ℕ)) → Read m old.number (Ok true) line ra rb
           → Obeys (Err cause) step kept s t old new line a b → Takes (Err cause) m step kept s t old new ra rb a b
       failed_line s t old new line cause None rb a b reads o = tt
       failed_line s t old new line cause (Some all) None a b reads o = absurd reads.1
@@ -108,16 +113,40 @@ module _ (S : Type 0) where
           (d.0, rw (o.0, reads.1) (line_stops cause s t old.number line (lines_of rest) a b reads.0 d.1))
 
       -- and then flushed, or not
-      pub flushed_line : (s t : S) (old new : Run) (ra rb a b c : Option (List ℕ)) → Takes (Ok Line) m step kept s t old new ra rb a b → Keeps b c → Takes (Ok Line) m step kept s t old new ra rb a c
+      flushed_line : (s t : S) (old new : Run) (ra rb a b c : Option (List ℕ)) → Takes (Ok true) m step kept s t old new ra rb a b → Keeps b c → Takes (Ok true) m step kept s t old new ra rb a c
       flushed_line s t old new None rb a b c w k = (w.0, w.1, tt)
       flushed_line s t old new (Some all) None a b c w k = absurd w.2
       flushed_line s t old new (Some all) (Some rest) a b c w k = (w.0, w.1, λ r. ((w.2 r).0, goes_kept a b c _ _ (w.2 r).1 k))
 
-      pub unflushed_line : (s t : S) (old new : Run) (ra rb a b c : Option (List ℕ)) → Takes (Ok Line) m step kept s t old new ra rb a b → Keeps b c
+      unflushed_line : (s t : S) (old new : Run) (ra rb a b c : Option (List ℕ)) → Takes (Ok true) m step kept s t old new ra rb a b → Keeps b c
           → Takes (Err causes.WriteFailed) m step kept s t old new ra rb a c
       unflushed_line s t old new None rb a b c w k = tt
       unflushed_line s t old new (Some all) None a b c w k = absurd w.2
       unflushed_line s t old new (Some all) (Some rest) a b c w k = λ r. ((w.2 r).0, (kept_front a b c _ (goes_front a b _ _ (w.2 r).1) k, tt))
+
+      stopped_line : (s t : S) (old new : Run) (cause : Cause) (ra rb a b c : Option (List ℕ)) → Takes (Err cause) m step kept s t old new ra rb a b → Keeps b c → Takes (Err cause) m step kept s t old new ra rb a c
+      stopped_line s t old new cause None rb a b c w k = tt
+      stopped_line s t old new cause (Some all) rb a b c w k = λ r. ((w r).0, stopped_kept new.number cause t a b c _ (w r).1 k)
+
+      -- a flush changes neither its number nor whether a line found no memory
+      flushed_run : (obeyed : Result (Unit {0}) Cause) (s t : S) (old new flushed : Run) (line : List ℕ) (a b : Option (List ℕ)) → (flushed.number ≡ new.number) × (flushed.memory_refused ≡ new.memory_refused)
+          → Obeys obeyed step kept s t old new line a b → Obeys obeyed step kept s t old flushed line a b
+      flushed_run (Ok done) s t old new flushed line a b e o = (e.0 ∙ o.0, λ r. o.1 (sym e.1 ∙ r))
+      flushed_run (Err cause) s t old new flushed line a b e o = (e.0 ∙ o.0, λ r. o.1 (sym e.1 ∙ r))
+
+      after_line : (obeyed : Result (Unit {0}) Cause) (after : Result Bool Cause) (s t : S) (old new : Run) (line : List ℕ) (ra rb a b c : Option (List ℕ)) → old.number ≤ m.lines
+          → Read m old.number (Ok true) line ra rb → Obeys obeyed step kept s t old new line a b → IsFlushedAfter obeyed after → Keeps b c → Takes after m step kept s t old new ra rb a c
+      after_line (Err cause) after s t old new line ra rb a b c few reads o f k =
+          subst (λ x. Takes x m step kept s t old new ra rb a c) (sym f) (stopped_line s t old new cause ra rb a b c (failed_line s t old new line cause ra rb a b reads o) k)
+      after_line (Ok done) (Ok is_line) s t old new line ra rb a b c few reads o f k =
+          subst (λ (x : Bool). Takes (Ok x) m step kept s t old new ra rb a c) (sym f) (flushed_line s t old new ra rb a b c (taken_line done s t old new line ra rb a b few reads o) k)
+      after_line (Ok done) (Err cause) s t old new line ra rb a b c few reads o f k =
+          subst (λ (x : Cause). Takes (Err x) m step kept s t old new ra rb a c) (sym f) (unflushed_line s t old new ra rb a b c (taken_line done s t old new line ra rb a b few reads o) k)
+
+      pub line_taken : (obeyed : Result (Unit {0}) Cause) (after : Result Bool Cause) (s t : S) (old new flushed : Run) (line : List ℕ) (ra rb a b c : Option (List ℕ)) → (flushed.number ≡ new.number) × (flushed.memory_refused ≡ new.memory_refused)
+          → old.number ≤ m.lines → Read m old.number (Ok true) line ra rb → Obeys obeyed step kept s t old new line a b → IsFlushedAfter obeyed after → Keeps b c → Takes after m step kept s t old flushed ra rb a c
+      line_taken obeyed after s t old new flushed line ra rb a b c e few reads o f k =
+          after_line obeyed after s t old flushed line ra rb a b c few reads (flushed_run obeyed s t old new flushed line a b e o) f k
 
       -- no line was read
       pub not_read : (s : S) (run : Run) (line : List ℕ) (cause : Cause) (ra rb a : Option (List ℕ)) → Read m run.number (Err cause) line ra rb → Takes (Err cause) m step kept s s run run ra rb a a
@@ -134,9 +163,9 @@ module _ (S : Type 0) where
 
       -- A line that isn't taken where it lies, and then copied
 
-      pub next_line : (s u t : S) (old mid new : Run) (ra rb rc a b c d : Option (List ℕ)) → Takes (Ok Open) m step kept s u old mid ra rb a b → Keeps b c
-          → Takes (Ok Line) m step kept u t mid new rb rc c d → Takes (Ok Line) m step kept s t old new ra rc a d
-      next_line s u t old mid new ra rb rc a b c d o k w = (w.0 ∙ ap (λ n. n + 1) o.1.1, subst (λ n. n ≤ m.lines) o.1.1 w.1, by ra rb rc o.0 w.2)
+      next_line : (s u t : S) (old mid new : Run) (ra rb rc a b c d : Option (List ℕ)) → Keeps ra rb → IsAsBefore s u old mid a b → Keeps b c
+          → Takes (Ok true) m step kept u t mid new rb rc c d → Takes (Ok true) m step kept s t old new ra rc a d
+      next_line s u t old mid new ra rb rc a b c d q o k w = (w.0 ∙ ap (λ n. n + 1) o.1, subst (λ n. n ≤ m.lines) o.1 w.1, by ra rb rc q w.2)
         where
           by : (x y z : Option (List ℕ)) → Keeps x y
               → Known y z (λ all rest. Unless mid new (GoesOn c d (further m step t new.number (lines_of rest)) (further m step u mid.number (lines_of all))))
@@ -145,48 +174,45 @@ module _ (S : Type 0) where
           by (Some all) None z h v = absurd h
           by (Some all) (Some rest) None h v = absurd v
           by (Some all) (Some rest) (Some behind) h v = λ r.
-              let g : GoesOn c d (further m step t new.number (lines_of behind)) (further m step s old.number (lines_of all)) = rw (sym o.1.0, sym o.1.1, sym h) (v r).1 in
-              (sym o.1.2 ∙ (v r).0, goes_before a c d _ _ (keeps_both a b c o.1.3 k) g)
+              let g : GoesOn c d (further m step t new.number (lines_of behind)) (further m step s old.number (lines_of all)) = rw (sym o.0, sym o.1, sym h) (v r).1 in
+              (sym o.2 ∙ (v r).0, goes_before a c d _ _ (keeps_both a b c o.3 k) g)
 
-      pub next_end : (s u t : S) (old mid new : Run) (ra rb rc a b c d : Option (List ℕ)) → Takes (Ok Open) m step kept s u old mid ra rb a b → Keeps b c
-          → Takes (Ok End) m step kept u t mid new rb rc c d → Takes (Ok End) m step kept s t old new ra rc a d
-      next_end s u t old mid new ra rb rc a b c d o k w =
-          (by ra rb o.0 w.0, (w.1.0 ∙ o.1.0, w.1.1 ∙ o.1.1, w.1.2 ∙ o.1.2, keeps_both a c d (keeps_both a b c o.1.3 k) w.1.3))
+      next_end : (s u t : S) (old mid new : Run) (ra rb rc a b c d : Option (List ℕ)) → Keeps ra rb → IsAsBefore s u old mid a b → Keeps b c
+          → Takes (Ok false) m step kept u t mid new rb rc c d → Takes (Ok false) m step kept s t old new ra rc a d
+      next_end s u t old mid new ra rb rc a b c d q o k w =
+          (by ra rb q w.0, (w.1.0 ∙ o.0, w.1.1 ∙ o.1, w.1.2 ∙ o.2, keeps_both a c d (keeps_both a b c o.3 k) w.1.3))
         where
           by : (x y : Option (List ℕ)) → Keeps x y → IfSome y (λ all. lines_of all ≡ []) → IfSome x (λ all. lines_of all ≡ [])
           by None y h e = tt
           by (Some all) None h e = absurd h
           by (Some all) (Some rest) h e = subst (λ l. lines_of l ≡ []) h e
 
-      pub next_cause : (s u t : S) (old mid new : Run) (cause : Cause) (ra rb rc a b c d : Option (List ℕ)) → Takes (Ok Open) m step kept s u old mid ra rb a b → Keeps b c
+      next_cause : (s u t : S) (old mid new : Run) (cause : Cause) (ra rb rc a b c d : Option (List ℕ)) → Keeps ra rb → IsAsBefore s u old mid a b → Keeps b c
           → Takes (Err cause) m step kept u t mid new rb rc c d → Takes (Err cause) m step kept s t old new ra rc a d
-      next_cause s u t old mid new cause ra rb rc a b c d o k w = by ra rb o.0 w
+      next_cause s u t old mid new cause ra rb rc a b c d q o k w = by ra rb q w
         where
           by : (x y : Option (List ℕ)) → Keeps x y → IfSome y (λ all. Unless mid new (StoppedBy kept new.number cause t c d (further m step u mid.number (lines_of all))))
               → IfSome x (λ all. Unless old new (StoppedBy kept new.number cause t a d (further m step s old.number (lines_of all))))
           by None y h v = tt
           by (Some all) None h v = absurd h
           by (Some all) (Some rest) h v = λ r.
-              let e : StoppedBy kept new.number cause t c d (further m step s old.number (lines_of all)) = rw (sym o.1.0, sym o.1.1, sym h) (v r).1 in
-              (sym o.1.2 ∙ (v r).0, stopped_before new.number cause t a c d _ (keeps_both a b c o.1.3 k) e)
+              let e : StoppedBy kept new.number cause t c d (further m step s old.number (lines_of all)) = rw (sym o.0, sym o.1, sym h) (v r).1 in
+              (sym o.2 ∙ (v r).0, stopped_before new.number cause t a c d _ (keeps_both a b c o.3 k) e)
 
-      pub next_taken : (s u t : S) (old mid new : Run) (x : Result Bool Cause) (ra rb rc a b c d : Option (List ℕ)) → Takes (Ok Open) m step kept s u old mid ra rb a b → Keeps b c
-          → TakesNext x m step kept u t mid new rb rc c d → TakesNext x m step kept s t old new ra rc a d
-      next_taken s u t old mid new (Ok true) ra rb rc a b c d o k w = next_line s u t old mid new ra rb rc a b c d o k w
-      next_taken s u t old mid new (Ok false) ra rb rc a b c d o k w = next_end s u t old mid new ra rb rc a b c d o k w
-      next_taken s u t old mid new (Err cause) ra rb rc a b c d o k w = next_cause s u t old mid new cause ra rb rc a b c d o k w
+      pub next_taken : (s u t : S) (old mid new : Run) (x : Result Bool Cause) (ra rb rc a b c d : Option (List ℕ)) → Keeps ra rb → IsAsBefore s u old mid a b → Keeps b c
+          → Takes x m step kept u t mid new rb rc c d → Takes x m step kept s t old new ra rc a d
+      next_taken s u t old mid new (Ok true) ra rb rc a b c d q o k w = next_line s u t old mid new ra rb rc a b c d q o k w
+      next_taken s u t old mid new (Ok false) ra rb rc a b c d q o k w = next_end s u t old mid new ra rb rc a b c d q o k w
+      next_taken s u t old mid new (Err cause) ra rb rc a b c d q o k w = next_cause s u t old mid new cause ra rb rc a b c d q o k w
 
-      pub next_unwritten : (s u : S) (old mid : Run) (ra rb a b c : Option (List ℕ)) → Takes (Ok Open) m step kept s u old mid ra rb a b → Keeps b c
+      pub next_unwritten : (s u : S) (old mid : Run) (ra rb a b c : Option (List ℕ)) → Keeps ra rb → IsAsBefore s u old mid a b → Keeps b c
           → Takes (Err causes.WriteFailed) m step kept s u old mid ra rb a c
-      next_unwritten s u old mid None rb a b c o k = tt
-      next_unwritten s u old mid (Some all) rb a b c o k = λ r. (sym o.1.2 ∙ r, (keeps_front a c _ (keeps_both a b c o.1.3 k), tt))
+      next_unwritten s u old mid None rb a b c q o k = tt
+      next_unwritten s u old mid (Some all) rb a b c q o k = λ r. (sym o.2 ∙ r, (keeps_front a c _ (keeps_both a b c o.3 k), tt))
 
-      -- what came of the next line, by its name
-      pub turns_as : (turn as_known : Turn) (s t : S) (old new : Run) (ra rb a b : Option (List ℕ)) → turn ≡ as_known → Takes (Ok turn) m step kept s t old new ra rb a b → Takes (Ok as_known) m step kept s t old new ra rb a b
-      turns_as turn as_known s t old new ra rb a b e w = subst (λ x. Takes (Ok x) m step kept s t old new ra rb a b) e w
-
-      pub next_as : (is_line as_known : Bool) (s t : S) (old new : Run) (ra rb a b : Option (List ℕ)) → is_line ≡ as_known → TakesNext (Ok is_line) m step kept s t old new ra rb a b → TakesNext (Ok as_known) m step kept s t old new ra rb a b
-      next_as is_line as_known s t old new ra rb a b e w = subst (λ x. TakesNext (Ok x) m step kept s t old new ra rb a b) e w
+      pub next_as : (is_line as_known : Bool) (s t : S) (old new : Run) (ra rb a b : Option (List ℕ)) → is_line ≡ as_known → Takes (Ok is_line) m step kept s t old new ra rb a b
+          → Takes (Ok as_known) m step kept s t old new ra rb a b
+      next_as is_line as_known s t old new ra rb a b e w = subst (λ x. Takes (Ok x) m step kept s t old new ra rb a b) e w
 
       -- An input, line by line
 
@@ -206,7 +232,7 @@ module _ (S : Type 0) where
       abbrev pub EndsAll : (t : S) → (refused : Bool) → (ra a b : Option (List ℕ)) → (first : S) → Type 0
       EndsAll t refused ra a b first = IfSome ra (λ input. refused ≡ false → GoesOn a b (record { told = record { text = []; fault = None }; left = t }) (further m step first 1 (lines_of input)))
 
-      pub at_end : (first s t : S) (old new : Run) (ra rb rc a b c d : Option (List ℕ)) → Inv first s old ra rb a b → Takes (Ok End) m step kept s t old new rb rc b c
+      pub at_end : (first s t : S) (old new : Run) (ra rb rc a b c d : Option (List ℕ)) → Inv first s old ra rb a b → Takes (Ok false) m step kept s t old new rb rc b c
           → Keeps c d → EndsAll t new.memory_refused ra a d first
       at_end first s t old new None rb rc a b c d inv w k = tt
       at_end first s t old new (Some all) None rc a b c d inv w k = absurd inv

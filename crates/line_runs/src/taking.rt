@@ -1,7 +1,7 @@
 //! The next line of an input: it is looked at in the reader's buffer, and copied only if it crosses the buffer's end.
 ghost use Rattle.std.specs.Prelude.{◌≡◌, ◌<◌, ◌-◌, ◌^◌, true, false};
 ghost use Rattle.std.specs.Io.KnownBytes.{Keeps};
-ghost use Rattle.line_runs.specs.Taking.{Obeys, Takes, TakesNext};
+ghost use Rattle.line_runs.specs.Taking.{Obeys, IsFlushedAfter, Takes, TakesBoth, TakesHeld};
 
 use crate::limits::{Limits, next_line};
 use crate::running::{Obeyer, Told};
@@ -20,17 +20,6 @@ pub(crate) struct Run {
     pub(crate) memory_refused: bool,
     /// Whether all that was written in the text is flushed.
     pub(crate) is_flushed: bool,
-}
-
-/// The result of the next line.
-#[derive(Clone, Copy)]
-pub(crate) enum Turn {
-    /// It was taken.
-    Line,
-    /// There is no next line.
-    End,
-    /// A part of it isn't in the reader's buffer, or it is above the limits, and it wasn't taken.
-    Open,
 }
 
 /// Obeys the next line, and writes its output.
@@ -59,8 +48,32 @@ fn obey<T: Write, L: Write, O: Obeyer>(
     Ok(())
 }
 
-/// Takes the next line from the reader's buffer, if the whole line is there and within the limits. If the buffer ends with the line, the reader
-/// waits for more when it is asked next, so the output is flushed.
+/// Flushes the output of a line that was obeyed, unless more lines are there. There was a line, if nothing failed.
+fn flush_after<W: Write>(
+    obeyed: Result<(), Cause>,
+    has_more: bool,
+    is_flushed: &mut bool,
+    text: &mut W,
+) -> Result<bool, Cause>
+    ensures kept { Keeps (W.contents text.old) (W.contents text.new) }
+    ensures result { IsFlushedAfter obeyed result }
+{
+    match obeyed {
+        Ok(()) => {}
+        Err(cause) => return Err(cause),
+    }
+    if has_more {
+        return Ok(true);
+    }
+    let Ok(()) = flush_told(is_flushed, text) else {
+        return Err(Cause::WriteFailed);
+    };
+    Ok(true)
+}
+
+/// Takes the next line from the reader's buffer, and says whether there was one. If a part of it isn't in the buffer, or it is above the limits,
+/// it isn't taken, and the answer is None. If the buffer ends with the line, the reader waits for more when it is asked next, so the output is
+/// flushed.
 fn take_held<R: BufRead, T: Write, L: Write, O: Obeyer>(
     alloc: Global,
     limits: &Limits,
@@ -69,45 +82,34 @@ fn take_held<R: BufRead, T: Write, L: Write, O: Obeyer>(
     reader: &mut R,
     text: &mut T,
     log: &mut L,
-) -> Result<Turn, Cause>
+) -> Option<Result<bool, Cause>>
     requires { limits.now.lines < 2 ^ 64 - 1 }
-    ensures in_text { Takes result limits.now O.in_text O.kept (O.state obeyer.old) (O.state obeyer.new) run.old run.new (R.remaining reader.old) (R.remaining reader.new) (T.contents text.old) (T.contents text.new) }
-    ensures in_log { Takes result limits.now O.in_log O.kept (O.state obeyer.old) (O.state obeyer.new) run.old run.new (R.remaining reader.old) (R.remaining reader.new) (L.contents log.old) (L.contents log.new) }
+    ensures taken { TakesHeld result limits.now O.in_text O.in_log O.kept (O.state obeyer.old) (O.state obeyer.new) run.old run.new (R.remaining reader.old) (R.remaining reader.new) (T.contents text.old) (T.contents text.new) (L.contents log.old) (L.contents log.new) }
     ensures lacking { run.new.memory_refused ≡ true → run.old.memory_refused ≡ false → O.may_lack }
 {
     if run.number > limits.lines {
-        return Ok(Turn::Open);
+        return None;
     }
     let held = match reader.fill_buf() {
         Ok(held) => held,
         Err(e) => {
             return if e.kind() == ErrorKind::Interrupted {
-                Ok(Turn::Open)
+                None
             } else {
-                Err(Cause::ReadFailed)
+                Some(Err(Cause::ReadFailed))
             };
         }
     };
     let count = held.len();
     if count == 0 {
-        return Ok(Turn::End);
+        return Some(Ok(false));
     }
     let Some(len) = held_line(limits.bytes, held) else {
-        return Ok(Turn::Open);
+        return None;
     };
     let obeyed = obey(alloc, obeyer, run, &held[..len], text, log);
     reader.consume(len + 1);
-    match obeyed {
-        Ok(()) => {}
-        Err(cause) => return Err(cause),
-    }
-    if len + 1 < count {
-        return Ok(Turn::Line);
-    }
-    let Ok(()) = flush_told(&mut run.is_flushed, text) else {
-        return Err(Cause::WriteFailed);
-    };
-    Ok(Turn::Line)
+    Some(flush_after(obeyed, len + 1 < count, &mut run.is_flushed, text))
 }
 
 /// Reads the next line to its end, and takes it.
@@ -122,8 +124,7 @@ fn take_copied<R: BufRead, T: Write, L: Write, O: Obeyer>(
     log: &mut L,
 ) -> Result<bool, Cause>
     requires { limits.now.lines < 2 ^ 64 - 1 }
-    ensures in_text { TakesNext result limits.now O.in_text O.kept (O.state obeyer.old) (O.state obeyer.new) run.old run.new (R.remaining reader.old) (R.remaining reader.new) (T.contents text.old) (T.contents text.new) }
-    ensures in_log { TakesNext result limits.now O.in_log O.kept (O.state obeyer.old) (O.state obeyer.new) run.old run.new (R.remaining reader.old) (R.remaining reader.new) (L.contents log.old) (L.contents log.new) }
+    ensures taken { TakesBoth result limits.now O.in_text O.in_log O.kept (O.state obeyer.old) (O.state obeyer.new) run.old run.new (R.remaining reader.old) (R.remaining reader.new) (T.contents text.old) (T.contents text.new) (L.contents log.old) (L.contents log.new) }
     ensures lacking { run.new.memory_refused ≡ true → run.old.memory_refused ≡ false → O.may_lack }
 {
     match next_line(limits, run.number, reader, line) {
@@ -131,14 +132,8 @@ fn take_copied<R: BufRead, T: Write, L: Write, O: Obeyer>(
         Ok(false) => return Ok(false),
         Err(cause) => return Err(cause),
     }
-    match obey(alloc, obeyer, run, line.as_slice(), text, log) {
-        Ok(()) => {}
-        Err(cause) => return Err(cause),
-    }
-    let Ok(()) = flush_told(&mut run.is_flushed, text) else {
-        return Err(Cause::WriteFailed);
-    };
-    Ok(true)
+    let obeyed = obey(alloc, obeyer, run, line.as_slice(), text, log);
+    flush_after(obeyed, false, &mut run.is_flushed, text)
 }
 
 /// Takes the next line, and says whether there was one. The output is flushed before the reader is asked for more than it holds.
@@ -153,15 +148,13 @@ pub(crate) fn take_next<R: BufRead, T: Write, L: Write, O: Obeyer>(
     log: &mut L,
 ) -> Result<bool, Cause>
     requires { limits.now.lines < 2 ^ 64 - 1 }
-    ensures in_text { TakesNext result limits.now O.in_text O.kept (O.state obeyer.old) (O.state obeyer.new) run.old run.new (R.remaining reader.old) (R.remaining reader.new) (T.contents text.old) (T.contents text.new) }
-    ensures in_log { TakesNext result limits.now O.in_log O.kept (O.state obeyer.old) (O.state obeyer.new) run.old run.new (R.remaining reader.old) (R.remaining reader.new) (L.contents log.old) (L.contents log.new) }
+    ensures in_text { Takes result limits.now O.in_text O.kept (O.state obeyer.old) (O.state obeyer.new) run.old run.new (R.remaining reader.old) (R.remaining reader.new) (T.contents text.old) (T.contents text.new) }
+    ensures in_log { Takes result limits.now O.in_log O.kept (O.state obeyer.old) (O.state obeyer.new) run.old run.new (R.remaining reader.old) (R.remaining reader.new) (L.contents log.old) (L.contents log.new) }
     ensures lacking { run.new.memory_refused ≡ true → run.old.memory_refused ≡ false → O.may_lack }
 {
     match take_held(alloc, limits, obeyer, run, reader, text, log) {
-        Ok(Turn::Line) => return Ok(true),
-        Ok(Turn::End) => return Ok(false),
-        Ok(Turn::Open) => {}
-        Err(cause) => return Err(cause),
+        Some(taken) => return taken,
+        None => {}
     }
     let Ok(()) = flush_told(&mut run.is_flushed, text) else {
         return Err(Cause::WriteFailed);
