@@ -1,2 +1,3 @@
 pub mod FrameSteps
-pub mod RunSteps
+pub mod LinesTold
+pub mod Ends

@@ -3,4 +3,3 @@ pub mod Telling
 pub mod Listening
 pub mod Outcome
 pub mod Ending
-pub mod Taking

@@ -1,52 +1,65 @@
--- The outcome of a log, line by line, up to its fault.
-use Rattle.std.specs.Prelude.{ℕ, ◌+◌, ◌-◌, ◌^◌, List, [], ◌∷◌, ◌++◌, length, ◌||◌, Option, Some, None, Result, Ok, Err, nat_lt, nat_le, if◌then◌else◌, codes}
-use Rattle.text_lines.specs.Lines.{lines_of}
+-- The outcome of a log: that of its lines up to its fault, or else of its lines and its end.
+use Rattle.std.specs.Prelude.{ℕ, List, [], ◌++◌, Some, None, Result, Ok, Err}
+use Rattle.script_commands.specs.declared.fault.Fault.{Fault}
+use Rattle.script_commands.specs.declared.fault.Fault.TheVariants.{NotLogLine}
+use Rattle.script_commands.specs.declared.fault.LineError.{LineError as ScriptError}
+use Rattle.script_commands.specs.declared.fault.LineError.TheVariants as script_errors
+use Rattle.line_runs.specs.Limits.{log_limits}
+use Rattle.line_runs.specs.Outcome as lines
+use Rattle.log_courses.specs.Course.{more}
 use Rattle.log_summary.specs.Counts.{no_counts}
 use Rattle.bus_decode.specs.Listening.{Hearing, Listening, Step, first_listener, line_seen, ended_counts, ended_text}
 use Rattle.log_summary.specs.declared.counts.Counts.{Counts}
 use Rattle.log_summary.specs.declared.options.Options.{Options}
-use Rattle.bus_decode.specs.declared.running.Fault.{Fault}
-use Rattle.bus_decode.specs.declared.running.Fault.TheVariants.{TooManyLines, LineTooLong, NotLogLine}
+use Rattle.bus_decode.specs.declared.listening.LineError.{LineError}
+use Rattle.bus_decode.specs.declared.listening.LineError.TheVariants as errors
 
-abbrev pub fault_text : Fault → List ℕ
-fault_text TooManyLines = codes "too many lines"
-fault_text LineTooLong = codes "line too long"
-fault_text NotLogLine = codes "not a log line"
+-- the options, and what was heard so far
+abbrev pub Reading : Type 0
+Reading = Options × Listening
 
--- the most lines, and one more
-abbrev pub lines_end : ℕ
-lines_end = 2 ^ 64 - 1
+abbrev pub with_options : Options → Result Step Fault → Result (Reading × List ℕ) Fault
+with_options options (Ok step) = Ok ((options, step.0), step.1)
+with_options options (Err f) = Err f
 
--- the fault of a line n that is too long
-abbrev pub limit_fault : ℕ → Fault
-limit_fault n = if nat_le lines_end n then TooManyLines else LineTooLong
+-- a line is taken by its number: it is the one behind those that were counted
+abbrev pub told_by : lines.Steps Reading
+told_by s line = with_options s.0 (line_seen s.0 s.1 (more s.1.1.lines) line)
 
--- line n of a log, within the limits
-unfoldable pub numbered_line : Options → Listening → ℕ → List ℕ → Result Step Fault
-numbered_line options s n line = if nat_le lines_end n || nat_lt 8192 (length line) then Err (limit_fault n) else line_seen options s n line
+-- the log of a line is empty
+abbrev pub without_text : Result (Reading × List ℕ) Fault → Result (Reading × List ℕ) Fault
+without_text (Ok done) = Ok (done.0, [])
+without_text (Err f) = Err f
 
--- what is printed, what was counted, and the fault with its line, if there is one
+abbrev pub logged_by : lines.Steps Reading
+logged_by s line = without_text (told_by s line)
+
+-- why a line ends the run
+abbrev pub error_of : LineError → ScriptError
+error_of errors.OutOfMemory = script_errors.OutOfMemory
+error_of errors.NotLogLine = script_errors.Fault NotLogLine
+
+-- what is printed, with the fault and its line, if there is one; and what was counted
 pub record Outcome : Type 0 where
-  pub text : List ℕ
+  pub told : lines.Outcome
   pub counts : Counts
-  pub fault : Option (ℕ × Fault)
-
--- a line that ends the run isn't counted
-abbrev pub then_rest : ℕ → Listening → Result Step Fault → (Listening → Outcome) → Outcome
-then_rest n s (Ok step) rest = record { text = step.1 ++ (rest step.0).text; counts = (rest step.0).counts; fault = (rest step.0).fault }
-then_rest n s (Err f) rest = record { text = []; counts = s.1; fault = Some (n, f) }
 
 -- no line is left
 abbrev pub last_outcome : Options → Hearing → Outcome
-last_outcome options s = record { text = ended_text options s; counts = ended_counts options s; fault = None }
+last_outcome options s = record { told = record { text = ended_text options s; fault = None }; counts = ended_counts options s }
 
-unfoldable pub outcome_from : Options → Listening → ℕ → List (List ℕ) → Outcome
-outcome_from options s n [] = last_outcome options (s.0.0, s.1)
-outcome_from options s n (line ∷ lines) = then_rest n s (numbered_line options s n line) (λ t. outcome_from options t (n + 1) lines)
+-- the lines told this and left what was heard: the end follows, unless one of them ended the run, which isn't counted
+abbrev pub then_end : Options → lines.Outcome → Listening → Outcome
+then_end options o s = elim o.fault [
+  | None ↦ record { told = record { text = o.text ++ ended_text options (s.0.0, s.1); fault = None }; counts = ended_counts options (s.0.0, s.1) }
+  | Some f ↦ record { told = o; counts = s.1 }
+]
 
 -- nothing was heard, no line had a form, and nothing was counted
 abbrev pub first_listening : Options → Listening
 first_listening options = ((first_listener options.most, None), no_counts)
 
 abbrev pub outcome : Options → List ℕ → Outcome
-outcome options log = outcome_from options (first_listening options) 1 (lines_of log)
+outcome options log =
+    let first : Reading = (options, first_listening options) in
+    then_end options (lines.outcome log_limits told_by first log) (lines.left log_limits told_by first log).1

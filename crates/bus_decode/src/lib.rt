@@ -10,4 +10,5 @@ mod taking;
 mod telling;
 
 pub use log_summary::{Counts, Options, Strays, Wanted};
-pub use running::{Cause, Decoded, LogFault, run_decode};
+pub use running::{Decoded, run_decode};
+pub use script_commands::{Cause, ScriptFault};

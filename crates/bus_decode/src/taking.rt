@@ -1,247 +1,115 @@
-//! The next line of a log: it is looked at in the reader's buffer, and copied only if it crosses the buffer's end.
-ghost use Rattle.std.specs.Prelude.{◌≡◌, ◌≤◌, true, length, None, IsOk, OnOk};
-ghost use Rattle.std.specs.Io.KnownBytes.{Keeps};
-ghost use Rattle.bus_decode.specs.Ending.{cause_of, read_cause};
-ghost use Rattle.bus_decode.specs.Outcome.{limit_fault};
+//! The lines of a log, one after another.
+ghost use Rattle.std.specs.Prelude.{◌≡◌, None};
+ghost use Rattle.log_courses.specs.Course.{more};
 ghost use Rattle.log_summary.specs.Counts.{no_counts};
 ghost use Rattle.bus_decode.specs.Listening.{first_listener};
-ghost use Rattle.bus_decode.specs.Taking.{listening_of, TakesText, Takes, TakesNext};
+ghost use Rattle.bus_decode.specs.Outcome.{error_of};
 
 use crate::listener::Listener;
 use crate::listening::{LineError, take_line};
-use crate::running::{Cause, Fault};
+use line_runs::{Obeyer, Told};
 use log_summary::{Counts, Options};
 use log_text::Form;
+use script_commands::{Fault, LineError as ScriptError};
 use std::alloc::Global;
-use std::io::{BufRead, ErrorKind, Write};
-use text_lines::{LineRead, MAX_LINE, ReadError, held_line, put_all, read_line};
 
 /// A log that is read, up to its next line.
 #[derive(Drop)]
-pub(crate) struct Run {
+pub(crate) struct Run<'a> {
+    pub(crate) options: &'a Options,
     pub(crate) listener: Listener,
     /// The form of its lines, if one had any.
     pub(crate) form: Option<Form>,
     pub(crate) counts: Counts,
-    /// The number of its next line. Lines count from 1.
-    pub(crate) number: u64,
-    /// Whether all that was written is flushed.
-    pub(crate) is_flushed: bool,
-    /// Room for the output of a line.
+    /// The output of the last line.
     pub(crate) told: Vec<u8>,
 }
 
-impl Run {
+impl<'a> Run<'a> {
     /// No line was read. It takes no memory.
-    pub(crate) fn new(alloc: Global, most: u32) -> Run
-        ensures listening { listening_of result ≡ ((first_listener most, None), no_counts) }
-        ensures number { result.number ≡ 1 }
+    pub(crate) fn new(alloc: Global, options: &'a Options) -> Run<'a>
+        ensures options { result.options.now ≡ options.entry.now }
+        ensures listener { result.listener ≡ first_listener options.entry.now.most }
+        ensures form { result.form ≡ None }
+        ensures counts { result.counts ≡ no_counts }
     {
         Run {
-            listener: Listener::new(alloc, most),
+            options,
+            listener: Listener::new(alloc, options.most),
             form: None,
             counts: Counts::none(),
-            number: 1,
-            is_flushed: true,
             told: Vec::new(alloc),
         }
     }
 }
 
-/// The result of the next line.
-#[derive(Clone, Copy)]
-pub(crate) enum Turn {
-    /// It was taken.
-    Line,
-    /// There is no next line.
-    End,
-    /// A part of it isn't in the reader's buffer, and it wasn't taken.
-    Open,
+/// The number of the line behind those that were counted. Lines count from 1.
+pub(crate) fn number_behind(counts: &Counts) -> u64
+    ensures { result ≡ more counts.now.lines }
+{
+    counts.lines.saturating_add(1)
 }
 
-fn cause_of(error: LineError) -> Cause
-    ensures { result ≡ cause_of error }
+/// Why a line ends the run.
+fn error_of(error: LineError) -> ScriptError
+    ensures { result ≡ error_of error }
 {
     match error {
-        LineError::OutOfMemory => Cause::OutOfMemory,
-        LineError::NotLogLine => Cause::Fault(Fault::NotLogLine),
+        LineError::OutOfMemory => ScriptError::OutOfMemory,
+        LineError::NotLogLine => ScriptError::Fault(Fault::NotLogLine),
     }
 }
 
-fn read_cause(error: ReadError) -> Cause
-    ensures { result ≡ read_cause error }
-{
-    match error {
-        ReadError::Failed => Cause::ReadFailed,
-        ReadError::OutOfMemory => Cause::OutOfMemory,
-    }
-}
+impl<'a> Obeyer for Run<'a> {
+    ghost use Rattle.std.specs.Prelude.{◌≡◌, []};
+    ghost use Rattle.bus_decode.specs.Outcome.{Reading, told_by, logged_by};
 
-/// One more than the most lines that a log may have.
-const LINES_END: u64 = u64::MAX;
+    ghost State = { Reading };
 
-/// The fault of a line that is too long. Lines count from 1.
-fn limit_fault(line: u64) -> Fault
-    ensures { result ≡ limit_fault line }
-{
-    if line >= LINES_END {
-        Fault::TooManyLines
-    } else {
-        Fault::LineTooLong
-    }
-}
+    ghost state = { λ r. (r.options.now, ((r.listener, r.form), r.counts)) };
 
-/// Flushes what was written, unless all of it is flushed.
-pub(crate) fn flush_told<W: Write>(is_flushed: &mut bool, writer: &mut W) -> Result<(), ()>
-    ensures kept { Keeps (W.contents writer.old) (W.contents writer.new) }
-    ensures flushed { OnOk result (is_flushed.new ≡ true) }
-    ensures none { is_flushed.old ≡ true → IsOk result }
-{
-    if *is_flushed {
-        return Ok(());
-    }
-    let Ok(()) = writer.flush() else {
-        return Err(());
-    };
-    *is_flushed = true;
-    Ok(())
-}
+    ghost in_text = { told_by };
 
-/// The next line is this text: it is read, and its output is written.
-fn take_text<W: Write>(
-    alloc: Global,
-    options: &Options,
-    run: &mut Run,
-    text: &[u8],
-    writer: &mut W,
-) -> Result<(), Cause>
-    requires { length text.now ≤ 8192 }
-    ensures { TakesText result options.now run.old run.new text.now (W.contents writer.old) (W.contents writer.new) }
-{
-    if run.number >= LINES_END {
-        return Err(Cause::Fault(Fault::TooManyLines));
-    }
-    let before = run.counts;
-    run.told.clear();
-    let taken = take_line(
-        alloc,
-        &mut run.listener,
-        &mut run.form,
-        &mut run.counts,
-        options,
-        run.number,
-        text,
-        &mut run.told,
-    );
-    match taken {
-        Ok(()) => {}
-        Err(error) => {
-            run.counts = before;
-            return Err(cause_of(error));
+    ghost in_log = { logged_by };
+
+    ghost text_told = { λ r. r.told.items };
+
+    ghost log_told = { λ r. [] };
+
+    // A line that ends the run isn't counted.
+    ghost kept = { λ s t. t.1.1 ≡ s.1.1 };
+
+    // At want of memory the run ends.
+    ghost may_lack = { ⊥ };
+
+    #[tactic(auto, using(crate::proofs::LinesTold::was_told, crate::proofs::LinesTold::was_logged))]
+    fn obey_line(&mut self, alloc: Global, line: &[u8]) -> Result<Told, ScriptError> {
+        let before = self.counts;
+        self.told.clear();
+        let taken = take_line(
+            alloc,
+            &mut self.listener,
+            &mut self.form,
+            &mut self.counts,
+            self.options,
+            number_behind(&before),
+            line,
+            &mut self.told,
+        );
+        match taken {
+            Ok(()) => Ok(Told::Answered),
+            Err(error) => {
+                self.counts = before;
+                Err(error_of(error))
+            }
         }
     }
-    run.is_flushed = run.is_flushed && run.told.is_empty();
-    let Ok(()) = put_all(writer, run.told.as_slice()) else {
-        return Err(Cause::WriteFailed);
-    };
-    run.number += 1;
-    Ok(())
-}
 
-/// Takes the next line from the reader's buffer, if the whole line is there. If the buffer ends with the line, the reader waits for more when
-/// it is asked next, so the output is flushed.
-fn take_held<R: BufRead, W: Write>(
-    alloc: Global,
-    options: &Options,
-    run: &mut Run,
-    reader: &mut R,
-    writer: &mut W,
-) -> Result<Turn, Cause>
-    ensures { Takes result options.now run.old run.new (R.remaining reader.old) (R.remaining reader.new) (W.contents writer.old) (W.contents writer.new) }
-{
-    let held = match reader.fill_buf() {
-        Ok(held) => held,
-        Err(e) => {
-            return if e.kind() == ErrorKind::Interrupted {
-                Ok(Turn::Open)
-            } else {
-                Err(Cause::ReadFailed)
-            };
-        }
-    };
-    let count = held.len();
-    if count == 0 {
-        return Ok(Turn::End);
+    fn text(&self) -> &[u8] {
+        self.told.as_slice()
     }
-    let Some(len) = held_line(MAX_LINE, held) else {
-        return Ok(Turn::Open);
-    };
-    let taken = take_text(alloc, options, run, &held[..len], writer);
-    reader.consume(len + 1);
-    match taken {
-        Ok(()) => {}
-        Err(cause) => return Err(cause),
-    }
-    if len + 1 < count {
-        return Ok(Turn::Line);
-    }
-    let Ok(()) = flush_told(&mut run.is_flushed, writer) else {
-        return Err(Cause::WriteFailed);
-    };
-    Ok(Turn::Line)
-}
 
-/// Reads the next line to its end, and takes it.
-fn take_copied<R: BufRead, W: Write>(
-    alloc: Global,
-    options: &Options,
-    run: &mut Run,
-    line: &mut Vec<u8>,
-    reader: &mut R,
-    writer: &mut W,
-) -> Result<Turn, Cause>
-    ensures { Takes result options.now run.old run.new (R.remaining reader.old) (R.remaining reader.new) (W.contents writer.old) (W.contents writer.new) }
-{
-    match read_line(reader, line) {
-        Ok(LineRead::End) => return Ok(Turn::End),
-        Ok(LineRead::TooLong) => return Err(Cause::Fault(limit_fault(run.number))),
-        Ok(LineRead::Line) => {}
-        Err(error) => return Err(read_cause(error)),
-    }
-    match take_text(alloc, options, run, line.as_slice(), writer) {
-        Ok(()) => {}
-        Err(cause) => return Err(cause),
-    }
-    let Ok(()) = flush_told(&mut run.is_flushed, writer) else {
-        return Err(Cause::WriteFailed);
-    };
-    Ok(Turn::Line)
-}
-
-/// Takes the next line, and says whether there was one. The output is flushed before the reader is asked for more than it holds.
-pub(crate) fn take_next<R: BufRead, W: Write>(
-    alloc: Global,
-    options: &Options,
-    run: &mut Run,
-    line: &mut Vec<u8>,
-    reader: &mut R,
-    writer: &mut W,
-) -> Result<bool, Cause>
-    ensures { TakesNext result options.now run.old run.new (R.remaining reader.old) (R.remaining reader.new) (W.contents writer.old) (W.contents writer.new) }
-{
-    match take_held(alloc, options, run, reader, writer) {
-        Ok(Turn::Line) => return Ok(true),
-        Ok(Turn::End) => return Ok(false),
-        Ok(Turn::Open) => {}
-        Err(cause) => return Err(cause),
-    }
-    let Ok(()) = flush_told(&mut run.is_flushed, writer) else {
-        return Err(Cause::WriteFailed);
-    };
-    match take_copied(alloc, options, run, line, reader, writer) {
-        Ok(Turn::Line) => Ok(true),
-        Ok(Turn::End) => Ok(false),
-        Ok(Turn::Open) => Err(Cause::ReadFailed),
-        Err(cause) => Err(cause),
+    fn log(&self) -> &[u8] {
+        b""
     }
 }

@@ -47,9 +47,10 @@ fn node_limits() -> Limits
     }
 }
 
-/// Runs a node: reads lines to the end of the input, obeys each, and writes and flushes its output before the next line is read. A wrong line
-/// is reported by its number and passed over, unless the node ends at one (`Node::end_at_wrong_line`). Numbers begin with 1 at each run. It
-/// ends at the first fault: such a line, one of more than 234,881,100 bytes, or a line above 2^64 - 2.
+/// Runs a node: reads lines to the end of the input, obeys each, and writes its output before the next line is obeyed. That is flushed before the
+/// reader is asked for more than it holds, so nobody waits for an answer. A wrong line is reported by its number and passed over, unless the node
+/// ends at one (`Node::end_at_wrong_line`). Numbers begin with 1 at each run. It ends at the first fault: such a line, one of more than 234,881,100
+/// bytes, or a line above 2^64 - 2.
 ///
 /// Unless it reports a failed read or write or refused memory, exactly the text of the input was written, and the fault is the input's; if
 /// there is none, the node is the one that the input leaves, and all its lines are counted. If it reports a failed read or write, or memory

@@ -5,7 +5,7 @@ use script_commands::LineError;
 use std::alloc::Global;
 
 impl Obeyer for Node {
-    ghost use Rattle.std.specs.Prelude.{[]};
+    ghost use Rattle.std.specs.Prelude.{[], ⊤};
     ghost use Rattle.bus_node.specs.Node.{Node};
     ghost use Rattle.bus_node.specs.Outcome.{told_by, logged_by};
 
@@ -20,6 +20,8 @@ impl Obeyer for Node {
     ghost text_told = { λ n. n.text };
 
     ghost log_told = { λ n. [] };
+
+    ghost kept = { λ _ _. ⊤ };
 
     #[tactic(auto, using(crate::proofs::LinesTold::was_told, crate::proofs::LinesTold::was_logged))]
     fn obey_line(&mut self, alloc: Global, line: &[u8]) -> Result<Told, LineError> {

@@ -19,7 +19,7 @@ struct Script<S> {
 }
 
 impl<S: Sheet> Obeyer for Script<S> {
-    ghost use Rattle.std.specs.Prelude.{Option};
+    ghost use Rattle.std.specs.Prelude.{Option, ⊤};
     ghost use Rattle.segment_law.specs.Segment.{Segment};
     ghost use Rattle.bus_script.specs.Script.{told_in};
 
@@ -34,6 +34,8 @@ impl<S: Sheet> Obeyer for Script<S> {
     ghost text_told = { λ s. S.text_shown s.sheet };
 
     ghost log_told = { λ s. S.log_shown s.sheet };
+
+    ghost kept = { λ _ _. ⊤ };
 
     #[tactic(auto, using(crate::proofs::Shown::was_told))]
     fn obey_line(&mut self, alloc: Global, line: &[u8]) -> Result<Told, LineError> {
@@ -50,8 +52,8 @@ impl<S: Sheet> Obeyer for Script<S> {
     }
 }
 
-/// Runs a script: reads its lines to the end of the input, obeys each, and writes and flushes what the sheet shows of it, its log first,
-/// before the next line is read. It ends at the first fault, at 1,000,001 lines at the latest.
+/// Runs a script: reads its lines to the end of the input, obeys each, and writes what the sheet shows of it, its log first, before the next line
+/// is obeyed. It ends at the first fault, at 1,000,001 lines at the latest.
 pub fn run_on<R: BufRead, T: Write, L: Write, S: Sheet + Drop>(
     alloc: Global,
     sheet: S,

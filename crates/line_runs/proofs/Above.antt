@@ -1,8 +1,13 @@
 -- Lines within the limits, and above them.
-use Rattle.std.proofs.Common.{◌≡◌, ℕ, ◌<◌, ◌≤◌, List, length, Bool, true, false, Option, Some, None, Ok, refl, arith, nat_lt, IfSome, cond, subst}
+use Rattle.std.proofs.Common.{◌≡◌, ℕ, ◌+◌, ◌<◌, ◌≤◌, List, [], length, take, Bool, true, false, Option, Some, None, Ok, refl, arith, nat_lt, IfSome, cond, subst}
 use Rattle.std.proofs.lemmas.Bool.Decides.{nat_tests}
+use Rattle.std.proofs.lemmas.List.{length-take}
 use Rattle.text_lines.specs.Known.{Known}
-use Rattle.text_lines.specs.Lines.{lines_of, ReadsLineUpTo}
+use Rattle.std.specs.Io.{StartsWith}
+use Rattle.std.specs.Io.BufRead.{DropsConsumable}
+use Rattle.std.specs.Io.KnownBytes.{Keeps}
+use Rattle.text_lines.proofs.Known.{reads_held}
+use Rattle.text_lines.specs.Lines.{lines_of, before_feed, held_line, ReadsLineUpTo}
 use Rattle.text_lines.specs.declared.lines.LineRead.{LineRead}
 use Rattle.text_lines.specs.declared.lines.LineRead.TheVariants.{Line, TooLong}
 use Rattle.script_commands.specs.declared.fault.Fault.{Fault}
@@ -43,6 +48,21 @@ pub too_long : (m : Limits) (n : ℕ) (old new : Option (List ℕ)) (line : List
 too_long m n None new line reads = tt
 too_long m n (Some rest) None line reads = absurd reads
 too_long m n (Some rest) (Some left) line reads = (reads.0, reads.1, reads.2, above_long m n reads.0 reads.3)
+
+-- a line that was shown whole, and consumed with its line feed
+most_held : (most n : ℕ) (held : List ℕ) → held_line most held ≡ Some n → n ≤ most
+most_held most n held e = elim (nat_lt (before_feed held) (length held)) as (λ b. nat_lt (before_feed held) (length held) ≡ b → n ≤ most) [
+  | true ↦ λ t. grind (arith, nat_tests)
+  | false ↦ λ f. absurd (grind (arith, nat_tests))
+] refl
+
+short_held : (most n : ℕ) (held : List ℕ) → n ≤ most → length (take n held) ≤ most
+short_held most n held h = grind (arith, length-take)
+
+pub read_held : (m : Limits) (n : ℕ) (a b c : Option (List ℕ)) (limit : Option ℕ) (held : List ℕ) (k : ℕ) → n ≤ m.lines → held_line m.bytes held ≡ Some k
+    → IfSome a (λ xs. StartsWith xs held) → IfSome a (λ xs. length held ≡ 0 → xs ≡ []) → Keeps a b × IfSome a (λ _. IfSome limit (λ j. length held ≤ j))
+    → DropsConsumable b c limit (k + 1) → Read m n (Ok true) (take k held) a c
+read_held m n a b c limit held k few e front end kept drops = (within m n (take k held) few (short_held m.bytes k held (most_held m.bytes k held e)), reads_held m.bytes a b c limit held k e front end kept drops)
 
 -- what was read, by its name
 pub reads_as : (most : ℕ) (read as_known : LineRead) (old new : Option (List ℕ)) (line : List ℕ) → read ≡ as_known → Known old new (ReadsLineUpTo most read line) → Known old new (ReadsLineUpTo most as_known line)

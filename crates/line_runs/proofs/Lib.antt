@@ -1,2 +1,3 @@
 pub mod Above
+pub mod Written
 pub mod RunSteps

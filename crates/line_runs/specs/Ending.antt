@@ -1,5 +1,5 @@
 -- How a run ended.
-use Rattle.std.specs.Prelude.{◌≡◌, ℕ, List, false, Option, Some, None}
+use Rattle.std.specs.Prelude.{◌≡◌, ◌⊎◌, ℕ, List, false, Option, Some, None, ◌==◌, if◌then◌else◌, ⊤}
 use Rattle.std.specs.Io.KnownBytes.{Appends}
 use Rattle.text_lines.specs.Known.{IsFront}
 use Rattle.script_commands.specs.declared.ending.Cause.{Cause}
@@ -25,6 +25,28 @@ Ended ran a b o = ran.memory_refused ≡ false → EndedBy ran.fault a b o
 abbrev pub Left : {S : Type 0} → Ran → (state left : S) → Type 0
 Left ran state left = ran.memory_refused ≡ false → ran.fault ≡ None → state ≡ left
 
+-- of a state that a fault is found in, the state afterwards has what is kept, or is that state
+abbrev pub KeptByCause : {S : Type 0} → (S → S → Type 0) → Cause → (state left : S) → Type 0
+KeptByCause kept (causes.Fault f) state left = (state ≡ left) ⊎ kept left state
+KeptByCause kept causes.ReadFailed state left = ⊤
+KeptByCause kept causes.OutOfMemory state left = ⊤
+KeptByCause kept causes.WriteFailed state left = ⊤
+
+abbrev pub KeptBy : {S : Type 0} → (S → S → Type 0) → Option ScriptFault → (state left : S) → Type 0
+KeptBy kept None state left = ⊤
+KeptBy kept (Some f) state left = KeptByCause kept f.cause state left
+
+-- a run that ended at a fault of its input has what is kept of the state that the lines before it left
+abbrev pub Kept : {S : Type 0} → (S → S → Type 0) → Ran → (state left : S) → Type 0
+Kept kept ran state left = ran.memory_refused ≡ false → KeptBy kept ran.fault state left
+
+-- a writer that fails at the last flush is why the run ends
+abbrev pub IsLastCause : (before last : Cause) → Type 0
+IsLastCause before causes.WriteFailed = ⊤
+IsLastCause before causes.ReadFailed = before ≡ causes.ReadFailed
+IsLastCause before causes.OutOfMemory = before ≡ causes.OutOfMemory
+IsLastCause before (causes.Fault f) = before ≡ causes.Fault f
+
 -- the status of a program
-abbrev pub status_of : Ran → ℕ
-status_of ran = elim ran.fault [ None ↦ 0 | Some f ↦ 1 ]
+abbrev pub status_of : Option ScriptFault → (wrong : ℕ) → ℕ
+status_of fault wrong = elim fault [ None ↦ if wrong == 0 then 0 else 1 | Some f ↦ 1 ]

@@ -1,5 +1,5 @@
 -- How many lines an input may have, and how many bytes a line.
-use Rattle.std.specs.Prelude.{◌≡◌, ℕ, List, [], ◌∷◌, length, Bool, true, false, Option, Some, None, Result, Ok, Err, nat_lt, if◌then◌else◌, IfSome}
+use Rattle.std.specs.Prelude.{◌≡◌, ℕ, ◌-◌, ◌^◌, List, [], ◌∷◌, length, Bool, true, false, Option, Some, None, Result, Ok, Err, nat_lt, if◌then◌else◌, IfSome}
 use Rattle.text_lines.specs.Known.{Known}
 use Rattle.text_lines.specs.Lines.{lines_of}
 use Rattle.script_commands.specs.declared.ending.Cause.{Cause}
@@ -11,6 +11,10 @@ use Rattle.line_runs.specs.declared.limits.Limits.{Limits}
 -- the limits of a script
 abbrev pub script_limits : Limits
 script_limits = record { lines = 1000000; bytes = 8192 }
+
+-- the limits of a log
+abbrev pub log_limits : Limits
+log_limits = record { lines = 2 ^ 64 - 2; bytes = 8192 }
 
 -- the fault of a line n that is too long
 abbrev pub limit_fault : Limits → ℕ → Fault

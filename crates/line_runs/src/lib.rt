@@ -3,6 +3,8 @@
 
 mod limits;
 mod running;
+mod taking;
+mod telling;
 
 pub use limits::{Limits, next_line};
-pub use running::{Obeyer, Ran, Told, run_lines};
+pub use running::{Obeyer, Ran, Told, run_lines, status_of};

@@ -1,10 +1,10 @@
 //! The next line of an input, within limits.
 ghost use Rattle.std.specs.Prelude.{◌≡◌, ◌≤◌, true, IfOk};
-ghost use Rattle.line_runs.specs.Limits.{script_limits, limit_fault, Read};
+ghost use Rattle.line_runs.specs.Limits.{script_limits, log_limits, limit_fault, Read};
 
 use script_commands::{Cause, Fault, read_cause};
 use std::io::BufRead;
-use text_lines::{LineRead, read_line_up_to};
+use text_lines::{LineRead, MAX_LINE, read_line_up_to};
 
 /// The most lines that an input may have, and the most bytes that a line may have.
 #[derive(Clone, Copy, Debug, PartialEq, Eq)]
@@ -20,7 +20,17 @@ impl Limits {
     {
         Limits {
             lines: 1_000_000,
-            bytes: 8192,
+            bytes: MAX_LINE,
+        }
+    }
+
+    /// The limits of a log: 2^64 - 2 lines of 8,192 bytes.
+    pub fn of_log() -> Limits
+        ensures { result ≡ log_limits }
+    {
+        Limits {
+            lines: u64::MAX - 1,
+            bytes: MAX_LINE,
         }
     }
 }

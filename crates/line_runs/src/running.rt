@@ -1,15 +1,18 @@
 //! The lines of an input, obeyed one by one.
-ghost use Rattle.std.specs.Prelude.{◌≡◌, ◌<◌, ◌-◌, ◌^◌, Some, List, ℕ, IfSome, MatchResult};
-ghost use Rattle.std.specs.Io.KnownBytes.{Appends};
-ghost use Rattle.text_lines.specs.Known.{IsFront};
+ghost use Rattle.std.specs.Prelude.{◌≡◌, ◌<◌, ◌-◌, ◌^◌, true, Ok, Err, Some, List, ℕ, IfSome, ⊤};
+ghost use Rattle.std.specs.Io.KnownBytes.{Keeps};
+ghost use Rattle.script_commands.specs.declared.fault.Fault.{Fault};
+ghost use Rattle.script_commands.specs.declared.fault.LineError.TheVariants as errors;
 ghost use Rattle.line_runs.specs.Outcome.{Steps, Obeyed, or_refused, outcome, left};
-ghost use Rattle.line_runs.specs.Ending.{Ended, Left, status_of};
+ghost use Rattle.line_runs.specs.Ending.{Ended, Left, Kept, IsLastCause, status_of};
+ghost use Rattle.line_runs.specs.declared.running.Told.TheVariants.{NoMemory};
 
-use crate::limits::{Limits, next_line};
-use script_commands::{Cause, LineError, ScriptFault, cause_of};
+use crate::limits::Limits;
+use crate::taking::{Run, take_next};
+use crate::telling::flush_told;
+use script_commands::{Cause, LineError, ScriptFault};
 use std::alloc::Global;
 use std::io::{BufRead, Write};
-use text_lines::tell;
 
 /// How a run ended.
 #[derive(Clone, Copy, Debug, PartialEq, Eq)]
@@ -20,15 +23,23 @@ pub struct Ran {
     pub memory_refused: bool,
 }
 
+/// The status of a program whose run ended so, with so many wrong lines that were passed over: 0 if it reached the end of its input and no line
+/// was wrong, else 1.
+pub fn status_of(fault: Option<ScriptFault>, wrong: u64) -> u8
+    ensures { result ≡ status_of fault wrong }
+{
+    match fault {
+        None => { if wrong == 0 { 0 } else { 1 } }
+        Some(_) => 1,
+    }
+}
+
 impl Ran {
     /// The status of a program that made this run: 0 if it reached the end of its input, else 1.
     pub fn status(&self) -> u8
-        ensures { result ≡ status_of self.now }
+        ensures { result ≡ status_of self.now.fault 0 }
     {
-        match self.fault {
-            None => 0,
-            Some(_) => 1,
-        }
+        status_of(self.fault, 0)
     }
 }
 
@@ -43,7 +54,7 @@ pub enum Told {
 
 impl Told {
     /// Whether this or an earlier line found no memory.
-    fn or_refused(self, earlier: bool) -> bool
+    pub(crate) fn or_refused(self, earlier: bool) -> bool
         ensures { result ≡ or_refused self earlier }
     {
         match self {
@@ -70,10 +81,18 @@ pub trait Obeyer {
 
     ghost log_told: { Self → List ℕ };
 
+    // What is kept at a fault of a line, between the state before it and the state that it leaves.
+    ghost kept: { Self.State → Self.State → Type 0 };
+
+    // What holds if a line may find no memory, and the next one be obeyed.
+    ghost may_lack: { Type 0 } = { ⊤ };
+
     /// Obeys a line. A wrong line is a fault; want of memory is the only other error.
     fn obey_line(&mut self, alloc: Global, line: &[u8]) -> Result<Told, LineError>
         ensures text { Obeyed result (state self.new) (text_told self.new) (in_text (state self.old) line.now) }
-        ensures log { Obeyed result (state self.new) (log_told self.new) (in_log (state self.old) line.now) };
+        ensures log { Obeyed result (state self.new) (log_told self.new) (in_log (state self.old) line.now) }
+        ensures kept { (f : Fault) → result ≡ Err (errors.Fault f) → kept (state self.old) (state self.new) }
+        ensures lacking { result ≡ Ok NoMemory → may_lack };
 
     /// The last line's output in the text.
     fn text(&self) -> &[u8]
@@ -93,27 +112,27 @@ fn failed(line: u64, cause: Cause, memory_refused: bool) -> Ran
     }
 }
 
-// The output of a line is written and flushed, its log first. If that fails, a front of it was written.
-#[tactic(auto, using(crate::proofs::RunSteps::front_all, text_lines::proofs::Known::front_none))]
-fn tell_both<T: Write, L: Write, O: Obeyer>(text: &mut T, log: &mut L, obeyer: &O) -> Result<(), ()>
-    ensures in_text { MatchResult result (λ _. Appends (T.contents text.old) (T.contents text.new) (O.text_told obeyer.now))
-        (λ _. IsFront (T.contents text.old) (T.contents text.new) (O.text_told obeyer.now)) }
-    ensures in_log { MatchResult result (λ _. Appends (L.contents log.old) (L.contents log.new) (O.log_told obeyer.now))
-        (λ _. IsFront (L.contents log.old) (L.contents log.new) (O.log_told obeyer.now)) }
+/// Why the run ends. What was written before is flushed; a writer that fails then is why.
+fn last_cause<W: Write>(cause: Cause, is_flushed: &mut bool, writer: &mut W) -> Cause
+    ensures kept { Keeps (W.contents writer.old) (W.contents writer.new) }
+    ensures cause { IsLastCause cause result }
+    ensures flushed { is_flushed.old ≡ true → result ≡ cause }
 {
-    let Ok(()) = tell(log, obeyer.log()) else {
-        return Err(());
+    let Ok(()) = flush_told(is_flushed, writer) else {
+        return Cause::WriteFailed;
     };
-    tell(text, obeyer.text())
+    cause
 }
 
-/// Reads the lines of an input to its end, obeys each, and writes and flushes its output, the log first, before the next line is read. It
-/// ends at the first fault.
+/// Reads the lines of an input to its end, obeys each, and writes its output, the log first, before the next one is obeyed. The log is flushed at
+/// once. The text is flushed before more is written in the log, and before the reader is asked for more than it holds: at the latest when it holds
+/// no further whole line, and at the end. It ends at the first fault.
 ///
 /// Unless it reports a failed read or write or refused memory, exactly the text and the log of the input were written, and the fault is the
 /// input's. If it reports a failed read or write, or memory that was refused outside a line and in none, fronts of both were written. After
 /// a line that found no memory the run continues, and then nothing is promised of them. A run to the end of the input leaves its obeyer in
-/// the state that the lines lead to.
+/// the state that the lines lead to; one that ends at a fault of the input leaves what is kept at a fault of the state before it. A line is looked
+/// at in the reader's buffer; one that crosses the end of the buffer is copied, which takes memory for it.
 pub fn run_lines<R: BufRead, T: Write, L: Write, O: Obeyer>(
     alloc: Global,
     limits: &Limits,
@@ -129,29 +148,34 @@ pub fn run_lines<R: BufRead, T: Write, L: Write, O: Obeyer>(
         Ended result (L.contents log.old) (L.contents log.new) (outcome limits.now O.in_log (O.state obeyer.old) input)) }
     ensures left { IfSome (R.remaining reader.old) (λ input.
         Left result (O.state obeyer.new) (left limits.now O.in_text (O.state obeyer.old) input)) }
+    ensures kept { IfSome (R.remaining reader.old) (λ input.
+        Kept O.kept result (O.state obeyer.new) (left limits.now O.in_text (O.state obeyer.old) input)) }
+    ensures lacking { result.memory_refused ≡ true → O.may_lack }
 {
-    let mut memory_refused = false;
+    let mut run = Run {
+        number: 1,
+        memory_refused: false,
+        is_flushed: true,
+    };
     let mut line = Vec::new(alloc);
-    let mut number = 1;
     'lines: loop {
-        match next_line(limits, number, reader, &mut line) {
+        match take_next(
+            alloc, limits, obeyer, &mut run, &mut line, reader, text, log,
+        ) {
             Ok(true) => {}
             Ok(false) => {
+                let Ok(()) = flush_told(&mut run.is_flushed, text) else {
+                    return failed(run.number, Cause::WriteFailed, run.memory_refused);
+                };
                 return Ran {
                     fault: None,
-                    memory_refused,
+                    memory_refused: run.memory_refused,
                 };
             }
-            Err(cause) => return failed(number, cause, memory_refused),
+            Err(cause) => {
+                let cause = last_cause(cause, &mut run.is_flushed, text);
+                return failed(run.number, cause, run.memory_refused);
+            }
         }
-        let told = match obeyer.obey_line(alloc, line.as_slice()) {
-            Ok(told) => told,
-            Err(error) => return failed(number, cause_of(error), memory_refused),
-        };
-        memory_refused = told.or_refused(memory_refused);
-        let Ok(()) = tell_both(text, log, obeyer) else {
-            return failed(number, Cause::WriteFailed, memory_refused);
-        };
-        number += 1;
     }
 }

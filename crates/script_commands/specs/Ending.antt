@@ -1,4 +1,4 @@
--- Why a script ended before its end.
+-- Why a script or a log ended before its end.
 use Rattle.std.specs.Prelude.{ℕ, List, ◌++◌, codes}
 use Rattle.std.specs.Fmt.{decimal}
 use Rattle.script_commands.specs.Faults.{fault_text}
@@ -10,7 +10,7 @@ use Rattle.script_commands.specs.declared.ending.Cause.{Cause}
 use Rattle.script_commands.specs.declared.ending.Cause.TheVariants as causes
 use Rattle.script_commands.specs.declared.ending.ScriptFault.{ScriptFault}
 
--- why a line ends a script
+-- why a line ends a script or a log
 abbrev pub cause_of : LineError → Cause
 cause_of errors.OutOfMemory = causes.OutOfMemory
 cause_of (errors.Fault f) = causes.Fault f

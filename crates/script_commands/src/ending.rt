@@ -1,4 +1,4 @@
-//! The line at which a script ended before its end, and why.
+//! The line at which a script or a log ended before its end, and why.
 ghost use Rattle.std.specs.Prelude.{◌≡◌, Some};
 ghost use Rattle.script_commands.specs.Ending.{cause_of, read_cause, fault_line};
 
@@ -6,7 +6,7 @@ use crate::fault::{Fault, LineError};
 use std::fmt;
 use text_lines::ReadError;
 
-/// Why a script ended before its end.
+/// Why a script or a log ended before its end.
 #[derive(Clone, Copy, Debug, PartialEq, Eq)]
 pub enum Cause {
     /// The reader failed.
@@ -19,7 +19,7 @@ pub enum Cause {
     Fault(Fault),
 }
 
-/// The line at which a script ended before its end, and why. Lines count from 1.
+/// The line at which a script or a log ended before its end, and why. Lines count from 1.
 #[derive(Clone, Copy, Debug, PartialEq, Eq)]
 pub struct ScriptFault {
     pub line: u64,
@@ -40,7 +40,7 @@ impl fmt::Display for ScriptFault {
     }
 }
 
-/// Why a line ends a script.
+/// Why a line ends a script or a log.
 pub fn cause_of(error: LineError) -> Cause
     ensures { result ≡ cause_of error }
 {

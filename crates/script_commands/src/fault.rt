@@ -1,4 +1,4 @@
-//! What is wrong with a line of a script.
+//! What is wrong with a line of a script or a log.
 ghost use Rattle.std.specs.Prelude.{◌≡◌, Some};
 ghost use Rattle.script_commands.specs.Faults.{fault_text};
 ghost use Rattle.script_commands.specs.declared.fault.LineError.TheVariants.{OutOfMemory};
@@ -6,13 +6,15 @@ ghost use Rattle.script_commands.specs.declared.fault.LineError.TheVariants.{Out
 use std::alloc::{AllocError, AllocFailed};
 use std::fmt;
 
-/// What is wrong with a line of a script, in the order in which it is looked for.
+/// What is wrong with a line of a script or a log, in the order in which it is looked for.
 #[derive(Clone, Copy, Debug, PartialEq, Eq)]
 pub enum Fault {
-    /// There are more than 1,000,000 lines.
+    /// There are more lines than there may be, which are 1,000,000 in a script.
     TooManyLines,
-    /// The line has more than 8,192 bytes.
+    /// The line has more bytes than a line may have, which are 8,192 in a script or a log.
     LineTooLong,
+    /// The line begins as a frame of the log's form, but continues differently.
+    NotLogLine,
     /// A byte of the line is above 127.
     NotAscii,
     /// The first word names no command.
@@ -34,6 +36,7 @@ impl fmt::Display for Fault {
         match self {
             Fault::TooManyLines => write!(f, "too many lines"),
             Fault::LineTooLong => write!(f, "line too long"),
+            Fault::NotLogLine => write!(f, "not a log line"),
             Fault::NotAscii => write!(f, "not ASCII"),
             Fault::UnknownCommand => write!(f, "unknown command"),
             Fault::WrongNumberOfWords => write!(f, "wrong number of words"),

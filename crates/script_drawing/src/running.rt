@@ -12,7 +12,8 @@ use std::io::{BufRead, Write};
 
 /// Runs a script as `bus_script::run_script` does, and draws it, as the text of a sequence diagram in Mermaid: the stations as participants
 /// once the segment is made, an arrow for each frame that is put, and a note for each event. Packets of one line that follow on one another
-/// have one arrow. What a line draws is written and flushed before the next line is read; replies aren't drawn.
+/// have one arrow. What a line draws is written before the next line is obeyed, and flushed before the reader is asked for more
+/// than it holds; replies aren't drawn.
 ///
 /// Unless the run reports a failed read or write or refused memory, exactly the drawing of the script was written, and the fault is the
 /// script's. If it reports a failed read or write, or memory that was refused outside a call and in none, a front of that text was written.
