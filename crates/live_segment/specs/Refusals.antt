@@ -5,6 +5,7 @@ use Rattle.segment_law.specs.Segment.{are_addresses}
 use Rattle.segment_law.specs.declared.refusal.Refusal.{Refusal}
 use Rattle.segment_law.specs.declared.refusal.Refusal.TheVariants.{BadAddresses, NoSuchStation, ClientsFull}
 use Rattle.live_segment.specs.LiveView.{LiveView, is_station_of, clients_at}
+use Rattle.live_segment.specs.declared.live.TheConstants.{MOST_CLIENTS}
 use Rattle.live_segment.specs.declared.refused.NotMade.{NotMade}
 use Rattle.live_segment.specs.declared.refused.NotMade.TheVariants.{Refused, OutOfMemory}
 
@@ -20,5 +21,5 @@ making_refusal addresses = if not (are_addresses addresses) then Some BadAddress
 abbrev pub attaching_refusal : LiveView → (station : Address) → Option Refusal
 attaching_refusal v station =
     if not (is_station_of v.addresses station) then Some NoSuchStation
-    else if nat_le 16 (clients_at station v.clients) then Some ClientsFull
+    else if nat_le MOST_CLIENTS (clients_at station v.clients) then Some ClientsFull
     else None

@@ -12,6 +12,7 @@ use Rattle.segment_law.specs.declared.reply.Reply.TheVariants.{Opened, Sent, Ref
 use Rattle.live_calls.specs.declared.call.WorkerCall.{WorkerCall}
 use Rattle.live_calls.specs.declared.call.WorkerCall.TheVariants.{Pump, Transmit, Take, Overrun, Tick, Fire}
 use Rattle.live_record.specs.declared.calls.TheConstants.{MOST_CALLS}
+use Rattle.live_segment.specs.declared.turns.TheConstants.{IDLE_TICKS}
 use Rattle.live_segment.specs.declared.refused.Accepted.{Accepted}
 use Rattle.live_segment.specs.declared.refused.Accepted.TheVariants as accepted
 use Rattle.live_segment.specs.declared.turns.Turn.{Turn}
@@ -114,10 +115,10 @@ pub record Finishes (station : Address) (p q : Point) : Type 0 where
   pub fires : MakesWhere (is_due (state_of taken.live) station) (Fire station) taken fired
   pub misses : MakesWhere (is_stuck (state_of fired.live) station) (Overrun station (waiting_at (state_of fired.live) station)) fired q
 
--- the station of the lowest identifier transmits; if none does, the clock advances by 50 ticks if all rest
+-- the station of the lowest identifier transmits; if none does, the clock advances by IDLE_TICKS if all rest
 abbrev pub TransmitsOr : Option Address → Point → Point → Type 0
 TransmitsOr (Some station) p q = Makes (Transmit station) p q
-TransmitsOr None p q = MakesWhere (is_idle (state_of p.live)) (Tick 50) p q
+TransmitsOr None p q = MakesWhere (is_idle (state_of p.live)) (Tick IDLE_TICKS) p q
 
 -- the turn of the bus
 pub record BusTurn (p q : Point) : Type 0 where

@@ -2,6 +2,7 @@
 use Rattle.std.specs.Prelude.{ℕ, ◌-◌, List, [], ◌∷◌, ◌++◌, Bool, ◌&&◌, ◌||◌, ◌==◌, nat_lt, max, if◌then◌else◌, Some, None, flat_map}
 use Rattle.bus_frame.specs.Frames.{CanFrame}
 use Rattle.log_fields.specs.declared.iface.Iface.{Iface}
+use Rattle.log_fields.specs.declared.time.TheConstants.{LATE}
 use Rattle.pgn_ids.specs.Pgn.{clean}
 use Rattle.seg_cut.specs.Packets.{packet_count}
 use Rattle.tp_wire.specs.Reading.{reading}
@@ -65,7 +66,7 @@ frame_taken iface frame most now h = elim (reading frame) [ None ↦ h | Some r 
 
 -- the time of a frame is more than a second before that of the last one of its interface: the clock was set back
 abbrev pub goes_back : (before time : ℕ) → Bool
-goes_back before time = nat_lt 1000000 (before - time)
+goes_back before time = nat_lt LATE (before - time)
 
 -- a time that is less before it is taken as that one
 abbrev pub now_at : (before time : ℕ) → ℕ
