@@ -53,17 +53,31 @@ impl Read for FailsOnce<'_> {
     }
 }
 
+/// The lines, a byte at a time, of which the read behind so many fails.
+fn lines_failing(
+    alloc: Global,
+    reads_before: u64,
+    kind: ErrorKind,
+) -> io::Result<BufReader<FailsOnce<'static>, Global>> {
+    let failing = FailsOnce {
+        text: LINES,
+        reads_before,
+        has_failed: false,
+        kind,
+    };
+    BufReader::new(alloc, failing)
+}
+
+/// The lines, a byte at a time, so that what each prints is flushed before the next one is read.
+fn slow_lines(alloc: Global) -> io::Result<BufReader<FailsOnce<'static>, Global>> {
+    lines_failing(alloc, u64::MAX, ErrorKind::Other)
+}
+
 /// Runs the lines with one read that fails, and again if memory was refused.
 fn run_failing(alloc: Global, reads_before: u64, kind: ErrorKind, out: &mut Vec<u8>) -> Ran {
     for _ in 0..2 {
         out.clear();
-        let failing = FailsOnce {
-            text: LINES,
-            reads_before,
-            has_failed: false,
-            kind,
-        };
-        let Ok(mut reader) = BufReader::new(alloc, failing) else {
+        let Ok(mut reader) = lines_failing(alloc, reads_before, kind) else {
             continue;
         };
         let ran = run_script(alloc, &mut reader, out);
@@ -129,7 +143,8 @@ impl Write for RefusesOnce {
 }
 
 /// Runs the lines with one write or flush that fails, and again if memory was refused.
-fn run_refused(alloc: Global, write: u64, flush: u64) -> Result<(Ran, RefusesOnce), AllocError> {
+fn run_refused(alloc: Global, write: u64, flush: u64) -> io::Result<(Ran, RefusesOnce)> {
+    let mut reader = slow_lines(alloc)?;
     let mut writer = RefusesOnce {
         writes: 0,
         flushes: 0,
@@ -137,13 +152,12 @@ fn run_refused(alloc: Global, write: u64, flush: u64) -> Result<(Ran, RefusesOnc
         refused_flush: flush,
         taken: roomy(alloc)?,
     };
-    let mut reader = LINES;
     let mut ran = run_script(alloc, &mut reader, &mut writer);
     if found_no_memory(&ran) {
         writer.writes = 0;
         writer.flushes = 0;
         writer.taken.clear();
-        let mut reader = LINES;
+        let mut reader = slow_lines(alloc)?;
         ran = run_script(alloc, &mut reader, &mut writer);
     }
     Ok((ran, writer))
