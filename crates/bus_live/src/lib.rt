@@ -7,4 +7,4 @@ mod running;
 pub use running::run_live;
 pub use script_commands::{Cause, ScriptFault};
 pub use script_runs::{LiveFault, LiveRan};
-pub use segment_shared::Gate;
+pub use segment_threads::Gate;

@@ -7,8 +7,10 @@ use pgn_ids::Address;
 use script_runs::{LiveRan, Lost, Told, read_script, tell_refused, tell_run};
 use script_setup::Setup;
 use segment_report::{Names, names_of, text_of};
-use segment_shared::{Gate, Inbox, Live, SharedSegment, finish};
-use segment_threads::{Board, Ends, Pace, Party, Sender, gather, senders_of, spawn_segment, watch};
+use segment_threads::{
+    Board, Ends, Gate, Inbox, Live, Pace, Party, Sender, SharedSegment, finish, gather, senders_of,
+    spawn_segment, watch,
+};
 use std::alloc::{AllocError, Global};
 use std::io::{BufRead, Write};
 use std::sync::Wait;

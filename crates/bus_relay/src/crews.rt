@@ -7,8 +7,7 @@ use port_table::PortId;
 use relay_setup::Passage;
 use script_runs::Lost;
 use segment_report::Names;
-use segment_shared::{Client, Inbox, Live};
-use segment_threads::{Sender, senders_of};
+use segment_threads::{Client, Inbox, Live, Sender, senders_of};
 use std::alloc::Global;
 
 /// The crew of one segment: a client of each station with its messages, and the inboxes.

@@ -14,4 +14,4 @@ mod threads;
 pub use running::run_relay;
 pub use script_commands::{Cause, ScriptFault};
 pub use script_runs::{LiveFault as RelayFault, LiveRan as RelayRan};
-pub use segment_shared::Gate;
+pub use segment_threads::Gate;

@@ -1,7 +1,6 @@
 //! The pace of a relay, and the numbers of the workers.
 use pgn_ids::Address;
-use segment_shared::Gate;
-use segment_threads::Board;
+use segment_threads::{Board, Gate};
 use std::sync::atomic::Ordering;
 use std::thread;
 

@@ -14,7 +14,7 @@ use relay_setup::{Gateway, Passage};
 use script_runs::{LiveRan, Lost, Told, read_script, tell_refused, tell_run};
 use script_setup::Setup;
 use segment_report::{Names, names_of};
-use segment_shared::{Gate, Inbox, Live, SharedSegment};
+use segment_threads::{Gate, Inbox, Live, SharedSegment};
 use std::alloc::Global;
 use std::io::{BufRead, Write};
 use std::sync::Wait;

@@ -13,8 +13,7 @@ use crate::threads::Handed;
 use pgn_ids::Address;
 use relay_setup::Passage;
 use script_runs::{Lost, Told};
-use segment_shared::{Client, ClientReport, Inbox, Live, Report, finish};
-use segment_threads::Ends;
+use segment_threads::{Client, ClientReport, Ends, Inbox, Live, Report, finish};
 use std::alloc::{AllocError, Global};
 
 // Reports on clients and inboxes of a segment.

@@ -13,7 +13,7 @@ use script_runs::{Lost, Told};
 use script_setup::Message;
 use script_text::{print_relayed, print_text};
 use segment_report::{are_same, has_run_out, print_clients, print_ports};
-use segment_shared::Live;
+use segment_threads::Live;
 use std::alloc::Global;
 
 /// How many messages a relay received, submitted and left.

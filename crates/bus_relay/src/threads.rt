@@ -5,8 +5,9 @@ use crate::crews::{Crew, Crews};
 use crate::known::Known;
 use crate::pacing::{Numbered, RelayPace};
 use script_runs::Lost;
-use segment_shared::{Gate, SharedSegment};
-use segment_threads::{Board, Ends, Pace, Party, Running, gather, spawn_segment, watch};
+use segment_threads::{
+    Board, Ends, Gate, Pace, Party, Running, SharedSegment, gather, spawn_segment, watch,
+};
 use std::alloc::{AllocError, Global};
 use std::sync::Wait;
 use std::sync::atomic::Ordering;

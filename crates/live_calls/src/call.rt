@@ -4,7 +4,8 @@ ghost use Rattle.live_calls.specs.Words.{call_of};
 
 use bus_frame::Frame;
 use pgn_ids::Address;
-use segment_core::{Call, PortId};
+use port_table::PortId;
+use segment_law::Call;
 
 /// A call of a thread. Opens are made before the threads, Sends are made by clients, and the segment itself finds whether
 /// there is room.

@@ -7,7 +7,7 @@ ghost use Rattle.live_calls.specs.Offers.{IsCauseFor, IsReadyToSend, LacksRoomTo
 
 use live_ends::{Front, Seats, count_owed, send_of};
 use live_record::{Calls, Owed};
-use segment_core::{Call, Refusal};
+use segment_law::{Call, Refusal};
 use segment_rings::Seat;
 use std::alloc::{AllocError, Global};
 use watched_segment::Watched;

@@ -15,8 +15,9 @@ use crate::step::{make_telling, make_ungiven};
 use crate::wanted::wanted_of;
 use live_ends::{Doors, make_buffers, prepare_all};
 use live_record::Calls;
-use segment_core::{Events, Made};
+use message_events::Events;
 use segment_rings::Buffer;
+use segment_state::Made;
 use std::alloc::{AllocError, Global};
 use watched_segment::Watched;
 

@@ -10,7 +10,9 @@ ghost use Rattle.live_calls.specs.Words.{call_of, wanted_by};
 ghost use Rattle.reply_law.specs.Replies.{reply_of, left_by, Follows};
 
 use crate::call::WorkerCall;
-use segment_core::{Call, Events, Made, Refusal, Reply, Tried};
+use message_events::Events;
+use segment_law::{Call, Refusal, Reply};
+use segment_state::{Made, Tried};
 use std::alloc::AllocError;
 use watched_segment::Watched;
 

@@ -13,7 +13,7 @@ use live_record::{
     Piece, accepted_begin, begins, copy_deliveries, copy_left, count_accepted, kept_from,
     notes_begin, pieces_accepted_begin,
 };
-use segment_core::PortId;
+use port_table::PortId;
 use segment_rings::{Client, Delivery, Inbox, Note, Submission};
 use std::alloc::{AllocError, Global};
 

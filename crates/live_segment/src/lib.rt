@@ -28,11 +28,13 @@ pub use ending::{client_agrees, finish, inbox_agrees, pieces_begin};
 pub use live::Live;
 pub use live_calls::WorkerCall;
 pub use live_record::{CUT_AT, MOST_CALLS, Owed, Piece};
+pub use message_events::{Bytes, Event, Events};
 pub use news::News;
+pub use port_table::PortId;
 pub use refused::{Accepted, NotMade};
 pub use rejoining::{RejoinRefused, rejoin};
 pub use report::{ClientReport, FinishRefused, InboxReport, Report};
-pub use segment_core::{Bytes, Event, Events, PortId, Refusal, Reply};
+pub use segment_law::{Refusal, Reply};
 pub use segment_rings::{
     Client, Delivery, Inbox, MOST_PLACES, Note, Places, Submission, SubmitRefused,
 };

@@ -6,16 +6,15 @@ use crate::refused::{Accepted, NotMade};
 use live_calls::{Found, Ready, WorkerCall, find_ready, make, make_found, refusal_for};
 use live_ends::{Doors, Seats, tell};
 use live_record::{Calls, Owed};
+use message_events::Events;
 use pgn_ids::{Address, Pgn};
-use segment_core::{
-    Call, Events, Image, Made, NewRefused, Refusal, Reply, Segment, the_headline_holds,
-};
-use segment_law::Counts;
+use segment_law::{Call, Counts, Refusal, Reply};
 use segment_rings::{Client, Doorway, Inbox, Places, Seat};
+use segment_state::Made;
 use std::alloc::{AllocError, Global};
 use std::marker::Model;
 use stored_calls::{Stored, StoredCalls};
-use watched_segment::Watched;
+use watched_segment::{Image, NewRefused, Segment, Watched, the_headline_holds};
 
 /// How many clients a station has at most.
 pub const MOST_CLIENTS: usize = 16;

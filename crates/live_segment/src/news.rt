@@ -3,7 +3,7 @@ ghost use Rattle.std.specs.Prelude.{◌≡◌, MatchOption};
 ghost use Rattle.live_segment.specs.News.{IsNamed, NoNews};
 
 use crate::live::Live;
-use segment_core::PortId;
+use port_table::PortId;
 
 /// An end of a ring that has news.
 #[derive(Clone, Copy, Debug, Drop, PartialEq, Eq)]

@@ -3,7 +3,8 @@ ghost use Rattle.live_segment.specs.Passing.{IsPassing};
 
 use crate::live::Live;
 use pgn_ids::Address;
-use segment_core::{Call, Passing};
+use segment_law::Call;
+use segment_state::Passing;
 use stored_calls::Stored;
 
 impl Live {

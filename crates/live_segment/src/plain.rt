@@ -4,7 +4,7 @@ ghost use Rattle.live_segment.specs.Passing.{IsMadePlainly};
 use crate::live::Live;
 use live_calls::{WorkerCall, try_plainly};
 use live_ends::tell;
-use segment_core::Events;
+use message_events::Events;
 use stored_calls::Stored;
 
 impl Live {

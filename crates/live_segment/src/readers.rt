@@ -7,7 +7,7 @@ ghost use Rattle.live_segment.specs.Reports.{HasPort, notes_gone, given_gone};
 use crate::live::Live;
 use live_ends::door_of;
 use pgn_ids::Address;
-use segment_core::PortId;
+use port_table::PortId;
 use segment_rings::{Delivery, Note};
 
 impl Live {

@@ -2,7 +2,7 @@
 ghost use Rattle.std.specs.Prelude.{◌≡◌};
 ghost use Rattle.live_segment.specs.declared.refused.NotMade.TheVariants.{OutOfMemory};
 
-use segment_core::Refusal;
+use segment_law::Refusal;
 use std::alloc::AllocError;
 use thiserror::Error;
 

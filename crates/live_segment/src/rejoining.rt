@@ -8,9 +8,10 @@ ghost use Rattle.live_segment.specs.Rejoining.{IsJoined, IsJoinCause, StandsAfte
 use crate::live::Live;
 use live_record::Piece;
 use pgn_ids::Address;
-use segment_core::{Call, NewRefused, Refusal, Segment, the_headline_holds};
+use segment_law::{Call, Refusal};
 use std::alloc::{AllocError, Global};
 use stored_calls::{Stored, StoredCalls};
+use watched_segment::{NewRefused, Segment, the_headline_holds};
 
 /// The pieces are handed back. Without a refusal there was no memory.
 #[derive(Debug, Drop)]

@@ -14,8 +14,10 @@ use crate::live::Live;
 use crate::refused::Accepted;
 use bus_order::MAX_KEPT;
 use live_calls::WorkerCall;
+use message_events::Events;
 use pgn_ids::Address;
-use segment_core::{Events, Made, Passing, Refusal};
+use segment_law::Refusal;
+use segment_state::{Made, Passing};
 use tx_queue::MAX_FRAMES;
 use watched_segment::lowest_front;
 

@@ -8,4 +8,7 @@ mod spawning;
 
 pub use jobs::{Board, Party, Sender, read_all, watch};
 pub use pacing::Pace;
+pub use segment_shared::{
+    Client, ClientReport, Delivery, Gate, Inbox, Live, Report, SharedSegment, finish,
+};
 pub use spawning::{Ends, Running, gather, senders_of, spawn_segment};

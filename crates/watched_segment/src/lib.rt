@@ -6,4 +6,5 @@ mod lowest;
 mod watched;
 
 pub use lowest::lowest_front;
+pub use segment_core::{Image, NewRefused, Segment, the_headline_holds};
 pub use watched::Watched;
