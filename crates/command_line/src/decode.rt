@@ -1,13 +1,13 @@
 //! The words of `decode`.
-use crate::parts::{described, files, flag, list, of_numbers, valued};
+use crate::numbers::{ADDRESS_MOST, PGN_MOST, hexadecimal};
+use crate::parts::{Form, described, plain_row};
 use crate::refused::Refused;
-use clap::{Arg, ArgAction, ArgMatches, Command, value_parser};
-use pgn_ids::Address;
+use clap::{ArgMatches, Command};
 use std::alloc::{AllocError, Global};
 use tp_wire::constants::ETP_MAX_SIZE;
 
 /// What of a log is asked for.
-#[derive(Debug, PartialEq, Eq, Drop)]
+#[derive(Debug, Drop)]
 pub struct OfLog {
     /// Messages of these PGNs; of each PGN if none is named. The addresses likewise.
     pub pgns: Vec<u32>,
@@ -32,12 +32,6 @@ pub struct OfLog {
     /// Whether neither messages nor frames are printed.
     pub quiet: bool,
 }
-
-/// The highest number of 18 bits.
-pub(crate) const PGN_MOST: u32 = 0x3_FFFF;
-
-/// The highest address, which as a destination is all.
-pub(crate) const ADDRESS_MOST: u32 = Address::GLOBAL.0 as u32;
 
 const DECODE_HELP: &str =
     "A log has the lines that candump writes, (SECONDS.MICROS) IFACE ID#HEX, or those
@@ -81,116 +75,70 @@ Status:
 
 docs/LOGS.md describes what is read and printed.";
 
-fn numbers_arg<'a>(alloc: Global, name: &'a str, value: &'a str, help: &'a str) -> Arg<'a> {
-    valued(alloc, name, value, ArgAction::Append, help)
-}
-
-fn most_arg<'a>(alloc: Global) -> Arg<'a> {
-    let most = valued(
-        alloc,
-        "max-bytes",
-        "N",
-        ArgAction::Set,
-        "Longest message that is reassembled, in bytes [default: 117440505]",
-    );
-    of_numbers(most, value_parser!(u32).range(1..=i64::from(ETP_MAX_SIZE)))
-}
-
-fn all_arg<'a>(alloc: Global) -> Arg<'a> {
-    flag(
-        alloc,
-        "all",
-        "Also prints frames that belong to no message, as frame FROM TO PGN LENGTH HEX",
-    )
-}
-
-fn json_arg<'a>(alloc: Global) -> Arg<'a> {
-    flag(alloc, "json", "Prints each line as a JSON object")
-}
-
-fn frames_arg<'a>(alloc: Global) -> Arg<'a> {
-    flag(
-        alloc,
-        "frames",
-        "Lists the announcement, windows and end of each message, with time and number",
-    )
-}
-
-fn explain_arg<'a>(alloc: Global) -> Arg<'a> {
-    flag(
-        alloc,
-        "explain",
-        "Also shows fault lists and identifications in words, single frames included",
-    )
-}
-
-fn summary_arg<'a>(alloc: Global) -> Arg<'a> {
-    flag(
-        alloc,
-        "summary",
-        "Ends with a table of the messages: a row for each interface, PGN, sender and destination",
-    )
-}
-
-fn quiet_arg<'a>(alloc: Global) -> Arg<'a> {
-    flag(alloc, "quiet", "Prints neither messages nor frames")
-}
-
-fn strict_arg<'a>(alloc: Global) -> Arg<'a> {
-    flag(alloc, "strict", "Ends at the first wrong line")
-}
-
-/// The arguments of `decode`, in the order of the help.
-fn decode_args<'a>(alloc: Global) -> Result<Vec<Arg<'a>>, AllocError> {
-    let pgn = "Only messages of this PGN, hexadecimal";
-    let from = "Only messages from this address, hexadecimal";
-    let to = "Only messages to this address, FF for those to all";
-    list(
-        alloc,
-        [
-            numbers_arg(alloc, "pgn", "PGN", pgn),
-            numbers_arg(alloc, "from", "A", from),
-            numbers_arg(alloc, "to", "A", to),
-            most_arg(alloc),
-            all_arg(alloc),
-            strict_arg(alloc),
-            json_arg(alloc),
-            frames_arg(alloc),
-            explain_arg(alloc),
-            summary_arg(alloc),
-            quiet_arg(alloc),
-            files(
-                alloc,
-                "Logs in the order of their times, - for standard input [default: -]",
-            )
-            .action(ArgAction::Append),
-        ],
-    )
-}
-
 /// The command as it is parsed, with its help.
 pub(crate) fn decode_command<'a>(alloc: Global) -> Result<Command<'a>, AllocError> {
+    let rows = [
+        plain_row(
+            "pgn",
+            Form::Values("PGN"),
+            "Only messages of this PGN, hexadecimal",
+        ),
+        plain_row(
+            "from",
+            Form::Values("A"),
+            "Only messages from this address, hexadecimal",
+        ),
+        plain_row(
+            "to",
+            Form::Values("A"),
+            "Only messages to this address, FF for those to all",
+        ),
+        plain_row(
+            "max-bytes",
+            Form::Number("N", 1, ETP_MAX_SIZE as i64),
+            "Longest message that is reassembled, in bytes [default: 117440505]",
+        ),
+        plain_row(
+            "all",
+            Form::Flag,
+            "Also prints frames that belong to no message, as frame FROM TO PGN LENGTH HEX",
+        ),
+        plain_row("strict", Form::Flag, "Ends at the first wrong line"),
+        plain_row("json", Form::Flag, "Prints each line as a JSON object"),
+        plain_row(
+            "frames",
+            Form::Flag,
+            "Lists the announcement, windows and end of each message, with time and number",
+        ),
+        plain_row(
+            "explain",
+            Form::Flag,
+            "Also shows fault lists and identifications in words, single frames included",
+        ),
+        plain_row(
+            "summary",
+            Form::Flag,
+            "Ends with a table of the messages: a row for each interface, PGN, sender and destination",
+        ),
+        plain_row("quiet", Form::Flag, "Prints neither messages nor frames"),
+        plain_row(
+            "files",
+            Form::Several("FILE"),
+            "Logs in the order of their times, - for standard input [default: -]",
+        ),
+    ];
     described(
         alloc,
         "decode",
         "Prints the messages of logs, reassembled from their packets",
         DECODE_HELP,
-        decode_args(alloc),
+        &rows,
     )
-}
-
-/// The number that hexadecimal digits write, if it is at most `most`.
-pub(crate) fn hexadecimal(word: &str, most: u32) -> Option<u32> {
-    if !word.as_bytes().first()?.is_ascii_hexdigit() {
-        return None;
-    }
-    let number = u32::from_str_radix(word, 16).ok()?;
-    if number <= most { Some(number) } else { None }
 }
 
 /// The number that a word of an argument writes; if it writes none, the word is refused.
 fn number(alloc: Global, name: &str, word: &str, most: u32) -> Result<u32, Refused> {
-    match hexadecimal(word, most) {
+    match hexadecimal(word.as_bytes(), most) {
         Some(number) => Ok(number),
         None => Err(Refused::Word(format!(in alloc;
             "invalid value '{word}' for '--{name}': not a hexadecimal number up to {most:X}"
@@ -216,8 +164,8 @@ fn numbers(
 pub(crate) fn read_decode(alloc: Global, matches: &ArgMatches) -> Result<OfLog, Refused> {
     Ok(OfLog {
         pgns: numbers(alloc, matches, "pgn", PGN_MOST)?,
-        from: numbers(alloc, matches, "from", ADDRESS_MOST)?,
-        to: numbers(alloc, matches, "to", ADDRESS_MOST)?,
+        from: numbers(alloc, matches, "from", u32::from(ADDRESS_MOST))?,
+        to: numbers(alloc, matches, "to", u32::from(ADDRESS_MOST))?,
         most: matches.get_one::<u32>("max-bytes").unwrap_or(ETP_MAX_SIZE),
         singles: matches.get_flag("all"),
         strict: matches.get_flag("strict"),
