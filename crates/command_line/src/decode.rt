@@ -1,6 +1,6 @@
 //! The words of `decode`.
 use crate::numbers::{ADDRESS_MOST, PGN_MOST, hexadecimal};
-use crate::parts::{Form, described, plain_row};
+use crate::parts::{Row, described};
 use crate::refused::Refused;
 use clap::{ArgMatches, Command};
 use std::alloc::{AllocError, Global};
@@ -75,64 +75,56 @@ Status:
 
 docs/LOGS.md describes what is read and printed.";
 
+/// The arguments, in the order of the help.
+const ROWS: [Row<'static>; 12] = [
+    Row::Values("pgn", "PGN", "Only messages of this PGN, hexadecimal"),
+    Row::Values("from", "A", "Only messages from this address, hexadecimal"),
+    Row::Values(
+        "to",
+        "A",
+        "Only messages to this address, FF for those to all",
+    ),
+    Row::Number(
+        "max-bytes",
+        "N",
+        1,
+        ETP_MAX_SIZE as i64,
+        "Longest message that is reassembled, in bytes [default: 117440505]",
+    ),
+    Row::Flag(
+        "all",
+        "Also prints frames that belong to no message, as frame FROM TO PGN LENGTH HEX",
+    ),
+    Row::Flag("strict", "Ends at the first wrong line"),
+    Row::Flag("json", "Prints each line as a JSON object"),
+    Row::Flag(
+        "frames",
+        "Lists the announcement, windows and end of each message, with time and number",
+    ),
+    Row::Flag(
+        "explain",
+        "Also shows fault lists and identifications in words, single frames included",
+    ),
+    Row::Flag(
+        "summary",
+        "Ends with a table of the messages: a row for each interface, PGN, sender and destination",
+    ),
+    Row::Flag("quiet", "Prints neither messages nor frames"),
+    Row::Several(
+        "files",
+        "FILE",
+        "Logs in the order of their times, - for standard input [default: -]",
+    ),
+];
+
 /// The command as it is parsed, with its help.
 pub(crate) fn decode_command<'a>(alloc: Global) -> Result<Command<'a>, AllocError> {
-    let rows = [
-        plain_row(
-            "pgn",
-            Form::Values("PGN"),
-            "Only messages of this PGN, hexadecimal",
-        ),
-        plain_row(
-            "from",
-            Form::Values("A"),
-            "Only messages from this address, hexadecimal",
-        ),
-        plain_row(
-            "to",
-            Form::Values("A"),
-            "Only messages to this address, FF for those to all",
-        ),
-        plain_row(
-            "max-bytes",
-            Form::Number("N", 1, ETP_MAX_SIZE as i64),
-            "Longest message that is reassembled, in bytes [default: 117440505]",
-        ),
-        plain_row(
-            "all",
-            Form::Flag,
-            "Also prints frames that belong to no message, as frame FROM TO PGN LENGTH HEX",
-        ),
-        plain_row("strict", Form::Flag, "Ends at the first wrong line"),
-        plain_row("json", Form::Flag, "Prints each line as a JSON object"),
-        plain_row(
-            "frames",
-            Form::Flag,
-            "Lists the announcement, windows and end of each message, with time and number",
-        ),
-        plain_row(
-            "explain",
-            Form::Flag,
-            "Also shows fault lists and identifications in words, single frames included",
-        ),
-        plain_row(
-            "summary",
-            Form::Flag,
-            "Ends with a table of the messages: a row for each interface, PGN, sender and destination",
-        ),
-        plain_row("quiet", Form::Flag, "Prints neither messages nor frames"),
-        plain_row(
-            "files",
-            Form::Several("FILE"),
-            "Logs in the order of their times, - for standard input [default: -]",
-        ),
-    ];
     described(
         alloc,
         "decode",
         "Prints the messages of logs, reassembled from their packets",
         DECODE_HELP,
-        &rows,
+        &ROWS,
     )
 }
 

@@ -1,7 +1,7 @@
 //! The words of `draw`.
 use crate::node::{first_of, interface};
 use crate::numbers::{pair, time};
-use crate::parts::{Form, Row, described, plain_row};
+use crate::parts::{Row, described};
 use crate::refused::Refused;
 use clap::{ArgMatches, Command};
 use std::alloc::{AllocError, Global};
@@ -47,50 +47,38 @@ Status:
 
 docs/SCRIPTS.md describes the language, docs/LOGS.md the drawing of a log.";
 
-/// An argument that says which frames of a log are drawn.
-fn log_row<'a>(name: &'a str, form: Form<'a>, help: &'a str) -> Row<'a> {
-    Row {
-        name,
-        form,
-        help,
-        needs: "log",
-    }
-}
+/// The arguments, in the order of the help.
+const ROWS: [Row<'static>; 8] = [
+    Row::Flag("log", "Draws logs of a bus"),
+    Row::LogValue(
+        "pair",
+        "A-B",
+        "Only frames between these nodes, and from either to all, hexadecimal",
+    ),
+    Row::LogValue("from", "SECONDS", "No frame before this time"),
+    Row::LogValue("to", "SECONDS", "No frame after this time"),
+    Row::LogValue(
+        "interface",
+        "NAME",
+        "Interface whose frames are drawn [default: that of the first frame]",
+    ),
+    Row::LogFlag("all", "Also draws frames that belong to no message"),
+    Row::LogFlag("strict", "Ends at the first wrong line"),
+    Row::Several(
+        "files",
+        "FILE",
+        "Script, or logs in the order of their times, - for standard input [default: -]",
+    ),
+];
 
 /// The command as it is parsed, with its help.
 pub(crate) fn draw_command<'a>(alloc: Global) -> Result<Command<'a>, AllocError> {
-    let rows = [
-        plain_row("log", Form::Flag, "Draws logs of a bus"),
-        log_row(
-            "pair",
-            Form::Value("A-B"),
-            "Only frames between these nodes, and from either to all, hexadecimal",
-        ),
-        log_row("from", Form::Value("SECONDS"), "No frame before this time"),
-        log_row("to", Form::Value("SECONDS"), "No frame after this time"),
-        log_row(
-            "interface",
-            Form::Value("NAME"),
-            "Interface whose frames are drawn [default: that of the first frame]",
-        ),
-        log_row(
-            "all",
-            Form::Flag,
-            "Also draws frames that belong to no message",
-        ),
-        log_row("strict", Form::Flag, "Ends at the first wrong line"),
-        plain_row(
-            "files",
-            Form::Several("FILE"),
-            "Script, or logs in the order of their times, - for standard input [default: -]",
-        ),
-    ];
     described(
         alloc,
         "draw",
         "Runs a script and draws it as a sequence diagram, or draws a log",
         DRAW_HELP,
-        &rows,
+        &ROWS,
     )
 }
 

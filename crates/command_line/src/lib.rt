@@ -15,7 +15,7 @@ pub use draw::OfDrawing;
 use draw::{draw_command, read_draw};
 pub use node::{OfNode, OfPort};
 use node::{node_command, read_node};
-use parts::{Form, SCRIPT, add, described, names, plain_row};
+use parts::{Row, SCRIPT, described, names, put};
 use refused::{Refused, or_error};
 use std::alloc::{AllocError, Global};
 
@@ -120,21 +120,25 @@ Status:
 
 docs/SCRIPTS.md describes the language, and this in its last part.";
 
+/// The arguments of `live` and `relay`, in the order of the help.
+const THREADS_ROWS: [Row<'static>; 2] = [
+    Row::Number(
+        "turns",
+        "turns",
+        1,
+        1_000_000_000,
+        "Most turns of a worker, 1 to 1000000000 [default: 1000000]",
+    ),
+    Row::Alone("files", "FILE", SCRIPT),
+];
+
 fn threads_command<'a>(
     alloc: Global,
     name: &'a str,
     about: &'a str,
     help: &'a str,
 ) -> Result<Command<'a>, AllocError> {
-    let rows = [
-        plain_row(
-            "turns",
-            Form::Number("turns", 1, 1_000_000_000),
-            "Most turns of a worker, 1 to 1000000000 [default: 1000000]",
-        ),
-        plain_row("files", Form::Alone("FILE"), SCRIPT),
-    ];
-    described(alloc, name, about, help, &rows)
+    described(alloc, name, about, help, &THREADS_ROWS)
 }
 
 fn live_command<'a>(alloc: Global) -> Result<Command<'a>, AllocError> {
@@ -155,41 +159,51 @@ fn relay_command<'a>(alloc: Global) -> Result<Command<'a>, AllocError> {
     )
 }
 
-/// The commands among the words, in the order of the help.
-fn commands<'a>(alloc: Global) -> Result<Vec<Command<'a>>, AllocError> {
-    let commands = add(Ok(Vec::new(alloc)), live_command(alloc));
-    let commands = add(commands, relay_command(alloc));
-    let commands = add(commands, decode_command(alloc));
-    let commands = add(commands, draw_command(alloc));
-    add(commands, node_command(alloc))
+/// Puts the commands among the words, in the order of the help.
+fn put_commands<'a>(alloc: Global, commands: &mut Vec<Command<'a>>) -> Result<(), AllocError> {
+    put(commands, live_command(alloc))?;
+    put(commands, relay_command(alloc))?;
+    put(commands, decode_command(alloc))?;
+    put(commands, draw_command(alloc))?;
+    put(commands, node_command(alloc))
 }
+
+/// The program's own arguments, in the order of the help.
+const PROGRAM_ROWS: [Row<'static>; 2] = [
+    Row::Flag(
+        "log",
+        "Prints only the frames, as a log, and the replies on standard error",
+    ),
+    Row::Alone("files", "FILE", SCRIPT),
+];
 
 /// The program with its own arguments, for a command line that names none of its commands.
 fn without_commands<'a>(alloc: Global) -> Result<Command<'a>, AllocError> {
-    let rows = [
-        plain_row(
-            "log",
-            Form::Flag,
-            "Prints only the frames, as a log, and the replies on standard error",
-        ),
-        plain_row("files", Form::Alone("FILE"), SCRIPT),
-    ];
     described(
         alloc,
         "j1939bus",
         "Runs a script, and prints the reply to each line",
         PROGRAM_HELP,
-        &rows,
+        &PROGRAM_ROWS,
     )
+}
+
+/// The program with commands.
+fn with_commands<'a>(
+    program: Result<Command<'a>, AllocError>,
+    commands: Vec<Command<'a>>,
+) -> Result<Command<'a>, AllocError> {
+    program?
+        .version("0.3.0")
+        .args_conflicts_with_subcommands(true)
+        .subcommands(commands)
 }
 
 /// The command as it is parsed, with its help.
 fn program<'a>(alloc: Global) -> Result<Command<'a>, AllocError> {
-    let commands = commands(alloc)?;
-    without_commands(alloc)?
-        .version("0.3.0")
-        .args_conflicts_with_subcommands(true)
-        .subcommands(commands)
+    let mut commands = Vec::new(alloc);
+    put_commands(alloc, &mut commands)?;
+    with_commands(without_commands(alloc), commands)
 }
 
 /// The turns of each worker.
@@ -220,22 +234,29 @@ fn read_command(alloc: Global, name: &str, words: &ArgMatches) -> Result<Asked, 
     }
 }
 
-/// What the words ask for, and what is read.
-fn read_line(alloc: Global, matches: &ArgMatches) -> Result<Line, Refused> {
-    if let Some((name, words)) = matches.subcommand() {
-        let asked = read_command(alloc, name, words)?;
-        return Ok(Line {
-            asked,
-            files: names(alloc, words)?,
-        });
-    }
-    let files = names(alloc, matches)?;
-    let asked = if matches.get_flag("log") {
+/// What the words ask for that name no command.
+fn read_script(matches: &ArgMatches) -> Asked {
+    if matches.get_flag("log") {
         Asked::Logged
     } else {
         Asked::Script
+    }
+}
+
+/// What the words ask for, and what is read.
+fn read_line(alloc: Global, matches: &ArgMatches) -> Result<Line, Refused> {
+    let Some((name, words)) = matches.subcommand() else {
+        let files = names(alloc, matches)?;
+        return Ok(Line {
+            asked: read_script(matches),
+            files,
+        });
     };
-    Ok(Line { asked, files })
+    let files = names(alloc, words)?;
+    Ok(Line {
+        asked: read_command(alloc, name, words)?,
+        files,
+    })
 }
 
 /// What words ask for, as the command parses them.

@@ -1,6 +1,6 @@
 //! The words of `node`.
 use crate::numbers::{NODE_MOST, PGN_MOST, address, hexadecimal};
-use crate::parts::{Form, described, plain_row};
+use crate::parts::{Row, described};
 use crate::refused::Refused;
 use clap::{ArgMatches, Command};
 use std::alloc::{AllocError, Global};
@@ -63,42 +63,45 @@ Status:
 
 docs/REAL-BUS.md describes what is read and printed.";
 
+/// The arguments, in the order of the help.
+const ROWS: [Row<'static>; 6] = [
+    Row::Required(
+        "address",
+        "ADDRESS",
+        "Address of the station, 00 to FD, hexadecimal",
+    ),
+    Row::Value(
+        "interface",
+        "NAME",
+        "Interface of the station [default: that of the first frame]",
+    ),
+    Row::Values(
+        "port",
+        "PGN[:MAX]",
+        "Opens a port at the start, as open PGN MAX does [default MAX: 117440505]",
+    ),
+    Row::Number(
+        "quiet",
+        "MS",
+        0,
+        10_000,
+        "Milliseconds of rest after a failed connection, 0 to 10000 [default: 700]",
+    ),
+    Row::Flag("strict", "Ends at the first wrong line"),
+    Row::Flag(
+        "new",
+        "Sends messages at once: none left the address in the last 1,250 ms",
+    ),
+];
+
 /// The command as it is parsed, with its help.
 pub(crate) fn node_command<'a>(alloc: Global) -> Result<Command<'a>, AllocError> {
-    let rows = [
-        plain_row(
-            "address",
-            Form::Required("ADDRESS"),
-            "Address of the station, 00 to FD, hexadecimal",
-        ),
-        plain_row(
-            "interface",
-            Form::Value("NAME"),
-            "Interface of the station [default: that of the first frame]",
-        ),
-        plain_row(
-            "port",
-            Form::Values("PGN[:MAX]"),
-            "Opens a port at the start, as open PGN MAX does [default MAX: 117440505]",
-        ),
-        plain_row(
-            "quiet",
-            Form::Number("MS", 0, 10_000),
-            "Milliseconds of rest after a failed connection, 0 to 10000 [default: 700]",
-        ),
-        plain_row("strict", Form::Flag, "Ends at the first wrong line"),
-        plain_row(
-            "new",
-            Form::Flag,
-            "Sends messages at once: none left the address in the last 1,250 ms",
-        ),
-    ];
     described(
         alloc,
         "node",
         "Runs one station on a real bus, whose frames are read from standard input",
         NODE_HELP,
-        &rows,
+        &ROWS,
     )
 }
 
