@@ -84,10 +84,9 @@ const ROWS: [Row<'static>; 12] = [
         "A",
         "Only messages to this address, FF for those to all",
     ),
-    Row::Number(
+    Row::Size(
         "max-bytes",
         "N",
-        1,
         ETP_MAX_SIZE as i64,
         "Longest message that is reassembled, in bytes [default: 117440505]",
     ),

@@ -1,5 +1,6 @@
 //! Parts of the commands and their arguments. These are small functions, some of them generic: at each step of a function the
 //! check weighs every value that the function holds, and those of `clap` are large. Arguments are rows of a table for the same reason.
+use clap::builder::ValueParser;
 use clap::{Arg, ArgAction, ArgMatches, Command, value_parser};
 use std::alloc::{AllocError, Global};
 
@@ -17,6 +18,8 @@ pub(crate) enum Row<'a> {
     Values(&'a str, &'a str, &'a str),
     /// Written as `--`, its name and a number from the first to the second.
     Number(&'a str, &'a str, i64, i64, &'a str),
+    /// Written as `--`, its name and a number of 32 bits from 1 to this one.
+    Size(&'a str, &'a str, i64, &'a str),
     /// A flag that is refused without `--log`.
     LogFlag(&'a str, &'a str),
     /// Written as `--`, its name and a value, and refused without `--log`.
@@ -50,9 +53,9 @@ fn alone<'a>(alloc: Global, name: &'a str, value: &'a str, help: &'a str) -> Arg
     Arg::new(alloc, name).value_name(value).help(help)
 }
 
-/// An argument whose values are numbers of 64 bits from `least` to `most`.
-fn within<'a>(arg: Arg<'a>, least: i64, most: i64) -> Arg<'a> {
-    arg.value_parser(value_parser!(u64).range(least..=most))
+/// An argument whose values are these numbers.
+fn within<'a>(arg: Arg<'a>, numbers: ValueParser<'a>) -> Arg<'a> {
+    arg.value_parser(numbers)
 }
 
 /// The argument of a row.
@@ -65,8 +68,11 @@ fn argument<'a>(alloc: Global, row: Row<'a>) -> Result<Arg<'a>, AllocError> {
         }
         Row::Number(name, value, least, most, help) => Ok(within(
             valued(alloc, name, value, help, ArgAction::Set),
-            least,
-            most,
+            value_parser!(u64).range(least..=most),
+        )),
+        Row::Size(name, value, most, help) => Ok(within(
+            valued(alloc, name, value, help, ArgAction::Set),
+            value_parser!(u32).range(1..=most),
         )),
         Row::LogFlag(name, help) => {
             named(alloc, name, help, ArgAction::SetTrue).requires_arg("log")
