@@ -1,7 +1,7 @@
 //! The words of `decode`.
 use crate::numbers::{ADDRESS_MOST, PGN_MOST, hexadecimal};
-use crate::parts::{Row, described};
-use crate::refused::Refused;
+use crate::parts::{Form, Row, described};
+use crate::refused::{Refused, refuse};
 use clap::{ArgMatches, Command};
 use std::alloc::{AllocError, Global};
 use tp_wire::constants::ETP_MAX_SIZE;
@@ -77,43 +77,78 @@ docs/LOGS.md describes what is read and printed.";
 
 /// The arguments, in the order of the help.
 const ROWS: [Row<'static>; 12] = [
-    Row::Values("pgn", "PGN", "Only messages of this PGN, hexadecimal"),
-    Row::Values("from", "A", "Only messages from this address, hexadecimal"),
-    Row::Values(
-        "to",
-        "A",
-        "Only messages to this address, FF for those to all",
-    ),
-    Row::Size(
-        "max-bytes",
-        "N",
-        ETP_MAX_SIZE as i64,
-        "Longest message that is reassembled, in bytes [default: 117440505]",
-    ),
-    Row::Flag(
-        "all",
-        "Also prints frames that belong to no message, as frame FROM TO PGN LENGTH HEX",
-    ),
-    Row::Flag("strict", "Ends at the first wrong line"),
-    Row::Flag("json", "Prints each line as a JSON object"),
-    Row::Flag(
-        "frames",
-        "Lists the announcement, windows and end of each message, with time and number",
-    ),
-    Row::Flag(
-        "explain",
-        "Also shows fault lists and identifications in words, single frames included",
-    ),
-    Row::Flag(
-        "summary",
-        "Ends with a table of the messages: a row for each interface, PGN, sender and destination",
-    ),
-    Row::Flag("quiet", "Prints neither messages nor frames"),
-    Row::Several(
-        "files",
-        "FILE",
-        "Logs in the order of their times, - for standard input [default: -]",
-    ),
+    Row {
+        form: Form::Values,
+        name: "pgn",
+        value: "PGN",
+        help: "Only messages of this PGN, hexadecimal",
+    },
+    Row {
+        form: Form::Values,
+        name: "from",
+        value: "A",
+        help: "Only messages from this address, hexadecimal",
+    },
+    Row {
+        form: Form::Values,
+        name: "to",
+        value: "A",
+        help: "Only messages to this address, FF for those to all",
+    },
+    Row {
+        form: Form::Size(ETP_MAX_SIZE as i64),
+        name: "max-bytes",
+        value: "N",
+        help: "Longest message that is reassembled, in bytes [default: 117440505]",
+    },
+    Row {
+        form: Form::Flag,
+        name: "all",
+        value: "",
+        help: "Also prints frames that belong to no message, as frame FROM TO PGN LENGTH HEX",
+    },
+    Row {
+        form: Form::Flag,
+        name: "strict",
+        value: "",
+        help: "Ends at the first wrong line",
+    },
+    Row {
+        form: Form::Flag,
+        name: "json",
+        value: "",
+        help: "Prints each line as a JSON object",
+    },
+    Row {
+        form: Form::Flag,
+        name: "frames",
+        value: "",
+        help: "Lists the announcement, windows and end of each message, with time and number",
+    },
+    Row {
+        form: Form::Flag,
+        name: "explain",
+        value: "",
+        help: "Also shows fault lists and identifications in words, single frames included",
+    },
+    Row {
+        form: Form::Flag,
+        name: "summary",
+        value: "",
+        help: "Ends with a table of the messages: a row for each interface, PGN, sender and destination",
+    },
+    Row {
+        form: Form::Flag,
+        name: "quiet",
+        value: "",
+        help: "Prints neither messages nor frames",
+    },
+    Row {
+        form: Form::Several,
+        name: "files",
+        value: "FILE",
+        help: "Logs in the order of their times, - for standard input [default: -]",
+    },
 ];
 
 /// The command as it is parsed, with its help.
@@ -127,14 +162,22 @@ pub(crate) fn decode_command<'a>(alloc: Global) -> Result<Command<'a>, AllocErro
     )
 }
 
-/// The number that a word of an argument writes; if it writes none, the word is refused.
-fn number(alloc: Global, name: &str, word: &str, most: u32) -> Result<u32, Refused> {
+/// Puts the number that a word writes; if it writes none up to `most`, the word is refused.
+fn put_number(
+    alloc: Global,
+    numbers: &mut Vec<u32>,
+    option: &str,
+    word: &str,
+    most: u32,
+) -> Result<(), Refused> {
     match hexadecimal(word.as_bytes(), most) {
-        Some(number) => Ok(number),
-        None => Err(Refused::Word(format!(in alloc;
-            "invalid value '{word}' for '--{name}': not a hexadecimal number up to {most:X}"
-        )?)),
+        Some(number) => numbers.push(number)?,
+        None if most == PGN_MOST => {
+            return Err(refuse(alloc, option, word, "not a hexadecimal number up to 3FFFF"));
+        }
+        None => return Err(refuse(alloc, option, word, "not a hexadecimal number up to FF")),
     }
+    Ok(())
 }
 
 /// The numbers that an argument names.
@@ -142,11 +185,12 @@ fn numbers(
     alloc: Global,
     matches: &ArgMatches,
     name: &str,
+    option: &str,
     most: u32,
 ) -> Result<Vec<u32>, Refused> {
     let mut numbers = Vec::new(alloc);
     for word in matches.get_strs(name).unwrap_or(&[]) {
-        numbers.push(number(alloc, name, *word, most)?)?;
+        put_number(alloc, &mut numbers, option, *word, most)?;
     }
     Ok(numbers)
 }
@@ -154,9 +198,9 @@ fn numbers(
 /// What its words ask for.
 pub(crate) fn read_decode(alloc: Global, matches: &ArgMatches) -> Result<OfLog, Refused> {
     Ok(OfLog {
-        pgns: numbers(alloc, matches, "pgn", PGN_MOST)?,
-        from: numbers(alloc, matches, "from", u32::from(ADDRESS_MOST))?,
-        to: numbers(alloc, matches, "to", u32::from(ADDRESS_MOST))?,
+        pgns: numbers(alloc, matches, "pgn", "--pgn", PGN_MOST)?,
+        from: numbers(alloc, matches, "from", "--from", u32::from(ADDRESS_MOST))?,
+        to: numbers(alloc, matches, "to", "--to", u32::from(ADDRESS_MOST))?,
         most: matches.get_one::<u32>("max-bytes").unwrap_or(ETP_MAX_SIZE),
         singles: matches.get_flag("all"),
         strict: matches.get_flag("strict"),

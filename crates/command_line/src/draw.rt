@@ -1,8 +1,8 @@
 //! The words of `draw`.
 use crate::node::{first_of, interface};
 use crate::numbers::{pair, time};
-use crate::parts::{Row, described};
-use crate::refused::Refused;
+use crate::parts::{Form, Row, described};
+use crate::refused::{Refused, refuse};
 use clap::{ArgMatches, Command};
 use std::alloc::{AllocError, Global};
 
@@ -49,26 +49,54 @@ docs/SCRIPTS.md describes the language, docs/LOGS.md the drawing of a log.";
 
 /// The arguments, in the order of the help.
 const ROWS: [Row<'static>; 8] = [
-    Row::Flag("log", "Draws logs of a bus"),
-    Row::LogValue(
-        "pair",
-        "A-B",
-        "Only frames between these nodes, and from either to all, hexadecimal",
-    ),
-    Row::LogValue("from", "SECONDS", "No frame before this time"),
-    Row::LogValue("to", "SECONDS", "No frame after this time"),
-    Row::LogValue(
-        "interface",
-        "NAME",
-        "Interface whose frames are drawn [default: that of the first frame]",
-    ),
-    Row::LogFlag("all", "Also draws frames that belong to no message"),
-    Row::LogFlag("strict", "Ends at the first wrong line"),
-    Row::Several(
-        "files",
-        "FILE",
-        "Script, or logs in the order of their times, - for standard input [default: -]",
-    ),
+    Row {
+        form: Form::Flag,
+        name: "log",
+        value: "",
+        help: "Draws logs of a bus",
+    },
+    Row {
+        form: Form::LogValue,
+        name: "pair",
+        value: "A-B",
+        help: "Only frames between these nodes, and from either to all, hexadecimal",
+    },
+    Row {
+        form: Form::LogValue,
+        name: "from",
+        value: "SECONDS",
+        help: "No frame before this time",
+    },
+    Row {
+        form: Form::LogValue,
+        name: "to",
+        value: "SECONDS",
+        help: "No frame after this time",
+    },
+    Row {
+        form: Form::LogValue,
+        name: "interface",
+        value: "NAME",
+        help: "Interface whose frames are drawn [default: that of the first frame]",
+    },
+    Row {
+        form: Form::LogFlag,
+        name: "all",
+        value: "",
+        help: "Also draws frames that belong to no message",
+    },
+    Row {
+        form: Form::LogFlag,
+        name: "strict",
+        value: "",
+        help: "Ends at the first wrong line",
+    },
+    Row {
+        form: Form::Several,
+        name: "files",
+        value: "FILE",
+        help: "Script, or logs in the order of their times, - for standard input [default: -]",
+    },
 ];
 
 /// The command as it is parsed, with its help.
@@ -83,15 +111,23 @@ pub(crate) fn draw_command<'a>(alloc: Global) -> Result<Command<'a>, AllocError>
 }
 
 /// The time that an argument names.
-fn time_of(alloc: Global, matches: &ArgMatches, name: &str) -> Result<Option<u64>, Refused> {
+fn time_of(
+    alloc: Global,
+    matches: &ArgMatches,
+    name: &str,
+    option: &str,
+) -> Result<Option<u64>, Refused> {
     let Some(word) = first_of(matches, name) else {
         return Ok(None);
     };
     match time(word.as_bytes()) {
         Some(time) => Ok(Some(time)),
-        None => Err(Refused::Word(format!(in alloc;
-            "invalid value '{word}' for '--{name}': not seconds with up to six digits after the point"
-        )?)),
+        None => Err(refuse(
+            alloc,
+            option,
+            word,
+            "not seconds with up to six digits after the point",
+        )),
     }
 }
 
@@ -102,9 +138,12 @@ fn pair_of(alloc: Global, matches: &ArgMatches) -> Result<Option<(u8, u8)>, Refu
     };
     match pair(word.as_bytes()) {
         Some(pair) => Ok(Some(pair)),
-        None => Err(Refused::Word(format!(in alloc;
-            "invalid value '{word}' for '--pair': not two hexadecimal addresses with a hyphen between them"
-        )?)),
+        None => Err(refuse(
+            alloc,
+            "--pair",
+            word,
+            "not two hexadecimal addresses with a hyphen between them",
+        )),
     }
 }
 
@@ -112,8 +151,8 @@ fn pair_of(alloc: Global, matches: &ArgMatches) -> Result<Option<(u8, u8)>, Refu
 fn read_log(alloc: Global, matches: &ArgMatches) -> Result<OfDrawing, Refused> {
     Ok(OfDrawing {
         pair: pair_of(alloc, matches)?,
-        from: time_of(alloc, matches, "from")?,
-        to: time_of(alloc, matches, "to")?,
+        from: time_of(alloc, matches, "from", "--from")?,
+        to: time_of(alloc, matches, "to", "--to")?,
         interface: interface(alloc, matches)?,
         others: matches.get_flag("all"),
         strict: matches.get_flag("strict"),

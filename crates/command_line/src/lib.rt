@@ -15,7 +15,7 @@ pub use draw::OfDrawing;
 use draw::{draw_command, read_draw};
 pub use node::{OfNode, OfPort};
 use node::{node_command, read_node};
-use parts::{Row, SCRIPT, described, names, put};
+use parts::{Form, Row, SCRIPT, described, names, put};
 use refused::{Refused, or_error};
 use std::alloc::{AllocError, Global};
 
@@ -122,14 +122,18 @@ docs/SCRIPTS.md describes the language, and this in its last part.";
 
 /// The arguments of `live` and `relay`, in the order of the help.
 const THREADS_ROWS: [Row<'static>; 2] = [
-    Row::Number(
-        "turns",
-        "turns",
-        1,
-        1_000_000_000,
-        "Most turns of a worker, 1 to 1000000000 [default: 1000000]",
-    ),
-    Row::Alone("files", "FILE", SCRIPT),
+    Row {
+        form: Form::Number(1, 1_000_000_000),
+        name: "turns",
+        value: "turns",
+        help: "Most turns of a worker, 1 to 1000000000 [default: 1000000]",
+    },
+    Row {
+        form: Form::Alone,
+        name: "files",
+        value: "FILE",
+        help: SCRIPT,
+    },
 ];
 
 fn threads_command<'a>(
@@ -170,11 +174,18 @@ fn put_commands<'a>(alloc: Global, commands: &mut Vec<Command<'a>>) -> Result<()
 
 /// The program's own arguments, in the order of the help.
 const PROGRAM_ROWS: [Row<'static>; 2] = [
-    Row::Flag(
-        "log",
-        "Prints only the frames, as a log, and the replies on standard error",
-    ),
-    Row::Alone("files", "FILE", SCRIPT),
+    Row {
+        form: Form::Flag,
+        name: "log",
+        value: "",
+        help: "Prints only the frames, as a log, and the replies on standard error",
+    },
+    Row {
+        form: Form::Alone,
+        name: "files",
+        value: "FILE",
+        help: SCRIPT,
+    },
 ];
 
 /// The program with its own arguments, for a command line that names none of its commands.

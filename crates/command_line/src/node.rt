@@ -1,7 +1,7 @@
 //! The words of `node`.
 use crate::numbers::{NODE_MOST, PGN_MOST, address, hexadecimal};
-use crate::parts::{Row, described};
-use crate::refused::Refused;
+use crate::parts::{Form, Row, described};
+use crate::refused::{Refused, refuse};
 use clap::{ArgMatches, Command};
 use std::alloc::{AllocError, Global};
 use tp_wire::constants::ETP_MAX_SIZE;
@@ -65,33 +65,42 @@ docs/REAL-BUS.md describes what is read and printed.";
 
 /// The arguments, in the order of the help.
 const ROWS: [Row<'static>; 6] = [
-    Row::Required(
-        "address",
-        "ADDRESS",
-        "Address of the station, 00 to FD, hexadecimal",
-    ),
-    Row::Value(
-        "interface",
-        "NAME",
-        "Interface of the station [default: that of the first frame]",
-    ),
-    Row::Values(
-        "port",
-        "PGN[:MAX]",
-        "Opens a port at the start, as open PGN MAX does [default MAX: 117440505]",
-    ),
-    Row::Number(
-        "quiet",
-        "MS",
-        0,
-        10_000,
-        "Milliseconds of rest after a failed connection, 0 to 10000 [default: 700]",
-    ),
-    Row::Flag("strict", "Ends at the first wrong line"),
-    Row::Flag(
-        "new",
-        "Sends messages at once: none left the address in the last 1,250 ms",
-    ),
+    Row {
+        form: Form::Required,
+        name: "address",
+        value: "ADDRESS",
+        help: "Address of the station, 00 to FD, hexadecimal",
+    },
+    Row {
+        form: Form::Value,
+        name: "interface",
+        value: "NAME",
+        help: "Interface of the station [default: that of the first frame]",
+    },
+    Row {
+        form: Form::Values,
+        name: "port",
+        value: "PGN[:MAX]",
+        help: "Opens a port at the start, as open PGN MAX does [default MAX: 117440505]",
+    },
+    Row {
+        form: Form::Number(0, 10_000),
+        name: "quiet",
+        value: "MS",
+        help: "Milliseconds of rest after a failed connection, 0 to 10000 [default: 700]",
+    },
+    Row {
+        form: Form::Flag,
+        name: "strict",
+        value: "",
+        help: "Ends at the first wrong line",
+    },
+    Row {
+        form: Form::Flag,
+        name: "new",
+        value: "",
+        help: "Sends messages at once: none left the address in the last 1,250 ms",
+    },
 ];
 
 /// The command as it is parsed, with its help.
@@ -123,9 +132,12 @@ fn port(word: &str) -> Option<OfPort> {
 fn port_of(alloc: Global, word: &str) -> Result<OfPort, Refused> {
     match port(word) {
         Some(port) => Ok(port),
-        None => Err(Refused::Word(format!(in alloc;
-            "invalid value '{word}' for '--port': not a hexadecimal PGN up to 3FFFF, with or without :MAX bytes"
-        )?)),
+        None => Err(refuse(
+            alloc,
+            "--port",
+            word,
+            "not a hexadecimal PGN up to 3FFFF, with or without :MAX bytes",
+        )),
     }
 }
 
@@ -142,9 +154,12 @@ fn ports(alloc: Global, matches: &ArgMatches) -> Result<Vec<OfPort>, Refused> {
 fn address_of(alloc: Global, word: &str) -> Result<u8, Refused> {
     match address(word.as_bytes(), NODE_MOST) {
         Some(address) => Ok(address),
-        None => Err(Refused::Word(format!(in alloc;
-            "invalid value '{word}' for '<ADDRESS>': not a hexadecimal number up to FD"
-        )?)),
+        None => Err(refuse(
+            alloc,
+            "<ADDRESS>",
+            word,
+            "not a hexadecimal number up to FD",
+        )),
     }
 }
 

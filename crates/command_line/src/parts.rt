@@ -7,50 +7,60 @@ use std::alloc::{AllocError, Global};
 /// What help says of the script.
 pub(crate) const SCRIPT: &str = "Script, - for standard input [default: -]";
 
-/// An argument of a command: its name, what the help calls its value if it has one, and what the help says of it last.
+/// How an argument is written.
 #[derive(Clone, Copy)]
-pub(crate) enum Row<'a> {
-    /// Written as `--` and its name.
-    Flag(&'a str, &'a str),
-    /// Written as `--`, its name and a value.
-    Value(&'a str, &'a str, &'a str),
-    /// Written so any number of times.
-    Values(&'a str, &'a str, &'a str),
-    /// Written as `--`, its name and a number from the first to the second.
-    Number(&'a str, &'a str, i64, i64, &'a str),
-    /// Written as `--`, its name and a number of 32 bits from 1 to this one.
-    Size(&'a str, &'a str, i64, &'a str),
-    /// A flag that is refused without `--log`.
-    LogFlag(&'a str, &'a str),
-    /// Written as `--`, its name and a value, and refused without `--log`.
-    LogValue(&'a str, &'a str, &'a str),
-    /// A value alone.
-    Alone(&'a str, &'a str, &'a str),
-    /// A value alone, which must be there.
-    Required(&'a str, &'a str, &'a str),
-    /// Values alone.
-    Several(&'a str, &'a str, &'a str),
+pub(crate) enum Form {
+    /// As `--` and its name.
+    Flag,
+    /// As `--`, its name and a value.
+    Value,
+    /// So any number of times.
+    Values,
+    /// As `--`, its name and a number from the first to the second.
+    Number(i64, i64),
+    /// As `--`, its name and a number of 32 bits from 1 to this one.
+    Size(i64),
+    /// As a flag that is refused without `--log`.
+    LogFlag,
+    /// As `--`, its name and a value, and refused without `--log`.
+    LogValue,
+    /// As a value alone.
+    Alone,
+    /// As a value alone, which must be there.
+    Required,
+    /// As values alone.
+    Several,
+}
+
+/// An argument of a command.
+#[derive(Clone, Copy)]
+pub(crate) struct Row<'a> {
+    pub(crate) form: Form,
+    pub(crate) name: &'a str,
+    /// What the help calls its value; empty for a flag.
+    pub(crate) value: &'a str,
+    /// What the help says of it.
+    pub(crate) help: &'a str,
 }
 
 /// An argument that is written as `--` and its name.
-fn named<'a>(alloc: Global, name: &'a str, help: &'a str, action: ArgAction) -> Arg<'a> {
-    Arg::new(alloc, name).long(name).help(help).action(action)
+fn named<'a>(alloc: Global, row: &Row<'a>, action: ArgAction) -> Arg<'a> {
+    Arg::new(alloc, row.name)
+        .long(row.name)
+        .help(row.help)
+        .action(action)
 }
 
-/// An argument with a value, which the help calls `value`.
-fn valued<'a>(
-    alloc: Global,
-    name: &'a str,
-    value: &'a str,
-    help: &'a str,
-    action: ArgAction,
-) -> Arg<'a> {
-    named(alloc, name, help, action).value_name(value)
+/// An argument with a value.
+fn valued<'a>(alloc: Global, row: &Row<'a>, action: ArgAction) -> Arg<'a> {
+    named(alloc, row, action).value_name(row.value)
 }
 
 /// An argument that is written as a value alone.
-fn alone<'a>(alloc: Global, name: &'a str, value: &'a str, help: &'a str) -> Arg<'a> {
-    Arg::new(alloc, name).value_name(value).help(help)
+fn alone<'a>(alloc: Global, row: &Row<'a>) -> Arg<'a> {
+    Arg::new(alloc, row.name)
+        .value_name(row.value)
+        .help(row.help)
 }
 
 /// An argument whose values are these numbers.
@@ -58,33 +68,31 @@ fn within<'a>(arg: Arg<'a>, numbers: ValueParser<'a>) -> Arg<'a> {
     arg.value_parser(numbers)
 }
 
+/// An argument whose value is a number of 64 bits from `least` to `most`.
+fn number<'a>(alloc: Global, row: &Row<'a>, least: i64, most: i64) -> Arg<'a> {
+    let numbers = value_parser!(u64).range(least..=most);
+    within(valued(alloc, row, ArgAction::Set), numbers)
+}
+
+/// An argument whose value is a number of 32 bits from 1 to `most`.
+fn size<'a>(alloc: Global, row: &Row<'a>, most: i64) -> Arg<'a> {
+    let numbers = value_parser!(u32).range(1..=most);
+    within(valued(alloc, row, ArgAction::Set), numbers)
+}
+
 /// The argument of a row.
-fn argument<'a>(alloc: Global, row: Row<'a>) -> Result<Arg<'a>, AllocError> {
-    match row {
-        Row::Flag(name, help) => Ok(named(alloc, name, help, ArgAction::SetTrue)),
-        Row::Value(name, value, help) => Ok(valued(alloc, name, value, help, ArgAction::Set)),
-        Row::Values(name, value, help) => {
-            Ok(valued(alloc, name, value, help, ArgAction::Append))
-        }
-        Row::Number(name, value, least, most, help) => Ok(within(
-            valued(alloc, name, value, help, ArgAction::Set),
-            value_parser!(u64).range(least..=most),
-        )),
-        Row::Size(name, value, most, help) => Ok(within(
-            valued(alloc, name, value, help, ArgAction::Set),
-            value_parser!(u32).range(1..=most),
-        )),
-        Row::LogFlag(name, help) => {
-            named(alloc, name, help, ArgAction::SetTrue).requires_arg("log")
-        }
-        Row::LogValue(name, value, help) => {
-            valued(alloc, name, value, help, ArgAction::Set).requires_arg("log")
-        }
-        Row::Alone(name, value, help) => Ok(alone(alloc, name, value, help)),
-        Row::Required(name, value, help) => Ok(alone(alloc, name, value, help).required(true)),
-        Row::Several(name, value, help) => {
-            Ok(alone(alloc, name, value, help).action(ArgAction::Append))
-        }
+fn argument<'a>(alloc: Global, row: &Row<'a>) -> Result<Arg<'a>, AllocError> {
+    match row.form {
+        Form::Flag => Ok(named(alloc, row, ArgAction::SetTrue)),
+        Form::Value => Ok(valued(alloc, row, ArgAction::Set)),
+        Form::Values => Ok(valued(alloc, row, ArgAction::Append)),
+        Form::Number(least, most) => Ok(number(alloc, row, least, most)),
+        Form::Size(most) => Ok(size(alloc, row, most)),
+        Form::LogFlag => named(alloc, row, ArgAction::SetTrue).requires_arg("log"),
+        Form::LogValue => valued(alloc, row, ArgAction::Set).requires_arg("log"),
+        Form::Alone => Ok(alone(alloc, row)),
+        Form::Required => Ok(alone(alloc, row).required(true)),
+        Form::Several => Ok(alone(alloc, row).action(ArgAction::Append)),
     }
 }
 
@@ -104,7 +112,7 @@ fn put_arguments<'a>(
     rows: &[Row<'a>],
 ) -> Result<(), AllocError> {
     for row in rows {
-        put(arguments, argument(alloc, *row))?;
+        put(arguments, argument(alloc, row))?;
     }
     Ok(())
 }
