@@ -1,5 +1,5 @@
 //! A line of a log, and its output.
-ghost use Rattle.std.specs.Prelude.{◌≡◌, [], ◌++◌, OnOk};
+ghost use Rattle.std.specs.Prelude.{◌≡◌, ◌++◌, OnOk};
 ghost use Rattle.bus_decode.specs.Listening.{is_asking, single, frame_seen, shown_seen, form_with, seen_as, line_seen, Seen, Read, ended_counts, ended_text};
 ghost use Rattle.bus_decode.specs.declared.listening.LineError.TheVariants.{OutOfMemory};
 
@@ -7,7 +7,6 @@ use crate::listener::Listener;
 use crate::telling::{tell, tell_frame, tell_single, tell_summary, tell_wrong};
 use bus_frame::Frame;
 use log_courses::Place;
-use log_reports::Told;
 use log_summary::{Counts, Options};
 use log_text::{Form, Iface, LogLine, form_of, read_line_as};
 use pgn_ids::read_id;
@@ -57,45 +56,6 @@ fn put_other(
     tell_single(alloc, out, now, iface, options, frame)
 }
 
-/// A frame is seen at a time on an interface. Its reports are put into `told`, which is empty: nothing is owned where memory may be refused.
-fn hear_frame(
-    alloc: Global,
-    listener: &mut Listener,
-    counts: &mut Counts,
-    options: &Options,
-    time: u64,
-    iface: Iface,
-    frame: &Frame,
-    told: &mut Vec<Told>,
-    out: &mut Vec<u8>,
-) -> Result<(), AllocError>
-    requires { told.old.items ≡ [] }
-    ensures { OnOk result (Seen (listener.new, counts.new) out.old.items out.new.items (frame_seen options.now (listener.old, counts.old) time iface frame.now)) }
-{
-    counts.add_frame(frame, time < listener.decoder.time_on(iface));
-    let seen = listener.decoder.take(alloc, time, iface, frame, told)?;
-    counts.add_stray(listener.awaited.left(seen, iface, frame)?);
-    let told = told.as_slice();
-    listener.awaited.add_each(told)?;
-    counts.add_each(options, told);
-    let now = listener.decoder.time();
-    let place = Place {
-        number: counts.frames,
-        time: now,
-    };
-    tell_frame(
-        alloc,
-        out,
-        place,
-        options,
-        iface,
-        frame,
-        told,
-        &mut listener.followed,
-    )?;
-    put_other(alloc, out, now, &iface, options, frame)
-}
-
 /// A frame is seen at a time on an interface.
 fn take_frame(
     alloc: Global,
@@ -109,10 +69,28 @@ fn take_frame(
 ) -> Result<(), AllocError>
     ensures { OnOk result (Seen (listener.new, counts.new) out.old.items out.new.items (frame_seen options.now (listener.old, counts.old) time iface frame.now)) }
 {
+    counts.add_frame(frame, time < listener.decoder.time_on(iface));
     let mut told = Vec::new(alloc);
-    hear_frame(
-        alloc, listener, counts, options, time, iface, frame, &mut told, out,
-    )
+    let seen = listener.decoder.take(alloc, time, iface, frame, &mut told)?;
+    counts.add_stray(listener.awaited.left(seen, iface, frame)?);
+    listener.awaited.add_each(told.as_slice())?;
+    counts.add_each(options, told.as_slice());
+    let now = listener.decoder.time();
+    let place = Place {
+        number: counts.frames,
+        time: now,
+    };
+    tell_frame(
+        alloc,
+        out,
+        place,
+        options,
+        iface,
+        frame,
+        told.as_slice(),
+        &mut listener.followed,
+    )?;
+    put_other(alloc, out, now, &iface, options, frame)
 }
 
 /// A line shows a frame, or is passed over.
@@ -198,30 +176,6 @@ pub(crate) fn take_line(
     take_line_as(alloc, listener, known, counts, options, number, line, out)
 }
 
-/// The log ends, with its reports put into `told`, which is empty.
-fn end_log(
-    alloc: Global,
-    listener: &mut Listener,
-    counts: &mut Counts,
-    options: &Options,
-    told: &mut Vec<Told>,
-    out: &mut Vec<u8>,
-) -> Result<(), AllocError>
-    requires { told.old.items ≡ [] }
-    ensures counts { OnOk result (counts.new ≡ ended_counts options.now (listener.old, counts.old)) }
-    ensures text { OnOk result (out.new.items ≡ out.old.items ++ ended_text options.now (listener.old, counts.old)) }
-{
-    let place = Place {
-        number: counts.frames,
-        time: listener.decoder.time(),
-    };
-    listener.decoder.finish(told)?;
-    let told = told.as_slice();
-    counts.add_each(options, told);
-    tell(alloc, out, place, options, told, &mut listener.followed)?;
-    tell_summary(alloc, out, options, &listener.followed.summary)
-}
-
 /// The log ends. The output of that is put behind what `out` holds.
 pub(crate) fn take_end(
     alloc: Global,
@@ -233,6 +187,14 @@ pub(crate) fn take_end(
     ensures counts { OnOk result (counts.new ≡ ended_counts options.now (listener.old, counts.old)) }
     ensures text { OnOk result (out.new.items ≡ out.old.items ++ ended_text options.now (listener.old, counts.old)) }
 {
+    let place = Place {
+        number: counts.frames,
+        time: listener.decoder.time(),
+    };
     let mut told = Vec::new(alloc);
-    end_log(alloc, listener, counts, options, &mut told, out)
+    listener.decoder.finish(&mut told)?;
+    counts.add_each(options, told.as_slice());
+    let told = told.as_slice();
+    tell(alloc, out, place, options, told, &mut listener.followed)?;
+    tell_summary(alloc, out, options, &listener.followed.summary)
 }
